@@ -1,0 +1,57 @@
+-- The join of several tables depends on the set of them alone.
+use Rattle.std.specs.Prelude.{◌≡◌, ℕ, ◌⊎◌, ◌↔◌, List, [], ◌∷◌, ◌++◌, map, Contains, refl}
+use Rattle.std.proofs.Common.{sym, ap, subst, ◌∙◌, inl, inr, ⊎_elim, arith}
+use Rattle.std.proofs.lemmas.List.Elements.{Contains-append_cases, Contains-append_left, Contains-append_right, Contains-push, Contains-push_cases}
+use Rattle.udfs_lattice.specs.declared.facts.Fact.TheVariants.{Unknown}
+use Rattle.udfs_lattice.specs.States.{State, IsBelow, IsBelow-trans}
+use Rattle.udfs_lattice.specs.Tables.{Table, state_of, empty_table, join_tables, IsTableBelow}
+use Rattle.udfs_lattice.specs.TableLaws.{state_of-empty, join_tables-assoc, join_tables-comm, join_tables-empty, IsTableBelow-join_tables, IsTableBelow-second, join_tables-least, IsTableBelow-antisym}
+use Rattle.udfs_lattice.specs.Records.{Record, table_of, join_all, IsLeastAbove, SameTables, all_records}
+use Rattle.udfs_lattice.proofs.RecordLaws.{table_of-append}
+
+nothing : (x : Table) → Contains [] x → ⊥
+nothing x h = omega arith
+
+cons_cases : (r : Table) (rs : List Table) (x : Table) → Contains (r ∷ rs) x → (r ≡ x) ⊎ Contains rs x
+cons_cases r rs x h = ⊎_elim (λ a. inl (⊎_elim (λ e. absurd (nothing x e)) (λ e. e) (Contains-push_cases [] r x a))) (λ b. inr b) (Contains-append_cases (r ∷ []) rs x h)
+
+cons_head : (r : Table) (rs : List Table) → Contains (r ∷ rs) r
+cons_head r rs = Contains-append_left (r ∷ []) rs r (Contains-push [] r)
+
+cons_tail : (r : Table) (rs : List Table) (x : Table) → Contains rs x → Contains (r ∷ rs) x
+cons_tail r rs x h = Contains-append_right (r ∷ []) rs x h
+
+below_trans : (t u v : Table) → IsTableBelow t u → IsTableBelow u v → IsTableBelow t v
+below_trans t u v h k n = IsBelow-trans (state_of t n) (state_of u n) (state_of v n) (h n) (k n)
+
+empty_below : (t : Table) → IsTableBelow empty_table t
+empty_below t n = subst (λ (s : State). IsBelow s (state_of t n)) (sym (state_of-empty n)) tt
+
+pub join_all-least : (ts : List Table) → IsLeastAbove ts (join_all ts)
+join_all-least [] = record { above = λ t h. absurd (nothing t h); least = λ v h. empty_below v }
+join_all-least (x ∷ ts) =
+    let rest = join_all-least ts in
+    record {
+      above = λ t h. ⊎_elim
+          (λ (e : x ≡ t). subst (λ (u : Table). IsTableBelow u (join_tables x (join_all ts))) e (IsTableBelow-join_tables x (join_all ts)))
+          (λ (k : Contains ts t). below_trans t (join_all ts) (join_tables x (join_all ts)) (rest.above t k) (IsTableBelow-second x (join_all ts)))
+          (cons_cases x ts t h);
+      least = λ v h. join_tables-least x (join_all ts) v (h x (cons_head x ts)) (rest.least v (λ t k. h t (cons_tail x ts t k)));
+    }
+
+pub join_all-same : (ts us : List Table) → SameTables ts us → join_all ts ≡ join_all us
+join_all-same ts us same =
+    let a = join_all-least ts in
+    let b = join_all-least us in
+    IsTableBelow-antisym (join_all ts) (join_all us)
+    (a.least (join_all us) (λ t h. b.above t ((same t).0 h)))
+    (b.least (join_all ts) (λ t h. a.above t ((same t).1 h)))
+
+pub join_all-push : (ts : List Table) (t : Table) → join_all (ts ++ t ∷ []) ≡ join_tables (join_all ts) t
+join_all-push [] t = join_tables-comm t empty_table
+join_all-push (u ∷ ts) t = ap (join_tables u) (join_all-push ts t) ∙ sym (join_tables-assoc u (join_all ts) t)
+
+-- the join of the tables of several lists of records is the table of all their records
+pub join_all-records : (rss : List (List Record)) → join_all (map table_of rss) ≡ table_of (all_records rss)
+join_all-records [] = refl
+join_all-records (rs ∷ rss) = ap (join_tables (table_of rs)) (join_all-records rss) ∙ sym (table_of-append rs (all_records rss))

@@ -1,0 +1,5 @@
+pub mod Joining
+pub mod Listed
+pub mod RecordLaws
+pub mod EntryLaws
+pub mod JoinLaws

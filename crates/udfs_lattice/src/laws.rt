@@ -1,0 +1,44 @@
+//! Laws of tables, each the contract of a function that does nothing.
+ghost use Rattle.std.specs.Prelude.{◌≡◌, ℕ, List, ◌++◌, map};
+ghost use Rattle.udfs_lattice.specs.Records.{Record, IsTableOf, SameRecords, table_of, table_of_entries, RisesFrom, join_all, IsLeastAbove, SameTables, all_records};
+ghost use Rattle.udfs_lattice.specs.States.{State};
+ghost use Rattle.udfs_lattice.specs.Tables.{Table, state_of, entries_of, IsTable, IsTableBelow, join_tables};
+
+/// Two tables that say the same of each block are one table.
+pub fn states_make_the_table()
+    ensures { (t u : Table) → ((n : ℕ) → state_of t n ≡ state_of u n) → t ≡ u }
+{}
+
+/// The table of a list of records says of each block what its records say.
+pub fn table_of_records()
+    ensures { (rs : List Record) → IsTableOf rs (table_of rs) }
+{}
+
+/// Neither the order of the records nor how often each comes is in their table.
+pub fn table_of_set()
+    ensures { (rs ss : List Record) → SameRecords rs ss → table_of rs ≡ table_of ss }
+{}
+
+/// The join is the least table above both.
+pub fn join_is_least()
+    ensures above_first { (t u : Table) → IsTableBelow t (join_tables t u) }
+    ensures above_second { (t u : Table) → IsTableBelow u (join_tables t u) }
+    ensures least { (t u v : Table) → IsTableBelow t v → IsTableBelow u v
+        → IsTableBelow (join_tables t u) v }
+    ensures only { (t u : Table) → IsTableBelow t u → IsTableBelow u t → t ≡ u }
+{}
+
+/// The join of several tables is the least one above them all. Neither their order nor how often each
+/// comes is in it, and the join of the tables of several lists of records is the table of all of them.
+pub fn join_of_all()
+    ensures least { (ts : List Table) → IsLeastAbove ts (join_all ts) }
+    ensures same { (ts us : List Table) → SameTables ts us → join_all ts ≡ join_all us }
+    ensures records { (rss : List (List Record)) → join_all (map table_of rss) ≡ table_of (all_records rss) }
+{}
+
+/// A table is that of its entries, whose block numbers rise; and rising entries are those of their table.
+pub fn entries_make_the_table()
+    ensures rise { (t : Table) → IsTable t → RisesFrom 0 (entries_of t) }
+    ensures table { (t : Table) → IsTable t → table_of_entries (entries_of t) ≡ t }
+    ensures entries { (es : List (ℕ × State)) → RisesFrom 0 es → entries_of (table_of_entries es) ≡ es }
+{}
