@@ -10,7 +10,7 @@ use Rattle.std.proofs.lemmas.Bool.{and_from, and_parts, eqb-true, eqb-false, eq-
 use Rattle.std.proofs.lemmas.Bool.Decides.{nat_tests}
 use Rattle.udfs_lattice.specs.declared.facts.Fact.TheVariants.{Unknown, Known, Conflict}
 use Rattle.udfs_lattice.specs.States.{State, join_of, join_of-unknown}
-use Rattle.udfs_lattice.specs.Tables.{Table, Held, fact_held, fact_found, state_of, entries_of, one_entry, empty_table, join_tables, IsTable, IsStateAt}
+use Rattle.udfs_lattice.specs.Tables.{Table, Held, fact_held, fact_found, state_of, entries_of, one_entry, empty_table, join_tables, IsTable, IsStateAt, IsStateAt-join_of}
 use Rattle.udfs_lattice.specs.TableLaws.{same_table, fact_found-injective, eq_by_cmp-nat, state_of-empty, state_of-join_tables, state_of-one_entry, join_tables-assoc, join_tables-comm, join_tables-empty}
 use Rattle.udfs_lattice.specs.Records.{table_of_entries, IsEntry, RisesFrom}
 use Rattle.udfs_lattice.proofs.Listed.{entries_from_find}
@@ -165,3 +165,35 @@ table_of_entries-entries_of t sound =
 pub table_of_entries-push : (es : List (ℕ × State)) (n : ℕ) (s : State) → table_of_entries (es ++ (n, s) ∷ []) ≡ join_tables (table_of_entries es) (one_entry n s)
 table_of_entries-push [] n s = join_tables-comm (one_entry n s) empty_table
 table_of_entries-push (e ∷ es) n s = ap (join_tables (one_entry e.0 e.1)) (table_of_entries-push es n s) ∙ sym (join_tables-assoc (one_entry e.0 e.1) (table_of_entries es) (one_entry n s))
+
+-- ---- the table of rising entries is one that there is
+
+at_entry : (n : ℕ) (s : State) → IsEntry n s → IsStateAt n s
+at_entry n Unknown h = absurd h
+at_entry n (Known bytes) h = h
+at_entry n Conflict h = h
+
+one_state : (e : ℕ × State) (q : ℕ) (b : Bool) → (q == e.0) ≡ b → IsEntry e.0 e.1 → IsStateAt q (cond b e.1 Unknown)
+one_state e q true is h = subst (λ k. IsStateAt k e.1) (sym (eqb-true q e.0 is)) (at_entry e.0 e.1 h)
+one_state e q false is h = tt
+
+pub IsTable-rising : (low : ℕ) (es : List (ℕ × State)) → RisesFrom low es → IsTable (table_of_entries es)
+IsTable-rising low [] h q = subst (IsStateAt q) (sym (state_of-empty q)) tt
+IsTable-rising low (e ∷ es) h q =
+    subst (IsStateAt q) (sym (state_of-cons e es q))
+    (IsStateAt-join_of q (cond (q == e.0) e.1 Unknown) (state_of (table_of_entries es) q) (one_state e q (q == e.0) refl h.1) (IsTable-rising (e.0 + 1) es h.2 q))
+
+-- ---- how many entries there can be
+
+number_low : (n : ℕ) (s : State) → IsEntry n s → n ≤ 4194303
+number_low n Unknown h = absurd h
+number_low n (Known bytes) h = h.0
+number_low n Conflict h = h
+
+pub few_entries : (low : ℕ) (es : List (ℕ × State)) → low ≤ 4194304 → RisesFrom low es → low + length es ≤ 4194304
+few_entries low [] fits h = omega arith
+few_entries low (e ∷ es) fits h =
+    let first = h.0 in
+    let below : e.0 ≤ 4194303 = number_low e.0 e.1 h.1 in
+    let rest : (e.0 + 1) + length es ≤ 4194304 = few_entries (e.0 + 1) es (omega arith) h.2 in
+    omega arith

@@ -41,4 +41,5 @@ pub fn entries_make_the_table()
     ensures rise { (t : Table) → IsTable t → RisesFrom 0 (entries_of t) }
     ensures table { (t : Table) → IsTable t → table_of_entries (entries_of t) ≡ t }
     ensures entries { (es : List (ℕ × State)) → RisesFrom 0 es → entries_of (table_of_entries es) ≡ es }
+    ensures is_table { (es : List (ℕ × State)) → RisesFrom 0 es → IsTable (table_of_entries es) }
 {}

@@ -1,0 +1,14 @@
+pub mod WindowLemmas
+pub mod Numbers
+pub mod Ends
+pub mod Records
+pub mod JudgeHeader
+pub mod JudgeRecords
+pub mod More
+pub mod Cuts
+pub mod JudgeEntries
+pub mod Entries
+pub mod Public
+pub mod Magics
+pub mod Laws
+pub mod Whole

@@ -1,0 +1,55 @@
+use Rattle.std.proofs.Common.{◌≡◌, ℕ, [], ◌∷◌, ◌++◌, rules, arith, refl, sym, ap, subst, ◌∙◌, append_assoc, append-nil}
+use Rattle.std.proofs.lemmas.Result.{err_from_is_err_and}
+use Rattle.std.specs.Io.KnownBytes.{Consumes}
+use Rattle.std.proofs.KnownBytes.{Consumes-nil, Consumes-trans}
+use Rattle.udfs_lattice.specs.declared.facts.Fact.TheVariants.{Known}
+use Rattle.udfs_reading.specs.declared.error.ReadingFault.TheVariants.{State}
+use Rattle.udfs_reading.specs.Device.{left}
+use Rattle.udfs_reading.specs.Format.{number, In}
+use Rattle.udfs_reading.specs.TableReading.{table_format, entries_front, AtState, AtContent}
+use Rattle.udfs_reading.proofs.Entries.{state_sound}
+use Rattle.udfs_reading.proofs.Ends.{fault_at, ends_cut, ends_block}
+use Rattle.udfs_reading.proofs.table_file.read_state.Goals as goal
+
+pub returns-in_err-code-clause-err : goal.returns-in_err-code-clause-err
+returns-in_err-code-clause-err g c =
+    let p = err_from_is_err_and c.from_residual.result c.from_residual.ensures.1 in
+    let n = c.args.block in
+    rw (p.1, p.2) (λ count done under at floor. ends_cut table_format (In (AtState count done n)) (entries_front count done ++ number n) [] (under, floor, c.requires) (sym (append-nil (entries_front count done ++ number n))) (sym at) (Consumes-nil _) refl c.in_err-code.ensures.err)
+
+pub returns-in_err-join_block-clause-err : goal.returns-in_err-join_block-clause-err
+returns-in_err-join_block-clause-err g c =
+    let p = err_from_is_err_and c.from_residual-in_err-join_block.result c.from_residual-in_err-join_block.ensures.1 in
+    let n = c.args.block in
+    let one = subst (λ (b : ℕ). Consumes (left c.args.window.now (g.R.Source.remaining c.args.source.now)) (left c.read_byte.new.window (g.R.Source.remaining c.read_byte.new.source)) (b ∷ [])) c.if-code-eq1.true c.in_ok-code.ensures.bytes in
+    rw (p.1, p.2) (λ count done under at floor. ends_block table_format (In (AtContent count done n)) (entries_front count done ++ number n) (1 ∷ []) (under, floor, c.requires) (sym (append_assoc (entries_front count done) (number n) (1 ∷ []))) (sym at) refl (omega arith)
+    (λ cut. state_sound count done n ((1 ∷ []) ++ cut) under) one c.in_ok-code.ensures.count c.in_err-join_block.ensures.err)
+
+pub returns-then-code-eq1-clause-ok : goal.returns-then-code-eq1-clause-ok
+returns-then-code-eq1-clause-ok g c =
+    let t = c.in_ok-join_block.ensures.ok in
+    let one = subst (λ (b : ℕ). Consumes (left c.args.window.now (g.R.Source.remaining c.args.source.now)) (left c.read_byte.new.window (g.R.Source.remaining c.read_byte.new.source)) (b ∷ [])) c.if-code-eq1.true c.in_ok-code.ensures.bytes in
+    record {
+      taken = Known t.taken;
+      entry = (c.requires, t.is_block);
+      given = Consumes-trans _ _ _ (1 ∷ []) t.taken one t.given;
+      put = t.put;
+    }
+
+pub returns-then-code-ne2-clause-err : goal.returns-then-code-ne2-clause-err
+returns-then-code-ne2-clause-err g c count done under at floor =
+    let n = c.args.block in
+    let front = entries_front count done ++ number n in
+    record {
+      got = c.in_ok-code.code ∷ [];
+      given = c.in_ok-code.ensures.bytes;
+      why = (c.in_ok-code.ensures.count, fault_at table_format (In (AtState count done n)) front [] (c.in_ok-code.code ∷ []) State c.args.entry (under, floor, c.requires) (sym (append-nil front)) (sym at) (omega arith, (c.if-code-eq1.false, c.if-code-ne2.true)));
+    }
+
+pub returns-in-Err-clause-err : goal.returns-in-Err-clause-err
+returns-in-Err-clause-err g c count done under at floor =
+    record {
+      got = c.in_ok-code.code ∷ [];
+      given = c.in_ok-code.ensures.bytes;
+      why = (c.in_ok-code.ensures.count, state_sound count done c.args.block (c.in_ok-code.code ∷ []) under, omega arith);
+    }

@@ -1,0 +1,15 @@
+-- A kind of file: which bytes are one, and which first fault any other bytes have.
+use Rattle.std.specs.Prelude.{ℕ, List}
+use Rattle.udfs_lattice.specs.Tables.{Table}
+use Rattle.udfs_reading.specs.declared.error.ReadingFault.{ReadingFault}
+use Rattle.udfs_reading.specs.Format.{Format, HasFault}
+
+pub record Kind : Type 1 where
+  -- the bytes are a file of this many records, and this is its table
+  pub IsFile : List ℕ → ℕ → Table → Type 0
+  -- the first fault of the bytes, and the record that has it
+  pub IsFaulty : List ℕ → ReadingFault → ℕ → Type 0
+
+-- the files of one format
+abbrev pub kind : Format → Kind
+kind F = record { IsFile = F.IsFile; IsFaulty = HasFault F }

@@ -1,0 +1,11 @@
+pub mod Device
+pub mod Field
+pub mod Format
+pub mod Kind
+pub mod Outcome
+pub mod Answers
+pub mod Reading
+pub mod TableFile
+pub mod TableReading
+pub mod Inputs
+pub mod Writing

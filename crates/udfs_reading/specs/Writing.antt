@@ -1,0 +1,21 @@
+-- What writing does to a sink that tells its bytes.
+use Rattle.std.specs.Prelude.{◌≡◌, ℕ, ◌+◌, ◌%◌, ◌^◌, List, ◌++◌, Option, Result, Ok, Err}
+use Rattle.std.specs.Io.KnownBytes.{Appends}
+
+-- all of these bytes were written, and the sink did not fail
+pub record Wrote (old new : Option (List ℕ)) (i j : ℕ) (bytes : List ℕ) : Type 0 where
+  pub given : Appends old new bytes
+  pub kept : j ≡ i
+
+-- a beginning of the bytes was written, and then the sink failed, which its count tells
+pub record Failed (old new : Option (List ℕ)) (i j : ℕ) (bytes : List ℕ) : Type 0 where
+  pub out : List ℕ
+  pub rest : List ℕ
+  pub given : Appends old new out
+  pub whole : bytes ≡ out ++ rest
+  pub moved : j ≡ (i + 1) % 2 ^ 64
+
+-- what writing these bytes did
+abbrev pub Writes : {X E : Type 0} → Option (List ℕ) → Option (List ℕ) → ℕ → ℕ → List ℕ → Result X E → Type 0
+Writes old new i j bytes (Ok x) = Wrote old new i j bytes
+Writes old new i j bytes (Err e) = Failed old new i j bytes

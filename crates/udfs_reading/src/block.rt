@@ -1,0 +1,39 @@
+//! The bytes of one block, which stand in readings and in table files.
+
+ghost use Rattle.std.specs.Prelude.{◌≡◌, ◌≤◌, [], OnOk, IfErr};
+ghost use Rattle.udfs_reading.specs.declared.error.ReadingFault.TheVariants.{Io};
+ghost use Rattle.udfs_reading.specs.Device.{left};
+ghost use Rattle.udfs_reading.specs.Field.{BlockFails, TakesBlock};
+
+use crate::device::Source;
+use crate::error::{ReadingError, ReadingFault};
+use crate::field::field;
+use crate::window::Window;
+use udfs_lattice::BlockTable;
+
+/// Takes the 2048 bytes of a block, and joins them to the table.
+pub fn join_block<R: Source>(
+    source: &mut R,
+    window: &mut Window,
+    number: u32,
+    block: u32,
+    table: &mut BlockTable,
+) -> Result<(), ReadingError>
+    requires { block ≤ 4194303 }
+    ensures ok { OnOk result (TakesBlock (left window.old (R.remaining source.old)) (left window.new (R.remaining source.new)) block table.old table.new) }
+    ensures count { OnOk result (R.faults source.new ≡ R.faults source.old) }
+    ensures err { IfErr result (λ e. BlockFails (left window.old (R.remaining source.old)) (left window.new (R.remaining source.new))
+        (R.faults source.old) (R.faults source.new) number e) }
+    ensures empty { IfErr result (λ e. e.fault ≡ Io → window.new ≡ []) }
+{
+    field(source, window, 2048, number)?;
+    let outcome = table.put(block, window.chunk::<2048>());
+    window.take(2048);
+    match outcome {
+        Ok(()) => Ok(()),
+        Err(_) => Err(ReadingError {
+            fault: ReadingFault::OutOfMemory,
+            number,
+        }),
+    }
+}

@@ -1,0 +1,224 @@
+//! One input: a reading, a table file, or either, told by its first eight bytes.
+
+ghost use Rattle.std.specs.Prelude.{◌≡◌, ◌≢◌, ◌↔◌, ℕ, List, [], OnOk, IfOk, IfErr, IfSome, IsErrAnd, MatchResult};
+ghost use Rattle.udfs_reading.specs.declared.error.ReadingFault.TheVariants.{Io};
+ghost use Rattle.udfs_lattice.specs.Tables.{Table, IsTable};
+ghost use Rattle.udfs_reading.specs.Device.{left};
+ghost use Rattle.udfs_reading.specs.Answers.{IsOfFile, GivesTable, GivesFault, TakesFile, RefusesFaulty, FailsAfter};
+ghost use Rattle.udfs_reading.specs.Inputs.{kind_accepted, inputs};
+ghost use Rattle.udfs_reading.specs.Outcome.{Ends, Takes, Reads, Stops};
+ghost use Rattle.udfs_reading.specs.Reading.{readings};
+ghost use Rattle.udfs_reading.specs.TableFile.{table_bytes};
+ghost use Rattle.udfs_reading.specs.TableReading.{tables};
+
+use crate::device::Source;
+use crate::error::{ReadingError, ReadingFault};
+use crate::field::read_magic;
+use crate::header::{names_reading, names_table};
+use crate::reading;
+use crate::table_file;
+use crate::window::Window;
+use std::alloc::Global;
+use udfs_lattice::BlockTable;
+
+/// Which kinds of file a call accepts.
+#[derive(Clone, Copy, PartialEq, Eq)]
+pub enum Accepted {
+    Readings,
+    Tables,
+    Both,
+}
+
+/// Reads a reading to the end of the source, and joins its table to the table.
+fn join_reading<R: Source>(
+    source: &mut R,
+    window: &mut Window,
+    table: &mut BlockTable,
+) -> Result<(), ReadingError>
+    ensures ok { OnOk result (Takes readings [] (left window.old (R.remaining source.old)) (left window.new (R.remaining source.new)) table.old table.new) }
+    ensures count { OnOk result (R.faults source.new ≡ R.faults source.old) }
+    ensures err { IfErr result (λ e. Ends readings [] (left window.old (R.remaining source.old)) (left window.new (R.remaining source.new))
+        (R.faults source.old) (R.faults source.new) e) }
+    ensures empty { IfErr result (λ e. e.fault ≡ Io → window.new ≡ []) }
+    ensures done { OnOk result (window.new ≡ []) }
+{
+    let magic = read_magic(source, window)?;
+    if names_reading(&magic) {
+        reading::read_body(source, window, table)?;
+        return Ok(());
+    }
+    Err(ReadingError {
+        fault: ReadingFault::Magic,
+        number: 0,
+    })
+}
+
+/// Reads a table file to the end of the source, and joins its table to the table.
+fn join_table<R: Source>(
+    source: &mut R,
+    window: &mut Window,
+    table: &mut BlockTable,
+) -> Result<(), ReadingError>
+    ensures ok { OnOk result (Takes tables [] (left window.old (R.remaining source.old)) (left window.new (R.remaining source.new)) table.old table.new) }
+    ensures count { OnOk result (R.faults source.new ≡ R.faults source.old) }
+    ensures err { IfErr result (λ e. Ends tables [] (left window.old (R.remaining source.old)) (left window.new (R.remaining source.new))
+        (R.faults source.old) (R.faults source.new) e) }
+    ensures empty { IfErr result (λ e. e.fault ≡ Io → window.new ≡ []) }
+    ensures done { OnOk result (window.new ≡ []) }
+{
+    let magic = read_magic(source, window)?;
+    if names_table(&magic) {
+        table_file::read_body(source, window, table)?;
+        return Ok(());
+    }
+    Err(ReadingError {
+        fault: ReadingFault::Magic,
+        number: 0,
+    })
+}
+
+/// Reads a file of either kind to the end of the source, and joins its table to the table.
+pub fn join_either<R: Source>(
+    source: &mut R,
+    window: &mut Window,
+    table: &mut BlockTable,
+) -> Result<(), ReadingError>
+    ensures ok { OnOk result (Takes inputs [] (left window.old (R.remaining source.old)) (left window.new (R.remaining source.new)) table.old table.new) }
+    ensures count { OnOk result (R.faults source.new ≡ R.faults source.old) }
+    ensures err { IfErr result (λ e. Ends inputs [] (left window.old (R.remaining source.old)) (left window.new (R.remaining source.new))
+        (R.faults source.old) (R.faults source.new) e) }
+    ensures empty { IfErr result (λ e. e.fault ≡ Io → window.new ≡ []) }
+    ensures done { OnOk result (window.new ≡ []) }
+{
+    let magic = read_magic(source, window)?;
+    if names_reading(&magic) {
+        reading::read_body(source, window, table)?;
+        return Ok(());
+    }
+    if names_table(&magic) {
+        table_file::read_body(source, window, table)?;
+        return Ok(());
+    }
+    Err(ReadingError {
+        fault: ReadingFault::Magic,
+        number: 0,
+    })
+}
+
+/// Reads a file that is accepted to the end of the source, and joins its table to the table.
+fn join_accepted<R: Source>(
+    source: &mut R,
+    window: &mut Window,
+    which: Accepted,
+    table: &mut BlockTable,
+) -> Result<(), ReadingError>
+    ensures ok { OnOk result (Takes (kind_accepted which) [] (left window.old (R.remaining source.old)) (left window.new (R.remaining source.new)) table.old table.new) }
+    ensures count { OnOk result (R.faults source.new ≡ R.faults source.old) }
+    ensures err { IfErr result (λ e. Ends (kind_accepted which) [] (left window.old (R.remaining source.old)) (left window.new (R.remaining source.new))
+        (R.faults source.old) (R.faults source.new) e) }
+    ensures empty { IfErr result (λ e. e.fault ≡ Io → window.new ≡ []) }
+    ensures done { OnOk result (window.new ≡ []) }
+{
+    match which {
+        Accepted::Readings => join_reading(source, window, table),
+        Accepted::Tables => join_table(source, window, table),
+        Accepted::Both => join_either(source, window, table),
+    }
+}
+
+/// Reads a file that is accepted to the end of the source.
+fn read_accepted<R: Source>(
+    alloc: Global,
+    source: &mut R,
+    which: Accepted,
+) -> Result<BlockTable, ReadingError>
+    ensures ok { IfOk result (λ table. Reads (kind_accepted which) (R.remaining source.old) (R.remaining source.new) table) }
+    ensures count { OnOk result (R.faults source.new ≡ R.faults source.old) }
+    ensures err { IfErr result (λ e. Stops (kind_accepted which) (R.remaining source.old) (R.remaining source.new)
+        (R.faults source.old) (R.faults source.new) e) }
+{
+    let mut window = Window::new();
+    let mut table = BlockTable::new(alloc);
+    join_accepted(source, &mut window, which, &mut table)?;
+    Ok(table)
+}
+
+/// Reads a reading file to the end of the source, and answers the table of its records.
+///
+/// # Errors
+///
+/// The first fault of the bytes, with the record that has it. `Io` where the source failed, with the
+/// record of the field that was being read, or the file's own count of records where only its end was
+/// still sought. `OutOfMemory` for want of memory; its record is left open. After an error there is no
+/// table, and the source is read no further. The source is asked for more only when all whole fields
+/// so far are judged.
+pub fn read_reading<R: Source>(alloc: Global, source: &mut R) -> Result<BlockTable, ReadingError>
+    // A table is that of the file's records.
+    ensures table { GivesTable readings (R.remaining source.old) result }
+    // A fault of the file is the first one of the bytes, at its record.
+    ensures fault { GivesFault readings (R.remaining source.old) result }
+    // A reading is refused only by the device or for want of memory.
+    ensures file { TakesFile readings (R.remaining source.old) result }
+    // Other bytes give no table and no other fault of the file, and want of memory only past the header.
+    ensures faulty { RefusesFaulty readings (R.remaining source.old) result }
+    // It is the source that failed exactly where its count changed.
+    ensures io { IsErrAnd result (λ e. e.fault ≡ Io) ↔ (R.faults source.new ≢ R.faults source.old) }
+    ensures kept { ¬ IsErrAnd result (λ e. e.fault ≡ Io) → R.faults source.new ≡ R.faults source.old }
+    // Then the bytes that it had given have no fault but a cut at their end.
+    ensures cut { FailsAfter readings (R.remaining source.old) (R.remaining source.new) result }
+{
+    let outcome = read_accepted(alloc, source, Accepted::Readings);
+    outcome
+}
+
+/// Reads a table file to the end of the source, and answers its table.
+///
+/// # Errors
+///
+/// As [`read_reading`] has them.
+pub fn read_table<R: Source>(alloc: Global, source: &mut R) -> Result<BlockTable, ReadingError>
+    // A table is the one whose file the bytes are.
+    ensures table { GivesTable tables (R.remaining source.old) result }
+    // A fault of the file is the first one of the bytes, at its record.
+    ensures fault { GivesFault tables (R.remaining source.old) result }
+    // The file of a table gives that table, and is refused only by the device or for want of memory.
+    ensures file { TakesFile tables (R.remaining source.old) result }
+    // Other bytes give no table and no other fault of the file, and want of memory only past the header.
+    ensures faulty { RefusesFaulty tables (R.remaining source.old) result }
+    // It is the source that failed exactly where its count changed.
+    ensures io { IsErrAnd result (λ e. e.fault ≡ Io) ↔ (R.faults source.new ≢ R.faults source.old) }
+    ensures kept { ¬ IsErrAnd result (λ e. e.fault ≡ Io) → R.faults source.new ≡ R.faults source.old }
+    // Then the bytes that it had given have no fault but a cut at their end.
+    ensures cut { FailsAfter tables (R.remaining source.old) (R.remaining source.new) result }
+    // What `write_table` writes of a table reads back as that table.
+    ensures written { IfSome (R.remaining source.old) (λ bytes. (table : Table) → IsTable table → bytes ≡ table_bytes table →
+        MatchResult result (λ t. t ≡ table) (λ e. ¬ IsOfFile e.fault)) }
+{
+    let outcome = read_accepted(alloc, source, Accepted::Tables);
+    outcome
+}
+
+/// Reads a reading or a table file, told by its first eight bytes, to the end of the source, and
+/// answers its table.
+///
+/// # Errors
+///
+/// As [`read_reading`] has them. Eight first bytes that name neither are `Magic` at record 0.
+pub fn read_input<R: Source>(alloc: Global, source: &mut R) -> Result<BlockTable, ReadingError>
+    // A table is that of the file.
+    ensures table { GivesTable inputs (R.remaining source.old) result }
+    // A fault of the file is the first one of the bytes, at its record.
+    ensures fault { GivesFault inputs (R.remaining source.old) result }
+    // A file of either kind is refused only by the device or for want of memory.
+    ensures file { TakesFile inputs (R.remaining source.old) result }
+    // Other bytes give no table and no other fault of the file, and want of memory only past the header.
+    ensures faulty { RefusesFaulty inputs (R.remaining source.old) result }
+    // It is the source that failed exactly where its count changed.
+    ensures io { IsErrAnd result (λ e. e.fault ≡ Io) ↔ (R.faults source.new ≢ R.faults source.old) }
+    ensures kept { ¬ IsErrAnd result (λ e. e.fault ≡ Io) → R.faults source.new ≡ R.faults source.old }
+    // Then the bytes that it had given have no fault but a cut at their end.
+    ensures cut { FailsAfter inputs (R.remaining source.old) (R.remaining source.new) result }
+{
+    let outcome = read_accepted(alloc, source, Accepted::Both);
+    outcome
+}

@@ -1,0 +1,17 @@
+//! The two file formats of block tables: readings, which are lists of records, and table files.
+#![tactic(auto)]
+
+mod block;
+mod device;
+mod error;
+mod field;
+mod header;
+mod input;
+mod reading;
+mod table_file;
+
+mod window;
+
+pub use device::{DeviceFault, Reader, Sink, Source, Writer};
+pub use error::{ReadingError, ReadingFault};
+pub use input::{read_input, read_reading, read_table};

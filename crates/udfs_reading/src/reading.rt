@@ -1,0 +1,81 @@
+//! Reading files: the records that one pass over a disc read.
+
+ghost use Rattle.std.specs.Prelude.{◌≡◌, ℕ, ◌+◌, ◌++◌, [], List, length, OnOk, IfOk, IfErr};
+ghost use Rattle.udfs_lattice.specs.Records.{Record};
+ghost use Rattle.udfs_reading.specs.declared.error.ReadingFault.TheVariants.{Io};
+ghost use Rattle.udfs_reading.specs.Device.{left};
+ghost use Rattle.udfs_reading.specs.Format.{header};
+ghost use Rattle.udfs_reading.specs.Reading.{magic, front, IsUnder, TakesRecord, TakesRecords, readings};
+ghost use Rattle.udfs_reading.specs.Outcome.{Ends, Takes};
+
+use crate::block::join_block;
+use crate::device::Source;
+use crate::error::{ReadingError, ReadingFault};
+use crate::field::{read_end, read_number};
+use crate::header::read_count;
+use crate::window::Window;
+use udfs_lattice::BlockTable;
+
+/// Takes the record of this number, and joins it to the table.
+fn read_record<R: Source>(
+    source: &mut R,
+    window: &mut Window,
+    number: u32,
+    table: &mut BlockTable,
+) -> Result<(), ReadingError>
+    ensures ok { OnOk result (TakesRecord (left window.old (R.remaining source.old)) (left window.new (R.remaining source.new)) table.old table.new) }
+    ensures count { OnOk result (R.faults source.new ≡ R.faults source.old) }
+    ensures err { IfErr result (λ e. (count : ℕ) (done : List Record) → IsUnder count done → length done + 1 ≡ number →
+        Ends readings (front count done) (left window.old (R.remaining source.old)) (left window.new (R.remaining source.new))
+        (R.faults source.old) (R.faults source.new) e) }
+    ensures empty { IfErr result (λ e. e.fault ≡ Io → window.new ≡ []) }
+{
+    let block = read_number(source, window, number)?;
+    if block > 4_194_303 {
+        return Err(ReadingError {
+            fault: ReadingFault::BlockNumber,
+            number,
+        });
+    }
+    join_block(source, window, number, block, table)?;
+    Ok(())
+}
+
+/// Takes this many records, and joins them to the table.
+fn read_records<R: Source>(
+    source: &mut R,
+    window: &mut Window,
+    count: u32,
+    table: &mut BlockTable,
+) -> Result<(), ReadingError>
+    ensures ok { OnOk result (TakesRecords (left window.old (R.remaining source.old)) (left window.new (R.remaining source.new)) count table.old table.new) }
+    ensures count { OnOk result (R.faults source.new ≡ R.faults source.old) }
+    ensures err { IfErr result (λ e. Ends readings (header magic count) (left window.old (R.remaining source.old)) (left window.new (R.remaining source.new))
+        (R.faults source.old) (R.faults source.new) e) }
+    ensures empty { IfErr result (λ e. e.fault ≡ Io → window.new ≡ []) }
+{
+    for index in 0..count {
+        read_record(source, window, index + 1, table)?;
+    }
+    Ok(())
+}
+
+/// Reads what stands behind the magic of a reading, to the end of the source, and joins its table to
+/// the table. An error leaves the table with some of the records joined.
+pub fn read_body<R: Source>(
+    source: &mut R,
+    window: &mut Window,
+    table: &mut BlockTable,
+) -> Result<(), ReadingError>
+    ensures ok { OnOk result (Takes readings magic (left window.old (R.remaining source.old)) (left window.new (R.remaining source.new)) table.old table.new) }
+    ensures count { OnOk result (R.faults source.new ≡ R.faults source.old) }
+    ensures err { IfErr result (λ e. Ends readings magic (left window.old (R.remaining source.old)) (left window.new (R.remaining source.new))
+        (R.faults source.old) (R.faults source.new) e) }
+    ensures empty { IfErr result (λ e. e.fault ≡ Io → window.new ≡ []) }
+    ensures done { OnOk result (window.new ≡ []) }
+{
+    let count = read_count(source, window)?;
+    read_records(source, window, count, table)?;
+    read_end(source, window, count)?;
+    Ok(())
+}

@@ -1,0 +1,126 @@
+//! Table files: the states of all blocks that are not unknown.
+
+ghost use Rattle.std.specs.Prelude.{◌≡◌, ℕ, ◌+◌, ◌≤◌, ◌++◌, [], List, length, OnOk, IfOk, IfErr};
+ghost use Rattle.udfs_lattice.specs.States.{State};
+ghost use Rattle.udfs_reading.specs.declared.error.ReadingFault.TheVariants.{Io};
+ghost use Rattle.udfs_reading.specs.Device.{left};
+ghost use Rattle.udfs_reading.specs.Format.{number, header};
+ghost use Rattle.udfs_reading.specs.Outcome.{Ends, Takes};
+ghost use Rattle.udfs_reading.specs.TableFile.{table_magic};
+ghost use Rattle.udfs_reading.specs.TableReading.{tables, entries_front, floor_after, IsUnderEntries, TakesState, TakesEntry, TakesEntries};
+
+use crate::block::join_block;
+use crate::device::Source;
+use crate::error::{ReadingError, ReadingFault};
+use crate::field::{read_byte, read_end, read_number};
+use crate::header::read_count;
+use crate::window::Window;
+use udfs_lattice::{BlockTable, Fact};
+
+/// Takes the state of a block, and joins it to the table.
+fn read_state<R: Source>(
+    source: &mut R,
+    window: &mut Window,
+    entry: u32,
+    block: u32,
+    table: &mut BlockTable,
+) -> Result<(), ReadingError>
+    requires { block ≤ 4194303 }
+    ensures ok { OnOk result (TakesState (left window.old (R.remaining source.old)) (left window.new (R.remaining source.new)) block table.old table.new) }
+    ensures count { OnOk result (R.faults source.new ≡ R.faults source.old) }
+    ensures err { IfErr result (λ e. (count : ℕ) (done : List (ℕ × State)) → IsUnderEntries count done → length done + 1 ≡ entry → floor_after 0 done ≤ block →
+        Ends tables (entries_front count done ++ number block) (left window.old (R.remaining source.old)) (left window.new (R.remaining source.new))
+        (R.faults source.old) (R.faults source.new) e) }
+    ensures empty { IfErr result (λ e. e.fault ≡ Io → window.new ≡ []) }
+{
+    let code = read_byte(source, window, entry)?;
+    if code == 1 {
+        join_block(source, window, entry, block, table)?;
+        return Ok(());
+    }
+    if code != 2 {
+        return Err(ReadingError {
+            fault: ReadingFault::State,
+            number: entry,
+        });
+    }
+    match table.add(block, Fact::Conflict) {
+        Ok(()) => Ok(()),
+        Err(_) => Err(ReadingError {
+            fault: ReadingFault::OutOfMemory,
+            number: entry,
+        }),
+    }
+}
+
+/// Takes an entry whose block is at least `floor`, and answers the next floor.
+fn read_entry<R: Source>(
+    source: &mut R,
+    window: &mut Window,
+    entry: u32,
+    floor: u32,
+    table: &mut BlockTable,
+) -> Result<u32, ReadingError>
+    ensures ok { IfOk result (λ next. TakesEntry (left window.old (R.remaining source.old)) (left window.new (R.remaining source.new)) floor next table.old table.new) }
+    ensures count { OnOk result (R.faults source.new ≡ R.faults source.old) }
+    ensures err { IfErr result (λ e. (count : ℕ) (done : List (ℕ × State)) → IsUnderEntries count done → length done + 1 ≡ entry → floor_after 0 done ≡ floor →
+        Ends tables (entries_front count done) (left window.old (R.remaining source.old)) (left window.new (R.remaining source.new))
+        (R.faults source.old) (R.faults source.new) e) }
+    ensures empty { IfErr result (λ e. e.fault ≡ Io → window.new ≡ []) }
+{
+    let block = read_number(source, window, entry)?;
+    if block > 4_194_303 {
+        return Err(ReadingError {
+            fault: ReadingFault::BlockNumber,
+            number: entry,
+        });
+    }
+    if block < floor {
+        return Err(ReadingError {
+            fault: ReadingFault::Order,
+            number: entry,
+        });
+    }
+    read_state(source, window, entry, block, table)?;
+    Ok(block + 1)
+}
+
+/// Takes this many entries, and joins them to the table.
+fn read_entries<R: Source>(
+    source: &mut R,
+    window: &mut Window,
+    count: u32,
+    table: &mut BlockTable,
+) -> Result<(), ReadingError>
+    ensures ok { OnOk result ((floor : ℕ) × TakesEntries (left window.old (R.remaining source.old)) (left window.new (R.remaining source.new)) count floor table.old table.new) }
+    ensures count { OnOk result (R.faults source.new ≡ R.faults source.old) }
+    ensures err { IfErr result (λ e. Ends tables (header table_magic count) (left window.old (R.remaining source.old)) (left window.new (R.remaining source.new))
+        (R.faults source.old) (R.faults source.new) e) }
+    ensures empty { IfErr result (λ e. e.fault ≡ Io → window.new ≡ []) }
+{
+    let mut floor = 0;
+    for index in 0..count {
+        floor = read_entry(source, window, index + 1, floor, table)?;
+    }
+    Ok(())
+}
+
+/// Reads what stands behind the magic of a table file, to the end of the source, and joins its table
+/// to the table. An error leaves the table with some of the entries joined.
+pub fn read_body<R: Source>(
+    source: &mut R,
+    window: &mut Window,
+    table: &mut BlockTable,
+) -> Result<(), ReadingError>
+    ensures ok { OnOk result (Takes tables table_magic (left window.old (R.remaining source.old)) (left window.new (R.remaining source.new)) table.old table.new) }
+    ensures count { OnOk result (R.faults source.new ≡ R.faults source.old) }
+    ensures err { IfErr result (λ e. Ends tables table_magic (left window.old (R.remaining source.old)) (left window.new (R.remaining source.new))
+        (R.faults source.old) (R.faults source.new) e) }
+    ensures empty { IfErr result (λ e. e.fault ≡ Io → window.new ≡ []) }
+    ensures done { OnOk result (window.new ≡ []) }
+{
+    let count = read_count(source, window)?;
+    read_entries(source, window, count, table)?;
+    read_end(source, window, count)?;
+    Ok(())
+}
