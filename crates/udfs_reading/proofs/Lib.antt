@@ -12,3 +12,4 @@ pub mod Public
 pub mod Magics
 pub mod Laws
 pub mod Whole
+pub mod WritingLemmas

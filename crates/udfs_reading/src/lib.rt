@@ -11,7 +11,9 @@ mod reading;
 mod table_file;
 
 mod window;
+mod writing;
 
 pub use device::{DeviceFault, Reader, Sink, Source, Writer};
 pub use error::{ReadingError, ReadingFault};
 pub use input::{read_input, read_reading, read_table};
+pub use writing::{WriteFault, write_table};
