@@ -17,6 +17,7 @@ header_number n i header rest h =
     ap (little_number n) (drop-append-le i header rest (omega arith))
     ∙ little_from-append n (drop i header) rest (omega (arith, length-drop i header))
 
+-- the sum of the header
 header_sum : (header rest : List ℕ) → length header ≡ 16 → checksum_of (header ++ rest) ≡ checksum_of header
 header_sum header rest h =
     let front : take 4 (header ++ rest) ≡ take 4 header = take-append-le 4 header rest (omega arith) in
@@ -25,9 +26,11 @@ header_sum header rest h =
     ap (λ x. (sum x + sum (take 11 (drop 5 (header ++ rest)))) % 256) front
     ∙ ap (λ x. (sum (take 4 header) + sum x) % 256) back
 
+-- a test of lengths, of the whole and of the rest
 same_test : (a b n k : ℕ) → a ≡ n + k → nat_lt a (n + b) ≡ nat_lt k b
 same_test a b n k e = grind (arith, nat_tests)
 
+-- the tag of a header and a rest is that of both together
 pub verdict-tag_of : (header rest : List ℕ) (place : ℕ) → length header ≡ 16 → verdict header rest place ≡ tag_of (header ++ rest) place
 unfolding verdict tag_of
 verdict-tag_of header rest place h =
@@ -43,5 +46,6 @@ verdict-tag_of header rest place h =
     same_test (length (header ++ rest)) (covered_len header) 16 (length rest) (omega (arith, length-append header rest)) in
     rw (check, total, version, count, short, stored, after, location, identifier) refl
 
+-- an answer over a header and a rest is one over the whole bytes
 pub found : (r : Result Tag TagFault) (bytes header rest : List ℕ) (place : ℕ) → length header ≡ 16 → header ++ rest ≡ bytes → r ≡ verdict header rest place → r ≡ tag_of bytes place
 found r bytes header rest place h e v = v ∙ verdict-tag_of header rest place h ∙ ap (λ x. tag_of x place) e

@@ -1,5 +1,5 @@
 -- Words for the functions below the public ones. No public contract cites them.
-use Rattle.std.specs.Prelude.{ℕ, ◌+◌, ◌*◌, ◌^◌, ◌==◌, ◌||◌, not, nat_lt, List, length, take, fold, bit_xor, slice_index, Result, Ok, Err, if◌then◌else◌}
+use Rattle.std.specs.Prelude.{ℕ, ◌*◌, ◌^◌, ◌==◌, ◌||◌, not, nat_lt, List, length, take, fold, bit_xor, Result, Ok, Err, if◌then◌else◌}
 use Rattle.udfs_tag.specs.Crc.{reduced, crc_of}
 use Rattle.udfs_tag.specs.Fields.{uint8_at, uint16_at, uint32_at}
 use Rattle.udfs_tag.specs.Tags.{identifier, checksum_of, covered_len}

@@ -5,7 +5,7 @@
 --     identifier bytes                 the identifier, where the tag is sound
 --     HasFault f bytes place           the fault holds, whatever else holds
 --     IsAccepted, IsFirstFault         what `tag_of` answers, in these terms
-use Rattle.std.specs.Prelude.{◌≡◌, ◌≢◌, ℕ, Bool, false, ◌+◌, ◌%◌, ◌<◌, ◌==◌, ◌||◌, not, nat_lt, List, length, take, drop, sum, slice_index, Result, Ok, Err, is_ok, if◌then◌else◌}
+use Rattle.std.specs.Prelude.{◌≡◌, ◌≢◌, ℕ, Bool, false, ◌+◌, ◌%◌, ◌<◌, ◌≤◌, ◌⊎◌, ◌==◌, ◌||◌, not, nat_lt, List, length, take, sum, Result, Ok, Err, is_ok, if◌then◌else◌}
 use Rattle.udfs_tag.specs.Crc.{crc_of, message, IsRemainder}
 use Rattle.udfs_tag.specs.Fields.{part, uint8_at, uint16_at, uint32_at}
 use Rattle.udfs_tag.specs.declared.tags.Tag.{Tag}
@@ -18,7 +18,7 @@ identifier bytes = uint16_at bytes 0
 
 -- the sum modulo 256 of the tag's bytes 0 to 3 and 5 to 15 (3/7.2.3)
 abbrev pub checksum_of : List ℕ → ℕ
-checksum_of bytes = (sum (take 4 bytes) + sum (take 11 (drop 5 bytes))) % 256
+checksum_of bytes = (sum (take 4 bytes) + sum (part bytes 5 11)) % 256
 
 -- the number of bytes after the tag that the CRC covers (3/7.2.7)
 abbrev pub covered_len : List ℕ → ℕ
@@ -67,9 +67,14 @@ fault_number CrcLength = 3
 fault_number Crc = 4
 fault_number Location = 5
 
--- the tag has the identifier of the bytes, and no fault holds
-abbrev pub IsAccepted : List ℕ → ℕ → Tag → Type 0
-IsAccepted bytes place tag = (tag.identifier ≡ identifier bytes) × ((f : TagFault) → ¬ HasFault f bytes place)
+-- the tag is that of the bytes, and all its sums and its place are right
+pub record IsAccepted (bytes : List ℕ) (place : ℕ) (tag : Tag) : Type 0 where
+  pub identified : tag.identifier ≡ identifier bytes
+  pub checksum : uint8_at bytes 4 ≡ checksum_of bytes
+  pub version : (uint16_at bytes 2 ≡ 2) ⊎ (uint16_at bytes 2 ≡ 3)
+  pub crc_length : 16 + covered_len bytes ≤ length bytes
+  pub crc : IsRemainder (message (covered bytes)) (uint16_at bytes 8)
+  pub location : uint32_at bytes 12 ≡ place
 
 -- the fault holds, and none with a lower number
 abbrev pub IsFirstFault : List ℕ → ℕ → TagFault → Type 0

@@ -7,6 +7,8 @@ ghost use Rattle.udfs_tag.specs.Steps.{verdict};
 
 use crate::checksum::extended;
 use byteorder::{ByteOrder, LittleEndian};
+use std::error::Error;
+use std::fmt;
 
 /// What is kept of a tag that is accepted.
 #[derive(Clone, Copy, Debug, PartialEq, Eq)]
@@ -18,8 +20,7 @@ pub struct Tag {
 /// Why a tag is not accepted. Of several faults the one with the least number is told.
 #[derive(Clone, Copy, Debug, PartialEq, Eq, PartialOrd, Ord)]
 pub enum TagFault {
-    /// Byte 4 is not the sum modulo 256 of bytes 0 to 3 and 5 to 15 (ECMA-167 3/7.2.3). So it is
-    /// with noise, and with a block of a file.
+    /// Byte 4 is not the sum modulo 256 of bytes 0 to 3 and 5 to 15 (ECMA-167 3/7.2.3).
     Checksum = 1,
     /// The version is not 2 or 3 (ECMA-167 3/7.2.2). A block of zeros has this fault.
     Version = 2,
@@ -27,9 +28,23 @@ pub enum TagFault {
     CrcLength = 3,
     /// The CRC is not that of the covered bytes (ECMA-167 3/7.2.6).
     Crc = 4,
-    /// The tag says that it stands elsewhere (ECMA-167 3/7.2.8), as one that was left from before.
+    /// The tag says that it stands elsewhere (ECMA-167 3/7.2.8), as a copy of another place does.
     Location = 5,
 }
+
+impl fmt::Display for TagFault {
+    fn fmt<W: fmt::Write>(&self, f: &mut fmt::Formatter<W>) -> fmt::Result {
+        match self {
+            TagFault::Checksum => write!(f, "the tag's checksum is not that of its bytes"),
+            TagFault::Version => write!(f, "the tag's version is not 2 or 3"),
+            TagFault::CrcLength => write!(f, "the CRC covers more bytes than there are"),
+            TagFault::Crc => write!(f, "the CRC is not that of the covered bytes"),
+            TagFault::Location => write!(f, "the tag says that it stands elsewhere"),
+        }
+    }
+}
+
+impl Error for TagFault {}
 
 /// The sum modulo 256.
 fn sum_of(bytes: &[u8]) -> u8
@@ -68,7 +83,7 @@ impl Tag {
         requires { 16 ≤ length bytes.now }
         ensures value { result ≡ tag_of bytes.now location }
 
-        // By division, and in no order of tests: accepted without a fault, else the least that holds.
+        // The same by division, and for faults in any order: all is right, or the least that holds.
         ensures accepted { IfOk result (IsAccepted bytes.now location) }
         ensures fault { IfErr result (IsFirstFault bytes.now location) }
     {
@@ -84,7 +99,9 @@ impl Tag {
     /// Those of [`Tag::check`].
     pub fn check2(first: &[u8], second: &[u8], location: u32) -> Result<Tag, TagFault>
         requires { 16 ≤ length first.now + length second.now }
-        ensures { result ≡ tag_of (first.now ++ second.now) location }
+        ensures value { result ≡ tag_of (first.now ++ second.now) location }
+        ensures accepted { IfOk result (IsAccepted (first.now ++ second.now) location) }
+        ensures fault { IfErr result (IsFirstFault (first.now ++ second.now) location) }
     {
         if first.len() >= 16 {
             let (header, rest) = first.split_at(16);

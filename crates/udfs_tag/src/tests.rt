@@ -1,4 +1,5 @@
 use crate::{ExtentAd, LongAd, RegId, ShortAd, Tag, TagFault, crc};
+use std::test::Fail;
 
 /// A tag and the three bytes that its CRC covers.
 const X: [u8; 19] = [
@@ -106,4 +107,25 @@ fn small_fields(rt: HostRuntime) {
     assert_eq!(rt; id.name[0], 2);
     assert_eq!(rt; id.name[22], 24);
     assert_eq!(rt; id.suffix, [25, 26, 27, 28, 29, 30, 31, 32]);
+}
+
+#[test]
+fn fault_texts(rt: HostRuntime) -> Result<(), Fail> {
+    for (fault, text) in [
+        (
+            TagFault::Checksum,
+            "the tag's checksum is not that of its bytes",
+        ),
+        (TagFault::Version, "the tag's version is not 2 or 3"),
+        (
+            TagFault::CrcLength,
+            "the CRC covers more bytes than there are",
+        ),
+        (TagFault::Crc, "the CRC is not that of the covered bytes"),
+        (TagFault::Location, "the tag says that it stands elsewhere"),
+    ] {
+        let shown = format!(in rt.alloc(); "{fault}")?;
+        assert_eq!(rt; shown.as_str(), text);
+    }
+    Ok(())
 }
