@@ -1,4 +1,7 @@
+ghost use Rattle.std.specs.Prelude.{◌≤◌, length};
+
 use crate::{ExtentAd, LongAd, RegId, ShortAd, Tag, TagFault, crc};
+use std::process::Abort;
 use std::test::Fail;
 
 /// A tag and the three bytes that its CRC covers.
@@ -27,7 +30,7 @@ fn accepted_before_zeros(rt: HostRuntime) {
     assert_eq!(rt; Tag::check(&block, 256), Ok(Tag { identifier: 8 }));
     assert_eq!(rt; Tag::check(&block, 257), Err(TagFault::Location));
     assert!(rt; Tag::is_valid(&block, 256, 8));
-    assert!(rt; !Tag::is_valid(&block, 256, 9));
+    assert!(rt; !Tag::is_valid(&block, 256, 7));
     assert!(rt; !Tag::is_valid(&block, 257, 8));
 }
 
@@ -43,36 +46,39 @@ fn covered_bytes_past_the_end(rt: HostRuntime) {
     assert_eq!(rt; Tag::check(&block, 256), Err(TagFault::CrcLength));
 }
 
-#[test]
-fn each_fault(rt: HostRuntime) {
-    assert_eq!(rt; Tag::check(&X, 7), Ok(Tag { identifier: 257 }));
-    assert_eq!(rt; Tag::check(&X, 8), Err(TagFault::Location));
-    assert_eq!(rt; Tag::check(&X[..18], 7), Err(TagFault::CrcLength));
-    let mut last = X;
-    last[18] = 0x78;
-    assert_eq!(rt; Tag::check(&last, 7), Err(TagFault::Crc));
-    let mut sum = X;
-    sum[4] = 0xd8;
-    assert_eq!(rt; Tag::check(&sum, 7), Err(TagFault::Checksum));
-    let mut version = X;
-    version[2] = 4;
-    version[4] = 0xdb;
-    assert_eq!(rt; Tag::check(&version, 7), Err(TagFault::Version));
-    version[2] = 3;
-    version[4] = 0xda;
-    assert_eq!(rt; Tag::check(&version, 7), Ok(Tag { identifier: 257 }));
-}
-
-#[test]
-fn accepted_at_each_cut(rt: HostRuntime) {
-    for cut in 0..20usize {
-        let (first, second) = X.split_at(cut);
+/// The bytes get this answer, whole and in two pieces, wherever they are cut.
+fn assert_answer(rt: &impl Abort, bytes: &[u8], location: u32, answer: Result<Tag, TagFault>)
+    requires { 16 ≤ length bytes.now }
+{
+    assert_eq!(rt; Tag::check(bytes, location), answer);
+    for cut in 0..=bytes.len() {
+        let (first, second) = bytes.split_at(cut);
         assert_eq!(rt;
-            Tag::check2(first, second, 7),
-            Ok(Tag { identifier: 257 }),
+            Tag::check2(first, second, location),
+            answer,
             "cut at {cut}"
         );
     }
+}
+
+#[test]
+fn each_fault_at_each_cut(rt: HostRuntime) {
+    assert_answer(&rt, &X, 7, Ok(Tag { identifier: 257 }));
+    assert_answer(&rt, &X, 8, Err(TagFault::Location));
+    assert_answer(&rt, &X[..18], 7, Err(TagFault::CrcLength));
+    let mut last = X;
+    last[18] = 0x78;
+    assert_answer(&rt, &last, 7, Err(TagFault::Crc));
+    let mut sum = X;
+    sum[4] = 0xd8;
+    assert_answer(&rt, &sum, 7, Err(TagFault::Checksum));
+    let mut version = X;
+    version[2] = 4;
+    version[4] = 0xdb;
+    assert_answer(&rt, &version, 7, Err(TagFault::Version));
+    version[2] = 3;
+    version[4] = 0xda;
+    assert_answer(&rt, &version, 7, Ok(Tag { identifier: 257 }));
 }
 
 #[test]
