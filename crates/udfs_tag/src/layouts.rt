@@ -1,6 +1,6 @@
 //! The small fields that descriptors share. All numbers have their lowest byte first (ECMA-167 1/7.1).
 
-ghost use Rattle.std.specs.Prelude.{◌≡◌, ◌≤◌, ◌/◌, ◌%◌, ◌^◌, length};
+ghost use Rattle.std.specs.Prelude.{◌≡◌, ◌≤◌, ◌<◌, ◌/◌, ◌%◌, ◌^◌, length};
 
 use byteorder::{ByteOrder, LittleEndian};
 
@@ -66,6 +66,8 @@ impl ExtentAd {
 fn type_and_length(field: u32) -> (u8, u32)
     ensures kind { result.0 ≡ field / 2 ^ 30 }
     ensures length { result.1 ≡ field % 2 ^ 30 }
+    ensures kind_fits { result.0 < 4 }
+    ensures length_fits { result.1 < 2 ^ 30 }
 {
     ((field >> 30) as u8, field & 0x3fff_ffff)
 }
@@ -76,7 +78,9 @@ impl ShortAd {
     /// Reads the 8 bytes at the front.
     pub fn read(bytes: &[u8]) -> Self
         requires { 8 ≤ length bytes.now }
-        ensures { result ≡ short_ad_of bytes.now }
+        ensures value { result ≡ short_ad_of bytes.now }
+        ensures kind { result.kind < 4 }
+        ensures length { result.length < 2 ^ 30 }
     {
         let (kind, length) = type_and_length(LittleEndian::read_u32(bytes));
         let block = LittleEndian::read_u32(&bytes[4..]);
@@ -94,7 +98,9 @@ impl LongAd {
     /// Reads the 16 bytes at the front. The last six are for the implementation's use.
     pub fn read(bytes: &[u8]) -> Self
         requires { 16 ≤ length bytes.now }
-        ensures { result ≡ long_ad_of bytes.now }
+        ensures value { result ≡ long_ad_of bytes.now }
+        ensures kind { result.kind < 4 }
+        ensures length { result.length < 2 ^ 30 }
     {
         let (kind, length) = type_and_length(LittleEndian::read_u32(bytes));
         LongAd {
