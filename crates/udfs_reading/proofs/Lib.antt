@@ -13,3 +13,4 @@ pub mod Magics
 pub mod Laws
 pub mod Whole
 pub mod WritingLemmas
+pub mod SoFar

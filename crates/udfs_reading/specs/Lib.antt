@@ -9,3 +9,4 @@ pub mod TableFile
 pub mod TableReading
 pub mod Inputs
 pub mod Writing
+pub mod Several

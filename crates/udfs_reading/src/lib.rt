@@ -7,6 +7,7 @@ mod error;
 mod field;
 mod header;
 mod input;
+mod inputs;
 mod reading;
 mod table_file;
 
@@ -15,5 +16,6 @@ mod writing;
 
 pub use device::{DeviceFault, Reader, Sink, Source, Writer};
 pub use error::{ReadingError, ReadingFault};
+pub use inputs::{InputError, join_inputs};
 pub use input::{read_input, read_reading, read_table};
 pub use writing::{WriteFault, write_table};

@@ -1,0 +1,18 @@
+//! Descriptor tags, their CRC, and the small fields that descriptors share.
+//!
+//! Each descriptor of a volume begins with a tag of 16 bytes (ECMA-167 3/7.2), whose sums tell it
+//! from noise: [`Tag::check`] says whether they hold. [`ExtentAd`], [`ShortAd`], [`LongAd`] and
+//! [`RegId`] are read from slices. No call of this crate takes memory, and none is refused.
+#![tactic(auto)]
+
+mod checksum;
+mod layouts;
+mod tables;
+mod tags;
+
+pub use checksum::crc;
+pub use layouts::{ExtentAd, LongAd, RegId, ShortAd};
+pub use tags::{Tag, TagFault};
+
+#[cfg(test)]
+mod tests;
