@@ -14,3 +14,4 @@ pub mod Laws
 pub mod Whole
 pub mod WritingLemmas
 pub mod SoFar
+pub mod Good
