@@ -6,7 +6,7 @@ use Rattle.udfs_reading.specs.declared.error.ReadingError.{ReadingError}
 use Rattle.udfs_reading.specs.declared.error.ReadingFault.{ReadingFault}
 use Rattle.udfs_reading.specs.declared.error.ReadingFault.TheVariants.{Magic, BlockSize, BlockNumber, Truncated, Trailing, Order, State, Io, OutOfMemory}
 use Rattle.udfs_reading.specs.Device.{left}
-use Rattle.udfs_reading.specs.Kind.{Kind}
+use Rattle.udfs_reading.specs.Kind.{Kind, HasOneOutcome}
 use Rattle.udfs_reading.specs.Outcome.{StopsAt, Explains, Reads, Stops}
 use Rattle.udfs_reading.specs.Answers.{IsOfFile, HadGiven, GivesTable, GivesFault, TakesFile, RefusesFaulty, FailsAfter}
 
@@ -113,3 +113,6 @@ public_cut K (Some xs) (Some ys) i j (Err e) h = λ io. (h.ends.got, h.ends.give
 pub public_kept : (K : Kind) (a b : Option (List ℕ)) (i j : ℕ) (r : Result Table ReadingError) → Whole K a b i j r → ¬ IsErrAnd r (λ e. e.fault ≡ Io) → j ≡ i
 public_kept K a b i j (Ok table) h n = h.1
 public_kept K a b i j (Err e) h n = kept_but_io e.fault i j (count_of K e.fault h.ends.got (left h.ahead b) i j e.number h.ends.why) n
+
+pub outcome : (K : Kind) → KindLaws K → HasOneOutcome K
+outcome K laws = record { one_table = laws.one_file; never_both = laws.either; one_fault = laws.one_fault }

@@ -8,6 +8,7 @@ mod field;
 mod header;
 mod input;
 mod inputs;
+pub mod laws;
 mod reading;
 mod table_file;
 
@@ -19,3 +20,6 @@ pub use error::{ReadingError, ReadingFault};
 pub use inputs::{InputError, join_inputs};
 pub use input::{read_input, read_reading, read_table};
 pub use writing::{WriteFault, write_table};
+
+#[cfg(test)]
+mod tests;

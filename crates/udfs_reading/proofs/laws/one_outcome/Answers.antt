@@ -1,0 +1,9 @@
+use Rattle.udfs_reading.specs.Inputs.{inputs}
+use Rattle.udfs_reading.specs.Reading.{readings}
+use Rattle.udfs_reading.specs.TableReading.{tables}
+use Rattle.udfs_reading.proofs.Laws.{readings_laws, tables_laws, inputs_laws}
+use Rattle.udfs_reading.proofs.Public.{outcome}
+use Rattle.udfs_reading.proofs.laws.one_outcome.Goals as goal
+
+pub returns : goal.returns
+returns c = record { of_readings = outcome readings readings_laws; of_tables = outcome tables tables_laws; of_inputs = outcome inputs inputs_laws }

@@ -1,0 +1,13 @@
+use Rattle.std.proofs.Common.{refl, sym, ◌∙◌}
+use Rattle.udfs_reading.specs.TableFile.{table_bytes}
+use Rattle.udfs_reading.proofs.Laws.{tables_laws}
+use Rattle.udfs_reading.proofs.laws.one_spelling.Goals as goal
+
+pub returns-clause-spelled : goal.returns-clause-spelled
+returns-clause-spelled c t is = record { is_table = is; spelled = refl }
+
+pub returns-clause-one : goal.returns-clause-one
+returns-clause-one c bytes other t h k = h.spelled ∙ sym k.spelled
+
+pub returns-clause-tells_it : goal.returns-clause-tells_it
+returns-clause-tells_it c t u h k same = tables_laws.one_file (table_bytes t) _ _ t u (record { is_table = h; spelled = refl }, refl) (record { is_table = k; spelled = same }, refl)

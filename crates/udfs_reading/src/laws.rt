@@ -1,0 +1,22 @@
+//! Laws of the file formats, each the contract of a function that does nothing.
+ghost use Rattle.std.specs.Prelude.{◌≡◌, ℕ, List};
+ghost use Rattle.udfs_lattice.specs.Tables.{Table, IsTable};
+ghost use Rattle.udfs_reading.specs.Inputs.{inputs};
+ghost use Rattle.udfs_reading.specs.Kind.{HasOneOutcome};
+ghost use Rattle.udfs_reading.specs.Reading.{readings};
+ghost use Rattle.udfs_reading.specs.TableFile.{table_bytes};
+ghost use Rattle.udfs_reading.specs.TableReading.{IsTableFile, tables};
+
+/// No bytes are two files of a kind, or a file and faulty, or have two first faults.
+pub fn one_outcome()
+    ensures of_readings { HasOneOutcome readings }
+    ensures of_tables { HasOneOutcome tables }
+    ensures of_inputs { HasOneOutcome inputs }
+{}
+
+/// Each table has one spelling as a file, and no two tables have the same one.
+pub fn one_spelling()
+    ensures spelled { (t : Table) → IsTable t → IsTableFile (table_bytes t) t }
+    ensures one { (bytes other : List ℕ) (t : Table) → IsTableFile bytes t → IsTableFile other t → bytes ≡ other }
+    ensures tells_it { (t u : Table) → IsTable t → IsTable u → table_bytes t ≡ table_bytes u → t ≡ u }
+{}
