@@ -14,7 +14,7 @@ use Rattle.udfs_reading.specs.Format.{number, header}
 use Rattle.udfs_reading.specs.Reading.{magic, front, record_bytes, IsReading}
 use Rattle.udfs_reading.specs.Inputs.{inputs}
 use Rattle.udfs_reading.specs.Several.{HasTable, TablesAre, Tells, AllTell, AllReadings, InputFails, IsFirstFaulty}
-use Rattle.udfs_reading.proofs.Laws.{inputs_laws}
+use Rattle.udfs_reading.proofs.Outcomes.{inputs_laws}
 use Rattle.udfs_reading.proofs.Magics.{readings_at}
 use Rattle.udfs_reading.proofs.Records.{whole_front}
 

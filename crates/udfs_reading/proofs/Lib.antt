@@ -10,7 +10,7 @@ pub mod JudgeEntries
 pub mod Entries
 pub mod Public
 pub mod Magics
-pub mod Laws
+pub mod Outcomes
 pub mod Whole
 pub mod WritingLemmas
 pub mod SoFar

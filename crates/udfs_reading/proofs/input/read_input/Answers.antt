@@ -1,5 +1,5 @@
 use Rattle.udfs_reading.specs.Inputs.{inputs}
-use Rattle.udfs_reading.proofs.Laws.{inputs_laws}
+use Rattle.udfs_reading.proofs.Outcomes.{inputs_laws}
 use Rattle.udfs_reading.proofs.Public.{whole_from, public_table, public_fault, public_file, public_faulty, public_io, public_kept, public_cut}
 use Rattle.udfs_reading.proofs.input.read_input.Goals as goal
 

@@ -1,5 +1,5 @@
 use Rattle.udfs_reading.specs.Reading.{readings}
-use Rattle.udfs_reading.proofs.Laws.{readings_laws}
+use Rattle.udfs_reading.proofs.Outcomes.{readings_laws}
 use Rattle.udfs_reading.proofs.Public.{whole_from, public_table, public_fault, public_file, public_faulty, public_io, public_kept, public_cut}
 use Rattle.udfs_reading.proofs.input.read_reading.Goals as goal
 

@@ -1,5 +1,5 @@
 use Rattle.udfs_reading.specs.TableReading.{tables}
-use Rattle.udfs_reading.proofs.Laws.{tables_laws, public_written}
+use Rattle.udfs_reading.proofs.Outcomes.{tables_laws, public_written}
 use Rattle.udfs_reading.proofs.Public.{whole_from, public_table, public_fault, public_file, public_faulty, public_io, public_kept, public_cut}
 use Rattle.udfs_reading.proofs.input.read_table.Goals as goal
 

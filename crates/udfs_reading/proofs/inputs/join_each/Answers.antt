@@ -1,6 +1,6 @@
 use Rattle.std.proofs.Common.{rules, refl, Ok, Err}
 use Rattle.udfs_reading.specs.Inputs.{inputs}
-use Rattle.udfs_reading.proofs.Laws.{inputs_laws}
+use Rattle.udfs_reading.proofs.Outcomes.{inputs_laws}
 use Rattle.udfs_reading.proofs.Public.{public_table, public_fault, public_faulty, public_io, public_cut}
 use Rattle.udfs_reading.proofs.SoFar.{so_far_none, so_far_more, so_far_fails, so_far_all}
 use Rattle.udfs_reading.proofs.inputs.join_each.Goals as goal

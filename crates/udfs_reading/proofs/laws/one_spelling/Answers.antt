@@ -1,6 +1,6 @@
 use Rattle.std.proofs.Common.{refl, sym, ◌∙◌}
 use Rattle.udfs_reading.specs.TableFile.{table_bytes}
-use Rattle.udfs_reading.proofs.Laws.{tables_laws}
+use Rattle.udfs_reading.proofs.Outcomes.{tables_laws}
 use Rattle.udfs_reading.proofs.laws.one_spelling.Goals as goal
 
 pub returns-clause-spelled : goal.returns-clause-spelled
