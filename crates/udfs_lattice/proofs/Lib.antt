@@ -3,3 +3,4 @@ pub mod Listed
 pub mod RecordLaws
 pub mod EntryLaws
 pub mod JoinLaws
+pub mod VolumeLaws

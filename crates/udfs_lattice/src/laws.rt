@@ -1,7 +1,9 @@
 //! Laws of tables, each the contract of a function that does nothing.
-ghost use Rattle.std.specs.Prelude.{◌≡◌, ℕ, List, ◌++◌, map};
+ghost use Rattle.std.specs.Prelude.{◌≡◌, ◌⊎◌, ◌↔◌, ℕ, List, map};
+ghost use Rattle.udfs_lattice.specs.declared.facts.Fact.TheVariants.{Known, Conflict};
 ghost use Rattle.udfs_lattice.specs.Records.{Record, IsTableOf, SameRecords, table_of, table_of_entries, RisesFrom, join_all, IsLeastAbove, SameTables, all_records};
 ghost use Rattle.udfs_lattice.specs.States.{State};
+ghost use Rattle.udfs_lattice.specs.Volumes.{Volume, Agrees, Includes, complete, ascending};
 ghost use Rattle.udfs_lattice.specs.Tables.{Table, state_of, entries_of, IsTable, IsTableBelow, join_tables};
 
 /// Two tables that say the same of each block are one table.
@@ -42,4 +44,17 @@ pub fn entries_make_the_table()
     ensures table { (t : Table) → IsTable t → table_of_entries (entries_of t) ≡ t }
     ensures entries { (es : List (ℕ × State)) → RisesFrom 0 es → entries_of (table_of_entries es) ≡ es }
     ensures is_table { (es : List (ℕ × State)) → RisesFrom 0 es → IsTable (table_of_entries es) }
+{}
+
+/// A complete volume agrees with the table that knows all of it; and where one table lies below another,
+/// the other knows each block that the one knows with the same bytes, or has it in conflict.
+pub fn complete_volume_agrees()
+    ensures complete { (volume : Volume) (last : ℕ) → Agrees (complete volume last) volume last }
+    ensures above { (t u : Table) (n : ℕ) (bytes : List ℕ) → IsTableBelow t u → state_of t n ≡ Known bytes →
+        (state_of u n ≡ Known bytes) ⊎ (state_of u n ≡ Conflict) }
+{}
+
+/// The ascending list of some numbers has these numbers and no other.
+pub fn ascending_has_the_same_numbers()
+    ensures { (ns : List ℕ) (n : ℕ) → Includes (ascending ns) n ↔ Includes ns n }
 {}

@@ -86,7 +86,8 @@ impl Kept {
     }
 }
 
-/// What is known of each block of a volume.
+/// What is known of each block of a volume: a map from block numbers 0 to [`LAST_BLOCK`] to the states
+/// known and in conflict. A block that is not in it is unknown. A block has 2048 bytes.
 #[derive(Drop)]
 pub struct BlockTable {
     blocks: BTreeMap<u32, Kept>,
@@ -108,6 +109,7 @@ impl Model for BlockTable {
 }
 
 impl BlockTable {
+    /// The table in which every block is unknown. It takes no memory yet, and keeps the allocator.
     pub fn new(alloc: Global) -> Self
         ensures { result ≡ empty_table }
     {
@@ -117,7 +119,7 @@ impl BlockTable {
         }
     }
 
-    /// Unknown above the last block number.
+    /// The state of block `n`, unknown above [`LAST_BLOCK`]. It takes no memory.
     #[tactic(auto, using(crate::specs::KeptRules::kept_rules))]
     pub fn state(&self, n: u32) -> Fact<&[u8; 2048]>
         ensures state { fact_now result ≡ state_of self.now n }
@@ -203,21 +205,21 @@ impl BlockTable {
         Ok(())
     }
 
-    /// How many blocks are known.
+    /// How many blocks are known. It takes no memory.
     pub fn known(&self) -> u32
         ensures { result ≡ known_count self.now }
     {
         count_known(&self.blocks) as u32
     }
 
-    /// How many blocks are in conflict.
+    /// How many blocks are in conflict. It takes no memory.
     pub fn conflicts(&self) -> u32
         ensures { result ≡ conflict_count self.now }
     {
         count_conflicts(&self.blocks) as u32
     }
 
-    /// The blocks that are not unknown, ascending, each with its state.
+    /// The blocks that are not unknown, ascending, each with its state. It takes no memory.
     pub fn entries(&self) -> Entries<'_>
         ensures entries { result ≡ entries_of self.now }
         ensures few { length result ≤ 4194304 }
@@ -270,6 +272,12 @@ impl Join for BlockTable {
 
     ghost least = { join_tables-least };
 
+    /// Joins each entry of the other table into this one.
+    ///
+    /// # Errors
+    ///
+    /// `OutOfMemory` alone. Then the table lies between the old one and the join, and the same join
+    /// again, once it succeeds, gives the join.
     fn join(&mut self, other: &Self) -> Result<(), TableError> {
         for (n, kept) in other.blocks.iter() {
             self.enter(*n, kept.fact())?;
@@ -336,6 +344,23 @@ mod tests {
         assert!(rt; matches!(table.state(300), Fact::Conflict));
         assert!(rt; matches!(table.state(6), Fact::Unknown));
         assert!(rt; matches!(table.state(5), Fact::Known(bytes) if bytes[2047] == 0x62));
+        Ok(())
+    }
+
+    #[test]
+    fn adds_states(rt: HostRuntime) -> Result<(), Fail> {
+        let alloc = rt.alloc();
+        let mut table = BlockTable::new(alloc);
+        table.add(7, Fact::Unknown)?;
+        assert_eq!(rt; table.known(), 0);
+        table.add(7, Fact::Known(&[0x61; 2048]))?;
+        assert_eq!(rt; table.known(), 1);
+        table.add(7, Fact::Conflict)?;
+        table.put(7, &[0x61; 2048])?;
+        assert!(rt; matches!(table.state(7), Fact::Conflict));
+        table.add(8, Fact::Conflict)?;
+        assert_eq!(rt; table.conflicts(), 2);
+        assert!(rt; table.add(LAST_BLOCK + 1, Fact::Conflict).is_err());
         Ok(())
     }
 
