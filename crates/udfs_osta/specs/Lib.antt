@@ -1,0 +1,7 @@
+pub mod Escapes
+pub mod Fronts
+pub mod Labels
+pub mod Names
+pub mod Parts
+pub mod Stamps
+pub mod Texts
