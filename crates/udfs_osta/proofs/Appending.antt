@@ -1,6 +1,6 @@
 -- Texts that are written in part.
-use Rattle.std.proofs.Common.{◌≡◌, ℕ, List, [], ◌++◌, take, drop, refl, sym, ap, ◌∙◌}
-use Rattle.std.specs.Prelude.{Result, Ok, Err, OnErr}
+use Rattle.std.proofs.Common.{◌≡◌, ℕ, List, [], ◌++◌, cond, take, drop, refl, sym, ap, ◌∙◌}
+use Rattle.std.specs.Prelude.{Result, Ok, Err, is_ok, OnOk, OnErr}
 use Rattle.std.proofs.lemmas.List.{append_assoc, append-nil, take-append-drop}
 use Rattle.udfs_osta.specs.Texts.{AppendsPart, Progress}
 
@@ -9,8 +9,8 @@ at_err (Ok x) p = tt
 at_err (Err e) p = p
 
 -- nothing yet
-pub AppendsPart-none : (old whole : List ℕ) → AppendsPart old old whole
-AppendsPart-none old whole = record { part = []; more = whole; is_part = refl; appended = sym (append-nil old) }
+pub AppendsPart-nothing : (old new whole : List ℕ) → new ≡ old → AppendsPart old new whole
+AppendsPart-nothing old new whole e = record { part = []; more = whole; is_part = refl; appended = e ∙ sym (append-nil old) }
 
 -- the front of a list
 pub AppendsPart-take : (i : ℕ) (old new whole : List ℕ) → new ≡ old ++ take i whole → AppendsPart old new whole
@@ -59,3 +59,24 @@ Progress-stop old middle new whole first rest p a = record {
 
 pub Progress-end : (old new whole : List ℕ) → Progress old new whole [] → new ≡ old ++ whole
 Progress-end old new whole p = p.so_far ∙ ap (λ x. old ++ x) (sym (append-nil p.done) ∙ p.left)
+
+-- a text that a last `push` or `push_str` ends, where what comes before it is there
+
+pub pushed_all : {T E : Type 0} (r : Result T E) (old middle new first last whole : List ℕ) → whole ≡ first ++ last → middle ≡ old ++ first
+    → new ≡ cond (is_ok r) (middle ++ last) middle → OnOk r (new ≡ old ++ whole)
+pushed_all (Ok x) old middle new first last whole w m e =
+    e ∙ ap (λ y. y ++ last) m ∙ append_assoc old first last ∙ ap (λ y. old ++ y) (sym w)
+pushed_all (Err f) old middle new first last whole w m e = tt
+
+pub pushed_part : {T E : Type 0} (r : Result T E) (old middle new first last whole : List ℕ) → whole ≡ first ++ last → middle ≡ old ++ first
+    → new ≡ cond (is_ok r) (middle ++ last) middle → OnErr r (AppendsPart old new whole)
+pushed_part (Ok x) old middle new first last whole w m e = tt
+pushed_part (Err f) old middle new first last whole w m e = record { part = first; more = last; is_part = sym w; appended = e ∙ m }
+
+-- the same where nothing comes before it
+
+pub pushed_once_all : {T E : Type 0} (r : Result T E) (old new whole piece : List ℕ) → whole ≡ piece → new ≡ cond (is_ok r) (old ++ piece) old → OnOk r (new ≡ old ++ whole)
+pushed_once_all r old new whole piece w e = pushed_all r old old new [] piece whole w (sym (append-nil old)) e
+
+pub pushed_once_part : {T E : Type 0} (r : Result T E) (old new whole piece : List ℕ) → whole ≡ piece → new ≡ cond (is_ok r) (old ++ piece) old → OnErr r (AppendsPart old new whole)
+pushed_once_part r old new whole piece w e = pushed_part r old old new [] piece whole w (sym (append-nil old)) e

@@ -1,6 +1,8 @@
 pub mod Appending
+pub mod CivilDates
+pub mod FieldTexts
 pub mod LabelNames
-pub mod Moments
+pub mod MomentTexts
 pub mod NameUnits
 pub mod PathParts
 pub mod Showing

@@ -3,5 +3,6 @@ pub mod Fronts
 pub mod Labels
 pub mod Names
 pub mod Parts
+pub mod StampTexts
 pub mod Stamps
 pub mod Texts

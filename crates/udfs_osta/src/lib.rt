@@ -19,7 +19,7 @@ mod texts;
 pub use escapes::{escaped_is_path_part, escaped_tells_units};
 pub use labels::Label;
 pub use names::{Name, NameFault, units_make_names};
-pub use stamps::{Stamp, one_text};
+pub use stamps::{Stamp, days_tell_dates, local_text_shows_fields};
 pub use texts::OutOfMemory;
 
 #[cfg(test)]
