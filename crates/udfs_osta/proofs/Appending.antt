@@ -72,11 +72,3 @@ pub pushed_part : {T E : Type 0} (r : Result T E) (old middle new first last who
     → new ≡ cond (is_ok r) (middle ++ last) middle → OnErr r (AppendsPart old new whole)
 pushed_part (Ok x) old middle new first last whole w m e = tt
 pushed_part (Err f) old middle new first last whole w m e = record { part = first; more = last; is_part = sym w; appended = e ∙ m }
-
--- the same where nothing comes before it
-
-pub pushed_once_all : {T E : Type 0} (r : Result T E) (old new whole piece : List ℕ) → whole ≡ piece → new ≡ cond (is_ok r) (old ++ piece) old → OnOk r (new ≡ old ++ whole)
-pushed_once_all r old new whole piece w e = pushed_all r old old new [] piece whole w (sym (append-nil old)) e
-
-pub pushed_once_part : {T E : Type 0} (r : Result T E) (old new whole piece : List ℕ) → whole ≡ piece → new ≡ cond (is_ok r) (old ++ piece) old → OnErr r (AppendsPart old new whole)
-pushed_once_part r old new whole piece w e = pushed_part r old old new [] piece whole w (sym (append-nil old)) e

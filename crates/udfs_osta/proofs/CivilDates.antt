@@ -1,12 +1,12 @@
 -- The date that stands so many days after 0000-01-01.
-use Rattle.std.proofs.Common.{◌≡◌, ℕ, zero, suc, ◌+◌, ◌-◌, ◌*◌, ◌<◌, ◌≤◌, nat_lt, Bool, true, false, cond, refl, sym, ap, ◌∙◌, arith, ℤ, pos, ◌-ℤ◌, ◌≤ℤ◌}
+use Rattle.std.proofs.Common.{◌≡◌, ℕ, zero, suc, ◌+◌, ◌-◌, ◌<◌, ◌≤◌, nat_lt, true, false, refl, ap, ◌∙◌, arith, ℤ, pos, ◌-ℤ◌, ◌≤ℤ◌}
 use Rattle.std.proofs.lemmas.Bool.Decides.{nat_tests}
 use Rattle.std.proofs.lemmas.Int.{by_lt_z}
-use Rattle.jiff_core.specs.Calendar.{days_in_year, days_in_month, days_of_months, day_of_year, day_count, days_from_civil, IsCivilDate}
+use Rattle.jiff_core.specs.Calendar.{days_in_year, days_in_month, days_of_months, day_count, days_from_civil, IsCivilDate}
 use Rattle.jiff_core.proofs.SignedLemmas.{signed_arith}
 use Rattle.jiff_core.proofs.MarchLemmas.{day_count-early}
 use Rattle.jiff_core.proofs.CalendarLemmas.{days_of_months-zero, days_of_months_more, day_of_year_bound, day_count-day_of_year, day_count-next_year, day_count-lt_year, days_from_civil-day_count}
-use Rattle.udfs_osta.specs.StampTexts.{CivilDate, date_in_months, date_in_years, civil_date, days_before_1970}
+use Rattle.udfs_osta.specs.StampTexts.{date_in_months, date_in_years, civil_date, days_before_1970}
 
 -- the days of so many years, from a year on
 years_days : ℕ → ℕ → ℕ

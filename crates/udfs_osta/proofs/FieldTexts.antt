@@ -1,15 +1,15 @@
 -- The text of a local time shows the fields of its bytes.
-use Rattle.std.proofs.Common.{◌≡◌, ℕ, ◌+◌, ◌*◌, ◌<◌, ◌≤◌, ◌&&◌, ◌==◌, Bool, not, true, false, cond, List, [], ◌++◌, get_or, refl, sym, ap, ◌∙◌, arith, ℤ, pos, neg_ℤ, ◌+ℤ◌, ◌*ℤ◌, ◌≤ℤ◌}
-use Rattle.std.specs.Prelude.{int_le, codes}
+use Rattle.std.proofs.Common.{◌≡◌, ℕ, ◌+◌, ◌*◌, ◌&&◌, ◌==◌, Bool, not, true, false, cond, List, get_or, refl, ◌∙◌, arith, ℤ, pos, neg_ℤ, ◌+ℤ◌, ◌*ℤ◌, ◌≤ℤ◌}
+use Rattle.std.specs.Prelude.{int_le}
 use Rattle.std.proofs.lemmas.List.{append-nil}
-use Rattle.jiff_core.specs.Calendar.{days_from_civil, day_count}
+use Rattle.jiff_core.specs.Calendar.{days_from_civil}
 use Rattle.jiff_core.proofs.SignedLemmas.{signed_arith}
 use Rattle.jiff_core.proofs.CalendarLemmas.{days_from_civil-day_count}
 use Rattle.udfs_osta.specs.declared.stamps.Stamp.{Stamp}
 use Rattle.udfs_osta.specs.declared.stamps.Stamp.TheVariants.{Utc, Local, Invalid}
 use Rattle.udfs_osta.specs.Stamps.{year_of, stamp_kind, has_no_offset, is_civil, fraction_micros, civil_micros, stamp_of}
 use Rattle.udfs_osta.specs.StampTexts.{moment_text, is_shown, stamp_text, fields_text}
-use Rattle.udfs_osta.proofs.Times.{day_count_range, CivilFields, civil_fields}
+use Rattle.udfs_osta.proofs.Times.{day_count_range, civil_fields}
 use Rattle.udfs_osta.proofs.MomentTexts.{moment_text-printed}
 
 -- a choice between two values, by the test

@@ -1,10 +1,9 @@
 -- The text of a moment, in digits of our own and as jiff prints it.
-use Rattle.std.proofs.Common.{◌≡◌, ℕ, ◌+◌, ◌-◌, ◌*◌, ◌/◌, ◌%◌, ◌<◌, ◌≤◌, ◌&&◌, Bool, true, false, cond, List, [], ◌∷◌, ◌++◌, refl, sym, ap, subst, ◌∙◌, arith, ℤ, pos, negsuc, neg_ℤ, ◌+ℤ◌, ◌*ℤ◌, ◌≤ℤ◌, unsigned_abs}
+use Rattle.std.proofs.Common.{◌≡◌, ℕ, ◌+◌, ◌-◌, ◌*◌, ◌/◌, ◌%◌, ◌<◌, ◌&&◌, Bool, true, false, List, [], ◌∷◌, ◌++◌, refl, sym, ap, subst, ◌∙◌, arith, ℤ, pos, negsuc, neg_ℤ, ◌+ℤ◌, ◌*ℤ◌, ◌≤ℤ◌, unsigned_abs}
 use Rattle.std.specs.Prelude.{Some, codes, int_le}
 use Rattle.jiff_core.specs.declared.civil.datetime.DateTime.{DateTime}
 use Rattle.jiff_core.specs.Calendar.{days_from_civil, day_count, IsCivilDate}
 use Rattle.jiff_core.specs.DateTime.{civil_nanos}
-use Rattle.jiff_core.specs.Time.{time_nanos}
 use Rattle.jiff_core.proofs.SignedLemmas.{signed_arith}
 use Rattle.jiff_core.proofs.CalendarLemmas.{days_from_civil-day_count}
 use Rattle.jiff_core.proofs.DateLemmas.{civil}
@@ -119,6 +118,3 @@ pub ended_text-shown : (us : ℤ) (ending : List ℕ) (dt : DateTime) → is_sho
     → ended_text us ending ≡ datetime_text false 84 (Some 6) dt ++ ending
 ended_text-shown us ending dt shown e =
     rw shown (ap (λ text. text ++ ending) (sym (datetime_text-moment_text us dt shown e)))
-
-pub ended_text-beyond : (us : ℤ) (ending : List ℕ) → is_shown us ≡ false → ended_text us ending ≡ codes "invalid"
-ended_text-beyond us ending h = rw h refl

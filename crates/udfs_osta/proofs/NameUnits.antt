@@ -1,11 +1,10 @@
 -- The units of a name are numbers of 16 bits.
-use Rattle.std.proofs.Common.{◌≡◌, ℕ, ◌+◌, ◌*◌, ◌%◌, ◌<◌, ◌^◌, ◌==◌, ◌||◌, Bool, true, false, cond, List, [], ◌∷◌, length, refl, sym, subst, arith}
-use Rattle.std.specs.Prelude.{Result, Ok, Err}
+use Rattle.std.proofs.Common.{◌≡◌, ℕ, ◌%◌, ◌<◌, ◌^◌, ◌==◌, ◌||◌, Bool, true, false, cond, List, [], ◌∷◌, length, refl, subst, arith}
+use Rattle.std.specs.Prelude.{Result, Ok}
 use Rattle.std.specs.List.{All, AllByRecursion}
 use Rattle.std.proofs.lemmas.List.Elements.{All-from_recursion, recursion_from_All}
 use Rattle.std.proofs.lemmas.Bool.Decides.{nat_tests}
 use Rattle.udfs_osta.specs.declared.names.NameFault.{NameFault}
-use Rattle.udfs_osta.specs.declared.names.NameFault.TheVariants.{Empty, Compression, Odd}
 use Rattle.udfs_osta.specs.Names.{AreUnits, IsName, pair_units, units_after, units_of}
 
 abbrev ByteByByte : List ℕ → Type 0

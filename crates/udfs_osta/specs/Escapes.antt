@@ -15,10 +15,10 @@ escape unit =
     92 ∷ 117 ∷ hex_digit (unit / 4096) ∷ hex_digit (unit / 256 % 16) ∷ hex_digit (unit / 16 % 16)
     ∷ hex_digit (unit % 16) ∷ []
 
--- controls, `/`, `\` and surrogates without a partner
+-- controls, `/` (2F), `\` (5C) and surrogates: asked of a unit that is half of no pair
 abbrev pub must_escape : ℕ → Bool
 must_escape unit =
-    nat_lt unit 0x20 || unit == 0x7F || unit == 47 || unit == 92 || (nat_le 0xD800 unit && nat_lt unit 0xE000)
+    nat_lt unit 0x20 || unit == 0x7F || unit == 0x2F || unit == 0x5C || (nat_le 0xD800 unit && nat_lt unit 0xE000)
 
 -- the characters that stand for a unit in no pair
 abbrev pub shown_unit : ℕ → List ℕ
@@ -32,10 +32,10 @@ shown (u ∷ v ∷ us) =
     if is_high_surrogate u && is_low_surrogate v then surrogate_pair_char u v ∷ shown us
     else shown_unit u ++ shown (v ∷ us)
 
--- the name is `.` or `..`
+-- there is nothing but dots, and at most two: of names these are `.` and `..`
 abbrev pub is_dots : List ℕ → Bool
 is_dots units = nat_lt (length units) 3 && list_all (λ u. u == 46) units
 
--- the escaped form, in UTF-8
+-- the escaped form, in UTF-8: the units as characters, but each dot of `.` and `..` by its escape
 unfoldable pub escaped : List ℕ → List ℕ
 escaped units = encode_utf8_all (if is_dots units then flat_map escape units else shown units)

@@ -21,7 +21,7 @@ pair_units [] = []
 pair_units (b ∷ []) = []
 pair_units (high ∷ low ∷ rest) = (high * 256 + low) ∷ pair_units rest
 
--- the units after the first byte, which is 8 or 16
+-- the units after the first byte, which is 8 or 16: none is a fault, and so is an odd number of bytes after 16
 abbrev pub units_after : ℕ → List ℕ → Result (List ℕ) NameFault
 units_after kind [] = Err Empty
 units_after kind (b ∷ bs) =
@@ -34,7 +34,7 @@ abbrev pub units_of : List ℕ → Result (List ℕ) NameFault
 units_of [] = Err Empty
 units_of (kind ∷ rest) = if kind == 8 || kind == 16 then units_after kind rest else Err Compression
 
--- What is answered is what the bytes give. Memory is wanted for units alone.
+-- what is answered is what the bytes give, and memory is wanted for units alone: never where a fault is to be told
 abbrev pub Gives : Result (List ℕ) NameFault → Result (List ℕ) NameFault → Type 0
 Gives (Ok name) given = given ≡ Ok name
 Gives (Err OutOfMemory) given = IsOk given

@@ -14,7 +14,7 @@ ghost use Rattle.udfs_osta.specs.Fronts.{begins_with_pair, front_len, front_char
 
 use crate::texts::{OutOfMemory, push_ascii};
 
-/// A hexadecimal digit.
+/// A hexadecimal digit, in upper case.
 fn hex_byte(digit: u16) -> u8
     requires { digit < 16 }
     ensures { result ≡ hex_digit digit }
@@ -26,7 +26,7 @@ fn hex_byte(digit: u16) -> u8
     }
 }
 
-/// `\uXXXX`.
+/// `\uXXXX`, with four hexadecimal digits.
 fn escape_bytes(unit: u16) -> [u8; 6]
     ensures value { result ≡ escape unit }
     ensures ascii { IsAscii result }
@@ -136,8 +136,8 @@ pub(crate) fn write_escapes(units: &[u16], text: &mut String) -> Result<(), OutO
     Ok(())
 }
 
-/// The escaped form of a name can stand in a path: it is not empty, not `.` or `..`, and has no `/`, no control character
-/// and no zero byte. This is a law about the form; the call does nothing.
+/// The escaped form of a name can stand in a path: it is not empty, not `.` or `..`, and has no `/`, no byte below 20
+/// hexadecimal and so no zero byte. This is a law about the form; the call does nothing.
 pub fn escaped_is_path_part()
     ensures { (units : List ℕ) → 0 < length units → IsPathPart (escaped units) }
 {}

@@ -6,8 +6,8 @@
 //!
 //! [`Name`] and [`Label`] read the first two and [`Stamp`] the third. [`Name::write_escaped`] writes a name so that
 //! it can stand in a path of the host and in a line of text: it is never empty, never `.` or `..`, and holds no `/`, no
-//! control character and no zero byte ([`escaped_is_path_part`]); and two names that are written alike have the same
-//! units ([`escaped_tells_units`]).
+//! byte below 20 hexadecimal and so no zero byte ([`escaped_is_path_part`]); and two names that are written alike have
+//! the same units ([`escaped_tells_units`]).
 #![tactic(auto)]
 
 mod escapes;

@@ -113,7 +113,7 @@ impl Name {
         ensures ok { OnOk result (string_bytes text.new ≡ string_bytes text.old ++ escaped self.now) }
         ensures err { OnErr result (AppendsPart (string_bytes text.old) (string_bytes text.new) (escaped self.now)) }
     {
-        let units = self.units.as_slice();
+        let units = self.units();
         if is_dots(units) {
             write_escapes(units, text)
         } else {
@@ -126,7 +126,7 @@ impl Name {
 fn single_units(alloc: Global, bytes: &[u8]) -> Result<Vec<u16>, AllocError>
     ensures { IfOk result (λ units. units.items ≡ bytes.now) }
 {
-    let mut units = Vec::new(alloc);
+    let mut units = Vec::with_capacity(alloc, bytes.len())?;
     for byte in bytes {
         units.push(u16::from(*byte))?;
     }
@@ -137,7 +137,7 @@ fn single_units(alloc: Global, bytes: &[u8]) -> Result<Vec<u16>, AllocError>
 fn double_units(alloc: Global, bytes: &[u8]) -> Result<Vec<u16>, AllocError>
     ensures { IfOk result (λ units. units.items ≡ pair_units bytes.now) }
 {
-    let mut units = Vec::new(alloc);
+    let mut units = Vec::with_capacity(alloc, bytes.len() / 2)?;
     let mut rest = bytes;
     while rest.len() >= 2 {
         let (pair, others) = rest.split_at(2);
