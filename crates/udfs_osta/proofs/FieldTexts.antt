@@ -1,5 +1,5 @@
 -- The text of a local time shows the fields of its bytes.
-use Rattle.std.proofs.Common.{◌≡◌, ℕ, ◌+◌, ◌*◌, ◌&&◌, ◌==◌, Bool, not, true, false, cond, List, get_or, refl, ◌∙◌, arith, ℤ, pos, neg_ℤ, ◌+ℤ◌, ◌*ℤ◌, ◌≤ℤ◌}
+use Rattle.std.proofs.Common.{◌≡◌, ℕ, ◌+◌, ◌*◌, ◌&&◌, ◌==◌, Bool, not, true, false, List, get_or, refl, ◌∙◌, arith, ℤ, pos, neg_ℤ, ◌+ℤ◌, ◌*ℤ◌, ◌≤ℤ◌}
 use Rattle.std.specs.Prelude.{int_le}
 use Rattle.std.proofs.lemmas.List.{append-nil}
 use Rattle.jiff_core.specs.Calendar.{days_from_civil}
@@ -11,11 +11,7 @@ use Rattle.udfs_osta.specs.Stamps.{year_of, stamp_kind, has_no_offset, is_civil,
 use Rattle.udfs_osta.specs.StampTexts.{moment_text, is_shown, stamp_text, fields_text}
 use Rattle.udfs_osta.proofs.Times.{day_count_range, civil_fields}
 use Rattle.udfs_osta.proofs.MomentTexts.{moment_text-printed}
-
--- a choice between two values, by the test
-chosen : {X : Type 0} (P : X → Type 0) (b : Bool) (x y : X) → (b ≡ true → P x) → (b ≡ false → P y) → P (cond b x y)
-chosen P true x y p q = p refl
-chosen P false x y p q = q refl
+use Rattle.udfs_osta.proofs.Choices.{chosen, not_false}
 
 first_of : (a b : Bool) → not (a && b) ≡ false → a ≡ true
 first_of true b h = refl
@@ -36,12 +32,8 @@ ended : (us : ℤ) (text : List ℕ) → is_shown us ≡ true → moment_text us
 unfolding stamp_text
 ended us text h e = rw h (append-nil (moment_text us) ∙ e)
 
-true_else : (b : Bool) → (b ≡ false → ⊥) → b ≡ true
-true_else true h = refl
-true_else false h = absurd (h refl)
-
 at_most : (a b : ℤ) → a ≤ℤ b → int_le a b ≡ true
-at_most a b h = true_else (int_le a b) (λ e. omega (arith, signed_arith))
+at_most a b h = not_false (int_le a b) (λ e. omega (arith, signed_arith))
 
 pub local_text : (bytes : List ℕ) (us : ℤ) → stamp_of bytes ≡ Local us → stamp_text (Local us) ≡ fields_text bytes
 unfolding civil_micros

@@ -1,4 +1,5 @@
 pub mod Appending
+pub mod Choices
 pub mod CivilDates
 pub mod FieldTexts
 pub mod LabelNames

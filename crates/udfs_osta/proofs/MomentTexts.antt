@@ -1,5 +1,5 @@
 -- The text of a moment, in digits of our own and as jiff prints it.
-use Rattle.std.proofs.Common.{◌≡◌, ℕ, ◌+◌, ◌-◌, ◌*◌, ◌/◌, ◌%◌, ◌<◌, ◌&&◌, Bool, true, false, List, [], ◌∷◌, ◌++◌, refl, sym, ap, subst, ◌∙◌, arith, ℤ, pos, negsuc, neg_ℤ, ◌+ℤ◌, ◌*ℤ◌, ◌≤ℤ◌, unsigned_abs}
+use Rattle.std.proofs.Common.{◌≡◌, ℕ, ◌+◌, ◌-◌, ◌*◌, ◌/◌, ◌%◌, ◌<◌, true, false, List, [], ◌∷◌, ◌++◌, refl, sym, ap, subst, ◌∙◌, arith, ℤ, pos, negsuc, neg_ℤ, ◌+ℤ◌, ◌*ℤ◌, ◌≤ℤ◌, unsigned_abs}
 use Rattle.std.specs.Prelude.{Some, codes, int_le}
 use Rattle.jiff_core.specs.declared.civil.datetime.DateTime.{DateTime}
 use Rattle.jiff_core.specs.Calendar.{days_from_civil, day_count, IsCivilDate}
@@ -11,6 +11,7 @@ use Rattle.jiff_core.proofs.DateTimeLemmas.{civil_nanos-parts, time_nanos_bound}
 use Rattle.jiff_fmt.specs.Text.{datetime_text, places, year_text, pad2}
 use Rattle.udfs_osta.specs.StampTexts.{CivilDate, civil_date, six_digits, date_text, time_text, clock_text, micros_from_0000, moment_text, is_shown, ended_text}
 use Rattle.udfs_osta.proofs.CivilDates.{civil_date-day_count, day_count-from_0000, year-from_0000}
+use Rattle.udfs_osta.proofs.Choices.{both}
 
 abs_is : (z : ℤ) → pos 0 ≤ℤ z → z ≡ pos (unsigned_abs z)
 abs_is (pos n) h = refl
@@ -76,10 +77,6 @@ jiff_printed : (y : ℤ) (year m d h mi s ns f : ℕ) → y ≡ pos year → pla
     → (year_text y ++ 45 ∷ [] ++ pad2 m ++ 45 ∷ [] ++ pad2 d) ++ 84 ∷ (pad2 h ++ 58 ∷ pad2 mi ++ 58 ∷ pad2 s ++ 46 ∷ places 6 1_000_000_000 ns)
     ≡ printed (record { year = year; month = m; day = d }) h mi s f
 jiff_printed y year m d h mi s ns f e p = rw (e, p) refl
-
-both : (a b : Bool) → (a && b) ≡ true → (a ≡ true) × (b ≡ true)
-both true b h = (refl, h)
-both false b h = (h, cc)
 
 -- jiff's text of the moment, with six places
 pub datetime_text-moment_text : (us : ℤ) (dt : DateTime) → is_shown us ≡ true → civil_nanos dt ≡ us *ℤ pos 1000 → datetime_text false 84 (Some 6) dt ≡ moment_text us

@@ -1,11 +1,12 @@
 -- The units of a name are numbers of 16 bits.
-use Rattle.std.proofs.Common.{◌≡◌, ℕ, ◌%◌, ◌<◌, ◌^◌, ◌==◌, ◌||◌, Bool, true, false, cond, List, [], ◌∷◌, length, refl, subst, arith}
+use Rattle.std.proofs.Common.{◌≡◌, ℕ, ◌%◌, ◌<◌, ◌^◌, ◌==◌, ◌||◌, List, [], ◌∷◌, length, subst, arith}
 use Rattle.std.specs.Prelude.{Result, Ok}
 use Rattle.std.specs.List.{All, AllByRecursion}
 use Rattle.std.proofs.lemmas.List.Elements.{All-from_recursion, recursion_from_All}
 use Rattle.std.proofs.lemmas.Bool.Decides.{nat_tests}
 use Rattle.udfs_osta.specs.declared.names.NameFault.{NameFault}
 use Rattle.udfs_osta.specs.Names.{AreUnits, IsName, pair_units, units_after, units_of}
+use Rattle.udfs_osta.proofs.Choices.{chosen}
 
 abbrev ByteByByte : List ℕ → Type 0
 ByteByByte bs = AllByRecursion (λ b. b < 2 ^ 8) bs
@@ -30,11 +31,6 @@ some_pairs (high ∷ low ∷ bs) h e = omega arith
 
 all_units : (us : List ℕ) → UnitByUnit us → AreUnits us
 all_units us h = All-from_recursion (λ u. u < 2 ^ 16) us h
-
--- a choice between two values, by the test
-chosen : {X : Type 0} (P : X → Type 0) (b : Bool) (x y : X) → (b ≡ true → P x) → (b ≡ false → P y) → P (cond b x y)
-chosen P true x y p q = p refl
-chosen P false x y p q = q refl
 
 -- what is wanted of an answer
 abbrev IsNameIfOk : List ℕ → Result (List ℕ) NameFault → Type 0

@@ -1,5 +1,5 @@
 -- What an escaped name never is and never holds.
-use Rattle.std.proofs.Common.{◌≡◌, ℕ, ◌+◌, ◌/◌, ◌%◌, ◌<◌, ◌≤◌, ◌&&◌, ◌==◌, nat_lt, Bool, true, false, cond, ltb, eq-eqb, length-append, List, [], ◌∷◌, ◌++◌, length, refl, sym, subst, ◌∙◌, arith}
+use Rattle.std.proofs.Common.{◌≡◌, ℕ, ◌+◌, ◌/◌, ◌%◌, ◌<◌, ◌≤◌, ◌&&◌, ◌==◌, nat_lt, true, false, ltb, eq-eqb, length-append, List, [], ◌∷◌, ◌++◌, length, refl, sym, subst, ◌∙◌, arith}
 use Rattle.std.specs.List.{flat_map, list_all}
 use Rattle.std.specs.Str.{encode_utf8_all}
 use Rattle.std.specs.Char.Utf16.{is_high_surrogate, is_low_surrogate, surrogate_pair_char}
@@ -8,15 +8,11 @@ use Rattle.std.proofs.lemmas.Bool.Decides.{nat_tests}
 use lib.Utf8.{encode}
 use Rattle.udfs_osta.specs.Escapes.{hex_digit, escape, must_escape, shown_unit, shown, is_dots, escaped}
 use Rattle.udfs_osta.specs.Parts.{IsPlain, AllPlain, IsPathPart}
+use Rattle.udfs_osta.proofs.Choices.{chosen, and_true}
 
 AllPlain-append : (xs ys : List ℕ) → AllPlain xs → AllPlain ys → AllPlain (xs ++ ys)
 AllPlain-append [] ys h k = k
 AllPlain-append (x ∷ xs) ys h k = (h.0, AllPlain-append xs ys h.1 k)
-
--- a choice between two values, by the test
-chosen : {X : Type 0} (P : X → Type 0) (b : Bool) (x y : X) → (b ≡ true → P x) → (b ≡ false → P y) → P (cond b x y)
-chosen P true x y p q = p refl
-chosen P false x y p q = q refl
 
 hex_plain : (n : ℕ) → IsPlain (hex_digit n)
 hex_plain n = chosen IsPlain (nat_lt n 10) (48 + n) (55 + n) (λ e. (omega arith, λ s. omega arith)) (λ e. let h : 10 ≤ n = grind (arith, nat_tests) in (omega arith, λ s. omega arith))
@@ -109,10 +105,6 @@ shown_dots (u ∷ v ∷ us) h =
     let one = unit_dot u parts.0 in
     let rest = shown_dots (v ∷ us) parts.1 in
     ((one.0, rest.0), simp length-append (omega arith))) h
-
-and_true : (a b : Bool) → a ≡ true → b ≡ true → (a && b) ≡ true
-and_true true b e h = h
-and_true false b e h = e
 
 all_dots : (us : List ℕ) → AllDots us → list_all (λ u. u == 46) us ≡ true
 unfolding AllDots

@@ -1,5 +1,5 @@
 -- An escaped form tells the units: the characters are read back, and no two lists of characters have one UTF-8.
-use Rattle.std.proofs.Common.{◌≡◌, ℕ, zero, suc, ◌+◌, ◌-◌, ◌*◌, ◌/◌, ◌%◌, ◌<◌, ◌≤◌, ◌^◌, ◌&&◌, ◌==◌, nat_lt, Bool, true, false, cond, List, [], ◌∷◌, ◌++◌, refl, sym, ap, ◌∙◌, arith}
+use Rattle.std.proofs.Common.{◌≡◌, ℕ, zero, suc, ◌+◌, ◌-◌, ◌*◌, ◌/◌, ◌%◌, ◌<◌, ◌≤◌, ◌^◌, ◌&&◌, ◌==◌, nat_lt, true, false, cond, List, [], ◌∷◌, ◌++◌, refl, sym, ap, ◌∙◌, arith}
 use Rattle.std.specs.Prelude.{slice_index}
 use Rattle.std.specs.List.{flat_map}
 use Rattle.std.specs.Char.Utf16.{is_high_surrogate, is_low_surrogate, surrogate_pair_char}
@@ -10,6 +10,7 @@ use Rattle.std.specs.List.{AllByRecursion}
 use Rattle.std.proofs.lemmas.Bool.Decides.{nat_tests}
 use Rattle.udfs_osta.specs.Names.{AreUnits}
 use Rattle.udfs_osta.specs.Escapes.{hex_digit, escape, must_escape, shown_unit, shown, is_dots, escaped}
+use Rattle.udfs_osta.proofs.Choices.{chosen}
 
 -- the value of an upper-case hexadecimal digit
 abbrev hex_value : ℕ → ℕ
@@ -66,11 +67,6 @@ told-pair u v cs h =
     let d : high_of c ≡ u = omega arith in
     let e : low_of c ≡ v = omega arith in
     rw (a, b, d, e) refl
-
--- a choice between two values, by the test
-chosen : {X : Type 0} (P : X → Type 0) (b : Bool) (x y : X) → (b ≡ true → P x) → (b ≡ false → P y) → P (cond b x y)
-chosen P true x y p q = p refl
-chosen P false x y p q = q refl
 
 told-unit : (u : ℕ) (cs : List ℕ) → u < 2 ^ 16 → told 0 (shown_unit u ++ cs) ≡ u ∷ told 0 cs
 told-unit u cs h =
