@@ -4,7 +4,8 @@ ghost use Rattle.std.specs.List.{All};
 ghost use Rattle.std.specs.Prelude.{◌≡◌, ℕ, ◌<◌, ◌^◌, ◌++◌, List, length, OnOk, OnErr, IfOk, IsOk};
 ghost use Rattle.std.specs.String.{string_bytes};
 ghost use Rattle.udfs_osta.specs.Texts.{AppendsPart};
-ghost use Rattle.udfs_osta.specs.Names.{pair_units, units_of, IsName};
+ghost use Rattle.udfs_osta.specs.Names.{pair_units, units_of, AreUnits, IsName};
+ghost use Rattle.udfs_osta.specs.Parts.{IsPathPart};
 
 use crate::escapes::{is_dots, write_escapes, write_units};
 use crate::texts::OutOfMemory;
@@ -112,6 +113,10 @@ impl Name {
     pub fn write_escaped(&self, text: &mut String) -> Result<(), OutOfMemory>
         ensures ok { OnOk result (string_bytes text.new ≡ string_bytes text.old ++ escaped self.now) }
         ensures err { OnErr result (AppendsPart (string_bytes text.old) (string_bytes text.new) (escaped self.now)) }
+
+        // The text can stand in a path, and no other name has it.
+        ensures part { IsPathPart (escaped self.now) }
+        ensures alone { (other : List ℕ) → AreUnits other → escaped other ≡ escaped self.now → other ≡ self.now }
     {
         let units = self.units();
         if is_dots(units) {
