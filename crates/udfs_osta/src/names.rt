@@ -54,6 +54,16 @@ impl Model for Name {
     ghost invariant = { λ n. IsName n.units.items };
 }
 
+/// A copy has the same units. It is refused where memory is.
+impl Clone for Name {
+    ghost is_clone = { λ name copy. copy ≡ name };
+
+    fn clone(&self) -> Result<Name, AllocError> {
+        let units = self.units.clone()?;
+        Ok(Name { units })
+    }
+}
+
 impl Name {
     ghost use Rattle.udfs_osta.specs.Names.{Gives};
     ghost use Rattle.udfs_osta.specs.Escapes.{escaped};

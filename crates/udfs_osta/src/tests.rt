@@ -70,6 +70,8 @@ fn units_of_names(rt: HostRuntime) -> Result<(), Fail> {
     assert_eq!(rt; name.units(), [0xe9, 0x41].as_slice());
     let name = Name::read(rt.alloc(), b"\x10\xd8\x3d\xde\x00")?;
     assert_eq!(rt; name.units(), [0xd83d, 0xde00].as_slice());
+    let copy = name.clone()?;
+    assert_eq!(rt; copy.units(), [0xd83d, 0xde00].as_slice());
     Ok(())
 }
 
