@@ -1,0 +1,11 @@
+pub mod Appending
+pub mod Choices
+pub mod CivilDates
+pub mod FieldTexts
+pub mod LabelNames
+pub mod MomentTexts
+pub mod NameUnits
+pub mod PathParts
+pub mod Showing
+pub mod Telling
+pub mod Times

@@ -1,0 +1,43 @@
+-- Names in compressed Unicode (OSTA UDF 2.1.1).
+--     units_of bytes       the units of a name, or its first fault
+--     AreUnits units       what a unit is: a number of 16 bits
+use Rattle.std.specs.Prelude.{◌≡◌, ℕ, ◌+◌, ◌*◌, ◌%◌, ◌<◌, ◌^◌, ◌==◌, ◌||◌, List, [], ◌∷◌, length, Result, Ok, Err, IsOk, if◌then◌else◌}
+use Rattle.std.specs.List.{All}
+use Rattle.udfs_osta.specs.declared.names.NameFault.{NameFault}
+use Rattle.udfs_osta.specs.declared.names.NameFault.TheVariants.{Empty, Compression, Odd, OutOfMemory}
+
+-- units are numbers of 16 bits
+abbrev pub AreUnits : List ℕ → Type 0
+AreUnits units = All (λ u. u < 2 ^ 16) units
+
+-- what the units of every name are: at least one, each of 16 bits
+pub record IsName (units : List ℕ) : Type 0 where
+  pub some : 0 < length units
+  pub range : AreUnits units
+
+-- two bytes a unit, the high byte first
+abbrev pub pair_units : List ℕ → List ℕ
+pair_units [] = []
+pair_units (b ∷ []) = []
+pair_units (high ∷ low ∷ rest) = (high * 256 + low) ∷ pair_units rest
+
+-- the units after the first byte, which is 8 or 16: none is a fault, and so is an odd number of bytes after 16
+abbrev pub units_after : ℕ → List ℕ → Result (List ℕ) NameFault
+units_after kind [] = Err Empty
+units_after kind (b ∷ bs) =
+    if kind == 8 then Ok (b ∷ bs)
+    else if length (b ∷ bs) % 2 == 1 then Err Odd
+    else Ok (pair_units (b ∷ bs))
+
+-- the units of a name, or its first fault
+abbrev pub units_of : List ℕ → Result (List ℕ) NameFault
+units_of [] = Err Empty
+units_of (kind ∷ rest) = if kind == 8 || kind == 16 then units_after kind rest else Err Compression
+
+-- what is answered is what the bytes give, and memory is wanted for units alone: never where a fault is to be told
+abbrev pub Gives : Result (List ℕ) NameFault → Result (List ℕ) NameFault → Type 0
+Gives (Ok name) given = given ≡ Ok name
+Gives (Err OutOfMemory) given = IsOk given
+Gives (Err Empty) given = given ≡ Err Empty
+Gives (Err Compression) given = given ≡ Err Compression
+Gives (Err Odd) given = given ≡ Err Odd

@@ -1,0 +1,149 @@
+//! The escaped form of a name.
+
+ghost use Rattle.std.specs.Prelude.{◌≡◌, ℕ, ◌<◌, ◌≤◌, ◌++◌, List, length, slice_index, true, false, OnOk, OnErr, IfOk};
+ghost use Rattle.std.specs.String.{string_bytes};
+ghost use Rattle.std.specs.Str.{IsAscii, encode_utf8_all};
+ghost use Rattle.std.specs.Char.Utf16.{surrogate_pair_char};
+ghost use Rattle.std.specs.List.{flat_map};
+ghost use Rattle.std.specs.Option.{SomeIff};
+ghost use Rattle.udfs_osta.specs.Parts.{IsPathPart};
+ghost use Rattle.udfs_osta.specs.Texts.{AppendsPart};
+ghost use Rattle.udfs_osta.specs.Names.{AreUnits};
+ghost use Rattle.udfs_osta.specs.Escapes.{hex_digit, escape, must_escape, shown_unit, shown, is_dots, escaped};
+ghost use Rattle.udfs_osta.specs.Fronts.{begins_with_pair, front_len, front_chars};
+
+use crate::texts::{OutOfMemory, push_ascii};
+
+/// A hexadecimal digit, in upper case.
+fn hex_byte(digit: u16) -> u8
+    requires { digit < 16 }
+    ensures { result ≡ hex_digit digit }
+{
+    if digit < 10 {
+        b'0' + digit as u8
+    } else {
+        b'A' + (digit - 10) as u8
+    }
+}
+
+/// `\uXXXX`, with four hexadecimal digits.
+fn escape_bytes(unit: u16) -> [u8; 6]
+    ensures value { result ≡ escape unit }
+    ensures ascii { IsAscii result }
+{
+    [
+        b'\\',
+        b'u',
+        hex_byte(unit / 4096),
+        hex_byte(unit / 256 % 16),
+        hex_byte(unit / 16 % 16),
+        hex_byte(unit % 16),
+    ]
+}
+
+/// The character that a unit in no pair stands for, unless it is escaped.
+fn plain_char(unit: u16) -> Option<char>
+    ensures { SomeIff result (must_escape unit ≡ false) unit }
+{
+    match unit {
+        0..=0x1f | 0x2f | 0x5c | 0x7f => None,
+        _ => char::from_u32(u32::from(unit)),
+    }
+}
+
+/// The character of a pair that stands at the front.
+fn paired_char(units: &[u16]) -> Option<char>
+    ensures { SomeIff result (begins_with_pair units.now ≡ true) (surrogate_pair_char (slice_index units.now 0) (slice_index units.now 1)) }
+{
+    match units {
+        [high @ 0xd800..=0xdbff, low @ 0xdc00..=0xdfff, ..] => {
+            char::from_u32(
+                0x1_0000 + (u32::from(*high) - 0xd800) * 0x400 + (u32::from(*low) - 0xdc00),
+            )
+        }
+        _ => None,
+    }
+}
+
+/// Appends a unit's escape.
+fn write_escape(unit: u16, text: &mut String) -> Result<(), OutOfMemory>
+    ensures ok { OnOk result (string_bytes text.new ≡ string_bytes text.old ++ encode_utf8_all (escape unit)) }
+    ensures err { OnErr result (AppendsPart (string_bytes text.old) (string_bytes text.new) (encode_utf8_all (escape unit))) }
+{
+    push_ascii(text, &escape_bytes(unit))
+}
+
+/// Appends a unit in no pair.
+fn write_unit(unit: u16, text: &mut String) -> Result<(), OutOfMemory>
+    ensures ok { OnOk result (string_bytes text.new ≡ string_bytes text.old ++ encode_utf8_all (shown_unit unit)) }
+    ensures err { OnErr result (AppendsPart (string_bytes text.old) (string_bytes text.new) (encode_utf8_all (shown_unit unit))) }
+{
+    match plain_char(unit) {
+        Some(character) => text.push(character),
+        None => write_escape(unit, text),
+    }
+}
+
+/// Appends the first shown part, a pair or one unit, and says how many units it takes.
+fn write_front(units: &[u16], text: &mut String) -> Result<usize, OutOfMemory>
+    requires { 0 < length units.now }
+    ensures count { IfOk result (λ n. n ≡ front_len units.now) }
+    ensures fits { IfOk result (λ n. n ≤ length units.now) }
+    ensures ok { OnOk result (string_bytes text.new ≡ string_bytes text.old ++ encode_utf8_all (front_chars units.now)) }
+    ensures err { OnErr result (AppendsPart (string_bytes text.old) (string_bytes text.new) (encode_utf8_all (front_chars units.now))) }
+{
+    match paired_char(units) {
+        Some(character) => {
+            text.push(character)?;
+            Ok(2)
+        }
+        None => {
+            write_unit(units[0], text)?;
+            Ok(1)
+        }
+    }
+}
+
+/// The name is `.` or `..`.
+pub(crate) fn is_dots(units: &[u16]) -> bool
+    ensures { result ≡ is_dots units.now }
+{
+    units.len() < 3 && units.iter().all(|unit| *unit == 0x2e)
+}
+
+/// Appends the units, pairs joined.
+pub(crate) fn write_units(units: &[u16], text: &mut String) -> Result<(), OutOfMemory>
+    ensures ok { OnOk result (string_bytes text.new ≡ string_bytes text.old ++ encode_utf8_all (shown units.now)) }
+    ensures err { OnErr result (AppendsPart (string_bytes text.old) (string_bytes text.new) (encode_utf8_all (shown units.now))) }
+{
+    let mut rest = units;
+    while !rest.is_empty() {
+        let count = write_front(rest, text)?;
+        let (_, others) = rest.split_at(count);
+        rest = others;
+    }
+    Ok(())
+}
+
+/// Appends the escapes of all units.
+pub(crate) fn write_escapes(units: &[u16], text: &mut String) -> Result<(), OutOfMemory>
+    ensures ok { OnOk result (string_bytes text.new ≡ string_bytes text.old ++ encode_utf8_all (flat_map escape units.now)) }
+    ensures err { OnErr result (AppendsPart (string_bytes text.old) (string_bytes text.new) (encode_utf8_all (flat_map escape units.now))) }
+{
+    for unit in units {
+        write_escape(*unit, text)?;
+    }
+    Ok(())
+}
+
+/// The escaped form of a name can stand in a path: it is not empty, not `.` or `..`, and has no `/`, no byte below 20
+/// hexadecimal and so no zero byte. This is a law about the form; the call does nothing.
+pub fn escaped_is_path_part()
+    ensures { (units : List ℕ) → 0 < length units → IsPathPart (escaped units) }
+{}
+
+/// Two names with one escaped form have the same units, so that two files of a directory never fall together. This is a
+/// law about the form; the call does nothing.
+pub fn escaped_tells_units()
+    ensures { (first second : List ℕ) → AreUnits first → AreUnits second → escaped first ≡ escaped second → first ≡ second }
+{}

@@ -1,0 +1,23 @@
+//! Text that may stop half way, since memory may be refused at any growth.
+
+ghost use Rattle.std.specs.Prelude.{◌≡◌, ◌++◌, OnOk, OnErr};
+ghost use Rattle.std.specs.String.{string_bytes};
+ghost use Rattle.std.specs.Str.{IsAscii};
+ghost use Rattle.udfs_osta.specs.Texts.{AppendsPart};
+
+use std::alloc::AllocError;
+
+/// Memory was refused. It is std's [`AllocError`] under the name that the calls of these crates use.
+pub type OutOfMemory = AllocError;
+
+/// Appends ASCII bytes.
+pub(crate) fn push_ascii(text: &mut String, bytes: &[u8]) -> Result<(), OutOfMemory>
+    requires { IsAscii bytes.now }
+    ensures ok { OnOk result (string_bytes text.new ≡ string_bytes text.old ++ bytes.now) }
+    ensures err { OnErr result (AppendsPart (string_bytes text.old) (string_bytes text.new) bytes.now) }
+{
+    for byte in bytes {
+        text.push(char::from(*byte))?;
+    }
+    Ok(())
+}
