@@ -1,0 +1,68 @@
+//! The command `merge`: readings in, one table file out.
+
+ghost use Rattle.std.specs.Prelude.{◌≡◌, ◌≤◌, [], IfOk, vec_capacity};
+ghost use Rattle.std.specs.Io.KnownBytes.{Appends};
+ghost use Rattle.udfs_reading.specs.TableFile.{table_bytes};
+
+use crate::buffered::{Buffered, PIECE};
+use crate::files::Files;
+use crate::refusal::Refusal;
+use std::alloc::Global;
+use udfs_lattice::BlockTable;
+use udfs_reading::{DeviceFault, Sink, join_inputs, write_table};
+
+/// Joins the inputs, and writes the table file to `out`. All inputs are opened in order before one is read, and the output is
+/// made only after all are joined and all memory was had: so any refusal but that of the output leaves an old file as it was,
+/// and the output may be one of the inputs.
+pub fn merge<F: Files>(
+    alloc: Global,
+    inputs: &[&str],
+    out: &str,
+    files: &mut F,
+) -> Result<(), Refusal> {
+    let mut sources = open_all(alloc, inputs, files)?;
+    let table = join_inputs(alloc, sources.as_mut_slice())?;
+    let room = Vec::with_capacity(alloc, PIECE)?;
+    let Ok(output) = files.make(out) else {
+        return Err(Refusal::Output);
+    };
+    match write_through(&table, output, room) {
+        Ok(_) => Ok(()),
+        Err(DeviceFault) => Err(Refusal::Output),
+    }
+}
+
+/// Opens all inputs in order, or says which is the first that cannot be opened.
+fn open_all<F: Files>(
+    alloc: Global,
+    paths: &[&str],
+    files: &mut F,
+) -> Result<Vec<F::Input>, Refusal> {
+    let mut sources = Vec::new(alloc);
+    for (index, path) in paths.iter().enumerate() {
+        match files.open(path) {
+            Ok(source) => sources.push(source)?,
+            Err(DeviceFault) => return Err(Refusal::Open(index + 1)),
+        }
+    }
+    Ok(sources)
+}
+
+/// Writes the table file in large pieces, and answers the sink once it has taken all of them.
+fn write_through<W: Sink + Drop>(
+    table: &BlockTable,
+    sink: W,
+    room: Vec<u8>,
+) -> Result<W, DeviceFault>
+    requires empty { room.items ≡ [] }
+    requires room { PIECE ≤ vec_capacity room }
+    ensures whole { IfOk result (λ after. Appends (W.contents sink) (W.contents after) (table_bytes table.now)) }
+    ensures count { IfOk result (λ after. W.faults after ≡ W.faults sink) }
+{
+    let mut output = Buffered::new(sink, room);
+    if write_table(table, &mut output).is_err() {
+        return Err(DeviceFault);
+    }
+    output.flush()?;
+    Ok(output.into_sink())
+}
