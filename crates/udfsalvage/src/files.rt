@@ -10,8 +10,8 @@ pub trait Files {
     /// An output that was made.
     type Output: Sink + Drop;
 
-    /// Opens a file to be read from its beginning.
-    fn open(&mut self, path: &str) -> Result<Self::Input, DeviceFault>;
+    /// Opens a file to be read from its beginning, which changes none.
+    fn open(&self, path: &str) -> Result<Self::Input, DeviceFault>;
 
     /// Makes a file to be written. What an old one of this path held is gone.
     fn make(&mut self, path: &str) -> Result<Self::Output, DeviceFault>;

@@ -21,7 +21,7 @@ impl<'a, R: std::rt::Files> Files for Machine<'a, R> {
 
     type Output = Writer<R::File>;
 
-    fn open(&mut self, path: &str) -> Result<Self::Input, DeviceFault> {
+    fn open(&self, path: &str) -> Result<Self::Input, DeviceFault> {
         match fs::open(self.rt, path) {
             Ok(file) => Ok(Reader::new(file)),
             Err(_) => Err(DeviceFault),

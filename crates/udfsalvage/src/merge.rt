@@ -1,13 +1,13 @@
 //! The command `merge`: readings in, one table file out.
 
-ghost use Rattle.std.specs.Prelude.{◌≡◌, ◌≤◌, [], IfOk, vec_capacity};
+ghost use Rattle.std.specs.Prelude.{◌≡◌, ◌≢◌, ◌≤◌, ◌<◌, ℕ, [], IfOk, IfErr, length, vec_len, vec_capacity};
 ghost use Rattle.std.specs.Io.KnownBytes.{Appends};
 ghost use Rattle.udfs_reading.specs.TableFile.{table_bytes};
 
 use crate::buffered::{Buffered, PIECE};
 use crate::files::Files;
 use crate::refusal::Refusal;
-use std::alloc::Global;
+use std::alloc::{AllocError, Global};
 use udfs_lattice::BlockTable;
 use udfs_reading::{DeviceFault, Sink, join_inputs, write_table};
 
@@ -19,7 +19,9 @@ pub fn merge<F: Files>(
     inputs: &[&str],
     out: &str,
     files: &mut F,
-) -> Result<(), Refusal> {
+) -> Result<(), Refusal>
+    ensures untouched { IfErr result (λ refusal. refusal ≢ Refusal.Output → files.new ≡ files.old) }
+{
     let mut sources = open_all(alloc, inputs, files)?;
     let table = join_inputs(alloc, sources.as_mut_slice())?;
     let room = Vec::with_capacity(alloc, PIECE)?;
@@ -33,15 +35,16 @@ pub fn merge<F: Files>(
 }
 
 /// Opens all inputs in order, or says which is the first that cannot be opened.
-fn open_all<F: Files>(
-    alloc: Global,
-    paths: &[&str],
-    files: &mut F,
-) -> Result<Vec<F::Input>, Refusal> {
+fn open_all<F: Files>(alloc: Global, paths: &[&str], files: &F) -> Result<Vec<F::Input>, Refusal>
+    ensures each { IfOk result (λ sources. vec_len sources ≡ length paths.now) }
+    ensures named { IfErr result (λ refusal. (input : ℕ) → refusal ≡ Refusal.Open input → (0 < input) × (input ≤ length paths.now)) }
+{
     let mut sources = Vec::new(alloc);
     for (index, path) in paths.iter().enumerate() {
         match files.open(path) {
-            Ok(source) => sources.push(source)?,
+            Ok(source) => sources
+                .push(source)
+                .map_err(|_| Refusal::Memory(AllocError))?,
             Err(DeviceFault) => return Err(Refusal::Open(index + 1)),
         }
     }

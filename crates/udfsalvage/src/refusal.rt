@@ -1,5 +1,8 @@
 //! Why a command was refused.
 
+ghost use Rattle.std.specs.Prelude.{◌≡◌};
+ghost use Rattle.udfsalvage.specs.Refusing.{refusal_of};
+
 use std::alloc::AllocError;
 use thiserror::Error;
 use udfs_reading::{InputError, ReadingError, ReadingFault};
@@ -24,7 +27,10 @@ pub enum Refusal {
     Memory(#[from(alloc)] AllocError),
 }
 
+/// Want of memory is no input's fault.
 impl From<InputError> for Refusal {
+    ghost from_gives = { λ error refusal. refusal ≡ refusal_of error };
+
     fn from(error: InputError) -> Refusal {
         match error.error.fault {
             ReadingFault::OutOfMemory => Refusal::Memory(AllocError),
