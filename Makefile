@@ -16,7 +16,7 @@ JOBS ?= $(shell sh tools/jobs)
 PROGRAM = crates/udfsalvage/out/udfsalvage
 
 all: have-rt
-	@$(MAKE) --no-print-directory -j$(JOBS) $(PROGRAM)
+	@$(MAKE) -s --no-print-directory -j$(JOBS) $(PROGRAM)
 	@echo "The program is $(PROGRAM)"
 
 have-rt:
