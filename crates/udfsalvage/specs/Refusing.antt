@@ -1,7 +1,6 @@
 -- What a command says of an input that could not be read.
 use Rattle.std.specs.Prelude.{alloc_error}
 use Rattle.udfs_reading.specs.declared.inputs.InputError.{InputError}
-use Rattle.udfs_reading.specs.declared.error.ReadingError.{ReadingError}
 use Rattle.udfs_reading.specs.declared.error.ReadingFault.{ReadingFault}
 use Rattle.udfs_reading.specs.declared.error.ReadingFault.TheVariants.{OutOfMemory}
 use Rattle.udfsalvage.specs.declared.refusal.Refusal.{Refusal}

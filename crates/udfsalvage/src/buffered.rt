@@ -53,13 +53,6 @@ impl<W: Sink> Buffered<W> {
         remove_front(&mut self.waiting, sent);
         outcome
     }
-
-    /// The sink alone. What waits is lost.
-    pub fn into_sink(self) -> W
-        ensures { result ≡ self.sink }
-    {
-        self.sink
-    }
 }
 
 impl<W: Sink> Sink for Buffered<W> {
@@ -79,7 +72,7 @@ impl<W: Sink> Sink for Buffered<W> {
 }
 
 /// Writes until all is written or a write fails, and answers how many bytes the sink took.
-fn send<W: Sink>(bytes: &[u8], sink: &mut W) -> (usize, Result<(), DeviceFault>)
+pub fn send<W: Sink>(bytes: &[u8], sink: &mut W) -> (usize, Result<(), DeviceFault>)
     ensures bound { result.0 ≤ length bytes.now }
     ensures all { OnOk result.1 (result.0 ≡ length bytes.now) }
     ensures bytes { Appends (W.contents sink.old) (W.contents sink.new) (take result.0 bytes.now) }

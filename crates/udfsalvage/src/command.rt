@@ -1,7 +1,8 @@
 //! The program as a function: words and files in, a status out.
 
-ghost use Rattle.std.specs.Prelude.{◌≡◌, ◌⊎◌};
+ghost use Rattle.std.specs.Prelude.{◌≡◌, ◌≢◌, ◌⊎◌, IfErr};
 
+use crate::buffered::send;
 use crate::files::Files;
 use crate::merge::merge;
 use crate::refusal::Refusal;
@@ -55,7 +56,9 @@ fn merge_words<F: Files>(
     alloc: Global,
     words: &ArgMatches<'_>,
     files: &mut F,
-) -> Result<(), Refusal> {
+) -> Result<(), Refusal>
+    ensures untouched { IfErr result (λ refusal. refusal ≢ Refusal.Output → files.new ≡ files.old) }
+{
     let inputs = words.get_strs(INPUTS).unwrap_or(&[]);
     let out = words.get_str(OUT).unwrap_or("");
     merge(alloc, inputs, out, files)
@@ -66,7 +69,7 @@ pub fn refuse_words<E: Sink>(wants_memory: bool, err: &mut E) -> u8
     ensures { result ≡ 2 }
 {
     let text = if wants_memory { NO_MEMORY } else { NOT_TEXT };
-    let _ = put(err, text);
+    let _ = send(text, err);
     2
 }
 
@@ -82,12 +85,12 @@ fn show<O: Sink, E: Sink>(alloc: Global, error: &Error, out: &mut O, err: &mut E
         return refuse(alloc, &Refusal::Memory(AllocError), err);
     };
     if error.use_stderr() {
-        let _ = put(err, text.as_bytes());
+        let _ = send(text.as_bytes(), err);
         return 2;
     }
-    match put(out, text.as_bytes()) {
-        Ok(()) => 0,
-        Err(DeviceFault) => refuse(alloc, &Refusal::Output, err),
+    match send(text.as_bytes(), out) {
+        (_, Ok(())) => 0,
+        (_, Err(DeviceFault)) => refuse(alloc, &Refusal::Output, err),
     }
 }
 
@@ -96,21 +99,8 @@ fn refuse<E: Sink>(alloc: Global, refusal: &Refusal, err: &mut E) -> u8
     ensures { result ≡ 2 }
 {
     let _ = match format!(in alloc; "udfsalvage: {refusal}\n") {
-        Ok(line) => put(err, line.as_bytes()),
-        Err(AllocError) => put(err, NO_MEMORY),
+        Ok(line) => send(line.as_bytes(), err),
+        Err(AllocError) => send(NO_MEMORY, err),
     };
     2
-}
-
-/// Writes all bytes.
-fn put<W: Sink>(sink: &mut W, bytes: &[u8]) -> Result<(), DeviceFault> {
-    let mut rest = bytes;
-    for _ in 0..bytes.len() {
-        if rest.is_empty() {
-            break;
-        }
-        let count = sink.write(rest)?;
-        rest = &rest[count..];
-    }
-    Ok(())
 }

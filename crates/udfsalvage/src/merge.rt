@@ -1,7 +1,8 @@
 //! The command `merge`: readings in, one table file out.
 
-ghost use Rattle.std.specs.Prelude.{◌≡◌, ◌≢◌, ◌≤◌, ◌<◌, ℕ, [], IfOk, IfErr, length, vec_len, vec_capacity};
+ghost use Rattle.std.specs.Prelude.{◌≡◌, ◌≢◌, ◌≤◌, ◌<◌, ℕ, IfOk, IfErr, OnOk, length, vec_len};
 ghost use Rattle.std.specs.Io.KnownBytes.{Appends};
+ghost use Rattle.udfs_reading.specs.Device.{CountsFault};
 ghost use Rattle.udfs_reading.specs.TableFile.{table_bytes};
 
 use crate::buffered::{Buffered, PIECE};
@@ -25,11 +26,12 @@ pub fn merge<F: Files>(
     let mut sources = open_all(alloc, inputs, files)?;
     let table = join_inputs(alloc, sources.as_mut_slice())?;
     let room = Vec::with_capacity(alloc, PIECE)?;
-    let Ok(output) = files.make(out) else {
+    let Ok(sink) = files.make(out) else {
         return Err(Refusal::Output);
     };
-    match write_through(&table, output, room) {
-        Ok(_) => Ok(()),
+    let mut output = Buffered::new(sink, room);
+    match write_whole(&table, &mut output) {
+        Ok(()) => Ok(()),
         Err(DeviceFault) => Err(Refusal::Output),
     }
 }
@@ -51,21 +53,13 @@ fn open_all<F: Files>(alloc: Global, paths: &[&str], files: &F) -> Result<Vec<F:
     Ok(sources)
 }
 
-/// Writes the table file in large pieces, and answers the sink once it has taken all of them.
-fn write_through<W: Sink + Drop>(
-    table: &BlockTable,
-    sink: W,
-    room: Vec<u8>,
-) -> Result<W, DeviceFault>
-    requires empty { room.items ≡ [] }
-    requires room { PIECE ≤ vec_capacity room }
-    ensures whole { IfOk result (λ after. Appends (W.contents sink) (W.contents after) (table_bytes table.now)) }
-    ensures count { IfOk result (λ after. W.faults after ≡ W.faults sink) }
+/// Writes the table file, to the last byte: none waits once it is done.
+fn write_whole<W: Sink>(table: &BlockTable, output: &mut Buffered<W>) -> Result<(), DeviceFault>
+    ensures whole { OnOk result (Appends (⟦<Buffered<W> as Sink>⟧.contents output.old) (W.contents output.new.sink) (table_bytes table.now)) }
+    ensures count { CountsFault (W.faults output.old.sink) (W.faults output.new.sink) result }
 {
-    let mut output = Buffered::new(sink, room);
-    if write_table(table, &mut output).is_err() {
+    if write_table(table, output).is_err() {
         return Err(DeviceFault);
     }
-    output.flush()?;
-    Ok(output.into_sink())
+    output.flush()
 }
