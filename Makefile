@@ -2,6 +2,7 @@
 #   make            proves the program and all that it stands on, builds it, and says where it lies
 #   make demo       the same, and then runs it on the readings of examples/
 #   make test       judges the whole repository from nothing, as the gate does
+#   make try        tries the built program on this machine's own files and devices
 #   make install    puts the program and its man page below PREFIX
 #   make bench      measures merge against cp of the same files
 #   make examples   writes the example readings anew
@@ -53,6 +54,9 @@ demo: all
 test: have-rt
 	@$(RT) ci
 
+try: all
+	@tools/try-machine $(PROGRAM) examples
+
 install: all
 	install -d $(DESTDIR)$(PREFIX)/bin $(DESTDIR)$(PREFIX)/share/man/man1
 	install -m 755 $(PROGRAM) $(DESTDIR)$(PREFIX)/bin/udfsalvage
@@ -65,4 +69,4 @@ examples:
 	tools/make-examples examples
 	cp examples/a.rd examples/b.rd crates/udfsalvage/data
 
-.PHONY: all have-rt demo test install bench examples
+.PHONY: all have-rt demo test try install bench examples
