@@ -43,6 +43,13 @@ impl<W: Sink> Buffered<W> {
         outcome
     }
 
+    /// The sink alone. What waits is lost.
+    pub fn into_sink(self) -> W
+        ensures { result ≡ self.sink }
+    {
+        self.sink
+    }
+
     fn send_waiting(&mut self) -> Result<(), DeviceFault>
         ensures none { OnOk result (self.new.waiting.items ≡ []) }
         ensures len { OnOk result (vec_len self.new.waiting ≡ 0) }

@@ -1,6 +1,9 @@
 //! The program as a function: words and files in, a status out.
 
-ghost use Rattle.std.specs.Prelude.{◌≡◌, ◌≢◌, ◌⊎◌, IfErr};
+ghost use Rattle.std.specs.Prelude.{◌≡◌, ◌≢◌, ◌⊎◌, IfOk, IfErr};
+ghost use Rattle.std.specs.Io.KnownBytes.{Appends};
+ghost use Rattle.udfs_lattice.specs.Tables.{Table};
+ghost use Rattle.udfs_reading.specs.TableFile.{table_bytes};
 
 use crate::buffered::send;
 use crate::files::Files;
@@ -46,7 +49,7 @@ pub fn run<F: Files, O: Sink, E: Sink>(
         _ => return 2,
     };
     match outcome {
-        Ok(()) => 0,
+        Ok(_) => 0,
         Err(refusal) => refuse(alloc, &refusal, err),
     }
 }
@@ -56,7 +59,8 @@ fn merge_words<F: Files>(
     alloc: Global,
     words: &ArgMatches<'_>,
     files: &mut F,
-) -> Result<(), Refusal>
+) -> Result<F::Output, Refusal>
+    ensures written { IfOk result (λ output. (before : F.Output) × (table : Table) × Appends (F.Output.contents before) (F.Output.contents output) (table_bytes table)) }
     ensures untouched { IfErr result (λ refusal. refusal ≢ Refusal.Output → files.new ≡ files.old) }
 {
     let inputs = words.get_strs(INPUTS).unwrap_or(&[]);

@@ -2,6 +2,7 @@
 
 ghost use Rattle.std.specs.Prelude.{◌≡◌, ◌≢◌, ◌≤◌, ◌<◌, ℕ, IfOk, IfErr, OnOk, length, vec_len};
 ghost use Rattle.std.specs.Io.KnownBytes.{Appends};
+ghost use Rattle.udfs_lattice.specs.Tables.{Table};
 ghost use Rattle.udfs_reading.specs.Device.{CountsFault};
 ghost use Rattle.udfs_reading.specs.TableFile.{table_bytes};
 
@@ -14,13 +15,14 @@ use udfs_reading::{DeviceFault, Sink, join_inputs, write_table};
 
 /// Joins the inputs, and writes the table file to `out`. All inputs are opened in order before one is read, and the output is
 /// made only after all are joined and all memory was had: so any refusal but that of the output leaves an old file as it was,
-/// and the output may be one of the inputs.
+/// and the output may be one of the inputs. It answers the output, which has taken the whole table file.
 pub fn merge<F: Files>(
     alloc: Global,
     inputs: &[&str],
     out: &str,
     files: &mut F,
-) -> Result<(), Refusal>
+) -> Result<F::Output, Refusal>
+    ensures written { IfOk result (λ output. (before : F.Output) × (table : Table) × Appends (F.Output.contents before) (F.Output.contents output) (table_bytes table)) }
     ensures untouched { IfErr result (λ refusal. refusal ≢ Refusal.Output → files.new ≡ files.old) }
 {
     let mut sources = open_all(alloc, inputs, files)?;
@@ -31,7 +33,7 @@ pub fn merge<F: Files>(
     };
     let mut output = Buffered::new(sink, room);
     match write_whole(&table, &mut output) {
-        Ok(()) => Ok(()),
+        Ok(()) => Ok(output.into_sink()),
         Err(DeviceFault) => Err(Refusal::Output),
     }
 }
