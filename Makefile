@@ -26,7 +26,7 @@ have-rt:
 	    exit 1; }
 
 # The crates of this repository that the crate $(1) stands on, by its line in crates.txt.
-below = $(foreach name,$(shell sed -n 's/^$(1)[^:]*:\([^#]*\).*/\1/p' crates.txt),$(if $(wildcard crates/$(name)/src),$(name)))
+below = $(foreach name,$(shell sed -n 's/^$(1)\( [^:]*\)\{0,1\}:\([^\#]*\).*/\2/p' crates.txt),$(if $(wildcard crates/$(name)/src),$(name)))
 
 sources = $(shell find crates/$(1)/src crates/$(1)/specs crates/$(1)/proofs -name '*.rt' -o -name '*.antt' 2> /dev/null)
 
