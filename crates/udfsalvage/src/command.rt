@@ -5,9 +5,9 @@ ghost use Rattle.std.specs.Io.KnownBytes.{Appends};
 ghost use Rattle.udfs_lattice.specs.Tables.{Table};
 ghost use Rattle.udfs_reading.specs.TableFile.{table_bytes};
 
-use crate::buffered::send;
 use crate::files::Files;
 use crate::merge::merge;
+use crate::printing::send;
 use crate::refusal::Refusal;
 use crate::words::{INPUTS, OUT, grammar};
 use clap::error::ErrorKind;

@@ -1,11 +1,11 @@
 //! The command `udfsalvage`: what its words ask for, over the machine's files.
 #![tactic(auto)]
 
-mod buffered;
 mod command;
 mod files;
 mod machine;
 mod merge;
+mod printing;
 mod refusal;
 #[cfg(test)]
 mod tests;

@@ -1,20 +1,17 @@
 //! The command `merge`: readings in, one table file out.
 
-ghost use Rattle.std.specs.Prelude.{◌≡◌, ◌≢◌, ◌≤◌, ◌<◌, ℕ, IfOk, IfErr, OnOk, length, vec_len};
+ghost use Rattle.std.specs.Prelude.{◌≡◌, ◌≢◌, ◌≤◌, ◌<◌, ℕ, IfOk, IfErr, length, vec_len};
 ghost use Rattle.std.specs.Io.KnownBytes.{Appends};
 ghost use Rattle.udfs_lattice.specs.Tables.{Table};
-ghost use Rattle.udfs_reading.specs.Device.{CountsFault};
 ghost use Rattle.udfs_reading.specs.TableFile.{table_bytes};
 
-use crate::buffered::{Buffered, PIECE};
 use crate::files::Files;
 use crate::refusal::Refusal;
 use std::alloc::{AllocError, Global};
-use udfs_lattice::BlockTable;
-use udfs_reading::{DeviceFault, Sink, join_inputs, write_table};
+use udfs_reading::{DeviceFault, WriteFault, join_inputs, write_table};
 
 /// Joins the inputs, and writes the table file to `out`. All inputs are opened in order before one is read, and the output is
-/// made only after all are joined and all memory was had: so any refusal but that of the output leaves an old file as it was,
+/// made only after all are joined: so any refusal but that of the output leaves an old file as it was,
 /// and the output may be one of the inputs. It answers the output, which has taken the whole table file.
 pub fn merge<F: Files>(
     alloc: Global,
@@ -27,14 +24,12 @@ pub fn merge<F: Files>(
 {
     let mut sources = open_all(alloc, inputs, files)?;
     let table = join_inputs(alloc, sources.as_mut_slice())?;
-    let room = Vec::with_capacity(alloc, PIECE)?;
-    let Ok(sink) = files.make(out) else {
+    let Ok(mut output) = files.make(out) else {
         return Err(Refusal::Output);
     };
-    let mut output = Buffered::new(sink, room);
-    match write_whole(&table, &mut output) {
-        Ok(()) => Ok(output.into_sink()),
-        Err(DeviceFault) => Err(Refusal::Output),
+    match write_table(&table, &mut output) {
+        Ok(()) => Ok(output),
+        Err(WriteFault) => Err(Refusal::Output),
     }
 }
 
@@ -53,15 +48,4 @@ fn open_all<F: Files>(alloc: Global, paths: &[&str], files: &F) -> Result<Vec<F:
         }
     }
     Ok(sources)
-}
-
-/// Writes the table file, to the last byte: none waits once it is done.
-fn write_whole<W: Sink>(table: &BlockTable, output: &mut Buffered<W>) -> Result<(), DeviceFault>
-    ensures whole { OnOk result (Appends (⟦<Buffered<W> as Sink>⟧.contents output.old) (W.contents output.new.sink) (table_bytes table.now)) }
-    ensures count { CountsFault (W.faults output.old.sink) (W.faults output.new.sink) result }
-{
-    if write_table(table, output).is_err() {
-        return Err(DeviceFault);
-    }
-    output.flush()
 }
