@@ -1,0 +1,72 @@
+# The words to type here:
+#   make            proves the program and all that it stands on, builds it, and says where it lies
+#   make demo       the same, and then runs it on the readings of examples/
+#   make test       judges the whole repository from nothing, as the gate does
+#   make try        tries the built program on this machine's own files and devices
+#   make install    puts the program and its man page below PREFIX
+#   make bench      measures merge against cp of the same files
+#   make examples   writes the example readings anew
+
+RT ?= rt
+PREFIX ?= /usr/local
+DESTDIR ?=
+
+# How many crates are proved side by side: one for each processor and each 4 GB of memory.
+JOBS ?= $(shell sh tools/jobs)
+
+PROGRAM = crates/udfsalvage/out/udfsalvage
+
+all: have-rt
+	@$(MAKE) -s --no-print-directory -j$(JOBS) $(PROGRAM)
+	@echo "The program is $(PROGRAM)"
+
+have-rt:
+	@command -v $(RT) > /dev/null || { \
+	    echo "The toolchain's command rt is not on the PATH: put its folder bin there, or say make RT=/path/to/rt" >&2; \
+	    exit 1; }
+
+# The crates of this repository that the crate $(1) stands on, by its line in crates.txt.
+below = $(foreach name,$(shell sed -n 's/^$(1)\( [^:]*\)\{0,1\}:\([^\#]*\).*/\2/p' crates.txt),$(if $(wildcard crates/$(name)/src),$(name)))
+
+sources = $(shell find crates/$(1)/src crates/$(1)/specs crates/$(1)/proofs -name '*.rt' -o -name '*.antt' 2> /dev/null)
+
+# A crate is proved once those below it are. Nothing is proved again unless a source changed.
+define crate-rule
+crates/$(1)/out/proved: crates.txt $(call sources,$(1)) $(foreach name,$(call below,$(1)),crates/$(name)/out/proved)
+	@echo "proving $(1)"
+	@mkdir -p crates/$(1)/out
+	@cd crates/$(1) && $(RT) check > out/proving.log 2>&1 || { cat out/proving.log; exit 1; }
+	@echo "proved  $(1)"
+	@touch $$@
+endef
+
+$(foreach name,$(notdir $(wildcard crates/*)),$(eval $(call crate-rule,$(name))))
+
+# Only a proved program is built. rt run also runs it once.
+$(PROGRAM): crates/udfsalvage/out/proved
+	@echo "building udfsalvage"
+	@cd crates/udfsalvage && $(RT) run -- --version > /dev/null 2> out/building.log || { cat out/building.log; exit 1; }
+	@touch $@
+
+demo: all
+	@tools/demo $(PROGRAM) examples out/demo
+
+test: have-rt
+	@$(RT) ci
+
+try: all
+	@tools/try-machine $(PROGRAM) examples
+
+install: all
+	install -d $(DESTDIR)$(PREFIX)/bin $(DESTDIR)$(PREFIX)/share/man/man1
+	install -m 755 $(PROGRAM) $(DESTDIR)$(PREFIX)/bin/udfsalvage
+	install -m 644 man/udfsalvage.1 $(DESTDIR)$(PREFIX)/share/man/man1/udfsalvage.1
+
+bench: all
+	@bench/merge --program $(PROGRAM) $(BENCH)
+
+examples:
+	tools/make-examples examples
+	cp examples/a.rd examples/b.rd crates/udfsalvage/data
+
+.PHONY: all have-rt demo test try install bench examples

@@ -1,0 +1,110 @@
+//! The program as a function: words and files in, a status out.
+
+ghost use Rattle.std.specs.Prelude.{◌≡◌, ◌≢◌, ◌⊎◌, IfOk, IfErr};
+ghost use Rattle.std.specs.Io.KnownBytes.{Appends};
+ghost use Rattle.udfs_lattice.specs.Tables.{Table};
+ghost use Rattle.udfs_reading.specs.TableFile.{table_bytes};
+
+use crate::files::Files;
+use crate::merge::merge;
+use crate::printing::send;
+use crate::refusal::Refusal;
+use crate::words::{INPUTS, OUT, grammar};
+use clap::error::ErrorKind;
+use clap::{ArgMatches, Error};
+use std::alloc::{AllocError, Global};
+use udfs_reading::{DeviceFault, Sink};
+
+/// The line for want of memory, which itself takes none.
+const NO_MEMORY: &[u8] = b"udfsalvage: out of memory\n";
+
+/// What is said of a word that is not text.
+const NOT_TEXT: &[u8] =
+    b"error: invalid UTF-8 was detected in one or more arguments\n\nFor more information, try '--help'.\n";
+
+/// Runs the command that the words ask for, the program's name first, and answers its exit status: 0 where it is done, 2
+/// where it is refused. A refusal is one line on `err`, and a fault of the words is clap's text there. Help and the
+/// version go to `out`.
+pub fn run<F: Files, O: Sink, E: Sink>(
+    alloc: Global,
+    words: &[String],
+    files: &mut F,
+    out: &mut O,
+    err: &mut E,
+) -> u8
+    ensures status { (result ≡ 0) ⊎ (result ≡ 2) }
+    ensures silent { result ≡ 0 → err.new ≡ err.old }
+{
+    let command = match grammar(alloc) {
+        Ok(command) => command,
+        Err(AllocError) => return refuse(alloc, &Refusal::Memory(AllocError), err),
+    };
+    let matches = match command.try_get_matches_from(words) {
+        Ok(matches) => matches,
+        Err(error) => return show(alloc, &error, out, err),
+    };
+    let outcome = match matches.subcommand() {
+        Some(("merge", words)) => merge_words(alloc, words, files),
+        // The grammar asks for a command and has no other.
+        _ => return 2,
+    };
+    match outcome {
+        Ok(_) => 0,
+        Err(refusal) => refuse(alloc, &refusal, err),
+    }
+}
+
+/// Does what the words after `merge` ask for.
+fn merge_words<F: Files>(
+    alloc: Global,
+    words: &ArgMatches<'_>,
+    files: &mut F,
+) -> Result<F::Output, Refusal>
+    ensures written { IfOk result (λ output. (before : F.Output) × (table : Table) × Appends (F.Output.contents before) (F.Output.contents output) (table_bytes table)) }
+    ensures untouched { IfErr result (λ refusal. refusal ≢ Refusal.Output → files.new ≡ files.old) }
+{
+    let inputs = words.get_strs(INPUTS).unwrap_or(&[]);
+    let out = words.get_str(OUT).unwrap_or("");
+    merge(alloc, inputs, out, files)
+}
+
+/// Says that the words of the command line could not be had, and answers the status.
+pub fn refuse_words<E: Sink>(wants_memory: bool, err: &mut E) -> u8
+    ensures { result ≡ 2 }
+{
+    let text = if wants_memory { NO_MEMORY } else { NOT_TEXT };
+    let _ = send(text, err);
+    2
+}
+
+/// Shows clap's text: help and version on `out`, a fault of the words on `err`.
+fn show<O: Sink, E: Sink>(alloc: Global, error: &Error, out: &mut O, err: &mut E) -> u8
+    ensures status { (result ≡ 0) ⊎ (result ≡ 2) }
+    ensures silent { result ≡ 0 → err.new ≡ err.old }
+{
+    if error.kind() == ErrorKind::OutOfMemory {
+        return refuse(alloc, &Refusal::Memory(AllocError), err);
+    }
+    let Ok(text) = format!(in alloc; "{error}") else {
+        return refuse(alloc, &Refusal::Memory(AllocError), err);
+    };
+    if error.use_stderr() {
+        let _ = send(text.as_bytes(), err);
+        return 2;
+    }
+    match send(text.as_bytes(), out) {
+        (_, Ok(())) => 0,
+        (_, Err(DeviceFault)) => refuse(alloc, &Refusal::Output, err),
+    }
+}
+
+/// Prints a refusal's line, and answers the status. Where not even the line can be had, it is that of want of memory.
+fn refuse<E: Sink>(alloc: Global, refusal: &Refusal, err: &mut E) -> u8
+    ensures { result ≡ 2 }
+{
+    let _ = match format!(in alloc; "udfsalvage: {refusal}\n") {
+        Ok(line) => send(line.as_bytes(), err),
+        Err(AllocError) => send(NO_MEMORY, err),
+    };
+    2
+}

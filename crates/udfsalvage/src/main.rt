@@ -1,0 +1,38 @@
+//! The command `udfsalvage`: what its words ask for, over the machine's files.
+#![tactic(auto)]
+
+mod command;
+mod files;
+mod machine;
+mod merge;
+mod printing;
+mod refusal;
+#[cfg(test)]
+mod tests;
+mod words;
+
+use machine::Machine;
+use std::alloc::Global;
+use std::process::ExitCode;
+use std::{env, io};
+use udfs_reading::Writer;
+
+/// The words of the command line, the program's name first. It fails where one of them is not text.
+fn words_of(rt: &HostRuntime, alloc: Global) -> io::Result<Vec<String>> {
+    Ok(env::args(rt)?.collect(alloc)?)
+}
+
+fn main(rt: HostRuntime) -> ExitCode {
+    let alloc = rt.alloc();
+    let mut out = Writer::new(rt.stdout());
+    let mut err = Writer::new(rt.stderr());
+    let mut files = Machine::new(&rt);
+    let status = match words_of(&rt, alloc) {
+        Ok(words) => command::run(alloc, words.as_slice(), &mut files, &mut out, &mut err),
+        Err(error) => {
+            let wants_memory = error.kind() == io::ErrorKind::OutOfMemory;
+            command::refuse_words(wants_memory, &mut err)
+        }
+    };
+    ExitCode::from(status)
+}

@@ -1,0 +1,51 @@
+//! The command `merge`: readings in, one table file out.
+
+ghost use Rattle.std.specs.Prelude.{◌≡◌, ◌≢◌, ◌≤◌, ◌<◌, ℕ, IfOk, IfErr, length, vec_len};
+ghost use Rattle.std.specs.Io.KnownBytes.{Appends};
+ghost use Rattle.udfs_lattice.specs.Tables.{Table};
+ghost use Rattle.udfs_reading.specs.TableFile.{table_bytes};
+
+use crate::files::Files;
+use crate::refusal::Refusal;
+use std::alloc::{AllocError, Global};
+use udfs_reading::{DeviceFault, WriteFault, join_inputs, write_table};
+
+/// Joins the inputs, and writes the table file to `out`. All inputs are opened in order before one is read, and the output is
+/// made only after all are joined: so any refusal but that of the output leaves an old file as it was,
+/// and the output may be one of the inputs. It answers the output, which has taken the whole table file.
+pub fn merge<F: Files>(
+    alloc: Global,
+    inputs: &[&str],
+    out: &str,
+    files: &mut F,
+) -> Result<F::Output, Refusal>
+    ensures written { IfOk result (λ output. (before : F.Output) × (table : Table) × Appends (F.Output.contents before) (F.Output.contents output) (table_bytes table)) }
+    ensures untouched { IfErr result (λ refusal. refusal ≢ Refusal.Output → files.new ≡ files.old) }
+{
+    let mut sources = open_all(alloc, inputs, files)?;
+    let table = join_inputs(alloc, sources.as_mut_slice())?;
+    let Ok(mut output) = files.make(out) else {
+        return Err(Refusal::Output);
+    };
+    match write_table(&table, &mut output) {
+        Ok(()) => Ok(output),
+        Err(WriteFault) => Err(Refusal::Output),
+    }
+}
+
+/// Opens all inputs in order, or says which is the first that cannot be opened.
+fn open_all<F: Files>(alloc: Global, paths: &[&str], files: &F) -> Result<Vec<F::Input>, Refusal>
+    ensures each { IfOk result (λ sources. vec_len sources ≡ length paths.now) }
+    ensures named { IfErr result (λ refusal. (input : ℕ) → refusal ≡ Refusal.Open input → (0 < input) × (input ≤ length paths.now)) }
+{
+    let mut sources = Vec::new(alloc);
+    for (index, path) in paths.iter().enumerate() {
+        match files.open(path) {
+            Ok(source) => sources
+                .push(source)
+                .map_err(|_| Refusal::Memory(AllocError))?,
+            Err(DeviceFault) => return Err(Refusal::Open(index + 1)),
+        }
+    }
+    Ok(sources)
+}

@@ -1,0 +1,24 @@
+//! Bytes that go out whole.
+
+ghost use Rattle.std.specs.Prelude.{◌≡◌, ◌≤◌, length, take, OnOk};
+ghost use Rattle.std.specs.Io.KnownBytes.{Appends};
+ghost use Rattle.udfs_reading.specs.Device.{CountsFault};
+
+use udfs_reading::{DeviceFault, Sink};
+
+/// Writes until all is written or a write fails, and answers how many bytes the sink took.
+pub fn send<W: Sink>(bytes: &[u8], sink: &mut W) -> (usize, Result<(), DeviceFault>)
+    ensures bound { result.0 ≤ length bytes.now }
+    ensures all { OnOk result.1 (result.0 ≡ length bytes.now) }
+    ensures bytes { Appends (W.contents sink.old) (W.contents sink.new) (take result.0 bytes.now) }
+    ensures count { CountsFault (W.faults sink.old) (W.faults sink.new) result.1 }
+{
+    let mut sent = 0;
+    while sent < bytes.len() {
+        match sink.write(&bytes[sent..]) {
+            Ok(count) => sent += count,
+            Err(fault) => return (sent, Err(fault)),
+        }
+    }
+    (sent, Ok(()))
+}

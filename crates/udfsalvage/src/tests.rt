@@ -1,0 +1,7 @@
+//! The command over files in memory. What is expected comes from the formats' description, byte by byte.
+
+mod devices;
+mod memory;
+mod merging;
+mod refusals;
+mod words;

@@ -1,0 +1,43 @@
+//! The words of the command line.
+
+use clap::{Arg, ArgAction, Command};
+use std::alloc::{AllocError, Global};
+
+/// The inputs' id among the matches.
+pub const INPUTS: &str = "input";
+
+/// The output file's id among the matches.
+pub const OUT: &str = "out";
+
+/// The commands and what they take.
+pub fn grammar<'a>(alloc: Global) -> Result<Command<'a>, AllocError> {
+    Command::new(alloc, "udfsalvage")
+        .about("Salvages scratched rewritable UDF discs from several passes over them")
+        .version("0.1.0")
+        .subcommand_required(true)
+        .subcommand(merge(alloc)?)
+}
+
+/// `merge --out FILE IN...`
+fn merge<'a>(alloc: Global) -> Result<Command<'a>, AllocError> {
+    let out = Arg::new(alloc, OUT)
+        .long("out")
+        .value_name("FILE")
+        .help("The table file to write, over an old one")
+        .required(true)
+        .action(ArgAction::Set);
+    Command::new(alloc, "merge")
+        .about("Joins readings into one table file")
+        .arg(out)?
+        .arg(inputs(alloc))
+}
+
+/// The inputs, of which there is at least one.
+fn inputs<'a>(alloc: Global) -> Arg<'a> {
+    Arg::new(alloc, INPUTS)
+        .value_name("IN")
+        .help("The reading files")
+        .required(true)
+        .num_args(1..)
+        .action(ArgAction::Append)
+}
