@@ -9,7 +9,10 @@ use crate::device::Source;
 use crate::error::{ReadingError, ReadingFault};
 use crate::field::field;
 use crate::window::Window;
-use udfs_lattice::BlockTable;
+use udfs_lattice::{BlockTable, table};
+
+/// The greatest block number.
+pub const LAST_BLOCK: u32 = table::LAST_BLOCK;
 
 /// Takes the 2048 bytes of a block, and joins them to the table.
 pub fn join_block<R: Source>(

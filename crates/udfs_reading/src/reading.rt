@@ -8,7 +8,7 @@ ghost use Rattle.udfs_reading.specs.Format.{header};
 ghost use Rattle.udfs_reading.specs.Reading.{magic, front, IsUnder, TakesRecord, TakesRecords, readings};
 ghost use Rattle.udfs_reading.specs.Outcome.{Ends, Takes};
 
-use crate::block::join_block;
+use crate::block::{LAST_BLOCK, join_block};
 use crate::device::Source;
 use crate::error::{ReadingError, ReadingFault};
 use crate::field::{read_end, read_number};
@@ -31,7 +31,7 @@ fn read_record<R: Source>(
     ensures empty { IfErr result (λ e. e.fault ≡ Io → window.new ≡ []) }
 {
     let block = read_number(source, window, number)?;
-    if block > 4_194_303 {
+    if block > LAST_BLOCK {
         return Err(ReadingError {
             fault: ReadingFault::BlockNumber,
             number,

@@ -9,7 +9,7 @@ ghost use Rattle.udfs_reading.specs.Outcome.{Ends, Takes};
 ghost use Rattle.udfs_reading.specs.TableFile.{table_magic};
 ghost use Rattle.udfs_reading.specs.TableReading.{tables, entries_front, floor_after, IsUnderEntries, TakesState, TakesEntry, TakesEntries};
 
-use crate::block::join_block;
+use crate::block::{LAST_BLOCK, join_block};
 use crate::device::Source;
 use crate::error::{ReadingError, ReadingFault};
 use crate::field::{read_byte, read_end, read_number};
@@ -69,7 +69,7 @@ fn read_entry<R: Source>(
     ensures empty { IfErr result (λ e. e.fault ≡ Io → window.new ≡ []) }
 {
     let block = read_number(source, window, entry)?;
-    if block > 4_194_303 {
+    if block > LAST_BLOCK {
         return Err(ReadingError {
             fault: ReadingFault::BlockNumber,
             number: entry,

@@ -14,14 +14,14 @@ returns-in_err-block-clause-err g c =
     let p = err_from_is_err_and c.from_residual.result c.from_residual.ensures.1 in
     rw (p.1, p.2) (λ count done under at floor. ends_cut table_format (In (AtNumber count done)) (entries_front count done) [] under (sym (append-nil (entries_front count done))) (sym at) (Consumes-nil _) refl c.in_err-block.ensures.err)
 
-pub returns-then-block-gt4194303-clause-err : goal.returns-then-block-gt4194303-clause-err
-returns-then-block-gt4194303-clause-err g c count done under at floor =
+pub returns-then-block-gt-LAST_BLOCK-clause-err : goal.returns-then-block-gt-LAST_BLOCK-clause-err
+returns-then-block-gt-LAST_BLOCK-clause-err g c count done under at floor =
     let n = c.in_ok-block.block in
     let value : value_of (number n) ≡ n = ap value_of (sym (append-nil (number n))) ∙ value_of-number n [] (search rules) in
     record {
       got = number n;
       given = c.in_ok-block.ensures.bytes;
-      why = (c.in_ok-block.ensures.count, fault_at table_format (In (AtNumber count done)) (entries_front count done) [] (number n) BlockNumber c.args.entry under (sym (append-nil (entries_front count done))) (sym at) (omega (arith, length-number n), rw value c.if-block-gt4194303.true));
+      why = (c.in_ok-block.ensures.count, fault_at table_format (In (AtNumber count done)) (entries_front count done) [] (number n) BlockNumber c.args.entry under (sym (append-nil (entries_front count done))) (sym at) (omega (arith, length-number n), rw value c.if-block-gt-LAST_BLOCK.true));
     }
 
 pub returns-then-block-floor-clause-err : goal.returns-then-block-floor-clause-err
@@ -31,7 +31,7 @@ returns-then-block-floor-clause-err g c count done under at floor =
     record {
       got = number n;
       given = c.in_ok-block.ensures.bytes;
-      why = (c.in_ok-block.ensures.count, fault_at table_format (In (AtNumber count done)) (entries_front count done) [] (number n) Order c.args.entry under (sym (append-nil (entries_front count done))) (sym at) (omega (arith, length-number n), rw (value, floor) (c.if-block-gt4194303.false, c.if-block-floor.true)));
+      why = (c.in_ok-block.ensures.count, fault_at table_format (In (AtNumber count done)) (entries_front count done) [] (number n) Order c.args.entry under (sym (append-nil (entries_front count done))) (sym at) (omega (arith, length-number n), rw (value, floor) (c.if-block-gt-LAST_BLOCK.false, c.if-block-floor.true)));
     }
 
 pub returns-in_err-read_state-clause-err : goal.returns-in_err-read_state-clause-err
