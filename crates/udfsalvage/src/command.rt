@@ -1,8 +1,10 @@
 //! The program as a function: words and files in, a status out.
 
-ghost use Rattle.std.specs.Prelude.{◌≡◌, ◌≢◌, ◌⊎◌, IfOk, IfErr};
+ghost use Rattle.std.specs.Prelude.{◌≡◌, ◌≢◌, ◌⊎◌, List, IfOk, IfErr};
 ghost use Rattle.std.specs.Io.KnownBytes.{Appends};
 ghost use Rattle.udfs_lattice.specs.Tables.{Table};
+ghost use Rattle.udfs_lattice.specs.Records.{join_all};
+ghost use Rattle.udfs_reading.specs.Several.{TablesAre};
 ghost use Rattle.udfs_reading.specs.TableFile.{table_bytes};
 
 use crate::files::Files;
@@ -60,7 +62,8 @@ fn merge_words<F: Files>(
     words: &ArgMatches<'_>,
     files: &mut F,
 ) -> Result<F::Output, Refusal>
-    ensures written { IfOk result (λ output. (before : F.Output) × (table : Table) × Appends (F.Output.contents before) (F.Output.contents output) (table_bytes table)) }
+    ensures written { IfOk result (λ output. (sources : List F.Input) × (before : F.Output) × (tables : List Table) ×
+        TablesAre F.Input.remaining sources tables × Appends (F.Output.contents before) (F.Output.contents output) (table_bytes (join_all tables))) }
     ensures untouched { IfErr result (λ refusal. refusal ≢ Refusal.Output → files.new ≡ files.old) }
 {
     let inputs = words.get_strs(INPUTS).unwrap_or(&[]);

@@ -1,8 +1,10 @@
 //! The command `merge`: readings in, one table file out.
 
-ghost use Rattle.std.specs.Prelude.{◌≡◌, ◌≢◌, ◌≤◌, ◌<◌, ℕ, IfOk, IfErr, length, vec_len};
+ghost use Rattle.std.specs.Prelude.{◌≡◌, ◌≢◌, ◌≤◌, ◌<◌, ℕ, List, IfOk, IfErr, length, vec_len};
 ghost use Rattle.std.specs.Io.KnownBytes.{Appends};
 ghost use Rattle.udfs_lattice.specs.Tables.{Table};
+ghost use Rattle.udfs_lattice.specs.Records.{join_all};
+ghost use Rattle.udfs_reading.specs.Several.{TablesAre};
 ghost use Rattle.udfs_reading.specs.TableFile.{table_bytes};
 
 use crate::files::Files;
@@ -19,7 +21,8 @@ pub fn merge<F: Files>(
     out: &str,
     files: &mut F,
 ) -> Result<F::Output, Refusal>
-    ensures written { IfOk result (λ output. (before : F.Output) × (table : Table) × Appends (F.Output.contents before) (F.Output.contents output) (table_bytes table)) }
+    ensures written { IfOk result (λ output. (sources : List F.Input) × (before : F.Output) × (tables : List Table) × (length sources ≡ length inputs.now) ×
+        TablesAre F.Input.remaining sources tables × Appends (F.Output.contents before) (F.Output.contents output) (table_bytes (join_all tables))) }
     ensures untouched { IfErr result (λ refusal. refusal ≢ Refusal.Output → files.new ≡ files.old) }
 {
     let mut sources = open_all(alloc, inputs, files)?;

@@ -27,7 +27,7 @@ fn merge<'a>(alloc: Global) -> Result<Command<'a>, AllocError> {
         .required(true)
         .action(ArgAction::Set);
     Command::new(alloc, "merge")
-        .about("Joins readings into one table file")
+        .about("Joins readings and table files into one table file")
         .arg(out)?
         .arg(inputs(alloc))
 }
@@ -36,7 +36,7 @@ fn merge<'a>(alloc: Global) -> Result<Command<'a>, AllocError> {
 fn inputs<'a>(alloc: Global) -> Arg<'a> {
     Arg::new(alloc, INPUTS)
         .value_name("IN")
-        .help("The reading files")
+        .help("The readings and table files to join")
         .required(true)
         .num_args(1..)
         .action(ArgAction::Append)

@@ -1,6 +1,7 @@
 //! What `merge` writes.
 
 use super::memory::{Memory, passes, ran, reading, table};
+use std::alloc::{AllocError, Global};
 use std::test::Fail;
 
 #[test]
@@ -112,6 +113,38 @@ fn a_table_of_many_pieces_is_whole(rt: HostRuntime) -> Result<(), Fail> {
         let whole = table(alloc, records.as_slice())?;
         assert_eq!(rt; whole.len(), 1_231_816);
         assert!(rt; memory.has("t.tab", whole.as_slice()), "{most}");
+    }
+    Ok(())
+}
+
+/// Block 300 in conflict and block 301 known: the file of a.rd, b.rd and c.rd.
+fn disputed(alloc: Global) -> Result<Vec<u8>, AllocError> {
+    let mut bytes = Vec::new(alloc);
+    bytes.extend_from_slice(&[
+        0x55, 0x44, 0x46, 0x54, 0x41, 0x42, 0x4C, 0x31, 0, 8, 0, 0, 2, 0, 0, 0, 0x2C, 1, 0, 0, 2,
+        0x2D, 1, 0, 0, 1,
+    ])?;
+    bytes.extend_from_slice(&[0x62; 2048])?;
+    Ok(bytes)
+}
+
+#[test]
+fn a_pass_is_merged_into_an_earlier_table(rt: HostRuntime) -> Result<(), Fail> {
+    let alloc = rt.alloc();
+    let expected = disputed(alloc)?;
+    for (first, second) in [
+        ("merge --out t.tab a.rd b.rd c.rd", "merge --out t.tab t.tab"),
+        ("merge --out t.tab a.rd b.rd", "merge --out t.tab t.tab c.rd"),
+        ("merge --out t.tab a.rd b.rd", "merge --out t.tab c.rd t.tab b.rd"),
+        ("merge --out t.tab c.rd", "merge --out t.tab b.rd t.tab a.rd"),
+        ("merge --out t.tab a.rd c.rd", "merge --out t.tab t.tab b.rd a.rd t.tab"),
+    ] {
+        let mut memory = passes(alloc)?;
+        let before = ran(alloc, &mut memory, first)?;
+        assert!(rt; before.is_silent(), "{first}: {before:?}");
+        let after = ran(alloc, &mut memory, second)?;
+        assert!(rt; after.is_silent(), "{second}: {after:?}");
+        assert!(rt; memory.has("t.tab", expected.as_slice()), "{first}, {second}");
     }
     Ok(())
 }

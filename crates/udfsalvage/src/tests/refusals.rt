@@ -130,3 +130,55 @@ fn a_cut_at_each_length_names_its_record(rt: HostRuntime) -> Result<(), Fail> {
     }
     Ok(())
 }
+
+/// A table file of one entry, block 5 in conflict, and then these bytes of a second one.
+fn second_entry(alloc: Global, bytes: &[u8]) -> Result<Memory, Fail> {
+    let mut file = Vec::new(alloc);
+    file.extend_from_slice(b"UDFTABL1\x00\x08\x00\x00\x02\x00\x00\x00\x05\x00\x00\x00\x02")?;
+    file.extend_from_slice(bytes)?;
+    let mut memory = passes(alloc)?;
+    memory.store("old.tab", b"old")?;
+    memory.store("t.tab", file.as_slice())?;
+    Ok(memory)
+}
+
+#[test]
+fn a_faulty_table_file_is_refused(rt: HostRuntime) -> Result<(), Fail> {
+    let alloc = rt.alloc();
+    for (bytes, line) in [
+        (
+            b"\x05\x00\x00\x00\x02",
+            "udfsalvage: input 2: fault 6 Order at record 2\n",
+        ),
+        (
+            b"\x04\x00\x00\x00\x02",
+            "udfsalvage: input 2: fault 6 Order at record 2\n",
+        ),
+        (
+            b"\x00\x00\x40\x00\x02",
+            "udfsalvage: input 2: fault 3 BlockNumber at record 2\n",
+        ),
+        (
+            b"\x06\x00\x00\x00\x03",
+            "udfsalvage: input 2: fault 7 State at record 2\n",
+        ),
+        (
+            b"\x06\x00\x00\x00\x01",
+            "udfsalvage: input 2: fault 4 Truncated at record 2\n",
+        ),
+    ] {
+        let mut memory = second_entry(alloc, bytes)?;
+        let ran = ran(alloc, &mut memory, "merge --out old.tab a.rd t.tab")?;
+        assert!(rt; ran.is_refused(line), "{line}: {ran:?}");
+        assert!(rt; memory.has("old.tab", b"old"), "{line}");
+    }
+    let mut memory = passes(alloc)?;
+    memory.store("x.tab", b"UDFTABLX")?;
+    let magic = ran(alloc, &mut memory, "merge --out old.tab x.tab")?;
+    assert!(rt; magic.is_refused("udfsalvage: input 1: fault 1 Magic at record 0\n"), "{magic:?}");
+    let state = b"UDFTABL1\x00\x08\x00\x00\x01\x00\x00\x00\x05\x00\x00\x00\x03";
+    memory.store("s.tab", state)?;
+    let first = ran(alloc, &mut memory, "merge --out old.tab s.tab")?;
+    assert!(rt; first.is_refused("udfsalvage: input 1: fault 7 State at record 1\n"), "{first:?}");
+    Ok(())
+}

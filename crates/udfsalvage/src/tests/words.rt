@@ -13,12 +13,12 @@ fn help_and_version_go_to_standard_output(rt: HostRuntime) -> Result<(), Fail> {
         ("-h", "Salvages scratched rewritable UDF discs", "merge"),
         (
             "help merge",
-            "Joins readings into one table file",
+            "Joins readings and table files into one table file",
             "--out <FILE>",
         ),
         (
             "merge --help",
-            "Joins readings into one table file",
+            "Joins readings and table files into one table file",
             "<IN>...",
         ),
         ("--version", "udfsalvage 0.1.0\n", "0.1.0"),
