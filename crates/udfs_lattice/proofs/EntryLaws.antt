@@ -1,17 +1,16 @@
 -- The table of entries whose block numbers rise has just these entries, and each table has such entries.
-use Rattle.std.specs.Prelude.{◌≡◌, ℕ, ◌+◌, ◌<◌, ◌≤◌, ◌==◌, Bool, true, false, cond, List, [], ◌∷◌, ◌++◌, map, length, Option, None, Some, refl}
+use Rattle.std.specs.Prelude.{◌≡◌, ℕ, ◌+◌, ◌<◌, ◌≤◌, ◌==◌, Bool, true, false, cond, List, [], ◌∷◌, ◌++◌, map, length, None, Some, refl}
 use Rattle.std.specs.Ordering.{nat_cmp, is_lt, eq_by_cmp}
 use Rattle.std.specs.FinMap.Entries.{below_all}
 use Rattle.std.specs.FinMap as fin
-use Rattle.std.specs.List.{AllByRecursion}
 use lib.Dec.{T}
-use Rattle.std.proofs.Common.{sym, ap, subst, ◌∙◌, arith, Less}
-use Rattle.std.proofs.lemmas.Bool.{and_from, and_parts, eqb-true, eqb-false, eq-eqb, ne_eqb, false≢true}
+use Rattle.std.proofs.Common.{sym, ap, subst, ◌∙◌, arith}
+use Rattle.std.proofs.lemmas.Bool.{and_from, and_parts, eqb-true, eq-eqb, ne_eqb}
 use Rattle.std.proofs.lemmas.Bool.Decides.{nat_tests}
 use Rattle.udfs_lattice.specs.declared.facts.Fact.TheVariants.{Unknown, Known, Conflict}
 use Rattle.udfs_lattice.specs.States.{State, join_of, join_of-unknown}
 use Rattle.udfs_lattice.specs.Tables.{Table, Held, fact_held, fact_found, state_of, entries_of, one_entry, empty_table, join_tables, IsTable, IsStateAt, IsStateAt-join_of}
-use Rattle.udfs_lattice.specs.TableLaws.{same_table, fact_found-injective, eq_by_cmp-nat, state_of-empty, state_of-join_tables, state_of-one_entry, join_tables-assoc, join_tables-comm, join_tables-empty}
+use Rattle.udfs_lattice.specs.TableLaws.{same_table, fact_found-injective, eq_by_cmp-nat, state_of-empty, state_of-join_tables, state_of-one_entry, join_tables-assoc, join_tables-comm}
 use Rattle.udfs_lattice.specs.Records.{table_of_entries, IsEntry, RisesFrom}
 use Rattle.udfs_lattice.proofs.Listed.{entries_from_find}
 

@@ -1,11 +1,10 @@
 -- The join of several tables depends on the set of them alone.
-use Rattle.std.specs.Prelude.{◌≡◌, ℕ, ◌⊎◌, ◌↔◌, List, [], ◌∷◌, ◌++◌, map, Contains, refl}
+use Rattle.std.specs.Prelude.{◌≡◌, ◌⊎◌, List, [], ◌∷◌, ◌++◌, map, Contains, refl}
 use Rattle.std.proofs.Common.{sym, ap, subst, ◌∙◌, inl, inr, ⊎_elim, arith}
 use Rattle.std.proofs.lemmas.List.Elements.{Contains-append_cases, Contains-append_left, Contains-append_right, Contains-push, Contains-push_cases}
-use Rattle.udfs_lattice.specs.declared.facts.Fact.TheVariants.{Unknown}
 use Rattle.udfs_lattice.specs.States.{State, IsBelow, IsBelow-trans}
 use Rattle.udfs_lattice.specs.Tables.{Table, state_of, empty_table, join_tables, IsTableBelow}
-use Rattle.udfs_lattice.specs.TableLaws.{state_of-empty, join_tables-assoc, join_tables-comm, join_tables-empty, IsTableBelow-join_tables, IsTableBelow-second, join_tables-least, IsTableBelow-antisym}
+use Rattle.udfs_lattice.specs.TableLaws.{state_of-empty, join_tables-assoc, join_tables-comm, IsTableBelow-join_tables, IsTableBelow-second, join_tables-least, IsTableBelow-antisym}
 use Rattle.udfs_lattice.specs.Records.{Record, table_of, join_all, IsLeastAbove, SameTables, all_records}
 use Rattle.udfs_lattice.proofs.RecordLaws.{table_of-append}
 

@@ -1,11 +1,11 @@
 -- What agreement gives: a known block has the volume's bytes and is not above the last one.
-use Rattle.std.specs.Prelude.{◌≡◌, ◌⊎◌, ℕ, ◌<◌, ◌≤◌, ◌==◌, Bool, true, false, cond, List, [], ◌∷◌, nat_le, nat_lt, ◌↔◌, refl}
-use Rattle.std.proofs.Common.{sym, ap, subst, ◌∙◌, inl, inr, ⊎_elim, arith}
-use Rattle.std.proofs.lemmas.Bool.{cases_lt, lt-ltb, le-ltb, le-leb, lt-leb, eqb-true, eqb-false, leb-true, leb-false, ltb-true, ltb-false}
+use Rattle.std.specs.Prelude.{◌≡◌, ◌⊎◌, ℕ, ◌==◌, Bool, true, false, cond, List, [], ◌∷◌, nat_le, nat_lt, ◌↔◌, refl}
+use Rattle.std.proofs.Common.{sym, ap, subst, ◌∙◌, inl, inr, ⊎_elim}
+use Rattle.std.proofs.lemmas.Bool.{lt-leb, eqb-true}
 use Rattle.udfs_lattice.specs.declared.facts.Fact.TheVariants.{Unknown, Known, Conflict}
 use Rattle.udfs_lattice.specs.States.{State, IsBelow}
 use Rattle.udfs_lattice.specs.Tables.{Table, state_of, IsTableBelow}
-use Rattle.udfs_lattice.specs.Volumes.{Blocks, Includes, Volume, complete, Agrees, insert_once, ascending}
+use Rattle.udfs_lattice.specs.Volumes.{Includes, Volume, complete, Agrees, insert_once, ascending}
 
 complete_known : (volume : Volume) (n : ℕ) (bytes : List ℕ) (b : Bool) → cond b (Known (volume n)) Unknown ≡ Known bytes → bytes ≡ volume n
 complete_known volume n bytes true e = cc

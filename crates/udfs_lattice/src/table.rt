@@ -347,6 +347,60 @@ mod tests {
         Ok(())
     }
 
+    /// Whether `now` lies between the old state and the one that the join gives.
+    fn is_between(
+        old: Fact<&[u8; 2048]>,
+        now: Fact<&[u8; 2048]>,
+        whole: Fact<&[u8; 2048]>,
+    ) -> bool {
+        now == old || now == whole
+    }
+
+    fn two_tables(alloc: Global) -> Result<(BlockTable, BlockTable), TableError> {
+        let mut table = BlockTable::new(alloc);
+        let mut other = BlockTable::new(alloc);
+        for n in 0..40u32 {
+            table.put(2 * n, &[0x61; 2048])?;
+            other.put(3 * n, &[0x62; 2048])?;
+        }
+        Ok((table, other))
+    }
+
+    /// With any one allocation refused (`rt try --test --fail-alloc N`): a refused join lies between the
+    /// old table and the join, and the same join again gives the join.
+    #[test]
+    fn a_refused_join_can_be_done_again(rt: HostRuntime) -> Result<(), Fail> {
+        let alloc = rt.alloc();
+        let Ok((mut table, other)) = two_tables(alloc) else {
+            return Ok(());
+        };
+        let Ok((old, _)) = two_tables(alloc) else {
+            return Ok(());
+        };
+        let Ok((mut whole, _)) = two_tables(alloc) else {
+            return Ok(());
+        };
+        let first = table.join(&other);
+        if whole.join(&other).is_err() {
+            return Ok(());
+        }
+        for n in 0..130u32 {
+            assert!(rt;
+                is_between(old.state(n), table.state(n), whole.state(n)),
+                "{n}"
+            );
+        }
+        if first.is_err() {
+            table.join(&other)?;
+        }
+        for n in 0..130u32 {
+            assert!(rt; table.state(n) == whole.state(n), "{n}");
+        }
+        assert_eq!(rt; whole.conflicts(), 14);
+        assert_eq!(rt; whole.known(), 52);
+        Ok(())
+    }
+
     #[test]
     fn adds_states(rt: HostRuntime) -> Result<(), Fail> {
         let alloc = rt.alloc();

@@ -2,7 +2,7 @@
 use Rattle.std.proofs.Common.{ℕ, ◌<◌, List, length, Option}
 use Rattle.udfs_reading.specs.declared.error.ReadingError.{ReadingError}
 use Rattle.udfs_reading.specs.declared.error.ReadingFault.{ReadingFault}
-use Rattle.udfs_reading.specs.declared.error.ReadingFault.TheVariants.{Magic, BlockSize, BlockNumber, Truncated, Trailing, Order, State, Io, OutOfMemory}
+use Rattle.udfs_reading.specs.declared.error.ReadingFault.TheVariants.{OutOfMemory}
 use Rattle.udfs_reading.specs.Field.{CutBy, CutsField, BlockFailsBy, BlockFails}
 
 cut_why : (fault : ReadingFault) (got : List ℕ) (rest : Option (List ℕ)) (i j : ℕ) → length got < 2048 → CutBy fault rest i j → BlockFailsBy fault got rest i j

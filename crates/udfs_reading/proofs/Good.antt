@@ -10,8 +10,8 @@ use Rattle.udfs_lattice.proofs.JoinLaws.{join_all-same, join_all-records}
 use Rattle.udfs_reading.specs.declared.error.ReadingFault.{ReadingFault}
 use Rattle.udfs_reading.specs.declared.inputs.InputError.{InputError}
 use Rattle.udfs_reading.specs.Answers.{IsOfFile}
-use Rattle.udfs_reading.specs.Format.{number, header}
-use Rattle.udfs_reading.specs.Reading.{magic, front, record_bytes, IsReading}
+use Rattle.udfs_reading.specs.Format.{number}
+use Rattle.udfs_reading.specs.Reading.{magic, record_bytes, IsReading}
 use Rattle.udfs_reading.specs.Inputs.{inputs}
 use Rattle.udfs_reading.specs.Several.{HasTable, TablesAre, Tells, AllTell, AllReadings, InputFails, IsFirstFaulty}
 use Rattle.udfs_reading.proofs.Outcomes.{inputs_laws}

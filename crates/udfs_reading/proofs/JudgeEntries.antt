@@ -37,10 +37,10 @@ judge_entries (suc n) k low bytes =
     else if nat_lt 4194303 (value_of bytes) then Err (fault.BlockNumber, k)
     else if nat_lt (value_of bytes) low then Err (fault.Order, k)
     else judge_state (drop 4 bytes)
-        (λ rest. if nat_lt (length rest) 2048 then Err (fault.Truncated, k)
-            else with_first (value_of bytes, Known (take 2048 rest)) (judge_entries n (k + 1) (value_of bytes + 1) (drop 2048 rest)))
-        (λ rest. with_first (value_of bytes, Conflict) (judge_entries n (k + 1) (value_of bytes + 1) rest))
-        k
+    (λ rest. if nat_lt (length rest) 2048 then Err (fault.Truncated, k)
+    else with_first (value_of bytes, Known (take 2048 rest)) (judge_entries n (k + 1) (value_of bytes + 1) (drop 2048 rest)))
+    (λ rest. with_first (value_of bytes, Conflict) (judge_entries n (k + 1) (value_of bytes + 1) rest))
+    k
 
 judge_body : ℕ → List ℕ → Judged Entry
 judge_body n bytes = judge_entries n 1 0 bytes

@@ -1,5 +1,5 @@
 -- What the first eight bytes say of the kind of a file.
-use Rattle.std.proofs.Common.{◌≡◌, ◌≢◌, ℕ, ◌+◌, ◌%◌, ◌^◌, ◌<◌, ◌≤◌, Bool, true, false, List, [], ◌++◌, length, take, Option, refl, sym, ap, subst, ◌∙◌, append_assoc, arith, take_all, inl, inr}
+use Rattle.std.proofs.Common.{◌≡◌, ◌≢◌, ℕ, ◌<◌, Bool, true, false, List, [], ◌++◌, length, take, Option, refl, sym, ap, subst, ◌∙◌, append_assoc, arith, take_all, inl, inr}
 use Rattle.std.specs.Str.{bytes_eq}
 use Rattle.std.proofs.lemmas.Bool.{false≢true}
 use Rattle.std.proofs.lemmas.List.{take_at}
@@ -17,7 +17,7 @@ use Rattle.udfs_reading.specs.Outcome.{Explains, Ends, Takes}
 use Rattle.udfs_reading.specs.Reading.{magic, readings}
 use Rattle.udfs_reading.specs.TableFile.{table_magic}
 use Rattle.udfs_reading.specs.TableReading.{tables}
-use Rattle.udfs_reading.specs.Inputs.{named, kind_of, inputs}
+use Rattle.udfs_reading.specs.Inputs.{named, inputs}
 use Rattle.udfs_reading.proofs.Ends.{fault_at, ends_after}
 use Rattle.udfs_reading.proofs.JudgeRecords.{length-magic}
 use Rattle.udfs_reading.proofs.JudgeEntries.{length-table_magic}
@@ -101,10 +101,11 @@ module _ (K : Kind) (front : List ℕ) (at : IsKindAt K front) where
   explains_input : (fault : ReadingFault) (got : List ℕ) (rest : Option (List ℕ)) (i j number : ℕ) → Explains K (front ++ got) rest i j fault number → Explains inputs (front ++ got) rest i j fault number
   explains_input Truncated got rest i j number h = (h.0, at.faulty got Truncated number h.1, h.2)
   explains_input Io got rest i j number h = (h.0, elim h.1 [ inl f ↦ inl (at.faulty got Truncated number f) | inr n ↦ inr (n.0, at.file got number n.0 n.1) ])
-  explains_input OutOfMemory got rest i j number h =
-      (h.0,
-      λ more f m has. h.1 more f m (subst (λ (l : List ℕ). K.IsFaulty l f m) (sym (append_assoc front got more)) (at.faulty_back (got ++ more) f m (subst (λ (l : List ℕ). inputs.IsFaulty l f m) (append_assoc front got more) has))),
-      h.2)
+  explains_input OutOfMemory got rest i j number h = (
+    h.0,
+    λ more f m has. h.1 more f m (subst (λ (l : List ℕ). K.IsFaulty l f m) (sym (append_assoc front got more)) (at.faulty_back (got ++ more) f m (subst (λ (l : List ℕ). inputs.IsFaulty l f m) (append_assoc front got more) has))),
+    h.2,
+  )
   explains_input Magic got rest i j number h = (h.0, at.faulty got Magic number h.1)
   explains_input BlockSize got rest i j number h = (h.0, at.faulty got BlockSize number h.1)
   explains_input BlockNumber got rest i j number h = (h.0, at.faulty got BlockNumber number h.1)

@@ -5,8 +5,8 @@ use Rattle.byteorder.specs.Numbers.{little_from-append}
 use Rattle.udfs_reading.specs.declared.error.ReadingFault.{ReadingFault}
 use Rattle.udfs_reading.specs.declared.error.ReadingFault.TheVariants as fault
 use Rattle.udfs_reading.specs.Format.{value_of, Format, Spot, AtMagic, AtBlockSize, AtCount, In, before, size_of, Breaks, FaultHere, HasFault}
-use Rattle.udfs_reading.specs.Reading.{Place, AtBlock, AtBytes, AtEnd, reading_format}
-use Rattle.udfs_reading.specs.TableReading.{TablePlace, AtNumber, AtState, AtContent, AtTableEnd, IsOtherState, floor_after, table_format}
+use Rattle.udfs_reading.specs.Reading.{AtBlock, AtBytes, AtEnd, reading_format}
+use Rattle.udfs_reading.specs.TableReading.{AtNumber, AtState, AtContent, AtTableEnd, IsOtherState, table_format}
 
 value_of-more : (rest left : List ℕ) → 4 ≤ length rest → value_of (rest ++ left) ≡ value_of rest
 unfolding value_of

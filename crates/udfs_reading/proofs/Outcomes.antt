@@ -1,20 +1,20 @@
 -- No bytes have two outcomes: the laws of each kind of file.
-use Rattle.std.proofs.Common.{◌≡◌, ◌≢◌, ℕ, ◌+◌, ◌^◌, ◌<◌, ◌≤◌, Bool, true, false, List, [], ◌++◌, length, take, refl, sym, ap, subst, ◌∙◌, arith, length-append, length-take, Option, Some, None, Result, Ok}
+use Rattle.std.proofs.Common.{◌≡◌, ℕ, ◌+◌, ◌≤◌, Bool, true, false, List, ◌++◌, length, take, refl, sym, ap, subst, ◌∙◌, arith, length-append, length-take, Option, Some, None, Result, Ok}
 use Rattle.std.specs.Prelude.{IfSome, MatchResult}
 use Rattle.std.specs.Str.{bytes_eq}
 use Rattle.std.proofs.lemmas.List.{take-append-le}
 use Rattle.std.proofs.lemmas.Slice.Eq.{bytes_eq-Decides}
 use Rattle.udfs_lattice.specs.Tables.{Table, IsTable, entries_of}
-use Rattle.udfs_lattice.specs.Records.{Record, table_of, RisesFrom, table_of_entries}
+use Rattle.udfs_lattice.specs.Records.{table_of, RisesFrom, table_of_entries}
 use Rattle.udfs_lattice.proofs.EntryLaws.{rises-entries_of, table_of_entries-entries_of, few_entries}
 use Rattle.udfs_reading.specs.declared.error.ReadingFault.{ReadingFault}
 use Rattle.udfs_reading.specs.declared.error.ReadingFault.TheVariants.{Magic, Truncated}
 use Rattle.udfs_reading.specs.Reading.{magic, readings, reading_format}
 use Rattle.udfs_reading.specs.TableFile.{table_magic, file_of, table_bytes}
-use Rattle.udfs_reading.specs.TableReading.{IsTableFile, entries_front, tables, table_format}
+use Rattle.udfs_reading.specs.TableReading.{IsTableFile, tables, table_format}
 use Rattle.udfs_reading.specs.declared.error.ReadingError.{ReadingError}
 use Rattle.udfs_reading.specs.Answers.{IsOfFile, TakesFile}
-use Rattle.udfs_reading.specs.Inputs.{IsUnnamed, unnamed, named, kind_of, inputs}
+use Rattle.udfs_reading.specs.Inputs.{IsUnnamed, unnamed, named, inputs}
 use Rattle.udfs_reading.proofs.JudgeHeader.{one_list, list_or_fault, one_fault}
 use Rattle.udfs_reading.proofs.JudgeRecords as records
 use Rattle.udfs_reading.proofs.JudgeEntries as entries

@@ -1,6 +1,6 @@
 -- From what a whole read says of the source to what the public call says of the bytes.
-use Rattle.std.proofs.Common.{◌≡◌, ◌≢◌, ℕ, ◌+◌, ◌%◌, ◌^◌, ◌<◌, List, [], ◌++◌, Option, Some, None, Result, Ok, Err, refl, sym, ap, subst, ◌∙◌, append-nil, arith}
-use Rattle.std.specs.Prelude.{IfSome, IfOk, IfErr, OnOk, IsErrAnd, MatchResult, ◌↔◌}
+use Rattle.std.proofs.Common.{◌≡◌, ◌≢◌, ℕ, ◌+◌, ◌%◌, ◌^◌, ◌<◌, List, ◌++◌, Option, Some, None, Result, Ok, Err, refl, sym, ap, subst, ◌∙◌, append-nil, arith}
+use Rattle.std.specs.Prelude.{IfOk, IfErr, OnOk, IsErrAnd, ◌↔◌}
 use Rattle.udfs_lattice.specs.Tables.{Table}
 use Rattle.udfs_reading.specs.declared.error.ReadingError.{ReadingError}
 use Rattle.udfs_reading.specs.declared.error.ReadingFault.{ReadingFault}
@@ -8,7 +8,7 @@ use Rattle.udfs_reading.specs.declared.error.ReadingFault.TheVariants.{Magic, Bl
 use Rattle.udfs_reading.specs.Device.{left}
 use Rattle.udfs_reading.specs.Kind.{Kind, HasOneOutcome}
 use Rattle.udfs_reading.specs.Outcome.{StopsAt, Explains, Reads, Stops}
-use Rattle.udfs_reading.specs.Answers.{IsOfFile, HadGiven, GivesTable, GivesFault, TakesFile, RefusesFaulty, FailsAfter}
+use Rattle.udfs_reading.specs.Answers.{IsOfFile, GivesTable, GivesFault, TakesFile, RefusesFaulty, FailsAfter}
 
 -- what holds of the files and faults of a kind
 pub record KindLaws (K : Kind) : Type 0 where

@@ -55,10 +55,11 @@ whole_front n = append_assoc magic (number 2048) (number n)
 
 -- a header of as many records as follow is that of a reading
 pub is_reading : (n : ℕ) (rs : List Record) → length rs ≡ n → n < 2 ^ 32 → AreRecords rs → IsReading (magic ++ ((number 2048 ++ number n) ++ flat_map record_bytes rs)) rs × (n ≡ length rs)
-is_reading n rs many fits all =
-    (record {
-      count = subst (λ (k : ℕ). k < 2 ^ 32) (sym many) fits;
-      each = all;
-      spelled = sym (append_assoc magic (number 2048 ++ number n) (flat_map record_bytes rs)) ∙ ap (λ (l : List ℕ). l ++ flat_map record_bytes rs) (sym (whole_front n)) ∙ ap (λ (k : ℕ). front k rs) (sym many);
-    },
-    sym many)
+is_reading n rs many fits all = (
+  record {
+    count = subst (λ (k : ℕ). k < 2 ^ 32) (sym many) fits;
+    each = all;
+    spelled = sym (append_assoc magic (number 2048 ++ number n) (flat_map record_bytes rs)) ∙ ap (λ (l : List ℕ). l ++ flat_map record_bytes rs) (sym (whole_front n)) ∙ ap (λ (k : ℕ). front k rs) (sym many);
+  },
+  sym many,
+)

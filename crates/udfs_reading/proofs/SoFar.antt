@@ -1,5 +1,5 @@
 -- The inputs that were read so far, and the next one.
-use Rattle.std.proofs.Common.{◌≡◌, ◌≢◌, ℕ, ◌+◌, ◌<◌, ◌≤◌, List, [], ◌∷◌, ◌++◌, length, get_or, map, Option, Some, None, Err, refl, sym, ap, subst, ◌∙◌, append_assoc, append-nil, arith, length-append}
+use Rattle.std.proofs.Common.{◌≡◌, ◌≢◌, ℕ, ◌+◌, ◌<◌, ◌≤◌, List, [], ◌∷◌, ◌++◌, length, get_or, map, Option, Err, refl, sym, ap, subst, ◌∙◌, append_assoc, append-nil, arith, length-append}
 use Rattle.std.specs.Prelude.{IfSome, ◌↔◌}
 use Rattle.std.proofs.Math.ListN.{set}
 use Rattle.std.proofs.lemmas.List.{get_or_at, set_at, map-append}
@@ -11,7 +11,7 @@ use Rattle.udfs_reading.specs.declared.error.ReadingError.{ReadingError}
 use Rattle.udfs_reading.specs.declared.error.ReadingFault.TheVariants.{Io}
 use Rattle.udfs_reading.specs.Answers.{GivesFault, RefusesFaulty, FailsAfter}
 use Rattle.udfs_reading.specs.Inputs.{inputs}
-use Rattle.udfs_reading.specs.Several.{HasTable, TablesAre, Joins, InputFails}
+use Rattle.udfs_reading.specs.Several.{HasTable, TablesAre, InputFails}
 
 -- n inputs were read, and this is the join of their tables
 pub record SoFar {R : Type 0} (remaining : R → Option (List ℕ)) (faults : R → ℕ) (olds news : List R) (n : ℕ) (table : Table) : Type 0 where

@@ -1,5 +1,5 @@
 -- A whole file that was read through a window which was empty before and after.
-use Rattle.std.proofs.Common.{◌≡◌, ℕ, List, [], ◌++◌, Option, Some, None, refl, sym, ap, subst, ◌∙◌}
+use Rattle.std.proofs.Common.{◌≡◌, ℕ, List, [], Option, Some, None, sym, ap, subst, ◌∙◌}
 use Rattle.std.specs.Io.KnownBytes.{Consumes, IsAtEnd}
 use Rattle.udfs_lattice.specs.Tables.{Table, empty_table, join_tables}
 use Rattle.udfs_lattice.specs.TableLaws.{join_tables-empty}

@@ -1,7 +1,6 @@
 -- An input: a reading or a table file, told by its first eight bytes.
 use Rattle.std.specs.Prelude.{◌≡◌, ℕ, ◌<◌, ◌≤◌, Bool, true, false, List, length, take}
 use Rattle.std.specs.Str.{bytes_eq}
-use Rattle.udfs_lattice.specs.Tables.{Table}
 use Rattle.udfs_reading.specs.declared.error.ReadingFault.{ReadingFault}
 use Rattle.udfs_reading.specs.declared.error.ReadingFault.TheVariants.{Magic, Truncated}
 use Rattle.udfs_reading.specs.declared.input.Accepted.{Accepted}

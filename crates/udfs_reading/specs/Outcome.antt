@@ -1,5 +1,5 @@
 -- What a call that reads a file says of the source.
-use Rattle.std.specs.Prelude.{◌≡◌, ℕ, ◌+◌, ◌%◌, ◌^◌, ◌<◌, List, [], ◌++◌, Option, IfSome, ◌⊎◌}
+use Rattle.std.specs.Prelude.{◌≡◌, ℕ, ◌+◌, ◌%◌, ◌^◌, ◌<◌, List, [], ◌++◌, Option, ◌⊎◌}
 use Rattle.std.specs.Io.KnownBytes.{Consumes, IsAtEnd}
 use Rattle.udfs_lattice.specs.Tables.{Table, join_tables}
 use Rattle.udfs_reading.specs.declared.error.ReadingError.{ReadingError}

@@ -1,13 +1,13 @@
 -- Several inputs, read in order.
-use Rattle.std.specs.Prelude.{◌≡◌, ◌≢◌, ℕ, ◌+◌, List, [], ◌∷◌, ◌++◌, length, map, Option, Some, IfSome, Err, Contains, ◌↔◌}
+use Rattle.std.specs.Prelude.{◌≡◌, ◌≢◌, ℕ, ◌+◌, List, [], ◌∷◌, ◌++◌, length, map, Option, Some, IfSome, Err, ◌↔◌}
 use Rattle.udfs_lattice.specs.Tables.{Table, join_tables}
-use Rattle.udfs_lattice.specs.Records.{Record, join_all}
+use Rattle.udfs_lattice.specs.Records.{Record}
 use Rattle.udfs_reading.specs.declared.error.ReadingFault.{ReadingFault}
 use Rattle.udfs_reading.specs.declared.error.ReadingFault.TheVariants.{Io}
 use Rattle.udfs_reading.specs.declared.inputs.InputError.{InputError}
 use Rattle.udfs_reading.specs.Kind.{Kind}
-use Rattle.udfs_reading.specs.Outcome.{StopsAt, Reads}
-use Rattle.udfs_reading.specs.Answers.{IsOfFile, HadGiven, GivesFault, RefusesFaulty, FailsAfter}
+use Rattle.udfs_reading.specs.Outcome.{Reads}
+use Rattle.udfs_reading.specs.Answers.{GivesFault, RefusesFaulty, FailsAfter}
 use Rattle.udfs_reading.specs.Reading.{IsReading}
 use Rattle.udfs_reading.specs.Inputs.{inputs}
 

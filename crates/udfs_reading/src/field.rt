@@ -84,10 +84,7 @@ pub fn read_byte<R: Source>(
 }
 
 /// Takes the next eight bytes.
-pub fn read_magic<R: Source>(
-    source: &mut R,
-    window: &mut Window,
-) -> Result<[u8; 8], ReadingError>
+pub fn read_magic<R: Source>(source: &mut R, window: &mut Window) -> Result<[u8; 8], ReadingError>
     ensures bytes { IfOk result (λ magic. Consumes (left window.old (R.remaining source.old)) (left window.new (R.remaining source.new)) magic) }
     ensures eight { IfOk result (λ magic. length magic ≡ 8) }
     ensures count { OnOk result (R.faults source.new ≡ R.faults source.old) }

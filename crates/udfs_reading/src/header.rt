@@ -17,10 +17,7 @@ use crate::field::read_number;
 use crate::window::Window;
 
 /// Takes the block size and the number of records, which stand behind the magic in each format.
-pub fn read_count<R: Source>(
-    source: &mut R,
-    window: &mut Window,
-) -> Result<u32, ReadingError>
+pub fn read_count<R: Source>(source: &mut R, window: &mut Window) -> Result<u32, ReadingError>
     ensures bytes { IfOk result (λ count. Consumes (left window.old (R.remaining source.old)) (left window.new (R.remaining source.new)) (number 2048 ++ number count)) }
     ensures count { OnOk result (R.faults source.new ≡ R.faults source.old) }
     ensures err { IfErr result (λ e. (magic : List ℕ) → Ends (kind (bare magic)) magic (left window.old (R.remaining source.old)) (left window.new (R.remaining source.new))

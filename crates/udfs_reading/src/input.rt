@@ -15,9 +15,8 @@ use crate::device::Source;
 use crate::error::{ReadingError, ReadingFault};
 use crate::field::read_magic;
 use crate::header::{names_reading, names_table};
-use crate::reading;
-use crate::table_file;
 use crate::window::Window;
+use crate::{reading, table_file};
 use std::alloc::Global;
 use udfs_lattice::BlockTable;
 

@@ -11,14 +11,13 @@ mod inputs;
 pub mod laws;
 mod reading;
 mod table_file;
-
 mod window;
 mod writing;
 
 pub use device::{DeviceFault, Reader, Sink, Source, Writer};
 pub use error::{ReadingError, ReadingFault};
-pub use inputs::{InputError, join_inputs};
 pub use input::{read_input, read_reading, read_table};
+pub use inputs::{InputError, join_inputs};
 pub use writing::{WriteFault, write_table};
 
 #[cfg(test)]

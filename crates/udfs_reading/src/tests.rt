@@ -131,7 +131,11 @@ fn a_reading_is_cut_at_each_length(rt: HostRuntime) -> Result<(), Fail> {
     let bytes = reading(alloc, &[(300, 0x61), (301, 0x62)])?;
     for len in 0..bytes.len() {
         let cut = fault_of(read_input(alloc, &mut Reader::new(&bytes[..len])));
-        assert_eq!(rt; cut, Some((ReadingFault::Truncated, record_at(len))), "cut at {len}");
+        assert_eq!(rt;
+            cut,
+            Some((ReadingFault::Truncated, record_at(len))),
+            "cut at {len}"
+        );
     }
     Ok(())
 }
@@ -147,7 +151,11 @@ fn a_device_fails_after_each_byte(rt: HostRuntime) -> Result<(), Fail> {
             good,
         });
         let failed = fault_of(read_reading(alloc, &mut failing));
-        assert_eq!(rt; failed, Some((ReadingFault::Io, record_at(good))), "fails at {good}");
+        assert_eq!(rt;
+            failed,
+            Some((ReadingFault::Io, record_at(good))),
+            "fails at {good}"
+        );
     }
     Ok(())
 }
@@ -188,7 +196,10 @@ fn names_the_faults_of_a_reading(rt: HostRuntime) -> Result<(), Fail> {
         Some((ReadingFault::BlockNumber, 1))
     );
     let last = reading(alloc, &[(4_194_303, 7)])?;
-    assert_eq!(rt; fault_of(read_reading(alloc, &mut Reader::new(last.as_slice()))), None);
+    assert_eq!(rt;
+        fault_of(read_reading(alloc, &mut Reader::new(last.as_slice()))),
+        None
+    );
     let size = b"UDFREAD1\x00\x04\x00\x00\x00\x00\x00\x00";
     assert_eq!(rt;
         fault_of(read_reading(alloc, &mut Reader::new(size.as_slice()))),
@@ -233,9 +244,18 @@ fn a_dispute_stays(rt: HostRuntime) -> Result<(), Fail> {
     let alloc = rt.alloc();
     let first = reading(alloc, &[(300, 0x61)])?;
     let second = reading(alloc, &[(300, 0x62)])?;
-    assert_eq!(rt; joined(alloc, &[&first, &second, &first])?.as_slice(), DISPUTED.as_slice());
-    assert_eq!(rt; joined(alloc, &[DISPUTED, &first])?.as_slice(), DISPUTED.as_slice());
-    assert_eq!(rt; joined(alloc, &[&first, DISPUTED])?.as_slice(), DISPUTED.as_slice());
+    assert_eq!(rt;
+        joined(alloc, &[&first, &second, &first])?.as_slice(),
+        DISPUTED.as_slice()
+    );
+    assert_eq!(rt;
+        joined(alloc, &[DISPUTED, &first])?.as_slice(),
+        DISPUTED.as_slice()
+    );
+    assert_eq!(rt;
+        joined(alloc, &[&first, DISPUTED])?.as_slice(),
+        DISPUTED.as_slice()
+    );
     Ok(())
 }
 
@@ -245,7 +265,7 @@ fn names_the_first_faulty_input(rt: HostRuntime) -> Result<(), Fail> {
     let good = reading(alloc, &[(300, 0x61)])?;
     let mut inputs = vec![in alloc;
         Reader::new(good.as_slice()),
-        Reader::new(&good[..17]),
+        Reader::new(good.get(..17).unwrap_or(&[])),
         Reader::new(b"UDFTABLX".as_slice()),
     ]?;
     let error = ReadingError {
@@ -268,7 +288,11 @@ fn a_table_file_is_cut_at_each_length(rt: HostRuntime) -> Result<(), Fail> {
     for len in 0..DISPUTED.len() {
         let number = if len < 16 { 0 } else { 1 };
         let cut = fault_of(read_table(alloc, &mut Reader::new(&DISPUTED[..len])));
-        assert_eq!(rt; cut, Some((ReadingFault::Truncated, number)), "cut at {len}");
+        assert_eq!(rt;
+            cut,
+            Some((ReadingFault::Truncated, number)),
+            "cut at {len}"
+        );
     }
     Ok(())
 }
@@ -323,7 +347,9 @@ fn files_longer_than_a_window_read_back(rt: HostRuntime) -> Result<(), Fail> {
     assert_eq!(rt; file.len(), 16 + 300 * 2053);
     let again = read_table(alloc, &mut Reader::new(file.as_slice()))?;
     for (block, byte) in records.as_slice() {
-        assert!(rt; matches!(again.state(*block), Fact::Known(b) if b[0] == *byte && b[2047] == *byte));
+        assert!(rt;
+            matches!(again.state(*block), Fact::Known(b) if b[0] == *byte && b[2047] == *byte)
+        );
     }
     assert!(rt; written(alloc, &again)? == file);
     Ok(())
@@ -342,6 +368,42 @@ fn a_sink_fails_after_each_byte(rt: HostRuntime) -> Result<(), Fail> {
         let outcome = write_table(&table, &mut out);
         assert_eq!(rt; outcome.is_ok(), good == DISPUTED.len(), "fails at {good}");
         assert_eq!(rt; out.into_inner().taken.as_slice(), &DISPUTED[..good]);
+    }
+    Ok(())
+}
+
+/// With any one allocation refused (`rt try --test --fail-alloc N`) the answer is the table, or want of memory.
+#[test]
+fn want_of_memory_is_named(rt: HostRuntime) -> Result<(), Fail> {
+    let alloc = rt.alloc();
+    let Ok(a) = reading(alloc, &[(300, 0x61)]) else {
+        return Ok(());
+    };
+    let Ok(b) = reading(alloc, &[(301, 0x62)]) else {
+        return Ok(());
+    };
+    let mut inputs = [Reader::new(a.as_slice()), Reader::new(b.as_slice())];
+    match join_inputs(alloc, &mut inputs) {
+        Ok(table) => {
+            assert_eq!(rt; table.known(), 2);
+            let mut out = Writer::new(io::sink());
+            assert!(rt; write_table(&table, &mut out).is_ok());
+        }
+        Err(e) => assert_eq!(rt; e.error.fault, ReadingFault::OutOfMemory),
+    }
+    Ok(())
+}
+
+/// A fault of the header is told whatever memory there is.
+#[test]
+fn a_header_fault_needs_no_memory(rt: HostRuntime) -> Result<(), Fail> {
+    let alloc = rt.alloc();
+    for bytes in [
+        b"UDFREAD1\x00\x04\x00\x00".as_slice(),
+        b"UDFTABL1\x00\x04\x00\x00".as_slice(),
+    ] {
+        let found = fault_of(read_input(alloc, &mut Reader::new(bytes)));
+        assert_eq!(rt; found, Some((ReadingFault::BlockSize, 0)));
     }
     Ok(())
 }

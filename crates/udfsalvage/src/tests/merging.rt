@@ -133,18 +133,36 @@ fn a_pass_is_merged_into_an_earlier_table(rt: HostRuntime) -> Result<(), Fail> {
     let alloc = rt.alloc();
     let expected = disputed(alloc)?;
     for (first, second) in [
-        ("merge --out t.tab a.rd b.rd c.rd", "merge --out t.tab t.tab"),
-        ("merge --out t.tab a.rd b.rd", "merge --out t.tab t.tab c.rd"),
-        ("merge --out t.tab a.rd b.rd", "merge --out t.tab c.rd t.tab b.rd"),
-        ("merge --out t.tab c.rd", "merge --out t.tab b.rd t.tab a.rd"),
-        ("merge --out t.tab a.rd c.rd", "merge --out t.tab t.tab b.rd a.rd t.tab"),
+        (
+            "merge --out t.tab a.rd b.rd c.rd",
+            "merge --out t.tab t.tab",
+        ),
+        (
+            "merge --out t.tab a.rd b.rd",
+            "merge --out t.tab t.tab c.rd",
+        ),
+        (
+            "merge --out t.tab a.rd b.rd",
+            "merge --out t.tab c.rd t.tab b.rd",
+        ),
+        (
+            "merge --out t.tab c.rd",
+            "merge --out t.tab b.rd t.tab a.rd",
+        ),
+        (
+            "merge --out t.tab a.rd c.rd",
+            "merge --out t.tab t.tab b.rd a.rd t.tab",
+        ),
     ] {
         let mut memory = passes(alloc)?;
         let before = ran(alloc, &mut memory, first)?;
         assert!(rt; before.is_silent(), "{first}: {before:?}");
         let after = ran(alloc, &mut memory, second)?;
         assert!(rt; after.is_silent(), "{second}: {after:?}");
-        assert!(rt; memory.has("t.tab", expected.as_slice()), "{first}, {second}");
+        assert!(rt;
+            memory.has("t.tab", expected.as_slice()),
+            "{first}, {second}"
+        );
     }
     Ok(())
 }

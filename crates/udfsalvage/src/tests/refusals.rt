@@ -175,10 +175,16 @@ fn a_faulty_table_file_is_refused(rt: HostRuntime) -> Result<(), Fail> {
     let mut memory = passes(alloc)?;
     memory.store("x.tab", b"UDFTABLX")?;
     let magic = ran(alloc, &mut memory, "merge --out old.tab x.tab")?;
-    assert!(rt; magic.is_refused("udfsalvage: input 1: fault 1 Magic at record 0\n"), "{magic:?}");
+    assert!(rt;
+        magic.is_refused("udfsalvage: input 1: fault 1 Magic at record 0\n"),
+        "{magic:?}"
+    );
     let state = b"UDFTABL1\x00\x08\x00\x00\x01\x00\x00\x00\x05\x00\x00\x00\x03";
     memory.store("s.tab", state)?;
     let first = ran(alloc, &mut memory, "merge --out old.tab s.tab")?;
-    assert!(rt; first.is_refused("udfsalvage: input 1: fault 7 State at record 1\n"), "{first:?}");
+    assert!(rt;
+        first.is_refused("udfsalvage: input 1: fault 7 State at record 1\n"),
+        "{first:?}"
+    );
     Ok(())
 }

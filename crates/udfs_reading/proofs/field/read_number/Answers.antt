@@ -1,4 +1,4 @@
-use Rattle.std.proofs.Common.{◌≡◌, ℕ, List, [], ◌++◌, length, take, drop, sym, ap, ◌∙◌, subst, take-append-drop, length-take-le}
+use Rattle.std.proofs.Common.{◌≡◌, ℕ, List, ◌++◌, length, take, drop, sym, ap, ◌∙◌, subst, take-append-drop, length-take-le}
 use Rattle.std.specs.Io.KnownBytes.{Consumes}
 use Rattle.udfs_reading.specs.Device.{left}
 use Rattle.udfs_reading.specs.Format.{number}

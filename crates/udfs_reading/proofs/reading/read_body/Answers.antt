@@ -1,11 +1,11 @@
-use Rattle.std.proofs.Common.{◌≡◌, ℕ, ◌<◌, ◌^◌, List, [], ◌++◌, length, rules, refl, sym, ap, subst, ◌∙◌, append_assoc, append-nil}
+use Rattle.std.proofs.Common.{◌<◌, ◌^◌, [], ◌++◌, rules, refl, sym, subst, ◌∙◌, append-nil}
 use Rattle.std.proofs.lemmas.Result.{err_from_is_err_and}
 use Rattle.std.specs.List.{flat_map}
 use Rattle.std.specs.Io.KnownBytes.{Consumes}
 use Rattle.std.proofs.KnownBytes.{Consumes-trans}
 use Rattle.udfs_lattice.specs.Records.{table_of}
-use Rattle.udfs_reading.specs.Reading.{magic, front, record_bytes, reading_format, readings, AtEnd}
-use Rattle.udfs_reading.specs.Format.{number, header}
+use Rattle.udfs_reading.specs.Reading.{magic, record_bytes, reading_format, readings, AtEnd}
+use Rattle.udfs_reading.specs.Format.{number}
 use Rattle.udfs_reading.proofs.Ends.{ends_after, ends_bare, ends_end}
 use Rattle.udfs_reading.proofs.Records.{whole_front, is_reading}
 use Rattle.udfs_reading.proofs.reading.read_body.Goals as goal

@@ -2,7 +2,7 @@ use Rattle.std.proofs.Common.{sym}
 use Rattle.std.proofs.lemmas.Result.{err_from_is_err_and}
 use Rattle.udfs_lattice.specs.States.{fact_now}
 use Rattle.udfs_lattice.specs.Tables.{entries_of}
-use Rattle.udfs_reading.proofs.WritingLemmas.{failed_header, written_none, written_more, written_fails, written_all}
+use Rattle.udfs_reading.proofs.WritingLemmas.{failed_header, written_more, written_fails, written_all}
 use Rattle.udfs_reading.proofs.writing.write_entries.Goals as goal
 
 pub returns-in_err-write_header : goal.returns-in_err-write_header

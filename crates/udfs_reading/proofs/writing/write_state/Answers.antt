@@ -1,4 +1,3 @@
-use Rattle.std.proofs.Common.{◌∷◌, []}
 use Rattle.std.proofs.lemmas.Result.{err_from_is_err_and}
 use Rattle.udfs_reading.proofs.WritingLemmas.{failed_then, failed_more, passed_then}
 use Rattle.udfs_reading.proofs.writing.write_state.Goals as goal

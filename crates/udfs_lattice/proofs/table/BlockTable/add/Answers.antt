@@ -1,4 +1,4 @@
-use Rattle.std.proofs.Common.{sym, ap, ◌∙◌}
+use Rattle.std.proofs.Common.{sym}
 use Rattle.udfs_lattice.specs.declared.facts.Fact.TheVariants.{Conflict}
 use Rattle.udfs_lattice.specs.TableLaws.{join_tables-from_added, join_tables-empty_right}
 use Rattle.udfs_lattice.proofs.table.BlockTable.add.Goals as goal

@@ -1,6 +1,5 @@
 use Rattle.std.proofs.Common.{refl, rules}
 use Rattle.std.proofs.KnownBytes.{Consumes-nil}
-use Rattle.udfs_reading.specs.Device.{left}
 use Rattle.udfs_reading.proofs.WindowLemmas.{left_then}
 use Rattle.udfs_reading.proofs.window.Window.hold.Goals as goal
 
@@ -15,4 +14,3 @@ returns-then-branch-eq0-clause-left g c = left_then _ _ _ c.loop-self.invariant.
 
 pub loop-self-preserved : goal.loop-self-preserved
 loop-self-preserved g c = record { given = left_then _ _ _ c.loop-self.invariant.given c.more.ensures.left; kept = search rules }
-

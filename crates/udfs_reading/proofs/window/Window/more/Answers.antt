@@ -1,4 +1,4 @@
-use Rattle.std.proofs.Common.{◌≤◌, ◌-◌, length, take, rules, arith, subst, ap, ◌∙◌, [], List, ℕ}
+use Rattle.std.proofs.Common.{◌-◌, take, rules, subst, ◌∙◌, [], List, ℕ}
 use Rattle.std.specs.Io.KnownBytes.{Consumes}
 use Rattle.udfs_reading.specs.Device.{left}
 use Rattle.udfs_reading.proofs.WindowLemmas.{grown_view, left_more}
