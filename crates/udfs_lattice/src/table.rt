@@ -169,9 +169,9 @@ impl BlockTable {
     /// block that is not unknown never takes. Either leaves the table as it was.
     pub fn add(&mut self, n: u32, fact: Fact<&[u8; 2048]>) -> Result<(), TableError>
         ensures ok { OnOk result (self.new ≡ join_tables self.old (one_entry n (fact_now fact.entry))) }
-        ensures block_number { IsErrOf result TableError.BlockNumber ↔ (LAST_BLOCK < n) }
+        ensures block_number { IsErrOf result TableError.BlockNumber ↔ (4194303 < n) }
         ensures err { OnErr result (self.new ≡ self.old) }
-        ensures no_memory { state_of self.old n ≢ Unknown → n ≤ LAST_BLOCK → IsOk result }
+        ensures no_memory { state_of self.old n ≢ Unknown → n ≤ 4194303 → IsOk result }
     {
         if n > LAST_BLOCK {
             return Err(TableError::BlockNumber);
@@ -194,9 +194,9 @@ impl BlockTable {
     /// block that is not unknown never takes. Either leaves the table as it was.
     pub fn put(&mut self, n: u32, bytes: &[u8; 2048]) -> Result<(), TableError>
         ensures ok { OnOk result (self.new ≡ join_tables self.old (one_record n bytes.now)) }
-        ensures block_number { IsErrOf result TableError.BlockNumber ↔ (LAST_BLOCK < n) }
+        ensures block_number { IsErrOf result TableError.BlockNumber ↔ (4194303 < n) }
         ensures err { OnErr result (self.new ≡ self.old) }
-        ensures no_memory { state_of self.old n ≢ Unknown → n ≤ LAST_BLOCK → IsOk result }
+        ensures no_memory { state_of self.old n ≢ Unknown → n ≤ 4194303 → IsOk result }
     {
         if n > LAST_BLOCK {
             return Err(TableError::BlockNumber);
