@@ -1,0 +1,249 @@
+//! The states of 32 blocks in two masks.
+ghost use Rattle.std.specs.Prelude.{◌≡◌, ◌≢◌, ◌<◌, ◌==◌, IsOk, OnOk, OnErr, true, false};
+ghost use Rattle.std.specs.Int.{bit_at};
+ghost use Rattle.udfs_lattice.specs.States.{fact_now, is_known, is_conflict};
+ghost use Rattle.udfs_lattice.specs.Tables.{state_of, known_count, conflict_count, empty_table, one_entry, join_tables, IsAdded};
+ghost use Rattle.udfs_lattice.specs.Packets.{IsPacketTable, IsSetTo, IsMaskOf, rank};
+ghost use Rattle.udfs_lattice.specs.declared.facts.Fact.TheVariants.{Unknown};
+
+use crate::facts::Fact;
+use std::alloc::{AllocError, Global};
+use std::marker::Model;
+
+/// The states of 32 blocks, at places 0 to 31: a mask of the known blocks, a mask of those in conflict, and
+/// the bytes of the known blocks in the order of their places. No bit is in both masks, and as many
+/// blocks are stored as bits are known. A block has 2048 bytes.
+#[derive(Drop)]
+pub struct Packet {
+    known: u32,
+    conflict: u32,
+    blocks: Vec<[u8; 2048]>,
+}
+
+impl Model for Packet {
+    ghost use Rattle.udfs_lattice.specs.Tables.{Table, table_code};
+
+    ghost Value = { Table };
+
+    ghost coded = { table_code };
+
+    ghost use Rattle.udfs_lattice.specs.Packets.{table_packet, IsPacket};
+
+    ghost view = { λ p. table_packet p.known p.conflict p.blocks.items };
+
+    ghost invariant = { λ p. IsPacket p.known p.conflict p.blocks.items };
+}
+
+fn is_set(mask: u32, i: u32) -> bool
+    requires { i < 32 }
+    ensures { result ≡ (bit_at mask i == 1) }
+{
+    mask >> i & 1 == 1
+}
+
+/// How many of the bits below this one are set.
+fn rank_of(mask: u32, i: u32) -> u32
+    requires { i < 32 }
+    ensures { result ≡ rank mask i }
+{
+    (mask & ((1 << i) - 1)).count_ones()
+}
+
+impl Packet {
+    /// The packet whose 32 blocks are all unknown. It takes no memory yet, and keeps the allocator.
+    pub fn new(alloc: Global) -> Self
+        ensures { result ≡ empty_table }
+    {
+        Packet {
+            known: 0,
+            conflict: 0,
+            blocks: Vec::new(alloc),
+        }
+    }
+
+    /// The state of the block at place `i`, which is below 32. It takes no memory.
+    pub fn state(&self, i: u32) -> Fact<&[u8; 2048]>
+        requires { i < 32 }
+        ensures state { fact_now result ≡ state_of self.now i }
+        ensures packet { IsPacketTable self.now }
+    {
+        if is_set(self.known, i) {
+            let at = rank_of(self.known, i) as usize;
+            return Fact::Known(&self.blocks[at]);
+        }
+        if is_set(self.conflict, i) {
+            return Fact::Conflict;
+        }
+        Fact::Unknown
+    }
+
+    /// Stores the bytes of an unknown block.
+    fn store(&mut self, i: u32, bytes: &[u8; 2048]) -> Result<(), AllocError>
+        requires place { i < 32 }
+        requires unknown { state_of self.old i ≡ Unknown }
+        ensures ok { OnOk result (IsSetTo self.old i (Fact.Known bytes.now) self.new) }
+        ensures err { OnErr result (self.new ≡ self.old) }
+    {
+        let at = rank_of(self.known, i) as usize;
+        self.blocks.insert(at, *bytes)?;
+        self.known |= 1 << i;
+        Ok(())
+    }
+
+    /// Gives up the bytes of a known block, which is unknown then.
+    fn give_up(&mut self, i: u32)
+        requires place { i < 32 }
+        requires known { is_known (state_of self.old i) ≡ true }
+        ensures { IsSetTo self.old i Unknown self.new }
+    {
+        let at = rank_of(self.known, i) as usize;
+        self.blocks.remove(at);
+        self.known &= !(1 << i);
+    }
+
+    /// Puts a block that is not known into conflict.
+    fn mark(&mut self, i: u32)
+        requires place { i < 32 }
+        requires not_known { is_known (state_of self.old i) ≡ false }
+        ensures { IsSetTo self.old i Fact.Conflict self.new }
+    {
+        self.conflict |= 1 << i;
+    }
+
+    /// Puts a block into conflict, whatever it is.
+    fn dispute(&mut self, i: u32)
+        requires { i < 32 }
+        ensures { IsSetTo self.old i Fact.Conflict self.new }
+    {
+        if is_set(self.known, i) {
+            self.give_up(i);
+        }
+        self.mark(i);
+    }
+
+    fn add_bytes(&mut self, i: u32, bytes: &[u8; 2048]) -> Result<(), AllocError>
+        requires { i < 32 }
+        ensures ok { OnOk result (IsAdded self.old i (Fact.Known bytes.now) self.new) }
+        ensures err { OnErr result (self.new ≡ self.old) }
+        ensures no_memory { state_of self.old i ≢ Unknown → IsOk result }
+    {
+        match self.state(i) {
+            Fact::Unknown => self.store(i, bytes),
+            Fact::Known(mine) => {
+                if *mine != *bytes {
+                    self.dispute(i);
+                }
+                Ok(())
+            }
+            Fact::Conflict => Ok(()),
+        }
+    }
+
+    /// Joins a state to that of the block at place `i`, which is below 32. A block that falls into conflict
+    /// gives up its bytes. With `Fact::Unknown` nothing changes.
+    ///
+    /// # Errors
+    ///
+    /// `AllocError` for want of memory, which only the bytes of an unknown block take. It leaves the packet
+    /// as it was.
+    pub fn add(&mut self, i: u32, fact: Fact<&[u8; 2048]>) -> Result<(), AllocError>
+        requires { i < 32 }
+        ensures ok { OnOk result (self.new ≡ join_tables self.old (one_entry i (fact_now fact.entry))) }
+        ensures err { OnErr result (self.new ≡ self.old) }
+        ensures no_memory { state_of self.old i ≢ Unknown → IsOk result }
+        ensures no_bytes { is_known (fact_now fact.entry) ≡ false → IsOk result }
+    {
+        match fact {
+            Fact::Unknown => Ok(()),
+            Fact::Known(bytes) => self.add_bytes(i, bytes),
+            Fact::Conflict => {
+                self.dispute(i);
+                Ok(())
+            }
+        }
+    }
+
+    /// The mask of the known blocks: bit `i` is set where the block at place `i` is known.
+    pub fn known_mask(&self) -> u32
+        ensures { IsMaskOf is_known self.now result }
+    {
+        self.known
+    }
+
+    /// The mask of the blocks in conflict: bit `i` is set where the block at place `i` is in conflict.
+    pub fn conflict_mask(&self) -> u32
+        ensures { IsMaskOf is_conflict self.now result }
+    {
+        self.conflict
+    }
+
+    /// How many blocks are known. It takes no memory.
+    pub fn known(&self) -> u32
+        ensures { result ≡ known_count self.now }
+    {
+        self.known.count_ones()
+    }
+
+    /// How many blocks are in conflict. It takes no memory.
+    pub fn conflicts(&self) -> u32
+        ensures { result ≡ conflict_count self.now }
+    {
+        self.conflict.count_ones()
+    }
+}
+
+#[cfg(test)]
+mod tests {
+    use super::*;
+    use std::test::Fail;
+
+    #[test]
+    fn adds_at_each_place(rt: HostRuntime) -> Result<(), Fail> {
+        let mut packet = Packet::new(rt.alloc());
+        assert_eq!(rt; packet.known_mask(), 0);
+        // 13 and 32 have no common divisor, so that each place comes once, in no order.
+        for step in 0..32u32 {
+            let i = step * 13 % 32;
+            assert!(rt; matches!(packet.state(i), Fact::Unknown));
+            packet.add(i, Fact::Known(&[i as u8; 2048]))?;
+        }
+        assert_eq!(rt; packet.known_mask(), u32::MAX);
+        assert_eq!(rt; packet.known(), 32);
+        assert_eq!(rt; packet.conflict_mask(), 0);
+        for i in 0..32u32 {
+            assert!(rt; matches!(packet.state(i), Fact::Known(bytes) if *bytes == [i as u8; 2048]));
+        }
+        for step in 0..32u32 {
+            let i = step * 5 % 32;
+            packet.add(i, Fact::Known(&[99; 2048]))?;
+            assert!(rt; matches!(packet.state(i), Fact::Conflict));
+            let next = (i + 5) % 32;
+            assert!(rt;
+                step == 31
+                    || matches!(packet.state(next), Fact::Known(bytes) if *bytes == [next as u8; 2048])
+            );
+        }
+        assert_eq!(rt; packet.known_mask(), 0);
+        assert_eq!(rt; packet.conflict_mask(), u32::MAX);
+        Ok(())
+    }
+
+    #[test]
+    fn adds_states(rt: HostRuntime) -> Result<(), Fail> {
+        let mut packet = Packet::new(rt.alloc());
+        packet.add(7, Fact::Unknown)?;
+        assert_eq!(rt; packet.known_mask() | packet.conflict_mask(), 0);
+        packet.add(7, Fact::Known(&[1; 2048]))?;
+        packet.add(7, Fact::Known(&[1; 2048]))?;
+        assert_eq!(rt; packet.known_mask(), 1 << 7);
+        packet.add(31, Fact::Conflict)?;
+        packet.add(31, Fact::Known(&[1; 2048]))?;
+        packet.add(7, Fact::Conflict)?;
+        packet.add(7, Fact::Unknown)?;
+        assert_eq!(rt; packet.known_mask(), 0);
+        assert_eq!(rt; packet.conflict_mask(), 1 << 7 | 1 << 31);
+        assert_eq!(rt; packet.conflicts(), 2);
+        assert_eq!(rt; packet.known(), 0);
+        Ok(())
+    }
+}
