@@ -2,7 +2,7 @@
 use Rattle.std.specs.Prelude.{◌≡◌, ℕ, zero, suc, ◌^◌, ◌<◌, ◌≤◌, ◌==◌, Bool, true, false, cond, List, [], length, All, Option, None, Some, slice_index_or, nat_lt, refl}
 use Rattle.std.specs.Int.{bit_at}
 use Rattle.std.proofs.Common.{sym, ap, subst, ◌∙◌, arith, ⊎_elim}
-use Rattle.std.proofs.lemmas.Nat.Bits.{bit_at-lt, bit_at_above}
+use Rattle.std.proofs.lemmas.Nat.Bits.{bit_at-lt, bit_at-zero, bit_at_above}
 use Rattle.std.proofs.lemmas.List.{get_or_default}
 use Rattle.std.proofs.lemmas.List.Elements.{All-nil, All-get_or}
 use Rattle.std.proofs.lemmas.Bool.{eqb-true, eqb-false, ltb-true, ltb-false, lt-ltb, cases_lt}
@@ -128,9 +128,6 @@ pub is_conflict-bit : (k c : ℕ) (bs : List (List ℕ)) (t : Table) (i : ℕ) �
 is_conflict-bit k c bs t i p view h =
     sym (conflict_said (bit_at k i == 1) (bit_at c i == 1) (slice_index_or bs (rank k i) []) (λ e. clear_bit c i (p.apart i h (eqb-true (bit_at k i) 1 e))))
     ∙ ap is_conflict (sym (state_of-place k c bs i h)) ∙ ap (λ u. is_conflict (state_of u i)) view
-
-bit_at-zero : (i : ℕ) → bit_at 0 i ≡ 0
-bit_at-zero i = bit_at_above 0 0 i (omega arith) (omega arith)
 
 mask_beyond : (m : ℕ) (i : ℕ) → m < 2 ^ 32 → 32 ≤ i → (bit_at m i == 1) ≡ false
 mask_beyond m i fits h = clear_bit m i (bit_at_above m 32 i fits h)

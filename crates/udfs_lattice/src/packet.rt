@@ -2,11 +2,13 @@
 ghost use Rattle.std.specs.Prelude.{◌≡◌, ◌≢◌, ◌<◌, ◌==◌, IsOk, OnOk, OnErr, true, false};
 ghost use Rattle.std.specs.Int.{bit_at};
 ghost use Rattle.udfs_lattice.specs.States.{fact_now, is_known, is_conflict};
-ghost use Rattle.udfs_lattice.specs.Tables.{state_of, known_count, conflict_count, empty_table, one_entry, join_tables, IsAdded};
+ghost use Rattle.udfs_lattice.specs.Tables.{state_of, known_count, conflict_count, empty_table, one_entry, join_tables, IsAdded, IsTableBelow};
+ghost use Rattle.udfs_lattice.specs.TableLaws.{join_tables-comm, join_tables-assoc, join_tables-idem, IsTableBelow-join_tables, join_tables-least};
 ghost use Rattle.udfs_lattice.specs.Packets.{IsPacketTable, IsSetTo, IsMaskOf, rank};
 ghost use Rattle.udfs_lattice.specs.declared.facts.Fact.TheVariants.{Unknown};
 
-use crate::facts::Fact;
+use crate::error::TableError;
+use crate::facts::{Fact, Join};
 use std::alloc::{AllocError, Global};
 use std::marker::Model;
 
@@ -192,6 +194,38 @@ impl Packet {
     }
 }
 
+impl Join for Packet {
+    ghost joined = { join_tables };
+
+    ghost is_below = { IsTableBelow };
+
+    ghost commutative = { join_tables-comm };
+
+    ghost associative = { join_tables-assoc };
+
+    ghost idempotent = { join_tables-idem };
+
+    ghost above = { IsTableBelow-join_tables };
+
+    ghost least = { join_tables-least };
+
+    /// Joins the state of each block of the other packet to that of the block at the same place.
+    ///
+    /// # Errors
+    ///
+    /// `OutOfMemory` alone. Then the packet lies between the old one and the join, and the same join
+    /// again, once it succeeds, gives the join.
+    fn join(&mut self, other: &Self) -> Result<(), TableError> {
+        let theirs = other.known | other.conflict;
+        for i in 0..32u32 {
+            if is_set(theirs, i) {
+                self.add(i, other.state(i))?;
+            }
+        }
+        Ok(())
+    }
+}
+
 #[cfg(test)]
 mod tests {
     use super::*;
@@ -244,6 +278,36 @@ mod tests {
         assert_eq!(rt; packet.conflict_mask(), 1 << 7 | 1 << 31);
         assert_eq!(rt; packet.conflicts(), 2);
         assert_eq!(rt; packet.known(), 0);
+        Ok(())
+    }
+
+    fn joined<J: Join + Drop>(mut first: J, second: &J) -> Result<J, TableError> {
+        first.join(second)?;
+        Ok(first)
+    }
+
+    #[test]
+    fn joins_packets(rt: HostRuntime) -> Result<(), Fail> {
+        let mut first = Packet::new(rt.alloc());
+        let mut second = Packet::new(rt.alloc());
+        first.add(0, Fact::Known(&[1; 2048]))?;
+        first.add(4, Fact::Known(&[2; 2048]))?;
+        first.add(9, Fact::Known(&[3; 2048]))?;
+        first.add(31, Fact::Conflict)?;
+        second.add(2, Fact::Known(&[4; 2048]))?;
+        second.add(4, Fact::Known(&[5; 2048]))?;
+        second.add(9, Fact::Known(&[3; 2048]))?;
+        second.add(30, Fact::Conflict)?;
+        second.add(31, Fact::Known(&[6; 2048]))?;
+        let both = joined(first, &second)?;
+        assert_eq!(rt; both.known_mask(), 1 | 1 << 2 | 1 << 9);
+        assert_eq!(rt; both.conflict_mask(), 1 << 4 | 1 << 30 | 1 << 31);
+        assert!(rt; matches!(both.state(0), Fact::Known(bytes) if *bytes == [1; 2048]));
+        assert!(rt; matches!(both.state(2), Fact::Known(bytes) if *bytes == [4; 2048]));
+        assert!(rt; matches!(both.state(9), Fact::Known(bytes) if *bytes == [3; 2048]));
+        let again = joined(both, &second)?;
+        assert_eq!(rt; again.known(), 3);
+        assert_eq!(rt; again.conflicts(), 3);
         Ok(())
     }
 }
