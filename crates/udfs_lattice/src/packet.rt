@@ -51,6 +51,19 @@ fn rank_of(mask: u32, i: u32) -> u32
     (mask & ((1 << i) - 1)).count_ones()
 }
 
+/// Makes room for one more block, for 4, 10, 19 and at last 32 of them: a packet known by half takes
+/// little more than its blocks, and each block is moved about once on the way.
+fn make_room(blocks: &mut Vec<[u8; 2048]>) -> Result<(), AllocError>
+    ensures { blocks.new.items ≡ blocks.old.items }
+{
+    let len = blocks.len();
+    if len == blocks.capacity() {
+        let more = 4 + len / 2;
+        blocks.reserve_exact(more.min(32usize.saturating_sub(len)))?;
+    }
+    Ok(())
+}
+
 impl Packet {
     /// The packet whose 32 blocks are all unknown. It takes no memory yet, and keeps the allocator.
     pub fn new(alloc: Global) -> Self
@@ -87,6 +100,7 @@ impl Packet {
         ensures err { OnErr result (self.new ≡ self.old) }
     {
         let at = rank_of(self.known, i) as usize;
+        make_room(&mut self.blocks)?;
         self.blocks.insert(at, *bytes)?;
         self.known |= 1 << i;
         Ok(())
