@@ -1,6 +1,7 @@
 //! The states of 32 blocks in two masks.
 ghost use Rattle.std.specs.Prelude.{◌≡◌, ◌≢◌, ◌<◌, ◌==◌, IsOk, OnOk, OnErr, true, false};
 ghost use Rattle.std.specs.Int.{bit_at};
+ghost use Rattle.std.specs.Vec.{vec_len, vec_capacity};
 ghost use Rattle.udfs_lattice.specs.States.{fact_now, is_known, is_conflict};
 ghost use Rattle.udfs_lattice.specs.Tables.{state_of, known_count, conflict_count, empty_table, one_entry, join_tables, IsAdded, IsTableBelow};
 ghost use Rattle.udfs_lattice.specs.TableLaws.{join_tables-comm, join_tables-assoc, join_tables-idem, IsTableBelow-join_tables, join_tables-least};
@@ -54,7 +55,8 @@ fn rank_of(mask: u32, i: u32) -> u32
 /// Makes room for one more block, for 4, 10, 19 and at last 32 of them: a packet known by half takes
 /// little more than its blocks, and each block is moved about once on the way.
 fn make_room(blocks: &mut Vec<[u8; 2048]>) -> Result<(), AllocError>
-    ensures { blocks.new.items ≡ blocks.old.items }
+    ensures items { blocks.new.items ≡ blocks.old.items }
+    ensures room { OnOk result (vec_len blocks.old < 32 → vec_len blocks.new < vec_capacity blocks.new) }
 {
     let len = blocks.len();
     if len == blocks.capacity() {
@@ -90,6 +92,13 @@ impl Packet {
             return Fact::Conflict;
         }
         Fact::Unknown
+    }
+
+    /// Makes room for so many more blocks at once.
+    fn reserve(&mut self, more: usize) -> Result<(), AllocError>
+        ensures { self.new ≡ self.old }
+    {
+        self.blocks.reserve_exact(more)
     }
 
     /// Stores the bytes of an unknown block.
@@ -230,6 +239,9 @@ impl Join for Packet {
     /// `OutOfMemory` alone. Then the packet lies between the old one and the join, and the same join
     /// again, once it succeeds, gives the join.
     fn join(&mut self, other: &Self) -> Result<(), TableError> {
+        let unknown = !(self.known | self.conflict);
+        let more = (other.known & unknown).count_ones();
+        self.reserve(more as usize)?;
         let theirs = other.known | other.conflict;
         for i in 0..32u32 {
             if is_set(theirs, i) {

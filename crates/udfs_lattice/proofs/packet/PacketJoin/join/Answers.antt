@@ -5,16 +5,19 @@ use Rattle.udfs_lattice.proofs.packet.PacketJoin.join.Goals as goal
 use Rattle.udfs_lattice.proofs.packet.PacketJoin.join.Goals.{then-is_set+in_ok-add, else-is_set}
 
 pub loop-i-init : goal.loop-i-init
-loop-i-init c = joined_none c.args.self.now c.args.other.now
+loop-i-init c = subst (λ t. IsJoinedBelow c.args.self.now c.args.other.now t 0) (sym c.reserve.ensures) (joined_none c.args.self.now c.args.other.now)
 
 pub returns-in_err-add-clause-above_old : goal.returns-in_err-add-clause-above_old
-returns-in_err-add-clause-above_old c = on_err c.from_residual.result (refused_above c.args.self.now c.args.other.now c.loop-i.self c.add.new.self c.loop-i.i c.loop-i.invariant c.in_err-add.ensures.err)
+returns-in_err-add-clause-above_old c = on_err c.from_residual-in_err-add.result (refused_above c.args.self.now c.args.other.now c.loop-i.self c.add.new.self c.loop-i.i c.loop-i.invariant c.in_err-add.ensures.err)
 
 pub returns-in_err-add-clause-below_join : goal.returns-in_err-add-clause-below_join
-returns-in_err-add-clause-below_join c = on_err c.from_residual.result (refused_below c.args.self.now c.args.other.now c.loop-i.self c.add.new.self c.loop-i.i c.loop-i.invariant c.in_err-add.ensures.err)
+returns-in_err-add-clause-below_join c = on_err c.from_residual-in_err-add.result (refused_below c.args.self.now c.args.other.now c.loop-i.self c.add.new.self c.loop-i.i c.loop-i.invariant c.in_err-add.ensures.err)
 
 pub returns-in_err-add-clause-again : goal.returns-in_err-add-clause-again
-returns-in_err-add-clause-again c = on_err c.from_residual.result (refused_again c.args.self.now c.args.other.now c.loop-i.self c.add.new.self c.loop-i.i c.loop-i.invariant c.in_err-add.ensures.err)
+returns-in_err-add-clause-again c = on_err c.from_residual-in_err-add.result (refused_again c.args.self.now c.args.other.now c.loop-i.self c.add.new.self c.loop-i.i c.loop-i.invariant c.in_err-add.ensures.err)
+
+pub returns-in_err-reserve-clause-below_join : goal.returns-in_err-reserve-clause-below_join
+returns-in_err-reserve-clause-below_join c = on_err c.from_residual.result (refused_below c.args.self.now c.args.other.now c.args.self.now c.reserve.new.self 0 (joined_none c.args.self.now c.args.other.now) c.reserve.ensures)
 
 pub loop-i-preserved : goal.loop-i-preserved
 loop-i-preserved c = elim c.if-is_set.branch [
