@@ -34,6 +34,7 @@ abbrev pub held_at : ℕ → ℕ → List (List ℕ) → ℕ → Option Held
 held_at known conflict blocks i =
     cond (bit_at known i == 1) (Some (Some (slice_index_or blocks (rank known i) []))) (cond (bit_at conflict i == 1) (Some None) None)
 
+-- t with what is found at n put in, if anything is
 unfoldable pub add_found : Table → ℕ → Option Held → Table
 add_found t n None = t
 add_found t n (Some h) = fin.insert t n h
