@@ -1,5 +1,10 @@
 pub mod Joining
 pub mod Listed
+pub mod PacketCounts
+pub mod PacketJoin
+pub mod PacketRanks
+pub mod PacketStates
+pub mod PacketWrites
 pub mod RecordLaws
 pub mod EntryLaws
 pub mod JoinLaws

@@ -1,10 +1,12 @@
 //! Laws of tables, each the contract of a function that does nothing.
-ghost use Rattle.std.specs.Prelude.{◌≡◌, ◌⊎◌, ◌↔◌, ℕ, List, map};
+ghost use Rattle.std.specs.Prelude.{◌≡◌, ◌⊎◌, ◌↔◌, ◌≤◌, ℕ, List, map};
 ghost use Rattle.udfs_lattice.specs.declared.facts.Fact.TheVariants.{Known, Conflict};
 ghost use Rattle.udfs_lattice.specs.Records.{Record, IsTableOf, SameRecords, table_of, table_of_entries, RisesFrom, join_all, IsLeastAbove, SameTables, all_records};
 ghost use Rattle.udfs_lattice.specs.States.{State};
 ghost use Rattle.udfs_lattice.specs.Volumes.{Volume, Agrees, Includes, complete, ascending};
-ghost use Rattle.udfs_lattice.specs.Tables.{Table, state_of, entries_of, IsTable, IsTableBelow, join_tables};
+ghost use Rattle.udfs_lattice.specs.Tables.{Table, state_of, entries_of, IsStateAt, IsTable, IsTableBelow, join_tables};
+
+use crate::table::LAST_BLOCK;
 
 /// Two tables that say the same of each block are one table.
 pub fn states_make_the_table()
@@ -57,4 +59,9 @@ pub fn complete_volume_agrees()
 /// The ascending list of some numbers has these numbers and no other.
 pub fn ascending_has_the_same_numbers()
     ensures { (ns : List ℕ) (n : ℕ) → Includes (ascending ns) n ↔ Includes ns n }
+{}
+
+/// The blocks of which a table can say anything are those up to [`LAST_BLOCK`].
+pub fn blocks_end_at_the_last()
+    ensures { (n : ℕ) → IsStateAt n Conflict ↔ (n ≤ LAST_BLOCK) }
 {}

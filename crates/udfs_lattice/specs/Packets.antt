@@ -1,0 +1,54 @@
+-- A packet: two masks and the stored blocks, as a table of the places 0 to 31.
+use Rattle.std.specs.Prelude.{◌≡◌, ℕ, zero, suc, ◌+◌, ◌<◌, ◌==◌, Bool, cond, List, [], length, All, Option, None, Some, slice_index_or}
+use Rattle.std.specs.Int.{bit_at}
+use Rattle.std.specs.FinMap as fin
+use Rattle.udfs_lattice.specs.declared.facts.Fact.TheVariants.{Unknown, Known, Conflict}
+use Rattle.udfs_lattice.specs.States.{State, IsBlock}
+use Rattle.udfs_lattice.specs.Tables.{Table, Held, state_of}
+
+-- what a state at place i of a packet may be
+abbrev pub IsPlace : ℕ → State → Type 0
+IsPlace i Unknown = Unit {0}
+IsPlace i (Known bytes) = (i < 32) × IsBlock bytes
+IsPlace i Conflict = i < 32
+
+-- the packets that there are: places 0 to 31 of 2048 bytes each
+abbrev pub IsPacketTable : Table → Type 0
+IsPacketTable t = (i : ℕ) → IsPlace i (state_of t i)
+
+-- u is t with this state at place i
+abbrev pub IsSetTo : Table → ℕ → State → Table → Type 0
+IsSetTo t i s u = (q : ℕ) → state_of u q ≡ cond (q == i) s (state_of t q)
+
+-- the bits of the mask are the places whose states pass the test
+abbrev pub IsMaskOf : (State → Bool) → Table → ℕ → Type 0
+IsMaskOf test t mask = (i : ℕ) → (bit_at mask i == 1) ≡ test (state_of t i)
+
+-- how many of the low i bits are set
+unfoldable pub rank : ℕ → ℕ → ℕ
+rank mask zero = 0
+rank mask (suc i) = rank mask i + bit_at mask i
+
+-- what the masks and the stored blocks hold at bit i: the known blocks lie in the order of their bits
+abbrev pub held_at : ℕ → ℕ → List (List ℕ) → ℕ → Option Held
+held_at known conflict blocks i =
+    cond (bit_at known i == 1) (Some (Some (slice_index_or blocks (rank known i) []))) (cond (bit_at conflict i == 1) (Some None) None)
+
+-- t with what is found at n put in, if anything is
+unfoldable pub add_found : Table → ℕ → Option Held → Table
+add_found t n None = t
+add_found t n (Some h) = fin.insert t n h
+
+-- the table that holds f n at each n below a number
+unfoldable pub table_below : (ℕ → Option Held) → ℕ → Table
+table_below f zero = fin.empty
+table_below f (suc n) = add_found (table_below f n) n (f n)
+
+unfoldable pub table_packet : ℕ → ℕ → List (List ℕ) → Table
+table_packet known conflict blocks = table_below (held_at known conflict blocks) 32
+
+-- no bit is in both masks, and as many blocks are stored as bits are known
+pub record IsPacket (known conflict : ℕ) (blocks : List (List ℕ)) : Type 0 where
+  pub apart : (i : ℕ) → i < 32 → bit_at known i ≡ 1 → bit_at conflict i ≡ 0
+  pub stored : length blocks ≡ rank known 32
+  pub whole : All IsBlock blocks

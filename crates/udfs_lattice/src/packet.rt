@@ -1,0 +1,339 @@
+//! The states of 32 blocks in two masks.
+ghost use Rattle.std.specs.Prelude.{◌≡◌, ◌≢◌, ◌<◌, ◌==◌, IsOk, OnOk, OnErr, true, false};
+ghost use Rattle.std.specs.Int.{bit_at};
+ghost use Rattle.std.specs.Vec.{vec_len, vec_capacity};
+ghost use Rattle.udfs_lattice.specs.States.{fact_now, is_known, is_conflict};
+ghost use Rattle.udfs_lattice.specs.Tables.{state_of, known_count, conflict_count, empty_table, one_entry, join_tables, IsAdded, IsTableBelow};
+ghost use Rattle.udfs_lattice.specs.TableLaws.{join_tables-comm, join_tables-assoc, join_tables-idem, IsTableBelow-join_tables, join_tables-least};
+ghost use Rattle.udfs_lattice.specs.Packets.{IsPacketTable, IsSetTo, IsMaskOf, rank};
+ghost use Rattle.udfs_lattice.specs.declared.facts.Fact.TheVariants.{Unknown};
+
+use crate::error::TableError;
+use crate::facts::{Fact, Join};
+use std::alloc::{AllocError, Global};
+use std::marker::Model;
+
+/// The states of 32 blocks, at places 0 to 31: a mask of the known blocks, a mask of those in conflict, and
+/// the bytes of the known blocks in the order of their places. No bit is in both masks, and as many
+/// blocks are stored as bits are known. A block has 2048 bytes.
+#[derive(Drop)]
+pub struct Packet {
+    known: u32,
+    conflict: u32,
+    blocks: Vec<[u8; 2048]>,
+}
+
+impl Model for Packet {
+    ghost use Rattle.udfs_lattice.specs.Tables.{Table, table_code};
+
+    ghost Value = { Table };
+
+    ghost coded = { table_code };
+
+    ghost use Rattle.udfs_lattice.specs.Packets.{table_packet, IsPacket};
+
+    ghost view = { λ p. table_packet p.known p.conflict p.blocks.items };
+
+    ghost invariant = { λ p. IsPacket p.known p.conflict p.blocks.items };
+}
+
+fn is_set(mask: u32, i: u32) -> bool
+    requires { i < 32 }
+    ensures { result ≡ (bit_at mask i == 1) }
+{
+    mask >> i & 1 == 1
+}
+
+/// How many of the bits below this one are set.
+fn rank_of(mask: u32, i: u32) -> u32
+    requires { i < 32 }
+    ensures { result ≡ rank mask i }
+{
+    (mask & ((1 << i) - 1)).count_ones()
+}
+
+/// Makes room for one more block, for 4, 10, 19 and at last 32 of them: a packet known by half takes
+/// little more than its blocks, and each block is moved about once on the way.
+fn make_room(blocks: &mut Vec<[u8; 2048]>) -> Result<(), AllocError>
+    ensures items { blocks.new.items ≡ blocks.old.items }
+    ensures room { OnOk result (vec_len blocks.old < 32 → vec_len blocks.new < vec_capacity blocks.new) }
+{
+    let len = blocks.len();
+    if len == blocks.capacity() {
+        let more = 4 + len / 2;
+        blocks.reserve_exact(more.min(32usize.saturating_sub(len)))?;
+    }
+    Ok(())
+}
+
+impl Packet {
+    /// The packet whose 32 blocks are all unknown. It takes no memory yet, and keeps the allocator.
+    pub fn new(alloc: Global) -> Self
+        ensures { result ≡ empty_table }
+    {
+        Packet {
+            known: 0,
+            conflict: 0,
+            blocks: Vec::new(alloc),
+        }
+    }
+
+    /// The state of the block at place `i`, which is below 32. It takes no memory.
+    pub fn state(&self, i: u32) -> Fact<&[u8; 2048]>
+        requires { i < 32 }
+        ensures state { fact_now result ≡ state_of self.now i }
+        ensures packet { IsPacketTable self.now }
+    {
+        if is_set(self.known, i) {
+            let at = rank_of(self.known, i) as usize;
+            return Fact::Known(&self.blocks[at]);
+        }
+        if is_set(self.conflict, i) {
+            return Fact::Conflict;
+        }
+        Fact::Unknown
+    }
+
+    /// Makes room for so many more blocks at once.
+    fn reserve(&mut self, more: usize) -> Result<(), AllocError>
+        ensures { self.new ≡ self.old }
+    {
+        self.blocks.reserve_exact(more)
+    }
+
+    /// Stores the bytes of an unknown block.
+    fn store(&mut self, i: u32, bytes: &[u8; 2048]) -> Result<(), AllocError>
+        requires place { i < 32 }
+        requires unknown { state_of self.old i ≡ Unknown }
+        ensures ok { OnOk result (IsSetTo self.old i (Fact.Known bytes.now) self.new) }
+        ensures err { OnErr result (self.new ≡ self.old) }
+    {
+        let at = rank_of(self.known, i) as usize;
+        make_room(&mut self.blocks)?;
+        self.blocks.insert(at, *bytes)?;
+        self.known |= 1 << i;
+        Ok(())
+    }
+
+    /// Gives up the bytes of a known block, which is unknown then.
+    fn give_up(&mut self, i: u32)
+        requires place { i < 32 }
+        requires known { is_known (state_of self.old i) ≡ true }
+        ensures { IsSetTo self.old i Unknown self.new }
+    {
+        let at = rank_of(self.known, i) as usize;
+        self.blocks.remove(at);
+        self.known &= !(1 << i);
+    }
+
+    /// Puts a block that is not known into conflict.
+    fn mark(&mut self, i: u32)
+        requires place { i < 32 }
+        requires not_known { is_known (state_of self.old i) ≡ false }
+        ensures { IsSetTo self.old i Fact.Conflict self.new }
+    {
+        self.conflict |= 1 << i;
+    }
+
+    /// Puts a block into conflict, whatever it is.
+    fn dispute(&mut self, i: u32)
+        requires { i < 32 }
+        ensures { IsSetTo self.old i Fact.Conflict self.new }
+    {
+        if is_set(self.known, i) {
+            self.give_up(i);
+        }
+        self.mark(i);
+    }
+
+    fn add_bytes(&mut self, i: u32, bytes: &[u8; 2048]) -> Result<(), AllocError>
+        requires { i < 32 }
+        ensures ok { OnOk result (IsAdded self.old i (Fact.Known bytes.now) self.new) }
+        ensures err { OnErr result (self.new ≡ self.old) }
+        ensures no_memory { state_of self.old i ≢ Unknown → IsOk result }
+    {
+        match self.state(i) {
+            Fact::Unknown => self.store(i, bytes),
+            Fact::Known(mine) => {
+                if *mine != *bytes {
+                    self.dispute(i);
+                }
+                Ok(())
+            }
+            Fact::Conflict => Ok(()),
+        }
+    }
+
+    /// Joins a state to that of the block at place `i`, which is below 32. A block that falls into conflict
+    /// gives up its bytes. With `Fact::Unknown` nothing changes.
+    ///
+    /// # Errors
+    ///
+    /// `AllocError` for want of memory, which only the bytes of an unknown block take. It leaves the packet
+    /// as it was.
+    pub fn add(&mut self, i: u32, fact: Fact<&[u8; 2048]>) -> Result<(), AllocError>
+        requires { i < 32 }
+        ensures ok { OnOk result (self.new ≡ join_tables self.old (one_entry i (fact_now fact.entry))) }
+        ensures err { OnErr result (self.new ≡ self.old) }
+        ensures no_memory { state_of self.old i ≢ Unknown → IsOk result }
+        ensures no_bytes { is_known (fact_now fact.entry) ≡ false → IsOk result }
+    {
+        match fact {
+            Fact::Unknown => Ok(()),
+            Fact::Known(bytes) => self.add_bytes(i, bytes),
+            Fact::Conflict => {
+                self.dispute(i);
+                Ok(())
+            }
+        }
+    }
+
+    /// The mask of the known blocks: bit `i` is set where the block at place `i` is known.
+    pub fn known_mask(&self) -> u32
+        ensures { IsMaskOf is_known self.now result }
+    {
+        self.known
+    }
+
+    /// The mask of the blocks in conflict: bit `i` is set where the block at place `i` is in conflict.
+    pub fn conflict_mask(&self) -> u32
+        ensures { IsMaskOf is_conflict self.now result }
+    {
+        self.conflict
+    }
+
+    /// How many blocks are known. It takes no memory.
+    pub fn known(&self) -> u32
+        ensures { result ≡ known_count self.now }
+    {
+        self.known.count_ones()
+    }
+
+    /// How many blocks are in conflict. It takes no memory.
+    pub fn conflicts(&self) -> u32
+        ensures { result ≡ conflict_count self.now }
+    {
+        self.conflict.count_ones()
+    }
+}
+
+impl Join for Packet {
+    ghost joined = { join_tables };
+
+    ghost is_below = { IsTableBelow };
+
+    ghost commutative = { join_tables-comm };
+
+    ghost associative = { join_tables-assoc };
+
+    ghost idempotent = { join_tables-idem };
+
+    ghost above = { IsTableBelow-join_tables };
+
+    ghost least = { join_tables-least };
+
+    /// Joins the state of each block of the other packet to that of the block at the same place.
+    ///
+    /// # Errors
+    ///
+    /// `OutOfMemory` alone. Then the packet lies between the old one and the join, and the same join
+    /// again, once it succeeds, gives the join.
+    fn join(&mut self, other: &Self) -> Result<(), TableError> {
+        let unknown = !(self.known | self.conflict);
+        let more = (other.known & unknown).count_ones();
+        self.reserve(more as usize)?;
+        let theirs = other.known | other.conflict;
+        for i in 0..32u32 {
+            if is_set(theirs, i) {
+                self.add(i, other.state(i))?;
+            }
+        }
+        Ok(())
+    }
+}
+
+#[cfg(test)]
+mod tests {
+    use super::*;
+    use std::test::Fail;
+
+    #[test]
+    fn adds_at_each_place(rt: HostRuntime) -> Result<(), Fail> {
+        let mut packet = Packet::new(rt.alloc());
+        assert_eq!(rt; packet.known_mask(), 0);
+        // 13 and 32 have no common divisor, so that each place comes once, in no order.
+        for step in 0..32u32 {
+            let i = step * 13 % 32;
+            assert!(rt; matches!(packet.state(i), Fact::Unknown));
+            packet.add(i, Fact::Known(&[i as u8; 2048]))?;
+        }
+        assert_eq!(rt; packet.known_mask(), u32::MAX);
+        assert_eq!(rt; packet.known(), 32);
+        assert_eq!(rt; packet.conflict_mask(), 0);
+        for i in 0..32u32 {
+            assert!(rt; matches!(packet.state(i), Fact::Known(bytes) if *bytes == [i as u8; 2048]));
+        }
+        for step in 0..32u32 {
+            let i = step * 5 % 32;
+            packet.add(i, Fact::Known(&[99; 2048]))?;
+            assert!(rt; matches!(packet.state(i), Fact::Conflict));
+            let next = (i + 5) % 32;
+            assert!(rt;
+                step == 31
+                    || matches!(packet.state(next), Fact::Known(bytes) if *bytes == [next as u8; 2048])
+            );
+        }
+        assert_eq!(rt; packet.known_mask(), 0);
+        assert_eq!(rt; packet.conflict_mask(), u32::MAX);
+        Ok(())
+    }
+
+    #[test]
+    fn adds_states(rt: HostRuntime) -> Result<(), Fail> {
+        let mut packet = Packet::new(rt.alloc());
+        packet.add(7, Fact::Unknown)?;
+        assert_eq!(rt; packet.known_mask() | packet.conflict_mask(), 0);
+        packet.add(7, Fact::Known(&[1; 2048]))?;
+        packet.add(7, Fact::Known(&[1; 2048]))?;
+        assert_eq!(rt; packet.known_mask(), 1 << 7);
+        packet.add(31, Fact::Conflict)?;
+        packet.add(31, Fact::Known(&[1; 2048]))?;
+        packet.add(7, Fact::Conflict)?;
+        packet.add(7, Fact::Unknown)?;
+        assert_eq!(rt; packet.known_mask(), 0);
+        assert_eq!(rt; packet.conflict_mask(), 1 << 7 | 1 << 31);
+        assert_eq!(rt; packet.conflicts(), 2);
+        assert_eq!(rt; packet.known(), 0);
+        Ok(())
+    }
+
+    fn joined<J: Join + Drop>(mut first: J, second: &J) -> Result<J, TableError> {
+        first.join(second)?;
+        Ok(first)
+    }
+
+    #[test]
+    fn joins_packets(rt: HostRuntime) -> Result<(), Fail> {
+        let mut first = Packet::new(rt.alloc());
+        let mut second = Packet::new(rt.alloc());
+        first.add(0, Fact::Known(&[1; 2048]))?;
+        first.add(4, Fact::Known(&[2; 2048]))?;
+        first.add(9, Fact::Known(&[3; 2048]))?;
+        first.add(31, Fact::Conflict)?;
+        second.add(2, Fact::Known(&[4; 2048]))?;
+        second.add(4, Fact::Known(&[5; 2048]))?;
+        second.add(9, Fact::Known(&[3; 2048]))?;
+        second.add(30, Fact::Conflict)?;
+        second.add(31, Fact::Known(&[6; 2048]))?;
+        let both = joined(first, &second)?;
+        assert_eq!(rt; both.known_mask(), 1 | 1 << 2 | 1 << 9);
+        assert_eq!(rt; both.conflict_mask(), 1 << 4 | 1 << 30 | 1 << 31);
+        assert!(rt; matches!(both.state(0), Fact::Known(bytes) if *bytes == [1; 2048]));
+        assert!(rt; matches!(both.state(2), Fact::Known(bytes) if *bytes == [4; 2048]));
+        assert!(rt; matches!(both.state(9), Fact::Known(bytes) if *bytes == [3; 2048]));
+        let again = joined(both, &second)?;
+        assert_eq!(rt; again.known(), 3);
+        assert_eq!(rt; again.conflicts(), 3);
+        Ok(())
+    }
+}
