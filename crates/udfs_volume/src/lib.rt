@@ -4,6 +4,8 @@
 pub mod anchors;
 pub mod faults;
 pub mod laws;
+pub mod seen;
 
 pub use anchors::AnchorExtents;
 pub use faults::VolumeFault;
+pub use seen::Seen;
