@@ -2,10 +2,13 @@
 #![tactic(auto)]
 
 pub mod anchors;
+pub mod descriptors;
 pub mod faults;
 pub mod laws;
 pub mod seen;
+pub mod sequences;
 
 pub use anchors::AnchorExtents;
+pub use descriptors::{Descriptor, Sequence};
 pub use faults::VolumeFault;
 pub use seen::Seen;
