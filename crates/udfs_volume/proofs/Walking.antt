@@ -20,7 +20,7 @@ after ds (found es) = found (ds ++ es)
 after ds (holes ns) = holes ns
 after ds (faulty f) = faulty f
 
-unroll : (f : ℕ → Position) (i n : ℕ) → i < n → map f (range_with_len i (n - i)) ≡ f i ∷ map f (range_with_len (i + 1) (n - (i + 1)))
+pub unroll : {A : Type 0} (f : ℕ → A) (i n : ℕ) → i < n → map f (range_with_len i (n - i)) ≡ f i ∷ map f (range_with_len (i + 1) (n - (i + 1)))
 unroll f i n h = let e : n - i ≡ suc (n - (i + 1)) = omega (arith, h) in ap (λ k. map f (range_with_len i k)) e
 
 from_here : (f : ℕ → Position) (i n : ℕ) (ds : List Descriptor) (x : Answer (List Descriptor)) → i < n → after ds (read_positions (map f (range_with_len i (n - i)))) ≡ x

@@ -74,11 +74,16 @@ abbrev pub table_places : Bytes → List ℕ
 table_places bytes = map (λ i. uint32_at bytes (48 + 4 * i)) (range_with_len 0 (uint8_at bytes 42))
 
 -- the rules of a sparable map's numbers (this project's own rule)
-abbrev pub are_tables : ℕ → Bytes → Bool
-are_tables last bytes = is_within 1 4 (uint8_at bytes 42)
+abbrev pub has_numbers : Bytes → Bool
+has_numbers bytes = is_within 1 4 (uint8_at bytes 42)
     && (nat_eq (uint16_at bytes 40) 16 || nat_eq (uint16_at bytes 40) 32)
     && is_within 56 65536 (uint32_at bytes 44)
-    && list_all (λ place. nat_le (place + blocks_in (uint32_at bytes 44)) (last + 1)) (table_places bytes)
+
+abbrev pub are_within : ℕ → ℕ → List ℕ → Bool
+are_within last size places = list_all (λ place. nat_le (place + blocks_in size) (last + 1)) places
+
+abbrev pub are_tables : ℕ → Bytes → Bool
+are_tables last bytes = has_numbers bytes && are_within last (uint32_at bytes 44) (table_places bytes)
 
 -- A map and the number of its partition.
 abbrev pub NumberedMap : Type 0
@@ -127,13 +132,15 @@ map_count lv = uint32_at lv.content (bp 268)
 abbrev pub the_maps : ℕ → Descriptor → Option (List NumberedMap)
 the_maps last lv = unless_repeated (read_maps last (map_count lv) (uint32_at lv.content (bp 264)) (drop (bp 440) lv.content))
 
+abbrev pub has_domain : Descriptor → Bool
+has_domain lv = bytes_eq (regid_at lv.content (bp 216)).name (filled 23 (codes "*OSTA UDF Compliant"))
+
+abbrev pub has_revision : Descriptor → Bool
+has_revision lv = nat_eq (uint16_at lv.content (bp 240)) 0x0150 || nat_eq (uint16_at lv.content (bp 240)) 0x0201
+
 abbrev pub volume_fault : ℕ → Descriptor → Option VolumeFault
-volume_fault last lv = let revision = uint16_at lv.content (bp 240) in
-    first_fault ((
-      not (bytes_eq ((regid_at lv.content (bp 216)).name) (filled 23 (codes "*OSTA UDF Compliant")))
-          || not (nat_eq revision 0x0150 || nat_eq revision 0x0201),
-      Domain,
-    )
+volume_fault last lv = first_fault (
+    (not (has_domain lv) || not (has_revision lv), Domain)
     ∷ (not (nat_eq (uint32_at lv.content (bp 212)) 2048), BlockSize)
     ∷ (not (nat_eq (map_count lv) 1 || nat_eq (map_count lv) 2), MapCount)
     ∷ (is_none (the_maps last lv), MapKind)

@@ -1,12 +1,14 @@
 //! The descriptors of a volume descriptor sequence.
 
 ghost use Rattle.std.specs.Prelude.{◌≡◌, ◌≤◌, ◌+◌, length, drop, map, option_map};
-ghost use Rattle.udfs_tag.specs.Fields.{uint16_at, uint32_at};
+ghost use Rattle.std.specs.Str.{bytes_eq};
+ghost use Rattle.udfs_tag.specs.Fields.{regid_of, uint16_at, uint32_at};
 ghost use Rattle.udfs_volume.specs.Layout.{bp, logical_volume, number, partition, partition_number};
 ghost use Rattle.udfs_volume.specs.Prevailing.{best_of, later_of};
 ghost use Rattle.udfs_volume.specs.Sequences.{descriptor_now, sequence_now};
 
 use byteorder::{ByteOrder, LittleEndian};
+use udfs_tag::RegId;
 
 /// A descriptor of a sequence, sound at the place of the copy that was read.
 #[derive(Clone, Copy, Debug)]
@@ -113,4 +115,22 @@ impl<'a> Sequence<'a> {
         }
         best
     }
+}
+
+/// Whether the entity identifier at the front of the bytes has this name (ECMA-167 1/7.4).
+pub(crate) fn is_named(bytes: &[u8], name: &[u8; 23]) -> bool
+    requires { 32 ≤ length bytes.now }
+    ensures { result ≡ bytes_eq (regid_of bytes.now).name name.now }
+{
+    RegId::read(bytes).name == *name
+}
+
+/// The bytes from a position on.
+pub(crate) fn behind(bytes: &[u8], position: usize) -> &[u8]
+    requires { position ≤ length bytes.now }
+    ensures value { result.now ≡ drop position bytes.now }
+    ensures size { length result.now + position ≡ length bytes.now }
+{
+    let (_, rest) = bytes.split_at(position);
+    rest
 }

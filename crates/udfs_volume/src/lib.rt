@@ -5,10 +5,14 @@ pub mod anchors;
 pub mod descriptors;
 pub mod faults;
 pub mod laws;
+pub mod layouts;
+pub mod maps;
 pub mod seen;
 pub mod sequences;
 
 pub use anchors::AnchorExtents;
 pub use descriptors::{Descriptor, Sequence};
 pub use faults::VolumeFault;
+pub use layouts::{Partition, VolumeParts};
+pub use maps::{PartitionMap, SparableMap};
 pub use seen::Seen;
