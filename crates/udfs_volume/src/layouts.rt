@@ -59,7 +59,10 @@ struct Described<'a> {
 fn has_domain(volume: &Descriptor<'_>) -> bool
     ensures { result ≡ has_domain (descriptor_now volume.now) }
 {
-    is_named(behind(volume.content(), 200), b"*OSTA UDF Compliant\0\0\0\0")
+    is_named(
+        behind(volume.content(), 200),
+        b"*OSTA UDF Compliant\0\0\0\0",
+    )
 }
 
 /// Whether the domain's revision is 1.50 or 2.01 (UDF 2.2.4.3).

@@ -90,9 +90,7 @@ fn has_numbers(bytes: &[u8]) -> bool
 {
     let packet = LittleEndian::read_u16(behind(bytes, 40));
     let size = LittleEndian::read_u32(behind(bytes, 44));
-    (1..=4).contains(&bytes[42])
-        && is_packet(packet)
-        && (56..=65_536).contains(&size)
+    (1..=4).contains(&bytes[42]) && is_packet(packet) && (56..=65_536).contains(&size)
 }
 
 /// Where the tables of a sparable map stand.
@@ -211,7 +209,13 @@ pub(crate) fn read_maps(
         return Ok(Some(vec![in alloc; first]?));
     }
     let size = size_of(&first.kind);
-    let Some(second) = read_map(alloc, last, left.saturating_sub(size), behind(table, size as usize))? else {
+    let Some(second) = read_map(
+        alloc,
+        last,
+        left.saturating_sub(size),
+        behind(table, size as usize),
+    )?
+    else {
         return Ok(None);
     };
     if is_kind_of(&first.kind, &second.kind) {
