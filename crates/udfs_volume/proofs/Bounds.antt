@@ -1,0 +1,256 @@
+-- A layout that is found lies within the volume.
+use Rattle.std.proofs.Common.{◌≡◌, refl, sym, ◌∙◌, ap, subst, inl, inr, ◌⊎◌, ℕ, ◌+◌, ◌-◌, ◌*◌, ◌<◌, ◌≤◌, Bool, true, false, not, List, [], ◌∷◌, length, map, drop, cond, ◌&&◌, ◌||◌, arith, Option, Some, None, nat_eq, nat_le, nat_lt}
+use Rattle.std.specs.Prelude.{zero, suc, is_none, option_map, codes}
+use Rattle.std.specs.List.{list_all}
+use Rattle.std.specs.Str.{bytes_eq}
+use Rattle.std.proofs.lemmas.Bool.{leb-true, eqb-true}
+use Rattle.std.proofs.lemmas.List.{length-map}
+use Rattle.std.proofs.lemmas.List.FromFn.{length-map-range_with_len}
+use Rattle.udfs_volume.specs.Sequence.{Bytes, Descriptor, sequence}
+use Rattle.udfs_lattice.specs.Volumes.{Blocks, Includes}
+use Rattle.udfs_tag.specs.Fields.{uint8_at, uint16_at, uint32_at, long_ad_at, part, regid_at, filled}
+use Rattle.udfs_tag.specs.Faults.{is_within}
+use Rattle.udfs_osta.specs.Labels.{label_of}
+use Rattle.udfs_volume.specs.Answers.{Answer, found, holes, faulty, and_then, unless_fault}
+use Rattle.udfs_volume.specs.declared.faults.VolumeFault.{VolumeFault}
+use Rattle.udfs_volume.specs.declared.faults.VolumeFault.TheVariants.{Domain, BlockSize, MapCount, MapKind, Contents, PartitionRange}
+use Rattle.udfs_volume.specs.Layout.{Layout, Partition, PartitionMap, type1, sparable, NumberedMap, Described, bp, blocks_in, is_type1, is_sparable, are_tables, table_places, read_map, map_size, before_maps, read_maps, repeats_kind, unless_repeated, map_count, the_maps, volume_fault, partition, before_described, described, has_contents, partition_of, is_in_range, partitions_fault, laid_out, with_maps, with_volume, logical_volume, layout_of, layout}
+use Rattle.udfs_volume.specs.Laws.{AreBounded, IsBoundedMap, IsBoundedPartition, IsBounded, LayoutBounds}
+use Rattle.udfs_volume.proofs.Known.{both}
+
+-- What an answer that is found was made of.
+pub and_then-found : {A B : Type 0} (x : Answer A) (f : A → Answer B) (y : B) → and_then x f ≡ found y → (a : A) × (x ≡ found a) × (f a ≡ found y)
+and_then-found (found a) f y e = (a, refl, e)
+and_then-found (holes ns) f y e = absurd (let z : ⊥ = cc in z)
+and_then-found (faulty g) f y e = absurd (let z : ⊥ = cc in z)
+
+pub found_same : {A : Type 0} (x y : A) → found x ≡ found y → x ≡ y
+found_same x y e = cc
+
+pub unless_fault-found : {A : Type 0} (o : Option VolumeFault) (x y : A) → unless_fault o x ≡ found y → (o ≡ None) × (x ≡ y)
+unless_fault-found None x y e = (refl, found_same x y e)
+unless_fault-found (Some f) x y e = absurd (let z : ⊥ = cc in z)
+
+some_same : {A : Type 0} (x y : A) → Some x ≡ Some y → x ≡ y
+some_same x y e = cc
+
+-- each member of a list passes
+pub each_passes : {A : Type 0} (test : A → Bool) (xs : List A) → list_all test xs ≡ true → (x : A) → Includes xs x → test x ≡ true
+each_passes test [] h x i = absurd i
+each_passes test (y ∷ ys) h x (inl p) = sym (ap test p) ∙ (both (test y) (list_all test ys) h).0
+each_passes test (y ∷ ys) h x (inr i) = each_passes test ys (both (test y) (list_all test ys) h).1 x i
+
+pub Includes-map : {A B : Type 0} (f : A → B) (xs : List A) (x : A) → Includes xs x → Includes (map f xs) (f x)
+Includes-map f [] x i = i
+Includes-map f (y ∷ ys) x (inl p) = inl (ap f p)
+Includes-map f (y ∷ ys) x (inr i) = inr (Includes-map f ys x i)
+
+either_if : (a b : Bool) → (a || b) ≡ true → (a ≡ true) ⊎ (b ≡ true)
+either_if true b h = inl refl
+either_if false b h = inr h
+
+within_if : (low high n : ℕ) → is_within low high n ≡ true → (low ≤ n) × (n ≤ high)
+within_if low high n h = go (nat_le low n) refl h
+  where
+    go : (b : Bool) → nat_le low n ≡ b → cond b (nat_le n high) false ≡ true → (low ≤ n) × (n ≤ high)
+    go true e h = (leb-true low n e, leb-true n high h)
+    go false e h = absurd (let z : ⊥ = cc in z)
+
+-- the numbers of a sparable map
+tables_bounded : (last : ℕ) (bytes : Bytes) → are_tables last bytes ≡ true → AreBounded last (uint16_at bytes 40) (uint32_at bytes 44) (table_places bytes)
+tables_bounded last bytes h = record {
+  packet_is = packet (either_if (nat_eq (uint16_at bytes 40) 16) (nat_eq (uint16_at bytes 40) 32) q.0.0.1);
+  from = size.0;
+  to = size.1;
+  one = subst (λ n. 1 ≤ n) (sym len) count.0;
+  four = subst (λ n. n ≤ 4) (sym len) count.1;
+  ends = λ place i. leb-true (place + blocks_in (uint32_at bytes 44)) (last + 1) (each_passes (λ place. nat_le (place + blocks_in (uint32_at bytes 44)) (last + 1)) (table_places bytes) q.1 place i);
+}
+  where
+    a : Bool
+    a = is_within 1 4 (uint8_at bytes 42)
+
+    b : Bool
+    b = nat_eq (uint16_at bytes 40) 16 || nat_eq (uint16_at bytes 40) 32
+
+    c : Bool
+    c = is_within 56 65536 (uint32_at bytes 44)
+
+    d : Bool
+    d = list_all (λ place. nat_le (place + blocks_in (uint32_at bytes 44)) (last + 1)) (table_places bytes)
+
+    q : (((a ≡ true) × (b ≡ true)) × (c ≡ true)) × (d ≡ true)
+    q = let z : ((a && b && c) ≡ true) × (d ≡ true) = both (a && b && c) d h in let y : ((a && b) ≡ true) × (c ≡ true) = both (a && b) c z.0 in ((both a b y.0, y.1), z.1)
+
+    size : (56 ≤ uint32_at bytes 44) × (uint32_at bytes 44 ≤ 65536)
+    size = within_if 56 65536 (uint32_at bytes 44) q.0.1
+
+    count : (1 ≤ uint8_at bytes 42) × (uint8_at bytes 42 ≤ 4)
+    count = within_if 1 4 (uint8_at bytes 42) q.0.0.0
+
+    len : length (table_places bytes) ≡ uint8_at bytes 42
+    len = length-map-range_with_len (λ i. uint32_at bytes (48 + 4 * i)) 0 (uint8_at bytes 42)
+
+    packet : (nat_eq (uint16_at bytes 40) 16 ≡ true) ⊎ (nat_eq (uint16_at bytes 40) 32 ≡ true) → (uint16_at bytes 40 ≡ 16) ⊎ (uint16_at bytes 40 ≡ 32)
+    packet (inl e) = inl (eqb-true (uint16_at bytes 40) 16 e)
+    packet (inr e) = inr (eqb-true (uint16_at bytes 40) 32 e)
+
+map_bounded : (last length : ℕ) (bytes : Bytes) (m : NumberedMap) → read_map last length bytes ≡ Some m → IsBoundedMap last m.0
+map_bounded last length bytes m e = go (is_type1 bytes && nat_le 6 length) e
+  where
+    S : NumberedMap
+    S = (sparable (uint16_at bytes 40) (uint32_at bytes 44) (table_places bytes), uint16_at bytes 38)
+
+    inner : (b : Bool) → (is_sparable bytes && nat_le 64 length && are_tables last bytes) ≡ b → cond b (Some S) None ≡ Some m → IsBoundedMap last m.0
+    inner true q p = subst (λ x. IsBoundedMap last x.0) (some_same S m p) (tables_bounded last bytes (both (is_sparable bytes && nat_le 64 length) (are_tables last bytes) q).1)
+    inner false q p = absurd (let z : ⊥ = cc in z)
+
+    go : (b : Bool) → cond b (Some (type1, uint16_at bytes 4)) (cond (is_sparable bytes && nat_le 64 length && are_tables last bytes) (Some S) None) ≡ Some m → IsBoundedMap last m.0
+    go true p = subst (λ x. IsBoundedMap last x.0) (some_same (type1, uint16_at bytes 4) m p) tt
+    go false p = inner (is_sparable bytes && nat_le 64 length && are_tables last bytes) refl p
+
+-- so many maps, each within its bounds
+record AreMaps (last n : ℕ) (ms : List NumberedMap) : Type 0 where
+  pub count : length ms ≡ n
+  pub each : (k : PartitionMap) → Includes (map (λ m. m.0) ms) k → IsBoundedMap last k
+
+maps_bounded : (last n size : ℕ) (bytes : Bytes) (ms : List NumberedMap) → read_maps last n size bytes ≡ Some ms → AreMaps last n ms
+maps_bounded last zero size bytes ms e = subst (λ x. AreMaps last 0 x) (some_same [] ms e) (record { count = refl; each = λ k i. absurd i })
+maps_bounded last (suc n) size bytes ms e = go (λ m later. maps_bounded last n (size - map_size m.0) (drop (map_size m.0) bytes) later) (read_map last size bytes) refl e
+  where
+    rest : (m : NumberedMap) → Option (List NumberedMap)
+    rest m = read_maps last n (size - map_size m.0) (drop (map_size m.0) bytes)
+
+    Later : NumberedMap → Type 0
+    Later m = (later : List NumberedMap) → rest m ≡ Some later → AreMaps last n later
+
+    on : (m : NumberedMap) → Later m → read_map last size bytes ≡ Some m → (o : Option (List NumberedMap)) → rest m ≡ o → option_map (λ ms. m ∷ ms) o ≡ Some ms → AreMaps last (suc n) ms
+    on m h q None r p = absurd (let z : ⊥ = cc in z)
+    on m h q (Some later) r p = let a : AreMaps last n later = h later r in
+        subst (λ x. AreMaps last (suc n) x) (some_same (m ∷ later) ms p) (record { count = ap suc a.count; each = each a })
+      where
+        each : AreMaps last n later → (k : PartitionMap) → Includes (map (λ m. m.0) (m ∷ later)) k → IsBoundedMap last k
+        each a k (inl i) = subst (IsBoundedMap last) i (map_bounded last size bytes m q)
+        each a k (inr i) = a.each k i
+
+    go : ((m : NumberedMap) → Later m) → (o : Option NumberedMap) → read_map last size bytes ≡ o → before_maps o (λ s. read_maps last n (size - s) (drop s bytes)) ≡ Some ms → AreMaps last (suc n) ms
+    go h None q p = absurd (let z : ⊥ = cc in z)
+    go h (Some m) q p = on m (h m) q (rest m) refl p
+
+unrepeated : (o : Option (List NumberedMap)) (ms : List NumberedMap) → unless_repeated o ≡ Some ms → (o ≡ Some ms) × (repeats_kind (map (λ m. m.0) ms) ≡ false)
+unrepeated None ms e = absurd (let z : ⊥ = cc in z)
+unrepeated (Some x) ms e = go (repeats_kind (map (λ m. m.0) x)) refl e
+  where
+    go : (b : Bool) → repeats_kind (map (λ m. m.0) x) ≡ b → cond b None (Some x) ≡ Some ms → (Some x ≡ Some ms) × (repeats_kind (map (λ m. m.0) ms) ≡ false)
+    go true q p = absurd (let z : ⊥ = cc in z)
+    go false q p = (p, subst (λ y. repeats_kind (map (λ m. m.0) y) ≡ false) (some_same x ms p) q)
+
+-- the partitions have the kinds of their maps
+described_kinds : (ds : List Descriptor) (ms : List NumberedMap) (ps : List Described) → described ds ms ≡ Some ps → map (λ p. p.kind) (map partition_of ps) ≡ map (λ m. m.0) ms
+described_kinds ds [] ps e = sym (ap (λ x. map (λ p. p.kind) (map partition_of x)) (some_same [] ps e))
+described_kinds ds (m ∷ ms) ps e = go (described_kinds ds ms) (partition m.1 ds) (described ds ms) refl e
+  where
+    go : ((qs : List Described) → described ds ms ≡ Some qs → map (λ p. p.kind) (map partition_of qs) ≡ map (λ m. m.0) ms)
+        → (o : Option Descriptor) (later : Option (List Described)) → described ds ms ≡ later → before_described m.0 o later ≡ Some ps → map (λ p. p.kind) (map partition_of ps) ≡ map (λ m. m.0) (m ∷ ms)
+    go h None later q p = absurd (let z : ⊥ = cc in z)
+    go h (Some d) None q p = absurd (let z : ⊥ = cc in z)
+    go h (Some d) (Some later) q p = sym (ap (λ x. map (λ p. p.kind) (map partition_of x)) (some_same ((m.0, d) ∷ later) ps p)) ∙ ap (λ x. m.0 ∷ x) (h later q)
+
+not-false : (b : Bool) → not b ≡ false → b ≡ true
+not-false true h = refl
+not-false false h = absurd (let z : ⊥ = cc in z)
+
+last_fault : (f g : VolumeFault) (a b : Bool) → cond a (Some f) (cond b (Some g) None) ≡ None → b ≡ false
+last_fault f g true b e = absurd (let z : ⊥ = cc in z)
+last_fault f g false true e = absurd (let z : ⊥ = cc in z)
+last_fault f g false false e = refl
+
+third_fault : (f g h i : VolumeFault) (a b c d : Bool) → cond a (Some f) (cond b (Some g) (cond c (Some h) (cond d (Some i) None))) ≡ None → c ≡ false
+third_fault f g h i true b c d e = absurd (let z : ⊥ = cc in z)
+third_fault f g h i false true c d e = absurd (let z : ⊥ = cc in z)
+third_fault f g h i false false true d e = absurd (let z : ⊥ = cc in z)
+third_fault f g h i false false false d e = refl
+
+count_is : (last : ℕ) (lv : Descriptor) → volume_fault last lv ≡ None → (map_count lv ≡ 1) ⊎ (map_count lv ≡ 2)
+count_is last lv e = go (either_if (nat_eq (map_count lv) 1) (nat_eq (map_count lv) 2) (not-false (nat_eq (map_count lv) 1 || nat_eq (map_count lv) 2)
+    (third_fault Domain BlockSize MapCount MapKind
+    (not (bytes_eq ((regid_at lv.content (bp 216)).name) (filled 23 (codes "*OSTA UDF Compliant"))) || not (nat_eq (uint16_at lv.content (bp 240)) 0x0150 || nat_eq (uint16_at lv.content (bp 240)) 0x0201))
+    (not (nat_eq (uint32_at lv.content (bp 212)) 2048)) (not (nat_eq (map_count lv) 1 || nat_eq (map_count lv) 2)) (is_none (the_maps last lv)) e)))
+  where
+    go : (nat_eq (map_count lv) 1 ≡ true) ⊎ (nat_eq (map_count lv) 2 ≡ true) → (map_count lv ≡ 1) ⊎ (map_count lv ≡ 2)
+    go (inl h) = inl (eqb-true (map_count lv) 1 h)
+    go (inr h) = inr (eqb-true (map_count lv) 2 h)
+
+one_or_two : (n : ℕ) → (n ≡ 1) ⊎ (n ≡ 2) → (1 ≤ n) × (n ≤ 2)
+one_or_two n (inl e) = (omega (arith, e), omega (arith, e))
+one_or_two n (inr e) = (omega (arith, e), omega (arith, e))
+
+in_range : (last : ℕ) (p : Partition) → is_in_range last p ≡ true → (0 < p.size) × (p.start + p.size ≤ last + 1)
+in_range last p h = let q : (nat_lt 0 p.size ≡ true) × (nat_le (p.start + p.size) (last + 1) ≡ true) = both (nat_lt 0 p.size) (nat_le (p.start + p.size) (last + 1)) h in
+    (leb-true 1 p.size q.0, leb-true (p.start + p.size) (last + 1) q.1)
+
+ranges : (last : ℕ) (ps : List Described) → list_all (λ p. is_in_range last (partition_of p)) ps ≡ true → (p : Partition) → Includes (map partition_of ps) p → is_in_range last p ≡ true
+ranges last [] h p i = absurd i
+ranges last (d ∷ ds) h p (inl e) = sym (ap (is_in_range last) e) ∙ (both (is_in_range last (partition_of d)) (list_all (λ p. is_in_range last (partition_of p)) ds) h).0
+ranges last (d ∷ ds) h p (inr i) = ranges last ds (both (is_in_range last (partition_of d)) (list_all (λ p. is_in_range last (partition_of p)) ds) h).1 p i
+
+laid_bounded : (last n : ℕ) (ds : List Descriptor) (lv : Descriptor) (ms : List NumberedMap) (l : Layout) → AreMaps last n ms → (n ≡ 1) ⊎ (n ≡ 2)
+    → repeats_kind (map (λ m. m.0) ms) ≡ false → (o : Option (List Described)) → described ds ms ≡ o → laid_out last lv o ≡ found l → IsBounded last l
+laid_bounded last n ds lv ms l a c r None d e = absurd (let z : ⊥ = cc in z)
+laid_bounded last n ds lv ms l a c r (Some ps) d e = subst (IsBounded last) q.1 (record {
+  is_last = refl;
+  one = subst (λ x. 1 ≤ x) (sym len) (one_or_two n c).0;
+  two = subst (λ x. x ≤ 2) (sym len) (one_or_two n c).1;
+  of_each = of_each;
+  kinds = ap repeats_kind (described_kinds ds ms ps d) ∙ r;
+})
+  where
+    it : Layout
+    it = record {
+      last = last;
+      revision = uint16_at lv.content (bp 240);
+      label = label_of (part lv.content (bp 84) 128);
+      partitions = map partition_of ps;
+      file_set = long_ad_at lv.content (bp 248);
+    }
+
+    q : (partitions_fault last ps ≡ None) × (it ≡ l)
+    q = unless_fault-found (partitions_fault last ps) it l e
+
+    range : list_all (λ p. is_in_range last (partition_of p)) ps ≡ true
+    range = not-false (list_all (λ p. is_in_range last (partition_of p)) ps)
+        (last_fault Contents PartitionRange (not (list_all has_contents ps)) (not (list_all (λ p. is_in_range last (partition_of p)) ps)) q.0)
+
+    len : length (map partition_of ps) ≡ n
+    len = sym (length-map (map partition_of ps) (λ p. p.kind)) ∙ ap length (described_kinds ds ms ps d) ∙ length-map ms (λ m. m.0) ∙ a.count
+
+    of_each : (p : Partition) → Includes (map partition_of ps) p → IsBoundedPartition last p
+    of_each p i = let h : (0 < p.size) × (p.start + p.size ≤ last + 1) = in_range last p (ranges last ps range p i) in
+        record {
+          not_empty = h.0;
+          ends = h.1;
+          bounded_map = a.each p.kind (subst (λ ks. Includes ks p.kind) (described_kinds ds ms ps d) (Includes-map (λ p. p.kind) (map partition_of ps) p i));
+        }
+
+maps_laid : (last : ℕ) (ds : List Descriptor) (lv : Descriptor) (l : Layout) → (map_count lv ≡ 1) ⊎ (map_count lv ≡ 2)
+    → (o : Option (List NumberedMap)) → the_maps last lv ≡ o → with_maps last ds lv o ≡ found l → IsBounded last l
+maps_laid last ds lv l c None m e = absurd (let z : ⊥ = cc in z)
+maps_laid last ds lv l c (Some ms) m e = let table : Bytes = drop (bp 440) lv.content in let size : ℕ = uint32_at lv.content (bp 264) in
+    let u : (read_maps last (map_count lv) size table ≡ Some ms) × (repeats_kind (map (λ m. m.0) ms) ≡ false) = unrepeated (read_maps last (map_count lv) size table) ms m in
+    laid_bounded last (map_count lv) ds lv ms l (maps_bounded last (map_count lv) size table ms u.0) c u.1 (described ds ms) refl e
+
+by_volume : (last : ℕ) (ds : List Descriptor) (o : Option Descriptor) (l : Layout) → with_volume last ds o ≡ found l → IsBounded last l
+by_volume last ds None l e = absurd (let z : ⊥ = cc in z)
+by_volume last ds (Some lv) l e = let q : (v : Descriptor) × (unless_fault (volume_fault last lv) lv ≡ found v) × (with_maps last ds v (the_maps last v) ≡ found l) =
+    and_then-found (unless_fault (volume_fault last lv) lv) (λ v. with_maps last ds v (the_maps last v)) l e in
+    let f : (volume_fault last lv ≡ None) × (lv ≡ q.0) = unless_fault-found (volume_fault last lv) lv q.0 q.1 in
+    maps_laid last ds q.0 l (subst (λ v. (map_count v ≡ 1) ⊎ (map_count v ≡ 2)) f.1 (count_is last lv f.0)) (the_maps last q.0) refl q.2
+
+pub layout_bounds : LayoutBounds
+unfolding layout_of
+layout_bounds last ds l e = by_volume last ds (logical_volume ds) l e
+
+pub layout_is_bounded : (T : Blocks) (last : ℕ) (l : Layout) → layout T last ≡ found l → IsBounded last l
+unfolding layout
+layout_is_bounded T last l e = let q : (ds : List Descriptor) × (sequence T last ≡ found ds) × (layout_of last ds ≡ found l) = and_then-found (sequence T last) (layout_of last) l e in
+    layout_bounds last q.0 l q.2

@@ -1,0 +1,85 @@
+-- The layout, one rule after the other.
+use Rattle.std.proofs.Common.{◌≡◌, refl, sym, ◌∙◌, ap, ℕ, Bool, true, false, not, List, map, cond, ◌||◌, nat_eq, Option, Some, None}
+use Rattle.std.specs.Prelude.{is_none}
+use Rattle.std.specs.List.{list_all}
+use Rattle.udfs_lattice.specs.Volumes.{Blocks}
+use Rattle.udfs_tag.specs.Faults.{first_fault}
+use Rattle.udfs_tag.specs.Fields.{uint16_at, uint32_at, long_ad_at, part}
+use Rattle.udfs_osta.specs.Labels.{label_of}
+use Rattle.udfs_volume.specs.declared.faults.VolumeFault.{VolumeFault}
+use Rattle.udfs_volume.specs.declared.faults.VolumeFault.TheVariants.{Domain, BlockSize, MapCount, MapKind, NoLogicalVolume, Contents, PartitionRange}
+use Rattle.udfs_volume.specs.Answers.{found, holes, faulty, and_then, unless_fault}
+use Rattle.udfs_volume.specs.Sequence.{Descriptor, sequence}
+use Rattle.udfs_volume.specs.Layout.{Layout, NumberedMap, Described, bp, has_domain, has_revision, map_count, the_maps, volume_fault, described, has_contents, partition_of, is_in_range, laid_out, with_maps, with_volume, logical_volume, layout_of, layout}
+use Rattle.udfs_volume.specs.LayoutParts.{field_tests}
+
+abbrev pub layout_by_parts : ℕ → Descriptor → List Described → Layout
+layout_by_parts last lv ps = record {
+  last = last;
+  revision = uint16_at lv.content (bp 240);
+  label = label_of (part lv.content (bp 84) 128);
+  partitions = map partition_of ps;
+  file_set = long_ad_at lv.content (bp 248);
+}
+
+pub laid_out-range : (last : ℕ) (lv : Descriptor) (ps : List Described) → list_all has_contents ps ≡ true → list_all (λ p. is_in_range last (partition_of p)) ps ≡ false → laid_out last lv (Some ps) ≡ faulty PartitionRange
+laid_out-range last lv ps p q = λ i. unless_fault (cond (not (p i)) (Some Contents) (cond (not (q i)) (Some PartitionRange) None)) (layout_by_parts last lv ps)
+
+pub laid_out-found : (last : ℕ) (lv : Descriptor) (ps : List Described) → list_all has_contents ps ≡ true → list_all (λ p. is_in_range last (partition_of p)) ps ≡ true → laid_out last lv (Some ps) ≡ found (layout_by_parts last lv ps)
+laid_out-found last lv ps p q = λ i. unless_fault (cond (not (p i)) (Some Contents) (cond (not (q i)) (Some PartitionRange) None)) (layout_by_parts last lv ps)
+
+some_of : (a b c d : Bool) (f : VolumeFault) → cond a (Some Domain) (cond b (Some BlockSize) (cond c (Some MapCount) None)) ≡ Some f
+    → cond a (Some Domain) (cond b (Some BlockSize) (cond c (Some MapCount) (cond d (Some MapKind) None))) ≡ Some f
+some_of true b c d f e = e
+some_of false true c d f e = e
+some_of false false true d f e = e
+some_of false false false d f e = absurd (let z : ⊥ = cc in z)
+
+none_of : (a b c d : Bool) → cond a (Some Domain) (cond b (Some BlockSize) (cond c (Some MapCount) None)) ≡ None
+    → cond a (Some Domain) (cond b (Some BlockSize) (cond c (Some MapCount) (cond d (Some MapKind) None))) ≡ cond d (Some MapKind) None
+none_of true b c d e = absurd (let z : ⊥ = cc in z)
+none_of false true c d e = absurd (let z : ⊥ = cc in z)
+none_of false false true d e = absurd (let z : ⊥ = cc in z)
+none_of false false false d e = refl
+
+fault-some : (last : ℕ) (lv : Descriptor) (f : VolumeFault) → first_fault (field_tests lv) ≡ Some f → volume_fault last lv ≡ Some f
+fault-some last lv f e = some_of (not (has_domain lv) || not (has_revision lv)) (not (nat_eq (uint32_at lv.content (bp 212)) 2048)) (not (nat_eq (map_count lv) 1 || nat_eq (map_count lv) 2)) (is_none (the_maps last lv)) f e
+
+fault-none : (last : ℕ) (lv : Descriptor) → first_fault (field_tests lv) ≡ None → volume_fault last lv ≡ cond (is_none (the_maps last lv)) (Some MapKind) None
+fault-none last lv e = none_of (not (has_domain lv) || not (has_revision lv)) (not (nat_eq (uint32_at lv.content (bp 212)) 2048)) (not (nat_eq (map_count lv) 1 || nat_eq (map_count lv) 2)) (is_none (the_maps last lv)) e
+
+pub layout_of-no_volume : (last : ℕ) (ds : List Descriptor) → None ≡ logical_volume ds → layout_of last ds ≡ faulty NoLogicalVolume
+unfolding layout_of
+layout_of-no_volume last ds e = sym (ap (with_volume last ds) e)
+
+with_lv : (last : ℕ) (ds : List Descriptor) (lv : Descriptor) (o : Option VolumeFault) → volume_fault last lv ≡ o
+    → with_volume last ds (Some lv) ≡ and_then (unless_fault o lv) (λ v. with_maps last ds v (the_maps last v))
+with_lv last ds lv o e = ap (λ o. and_then (unless_fault o lv) (λ v. with_maps last ds v (the_maps last v))) e
+
+pub layout_of-fault : (last : ℕ) (ds : List Descriptor) (lv : Descriptor) (f : VolumeFault) → Some lv ≡ logical_volume ds → Some f ≡ first_fault (field_tests lv) → layout_of last ds ≡ faulty f
+unfolding layout_of
+layout_of-fault last ds lv f e h = sym (ap (with_volume last ds) e) ∙ with_lv last ds lv (Some f) (fault-some last lv f (sym h))
+
+pub layout_of-no_maps : (last : ℕ) (ds : List Descriptor) (lv : Descriptor) → Some lv ≡ logical_volume ds → None ≡ first_fault (field_tests lv) → None ≡ the_maps last lv → layout_of last ds ≡ faulty MapKind
+unfolding layout_of
+layout_of-no_maps last ds lv e h m = sym (ap (with_volume last ds) e)
+    ∙ with_lv last ds lv (Some MapKind) (fault-none last lv (sym h) ∙ ap (λ o. cond (is_none o) (Some MapKind) None) (sym m))
+
+pub layout_of-maps : (last : ℕ) (ds : List Descriptor) (lv : Descriptor) (ms : List NumberedMap) → Some lv ≡ logical_volume ds → None ≡ first_fault (field_tests lv) → Some ms ≡ the_maps last lv
+    → layout_of last ds ≡ laid_out last lv (described ds ms)
+unfolding layout_of
+layout_of-maps last ds lv ms e h m = sym (ap (with_volume last ds) e)
+    ∙ with_lv last ds lv None (fault-none last lv (sym h) ∙ ap (λ o. cond (is_none o) (Some MapKind) None) (sym m))
+    ∙ ap (with_maps last ds lv) (sym m)
+
+pub layout-holes : (T : Blocks) (last : ℕ) (ns : List ℕ) → sequence T last ≡ holes ns → layout T last ≡ holes ns
+unfolding layout
+layout-holes T last ns h = ap (λ a. and_then a (layout_of last)) h
+
+pub layout-faulty : (T : Blocks) (last : ℕ) (f : VolumeFault) → sequence T last ≡ faulty f → layout T last ≡ faulty f
+unfolding layout
+layout-faulty T last f h = ap (λ a. and_then a (layout_of last)) h
+
+pub layout-read : (T : Blocks) (last : ℕ) (ds : List Descriptor) → sequence T last ≡ found ds → layout T last ≡ layout_of last ds
+unfolding layout
+layout-read T last ds h = ap (λ a. and_then a (layout_of last)) h

@@ -1,0 +1,18 @@
+-- What is found of a volume: the thing, the blocks that would have to be read first, or a fault.
+use Rattle.std.specs.Prelude.{ℕ, List, Option, Some, None}
+use Rattle.udfs_volume.specs.declared.faults.VolumeFault.{VolumeFault}
+
+pub data Answer (A : Type 0) : Type 0 where
+  found : A → Answer A
+  holes : List ℕ → Answer A
+  faulty : VolumeFault → Answer A
+
+abbrev pub and_then : {A B : Type 0} → Answer A → (A → Answer B) → Answer B
+and_then (found x) f = f x
+and_then (holes blocks) f = holes blocks
+and_then (faulty fault) f = faulty fault
+
+-- the thing, unless a test finds a fault
+abbrev pub unless_fault : {A : Type 0} → Option VolumeFault → A → Answer A
+unless_fault None x = found x
+unless_fault (Some fault) x = faulty fault

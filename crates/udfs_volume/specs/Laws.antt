@@ -1,0 +1,104 @@
+-- What holds of the layout of a lawful volume of which a part is known.
+--     IsLawfulLayout volume last      anchors and copies of the sequence that say the same, and no fault
+--     IsSequenceGroup                 blocks of which one has to be known: the valid anchors, and each pair
+--     LayoutLaw                       the layout is the volume's, or a group is unread
+--     LayoutBounds                    a layout that is found lies within the volume
+--     StandardLayout                  with all known it is that of the first anchor and the main sequence
+use Rattle.std.specs.Prelude.{◌≡◌, ◌≢◌, ℕ, ◌+◌, ◌/◌, ◌<◌, ◌≤◌, true, false, List, [], ◌∷◌, filter, map, length, drop, ◌⊎◌, ⊤, Some}
+use Rattle.udfs_lattice.specs.Volumes.{Blocks, Includes, Volume, IsVolume, Agrees, complete, IsUnread, IsKnownAt}
+use Rattle.udfs_tag.specs.Fields.{part}
+use Rattle.udfs_tag.specs.Tags.{is_valid, is_sound, identifier}
+use Rattle.udfs_volume.specs.Answers.{Answer, found, holes}
+use Rattle.udfs_volume.specs.declared.anchors.AnchorExtents.{AnchorExtents}
+use Rattle.udfs_volume.specs.Sequence.{Descriptor, anchor, anchor_places, position, goes_on}
+use Rattle.udfs_volume.specs.Standard.{standard_anchor, standard_layout}
+use Rattle.udfs_volume.specs.Layout.{Layout, Partition, PartitionMap, type1, sparable, repeats_kind, blocks_in, layout, layout_of}
+
+abbrev pub valid_anchors : Volume → ℕ → List ℕ
+valid_anchors volume last = filter (λ n. is_valid (volume n) n 2) (anchor_places last)
+
+-- position i stands before the one that ends the sequence, or is that one
+pub record IsThroughEnd (volume : Volume) (last : ℕ) (e : AnchorExtents) (i : ℕ) : Type 0 where
+  pub inside : i < e.main.length / 2048
+  pub before : (j : ℕ) → j < i → goes_on (position (complete volume last) (e.main.block + j) (e.reserve.block + j)) ≡ true
+
+-- both are descriptors with the same identifier and bytes from 16 on, or neither is one
+pub record SaysTheSame (volume : Volume) (main reserve : ℕ) : Type 0 where
+  pub soundness : is_sound (volume main) main ≡ is_sound (volume reserve) reserve
+  pub identifiers : is_sound (volume main) main ≡ true → identifier (volume main) ≡ identifier (volume reserve)
+  pub contents : is_sound (volume main) main ≡ true → drop 16 (volume main) ≡ drop 16 (volume reserve)
+
+pub record IsLawfulLayout (volume : Volume) (last : ℕ) : Type 0 where
+  pub anchored : valid_anchors volume last ≢ []
+  pub anchors : (a b : ℕ) → Includes (valid_anchors volume last) a → Includes (valid_anchors volume last) b
+      → part (volume a) 16 16 ≡ part (volume b) 16 16
+  pub copies : (e : AnchorExtents) (i : ℕ) → anchor (complete volume last) last ≡ found e → IsThroughEnd volume last e i
+      → SaysTheSame volume (e.main.block + i) (e.reserve.block + i)
+  pub laid_out : (l : Layout) × (layout (complete volume last) last ≡ found l)
+
+-- the copies of a position through the end
+pub record IsPair (volume : Volume) (last : ℕ) (group : List ℕ) : Type 0 where
+  pub extents : AnchorExtents
+  pub place : ℕ
+  pub from : anchor (complete volume last) last ≡ found extents
+  pub through : IsThroughEnd volume last extents place
+  pub is : group ≡ (extents.main.block + place) ∷ (extents.reserve.block + place) ∷ []
+
+abbrev pub IsSequenceGroup : Volume → ℕ → List ℕ → Type 0
+IsSequenceGroup volume last group = (group ≡ valid_anchors volume last) ⊎ IsPair volume last group
+
+-- the listed blocks are not known; they hold all of some group of which no block is known; and each is of
+-- such a group, or an anchor place while no valid anchor is known
+pub record ListsGroup (blocks : Blocks) (anchors places : List ℕ) (IsGroup : List ℕ → Type 0) (listed : List ℕ) : Type 0 where
+  pub group : List ℕ
+  pub is_group : IsGroup group
+  pub unread : IsUnread blocks group
+  pub holds : (n : ℕ) → Includes group n → Includes listed n
+  pub not_known : IsUnread blocks listed
+  pub each : (n : ℕ) → Includes listed n
+      → ((g : List ℕ) × IsGroup g × IsUnread blocks g × Includes g n) ⊎ (Includes places n × IsUnread blocks anchors)
+
+-- each group has a known block, and the answer is the complete volume's; or some group has none
+pub data IsAnswerOf {A : Type 0} (blocks : Blocks) (anchors places : List ℕ) (IsGroup : List ℕ → Type 0) (some all : Answer A) : Type 0 where
+  the_same : some ≡ all → ((g : List ℕ) → IsGroup g → (n : ℕ) × Includes g n × IsKnownAt blocks n) → IsAnswerOf blocks anchors places IsGroup some all
+  unread : (listed : List ℕ) → some ≡ holes listed → ListsGroup blocks anchors places IsGroup listed → IsAnswerOf blocks anchors places IsGroup some all
+
+abbrev pub LayoutLaw : Type 0
+LayoutLaw = (blocks : Blocks) (volume : Volume) (last : ℕ) → IsVolume volume last → IsLawfulLayout volume last → Agrees blocks volume last
+    → IsAnswerOf blocks (valid_anchors volume last) (anchor_places last) (IsSequenceGroup volume last)
+    (layout blocks last) (layout (complete volume last) last)
+
+-- the numbers of a sparable map: blocks in a packet, the size of a table, and tables that lie within the volume
+pub record AreBounded (last packet size : ℕ) (tables : List ℕ) : Type 0 where
+  pub packet_is : (packet ≡ 16) ⊎ (packet ≡ 32)
+  pub from : 56 ≤ size
+  pub to : size ≤ 65536
+  pub one : 1 ≤ length tables
+  pub four : length tables ≤ 4
+  pub ends : (place : ℕ) → Includes tables place → place + blocks_in size ≤ last + 1
+
+abbrev pub IsBoundedMap : ℕ → PartitionMap → Type 0
+IsBoundedMap last type1 = ⊤
+IsBoundedMap last (sparable packet size tables) = AreBounded last packet size tables
+
+-- a partition ends within the volume
+pub record IsBoundedPartition (last : ℕ) (p : Partition) : Type 0 where
+  pub not_empty : 0 < p.size
+  pub ends : p.start + p.size ≤ last + 1
+  pub bounded_map : IsBoundedMap last p.kind
+
+-- what a layout satisfies where one is found
+pub record IsBounded (last : ℕ) (l : Layout) : Type 0 where
+  pub is_last : l.last ≡ last
+  pub one : 1 ≤ length l.partitions
+  pub two : length l.partitions ≤ 2
+  pub of_each : (p : Partition) → Includes l.partitions p → IsBoundedPartition last p
+  pub kinds : repeats_kind (map (λ p. p.kind) l.partitions) ≡ false
+
+abbrev pub LayoutBounds : Type 0
+LayoutBounds = (last : ℕ) (ds : List Descriptor) (l : Layout) → layout_of last ds ≡ found l → IsBounded last l
+
+-- with all known, the layout is that of the first anchor and the main sequence
+abbrev pub StandardLayout : Type 0
+StandardLayout = (volume : Volume) (last : ℕ) → IsVolume volume last → IsLawfulLayout volume last
+    → (n : ℕ) × (standard_anchor volume last ≡ Some n) × (standard_layout volume last n ≡ layout (complete volume last) last)

@@ -1,0 +1,201 @@
+-- The layout of a volume: its prevailing descriptors (ECMA-167 3/8.4.3, 3/10.5, 3/10.6; UDF 2.2.4).
+--     prevailing number ds       the first descriptor whose number no other passes
+--     layout blocks last         revision, label, partitions and the file set's address
+use Rattle.std.specs.Prelude.{ℕ, zero, suc, ◌+◌, ◌-◌, ◌*◌, ◌/◌, Bool, true, false, not, List, [], ◌∷◌, length, drop, map, filter, cond, nat_eq, nat_le, nat_lt, ◌&&◌, ◌||◌, Option, Some, None, find, codes, is_none, option_map}
+use Rattle.std.specs.List.{range_with_len, list_all, list_any}
+use Rattle.std.specs.Str.{bytes_eq}
+use Rattle.udfs_lattice.specs.Volumes.{Blocks}
+use Rattle.udfs_volume.specs.Sequence.{Bytes, Descriptor, sequence}
+use Rattle.udfs_tag.specs.declared.layouts.LongAd.{LongAd}
+use Rattle.udfs_tag.specs.Fields.{uint8_at, uint16_at, uint32_at, long_ad_at, part, regid_at, filled}
+use Rattle.udfs_tag.specs.Faults.{is_within, first_fault}
+use Rattle.udfs_osta.specs.declared.labels.Label.{Label}
+use Rattle.udfs_osta.specs.Labels.{label_of}
+use Rattle.udfs_volume.specs.Answers.{Answer, faulty, and_then, unless_fault}
+use Rattle.udfs_volume.specs.declared.faults.VolumeFault.{VolumeFault}
+use Rattle.udfs_volume.specs.declared.faults.VolumeFault.TheVariants.{NoLogicalVolume, Domain, BlockSize, MapCount, MapKind, NoPartition, Contents, PartitionRange}
+
+-- Fields stand where the standard counts them, from the front of the descriptor; the content begins at 16.
+abbrev pub bp : ℕ → ℕ
+bp position = position - 16
+
+-- both descriptors have their sequence number at 16
+abbrev pub number : Descriptor → ℕ
+number d = uint32_at d.content (bp 16)
+
+-- the first descriptor whose sequence number no other passes
+abbrev pub prevailing : List Descriptor → Option Descriptor
+prevailing ds = find (λ d. list_all (λ other. nat_le (number other) (number d)) ds) ds
+
+abbrev pub with_identifier : ℕ → List Descriptor → List Descriptor
+with_identifier id ds = filter (λ d. nat_eq d.identifier id) ds
+
+abbrev pub logical_volume : List Descriptor → Option Descriptor
+logical_volume ds = prevailing (with_identifier 6 ds)
+
+abbrev pub partition_number : Descriptor → ℕ
+partition_number d = uint16_at d.content (bp 22)
+
+abbrev pub partition : ℕ → List Descriptor → Option Descriptor
+partition n ds = prevailing (filter (λ d. nat_eq (partition_number d) n) (with_identifier 5 ds))
+
+-- The kind of a partition map.
+pub data PartitionMap : Type 0 where
+  type1 : PartitionMap
+  -- the packet length, the size of a sparing table in bytes, and where its copies stand
+  sparable : ℕ → ℕ → List ℕ → PartitionMap
+
+-- A partition of a logical volume, with its map's kind.
+pub record Partition : Type 0 where
+  pub kind : PartitionMap
+  pub start : ℕ
+  pub size : ℕ
+
+-- The partitions stand in the order of their maps: a partition reference is a place among them.
+pub record Layout : Type 0 where
+  pub last : ℕ
+  pub revision : ℕ
+  pub label : Label
+  pub partitions : List Partition
+  pub file_set : LongAd
+
+abbrev pub blocks_in : ℕ → ℕ
+blocks_in bytes = (bytes + 2047) / 2048
+
+-- the forms of a map (3/10.7.2, UDF 2.2.9)
+abbrev pub is_type1 : Bytes → Bool
+is_type1 bytes = nat_eq (uint8_at bytes 0) 1 && nat_eq (uint8_at bytes 1) 6
+
+abbrev pub is_sparable : Bytes → Bool
+is_sparable bytes = nat_eq (uint8_at bytes 0) 2 && nat_eq (uint8_at bytes 1) 64
+    && bytes_eq ((regid_at bytes 4).name) (filled 23 (codes "*UDF Sparable Partition"))
+
+abbrev pub table_places : Bytes → List ℕ
+table_places bytes = map (λ i. uint32_at bytes (48 + 4 * i)) (range_with_len 0 (uint8_at bytes 42))
+
+-- the rules of a sparable map's numbers (this project's own rule)
+abbrev pub has_numbers : Bytes → Bool
+has_numbers bytes = is_within 1 4 (uint8_at bytes 42)
+    && (nat_eq (uint16_at bytes 40) 16 || nat_eq (uint16_at bytes 40) 32)
+    && is_within 56 65536 (uint32_at bytes 44)
+
+abbrev pub are_within : ℕ → ℕ → List ℕ → Bool
+are_within last size places = list_all (λ place. nat_le (place + blocks_in size) (last + 1)) places
+
+abbrev pub are_tables : ℕ → Bytes → Bool
+are_tables last bytes = has_numbers bytes && are_within last (uint32_at bytes 44) (table_places bytes)
+
+-- A map and the number of its partition.
+abbrev pub NumberedMap : Type 0
+NumberedMap = PartitionMap × ℕ
+
+-- the map at the front of these bytes, in what is left of the map table
+abbrev pub read_map : ℕ → ℕ → Bytes → Option NumberedMap
+read_map last length bytes =
+    cond (is_type1 bytes && nat_le 6 length) (Some (type1, uint16_at bytes 4))
+    (cond (is_sparable bytes && nat_le 64 length && are_tables last bytes)
+    (Some (sparable (uint16_at bytes 40) (uint32_at bytes 44) (table_places bytes), uint16_at bytes 38)) None)
+
+abbrev pub map_size : PartitionMap → ℕ
+map_size type1 = 6
+map_size (sparable packet size tables) = 64
+
+abbrev pub before_maps : Option NumberedMap → (ℕ → Option (List NumberedMap)) → Option (List NumberedMap)
+before_maps None later = None
+before_maps (Some m) later = option_map (λ ms. m ∷ ms) (later (map_size m.0))
+
+-- so many maps, one after the other, in a table of that length
+abbrev pub read_maps : ℕ → ℕ → ℕ → Bytes → Option (List NumberedMap)
+read_maps last zero length bytes = Some []
+read_maps last (suc n) length bytes =
+    before_maps (read_map last length bytes) (λ size. read_maps last n (length - size) (drop size bytes))
+
+abbrev pub is_kind_of : PartitionMap → PartitionMap → Bool
+is_kind_of type1 type1 = true
+is_kind_of type1 (sparable packet size tables) = false
+is_kind_of (sparable packet size tables) type1 = false
+is_kind_of (sparable packet size tables) (sparable packet' size' tables') = true
+
+-- two maps are of one kind
+abbrev pub repeats_kind : List PartitionMap → Bool
+repeats_kind [] = false
+repeats_kind (m ∷ ms) = list_any (is_kind_of m) ms || repeats_kind ms
+
+abbrev pub unless_repeated : Option (List NumberedMap) → Option (List NumberedMap)
+unless_repeated None = None
+unless_repeated (Some ms) = cond (repeats_kind (map (λ m. m.0) ms)) None (Some ms)
+
+abbrev pub map_count : Descriptor → ℕ
+map_count lv = uint32_at lv.content (bp 268)
+
+-- the maps, no two of one kind (this project's own rule)
+abbrev pub the_maps : ℕ → Descriptor → Option (List NumberedMap)
+the_maps last lv = unless_repeated (read_maps last (map_count lv) (uint32_at lv.content (bp 264)) (drop (bp 440) lv.content))
+
+abbrev pub has_domain : Descriptor → Bool
+has_domain lv = bytes_eq (regid_at lv.content (bp 216)).name (filled 23 (codes "*OSTA UDF Compliant"))
+
+abbrev pub has_revision : Descriptor → Bool
+has_revision lv = nat_eq (uint16_at lv.content (bp 240)) 0x0150 || nat_eq (uint16_at lv.content (bp 240)) 0x0201
+
+abbrev pub volume_fault : ℕ → Descriptor → Option VolumeFault
+volume_fault last lv = first_fault (
+    (not (has_domain lv) || not (has_revision lv), Domain)
+    ∷ (not (nat_eq (uint32_at lv.content (bp 212)) 2048), BlockSize)
+    ∷ (not (nat_eq (map_count lv) 1 || nat_eq (map_count lv) 2), MapCount)
+    ∷ (is_none (the_maps last lv), MapKind)
+    ∷ [])
+
+-- A map with the prevailing descriptor of its partition.
+abbrev pub Described : Type 0
+Described = PartitionMap × Descriptor
+
+abbrev pub before_described : PartitionMap → Option Descriptor → Option (List Described) → Option (List Described)
+before_described m (Some d) (Some later) = Some ((m, d) ∷ later)
+before_described m _ _ = None
+
+-- each map with its partition's descriptor, if each has one
+abbrev pub described : List Descriptor → List NumberedMap → Option (List Described)
+described ds [] = Some []
+described ds (m ∷ ms) = before_described m.0 (partition m.1 ds) (described ds ms)
+
+abbrev pub has_contents : Described → Bool
+has_contents p = bytes_eq ((regid_at (p.1).content (bp 24)).name) (filled 23 (codes "+NSR02"))
+    || bytes_eq ((regid_at (p.1).content (bp 24)).name) (filled 23 (codes "+NSR03"))
+
+abbrev pub partition_of : Described → Partition
+partition_of p = record { kind = p.0; start = uint32_at (p.1).content (bp 188); size = uint32_at (p.1).content (bp 192) }
+
+abbrev pub is_in_range : ℕ → Partition → Bool
+is_in_range last p = nat_lt 0 p.size && nat_le (p.start + p.size) (last + 1)
+
+-- a fault of any partition counts
+abbrev pub partitions_fault : ℕ → List Described → Option VolumeFault
+partitions_fault last ps = first_fault (
+    (not (list_all has_contents ps), Contents)
+    ∷ (not (list_all (λ p. is_in_range last (partition_of p)) ps), PartitionRange)
+    ∷ [])
+
+abbrev pub laid_out : ℕ → Descriptor → Option (List Described) → Answer Layout
+laid_out last lv None = faulty NoPartition
+laid_out last lv (Some ps) = unless_fault (partitions_fault last ps) (record {
+  last = last;
+  revision = uint16_at lv.content (bp 240);
+  label = label_of (part lv.content (bp 84) 128);
+  partitions = map partition_of ps;
+  file_set = long_ad_at lv.content (bp 248);
+})
+
+abbrev pub with_maps : ℕ → List Descriptor → Descriptor → Option (List NumberedMap) → Answer Layout
+with_maps last ds lv None = faulty MapKind
+with_maps last ds lv (Some ms) = laid_out last lv (described ds ms)
+
+abbrev pub with_volume : ℕ → List Descriptor → Option Descriptor → Answer Layout
+with_volume last ds None = faulty NoLogicalVolume
+with_volume last ds (Some lv) = and_then (unless_fault (volume_fault last lv) lv) (λ v. with_maps last ds v (the_maps last v))
+
+unfoldable pub layout_of : ℕ → List Descriptor → Answer Layout
+layout_of last ds = with_volume last ds (logical_volume ds)
+
+unfoldable pub layout : Blocks → ℕ → Answer Layout
+layout blocks last = and_then (sequence blocks last) (layout_of last)

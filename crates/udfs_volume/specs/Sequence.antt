@@ -1,0 +1,115 @@
+-- Anchors (ECMA-167 3/10.2) and volume descriptor sequences (3/8.4).
+--     anchor blocks last                the extents of the first anchor that is known and valid
+--     position blocks main reserve      one position of a sequence, in two copies
+--     sequence blocks last              the descriptors before the end
+use Rattle.std.specs.Prelude.{ℕ, ◌+◌, ◌-◌, ◌/◌, ◌%◌, Bool, false, not, List, [], ◌∷◌, length, drop, map, cond, nat_eq, nat_le, ◌&&◌, ◌||◌, Option, Some, None, take_while, slice_get}
+use Rattle.std.specs.List.{range_with_len}
+use Rattle.udfs_lattice.specs.Volumes.{Blocks, first_known, not_known, ascending}
+use Rattle.udfs_lattice.specs.States.{State}
+use Rattle.udfs_lattice.specs.declared.facts.Fact.TheVariants.{Unknown, Known, Conflict}
+use Rattle.udfs_tag.specs.declared.layouts.ExtentAd.{ExtentAd}
+use Rattle.udfs_volume.specs.declared.anchors.AnchorExtents.{AnchorExtents}
+use Rattle.udfs_tag.specs.Fields.{extent_ad_at, part}
+use Rattle.udfs_tag.specs.Faults.{is_within}
+use Rattle.udfs_tag.specs.Tags.{is_valid, is_sound, identifier}
+use Rattle.udfs_volume.specs.Answers.{Answer, found, holes, faulty, and_then}
+use Rattle.udfs_volume.specs.declared.faults.VolumeFault.TheVariants.{NoAnchor, Extents, Pointer}
+
+abbrev pub Bytes : Type 0
+Bytes = List ℕ
+
+-- where an anchor may stand (3/8.4.2.1, UDF 2.2.3)
+abbrev pub anchor_places : ℕ → List ℕ
+anchor_places last = 256 ∷ (last - 256) ∷ last ∷ []
+
+-- bytes 16 to 31 of an anchor
+abbrev pub extents_of : Bytes → AnchorExtents
+extents_of bytes = let extents = part bytes 16 16 in record { main = extent_ad_at extents 0; reserve = extent_ad_at extents 8 }
+
+abbrev pub anchor_here : ℕ → State → Option Bytes
+anchor_here place Unknown = None
+anchor_here place (Known bytes) = cond (is_valid bytes place 2) (Some bytes) None
+anchor_here place Conflict = None
+
+abbrev pub or_else : {A : Type 0} → Option A → Option A → Option A
+or_else None later = later
+or_else (Some x) later = Some x
+
+-- the first of these places that is known, and valid there as an anchor
+abbrev pub first_anchor : Blocks → List ℕ → Option Bytes
+first_anchor blocks [] = None
+first_anchor blocks (n ∷ ns) = or_else (anchor_here n (blocks n)) (first_anchor blocks ns)
+
+-- with no anchor, the places that are not known have to be read
+abbrev pub anchor_or : Option Bytes → List ℕ → Answer AnchorExtents
+anchor_or (Some bytes) unread = found (extents_of bytes)
+anchor_or None [] = faulty NoAnchor
+anchor_or None (n ∷ ns) = holes (n ∷ ns)
+
+unfoldable pub anchor : Blocks → ℕ → Answer AnchorExtents
+anchor blocks last = anchor_or (first_anchor blocks (anchor_places last)) (not_known blocks (anchor_places last))
+
+-- both extents have one length of whole blocks, from 16 to 256 of them, and none passes the last block (this
+-- project's own rule; UDF 2.2.3.1 asks 16 at least)
+abbrev pub fits_to : ℕ → ExtentAd → Bool
+fits_to last e = nat_le (e.block + e.length / 2048) (last + 1)
+
+abbrev pub are_extents : ℕ → AnchorExtents → Bool
+are_extents last e = nat_eq e.main.length e.reserve.length && nat_eq (e.main.length % 2048) 0
+    && is_within 32768 524288 e.main.length && fits_to last e.main && fits_to last e.reserve
+
+-- A descriptor of a sequence: its identifier, and its bytes from byte position 16 on.
+pub record Descriptor : Type 0 where
+  pub identifier : ℕ
+  pub content : Bytes
+
+-- What stands at a position: neither copy is known, or the content is no descriptor at its own block, or
+-- it is one.
+pub data Position : Type 0 where
+  unread : List ℕ → Position
+  invalid : Position
+  descriptor : Descriptor → Position
+
+abbrev pub position_of : List ℕ → Option (ℕ × Bytes) → Position
+position_of copies None = unread (ascending copies)
+position_of copies (Some known) = cond (is_sound known.1 known.0)
+    (descriptor (record { identifier = identifier known.1; content = drop 16 known.1 })) invalid
+
+-- of the two copies the first that is known
+unfoldable pub position : Blocks → ℕ → ℕ → Position
+position blocks main reserve = position_of (main ∷ reserve ∷ []) (first_known blocks (main ∷ reserve ∷ []))
+
+abbrev pub positions : Blocks → AnchorExtents → List Position
+positions blocks e =
+    map (λ i. position blocks (e.main.block + i) (e.reserve.block + i)) (range_with_len 0 (e.main.length / 2048))
+
+-- 8 ends a sequence, and 3 would lead to another one
+abbrev pub goes_on : Position → Bool
+goes_on (unread copies) = false
+goes_on invalid = false
+goes_on (descriptor d) = not (nat_eq d.identifier 8 || nat_eq d.identifier 3)
+
+abbrev pub cons_descriptor : Position → List Descriptor → List Descriptor
+cons_descriptor (unread copies) ds = ds
+cons_descriptor invalid ds = ds
+cons_descriptor (descriptor d) ds = d ∷ ds
+
+abbrev pub descriptors : List Position → List Descriptor
+descriptors [] = []
+descriptors (p ∷ ps) = cons_descriptor p (descriptors ps)
+
+-- what the descriptors before a stop give, at that stop or at the end of the extent
+abbrev pub ended_by : Option Position → List Descriptor → Answer (List Descriptor)
+ended_by None ds = found ds
+ended_by (Some (unread copies)) ds = holes copies
+ended_by (Some invalid) ds = found ds
+ended_by (Some (descriptor d)) ds = cond (nat_eq d.identifier 3) (faulty Pointer) (found ds)
+
+abbrev pub read_positions : List Position → Answer (List Descriptor)
+read_positions all = let front = take_while goes_on all in ended_by (slice_get all (length front)) (descriptors front)
+
+abbrev pub sequence_at : Blocks → ℕ → AnchorExtents → Answer (List Descriptor)
+sequence_at blocks last e = cond (are_extents last e) (read_positions (positions blocks e)) (faulty Extents)
+
+unfoldable pub sequence : Blocks → ℕ → Answer (List Descriptor)
+sequence blocks last = and_then (anchor blocks last) (sequence_at blocks last)

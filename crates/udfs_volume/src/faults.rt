@@ -1,0 +1,40 @@
+//! What is wrong with a volume.
+
+/// Why a volume cannot be laid out. Of several faults the one with the least number is told.
+#[derive(Clone, Copy, Debug, PartialEq, Eq, PartialOrd, Ord)]
+pub enum VolumeFault {
+    /// All three places of an anchor are known, and none has one (ECMA-167 3/8.4.2.1).
+    NoAnchor = 1,
+    /// The anchor's extents differ in length, their length is not of 16 to 256 whole blocks, or one
+    /// passes the last block (UDF 2.2.3.1 asks 16 sectors at least).
+    Extents = 2,
+    /// The sequence goes on elsewhere: a volume descriptor pointer (ECMA-167 3/10.3).
+    Pointer = 3,
+    /// The sequence has no logical volume descriptor (ECMA-167 3/10.6).
+    NoLogicalVolume = 4,
+    /// The domain is not OSTA's, or its revision is neither 1.50 nor 2.01 (UDF 2.2.4.3).
+    Domain = 5,
+    /// A logical block has not 2048 bytes (UDF 2.2.4.2).
+    BlockSize = 6,
+    /// The number of partition maps is neither 1 nor 2 (ECMA-167 3/10.6.9).
+    MapCount = 7,
+    /// A partition map is neither of type 1 nor sparable, breaks a rule of its numbers, passes the map
+    /// table, or is of the same kind as another (ECMA-167 3/10.7, UDF 2.2.9).
+    MapKind = 8,
+    /// No partition descriptor has a map's number (ECMA-167 3/10.5.4).
+    NoPartition = 9,
+    /// The contents of a partition are not those of `NSR02` or `NSR03` (ECMA-167 3/10.5.5).
+    Contents = 10,
+    /// A partition is empty, or passes the last block (ECMA-167 3/10.5.8, 3/10.5.9).
+    PartitionRange = 11,
+    /// A sparing table's tag or name is not right (UDF 2.2.12).
+    SparingTag = 12,
+    /// A sparing table passes its size, or an original block number is none (UDF 2.2.12).
+    SparingShape = 13,
+    /// The original block numbers of a sparing table do not rise (UDF 2.2.12).
+    SparingOrder = 14,
+    /// A spared packet is mapped past the last block (UDF 2.2.12).
+    MappedRange = 15,
+    /// The file set descriptor is not where the logical volume says (ECMA-167 4/8.3.1).
+    FileSet = 16,
+}

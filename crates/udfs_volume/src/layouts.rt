@@ -1,0 +1,256 @@
+//! The layout of a volume (ECMA-167 3/10.5, 3/10.6, UDF 2.2.4).
+
+ghost use Rattle.std.specs.Prelude.{◌≡◌, ◌≤◌, ◌⊎◌, ◌∷◌, [], not, ◌||◌, nat_eq, map, option_map, IfOk, MatchOption, ⊤};
+ghost use Rattle.std.specs.List.{list_all};
+ghost use Rattle.udfs_lattice.specs.Tables.{state_of};
+ghost use Rattle.udfs_tag.specs.Faults.{first_fault};
+ghost use Rattle.udfs_tag.specs.Fields.{part, uint32_at};
+ghost use Rattle.udfs_volume.specs.Layout.{bp, described, has_contents, has_domain, has_revision, is_in_range, laid_out, layout, layout_of, map_count, partition_of};
+ghost use Rattle.udfs_volume.specs.LayoutParts.{described_now, field_tests, has_contents_of, is_range, parts_now, partition_now};
+ghost use Rattle.udfs_osta.specs.Labels.{label_of};
+ghost use Rattle.udfs_volume.specs.Seen.{Sees};
+ghost use Rattle.udfs_volume.specs.Parts.{numbered_now};
+ghost use Rattle.udfs_volume.specs.Sequences.{descriptor_now, sequence_now};
+
+use crate::descriptors::{Descriptor, Sequence, behind, is_named};
+use crate::faults::VolumeFault;
+use crate::maps::{NumberedMap, PartitionMap, read_maps};
+use crate::seen::Seen;
+use crate::sequences::sequence;
+use std::alloc::{AllocError, Global};
+use udfs_lattice::BlockTable;
+use udfs_osta::Label;
+use udfs_tag::LongAd;
+
+/// A partition of a logical volume (ECMA-167 3/10.5).
+#[derive(Debug, Drop)]
+pub struct Partition {
+    /// The kind of its map.
+    pub kind: PartitionMap,
+    /// The first block.
+    pub start: u32,
+    /// The number of blocks.
+    pub length: u32,
+}
+
+/// The layout of a volume.
+#[derive(Debug, Drop)]
+pub struct VolumeParts {
+    /// The last block of the volume.
+    pub last: u32,
+    /// The revision of UDF, 0x0150 or 0x0201.
+    pub revision: u16,
+    /// The name of the logical volume.
+    pub label: Label,
+    /// The partitions in the order of their maps: a partition reference counts among them.
+    pub partitions: Vec<Partition>,
+    /// Where the file set descriptor stands.
+    pub file_set: LongAd,
+}
+
+/// A map's kind and the prevailing descriptor of its partition.
+#[derive(Debug, Drop)]
+struct Described<'a> {
+    kind: PartitionMap,
+    descriptor: Descriptor<'a>,
+}
+
+/// Whether the domain is that of OSTA UDF (UDF 2.2.4.3).
+fn has_domain(volume: &Descriptor<'_>) -> bool
+    ensures { result ≡ has_domain (descriptor_now volume.now) }
+{
+    is_named(
+        behind(volume.content(), 200),
+        b"*OSTA UDF Compliant\0\0\0\0",
+    )
+}
+
+/// Whether the domain's revision is 1.50 or 2.01 (UDF 2.2.4.3).
+fn has_revision(volume: &Descriptor<'_>) -> bool
+    ensures { result ≡ has_revision (descriptor_now volume.now) }
+{
+    let revision = volume.uint16(240);
+    revision == 0x0150 || revision == 0x0201
+}
+
+/// Of the faults of a logical volume descriptor before those of its maps the first.
+fn field_fault(volume: &Descriptor<'_>) -> Option<VolumeFault>
+    ensures value { result ≡ first_fault (field_tests (descriptor_now volume.now)) }
+    ensures count { MatchOption result
+        ((map_count (descriptor_now volume.now) ≡ 1) ⊎ (map_count (descriptor_now volume.now) ≡ 2)) (λ fault. ⊤) }
+{
+    if !has_domain(volume) || !has_revision(volume) {
+        return Some(VolumeFault::Domain);
+    }
+    if volume.uint32(212) != 2048 {
+        return Some(VolumeFault::BlockSize);
+    }
+    let count = volume.uint32(268);
+    if count != 1 && count != 2 {
+        return Some(VolumeFault::MapCount);
+    }
+    None
+}
+
+/// Each map with its partition's descriptor, if each has one.
+fn describe<'a>(
+    alloc: Global,
+    sequence: &Sequence<'a>,
+    maps: Vec<NumberedMap>,
+) -> Result<Option<Vec<Described<'a>>>, AllocError>
+    ensures { IfOk result (λ read. option_map (λ all. map described_now all.items) read ≡ described (sequence_now sequence.now) (map numbered_now maps.items)) }
+{
+    let mut all = Vec::new(alloc);
+    for numbered in maps {
+        let Some(descriptor) = sequence.partition(numbered.partition) else {
+            return Ok(None);
+        };
+        all.push(Described {
+            kind: numbered.kind,
+            descriptor,
+        })?;
+    }
+    Ok(Some(all))
+}
+
+/// Whether the contents of each partition are those of `NSR02` or `NSR03` (ECMA-167 3/10.5.5).
+fn have_contents(all: &[Described<'_>]) -> bool
+    ensures { result ≡ list_all has_contents (map described_now all.now) }
+{
+    for described in all {
+        if !has_contents(&described.descriptor) {
+            return false;
+        }
+    }
+    true
+}
+
+/// Whether the contents are those of `NSR02` or `NSR03`.
+fn has_contents(partition: &Descriptor<'_>) -> bool
+    ensures { result ≡ has_contents_of (descriptor_now partition.now) }
+{
+    let name = behind(partition.content(), 8);
+    is_named(name, b"+NSR02\0\0\0\0\0\0\0\0\0\0\0\0\0\0\0\0\0")
+        || is_named(name, b"+NSR03\0\0\0\0\0\0\0\0\0\0\0\0\0\0\0\0\0")
+}
+
+/// Whether the partition is not empty, and passes no last block (ECMA-167 3/10.5.8, 3/10.5.9).
+fn is_in_range(last: u32, partition: &Descriptor<'_>) -> bool
+    ensures { result ≡ is_range last (uint32_at (descriptor_now partition.now).content (bp 188)) (uint32_at (descriptor_now partition.now).content (bp 192)) }
+{
+    let start = partition.uint32(188);
+    let length = partition.uint32(192);
+    0 < length && u64::from(start) + u64::from(length) <= u64::from(last) + 1
+}
+
+/// Whether each partition is in range.
+fn are_in_range(last: u32, all: &[Described<'_>]) -> bool
+    ensures { result ≡ list_all (λ p. is_in_range last (partition_of p)) (map described_now all.now) }
+{
+    for described in all {
+        if !is_in_range(last, &described.descriptor) {
+            return false;
+        }
+    }
+    true
+}
+
+/// The partitions that the maps and descriptors give.
+fn partitions(alloc: Global, all: Vec<Described<'_>>) -> Result<Vec<Partition>, AllocError>
+    ensures { IfOk result (λ made. map partition_now made.items ≡ map partition_of (map described_now all.entry.items)) }
+{
+    let mut made = Vec::new(alloc);
+    for described in all {
+        let start = described.descriptor.uint32(188);
+        let length = described.descriptor.uint32(192);
+        made.push(Partition {
+            kind: described.kind,
+            start,
+            length,
+        })?;
+    }
+    Ok(made)
+}
+
+/// The label of a logical volume descriptor (ECMA-167 3/10.6.4).
+fn read_label(alloc: Global, volume: &Descriptor<'_>) -> Result<Label, AllocError>
+    ensures { IfOk result (λ label. label ≡ label_of (part (descriptor_now volume.now).content (bp 84) 128)) }
+{
+    let content = volume.content();
+    let mut field = [0; 128];
+    field.copy_from_slice(&content[68..196]);
+    Label::read(alloc, &field)
+}
+
+/// The layout by a logical volume descriptor and its maps.
+fn lay_out(
+    alloc: Global,
+    last: u32,
+    volume: &Descriptor<'_>,
+    sequence: &Sequence<'_>,
+    maps: Vec<NumberedMap>,
+) -> Result<Seen<VolumeParts>, AllocError>
+    ensures { IfOk result (λ seen. Sees parts_now seen
+        (laid_out last (descriptor_now volume.now) (described (sequence_now sequence.now) (map numbered_now maps.items)))) }
+{
+    let Some(all) = describe(alloc, sequence, maps)? else {
+        return Ok(Seen::Fault(VolumeFault::NoPartition));
+    };
+    if !have_contents(&all) {
+        return Ok(Seen::Fault(VolumeFault::Contents));
+    }
+    if !are_in_range(last, &all) {
+        return Ok(Seen::Fault(VolumeFault::PartitionRange));
+    }
+    let label = read_label(alloc, volume)?;
+    let partitions = partitions(alloc, all)?;
+    let revision = volume.uint16(240);
+    let file_set = LongAd::read(behind(volume.content(), 232));
+    Ok(Seen::Got(VolumeParts {
+        last,
+        revision,
+        label,
+        partitions,
+        file_set,
+    }))
+}
+
+/// The layout by the descriptors of a sequence.
+fn layout_of(
+    alloc: Global,
+    last: u32,
+    sequence: &Sequence<'_>,
+) -> Result<Seen<VolumeParts>, AllocError>
+    ensures { IfOk result (λ seen. Sees parts_now seen (layout_of last (sequence_now sequence.now))) }
+{
+    let Some(volume) = sequence.logical_volume() else {
+        return Ok(Seen::Fault(VolumeFault::NoLogicalVolume));
+    };
+    if let Some(fault) = field_fault(&volume) {
+        return Ok(Seen::Fault(fault));
+    }
+    let Some(maps) = read_maps(alloc, last, &volume)? else {
+        return Ok(Seen::Fault(VolumeFault::MapKind));
+    };
+    lay_out(alloc, last, &volume, sequence, maps)
+}
+
+/// The layout of a volume: the revision, the label, the partitions and the file set's address, by the
+/// logical volume descriptor and the partition descriptors that prevail in the volume descriptor
+/// sequence. Of several faults the one with the least number is told.
+pub fn layout(alloc: Global, table: &BlockTable, last: u32) -> Seen<VolumeParts>
+    requires from { 513 ≤ last }
+    requires to { last ≤ 4194303 }
+    ensures { Sees parts_now result (layout (state_of table.now) last) }
+{
+    let found = match sequence(alloc, table, last) {
+        Seen::Got(found) => found,
+        Seen::Holes(blocks) => return Seen::Holes(blocks),
+        Seen::Fault(fault) => return Seen::Fault(fault),
+        Seen::OutOfMemory => return Seen::OutOfMemory,
+    };
+    match layout_of(alloc, last, &found) {
+        Ok(seen) => seen,
+        Err(_) => Seen::OutOfMemory,
+    }
+}

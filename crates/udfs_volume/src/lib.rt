@@ -1,0 +1,21 @@
+//! Anchors, volume descriptor sequences and the layout of a volume.
+#![tactic(auto)]
+
+pub mod anchors;
+pub mod descriptors;
+pub mod faults;
+pub mod laws;
+pub mod layouts;
+pub mod maps;
+pub mod seen;
+pub mod sequences;
+
+pub use anchors::AnchorExtents;
+pub use descriptors::{Descriptor, Sequence};
+pub use faults::VolumeFault;
+pub use layouts::{Partition, VolumeParts};
+pub use maps::{PartitionMap, SparableMap};
+pub use seen::Seen;
+
+#[cfg(test)]
+mod tests;

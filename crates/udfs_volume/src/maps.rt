@@ -1,0 +1,225 @@
+//! Partition maps (ECMA-167 3/10.7, UDF 2.2.9).
+
+ghost use Rattle.std.specs.Prelude.{◌≡◌, ◌≤◌, ◌⊎◌, length, map, cond, option_map, IfOk, Some, None, nat_eq, nat_le, ◌&&◌, ◌||◌};
+ghost use Rattle.udfs_tag.specs.Fields.{uint8_at};
+ghost use Rattle.udfs_volume.specs.Layout.{are_tables, are_within, blocks_in, has_numbers, is_kind_of, is_sparable, is_type1, map_count, map_size, read_map, table_places, the_maps};
+ghost use Rattle.udfs_volume.specs.Parts.{map_now, map_read, numbered_now, sparable_now};
+ghost use Rattle.udfs_volume.specs.Sequences.{descriptor_now};
+
+use crate::descriptors::{Descriptor, behind, is_named};
+use byteorder::{ByteOrder, LittleEndian};
+use std::alloc::{AllocError, Global};
+
+/// A sparable partition map (UDF 2.2.9).
+#[derive(Debug, Drop)]
+pub struct SparableMap {
+    /// The blocks of a packet, 16 or 32.
+    pub packet: u16,
+    /// The bytes of a sparing table.
+    pub size: u32,
+    /// The first block of each copy of the sparing table.
+    pub tables: Vec<u32>,
+}
+
+/// How the blocks of a partition are found.
+#[derive(Debug, Drop)]
+pub enum PartitionMap {
+    /// One after the other (ECMA-167 3/10.7.2).
+    Type1,
+    /// With packets that stand elsewhere (UDF 2.2.9).
+    Sparable(SparableMap),
+}
+
+/// A partition map and the number of its partition.
+#[derive(Debug, Drop)]
+pub(crate) struct NumberedMap {
+    pub(crate) kind: PartitionMap,
+    pub(crate) partition: u16,
+}
+
+/// The blocks that so many bytes take.
+fn blocks_in(bytes: u32) -> u64
+    ensures { result ≡ blocks_in bytes }
+{
+    (u64::from(bytes) + 2047) / 2048
+}
+
+/// Whether the map is of type 1 (ECMA-167 3/10.7.2).
+fn is_type1(bytes: &[u8]) -> bool
+    requires { 64 ≤ length bytes.now }
+    ensures { result ≡ is_type1 bytes.now }
+{
+    bytes[0] == 1 && bytes[1] == 6
+}
+
+/// Whether the map has the form of a sparable one (UDF 2.2.9).
+fn is_sparable(bytes: &[u8]) -> bool
+    requires { 64 ≤ length bytes.now }
+    ensures { result ≡ is_sparable bytes.now }
+{
+    bytes[0] == 2 && bytes[1] == 64 && is_named(behind(bytes, 4), b"*UDF Sparable Partition")
+}
+
+/// Whether a map of type 1 stands in what is left of the map table.
+fn is_whole_type1(left: u32, bytes: &[u8]) -> bool
+    requires { 64 ≤ length bytes.now }
+    ensures { result ≡ (is_type1 bytes.now && nat_le 6 left) }
+{
+    is_type1(bytes) && left >= 6
+}
+
+/// Whether a map of the form of a sparable one stands in what is left of the map table.
+fn is_whole_sparable(left: u32, bytes: &[u8]) -> bool
+    requires { 64 ≤ length bytes.now }
+    ensures { result ≡ (is_sparable bytes.now && nat_le 64 left) }
+{
+    is_sparable(bytes) && left >= 64
+}
+
+/// Whether a packet has 16 or 32 blocks.
+fn is_packet(packet: u16) -> bool
+    ensures { result ≡ (nat_eq packet 16 || nat_eq packet 32) }
+{
+    packet == 16 || packet == 32
+}
+
+/// Whether a sparable map has 1 to 4 tables of 56 to 65,536 bytes and packets of 16 or 32 blocks.
+fn has_numbers(bytes: &[u8]) -> bool
+    requires { 64 ≤ length bytes.now }
+    ensures { result ≡ has_numbers bytes.now }
+{
+    let packet = LittleEndian::read_u16(behind(bytes, 40));
+    let size = LittleEndian::read_u32(behind(bytes, 44));
+    (1..=4).contains(&bytes[42]) && is_packet(packet) && (56..=65_536).contains(&size)
+}
+
+/// Where the tables of a sparable map stand.
+fn table_places(alloc: Global, bytes: &[u8]) -> Result<Vec<u32>, AllocError>
+    requires size { 64 ≤ length bytes.now }
+    requires count { uint8_at bytes.now 42 ≤ 4 }
+    ensures { IfOk result (λ places. places.items ≡ table_places bytes.now) }
+{
+    let mut places = Vec::new(alloc);
+    for i in 0..bytes[42] as usize {
+        places.push(LittleEndian::read_u32(behind(bytes, 48 + 4 * i)))?;
+    }
+    Ok(places)
+}
+
+/// Whether tables of this size at these places pass no last block.
+fn are_within(last: u32, size: u32, places: &[u32]) -> bool
+    ensures { result ≡ are_within last size places.now }
+{
+    for place in places {
+        if u64::from(*place) + blocks_in(size) > u64::from(last) + 1 {
+            return false;
+        }
+    }
+    true
+}
+
+/// The sparable map, if it keeps the rules of its numbers.
+fn read_sparable(alloc: Global, last: u32, bytes: &[u8]) -> Result<Option<SparableMap>, AllocError>
+    requires { 64 ≤ length bytes.now }
+    ensures { IfOk result (λ read. option_map sparable_now read ≡ cond (are_tables last bytes.now) (Some (map_read bytes.now)) None) }
+{
+    if !has_numbers(bytes) {
+        return Ok(None);
+    }
+    let size = LittleEndian::read_u32(behind(bytes, 44));
+    let tables = table_places(alloc, bytes)?;
+    if !are_within(last, size, &tables) {
+        return Ok(None);
+    }
+    let packet = LittleEndian::read_u16(behind(bytes, 40));
+    Ok(Some(SparableMap {
+        packet,
+        size,
+        tables,
+    }))
+}
+
+/// The map at the front of the bytes, in what is left of the map table.
+fn read_map(
+    alloc: Global,
+    last: u32,
+    left: u32,
+    bytes: &[u8],
+) -> Result<Option<NumberedMap>, AllocError>
+    requires { 64 ≤ length bytes.now }
+    ensures { IfOk result (λ read. option_map numbered_now read ≡ read_map last left bytes.now) }
+{
+    if is_whole_type1(left, bytes) {
+        return Ok(Some(NumberedMap {
+            kind: PartitionMap::Type1,
+            partition: LittleEndian::read_u16(behind(bytes, 4)),
+        }));
+    }
+    if !is_whole_sparable(left, bytes) {
+        return Ok(None);
+    }
+    let Some(map) = read_sparable(alloc, last, bytes)? else {
+        return Ok(None);
+    };
+    Ok(Some(NumberedMap {
+        kind: PartitionMap::Sparable(map),
+        partition: LittleEndian::read_u16(behind(bytes, 38)),
+    }))
+}
+
+/// The bytes that the map takes in the map table.
+fn size_of(kind: &PartitionMap) -> u32
+    ensures value { result ≡ map_size (map_now kind.now) }
+    ensures least { 6 ≤ result }
+    ensures most { result ≤ 64 }
+{
+    match kind {
+        PartitionMap::Type1 => 6,
+        PartitionMap::Sparable(_) => 64,
+    }
+}
+
+/// Whether two maps are of one kind.
+fn is_kind_of(first: &PartitionMap, second: &PartitionMap) -> bool
+    ensures { result ≡ is_kind_of (map_now first.now) (map_now second.now) }
+{
+    match (first, second) {
+        (PartitionMap::Type1, PartitionMap::Type1) => true,
+        (PartitionMap::Sparable(_), PartitionMap::Sparable(_)) => true,
+        _ => false,
+    }
+}
+
+/// The one or two maps of a logical volume, if each has a form of the two and they are not of one kind.
+pub(crate) fn read_maps(
+    alloc: Global,
+    last: u32,
+    volume: &Descriptor<'_>,
+) -> Result<Option<Vec<NumberedMap>>, AllocError>
+    requires { (map_count (descriptor_now volume.now) ≡ 1) ⊎ (map_count (descriptor_now volume.now) ≡ 2) }
+    ensures { IfOk result (λ read. option_map (λ maps. map numbered_now maps.items) read ≡ the_maps last (descriptor_now volume.now)) }
+{
+    let content = volume.content();
+    let table = behind(content, 424);
+    let left = volume.uint32(264);
+    let Some(first) = read_map(alloc, last, left, table)? else {
+        return Ok(None);
+    };
+    if volume.uint32(268) == 1 {
+        return Ok(Some(vec![in alloc; first]?));
+    }
+    let size = size_of(&first.kind);
+    let Some(second) = read_map(
+        alloc,
+        last,
+        left.saturating_sub(size),
+        behind(table, size as usize),
+    )?
+    else {
+        return Ok(None);
+    };
+    if is_kind_of(&first.kind, &second.kind) {
+        return Ok(None);
+    }
+    Ok(Some(vec![in alloc; first, second]?))
+}

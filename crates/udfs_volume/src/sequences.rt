@@ -1,0 +1,141 @@
+//! Volume descriptor sequences (ECMA-167 3/8.4).
+
+ghost use Rattle.std.specs.Prelude.{◌≡◌, ◌≤◌, ◌<◌, ◌+◌, ◌/◌, ◌∷◌, [], ℕ, IfOk, IsTrue, IsOk, length, true};
+ghost use Rattle.udfs_lattice.specs.Tables.{state_of};
+ghost use Rattle.udfs_lattice.specs.Volumes.{ascending};
+ghost use Rattle.udfs_volume.specs.Seen.{Sees};
+ghost use Rattle.udfs_volume.specs.Sequence.{are_extents, fits_to, position, positions, read_positions, sequence, sequence_at};
+ghost use Rattle.udfs_volume.specs.Sequences.{descriptor_of, position_now, sequence_now};
+
+use crate::anchors::{AnchorExtents, anchor};
+use crate::descriptors::{Descriptor, Sequence};
+use crate::faults::VolumeFault;
+use crate::seen::Seen;
+use std::alloc::{AllocError, Global};
+use udfs_lattice::{BlockTable, Fact};
+use udfs_tag::{ExtentAd, Tag};
+
+/// What stands at a position of a sequence, of which there are two copies.
+#[derive(Clone, Copy)]
+enum Position<'a> {
+    /// Neither copy is known.
+    Unread,
+    /// The copy that is read is no descriptor.
+    Invalid,
+    /// It is this descriptor.
+    Descriptor(Descriptor<'a>),
+}
+
+/// The descriptor that fills a block at its place.
+fn descriptor_at<'a>(block: &'a [u8; 2048], place: u32) -> Position<'a>
+    ensures { position_now [] result ≡ descriptor_of block.now place }
+{
+    match Tag::check(block, place) {
+        Ok(tag) => Position::Descriptor(Descriptor {
+            identifier: tag.identifier,
+            block,
+        }),
+        Err(_) => Position::Invalid,
+    }
+}
+
+/// Of the two copies the first that is known, at its own place.
+#[tactic(auto, unfolding(crate::specs::Sequence::position))]
+fn read_position<'a>(table: &'a BlockTable, main: u32, reserve: u32) -> Position<'a>
+    ensures { position_now (main ∷ reserve ∷ []) result ≡ position (state_of table.now) main reserve }
+{
+    if let Fact::Known(block) = table.state(main) {
+        return descriptor_at(block, main);
+    }
+    match table.state(reserve) {
+        Fact::Known(block) => descriptor_at(block, reserve),
+        _ => Position::Unread,
+    }
+}
+
+/// Two numbers, ascending and each once.
+fn ascending(alloc: Global, a: u32, b: u32) -> Result<Vec<u32>, AllocError>
+    ensures { IfOk result (λ numbers. numbers.items ≡ ascending (a ∷ b ∷ [])) }
+{
+    if a < b {
+        return Ok(vec![in alloc; a, b]?);
+    }
+    if a == b {
+        return Ok(vec![in alloc; b]?);
+    }
+    Ok(vec![in alloc; b, a]?)
+}
+
+/// Whether the extent ends at the last block or before.
+fn fits_to(last: u32, extent: ExtentAd) -> bool
+    requires { last ≤ 4194303 }
+    ensures { result ≡ fits_to last extent }
+{
+    u64::from(extent.block) + u64::from(extent.length / 2048) <= u64::from(last) + 1
+}
+
+/// Whether both extents have one length of 16 to 256 whole blocks, and none passes the last block.
+fn are_extents(last: u32, extents: AnchorExtents) -> bool
+    requires { last ≤ 4194303 }
+    ensures { result ≡ are_extents last extents }
+{
+    extents.main.length == extents.reserve.length
+        && extents.main.length % 2048 == 0
+        && (32_768..=524_288).contains(&extents.main.length)
+        && fits_to(last, extents.main)
+        && fits_to(last, extents.reserve)
+}
+
+/// Reads the positions in turn, up to the end.
+fn read_positions<'a>(
+    alloc: Global,
+    table: &'a BlockTable,
+    extents: AnchorExtents,
+) -> Result<Seen<Sequence<'a>>, AllocError>
+    requires main { extents.main.block + extents.main.length / 2048 ≤ 4194304 }
+    requires reserve { extents.reserve.block + extents.main.length / 2048 ≤ 4194304 }
+    ensures { IfOk result (λ seen. Sees sequence_now seen (read_positions (positions (state_of table.now) extents))) }
+{
+    let mut descriptors = Vec::new(alloc);
+    for i in 0..extents.main.length / 2048 {
+        let main = extents.main.block + i;
+        let reserve = extents.reserve.block + i;
+        match read_position(table, main, reserve) {
+            Position::Unread => return Ok(Seen::Holes(ascending(alloc, main, reserve)?)),
+            Position::Invalid => return Ok(Seen::Got(Sequence { descriptors })),
+            Position::Descriptor(descriptor) => {
+                if descriptor.identifier == 3 {
+                    return Ok(Seen::Fault(VolumeFault::Pointer));
+                }
+                if descriptor.identifier == 8 {
+                    return Ok(Seen::Got(Sequence { descriptors }));
+                }
+                descriptors.push(descriptor)?;
+            }
+        }
+    }
+    Ok(Seen::Got(Sequence { descriptors }))
+}
+
+/// The volume descriptor sequence that the first anchor leads to, up to its end: a block that is no
+/// descriptor at its place, a terminating descriptor, or the end of the extent. At each position the main
+/// copy is read where it is known, else the reserve copy; where neither is known, the two are holes.
+pub fn sequence<'a>(alloc: Global, table: &'a BlockTable, last: u32) -> Seen<Sequence<'a>>
+    requires from { 513 ≤ last }
+    requires to { last ≤ 4194303 }
+    ensures { Sees sequence_now result (sequence (state_of table.now) last) }
+{
+    let extents = match anchor(alloc, table, last) {
+        Seen::Got(extents) => extents,
+        Seen::Holes(blocks) => return Seen::Holes(blocks),
+        Seen::Fault(fault) => return Seen::Fault(fault),
+        Seen::OutOfMemory => return Seen::OutOfMemory,
+    };
+    if !are_extents(last, extents) {
+        return Seen::Fault(VolumeFault::Extents);
+    }
+    match read_positions(alloc, table, extents) {
+        Ok(seen) => seen,
+        Err(_) => Seen::OutOfMemory,
+    }
+}
