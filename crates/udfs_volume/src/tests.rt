@@ -2,5 +2,6 @@
 
 mod discs;
 mod sparable;
+mod texts;
 mod two_maps;
 mod type1;
