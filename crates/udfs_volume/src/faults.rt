@@ -1,5 +1,8 @@
 //! What is wrong with a volume.
 
+use std::error::Error;
+use std::fmt;
+
 /// Why a volume cannot be laid out. Of several faults the one with the least number is told.
 #[derive(Clone, Copy, Debug, PartialEq, Eq, PartialOrd, Ord)]
 pub enum VolumeFault {
@@ -38,3 +41,29 @@ pub enum VolumeFault {
     /// The file set descriptor is not where the logical volume says (ECMA-167 4/8.3.1).
     FileSet = 16,
 }
+
+/// The fault's name, as a report prints it.
+impl fmt::Display for VolumeFault {
+    fn fmt<W: fmt::Write>(&self, f: &mut fmt::Formatter<W>) -> fmt::Result {
+        match self {
+            VolumeFault::NoAnchor => write!(f, "NoAnchor"),
+            VolumeFault::Extents => write!(f, "Extents"),
+            VolumeFault::Pointer => write!(f, "Pointer"),
+            VolumeFault::NoLogicalVolume => write!(f, "NoLogicalVolume"),
+            VolumeFault::Domain => write!(f, "Domain"),
+            VolumeFault::BlockSize => write!(f, "BlockSize"),
+            VolumeFault::MapCount => write!(f, "MapCount"),
+            VolumeFault::MapKind => write!(f, "MapKind"),
+            VolumeFault::NoPartition => write!(f, "NoPartition"),
+            VolumeFault::Contents => write!(f, "Contents"),
+            VolumeFault::PartitionRange => write!(f, "PartitionRange"),
+            VolumeFault::SparingTag => write!(f, "SparingTag"),
+            VolumeFault::SparingShape => write!(f, "SparingShape"),
+            VolumeFault::SparingOrder => write!(f, "SparingOrder"),
+            VolumeFault::MappedRange => write!(f, "MappedRange"),
+            VolumeFault::FileSet => write!(f, "FileSet"),
+        }
+    }
+}
+
+impl Error for VolumeFault {}
