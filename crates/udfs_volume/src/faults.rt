@@ -1,5 +1,8 @@
 //! What is wrong with a volume.
 
+ghost use Rattle.std.specs.Prelude.{Some};
+ghost use Rattle.udfs_volume.specs.FaultNames.{fault_name};
+
 use std::error::Error;
 use std::fmt;
 
@@ -44,25 +47,27 @@ pub enum VolumeFault {
 
 /// The fault's name, as a report prints it.
 impl fmt::Display for VolumeFault {
+    ghost output = { λ fault. Some (fault_name fault) };
+
     fn fmt<W: fmt::Write>(&self, f: &mut fmt::Formatter<W>) -> fmt::Result {
-        match self {
-            VolumeFault::NoAnchor => write!(f, "NoAnchor"),
-            VolumeFault::Extents => write!(f, "Extents"),
-            VolumeFault::Pointer => write!(f, "Pointer"),
-            VolumeFault::NoLogicalVolume => write!(f, "NoLogicalVolume"),
-            VolumeFault::Domain => write!(f, "Domain"),
-            VolumeFault::BlockSize => write!(f, "BlockSize"),
-            VolumeFault::MapCount => write!(f, "MapCount"),
-            VolumeFault::MapKind => write!(f, "MapKind"),
-            VolumeFault::NoPartition => write!(f, "NoPartition"),
-            VolumeFault::Contents => write!(f, "Contents"),
-            VolumeFault::PartitionRange => write!(f, "PartitionRange"),
-            VolumeFault::SparingTag => write!(f, "SparingTag"),
-            VolumeFault::SparingShape => write!(f, "SparingShape"),
-            VolumeFault::SparingOrder => write!(f, "SparingOrder"),
-            VolumeFault::MappedRange => write!(f, "MappedRange"),
-            VolumeFault::FileSet => write!(f, "FileSet"),
-        }
+        f.write_str(match self {
+            VolumeFault::NoAnchor => "NoAnchor",
+            VolumeFault::Extents => "Extents",
+            VolumeFault::Pointer => "Pointer",
+            VolumeFault::NoLogicalVolume => "NoLogicalVolume",
+            VolumeFault::Domain => "Domain",
+            VolumeFault::BlockSize => "BlockSize",
+            VolumeFault::MapCount => "MapCount",
+            VolumeFault::MapKind => "MapKind",
+            VolumeFault::NoPartition => "NoPartition",
+            VolumeFault::Contents => "Contents",
+            VolumeFault::PartitionRange => "PartitionRange",
+            VolumeFault::SparingTag => "SparingTag",
+            VolumeFault::SparingShape => "SparingShape",
+            VolumeFault::SparingOrder => "SparingOrder",
+            VolumeFault::MappedRange => "MappedRange",
+            VolumeFault::FileSet => "FileSet",
+        })
     }
 }
 

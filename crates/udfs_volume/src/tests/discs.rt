@@ -206,7 +206,7 @@ pub fn said(alloc: Global, table: &BlockTable) -> Result<String, Fail> {
         }
         Seen::Fault(fault) => {
             let number = fault as u8;
-            Ok(format!(in alloc; "fault {number} {fault:?}")?)
+            Ok(format!(in alloc; "fault {number} {fault}")?)
         }
         Seen::OutOfMemory => Ok(format!(in alloc; "out of memory")?),
     }
