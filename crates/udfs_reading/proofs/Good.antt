@@ -88,13 +88,18 @@ tells_readings remaining [] (rs ∷ rss) h = absurd h
 tells_readings remaining (r ∷ olds) [] h = absurd h
 tells_readings remaining (r ∷ olds) (rs ∷ rss) h = ((h.0.0, h.0.1, reading_input h.0.0 rs h.0.2), tells_readings remaining olds rss h.1)
 
+pub any_mixture : {R : Type 0} (remaining : R → Option (List ℕ)) (olds : List R) (r : Result Table InputError)
+    → IfOk r (λ table. (ts : List Table) × TablesAre remaining olds ts × (table ≡ join_all ts))
+    → (rss : List (List Record)) (rs : List Record) → AllTell remaining olds (map table_of rss) → SameRecords (all_records rss) rs → IfOk r (λ table. table ≡ table_of rs)
+any_mixture remaining olds (Ok table) ok rss rs h same =
+    ok.2 ∙ ap join_all (same_tables remaining olds (map table_of rss) ok.0 h ok.1)
+    ∙ join_all-records rss ∙ table_of-same (all_records rss) rs same
+any_mixture remaining olds (Err e) ok rss rs h same = tt
+
 pub any_split : {R : Type 0} (remaining : R → Option (List ℕ)) (olds : List R) (r : Result Table InputError)
     → IfOk r (λ table. (ts : List Table) × TablesAre remaining olds ts × (table ≡ join_all ts))
     → (rss : List (List Record)) (rs : List Record) → AllReadings remaining olds rss → SameRecords (all_records rss) rs → IfOk r (λ table. table ≡ table_of rs)
-any_split remaining olds (Ok table) ok rss rs h same =
-    ok.2 ∙ ap join_all (same_tables remaining olds (map table_of rss) ok.0 (tells_readings remaining olds rss h) ok.1)
-    ∙ join_all-records rss ∙ table_of-same (all_records rss) rs same
-any_split remaining olds (Err e) ok rss rs h same = tt
+any_split remaining olds r ok rss rs h same = any_mixture remaining olds r ok rss rs (tells_readings remaining olds rss h) same
 
 -- ---- which input is named
 

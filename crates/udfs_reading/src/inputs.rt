@@ -77,6 +77,9 @@ pub fn join_inputs<R: Source>(alloc: Global, inputs: &mut [R]) -> Result<BlockTa
     // and for readings however their records are ordered, repeated and split over files.
     ensures any_split { (rss : List (List Record)) (rs : List Record) → AllReadings R.remaining inputs.old rss →
         SameRecords (all_records rss) rs → IfOk result (λ table. table ≡ table_of rs) }
+    // So for a mixture of files, where each input, a reading or a table file, has the table of some of the records.
+    ensures any_mixture { (rss : List (List Record)) (rs : List Record) → AllTell R.remaining inputs.old (map table_of rss) →
+        SameRecords (all_records rss) rs → IfOk result (λ table. table ≡ table_of rs) }
     // The first input that is no good file is named, with its fault and record, or a device or memory is blamed.
     ensures first { (input : ℕ) (fault : ReadingFault) (number : ℕ) → IsFirstFaulty R.remaining inputs.old input fault number →
         MatchResult result (λ _. ⊥) (λ e. IsOfFile e.error.fault → (e.input ≡ input) × (e.error.fault ≡ fault) × (e.error.number ≡ number)) }
