@@ -1,10 +1,11 @@
 //! A volume with one map of type 1, and its changes.
 
-use super::discs::{Bytes, Disc, LAST, label, said};
+use super::said::{label, said, said_of};
 use crate::layouts::layout;
 use crate::maps::PartitionMap;
 use crate::seen::Seen;
 use std::test::Fail;
+use udfs_samples::{Bytes, Disc, LAST};
 
 /// With all blocks known: a change, and what the layout then says.
 const CHANGES: [(Bytes, &str); 21] = [
@@ -39,8 +40,8 @@ fn changes(rt: HostRuntime) -> Result<(), Fail> {
     let alloc = rt.alloc();
     for ((n, at, bytes), want) in CHANGES {
         let mut disc = Disc::type1(alloc)?;
-        disc.write(&[(n, at, bytes)]);
-        let said = disc.said(alloc)?;
+        disc.write(&[(n, at, bytes)])?;
+        let said = said_of(alloc, &disc)?;
         assert_eq!(rt; said.as_str(), want, "{n}: {at} is {bytes:?}");
     }
     Ok(())
@@ -50,8 +51,8 @@ fn changes(rt: HostRuntime) -> Result<(), Fail> {
 fn no_anchor(rt: HostRuntime) -> Result<(), Fail> {
     let alloc = rt.alloc();
     let mut disc = Disc::type1(alloc)?;
-    disc.write(&[(256, 0, &[3]), (600, 12, &[0x57])]);
-    assert_eq!(rt; disc.said(alloc)?.as_str(), "fault 1 NoAnchor");
+    disc.write(&[(256, 0, &[3]), (600, 12, &[0x57])])?;
+    assert_eq!(rt; said_of(alloc, &disc)?.as_str(), "fault 1 NoAnchor");
     let table = disc.known_but(alloc, &[344])?;
     assert_eq!(rt; said(alloc, &table)?.as_str(), "holes 344");
     Ok(())
@@ -122,7 +123,7 @@ fn labels(rt: HostRuntime) -> Result<(), Fail> {
     let alloc = rt.alloc();
     for (used, want) in [(5, "name TEST"), (0, "empty"), (0x80, "invalid")] {
         let mut disc = Disc::type1(alloc)?;
-        disc.write_at(32, 211, &[used]);
+        disc.write_at(32, 211, &[used])?;
         let table = disc.known_but(alloc, &[])?;
         assert_eq!(rt; label(alloc, &table)?.as_str(), want);
     }
