@@ -129,3 +129,45 @@ fn labels(rt: HostRuntime) -> Result<(), Fail> {
     }
     Ok(())
 }
+
+/// Of the partition descriptors with a map's number the one with the greatest sequence number prevails, and
+/// of equal ones the first. The one at 34 has one block too many.
+#[test]
+fn prevailing(rt: HostRuntime) -> Result<(), Fail> {
+    let alloc = rt.alloc();
+    let cases: [(&[u8], &[u8], &str); 4] = [
+        (&[1], &[0, 0], "ok revision 1.50 map type1"),
+        (&[2], &[0, 0], "ok revision 1.50 map type1"),
+        (&[3], &[0, 0], "fault 11 PartitionRange"),
+        (&[3], &[1, 0], "ok revision 1.50 map type1"),
+    ];
+    for (sequence_number, number, want) in cases {
+        let mut disc = Disc::type1(alloc)?;
+        disc.write_tag(34, 0, 5, 34)?;
+        disc.write_at(34, 16, sequence_number)?;
+        disc.write_at(34, 22, number)?;
+        disc.write_at(34, 25, b"+NSR02")?;
+        disc.write_at(34, 188, &[0x10, 1, 0, 0, 0x4a, 1])?;
+        let said = said_of(alloc, &disc)?;
+        assert_eq!(rt; said.as_str(), want, "{sequence_number:?} {number:?}");
+    }
+    Ok(())
+}
+
+/// Only descriptors before the end count, and only those of positions that are known.
+#[test]
+fn a_descriptor_behind_a_hole_or_the_end(rt: HostRuntime) -> Result<(), Fail> {
+    let alloc = rt.alloc();
+    let mut disc = Disc::type1(alloc)?;
+    disc.write_tag(35, 0, 5, 35)?;
+    disc.write_at(35, 16, &[9])?;
+    assert_eq!(rt;
+        said_of(alloc, &disc)?.as_str(),
+        "ok revision 1.50 map type1"
+    );
+    disc.write_tag(34, 0, 5, 34)?;
+    disc.write_at(34, 16, &[9])?;
+    let table = disc.known_but(alloc, &[33, 49])?;
+    assert_eq!(rt; said(alloc, &table)?.as_str(), "holes 33 49");
+    Ok(())
+}
