@@ -132,8 +132,19 @@ impl Disc {
         self.write_at(n, 0, &[byte; 2048])
     }
 
-    /// Writes the tag of a descriptor (ECMA-167 3/7.2) at a byte position of a block: version 2, with the
-    /// checksum that it has to have, and with a CRC that covers no byte.
+    /// The tag of a descriptor (ECMA-167 3/7.2): version 2, with the checksum that it has to have, and with a
+    /// CRC that covers no byte.
+    pub fn tag(identifier: u16, location: u32) -> [u8; 16] {
+        let [id_low, id_high] = identifier.to_le_bytes();
+        let [a, b, c, d] = location.to_le_bytes();
+        let mut sum = 2u8;
+        for byte in [id_low, id_high, a, b, c, d] {
+            sum = sum.wrapping_add(byte);
+        }
+        [id_low, id_high, 2, 0, sum, 0, 0, 0, 0, 0, 0, 0, a, b, c, d]
+    }
+
+    /// Writes such a tag at a byte position of a block.
     pub fn write_tag(
         &mut self,
         n: u32,
@@ -141,14 +152,7 @@ impl Disc {
         identifier: u16,
         location: u32,
     ) -> Result<(), AllocError> {
-        let [id_low, id_high] = identifier.to_le_bytes();
-        let [a, b, c, d] = location.to_le_bytes();
-        let mut sum = 2u8;
-        for byte in [id_low, id_high, a, b, c, d] {
-            sum = sum.wrapping_add(byte);
-        }
-        let tag = [id_low, id_high, 2, 0, sum, 0, 0, 0, 0, 0, 0, 0, a, b, c, d];
-        self.write_at(n, at, &tag)
+        self.write_at(n, at, &Disc::tag(identifier, location))
     }
 
     /// Where the block is kept; it becomes a block of zeros if nothing is written in it yet.

@@ -3,7 +3,7 @@
 use crate::discs::Bytes;
 
 /// 2001-07-04 at 10:30, one hour before UTC (ECMA-167 1/7.3).
-const STAMP: [u8; 8] = [0x3c, 0x10, 0xd1, 7, 7, 4, 0x0a, 0x1e];
+pub(crate) const STAMP: [u8; 8] = [0x3c, 0x10, 0xd1, 7, 7, 4, 0x0a, 0x1e];
 
 /// The tag of a file identifier descriptor in logical block 2.
 const IDENTIFIER_TAG: [u8; 13] = [1, 1, 2, 0, 6, 0, 0, 0, 0, 0, 0, 0, 2];

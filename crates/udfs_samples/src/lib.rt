@@ -2,12 +2,14 @@
 //! readings that know a part of them. The program never uses them.
 #![tactic(auto)]
 
+pub mod directories;
 pub mod discs;
 mod files;
 mod sparable;
 mod two_maps;
 mod volume;
 
+pub use directories::NamedEntry;
 pub use discs::{Bytes, Disc};
 
 /// The last block of each sample volume.

@@ -116,3 +116,35 @@ fn tables(rt: HostRuntime) -> Result<(), Fail> {
     assert_eq!(rt; disc.known_at(alloc, &[256, 5])?.known(), 2);
     Ok(())
 }
+
+/// A directory that is built has the bytes of the sample's root, but for the parent's descriptor; and a
+/// descriptor goes on in the next block.
+#[test]
+fn directories(rt: HostRuntime) -> Result<(), Fail> {
+    let alloc = rt.alloc();
+    let sample = Disc::type1(alloc)?;
+    let mut disc = Disc::blank(alloc);
+    disc.write_directory(272, 1, &[(b"\x08A", 3), (b"\x08B", 4)])?;
+    for i in 0..80usize {
+        let there = i.wrapping_add(40);
+        assert_eq!(rt; byte(&disc, 274, i), byte(&sample, 274, there), "{i}");
+    }
+    for i in 0..200usize {
+        let size = i == 56 || i == 176;
+        let want = if size {
+            Some(80)
+        } else {
+            byte(&sample, 273, i)
+        };
+        assert_eq!(rt; byte(&disc, 273, i), want, "{i}");
+    }
+    let names = [(b"\x08A".as_slice(), 3); 52];
+    disc.write_directory(272, 1, &names)?;
+    assert_eq!(rt; byte(&disc, 273, 56), Some(0x20));
+    assert_eq!(rt; byte(&disc, 273, 57), Some(8));
+    assert_eq!(rt; byte(&disc, 274, 2040), Some(1));
+    assert_eq!(rt; byte(&disc, 275, 4), Some(2));
+    assert_eq!(rt; byte(&disc, 275, 30), Some(8));
+    assert_eq!(rt; byte(&disc, 275, 31), Some(0x41));
+    Ok(())
+}

@@ -1,6 +1,7 @@
 //! The second partition of the volume with two maps.
 
 use crate::discs::Bytes;
+use crate::files::STAMP;
 
 /// The first partition shortened, the descriptor of the second (ECMA-167 3/10.5) and the ends of the
 /// sequence behind it.
@@ -37,7 +38,7 @@ pub(crate) const SECOND_MAP: [Bytes; 12] = [
     (520, 27, &[5]),
     (520, 34, &[3]),
     (520, 56, &[2]),
-    (520, 84, &[0x3c, 0x10, 0xd1, 7, 7, 4, 0x0a, 0x1e]),
+    (520, 84, &STAMP),
     (520, 172, &[2]),
     (520, 176, b"Hi"),
 ];

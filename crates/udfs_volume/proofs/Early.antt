@@ -37,6 +37,10 @@ told_by view (Holes blocks) answer f s no_memory e = absurd (let no : ⊥ = cc i
 told_by view (Fault g) answer f s no_memory e = let same : g ≡ f = cc in ap Fault same
 told_by view OutOfMemory answer f s no_memory e = absurd (no_memory refl e)
 
+-- an answer is one fault
+pub same_fault : {A B : Type 0} (a : Answer B) (f g : VolumeFault) → a ≡ faulty f → a ≡ faulty g → ◌≡◌ {A = Seen A} (Fault f) (Fault g)
+same_fault a f g p q = let same : f ≡ g = cc in ap Fault same
+
 -- no fault of an anchor
 abbrev pub NotEarly : {A : Type 0} → Answer A → Type 0
 NotEarly (found x) = ⊤

@@ -25,9 +25,9 @@ pub anchor-found : (T : Blocks) (last : ℕ) (e : AnchorExtents) → Some e ≡ 
 unfolding anchor
 anchor-found T last e h = some_anchor (first_anchor T (anchor_places last)) (not_known T (anchor_places last)) e h
 
-pub anchor-none : (T : Blocks) (last : ℕ) → None ≡ option_map extents_of (first_anchor T (anchor_places last)) → not_known T (anchor_places last) ≡ [] → anchor T last ≡ faulty NoAnchor
+pub anchor-without : (T : Blocks) (last : ℕ) → None ≡ option_map extents_of (first_anchor T (anchor_places last)) → anchor T last ≡ anchor_or None (not_known T (anchor_places last))
 unfolding anchor
-anchor-none T last h e = no_anchor (first_anchor T (anchor_places last)) (not_known T (anchor_places last)) h ∙ ap (anchor_or None) e
+anchor-without T last h = no_anchor (first_anchor T (anchor_places last)) (not_known T (anchor_places last)) h
 
 pub anchor-holes : (T : Blocks) (last : ℕ) (unread : List ℕ) → None ≡ option_map extents_of (first_anchor T (anchor_places last)) → unread ≡ not_known T (anchor_places last) → (unread ≡ [] → ⊥) → anchor T last ≡ holes unread
 unfolding anchor

@@ -76,9 +76,9 @@ pub layout-holes : (T : Blocks) (last : ℕ) (ns : List ℕ) → sequence T last
 unfolding layout
 layout-holes T last ns h = ap (λ a. and_then a (layout_of last)) h
 
-pub layout-faulty : (T : Blocks) (last : ℕ) (f : VolumeFault) → sequence T last ≡ faulty f → layout T last ≡ faulty f
+pub layout_faulty : (T : Blocks) (last : ℕ) (f : VolumeFault) → sequence T last ≡ faulty f → layout T last ≡ faulty f
 unfolding layout
-layout-faulty T last f h = ap (λ a. and_then a (layout_of last)) h
+layout_faulty T last f h = ap (λ a. and_then a (layout_of last)) h
 
 pub layout-read : (T : Blocks) (last : ℕ) (ds : List Descriptor) → sequence T last ≡ found ds → layout T last ≡ layout_of last ds
 unfolding layout

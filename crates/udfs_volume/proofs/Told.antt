@@ -1,7 +1,7 @@
 -- What the call `layout` tells, by what the layout is.
 use Rattle.std.proofs.Common.{◌≡◌, refl, sym, ◌∙◌, ap, subst, ℕ, ◌≤◌, Bool, true, false, not, List, cond, Option, Some, None}
 use Rattle.std.specs.List.{list_all}
-use Rattle.udfs_lattice.specs.Volumes.{Blocks, Volume, IsVolume, complete}
+use Rattle.udfs_lattice.specs.Volumes.{Blocks, Agrees, Volume, IsVolume, complete}
 use Rattle.udfs_volume.specs.declared.faults.VolumeFault.{VolumeFault}
 use Rattle.udfs_volume.specs.declared.faults.VolumeFault.TheVariants.{NoAnchor, Extents, Domain, BlockSize, MapCount, MapKind, Contents, PartitionRange}
 use Rattle.udfs_volume.specs.declared.layouts.VolumeParts.{VolumeParts}
@@ -40,6 +40,9 @@ no_fault_of : (T : Blocks) (V : Volume) (N : ℕ) (f : VolumeFault) → IsLawful
     → IsAnswerOf T (valid_anchors V N) (anchor_places N) (IsSequenceGroup V N) (layout T N) (layout (complete V N) N) → ⊥
 no_fault_of T V N f lw is (the_same e known) = let l : layout (complete V N) N ≡ found lw.laid_out.0 = lw.laid_out.1 in cc
 no_fault_of T V N f lw is (unread listed e lists) = cc
+
+pub no_fault : (T : Blocks) (N : ℕ) (f : VolumeFault) → layout T N ≡ faulty f → (V : Volume) → IsVolume V N → IsLawfulLayout V N → Agrees T V N → ⊥
+no_fault T N f is V hv lw a = no_fault_of T V N f lw is (layout_law T V N hv lw a)
 
 pub tells_lawful : (T : Blocks) (N : ℕ) (seen : Seen VolumeParts) → Sees parts_now seen (layout T N) → TellsLawful T N seen
 tells_lawful T N (Got parts) s V hv lw a = got_of T V N (parts_now parts) hv lw s (layout_law T V N hv lw a)

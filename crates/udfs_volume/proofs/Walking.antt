@@ -75,9 +75,9 @@ pub sequence-holes : (T : Blocks) (last : ℕ) (ns : List ℕ) → anchor T last
 unfolding sequence
 sequence-holes T last ns h = ap (λ a. and_then a (sequence_at T last)) h
 
-pub sequence-faulty : (T : Blocks) (last : ℕ) (f : VolumeFault) → anchor T last ≡ faulty f → sequence T last ≡ faulty f
+pub sequence_faulty : (T : Blocks) (last : ℕ) (f : VolumeFault) → anchor T last ≡ faulty f → sequence T last ≡ faulty f
 unfolding sequence
-sequence-faulty T last f h = ap (λ a. and_then a (sequence_at T last)) h
+sequence_faulty T last f h = ap (λ a. and_then a (sequence_at T last)) h
 
 pub sequence-found : (T : Blocks) (last : ℕ) (e : AnchorExtents) → anchor T last ≡ found e → sequence T last ≡ sequence_at T last e
 unfolding sequence

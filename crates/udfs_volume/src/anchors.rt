@@ -1,12 +1,12 @@
 //! Anchors (ECMA-167 3/10.2).
 
-ghost use Rattle.std.specs.Prelude.{◌≡◌, ◌≢◌, ◌≤◌, ◌∷◌, [], IfOk, IfErr, option_map};
+ghost use Rattle.std.specs.Prelude.{◌≡◌, ◌≢◌, ◌≤◌, ◌∷◌, [], IfOk, IfErr, None, option_map};
 ghost use Rattle.udfs_lattice.specs.States.{is_known};
 ghost use Rattle.udfs_lattice.specs.Tables.{state_of};
 ghost use Rattle.udfs_lattice.specs.Volumes.{not_known};
 ghost use Rattle.udfs_volume.specs.Answers.{IsHoles};
 ghost use Rattle.udfs_volume.specs.Seen.{Sees, HolesRise};
-ghost use Rattle.udfs_volume.specs.Sequence.{anchor, anchor_here, anchor_places, extents_of, first_anchor};
+ghost use Rattle.udfs_volume.specs.Sequence.{anchor, anchor_here, anchor_or, anchor_places, extents_of, first_anchor};
 
 use crate::faults::VolumeFault;
 use crate::seen::Seen;
@@ -93,6 +93,17 @@ fn places(last: u32) -> [u32; 3]
     [256, last - 256, last]
 }
 
+/// What is seen where no anchor is, by the places that are not known: these are holes, or there are none.
+fn without_anchor(unread: Vec<u32>) -> Seen<AnchorExtents>
+    ensures value { Sees (λ extents. extents) result (anchor_or None unread.items) }
+    ensures memory { result ≢ Seen.OutOfMemory }
+{
+    if unread.is_empty() {
+        return Seen::Fault(VolumeFault::NoAnchor);
+    }
+    Seen::Holes(unread)
+}
+
 /// The extents of the first anchor: of the blocks 256, `last - 256` and `last` the first that is known and
 /// valid there with identifier 2 (ECMA-167 3/8.4.2.1, UDF 2.2.3). Without one, those of the three that are
 /// not known are holes, and where all three are known the fault is `NoAnchor`.
@@ -110,13 +121,7 @@ pub fn anchor(alloc: Global, table: &BlockTable, last: u32) -> Seen<AnchorExtent
         return Seen::Got(extents);
     }
     match not_known(alloc, table, &places) {
-        Ok(unread) => {
-            if unread.is_empty() {
-                Seen::Fault(VolumeFault::NoAnchor)
-            } else {
-                Seen::Holes(unread)
-            }
-        }
+        Ok(unread) => without_anchor(unread),
         Err(_) => Seen::OutOfMemory,
     }
 }

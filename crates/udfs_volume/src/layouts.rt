@@ -246,6 +246,7 @@ fn layout_of(
 /// none is known. A layout that is found lies within the volume.
 ///
 /// A fault of the anchor is told whatever memory there is.
+#[tactic(auto, using(crate::proofs::LayoutSteps::layout_faulty, crate::proofs::Early::same_fault, crate::proofs::Told::no_fault))]
 pub fn layout(alloc: Global, table: &BlockTable, last: u32) -> Seen<VolumeParts>
     requires from { 513 ≤ last }
     requires to { last ≤ 4194303 }

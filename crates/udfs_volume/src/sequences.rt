@@ -118,6 +118,7 @@ fn read_positions<'a>(
 }
 
 /// The sequence that stands in these extents, if they are as they have to be.
+#[tactic(auto, using(crate::proofs::Walking::unfit))]
 fn sequence_at<'a>(
     alloc: Global,
     table: &'a BlockTable,
@@ -142,6 +143,7 @@ fn sequence_at<'a>(
 /// copy is read where it is known, else the reserve copy; where neither is known, the two are holes.
 ///
 /// It takes memory for holes and for descriptors: a fault of the anchor is told whatever memory there is.
+#[tactic(auto, using(crate::proofs::Walking::sequence_faulty, crate::proofs::Early::same_fault))]
 pub fn sequence<'a>(alloc: Global, table: &'a BlockTable, last: u32) -> Seen<Sequence<'a>>
     requires from { 513 ≤ last }
     requires to { last ≤ 4194303 }

@@ -5,7 +5,7 @@ use Rattle.udfs_volume.specs.Seen.{Sees}
 use Rattle.udfs_volume.specs.Layout.{layout, layout_of}
 use Rattle.udfs_volume.specs.LayoutParts.{parts_now}
 use Rattle.udfs_volume.specs.Sequences.{sequence_now}
-use Rattle.udfs_volume.proofs.LayoutSteps.{layout-holes, layout-faulty, layout-read}
+use Rattle.udfs_volume.proofs.LayoutSteps.{layout-holes, layout_faulty, layout-read}
 use Rattle.udfs_volume.proofs.Told.{layout_clauses}
 use Rattle.udfs_volume.proofs.layouts.layout.Goals as goal
 
@@ -14,12 +14,6 @@ returns-in-Holes c =
     let t = state_of c.args.table.now in
     layout_clauses t c.args.last (Holes c.in-Holes.blocks) c.requires.from
     (layout-holes t c.args.last c.in-Holes.blocks.items c.in-Holes.ensures.value) (λ none e. cc) (λ none e. cc)
-
-pub returns-in-Fault : goal.returns-in-Fault
-returns-in-Fault c =
-    let t = state_of c.args.table.now in
-    layout_clauses t c.args.last (Fault c.in-Fault.fault) c.requires.from
-    (layout-faulty t c.args.last c.in-Fault.fault c.in-Fault.ensures.value) (λ none e. cc) (λ none e. cc)
 
 pub returns-in-OutOfMemory : goal.returns-in-OutOfMemory
 returns-in-OutOfMemory c =

@@ -3,7 +3,7 @@ use Rattle.udfs_lattice.specs.Tables.{state_of}
 use Rattle.udfs_volume.specs.declared.seen.Seen.TheVariants.{Holes, Fault, OutOfMemory}
 use Rattle.udfs_volume.specs.Seen.{Sees}
 use Rattle.udfs_volume.specs.Sequences.{sequence_now}
-use Rattle.udfs_volume.proofs.Walking.{sequence-holes, sequence-faulty, sequence-found}
+use Rattle.udfs_volume.proofs.Walking.{sequence-holes, sequence_faulty, sequence-found}
 use Rattle.udfs_volume.proofs.Early.{sequence_clauses, no_early_in, no_fault_of_holes}
 use Rattle.udfs_volume.proofs.sequences.sequence.Goals as goal
 
@@ -20,12 +20,6 @@ returns-in-Holes c =
     let t = state_of c.args.table.now in
     sequence_clauses t c.args.last (Holes c.in-Holes.blocks) c.requires.from
     (sequence-holes t c.args.last c.in-Holes.blocks.items c.in-Holes.ensures.value) (λ f early none e. cc)
-
-pub returns-in-Fault : goal.returns-in-Fault
-returns-in-Fault c =
-    let t = state_of c.args.table.now in
-    sequence_clauses t c.args.last (Fault c.in-Fault.fault) c.requires.from
-    (sequence-faulty t c.args.last c.in-Fault.fault c.in-Fault.ensures.value) (λ f early none e. cc)
 
 pub returns-in-OutOfMemory : goal.returns-in-OutOfMemory
 returns-in-OutOfMemory c =
