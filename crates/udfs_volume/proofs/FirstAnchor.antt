@@ -5,8 +5,7 @@ use Rattle.std.proofs.lemmas.List.{length-append, drop_more}
 use Rattle.udfs_lattice.specs.States.{is_known}
 use Rattle.udfs_lattice.specs.Volumes.{Blocks, not_known}
 use Rattle.udfs_volume.specs.declared.anchors.AnchorExtents.{AnchorExtents}
-use Rattle.udfs_volume.specs.declared.faults.VolumeFault.TheVariants.{NoAnchor}
-use Rattle.udfs_volume.specs.Answers.{found, holes, faulty, IsHoles}
+use Rattle.udfs_volume.specs.Answers.{found, holes, IsHoles}
 use Rattle.udfs_volume.specs.Sequence.{Bytes, anchor, anchor_or, anchor_places, extents_of, first_anchor}
 
 some_anchor : (o : Option Bytes) (unread : List ℕ) (e : AnchorExtents) → Some e ≡ option_map extents_of o → anchor_or o unread ≡ found e

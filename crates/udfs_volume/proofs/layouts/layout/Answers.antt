@@ -1,11 +1,11 @@
 use Rattle.std.proofs.Common.{◌≡◌, sym, subst}
 use Rattle.udfs_lattice.specs.Tables.{state_of}
-use Rattle.udfs_volume.specs.declared.seen.Seen.TheVariants.{Holes, Fault, OutOfMemory}
+use Rattle.udfs_volume.specs.declared.seen.Seen.TheVariants.{Holes, OutOfMemory}
 use Rattle.udfs_volume.specs.Seen.{Sees}
 use Rattle.udfs_volume.specs.Layout.{layout, layout_of}
 use Rattle.udfs_volume.specs.LayoutParts.{parts_now}
 use Rattle.udfs_volume.specs.Sequences.{sequence_now}
-use Rattle.udfs_volume.proofs.LayoutSteps.{layout-holes, layout_faulty, layout-read}
+use Rattle.udfs_volume.proofs.LayoutSteps.{layout-holes, layout-read}
 use Rattle.udfs_volume.proofs.Told.{layout_clauses}
 use Rattle.udfs_volume.proofs.layouts.layout.Goals as goal
 

@@ -1,9 +1,9 @@
 use Rattle.std.proofs.Common.{refl, sym, ◌∙◌, subst}
 use Rattle.udfs_lattice.specs.Tables.{state_of}
-use Rattle.udfs_volume.specs.declared.seen.Seen.TheVariants.{Holes, Fault, OutOfMemory}
+use Rattle.udfs_volume.specs.declared.seen.Seen.TheVariants.{Holes, OutOfMemory}
 use Rattle.udfs_volume.specs.Seen.{Sees}
 use Rattle.udfs_volume.specs.Sequences.{sequence_now}
-use Rattle.udfs_volume.proofs.Walking.{sequence-holes, sequence_faulty, sequence-found}
+use Rattle.udfs_volume.proofs.Walking.{sequence-holes, sequence-found}
 use Rattle.udfs_volume.proofs.Early.{sequence_clauses, no_early_in, no_fault_of_holes}
 use Rattle.udfs_volume.proofs.sequences.sequence.Goals as goal
 

@@ -2,7 +2,7 @@ use Rattle.std.proofs.Common.{sym, ◌∙◌, subst}
 use Rattle.udfs_lattice.specs.Tables.{state_of}
 use Rattle.udfs_volume.specs.Seen.{Sees}
 use Rattle.udfs_volume.specs.Sequences.{sequence_now}
-use Rattle.udfs_volume.proofs.Walking.{fit, unfit}
+use Rattle.udfs_volume.proofs.Walking.{fit}
 use Rattle.udfs_volume.proofs.sequences.sequence_at.Goals as goal
 
 pub returns-in-Ok-clause-value : goal.returns-in-Ok-clause-value
