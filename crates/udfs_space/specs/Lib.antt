@@ -1,0 +1,5 @@
+pub mod Sparing
+pub mod Places
+pub mod Parts
+pub mod Standard
+pub mod Laws
