@@ -4,7 +4,6 @@
 --     SpaceLaw, PlaceLaw                      the places are the volume's, or a group is unread
 --     StandardSpace                           with all known they are those of the first sparing table
 use Rattle.std.specs.Prelude.{◌≡◌, ℕ, ◌<◌, List, [], drop, true, ⊤}
-
 use Rattle.udfs_lattice.specs.Volumes.{Blocks, Includes, Volume, IsVolume, Agrees, complete}
 use Rattle.udfs_tag.specs.Tags.{is_valid}
 use Rattle.udfs_volume.specs.Answers.{found}

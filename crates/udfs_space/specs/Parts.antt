@@ -1,8 +1,12 @@
 -- What holds of the partitions of the code, whichever table they come from.
 --     IsLaidOut layout        the layout is that of some table
+--     FitAll count places     tables of so many blocks end where blocks may end
 --     IsSound span            what holds of every partition of a space
-use Rattle.std.specs.Prelude.{◌≡◌, ◌⊎◌, ℕ, ◌+◌, ◌*◌, ◌%◌, ◌<◌, ◌≤◌, List, length, slice_get, Some}
-use Rattle.udfs_lattice.specs.Volumes.{Blocks, Includes}
+use Rattle.std.specs.Prelude.{◌≡◌, ℕ, ◌+◌, ◌%◌, ◌<◌, ◌≤◌, List, length, slice_index_or, All, Option, Some, None, ⊤}
+use Rattle.std.specs.Borrow.{Bor}
+use Rattle.udfs_lattice.specs.Volumes.{Blocks}
+use Rattle.udfs_volume.specs.declared.seen.Seen.{Seen}
+use Rattle.udfs_volume.specs.declared.seen.Seen.TheVariants.{Got, Holes, Fault, OutOfMemory}
 use Rattle.udfs_volume.specs.Answers.{found}
 use Rattle.udfs_volume.specs.Layout.{Layout, layout}
 use Rattle.udfs_space.specs.declared.entries.SparingEntry.{SparingEntry}
@@ -16,19 +20,40 @@ pub record IsLaidOut (l : Layout) : Type 0 where
   pub to : last ≤ 4194303
   pub laid_out : layout blocks last ≡ found l
 
--- each packet begins at a multiple of its length, and is mapped to blocks that there may be
+-- tables of so many blocks end where blocks may end
+abbrev pub FitAll : ℕ → List ℕ → Type 0
+FitAll count places = All (λ place. place + count ≤ 4194304) places
+
+-- a known copy behind its reference
+abbrev pub copy_now : Option (ℕ × Bor (List ℕ)) → Option (ℕ × List ℕ)
+copy_now None = None
+copy_now (Some known) = Some (known.0, (known.1).now)
+
+-- a packet begins at a multiple of its length, and is mapped to blocks that there may be
 pub record IsSoundEntry (packet : ℕ) (e : SparingEntry) : Type 0 where
   pub whole : e.original % packet ≡ 0
   pub ends : e.mapped + packet ≤ 4194304
 
--- the packets rise
+-- the originals rise
 abbrev pub Rises : Spared → Type 0
-Rises es = (i j : ℕ) (e f : SparingEntry) → i < j → slice_get es i ≡ Some e → slice_get es j ≡ Some f → e.original < f.original
+Rises es = (i j : ℕ) (d : SparingEntry) → i < j → j < length es
+    → (slice_index_or es i d).original < (slice_index_or es j d).original
+
+-- packets that are spared: whole, within the blocks that there may be, each once
+pub record AreSound (packet : ℕ) (es : Spared) : Type 0 where
+  pub each : All (IsSoundEntry packet) es
+  pub rises : Rises es
 
 -- A partition is not empty and ends where blocks may end.
 pub record IsSound (s : Span) : Type 0 where
   pub not_empty : 0 < s.size
   pub ends : s.start + s.size ≤ 4194304
-  pub packet : (s.packet ≡ 1) ⊎ (s.packet ≡ 16) ⊎ (s.packet ≡ 32)
-  pub each : (e : SparingEntry) → Includes s.spared e → IsSoundEntry s.packet e
-  pub rises : Rises s.spared
+  pub packet : 0 < s.packet
+  pub spared : AreSound s.packet s.spared
+
+-- what is seen, if it is the thing itself
+abbrev pub IfGot : {A : Type 0} → Seen A → (A → Type 0) → Type 0
+IfGot (Got x) P = P x
+IfGot (Holes blocks) P = ⊤
+IfGot (Fault fault) P = ⊤
+IfGot OutOfMemory P = ⊤

@@ -5,7 +5,7 @@
 --     View                            a volume as the layers above see it: places and states
 --     block_at view reference b       the block at a logical address, with its state
 --     is_past places reference b n    whether one of n consecutive logical blocks has no place
-use Rattle.std.specs.Prelude.{◌≡◌, ◌⊎◌, ℕ, ◌+◌, ◌-◌, ◌%◌, ◌<◌, ◌≤◌, Bool, length, slice_get, cond, nat_eq, nat_lt, Option, Some, None, find, is_none, option_map}
+use Rattle.std.specs.Prelude.{◌≡◌, ◌⊎◌, ℕ, ◌+◌, ◌-◌, ◌%◌, ◌<◌, ◌≤◌, Bool, List, length, slice_get, cond, nat_eq, nat_lt, Option, Some, None, find, is_none, option_map}
 use Rattle.std.specs.List.{range_with_len, list_any}
 use Rattle.std.specs.Borrow.{Bor}
 use Rattle.udfs_lattice.specs.Volumes.{Blocks, Includes}

@@ -72,11 +72,15 @@ abbrev pub is_bad_original : ℕ → SparingEntry → Bool
 is_bad_original packet e =
     is_within 0xFFFF_FFF1 0xFFFF_FFFE e.original || is_used e && not (nat_eq (e.original % packet) 0)
 
+-- the next original is less, or the same while a packet stands there
+abbrev pub breaks_order : SparingEntry → SparingEntry → Bool
+breaks_order e next = nat_lt next.original e.original || is_used e && nat_eq next.original e.original
+
 -- the originals fall somewhere, or two used ones are equal
 abbrev pub is_out_of_order : List SparingEntry → Bool
 is_out_of_order [] = false
 is_out_of_order (e ∷ []) = false
-is_out_of_order (e ∷ f ∷ rest) = nat_lt f.original e.original || is_used e && nat_eq f.original e.original || is_out_of_order (f ∷ rest)
+is_out_of_order (e ∷ f ∷ rest) = breaks_order e f || is_out_of_order (f ∷ rest)
 
 -- the identifier of a sparing table stands behind the tag, which is valid
 abbrev pub is_sparing_table : Bool → Bytes → Bool

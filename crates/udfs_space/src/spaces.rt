@@ -1,16 +1,16 @@
 //! Where the logical blocks of a volume's partitions stand.
 
-ghost use Rattle.std.specs.Prelude.{◌≡◌, ◌≤◌, ◌<◌, ◌↔◌, ℕ, length, IfSome, IsSome, Some, option_map};
+ghost use Rattle.std.specs.Prelude.{◌≡◌, ◌≤◌, ◌<◌, ◌↔◌, ℕ, All, IfOk, IfSome, IsSome, Some, length, map, option_map};
 ghost use Rattle.udfs_lattice.specs.States.{fact_now};
 ghost use Rattle.udfs_lattice.specs.Tables.{state_of};
-ghost use Rattle.udfs_volume.specs.LayoutParts.{parts_now};
+ghost use Rattle.udfs_volume.specs.LayoutParts.{partition_now, parts_now};
+ghost use Rattle.udfs_volume.specs.Laws.{IsBoundedPartition};
 ghost use Rattle.udfs_volume.specs.Seen.{Sees};
 ghost use Rattle.udfs_space.specs.Parts.{IsLaidOut};
 ghost use Rattle.udfs_space.specs.Places.{StandsIn, block_at, block_now, is_past, length_of, place, view};
-ghost use Rattle.udfs_space.specs.Sparing.{space};
+ghost use Rattle.udfs_space.specs.Sparing.{space, spans};
 
 use crate::spans::Span;
-use crate::tables::span;
 use std::alloc::{AllocError, Global};
 use std::marker::Model;
 use udfs_lattice::{BlockTable, Fact};
@@ -42,10 +42,14 @@ fn spans(
     table: &BlockTable,
     last: u32,
     partitions: &[Partition],
-) -> Result<Seen<Vec<Span>>, AllocError> {
+) -> Result<Seen<Vec<Span>>, AllocError>
+    requires last { last ≤ 4194303 }
+    requires bounded { All (λ p. IsBoundedPartition last (partition_now p)) partitions.now }
+    ensures { IfOk result (λ seen. Sees (λ found. found.items) seen (spans (state_of table.now) last (map partition_now partitions.now))) }
+{
     let mut spans = Vec::new(alloc);
     for partition in partitions {
-        match span(alloc, table, last, partition)? {
+        match Span::build(alloc, table, last, partition)? {
             Seen::Got(span) => spans.push(span)?,
             Seen::Holes(blocks) => return Ok(Seen::Holes(blocks)),
             Seen::Fault(fault) => return Ok(Seen::Fault(fault)),
@@ -118,7 +122,8 @@ impl Space {
         ensures { result ≡ is_past (place self.now) reference block count }
     {
         match self.spans.get(usize::from(reference)) {
-            Some(span) => count != 0 && u64::from(block) + u64::from(count) > u64::from(span.length()),
+            Some(span) => count != 0
+                && u64::from(block) + u64::from(count) > u64::from(span.length()),
             None => count != 0,
         }
     }

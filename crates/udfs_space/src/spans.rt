@@ -1,20 +1,32 @@
 //! Where the blocks of one partition stand.
 
-ghost use Rattle.std.specs.Prelude.{◌≡◌, ◌≤◌, ◌<◌, IfSome};
+ghost use Rattle.std.specs.Prelude.{◌≡◌, ◌≤◌, ◌<◌, All, IfOk, IfSome};
+ghost use Rattle.udfs_lattice.specs.Tables.{state_of};
+ghost use Rattle.udfs_volume.specs.Laws.{IsBoundedPartition};
+ghost use Rattle.udfs_volume.specs.Layout.{blocks_in};
+ghost use Rattle.udfs_volume.specs.LayoutParts.{partition_now};
+ghost use Rattle.udfs_volume.specs.Parts.{sparable_now};
+ghost use Rattle.udfs_volume.specs.Seen.{Sees};
+ghost use Rattle.udfs_space.specs.Parts.{AreSound, FitAll, IfGot, IsSound};
 ghost use Rattle.udfs_space.specs.Places.{place_in};
+ghost use Rattle.udfs_space.specs.Sparing.{span, spared};
 
-use crate::entries::SparingEntry;
+use crate::copies::{first_copy, holes, table_bytes};
+use crate::entries::{SparingEntry, spared_by};
+use std::alloc::{AllocError, Global};
 use std::marker::Model;
+use udfs_lattice::BlockTable;
+use udfs_volume::{Partition, PartitionMap, Seen, SparableMap};
 
 /// Where the logical blocks of one partition stand.
 #[derive(Debug, Drop)]
 pub(crate) struct Span {
-    pub(crate) start: u32,
-    pub(crate) length: u32,
+    start: u32,
+    length: u32,
     /// The blocks of a packet, 1 where none is spared.
-    pub(crate) packet: u32,
+    packet: u32,
     /// The spared packets, with rising originals.
-    pub(crate) spared: Vec<SparingEntry>,
+    spared: Vec<SparingEntry>,
 }
 
 impl Model for Span {
@@ -29,6 +41,38 @@ impl Model for Span {
 }
 
 impl Span {
+    /// Where the blocks of a partition stand.
+    pub(crate) fn build(
+        alloc: Global,
+        table: &BlockTable,
+        last: u32,
+        partition: &Partition,
+    ) -> Result<Seen<Self>, AllocError>
+        requires last { last ≤ 4194303 }
+        requires bounded { IsBoundedPartition last (partition_now partition.now) }
+        ensures { IfOk result (λ seen. Sees (λ s. s) seen (span (state_of table.now) last (partition_now partition.now))) }
+    {
+        match &partition.kind {
+            PartitionMap::Type1 => Ok(Seen::Got(Span {
+                start: partition.start,
+                length: partition.length,
+                packet: 1,
+                spared: Vec::new(alloc),
+            })),
+            PartitionMap::Sparable(map) => match spared(alloc, table, last, map)? {
+                Seen::Got(spared) => Ok(Seen::Got(Span {
+                    start: partition.start,
+                    length: partition.length,
+                    packet: u32::from(map.packet),
+                    spared,
+                })),
+                Seen::Holes(blocks) => Ok(Seen::Holes(blocks)),
+                Seen::Fault(fault) => Ok(Seen::Fault(fault)),
+                Seen::OutOfMemory => Ok(Seen::OutOfMemory),
+            },
+        }
+    }
+
     /// The number of logical blocks.
     pub(crate) fn length(&self) -> u32
         ensures value { result ≡ self.now.size }
@@ -41,16 +85,43 @@ impl Span {
     /// The block that holds a logical block.
     pub(crate) fn place(&self, block: u32) -> Option<u32>
         ensures value { result ≡ place_in self.now block }
-        ensures fits { IfSome result (λ n. n ≤ 4194303) }
+        ensures sound { IsSound self.now }
     {
         if block >= self.length {
             return None;
         }
         let offset = block % self.packet;
         let first = block - offset;
-        match self.spared.binary_search_by_key(&first, |entry| entry.original) {
+        match self
+            .spared
+            .binary_search_by_key(&first, |entry| entry.original)
+        {
             Ok(i) => Some(self.spared[i].mapped + offset),
             Err(_) => Some(self.start + block),
         }
     }
+}
+
+/// The packets that the sparing table of a map spares.
+fn spared(
+    alloc: Global,
+    table: &BlockTable,
+    last: u32,
+    map: &SparableMap,
+) -> Result<Seen<Vec<SparingEntry>>, AllocError>
+    requires last { last ≤ 4194303 }
+    requires packet { 1 ≤ map.now.packet }
+    requires size { 56 ≤ map.now.size }
+    requires fit { FitAll (blocks_in map.now.size) map.now.tables.items }
+    ensures value { IfOk result (λ seen. Sees (λ packets. packets.items) seen (spared (state_of table.now) last (sparable_now map.now))) }
+    ensures sound { IfOk result (λ seen. IfGot seen (λ packets. AreSound map.now.packet packets.items)) }
+{
+    let Some(bytes) = table_bytes(alloc, table, map)? else {
+        return Ok(Seen::Holes(holes(alloc, table, map)?));
+    };
+    let place = match first_copy(table, &map.tables, 0) {
+        Some((place, _)) => place,
+        None => 0,
+    };
+    spared_by(alloc, last, map.packet, place, &bytes)
 }

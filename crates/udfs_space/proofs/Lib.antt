@@ -1,0 +1,3 @@
+pub mod Building
+pub mod FirstCopies
+pub mod Loops
