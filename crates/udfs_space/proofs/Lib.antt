@@ -1,3 +1,6 @@
 pub mod Building
 pub mod FirstCopies
+pub mod Judging
 pub mod Loops
+pub mod Orders
+pub mod SoundEntries

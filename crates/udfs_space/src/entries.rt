@@ -5,7 +5,7 @@ ghost use Rattle.std.specs.List.{list_any, range_with_len};
 ghost use Rattle.udfs_tag.specs.Tags.{is_valid};
 ghost use Rattle.udfs_volume.specs.Layout.{bp};
 ghost use Rattle.udfs_volume.specs.Seen.{Sees};
-ghost use Rattle.udfs_space.specs.Parts.{AreSound, IfGot};
+ghost use Rattle.udfs_space.specs.Parts.{AreSound, IfGot, entries_fault};
 ghost use Rattle.udfs_space.specs.Sparing.{breaks_order, entry_of, is_bad_original, is_out_of_order, is_sparing_table, is_used, passes_end, spared_from};
 
 use byteorder::{ByteOrder, LittleEndian};
@@ -136,6 +136,23 @@ fn passes_end(last: u32, packet: u32, entries: &[SparingEntry]) -> bool
     false
 }
 
+/// The first fault of entries that are there.
+fn entries_fault(last: u32, packet: u32, entries: &[SparingEntry]) -> Option<VolumeFault>
+    requires { 1 ≤ packet }
+    ensures { result ≡ entries_fault last packet entries.now }
+{
+    if has_bad_original(packet, entries) {
+        return Some(VolumeFault::SparingShape);
+    }
+    if is_out_of_order(entries) {
+        return Some(VolumeFault::SparingOrder);
+    }
+    if passes_end(last, packet, entries) {
+        return Some(VolumeFault::MappedRange);
+    }
+    None
+}
+
 /// The packets that a table maps that stands at a place.
 pub(crate) fn spared_by(
     alloc: Global,
@@ -160,15 +177,8 @@ pub(crate) fn spared_by(
         return Ok(Seen::Fault(VolumeFault::SparingShape));
     }
     let mut entries = entries(alloc, content, count)?;
-    let packet = u32::from(packet);
-    if has_bad_original(packet, &entries) {
-        return Ok(Seen::Fault(VolumeFault::SparingShape));
-    }
-    if is_out_of_order(&entries) {
-        return Ok(Seen::Fault(VolumeFault::SparingOrder));
-    }
-    if passes_end(last, packet, &entries) {
-        return Ok(Seen::Fault(VolumeFault::MappedRange));
+    if let Some(fault) = entries_fault(last, u32::from(packet), &entries) {
+        return Ok(Seen::Fault(fault));
     }
     entries.retain(|entry| entry.is_used());
     Ok(Seen::Got(entries))
