@@ -5,7 +5,7 @@ ghost use Rattle.udfs_lattice.specs.Tables.{state_of};
 ghost use Rattle.udfs_lattice.specs.Volumes.{ascending, first_known};
 ghost use Rattle.udfs_volume.specs.Layout.{blocks_in};
 ghost use Rattle.udfs_space.specs.Parts.{FitAll, copy_now};
-ghost use Rattle.udfs_space.specs.Sparing.{copies, table_bytes, unread};
+ghost use Rattle.udfs_space.specs.Sparing.{copies, place_of, table_bytes, unread};
 
 use crate::ascending::ascending;
 use std::alloc::{AllocError, Global};
@@ -20,7 +20,7 @@ fn blocks_in(bytes: u32) -> u32
 }
 
 /// Of the copies of block `k` of a table the first that is known, with its bytes.
-pub(crate) fn first_copy<'a>(
+fn first_copy<'a>(
     table: &'a BlockTable,
     places: &[u32],
     k: u32,
@@ -35,6 +35,17 @@ pub(crate) fn first_copy<'a>(
         }
     }
     None
+}
+
+/// Where the copy stands from which the first block of a table comes, and 0 if none is known.
+pub(crate) fn first_place(table: &BlockTable, places: &[u32]) -> u32
+    requires { FitAll 1 places.now }
+    ensures { result ≡ place_of (first_known (state_of table.now) (copies places.now 0)) }
+{
+    match first_copy(table, places, 0) {
+        Some((place, _)) => place,
+        None => 0,
+    }
 }
 
 /// The bytes of a table, if of each block a copy is known: of each the first.

@@ -1,17 +1,17 @@
 //! Where the blocks of one partition stand.
 
-ghost use Rattle.std.specs.Prelude.{◌≡◌, ◌≤◌, ◌<◌, All, IfOk, IfSome};
+ghost use Rattle.std.specs.Prelude.{◌≡◌, ◌≤◌, ◌<◌, ℕ, All, IfOk, IfSome, find, nat_eq};
 ghost use Rattle.udfs_lattice.specs.Tables.{state_of};
 ghost use Rattle.udfs_volume.specs.Laws.{IsBoundedPartition};
 ghost use Rattle.udfs_volume.specs.Layout.{blocks_in};
 ghost use Rattle.udfs_volume.specs.LayoutParts.{partition_now};
 ghost use Rattle.udfs_volume.specs.Parts.{sparable_now};
 ghost use Rattle.udfs_volume.specs.Seen.{Sees};
-ghost use Rattle.udfs_space.specs.Parts.{AreSound, FitAll, IfGot, IsSound};
+ghost use Rattle.udfs_space.specs.Parts.{AreSound, FitAll, IfGot, IsSound, IsSoundEntry, Rises};
 ghost use Rattle.udfs_space.specs.Places.{place_in};
 ghost use Rattle.udfs_space.specs.Sparing.{span, spared};
 
-use crate::copies::{first_copy, holes, table_bytes};
+use crate::copies::{first_place, holes, table_bytes};
 use crate::entries::{SparingEntry, spared_by};
 use std::alloc::{AllocError, Global};
 use std::marker::Model;
@@ -91,14 +91,22 @@ impl Span {
             return None;
         }
         let offset = block % self.packet;
-        let first = block - offset;
-        match self
-            .spared
-            .binary_search_by_key(&first, |entry| entry.original)
-        {
-            Ok(i) => Some(self.spared[i].mapped + offset),
-            Err(_) => Some(self.start + block),
+        match entry_at(&self.spared, block - offset) {
+            Some(entry) => Some(entry.mapped + offset),
+            None => Some(self.start + block),
         }
+    }
+}
+
+/// The entry of the packet that begins at a logical block, by binary search.
+fn entry_at(spared: &[SparingEntry], first: u32) -> Option<SparingEntry>
+    requires { Rises spared.now }
+    ensures value { result ≡ find (λ e. nat_eq e.original first) spared.now }
+    ensures sound { (packet : ℕ) → AreSound packet spared.now → IfSome result (IsSoundEntry packet) }
+{
+    match spared.binary_search_by_key(&first, |entry| entry.original) {
+        Ok(i) => Some(spared[i]),
+        Err(_) => None,
     }
 }
 
@@ -119,9 +127,6 @@ fn spared(
     let Some(bytes) = table_bytes(alloc, table, map)? else {
         return Ok(Seen::Holes(holes(alloc, table, map)?));
     };
-    let place = match first_copy(table, &map.tables, 0) {
-        Some((place, _)) => place,
-        None => 0,
-    };
+    let place = first_place(table, &map.tables);
     spared_by(alloc, last, map.packet, place, &bytes)
 }
