@@ -1,5 +1,5 @@
 -- What the first known copy of a block tells of the table's blocks.
-use Rattle.std.proofs.Common.{◌≡◌, refl, sym, ◌∙◌, ap, ℕ, true, false, List, Option, Some, None, Bor}
+use Rattle.std.proofs.Common.{◌≡◌, sym, ◌∙◌, ap, ℕ, true, false, List, Option, Some, None, Bor}
 use Rattle.std.specs.Prelude.{is_none}
 use Rattle.udfs_lattice.specs.Volumes.{Blocks, first_known}
 use Rattle.udfs_space.specs.Parts.{copy_now}

@@ -1,5 +1,5 @@
 -- The faults of a table, when its tag and its number of entries are right.
-use Rattle.std.proofs.Common.{◌≡◌, refl, sym, ◌∙◌, ap, List, map, drop, ℕ, ◌+◌, ◌*◌, Bool, true, false, not, cond, ◌||◌, nat_lt, Option, Some, None}
+use Rattle.std.proofs.Common.{◌≡◌, refl, ◌∙◌, ap, List, map, drop, ℕ, ◌+◌, ◌*◌, Bool, true, false, not, cond, ◌||◌, nat_lt, Option, Some, None}
 use Rattle.std.specs.List.{list_any, range_with_len}
 use Rattle.byteorder.specs.Endian.{little_number}
 use Rattle.udfs_volume.specs.Layout.{bp}
@@ -9,7 +9,7 @@ use Rattle.udfs_volume.specs.declared.faults.VolumeFault.TheVariants.{SparingTag
 use Rattle.udfs_volume.specs.Sequence.{Bytes}
 use Rattle.udfs_volume.specs.Answers.{unless_fault, found, faulty}
 use Rattle.udfs_space.specs.Parts.{entries_fault}
-use Rattle.udfs_space.specs.Sparing.{entries, entry_count, entry_of, is_bad_original, is_out_of_order, is_sparing_table, passes_end, sparing_fault, spared_from, spared_in}
+use Rattle.udfs_space.specs.Sparing.{entries, entry_count, entry_of, is_bad_original, is_sparing_table, sparing_fault, spared_from, spared_in}
 
 fault_by : (a b c : Bool) (later : Option VolumeFault) → a ≡ true → b ≡ false → cond (not a) (Some SparingTag) (cond (b || c) (Some SparingShape) later) ≡ cond c (Some SparingShape) later
 fault_by true true c later p q = absurd (let z : ⊥ = cc in z)

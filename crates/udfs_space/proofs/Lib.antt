@@ -3,6 +3,9 @@ pub mod FirstCopies
 pub mod Judging
 pub mod Loops
 pub mod Orders
+pub mod Partitions
+pub mod Pasts
 pub mod Searching
 pub mod SoundEntries
+pub mod Standing
 pub mod Tables

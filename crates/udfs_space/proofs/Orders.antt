@@ -1,5 +1,5 @@
 -- The originals of a sparing table, one after the other.
-use Rattle.std.proofs.Common.{◌≡◌, refl, sym, ◌∙◌, ap, ℕ, ◌+◌, ◌-◌, ◌<◌, ◌≤◌, Bool, true, false, List, [], ◌∷◌, length, drop, ◌||◌, arith, slice_index_or}
+use Rattle.std.proofs.Common.{◌≡◌, refl, ℕ, ◌<◌, ◌≤◌, false, List, [], ◌∷◌, length, drop, ◌||◌, arith, slice_index_or}
 use Rattle.std.specs.Prelude.{zero, suc}
 use Rattle.udfs_space.specs.declared.entries.SparingEntry.{SparingEntry}
 use Rattle.udfs_space.specs.Sparing.{breaks_order, is_out_of_order}

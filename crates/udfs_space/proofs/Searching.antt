@@ -1,6 +1,6 @@
 -- A packet found among rising originals.
-use Rattle.std.proofs.Common.{◌≡◌, refl, sym, ◌∙◌, ap, ℕ, ◌<◌, ◌≤◌, Bool, true, false, cond, List, [], ◌∷◌, length, arith, slice_index_or, nat_eq, nat_lt, Option, Some, None, Result, Ok, Err, ◌⊎◌, inl, inr}
-use Rattle.std.specs.Prelude.{zero, suc, find, IfSome}
+use Rattle.std.proofs.Common.{◌≡◌, refl, sym, ◌∙◌, ap, ℕ, ◌<◌, ◌≤◌, true, false, cond, List, [], ◌∷◌, length, arith, slice_index_or, nat_eq, Some, None, Ok, Err, ◌⊎◌, inl, inr}
+use Rattle.std.specs.Prelude.{zero, suc, find}
 use Rattle.std.specs.Ordering.{nat_cmp, ordering_index}
 use Rattle.std.specs.List.Sorted.{IsBinarySearchResult, IsNonDecreasingBy}
 use Rattle.std.proofs.lemmas.Cmp.{ranked}

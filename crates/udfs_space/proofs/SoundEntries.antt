@@ -1,5 +1,5 @@
 -- Entries without a fault: the used ones are whole packets, each once.
-use Rattle.std.proofs.Common.{◌≡◌, refl, sym, ◌∙◌, ap, ℕ, ◌+◌, ◌%◌, ◌<◌, ◌≤◌, Bool, true, false, not, cond, List, [], ◌∷◌, length, filter, ◌&&◌, ◌||◌, arith, All, slice_index_or, nat_eq, nat_lt, Option, Some, None}
+use Rattle.std.proofs.Common.{◌≡◌, refl, ℕ, ◌+◌, ◌%◌, ◌<◌, ◌≤◌, Bool, true, false, not, cond, List, [], ◌∷◌, filter, ◌&&◌, ◌||◌, arith, All, nat_eq, nat_lt, Some, None}
 use Rattle.std.specs.Prelude.{zero, suc}
 use Rattle.std.specs.List.{list_any}
 use Rattle.std.proofs.lemmas.List.Elements.{All-nil, All-cons, All-head, All-tail, All-weaker}
@@ -110,5 +110,5 @@ three false false false f g h e = (refl, refl, refl)
 pub sound_entries : (last packet : ℕ) (es : List SparingEntry) → last ≤ 4194303 → entries_fault last packet es ≡ None → AreSound packet (filter is_used es)
 sound_entries last packet es l e =
     let q : (list_any (is_bad_original packet) es ≡ false) × (is_out_of_order es ≡ false) × (list_any (passes_end last packet) es ≡ false) =
-        three (list_any (is_bad_original packet) es) (is_out_of_order es) (list_any (passes_end last packet) es) _ _ _ e in
+    three (list_any (is_bad_original packet) es) (is_out_of_order es) (list_any (passes_end last packet) es) _ _ _ e in
     record { each = each_sound last packet es l q.0 q.2; rises = used_rise es q.1 }

@@ -1,5 +1,5 @@
 -- The packets that a sparing table spares, as the code finds them.
-use Rattle.std.proofs.Common.{◌≡◌, ◌≢◌, refl, sym, ◌∙◌, ap, inl, inr, ℕ, ◌+◌, ◌/◌, ◌<◌, ◌≤◌, List, [], ◌∷◌, length, drop, arith, All}
+use Rattle.std.proofs.Common.{◌≡◌, ◌≢◌, refl, sym, ◌∙◌, ap, inl, inr, ℕ, ◌+◌, ◌≤◌, List, [], ◌∷◌, length, drop, arith, All}
 use Rattle.std.specs.Prelude.{flat_map}
 use Rattle.std.proofs.lemmas.List.Elements.{All-weaker, All-nil, All-cons}
 use Rattle.udfs_lattice.specs.Volumes.{Blocks, Includes, ascending, first_known}

@@ -20,11 +20,7 @@ fn blocks_in(bytes: u32) -> u32
 }
 
 /// Of the copies of block `k` of a table the first that is known, with its bytes.
-fn first_copy<'a>(
-    table: &'a BlockTable,
-    places: &[u32],
-    k: u32,
-) -> Option<(u32, &'a [u8; 2048])>
+fn first_copy<'a>(table: &'a BlockTable, places: &[u32], k: u32) -> Option<(u32, &'a [u8; 2048])>
     requires { FitAll (k + 1) places.now }
     ensures value { copy_now result ≡ first_known (state_of table.now) (copies places.now k) }
     ensures size { IfSome result (λ known. length (known.1).now ≡ 2048) }

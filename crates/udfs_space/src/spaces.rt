@@ -1,14 +1,14 @@
 //! Where the logical blocks of a volume's partitions stand.
 
-ghost use Rattle.std.specs.Prelude.{◌≡◌, ◌≤◌, ◌<◌, ◌↔◌, ℕ, All, IfOk, IfSome, IsSome, Some, length, map, option_map};
+ghost use Rattle.std.specs.Prelude.{◌≡◌, ◌≤◌, ◌<◌, ◌↔◌, ℕ, All, IfOk, IfSome, IsSome, Some, length, map, option_map, slice_get};
 ghost use Rattle.udfs_lattice.specs.States.{fact_now};
 ghost use Rattle.udfs_lattice.specs.Tables.{state_of};
 ghost use Rattle.udfs_volume.specs.LayoutParts.{partition_now, parts_now};
 ghost use Rattle.udfs_volume.specs.Laws.{IsBoundedPartition};
 ghost use Rattle.udfs_volume.specs.Seen.{Sees};
-ghost use Rattle.udfs_space.specs.Parts.{IsLaidOut};
+ghost use Rattle.udfs_space.specs.Parts.{IsLaidOut, IsSound};
 ghost use Rattle.udfs_space.specs.Places.{StandsIn, block_at, block_now, is_past, length_of, place, view};
-ghost use Rattle.udfs_space.specs.Sparing.{space, spans};
+ghost use Rattle.udfs_space.specs.Sparing.{Span, space, spans};
 
 use crate::spans::Span;
 use std::alloc::{AllocError, Global};
@@ -93,6 +93,29 @@ impl Space {
         self.spans.len() as u16
     }
 
+    /// The number of logical blocks of a partition, and 0 where there is no such partition.
+    fn size(&self, reference: u16) -> u32
+        ensures value { result ≡ length_of self.now reference }
+        ensures not_empty { reference < length self.now → 0 < result }
+        ensures fits { result ≤ 4194304 }
+    {
+        match self.spans.get(usize::from(reference)) {
+            Some(span) => span.length(),
+            None => 0,
+        }
+    }
+
+    /// The block that holds a logical block.
+    fn find(&self, reference: u16, block: u32) -> Option<u32>
+        ensures value { result ≡ place self.now reference block }
+        ensures sound { (s : Span) → slice_get self.now reference ≡ Some s → IsSound s }
+    {
+        match self.spans.get(usize::from(reference)) {
+            Some(span) => span.place(block),
+            None => None,
+        }
+    }
+
     /// The number of logical blocks of a partition (ECMA-167 3/10.5.9), which is not 0. It takes no memory.
     pub fn length(&self, reference: u16) -> u32
         requires { reference < length self.now }
@@ -100,7 +123,7 @@ impl Space {
         ensures not_empty { 0 < result }
         ensures fits { result ≤ 4194304 }
     {
-        self.spans[usize::from(reference)].length()
+        self.size(reference)
     }
 
     /// The block of the volume that holds a logical block: none where the reference is not below
@@ -108,12 +131,13 @@ impl Space {
     /// search. It takes no memory.
     pub fn place(&self, reference: u16, block: u32) -> Option<u32>
         ensures value { result ≡ place self.now reference block }
-        // The same as a relation: the block is in the packet's new place, and in no other case behind the start.
+        // The same as a relation: a block of a spared packet is in the packet's new place, and every other
+        // one behind the start.
         ensures stands { (n : ℕ) → ((result ≡ Some n) ↔ StandsIn self.now reference block n) }
         ensures exists { IsSome result ↔ (block < length_of self.now reference) }
         ensures fits { IfSome result (λ n. n ≤ 4194303) }
     {
-        self.spans.get(usize::from(reference))?.place(block)
+        self.find(reference, block)
     }
 
     /// Whether one of so many consecutive logical blocks has no place. It takes no memory, and no longer for
@@ -121,11 +145,7 @@ impl Space {
     pub fn is_past(&self, reference: u16, block: u32, count: u32) -> bool
         ensures { result ≡ is_past (place self.now) reference block count }
     {
-        match self.spans.get(usize::from(reference)) {
-            Some(span) => count != 0
-                && u64::from(block) + u64::from(count) > u64::from(span.length()),
-            None => count != 0,
-        }
+        count != 0 && u64::from(block) + u64::from(count) > u64::from(self.size(reference))
     }
 
     /// What is known of a logical block. It takes no memory.
@@ -157,8 +177,10 @@ impl Space {
         ensures small { IsSome result → block < 4294967296 }
         ensures fits { IfSome result (λ found. found.0 ≤ 4194303) }
     {
-        let block = u32::try_from(block).ok()?;
-        let place = self.place(reference, block)?;
+        if block >= u64::from(self.size(reference)) {
+            return None;
+        }
+        let place = self.place(reference, block as u32)?;
         Some((place, table.state(place)))
     }
 }

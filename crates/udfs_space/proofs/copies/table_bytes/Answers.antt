@@ -1,5 +1,5 @@
-use Rattle.std.proofs.Common.{◌≡◌, ℕ, Option, Some, None, List, [], refl, ap, sym, ◌∙◌, true, length, ◌+◌, ◌*◌, ◌++◌, ◌<◌, arith, length-append}
-use Rattle.std.specs.Prelude.{is_none, Bool}
+use Rattle.std.proofs.Common.{◌≡◌, [], ◌∙◌, length, ◌+◌, ◌*◌, ◌<◌, arith, length-append}
+use Rattle.std.specs.Prelude.{is_none}
 use Rattle.udfs_lattice.specs.Tables.{state_of}
 use Rattle.udfs_lattice.specs.Volumes.{first_known}
 use Rattle.udfs_volume.specs.Layout.{blocks_in}
@@ -23,8 +23,8 @@ loop-k-preserved c =
     let sized : length c.in-Some.block.now ≡ 2048 → length c.loop-k.bytes.items + length c.in-Some.block.now ≡ 2048 * (c.loop-k.k + 1) = λ e. omega (arith, e, c.loop-k.invariant.size) in
     record {
       none = filter-skip (λ k. is_none (first_known b (copies ts k))) [] c.loop-k.k n _ less
-            (copy-some b c.deref.result.now ts c.loop-k.k c.first_copy.result (c.in-Some.field-0-0, c.in-Some.block) c.deref.ensures.value c.first_copy.ensures.value c.in-Some.is) c.loop-k.invariant.none;
+          (copy-some b c.deref.result.now ts c.loop-k.k c.first_copy.result (c.in-Some.field-0-0, c.in-Some.block) c.deref.ensures.value c.first_copy.ensures.value c.in-Some.is) c.loop-k.invariant.none;
       rest = rw c.in_ok-extend_from_slice.ensures.items (flat-step (λ k. piece (first_known b (copies ts k))) _ _ c.loop-k.k n _ less
-            (copy-piece b c.deref.result.now ts c.loop-k.k c.first_copy.result (c.in-Some.field-0-0, c.in-Some.block) c.deref.ensures.value c.first_copy.ensures.value c.in-Some.is) c.loop-k.invariant.rest);
-      size = rw c.in_ok-extend_from_slice.ensures.items (length-append c.loop-k.bytes.items c.in-Some.block.now ∙ sized c.in-Some.ensures.size)
+          (copy-piece b c.deref.result.now ts c.loop-k.k c.first_copy.result (c.in-Some.field-0-0, c.in-Some.block) c.deref.ensures.value c.first_copy.ensures.value c.in-Some.is) c.loop-k.invariant.rest);
+      size = rw c.in_ok-extend_from_slice.ensures.items (length-append c.loop-k.bytes.items c.in-Some.block.now ∙ sized c.in-Some.ensures.size);
     }

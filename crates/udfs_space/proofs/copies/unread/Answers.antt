@@ -1,10 +1,7 @@
-use Rattle.std.proofs.Common.{◌≡◌, ◌<◌, ◌++◌, filter, ℕ, List, ap, sym, ◌∙◌, arith}
-use Rattle.std.specs.Prelude.{All, is_none}
+use Rattle.std.proofs.Common.{◌<◌, arith}
 use Rattle.std.proofs.lemmas.List.Elements.{All-push}
 use Rattle.udfs_lattice.specs.Tables.{state_of}
-use Rattle.udfs_lattice.specs.Volumes.{first_known}
 use Rattle.udfs_volume.specs.Layout.{blocks_in}
-use Rattle.udfs_space.specs.Sparing.{copies}
 use Rattle.udfs_space.proofs.FirstCopies.{copy-none, copy-some}
 use Rattle.udfs_space.proofs.Loops.{filter-keep, filter-skip}
 use Rattle.udfs_space.proofs.copies.unread.Goals as goal
@@ -17,7 +14,7 @@ loop-k-preserved c =
     let n = blocks_in c.args.map.now.size in
     let less : c.loop-k.k < n = omega (arith, c.loop-k-test.true, c.blocks_in-k-end.ensures) in
     elim c.match-first_copy.branch [
-      in-Some w ↦ record {
+      | in-Some w ↦ record {
         rest = rw w.found-is (filter-skip _ _ _ n _ less
             (copy-some b c.deref.result.now ts c.loop-k.k c.first_copy.result w.in-Some.field-0 c.deref.ensures.value c.first_copy.ensures.value w.in-Some.is) c.loop-k.invariant.rest);
         below = rw w.found-is c.loop-k.invariant.below;

@@ -1,4 +1,4 @@
-use Rattle.std.proofs.Common.{◌≡◌, ℕ, ◌+◌, ◌*◌, ◌-◌, ◌<◌, ◌∙◌, ap, drop, arith}
+use Rattle.std.proofs.Common.{◌+◌, ◌*◌, ◌-◌, ◌∙◌, ap, drop}
 use Rattle.udfs_volume.specs.Layout.{bp}
 use Rattle.udfs_space.specs.Sparing.{entry_of}
 use Rattle.udfs_space.proofs.Loops.{map-step}

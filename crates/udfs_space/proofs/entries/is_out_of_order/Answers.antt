@@ -1,4 +1,4 @@
-use Rattle.std.proofs.Common.{◌≡◌, ℕ, ◌+◌, ◌-◌, ◌<◌, ◌≤◌, ◌||◌, ◌∙◌, ap, sym, drop, length, arith, slice_index_or, false, Bool}
+use Rattle.std.proofs.Common.{◌≡◌, ◌+◌, ◌-◌, ◌<◌, ◌≤◌, ◌||◌, ◌∙◌, ap, sym, drop, length, arith, slice_index_or}
 use Rattle.std.specs.Prelude.{suc}
 use Rattle.udfs_space.specs.Sparing.{is_out_of_order, breaks_order}
 use Rattle.udfs_space.proofs.Orders.{order-step, order-end}
@@ -13,8 +13,8 @@ loop-i-preserved c =
     let inside : suc (i - 1) < length es = omega (arith, up, c.loop-i-test.true) in
     ap (λ k. is_out_of_order (drop k es)) same
     ∙ sym (order-step es (i - 1) (record { original = 0; mapped = 0 }) inside
-        ∙ ap (λ k. breaks_order (slice_index_or es (i - 1) (record { original = 0; mapped = 0 })) (slice_index_or es k (record { original = 0; mapped = 0 })) || is_out_of_order (drop k es)) up
-        ∙ ap (λ b. b || is_out_of_order (drop i es)) (sym c.breaks_order.ensures ∙ c.if-breaks_order.false))
+    ∙ ap (λ k. breaks_order (slice_index_or es (i - 1) (record { original = 0; mapped = 0 })) (slice_index_or es k (record { original = 0; mapped = 0 })) || is_out_of_order (drop k es)) up
+    ∙ ap (λ b. b || is_out_of_order (drop i es)) (sym c.breaks_order.ensures ∙ c.if-breaks_order.false))
     ∙ c.loop-i.invariant
 
 pub returns : goal.returns

@@ -1,4 +1,4 @@
-use Rattle.std.proofs.Common.{◌≡◌, ℕ, ◌+◌, ◌*◌, ◌<◌, ◌≤◌, ◌∙◌, ap, sym, subst, drop, length, arith, true, false, nat_lt, Some, None, List, filter, rules, Option}
+use Rattle.std.proofs.Common.{◌≡◌, ℕ, ◌+◌, ◌*◌, ◌≤◌, ◌∙◌, ap, sym, subst, drop, length, arith, false, nat_lt, List, filter, rules, Option}
 use Rattle.std.proofs.lemmas.Fn.{filter_same}
 use Rattle.udfs_tag.specs.Tags.{is_valid}
 use Rattle.udfs_volume.specs.Answers.{found}
@@ -25,8 +25,8 @@ returns-in-Some-clause-value c =
     (sym c.is_sparing_table.ensures ∙ c.if-not-is_sparing_table.false)
     (not_less (length bytes) c.read_u16-count.result c.from.result (entry_count (drop 16 bytes)) c.from.ensures count c.if-from-bytes.false)
     (told c.args.last c.args.packet c.from-2.result c.deref.result.now c.in_ok-entries.entries.items (entries (drop 16 bytes)) c.entries_fault.result _ c.entries_fault.ensures c.from-2.ensures c.deref.ensures.value
-        (entries_are bytes content c.behind.result.now c.read_u16-count.result c.in_ok-entries.entries.items c.behind-content.ensures.value c.behind.ensures.value c.read_u16-count.ensures c.in_ok-entries.ensures)
-        c.in-Some.is)
+    (entries_are bytes content c.behind.result.now c.read_u16-count.result c.in_ok-entries.entries.items c.behind-content.ensures.value c.behind.ensures.value c.read_u16-count.ensures c.in_ok-entries.ensures)
+    c.in-Some.is)
 
 pub returns-clause-value : goal.returns-clause-value
 returns-clause-value c =
@@ -46,4 +46,4 @@ returns-clause-sound c =
     subst (AreSound c.args.packet) (sym kept)
     (sound_entries c.args.last c.args.packet c.in_ok-entries.entries.items c.requires.last
     (told c.args.last c.args.packet c.from-2.result c.deref.result.now c.in_ok-entries.entries.items c.in_ok-entries.entries.items c.entries_fault.result _ c.entries_fault.ensures c.from-2.ensures c.deref.ensures.value
-        (λ i. c.in_ok-entries.entries.items) c.in_default.is))
+    (λ i. c.in_ok-entries.entries.items) c.in_default.is))

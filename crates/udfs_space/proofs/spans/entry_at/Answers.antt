@@ -1,4 +1,4 @@
-use Rattle.std.proofs.Common.{rules, ◌≡◌}
+use Rattle.std.proofs.Common.{rules}
 use Rattle.std.proofs.lemmas.List.Sorted.{answers_always}
 use Rattle.udfs_space.proofs.Searching.{search-found, search-absent}
 use Rattle.udfs_space.proofs.spans.entry_at.Goals as goal

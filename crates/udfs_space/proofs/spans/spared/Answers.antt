@@ -1,4 +1,4 @@
-use Rattle.std.proofs.Common.{◌≡◌, ℕ, subst, sym, ◌∙◌, ap, IfOk, length}
+use Rattle.std.proofs.Common.{subst, ◌∙◌, ap, IfOk, length}
 use Rattle.udfs_lattice.specs.Tables.{state_of}
 use Rattle.udfs_lattice.specs.Volumes.{first_known}
 use Rattle.udfs_volume.specs.Seen.{Sees}
@@ -17,6 +17,6 @@ returns-clause-value c =
     let size = rw c.in-Some.is at c.in_ok-bytes.ensures.size in
     subst (λ a. IfOk c.spared_by.result (λ seen. Sees (λ packets. packets.items) seen a))
     (spared-read (state_of c.args.table.now) c.args.last c.args.map.now.packet c.args.map.now.size c.args.map.now.tables.items c.deref-2.result.now c.first_place-place.result
-        holes (c.deref-2.ensures.value ∙ value) (ap length c.deref-2.ensures.value ∙ size)
-        (c.first_place-place.ensures ∙ ap (λ ts. place_of (first_known (state_of c.args.table.now) (copies ts 0))) c.deref.ensures.value))
+    holes (c.deref-2.ensures.value ∙ value) (ap length c.deref-2.ensures.value ∙ size)
+    (c.first_place-place.ensures ∙ ap (λ ts. place_of (first_known (state_of c.args.table.now) (copies ts 0))) c.deref.ensures.value))
     c.spared_by.ensures.value

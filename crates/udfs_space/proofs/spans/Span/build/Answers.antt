@@ -1,4 +1,4 @@
-use Rattle.std.proofs.Common.{◌≡◌, ℕ, subst, sym, ◌∙◌, ap}
+use Rattle.std.proofs.Common.{subst, ap}
 use Rattle.udfs_lattice.specs.Tables.{state_of}
 use Rattle.udfs_volume.specs.LayoutParts.{partition_now}
 use Rattle.udfs_volume.specs.Laws.{IsBoundedMap}

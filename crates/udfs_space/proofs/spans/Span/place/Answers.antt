@@ -1,4 +1,4 @@
-use Rattle.std.proofs.Common.{◌≡◌, ◌+◌, ◌%◌, ◌<◌, ◌≤◌, arith, subst, sym}
+use Rattle.std.proofs.Common.{◌%◌, ◌<◌, arith, subst, sym}
 use Rattle.std.proofs.lemmas.Nat.{mod_below}
 use Rattle.udfs_space.specs.Parts.{AreSound, IsSoundEntry}
 use Rattle.udfs_space.proofs.spans.Span.place.Goals as goal
