@@ -79,10 +79,12 @@ pub sequence-faulty : (T : Blocks) (last : ℕ) (f : VolumeFault) → anchor T l
 unfolding sequence
 sequence-faulty T last f h = ap (λ a. and_then a (sequence_at T last)) h
 
-pub sequence-unfit : (T : Blocks) (last : ℕ) (e : AnchorExtents) → anchor T last ≡ found e → are_extents last e ≡ false → sequence T last ≡ faulty Extents
+pub sequence-found : (T : Blocks) (last : ℕ) (e : AnchorExtents) → anchor T last ≡ found e → sequence T last ≡ sequence_at T last e
 unfolding sequence
-sequence-unfit T last e h b = ap (λ a. and_then a (sequence_at T last)) h ∙ ap (λ c. cond c (read_positions (positions T e)) (faulty Extents)) b
+sequence-found T last e h = ap (λ a. and_then a (sequence_at T last)) h
 
-pub sequence-read : (T : Blocks) (last : ℕ) (e : AnchorExtents) → anchor T last ≡ found e → are_extents last e ≡ true → sequence T last ≡ read_positions (positions T e)
-unfolding sequence
-sequence-read T last e h b = ap (λ a. and_then a (sequence_at T last)) h ∙ ap (λ c. cond c (read_positions (positions T e)) (faulty Extents)) b
+pub unfit : (T : Blocks) (last : ℕ) (e : AnchorExtents) → are_extents last e ≡ false → sequence_at T last e ≡ faulty Extents
+unfit T last e b = ap (λ c. cond c (read_positions (positions T e)) (faulty Extents)) b
+
+pub fit : (T : Blocks) (last : ℕ) (e : AnchorExtents) → are_extents last e ≡ true → sequence_at T last e ≡ read_positions (positions T e)
+fit T last e b = ap (λ c. cond c (read_positions (positions T e)) (faulty Extents)) b

@@ -1,5 +1,5 @@
 -- What is found of a volume: the thing, the blocks that would have to be read first, or a fault.
-use Rattle.std.specs.Prelude.{ℕ, List, Option, Some, None}
+use Rattle.std.specs.Prelude.{ℕ, List, Option, Some, None, ⊤}
 use Rattle.udfs_volume.specs.declared.faults.VolumeFault.{VolumeFault}
 
 pub data Answer (A : Type 0) : Type 0 where
@@ -16,3 +16,8 @@ and_then (faulty fault) f = faulty fault
 abbrev pub unless_fault : {A : Type 0} → Option VolumeFault → A → Answer A
 unless_fault None x = found x
 unless_fault (Some fault) x = faulty fault
+
+abbrev pub IsHoles : {A : Type 0} → Answer A → Type 0
+IsHoles (found x) = ⊥
+IsHoles (holes blocks) = ⊤
+IsHoles (faulty fault) = ⊥

@@ -1,6 +1,11 @@
 -- What a call sees, beside what is found.
 --     Sees view seen answer     the call saw that answer, or memory was refused
-use Rattle.std.specs.Prelude.{◌≡◌, ⊤}
+--     HolesRise seen            the holes that it saw are ascending, each once
+--     IfGot seen Property       what it got, if it got something, has the property
+--     Tells fault seen answer   it told that fault, if that is the answer, whatever memory there was
+use Rattle.std.specs.Prelude.{◌≡◌, ⊤, ℕ, ◌<◌, List, [], ◌∷◌}
+use Rattle.udfs_lattice.specs.Volumes.{Includes}
+use Rattle.udfs_volume.specs.declared.faults.VolumeFault.{VolumeFault}
 use Rattle.udfs_volume.specs.declared.seen.Seen.{Seen}
 use Rattle.udfs_volume.specs.declared.seen.Seen.TheVariants.{Got, Holes, Fault, OutOfMemory}
 use Rattle.udfs_volume.specs.Answers.{Answer, found, holes, faulty}
@@ -10,3 +15,23 @@ Sees view (Got x) answer = answer ≡ found (view x)
 Sees view (Holes blocks) answer = answer ≡ holes blocks.items
 Sees view (Fault fault) answer = answer ≡ faulty fault
 Sees view OutOfMemory answer = ⊤
+
+-- each number is below all that follow it
+abbrev pub IsRising : List ℕ → Type 0
+IsRising [] = ⊤
+IsRising (n ∷ ns) = ((m : ℕ) → Includes ns m → n < m) × IsRising ns
+
+abbrev pub HolesRise : {A : Type 0} → Seen A → Type 0
+HolesRise (Got x) = ⊤
+HolesRise (Holes blocks) = IsRising blocks.items
+HolesRise (Fault fault) = ⊤
+HolesRise OutOfMemory = ⊤
+
+abbrev pub IfGot : {A : Type 0} → Seen A → (A → Type 0) → Type 0
+IfGot (Got x) Property = Property x
+IfGot (Holes blocks) Property = ⊤
+IfGot (Fault fault) Property = ⊤
+IfGot OutOfMemory Property = ⊤
+
+abbrev pub Tells : {A B : Type 0} → VolumeFault → Seen A → Answer B → Type 0
+Tells fault seen answer = answer ≡ faulty fault → seen ≡ Fault fault

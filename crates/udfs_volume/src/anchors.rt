@@ -1,10 +1,11 @@
 //! Anchors (ECMA-167 3/10.2).
 
-ghost use Rattle.std.specs.Prelude.{◌≡◌, ◌≤◌, ◌∷◌, [], IfOk, option_map};
+ghost use Rattle.std.specs.Prelude.{◌≡◌, ◌≢◌, ◌≤◌, ◌∷◌, [], IfOk, IfErr, option_map};
 ghost use Rattle.udfs_lattice.specs.States.{is_known};
 ghost use Rattle.udfs_lattice.specs.Tables.{state_of};
 ghost use Rattle.udfs_lattice.specs.Volumes.{not_known};
-ghost use Rattle.udfs_volume.specs.Seen.{Sees};
+ghost use Rattle.udfs_volume.specs.Answers.{IsHoles};
+ghost use Rattle.udfs_volume.specs.Seen.{Sees, HolesRise};
 ghost use Rattle.udfs_volume.specs.Sequence.{anchor, anchor_here, anchor_places, extents_of, first_anchor};
 
 use crate::faults::VolumeFault;
@@ -58,9 +59,10 @@ fn is_known(table: &BlockTable, n: u32) -> bool
     matches!(table.state(n), Fact::Known(_))
 }
 
-/// Those of these blocks that are not known.
+/// Those of these blocks that are not known. It takes no memory where all are.
 fn not_known(alloc: Global, table: &BlockTable, places: &[u32]) -> Result<Vec<u32>, AllocError>
-    ensures { IfOk result (λ unread. unread.items ≡ not_known (state_of table.now) places.now) }
+    ensures value { IfOk result (λ unread. unread.items ≡ not_known (state_of table.now) places.now) }
+    ensures memory { IfErr result (λ error. not_known (state_of table.now) places.now ≢ []) }
 {
     let mut unread = Vec::new(alloc);
     for place in places {
@@ -83,17 +85,27 @@ fn first_anchor(table: &BlockTable, places: &[u32]) -> Option<AnchorExtents>
     None
 }
 
+/// The places of an anchor (ECMA-167 3/8.4.2.1, UDF 2.2.3).
+fn places(last: u32) -> [u32; 3]
+    requires { 513 ≤ last }
+    ensures { result ≡ anchor_places last }
+{
+    [256, last - 256, last]
+}
+
 /// The extents of the first anchor: of the blocks 256, `last - 256` and `last` the first that is known and
 /// valid there with identifier 2 (ECMA-167 3/8.4.2.1, UDF 2.2.3). Without one, those of the three that are
 /// not known are holes, and where all three are known the fault is `NoAnchor`.
 ///
-/// It takes memory for holes alone.
+/// It takes memory for holes alone: an anchor and the fault are told whatever memory there is.
 pub fn anchor(alloc: Global, table: &BlockTable, last: u32) -> Seen<AnchorExtents>
     requires from { 513 ≤ last }
     requires to { last ≤ 4194303 }
-    ensures { Sees (λ extents. extents) result (anchor (state_of table.now) last) }
+    ensures value { Sees (λ extents. extents) result (anchor (state_of table.now) last) }
+    ensures rising { HolesRise result }
+    ensures memory { result ≡ Seen.OutOfMemory → IsHoles (anchor (state_of table.now) last) }
 {
-    let places = [256, last - 256, last];
+    let places = places(last);
     if let Some(extents) = first_anchor(table, &places) {
         return Seen::Got(extents);
     }

@@ -8,7 +8,9 @@ ghost use Rattle.udfs_tag.specs.Fields.{part, uint32_at};
 ghost use Rattle.udfs_volume.specs.Layout.{bp, described, has_contents, has_domain, has_revision, is_in_range, laid_out, layout, layout_of, map_count, partition_of};
 ghost use Rattle.udfs_volume.specs.LayoutParts.{described_now, field_tests, has_contents_of, is_range, parts_now, partition_now};
 ghost use Rattle.udfs_osta.specs.Labels.{label_of};
-ghost use Rattle.udfs_volume.specs.Seen.{Sees};
+ghost use Rattle.udfs_volume.specs.Laws.{IsBounded};
+ghost use Rattle.udfs_volume.specs.Seen.{Sees, HolesRise, IfGot, Tells};
+ghost use Rattle.udfs_volume.specs.Told.{TellsLawful};
 ghost use Rattle.udfs_volume.specs.Parts.{numbered_now};
 ghost use Rattle.udfs_volume.specs.Sequences.{descriptor_now, sequence_now};
 
@@ -238,10 +240,21 @@ fn layout_of(
 /// The layout of a volume: the revision, the label, the partitions and the file set's address, by the
 /// logical volume descriptor and the partition descriptors that prevail in the volume descriptor
 /// sequence. Of several faults the one with the least number is told.
+///
+/// Of a lawful volume with which the table agrees it tells the volume's own layout, as the standard reads
+/// it (ECMA-167 3/8.4), or holes: then all blocks of some group are among them, of which one is needed and
+/// none is known. A layout that is found lies within the volume.
+///
+/// A fault of the anchor is told whatever memory there is.
 pub fn layout(alloc: Global, table: &BlockTable, last: u32) -> Seen<VolumeParts>
     requires from { 513 ≤ last }
     requires to { last ≤ 4194303 }
-    ensures { Sees parts_now result (layout (state_of table.now) last) }
+    ensures value { Sees parts_now result (layout (state_of table.now) last) }
+    ensures lawful { TellsLawful (state_of table.now) last result }
+    ensures bounded { IfGot result (λ parts. IsBounded last (parts_now parts)) }
+    ensures rising { HolesRise result }
+    ensures no_anchor { Tells VolumeFault.NoAnchor result (layout (state_of table.now) last) }
+    ensures extents { Tells VolumeFault.Extents result (layout (state_of table.now) last) }
 {
     let found = match sequence(alloc, table, last) {
         Seen::Got(found) => found,

@@ -3,7 +3,7 @@
 ghost use Rattle.std.specs.Prelude.{◌≡◌, ◌≤◌, ◌<◌, ◌+◌, ◌/◌, ◌∷◌, [], ℕ, IfOk, IsTrue, IsOk, length, true};
 ghost use Rattle.udfs_lattice.specs.Tables.{state_of};
 ghost use Rattle.udfs_lattice.specs.Volumes.{ascending};
-ghost use Rattle.udfs_volume.specs.Seen.{Sees};
+ghost use Rattle.udfs_volume.specs.Seen.{Sees, HolesRise, Tells};
 ghost use Rattle.udfs_volume.specs.Sequence.{are_extents, fits_to, position, positions, read_positions, sequence, sequence_at};
 ghost use Rattle.udfs_volume.specs.Sequences.{descriptor_of, position_now, sequence_now};
 
@@ -117,25 +117,43 @@ fn read_positions<'a>(
     Ok(Seen::Got(Sequence { descriptors }))
 }
 
-/// The volume descriptor sequence that the first anchor leads to, up to its end: a block that is no
-/// descriptor at its place, a terminating descriptor, or the end of the extent. At each position the main
-/// copy is read where it is known, else the reserve copy; where neither is known, the two are holes.
-pub fn sequence<'a>(alloc: Global, table: &'a BlockTable, last: u32) -> Seen<Sequence<'a>>
-    requires from { 513 ≤ last }
-    requires to { last ≤ 4194303 }
-    ensures { Sees sequence_now result (sequence (state_of table.now) last) }
+/// The sequence that stands in these extents, if they are as they have to be.
+fn sequence_at<'a>(
+    alloc: Global,
+    table: &'a BlockTable,
+    last: u32,
+    extents: AnchorExtents,
+) -> Seen<Sequence<'a>>
+    requires { last ≤ 4194303 }
+    ensures value { Sees sequence_now result (sequence_at (state_of table.now) last extents) }
+    ensures memory { result ≡ Seen.OutOfMemory → IsTrue (are_extents last extents) }
 {
-    let extents = match anchor(alloc, table, last) {
-        Seen::Got(extents) => extents,
-        Seen::Holes(blocks) => return Seen::Holes(blocks),
-        Seen::Fault(fault) => return Seen::Fault(fault),
-        Seen::OutOfMemory => return Seen::OutOfMemory,
-    };
     if !are_extents(last, extents) {
         return Seen::Fault(VolumeFault::Extents);
     }
     match read_positions(alloc, table, extents) {
         Ok(seen) => seen,
         Err(_) => Seen::OutOfMemory,
+    }
+}
+
+/// The volume descriptor sequence that the first anchor leads to, up to its end: a block that is no
+/// descriptor at its place, a terminating descriptor, or the end of the extent. At each position the main
+/// copy is read where it is known, else the reserve copy; where neither is known, the two are holes.
+///
+/// It takes memory for holes and for descriptors: a fault of the anchor is told whatever memory there is.
+pub fn sequence<'a>(alloc: Global, table: &'a BlockTable, last: u32) -> Seen<Sequence<'a>>
+    requires from { 513 ≤ last }
+    requires to { last ≤ 4194303 }
+    ensures value { Sees sequence_now result (sequence (state_of table.now) last) }
+    ensures rising { HolesRise result }
+    ensures no_anchor { Tells VolumeFault.NoAnchor result (sequence (state_of table.now) last) }
+    ensures extents { Tells VolumeFault.Extents result (sequence (state_of table.now) last) }
+{
+    match anchor(alloc, table, last) {
+        Seen::Got(extents) => sequence_at(alloc, table, last, extents),
+        Seen::Holes(blocks) => Seen::Holes(blocks),
+        Seen::Fault(fault) => Seen::Fault(fault),
+        Seen::OutOfMemory => Seen::OutOfMemory,
     }
 }

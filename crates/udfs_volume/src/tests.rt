@@ -1,6 +1,7 @@
 //! Layouts, holes and faults of small volumes. What is expected comes from the formats' description, byte by byte.
 
-mod discs;
+mod memory;
+mod said;
 mod sparable;
 mod texts;
 mod two_maps;

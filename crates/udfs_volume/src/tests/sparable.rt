@@ -1,10 +1,11 @@
 //! A volume with one sparable map, and its changes.
 
-use super::discs::{Bytes, Disc, LAST, said};
+use super::said::{said, said_of};
 use crate::layouts::layout;
 use crate::maps::PartitionMap;
 use crate::seen::Seen;
 use std::test::Fail;
+use udfs_samples::{Bytes, Disc, LAST};
 
 /// With all blocks known: a change, and what the layout then says.
 const CHANGES: [(Bytes, &str); 17] = [
@@ -32,8 +33,8 @@ fn changes(rt: HostRuntime) -> Result<(), Fail> {
     let alloc = rt.alloc();
     for ((n, at, bytes), want) in CHANGES {
         let mut disc = Disc::sparable(alloc)?;
-        disc.write(&[(n, at, bytes)]);
-        let said = disc.said(alloc)?;
+        disc.write(&[(n, at, bytes)])?;
+        let said = said_of(alloc, &disc)?;
         assert_eq!(rt; said.as_str(), want, "{n}: {at} is {bytes:?}");
     }
     Ok(())

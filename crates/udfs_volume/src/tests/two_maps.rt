@@ -1,11 +1,12 @@
 //! A volume with two maps, and its changes.
 
-use super::discs::{Bytes, Disc, LAST};
+use super::said::said_of;
 use crate::layouts::layout;
 use crate::maps::PartitionMap;
 use crate::seen::Seen;
 use std::alloc::{AllocError, Global};
 use std::test::Fail;
+use udfs_samples::{Bytes, Disc, LAST};
 
 /// With all blocks known: a change, and what the layout then says.
 const CHANGES: [(Bytes, &str); 12] = [
@@ -28,8 +29,8 @@ fn changes(rt: HostRuntime) -> Result<(), Fail> {
     let alloc = rt.alloc();
     for ((n, at, bytes), want) in CHANGES {
         let mut disc = Disc::two_maps(alloc)?;
-        disc.write(&[(n, at, bytes)]);
-        let said = disc.said(alloc)?;
+        disc.write(&[(n, at, bytes)])?;
+        let said = said_of(alloc, &disc)?;
         assert_eq!(rt; said.as_str(), want, "{n}: {at} is {bytes:?}");
     }
     Ok(())
@@ -38,11 +39,11 @@ fn changes(rt: HostRuntime) -> Result<(), Fail> {
 /// The same volume with its sparable map before the one of type 1.
 fn sparable_first(alloc: Global) -> Result<Disc, AllocError> {
     let mut disc = Disc::two_maps(alloc)?;
-    disc.write_sparable(440, 1);
+    disc.write_sparable_map(440, 1)?;
     disc.write(&[
         (32, 504, &[1, 6, 1, 0, 0, 0]),
         (48, 504, &[1, 6, 1, 0, 0, 0]),
-    ]);
+    ])?;
     Ok(disc)
 }
 
@@ -50,7 +51,7 @@ fn sparable_first(alloc: Global) -> Result<Disc, AllocError> {
 fn either_order(rt: HostRuntime) -> Result<(), Fail> {
     let alloc = rt.alloc();
     let disc = sparable_first(alloc)?;
-    let said = disc.said(alloc)?;
+    let said = said_of(alloc, &disc)?;
     assert_eq!(rt; said.as_str(), "ok revision 1.50 map sparable 32 type1");
     for (disc, first) in [(disc, 400), (Disc::two_maps(alloc)?, 272)] {
         let table = disc.known_at(alloc, &[256, 32, 33, 34, 35])?;
@@ -80,13 +81,13 @@ fn either_order(rt: HostRuntime) -> Result<(), Fail> {
 fn two_of_one_kind(rt: HostRuntime) -> Result<(), Fail> {
     let alloc = rt.alloc();
     let mut disc = Disc::two_maps(alloc)?;
-    disc.write(&[(32, 264, &[12]), (32, 446, &[1, 6, 1, 0, 1, 0])]);
-    assert_eq!(rt; disc.said(alloc)?.as_str(), "fault 8 MapKind");
+    disc.write(&[(32, 264, &[12]), (32, 446, &[1, 6, 1, 0, 1, 0])])?;
+    assert_eq!(rt; said_of(alloc, &disc)?.as_str(), "fault 8 MapKind");
     let mut disc = Disc::two_maps(alloc)?;
-    disc.write_sparable(440, 0);
-    disc.write_sparable(504, 1);
-    disc.write(&[(32, 264, &[0x80])]);
-    assert_eq!(rt; disc.said(alloc)?.as_str(), "fault 8 MapKind");
+    disc.write_sparable_map(440, 0)?;
+    disc.write_sparable_map(504, 1)?;
+    disc.write(&[(32, 264, &[0x80])])?;
+    assert_eq!(rt; said_of(alloc, &disc)?.as_str(), "fault 8 MapKind");
     Ok(())
 }
 
@@ -95,7 +96,7 @@ fn two_of_one_kind(rt: HostRuntime) -> Result<(), Fail> {
 fn least_fault_of_any_partition(rt: HostRuntime) -> Result<(), Fail> {
     let alloc = rt.alloc();
     let mut disc = Disc::two_maps(alloc)?;
-    disc.write(&[(33, 192, &[0]), (34, 30, b"4")]);
-    assert_eq!(rt; disc.said(alloc)?.as_str(), "fault 10 Contents");
+    disc.write(&[(33, 192, &[0]), (34, 30, b"4")])?;
+    assert_eq!(rt; said_of(alloc, &disc)?.as_str(), "fault 10 Contents");
     Ok(())
 }

@@ -1,10 +1,11 @@
 //! A volume with one map of type 1, and its changes.
 
-use super::discs::{Bytes, Disc, LAST, label, said};
+use super::said::{label, said, said_of};
 use crate::layouts::layout;
 use crate::maps::PartitionMap;
 use crate::seen::Seen;
 use std::test::Fail;
+use udfs_samples::{Bytes, Disc, LAST};
 
 /// With all blocks known: a change, and what the layout then says.
 const CHANGES: [(Bytes, &str); 21] = [
@@ -39,8 +40,8 @@ fn changes(rt: HostRuntime) -> Result<(), Fail> {
     let alloc = rt.alloc();
     for ((n, at, bytes), want) in CHANGES {
         let mut disc = Disc::type1(alloc)?;
-        disc.write(&[(n, at, bytes)]);
-        let said = disc.said(alloc)?;
+        disc.write(&[(n, at, bytes)])?;
+        let said = said_of(alloc, &disc)?;
         assert_eq!(rt; said.as_str(), want, "{n}: {at} is {bytes:?}");
     }
     Ok(())
@@ -50,8 +51,8 @@ fn changes(rt: HostRuntime) -> Result<(), Fail> {
 fn no_anchor(rt: HostRuntime) -> Result<(), Fail> {
     let alloc = rt.alloc();
     let mut disc = Disc::type1(alloc)?;
-    disc.write(&[(256, 0, &[3]), (600, 12, &[0x57])]);
-    assert_eq!(rt; disc.said(alloc)?.as_str(), "fault 1 NoAnchor");
+    disc.write(&[(256, 0, &[3]), (600, 12, &[0x57])])?;
+    assert_eq!(rt; said_of(alloc, &disc)?.as_str(), "fault 1 NoAnchor");
     let table = disc.known_but(alloc, &[344])?;
     assert_eq!(rt; said(alloc, &table)?.as_str(), "holes 344");
     Ok(())
@@ -122,9 +123,51 @@ fn labels(rt: HostRuntime) -> Result<(), Fail> {
     let alloc = rt.alloc();
     for (used, want) in [(5, "name TEST"), (0, "empty"), (0x80, "invalid")] {
         let mut disc = Disc::type1(alloc)?;
-        disc.write_at(32, 211, &[used]);
+        disc.write_at(32, 211, &[used])?;
         let table = disc.known_but(alloc, &[])?;
         assert_eq!(rt; label(alloc, &table)?.as_str(), want);
     }
+    Ok(())
+}
+
+/// Of the partition descriptors with a map's number the one with the greatest sequence number prevails, and
+/// of equal ones the first. The one at 34 has one block too many.
+#[test]
+fn prevailing(rt: HostRuntime) -> Result<(), Fail> {
+    let alloc = rt.alloc();
+    let cases: [(&[u8], &[u8], &str); 4] = [
+        (&[1], &[0, 0], "ok revision 1.50 map type1"),
+        (&[2], &[0, 0], "ok revision 1.50 map type1"),
+        (&[3], &[0, 0], "fault 11 PartitionRange"),
+        (&[3], &[1, 0], "ok revision 1.50 map type1"),
+    ];
+    for (sequence_number, number, want) in cases {
+        let mut disc = Disc::type1(alloc)?;
+        disc.write_tag(34, 0, 5, 34)?;
+        disc.write_at(34, 16, sequence_number)?;
+        disc.write_at(34, 22, number)?;
+        disc.write_at(34, 25, b"+NSR02")?;
+        disc.write_at(34, 188, &[0x10, 1, 0, 0, 0x4a, 1])?;
+        let said = said_of(alloc, &disc)?;
+        assert_eq!(rt; said.as_str(), want, "{sequence_number:?} {number:?}");
+    }
+    Ok(())
+}
+
+/// Only descriptors before the end count, and only those of positions that are known.
+#[test]
+fn a_descriptor_behind_a_hole_or_the_end(rt: HostRuntime) -> Result<(), Fail> {
+    let alloc = rt.alloc();
+    let mut disc = Disc::type1(alloc)?;
+    disc.write_tag(35, 0, 5, 35)?;
+    disc.write_at(35, 16, &[9])?;
+    assert_eq!(rt;
+        said_of(alloc, &disc)?.as_str(),
+        "ok revision 1.50 map type1"
+    );
+    disc.write_tag(34, 0, 5, 34)?;
+    disc.write_at(34, 16, &[9])?;
+    let table = disc.known_but(alloc, &[33, 49])?;
+    assert_eq!(rt; said(alloc, &table)?.as_str(), "holes 33 49");
     Ok(())
 }

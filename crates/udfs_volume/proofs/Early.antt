@@ -1,0 +1,90 @@
+-- A fault of the anchor, and the extents that it gives, are judged before memory is taken.
+use Rattle.std.proofs.Common.{◌≡◌, refl, sym, ◌∙◌, ap, subst, ℕ, ◌≤◌, Bool, true, false, List, cond, nat_eq, Option, Some, None, length, slice_get}
+use Rattle.std.specs.Prelude.{⊤, take_while}
+use Rattle.udfs_lattice.specs.Volumes.{Blocks}
+use Rattle.udfs_volume.specs.declared.anchors.AnchorExtents.{AnchorExtents}
+use Rattle.udfs_volume.specs.declared.faults.VolumeFault.{VolumeFault}
+use Rattle.udfs_volume.specs.declared.faults.VolumeFault.TheVariants.{NoAnchor, Extents, Pointer}
+use Rattle.udfs_volume.specs.declared.seen.Seen.{Seen}
+use Rattle.udfs_volume.specs.declared.seen.Seen.TheVariants.{Got, Holes, Fault, OutOfMemory}
+use Rattle.udfs_volume.specs.Answers.{Answer, found, holes, faulty, and_then, IsHoles}
+use Rattle.udfs_volume.specs.Seen.{Sees, HolesRise, Tells}
+use Rattle.udfs_volume.specs.Sequence.{Descriptor, Position, unread, invalid, descriptor, descriptors, goes_on, ended_by, read_positions, positions, are_extents, anchor, sequence_at, sequence}
+use Rattle.udfs_volume.specs.Sequences.{sequence_now}
+use Rattle.udfs_volume.specs.declared.descriptors.Sequence as code_sequence
+use Rattle.udfs_volume.proofs.Walking.{fit}
+use Rattle.udfs_volume.proofs.Rising.{holes_rise, sequence_rises}
+
+abbrev pub is_early : VolumeFault → Bool
+is_early NoAnchor = true
+is_early Extents = true
+is_early fault = false
+
+abbrev pub IsLateFault : Option VolumeFault → Type 0
+IsLateFault None = ⊤
+IsLateFault (Some fault) = is_early fault ≡ false
+
+abbrev pub IsLate : {A : Type 0} → Answer A → Type 0
+IsLate (found x) = ⊤
+IsLate (holes blocks) = ⊥
+IsLate (faulty fault) = is_early fault ≡ false
+
+-- what a call tells, where it took no memory for that fault
+pub told_by : {A B : Type 0} (view : A → B) (seen : Seen A) (answer : Answer B) (f : VolumeFault) → Sees view seen answer
+    → (seen ≡ OutOfMemory → answer ≡ faulty f → ⊥) → Tells f seen answer
+told_by view (Got x) answer f s no_memory e = absurd (let no : ⊥ = cc in no)
+told_by view (Holes blocks) answer f s no_memory e = absurd (let no : ⊥ = cc in no)
+told_by view (Fault g) answer f s no_memory e = let same : g ≡ f = cc in ap Fault same
+told_by view OutOfMemory answer f s no_memory e = absurd (no_memory refl e)
+
+-- no fault of an anchor
+abbrev pub NotEarly : {A : Type 0} → Answer A → Type 0
+NotEarly (found x) = ⊤
+NotEarly (holes blocks) = ⊤
+NotEarly (faulty fault) = is_early fault ≡ false
+
+not_early : {A : Type 0} (a : Answer A) (f : VolumeFault) → NotEarly a → is_early f ≡ true → a ≡ faulty f → ⊥
+not_early a f late early e = let later : is_early f ≡ false = subst NotEarly e late in cc
+
+not_early_ended : (stop : Option Position) (ds : List Descriptor) → NotEarly (ended_by stop ds)
+not_early_ended None ds = tt
+not_early_ended (Some (unread copies)) ds = tt
+not_early_ended (Some invalid) ds = tt
+not_early_ended (Some (descriptor d)) ds = go (nat_eq d.identifier 3)
+  where
+    go : (b : Bool) → NotEarly {A = List Descriptor} (cond b (faulty Pointer) (found ds))
+    go true = refl
+    go false = tt
+
+not_early_read : (ps : List Position) → NotEarly (read_positions ps)
+not_early_read ps = not_early_ended (slice_get ps (length (take_while goes_on ps))) (descriptors (take_while goes_on ps))
+
+-- extents that are right lead to no fault of an anchor
+pub no_early_in : (T : Blocks) (last : ℕ) (e : AnchorExtents) (f : VolumeFault) → is_early f ≡ true → are_extents last e ≡ true → sequence_at T last e ≡ faulty f → ⊥
+no_early_in T last e f early right is = not_early (read_positions (positions T e)) f (not_early_read (positions T e)) early (sym (fit T last e right) ∙ is)
+
+sees_holes : {A B : Type 0} (a : Answer A) (k : A → Answer B) (f : VolumeFault) → IsHoles a → and_then a k ≡ faulty f → ⊥
+sees_holes (found x) k f h e = h
+sees_holes (holes blocks) k f h e = cc
+sees_holes (faulty g) k f h e = h
+
+-- where the anchor is not read, its places are holes
+pub no_fault_of_holes : (T : Blocks) (last : ℕ) (f : VolumeFault) → IsHoles (anchor T last) → sequence T last ≡ faulty f → ⊥
+unfolding sequence
+no_fault_of_holes T last f h e = sees_holes (anchor T last) (sequence_at T last) f h e
+
+-- what `sequence` promises, by what it saw
+pub sequence_clauses : (T : Blocks) (last : ℕ) (seen : Seen code_sequence.Sequence) → 513 ≤ last → Sees sequence_now seen (sequence T last)
+    → ((f : VolumeFault) → is_early f ≡ true → seen ≡ OutOfMemory → sequence T last ≡ faulty f → ⊥)
+    → record {
+      value : Sees sequence_now seen (sequence T last);
+      rising : HolesRise seen;
+      no_anchor : Tells NoAnchor seen (sequence T last);
+      extents : Tells Extents seen (sequence T last);
+    }
+sequence_clauses T last seen from value memory = record {
+  value = value;
+  rising = holes_rise sequence_now seen (sequence T last) value (sequence_rises T last from);
+  no_anchor = told_by sequence_now seen (sequence T last) NoAnchor value (memory NoAnchor refl);
+  extents = told_by sequence_now seen (sequence T last) Extents value (memory Extents refl);
+}

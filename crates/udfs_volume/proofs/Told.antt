@@ -1,0 +1,145 @@
+-- What the call `layout` tells, by what the layout is.
+use Rattle.std.proofs.Common.{◌≡◌, refl, sym, ◌∙◌, ap, subst, ℕ, ◌≤◌, Bool, true, false, not, List, cond, Option, Some, None}
+use Rattle.std.specs.List.{list_all}
+use Rattle.udfs_lattice.specs.Volumes.{Blocks, Volume, IsVolume, complete}
+use Rattle.udfs_volume.specs.declared.faults.VolumeFault.{VolumeFault}
+use Rattle.udfs_volume.specs.declared.faults.VolumeFault.TheVariants.{NoAnchor, Extents, Domain, BlockSize, MapCount, MapKind, Contents, PartitionRange}
+use Rattle.udfs_volume.specs.declared.layouts.VolumeParts.{VolumeParts}
+use Rattle.udfs_volume.specs.declared.seen.Seen.{Seen}
+use Rattle.udfs_volume.specs.declared.seen.Seen.TheVariants.{Got, Holes, Fault, OutOfMemory}
+use Rattle.udfs_volume.specs.Answers.{Answer, found, holes, faulty, and_then, unless_fault}
+use Rattle.udfs_volume.specs.Seen.{Sees, HolesRise, IfGot, Tells}
+use Rattle.udfs_volume.specs.Sequence.{Descriptor, anchor_places, sequence}
+use Rattle.udfs_volume.specs.Layout.{Layout, NumberedMap, Described, has_contents, partition_of, is_in_range, laid_out, with_maps, with_volume, the_maps, volume_fault, described, logical_volume, layout_of, layout}
+use Rattle.udfs_volume.specs.LayoutParts.{parts_now}
+use Rattle.udfs_volume.specs.Laws.{IsLawfulLayout, IsSequenceGroup, ListsGroup, IsAnswerOf, the_same, unread, IsBounded, valid_anchors}
+use Rattle.udfs_volume.specs.Told.{IsLayoutOf, TellsLawful}
+use Rattle.udfs_volume.proofs.LayoutLaw.{layout_law}
+use Rattle.udfs_volume.proofs.StandardLaw.{standard_layout_law}
+use Rattle.udfs_volume.proofs.Bounds.{layout_bounds}
+use Rattle.udfs_volume.proofs.Rising.{Rises, holes_rise, sequence_rises}
+use Rattle.udfs_volume.proofs.Early.{is_early, IsLateFault, IsLate, told_by}
+
+-- ---- a lawful volume
+
+got_of : (T : Blocks) (V : Volume) (N : ℕ) (got : Layout) → IsVolume V N → IsLawfulLayout V N → layout T N ≡ found got
+    → IsAnswerOf T (valid_anchors V N) (anchor_places N) (IsSequenceGroup V N) (layout T N) (layout (complete V N) N) → IsLayoutOf V T N got
+got_of T V N got hv lw is (the_same e known) =
+    let all : layout (complete V N) N ≡ found got = sym e ∙ is in
+    let s = standard_layout_law V N hv lw in
+    record { whole = all; standard = (s.0, s.1, s.2 ∙ all); known = known }
+got_of T V N got hv lw is (unread listed e lists) = absurd (let no : ⊥ = cc in no)
+
+holes_of : (T : Blocks) (V : Volume) (N : ℕ) (ns : List ℕ) → IsLawfulLayout V N → layout T N ≡ holes ns
+    → IsAnswerOf T (valid_anchors V N) (anchor_places N) (IsSequenceGroup V N) (layout T N) (layout (complete V N) N)
+    → ListsGroup T (valid_anchors V N) (anchor_places N) (IsSequenceGroup V N) ns
+holes_of T V N ns lw is (the_same e known) = absurd (let l : layout (complete V N) N ≡ found lw.laid_out.0 = lw.laid_out.1 in let no : ⊥ = cc in no)
+holes_of T V N ns lw is (unread listed e lists) = let same : listed ≡ ns = cc in subst (ListsGroup T (valid_anchors V N) (anchor_places N) (IsSequenceGroup V N)) same lists
+
+no_fault_of : (T : Blocks) (V : Volume) (N : ℕ) (f : VolumeFault) → IsLawfulLayout V N → layout T N ≡ faulty f
+    → IsAnswerOf T (valid_anchors V N) (anchor_places N) (IsSequenceGroup V N) (layout T N) (layout (complete V N) N) → ⊥
+no_fault_of T V N f lw is (the_same e known) = let l : layout (complete V N) N ≡ found lw.laid_out.0 = lw.laid_out.1 in cc
+no_fault_of T V N f lw is (unread listed e lists) = cc
+
+pub tells_lawful : (T : Blocks) (N : ℕ) (seen : Seen VolumeParts) → Sees parts_now seen (layout T N) → TellsLawful T N seen
+tells_lawful T N (Got parts) s V hv lw a = got_of T V N (parts_now parts) hv lw s (layout_law T V N hv lw a)
+tells_lawful T N (Holes blocks) s V hv lw a = holes_of T V N blocks.items lw s (layout_law T V N hv lw a)
+tells_lawful T N (Fault fault) s V hv lw a = no_fault_of T V N fault lw s (layout_law T V N hv lw a)
+tells_lawful T N OutOfMemory s V hv lw a = tt
+
+-- ---- bounds
+
+by_descriptors : (N : ℕ) (a : Answer (List Descriptor)) (l : Layout) → and_then a (layout_of N) ≡ found l → IsBounded N l
+by_descriptors N (found ds) l e = layout_bounds N ds l e
+by_descriptors N (holes ns) l e = absurd (let no : ⊥ = cc in no)
+by_descriptors N (faulty f) l e = absurd (let no : ⊥ = cc in no)
+
+bounded : (T : Blocks) (N : ℕ) (l : Layout) → layout T N ≡ found l → IsBounded N l
+unfolding layout
+bounded T N l e = by_descriptors N (sequence T N) l e
+
+pub got_bounded : (T : Blocks) (N : ℕ) (seen : Seen VolumeParts) → Sees parts_now seen (layout T N) → IfGot seen (λ parts. IsBounded N (parts_now parts))
+got_bounded T N (Got parts) s = bounded T N (parts_now parts) s
+got_bounded T N (Holes blocks) s = tt
+got_bounded T N (Fault fault) s = tt
+got_bounded T N OutOfMemory s = tt
+
+-- ---- what descriptors give is no hole, and no fault of an anchor
+
+late_unless : {A B : Type 0} (o : Option VolumeFault) (x : A) (f : A → Answer B) → IsLateFault o → IsLate (f x) → IsLate (and_then (unless_fault o x) f)
+late_unless None x f o l = l
+late_unless (Some fault) x f o l = o
+
+late_four : (a b c d : Bool) → IsLateFault (cond a (Some Domain) (cond b (Some BlockSize) (cond c (Some MapCount) (cond d (Some MapKind) None))))
+late_four true b c d = refl
+late_four false true c d = refl
+late_four false false true d = refl
+late_four false false false true = refl
+late_four false false false false = tt
+
+late_two : (a b : Bool) (l : Layout) → IsLate (unless_fault (cond a (Some Contents) (cond b (Some PartitionRange) None)) l)
+late_two true b l = refl
+late_two false true l = refl
+late_two false false l = tt
+
+late_laid_out : (N : ℕ) (lv : Descriptor) (o : Option (List Described)) → IsLate (laid_out N lv o)
+late_laid_out N lv None = refl
+late_laid_out N lv (Some ps) = late_two (not (list_all has_contents ps)) (not (list_all (λ p. is_in_range N (partition_of p)) ps)) _
+
+late_maps : (N : ℕ) (ds : List Descriptor) (lv : Descriptor) (o : Option (List NumberedMap)) → IsLate (with_maps N ds lv o)
+late_maps N ds lv None = refl
+late_maps N ds lv (Some ms) = late_laid_out N lv (described ds ms)
+
+late_volume : (N : ℕ) (ds : List Descriptor) (o : Option Descriptor) → IsLate (with_volume N ds o)
+late_volume N ds None = refl
+late_volume N ds (Some lv) = late_unless (volume_fault N lv) lv (λ v. with_maps N ds v (the_maps N v)) (late_four _ _ _ _) (late_maps N ds lv (the_maps N lv))
+
+pub late_layout_of : (N : ℕ) (ds : List Descriptor) → IsLate (layout_of N ds)
+unfolding layout_of
+late_layout_of N ds = late_volume N ds (logical_volume ds)
+
+-- ---- from the sequence on
+
+rises_late : {A : Type 0} (a : Answer A) → IsLate a → Rises a
+rises_late (found x) l = tt
+rises_late (holes blocks) l = absurd l
+rises_late (faulty fault) l = tt
+
+pub layout_rises : (T : Blocks) (N : ℕ) → 513 ≤ N → Rises (layout T N)
+unfolding layout
+layout_rises T N from = go (sequence T N) (sequence_rises T N from)
+  where
+    go : (a : Answer (List Descriptor)) → Rises a → Rises (and_then a (layout_of N))
+    go (found ds) r = rises_late (layout_of N ds) (late_layout_of N ds)
+    go (holes ns) r = r
+    go (faulty f) r = tt
+
+early_from : (N : ℕ) (f : VolumeFault) → is_early f ≡ true → (a : Answer (List Descriptor)) → and_then a (layout_of N) ≡ faulty f → a ≡ faulty f
+early_from N f early (found ds) e = absurd (let late : is_early f ≡ false = subst IsLate e (late_layout_of N ds) in let no : ⊥ = cc in no)
+early_from N f early (holes ns) e = absurd (let no : ⊥ = cc in no)
+early_from N f early (faulty g) e = let same : g ≡ f = cc in ap faulty same
+
+-- a fault of the anchor is the sequence's
+pub early_of_layout : (T : Blocks) (N : ℕ) (f : VolumeFault) → is_early f ≡ true → layout T N ≡ faulty f → sequence T N ≡ faulty f
+unfolding layout
+early_of_layout T N f early e = early_from N f early (sequence T N) e
+
+-- what `layout` promises, by what it saw
+pub layout_clauses : (T : Blocks) (last : ℕ) (seen : Seen VolumeParts) → 513 ≤ last → Sees parts_now seen (layout T last)
+    → (seen ≡ OutOfMemory → sequence T last ≡ faulty NoAnchor → ⊥) → (seen ≡ OutOfMemory → sequence T last ≡ faulty Extents → ⊥)
+    → record {
+      value : Sees parts_now seen (layout T last);
+      lawful : TellsLawful T last seen;
+      bounded : IfGot seen (λ parts. IsBounded last (parts_now parts));
+      rising : HolesRise seen;
+      no_anchor : Tells NoAnchor seen (layout T last);
+      extents : Tells Extents seen (layout T last);
+    }
+layout_clauses T last seen from value anchored fits = record {
+  value = value;
+  lawful = tells_lawful T last seen value;
+  bounded = got_bounded T last seen value;
+  rising = holes_rise parts_now seen (layout T last) value (layout_rises T last from);
+  no_anchor = told_by parts_now seen (layout T last) NoAnchor value (λ none e. anchored none (early_of_layout T last NoAnchor refl e));
+  extents = told_by parts_now seen (layout T last) Extents value (λ none e. fits none (early_of_layout T last Extents refl e));
+}

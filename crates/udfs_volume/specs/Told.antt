@@ -1,0 +1,32 @@
+-- What a call tells of a lawful volume of which a part is known.
+--     IsLayoutOf volume blocks last got     the volume's layout, as the standard reads it
+--     TellsLawful blocks last seen          of each lawful volume: its layout, or all of an unread group
+use Rattle.std.specs.Prelude.{◌≡◌, ⊤, ℕ, List, Some}
+use Rattle.udfs_lattice.specs.Volumes.{Blocks, Includes, Volume, IsVolume, Agrees, complete, IsKnownAt}
+use Rattle.udfs_volume.specs.declared.layouts.VolumeParts.{VolumeParts}
+use Rattle.udfs_volume.specs.declared.seen.Seen.{Seen}
+use Rattle.udfs_volume.specs.declared.seen.Seen.TheVariants.{Got, Holes, Fault, OutOfMemory}
+use Rattle.udfs_volume.specs.Answers.{found}
+use Rattle.udfs_volume.specs.Sequence.{anchor_places}
+use Rattle.udfs_volume.specs.Layout.{Layout, layout}
+use Rattle.udfs_volume.specs.LayoutParts.{parts_now}
+use Rattle.udfs_volume.specs.Standard.{standard_anchor, standard_layout}
+use Rattle.udfs_volume.specs.Laws.{IsLawfulLayout, IsSequenceGroup, ListsGroup, valid_anchors}
+
+-- the layout of the volume, which the standard reads by its first anchor; and each group has a known block
+pub record IsLayoutOf (volume : Volume) (blocks : Blocks) (last : ℕ) (got : Layout) : Type 0 where
+  pub whole : layout (complete volume last) last ≡ found got
+  pub standard : (n : ℕ) × (standard_anchor volume last ≡ Some n) × (standard_layout volume last n ≡ found got)
+  pub known : (group : List ℕ) → IsSequenceGroup volume last group → (n : ℕ) × Includes group n × IsKnownAt blocks n
+
+-- a lawful volume has no fault
+abbrev pub IsToldOf : Volume → Blocks → ℕ → Seen VolumeParts → Type 0
+IsToldOf volume blocks last (Got parts) = IsLayoutOf volume blocks last (parts_now parts)
+IsToldOf volume blocks last (Holes listed) =
+    ListsGroup blocks (valid_anchors volume last) (anchor_places last) (IsSequenceGroup volume last) listed.items
+IsToldOf volume blocks last (Fault fault) = ⊥
+IsToldOf volume blocks last OutOfMemory = ⊤
+
+abbrev pub TellsLawful : Blocks → ℕ → Seen VolumeParts → Type 0
+TellsLawful blocks last seen = (volume : Volume) → IsVolume volume last → IsLawfulLayout volume last → Agrees blocks volume last
+    → IsToldOf volume blocks last seen
