@@ -4,6 +4,7 @@
 mod ascending;
 mod copies;
 pub mod entries;
+pub mod laws;
 pub mod spaces;
 mod spans;
 
