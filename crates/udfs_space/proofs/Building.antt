@@ -1,14 +1,12 @@
 -- The spans of partitions, one after the other.
-use Rattle.std.proofs.Common.{◌≡◌, refl, ◌∙◌, ap, sym, subst, inl, inr, ℕ, ◌≤◌, List, [], ◌∷◌, ◌++◌, All, map, length, arith, append_assoc}
+use Rattle.std.proofs.Common.{◌≡◌, refl, ◌∙◌, ap, sym, inl, inr, ℕ, List, [], ◌∷◌, ◌++◌, All, map, length, append_assoc}
 use Rattle.std.specs.Prelude.{suc}
 use Rattle.std.proofs.lemmas.List.Elements.{All-nil, All-cons}
 use Rattle.udfs_lattice.specs.Volumes.{Blocks, Includes}
 use Rattle.udfs_volume.specs.declared.faults.VolumeFault.{VolumeFault}
 use Rattle.udfs_volume.specs.Answers.{Answer, found, holes, faulty, and_then}
-use Rattle.udfs_volume.specs.Laws.{IsBounded}
 use Rattle.udfs_volume.specs.Layout.{Layout, Partition}
-use Rattle.udfs_volume.proofs.Bounds.{and_then-found, found_same, layout_is_bounded}
-use Rattle.udfs_space.specs.Parts.{IsLaidOut}
+use Rattle.udfs_volume.proofs.Bounds.{and_then-found, found_same}
 use Rattle.udfs_space.specs.Sparing.{Space, Span, space, span, spans}
 
 -- with spans that stand before
@@ -40,13 +38,7 @@ pub after-faulty : (b : Blocks) (last : ℕ) (p : Partition) (ps : List Partitio
     → after front (spans b last (p ∷ ps)) ≡ x → x ≡ faulty f
 after-faulty b last p ps front f x e h = sym h ∙ ap (λ a. after front (and_then a (λ s. and_then (spans b last ps) (λ ss. found (s ∷ ss))))) e
 
--- ---- what holds of the parts of a layout
-pub bounds_of : (l : Layout) → IsLaidOut l → IsBounded l.last l
-bounds_of l h = let b : IsBounded h.last l = layout_is_bounded h.blocks h.last l h.laid_out in subst (λ n. IsBounded n l) (sym b.is_last) b
-
-pub last_fits : (l : Layout) → IsLaidOut l → l.last ≤ 4194303
-last_fits l h = let b : IsBounded h.last l = layout_is_bounded h.blocks h.last l h.laid_out in omega (arith, b.is_last, h.to)
-
+-- ---- what holds of each partition
 pub all_bounded : {A : Type 0} (P : Partition → Type 0) (f : A → Partition) (xs : List A) → ((p : Partition) → Includes (map f xs) p → P p) → All (λ x. P (f x)) xs
 all_bounded P f [] h = All-nil (λ x. P (f x))
 all_bounded P f (x ∷ xs) h = All-cons (λ x. P (f x)) x xs (h (f x) (inl refl)) (all_bounded P f xs (λ p i. h p (inr i)))

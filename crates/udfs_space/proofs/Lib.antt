@@ -12,3 +12,4 @@ pub mod SoundEntries
 pub mod SpaceLaw
 pub mod Standing
 pub mod Tables
+pub mod Telling

@@ -3,3 +3,4 @@ pub mod Places
 pub mod Parts
 pub mod Standard
 pub mod Laws
+pub mod Told

@@ -1,28 +1,14 @@
 -- What holds of the partitions of the code, whichever table they come from.
---     IsLaidOut layout        the layout is that of some table
 --     FitAll count places     tables of so many blocks end where blocks may end
 --     IsSound span            what holds of every partition of a space
-use Rattle.std.specs.Prelude.{◌≡◌, ℕ, ◌+◌, ◌%◌, ◌<◌, ◌≤◌, List, [], ◌∷◌, length, slice_index_or, All, Option, Some, None, ⊤}
+use Rattle.std.specs.Prelude.{◌≡◌, ℕ, ◌+◌, ◌%◌, ◌<◌, ◌≤◌, List, [], ◌∷◌, length, slice_index_or, All, Option, Some, None}
 use Rattle.std.specs.List.{list_any}
 use Rattle.std.specs.Borrow.{Bor}
-use Rattle.udfs_lattice.specs.Volumes.{Blocks}
 use Rattle.udfs_tag.specs.Faults.{first_fault}
 use Rattle.udfs_volume.specs.declared.faults.VolumeFault.{VolumeFault}
 use Rattle.udfs_volume.specs.declared.faults.VolumeFault.TheVariants.{SparingShape, SparingOrder, MappedRange}
-use Rattle.udfs_volume.specs.declared.seen.Seen.{Seen}
-use Rattle.udfs_volume.specs.declared.seen.Seen.TheVariants.{Got, Holes, Fault, OutOfMemory}
-use Rattle.udfs_volume.specs.Answers.{found}
-use Rattle.udfs_volume.specs.Layout.{Layout, layout}
 use Rattle.udfs_space.specs.declared.entries.SparingEntry.{SparingEntry}
 use Rattle.udfs_space.specs.Sparing.{Span, Spared, is_bad_original, is_out_of_order, passes_end}
-
--- the layout of some table, up to some last block that a volume may have
-pub record IsLaidOut (l : Layout) : Type 0 where
-  pub blocks : Blocks
-  pub last : ℕ
-  pub from : 513 ≤ last
-  pub to : last ≤ 4194303
-  pub laid_out : layout blocks last ≡ found l
 
 -- tables of so many blocks end where blocks may end
 abbrev pub FitAll : ℕ → List ℕ → Type 0
@@ -54,13 +40,6 @@ pub record IsSound (s : Span) : Type 0 where
   pub ends : s.start + s.size ≤ 4194304
   pub packet : 0 < s.packet
   pub spared : AreSound s.packet s.spared
-
--- what is seen, if it is the thing itself
-abbrev pub IfGot : {A : Type 0} → Seen A → (A → Type 0) → Type 0
-IfGot (Got x) P = P x
-IfGot (Holes blocks) P = ⊤
-IfGot (Fault fault) P = ⊤
-IfGot OutOfMemory P = ⊤
 
 -- the first fault of entries that are all there
 abbrev pub entries_fault : ℕ → ℕ → List SparingEntry → Option VolumeFault

@@ -4,8 +4,8 @@ ghost use Rattle.std.specs.Prelude.{◌≡◌, ◌≤◌, ◌+◌, ◌*◌, IfOk
 ghost use Rattle.std.specs.List.{list_any, range_with_len};
 ghost use Rattle.udfs_tag.specs.Tags.{is_valid};
 ghost use Rattle.udfs_volume.specs.Layout.{bp};
-ghost use Rattle.udfs_volume.specs.Seen.{Sees};
-ghost use Rattle.udfs_space.specs.Parts.{AreSound, IfGot, entries_fault};
+ghost use Rattle.udfs_volume.specs.Seen.{IfGot, Sees};
+ghost use Rattle.udfs_space.specs.Parts.{AreSound, entries_fault};
 ghost use Rattle.udfs_space.specs.Sparing.{breaks_order, entry_of, is_bad_original, is_out_of_order, is_sparing_table, is_used, passes_end, spared_from};
 
 use byteorder::{ByteOrder, LittleEndian};

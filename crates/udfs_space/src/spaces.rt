@@ -4,11 +4,12 @@ ghost use Rattle.std.specs.Prelude.{◌≡◌, ◌≤◌, ◌<◌, ◌↔◌, �
 ghost use Rattle.udfs_lattice.specs.States.{fact_now};
 ghost use Rattle.udfs_lattice.specs.Tables.{state_of};
 ghost use Rattle.udfs_volume.specs.LayoutParts.{partition_now, parts_now};
-ghost use Rattle.udfs_volume.specs.Laws.{IsBoundedPartition};
-ghost use Rattle.udfs_volume.specs.Seen.{Sees};
-ghost use Rattle.udfs_space.specs.Parts.{IsLaidOut, IsSound};
+ghost use Rattle.udfs_volume.specs.Laws.{IsBounded, IsBoundedPartition};
+ghost use Rattle.udfs_volume.specs.Seen.{HolesRise, Sees};
+ghost use Rattle.udfs_space.specs.Parts.{IsSound};
 ghost use Rattle.udfs_space.specs.Places.{StandsIn, block_at, block_now, is_past, length_of, place, view};
 ghost use Rattle.udfs_space.specs.Sparing.{Span, space, spans};
+ghost use Rattle.udfs_space.specs.Told.{TellsLawful};
 
 use crate::spans::Span;
 use std::alloc::{AllocError, Global};
@@ -71,14 +72,21 @@ impl Space {
     /// a number without a meaning or not the first block of a packet; `SparingOrder`, originals fall, or two
     /// packets have the same; `MappedRange`, a packet is mapped to a block behind the last one.
     ///
-    /// The parts are those of [`udfs_volume::layouts::layout`].
+    /// Of a lawful volume with which the table agrees it tells the volume's own places, as the standard reads
+    /// them from the first sparing table, or holes: then all copies of some block of a sparing table are
+    /// among them, of which none is known.
+    ///
+    /// The parts are those that [`udfs_volume::layouts::layout`] gives, or others that lie within a volume.
     pub fn build(alloc: Global, table: &BlockTable, parts: &VolumeParts) -> Seen<Space>
-        requires { IsLaidOut (parts_now parts.now) }
-        ensures { Sees (λ s. s) result (space (state_of table.now) (parts_now parts.now)) }
+        requires to { parts.now.last ≤ 4194303 }
+        requires bounded { IsBounded parts.now.last (parts_now parts.now) }
+        ensures value { Sees (λ s. s) result (space (state_of table.now) (parts_now parts.now)) }
+        ensures lawful { TellsLawful (state_of table.now) (parts_now parts.now) result }
+        ensures rising { HolesRise result }
     {
         match spans(alloc, table, parts.last, &parts.partitions) {
             Ok(Seen::Got(spans)) => Seen::Got(Space { spans }),
-            Ok(Seen::Holes(blocks)) => Seen::Holes(blocks),
+            Ok(Seen::Holes(listed)) => Seen::Holes(listed),
             Ok(Seen::Fault(fault)) => Seen::Fault(fault),
             _ => Seen::OutOfMemory,
         }

@@ -6,8 +6,8 @@ ghost use Rattle.udfs_volume.specs.Laws.{IsBoundedPartition};
 ghost use Rattle.udfs_volume.specs.Layout.{blocks_in};
 ghost use Rattle.udfs_volume.specs.LayoutParts.{partition_now};
 ghost use Rattle.udfs_volume.specs.Parts.{sparable_now};
-ghost use Rattle.udfs_volume.specs.Seen.{Sees};
-ghost use Rattle.udfs_space.specs.Parts.{AreSound, FitAll, IfGot, IsSound, IsSoundEntry, Rises};
+ghost use Rattle.udfs_volume.specs.Seen.{IfGot, Sees};
+ghost use Rattle.udfs_space.specs.Parts.{AreSound, FitAll, IsSound, IsSoundEntry, Rises};
 ghost use Rattle.udfs_space.specs.Places.{place_in};
 ghost use Rattle.udfs_space.specs.Sparing.{span, spared};
 
