@@ -90,8 +90,8 @@ fn push_copies(numbers: &mut Vec<u32>, places: &[u32], k: u32) -> Result<(), All
     requires { FitAll (k + 1) places.now }
     ensures { IfOk result (λ done. numbers.new.items ≡ numbers.old.items ++ copies places.now k) }
 {
-    for place in places {
-        numbers.push(*place + k)?;
+    for first in places {
+        numbers.push(*first + k)?;
     }
     Ok(())
 }

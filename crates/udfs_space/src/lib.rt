@@ -10,3 +10,6 @@ mod spans;
 
 pub use entries::SparingEntry;
 pub use spaces::Space;
+
+#[cfg(test)]
+mod tests;
