@@ -1,11 +1,12 @@
 -- Placing as a function and as a relation.
 use Rattle.std.proofs.Common.{◌≡◌, refl, sym, ◌∙◌, ap, subst, ℕ, ◌+◌, ◌-◌, ◌*◌, ◌/◌, ◌%◌, ◌<◌, ◌≤◌, Bool, true, false, cond, [], ◌∷◌, length, arith, All, slice_index_or, slice_get, nat_eq, nat_lt, Option, Some, None, ◌⊎◌, inl, inr, ◌↔◌, rules}
-use Rattle.std.specs.Prelude.{suc, find, IsSome, IfSome}
+use Rattle.std.specs.Prelude.{suc, find, option_map, IsSome, IfSome}
 use Rattle.std.proofs.Math.Nat.{div-add-mod, mul_comm}
 use Rattle.std.proofs.lemmas.Nat.{mod_below, mod-mul-add}
 use Rattle.udfs_lattice.specs.Volumes.{Includes}
 use Rattle.udfs_volume.proofs.Known.{le_or_lt, true_false}
 use Rattle.udfs_space.specs.declared.entries.SparingEntry.{SparingEntry}
+use Rattle.udfs_space.specs.Laws.{OldPlaceLaw, PlacingLaw}
 use Rattle.udfs_space.specs.Parts.{IsSound, IsSoundEntry, Rises}
 use Rattle.udfs_space.specs.Places.{IsSparedBy, StandsAt, StandsIn, entry_at, length_of, place, place_by, place_in, placed_at, size_of}
 use Rattle.udfs_space.specs.Sparing.{Space, Span, Spared}
@@ -117,7 +118,7 @@ place_in-size s b l = ap (λ x. cond x (Some (place_at s b (entry_at s (b - b % 
     lt_if : (a b : ℕ) → a < b → nat_lt a b ≡ true
     lt_if a b h = grind arith
 
-stands : (s : Span) (b n : ℕ) → IsSound s → place_in s b ≡ Some n → StandsAt s b n
+pub stands : (s : Span) (b n : ℕ) → IsSound s → place_in s b ≡ Some n → StandsAt s b n
 stands s b n h e = let r : (b < s.size) × (n ≡ place_at s b (entry_at s (b - b % s.packet))) = in_range s b n e in
     (r.0, go (entry_at s (b - b % s.packet)) refl r.1)
   where
@@ -132,7 +133,7 @@ stands s b n h e = let r : (b < s.size) × (n ≡ place_at s b (entry_at s (b - 
         let w : IsSparedBy s b x × (b % s.packet ≡ b - x.original) = spares s b x h i.0 i.1 in
         inl (x, w.0, p ∙ ap (place_at s b) q ∙ ap (λ k. x.mapped + k) w.1)
 
-stood : (s : Span) (b n : ℕ) → IsSound s → StandsAt s b n → place_in s b ≡ Some n
+pub stood : (s : Span) (b n : ℕ) → IsSound s → StandsAt s b n → place_in s b ≡ Some n
 stood s b n h w = place_in-size s b w.0 ∙ ap Some (go w.1)
   where
     none_if : (o : Option SparingEntry) → entry_at s (b - b % s.packet) ≡ o → ((e : SparingEntry) → ¬ IsSparedBy s b e) → entry_at s (b - b % s.packet) ≡ None
@@ -205,3 +206,14 @@ fits space r b p e h = subst (λ o. IfSome o (λ n. n ≤ 4194303)) (sym e) (go 
     go o i None f = tt
     go None i (Some n) f = absurd (let z : None ≡ Some n = sym (ap (λ o. place_by o b) i) ∙ f in let y : ⊥ = cc in y)
     go (Some s) i (Some n) f = within s b n (h s i) (sym (ap (λ o. place_by o b) i) ∙ f)
+
+-- ---- laws
+pub placing_law : PlacingLaw
+placing_law s b n h = (λ e. stands s b n h e, λ w. stood s b n h w)
+
+pub old_place_law : OldPlaceLaw
+unfolding place
+old_place_law space blocks other r b s e g h l w q =
+    let n : ℕ = e.mapped + (b - e.original) in
+    let p : place_by (slice_get space r) b ≡ Some n = ap (λ o. place_by o b) g ∙ stood s b n h (l, inl (e, w, refl)) in
+    ap (option_map (λ k. (k, blocks k))) p ∙ ap (λ x. Some (n, x)) q ∙ sym (ap (option_map (λ k. (k, other k))) p)

@@ -3,15 +3,18 @@
 --     IsSparingGroup                          the copies of one block of the table
 --     SpaceLaw, PlaceLaw                      the places are the volume's, or a group is unread
 --     StandardSpace                           with all known they are those of the first sparing table
-use Rattle.std.specs.Prelude.{◌≡◌, ℕ, ◌<◌, List, [], drop, true, ⊤}
+--     PlacingLaw, OldPlaceLaw                 where a block stands, and that nothing is read where it stood
+use Rattle.std.specs.Prelude.{◌≡◌, ◌↔◌, ℕ, ◌+◌, ◌-◌, ◌<◌, List, [], drop, slice_get, true, Some, ⊤}
 use Rattle.udfs_lattice.specs.Volumes.{Blocks, Includes, Volume, IsVolume, Agrees, complete}
 use Rattle.udfs_tag.specs.Tags.{is_valid}
 use Rattle.udfs_volume.specs.Answers.{found}
 use Rattle.udfs_volume.specs.Layout.{Layout, Partition, PartitionMap, type1, sparable, blocks_in, layout}
 use Rattle.udfs_volume.specs.Laws.{IsAnswerOf}
-use Rattle.udfs_space.specs.Sparing.{Space, copies, space}
+use Rattle.udfs_space.specs.declared.entries.SparingEntry.{SparingEntry}
+use Rattle.udfs_space.specs.Parts.{IsSound}
+use Rattle.udfs_space.specs.Sparing.{Space, Span, copies, space}
 use Rattle.udfs_space.specs.Standard.{table_at, standard_space}
-use Rattle.udfs_space.specs.Places.{view, IsPartOf}
+use Rattle.udfs_space.specs.Places.{IsPartOf, IsSparedBy, StandsAt, block_at, place_in, view}
 
 pub record AreTheSameTables (volume : Volume) (size : ℕ) (tables : List ℕ) : Type 0 where
   pub tags : (place : ℕ) → Includes tables place → is_valid (table_at volume size place) place 0 ≡ true
@@ -49,3 +52,15 @@ PlaceLaw = (blocks : Blocks) (volume : Volume) (last : ℕ) (l : Layout) (s : Sp
 abbrev pub StandardSpace : Type 0
 StandardSpace = (volume : Volume) (last : ℕ) (l : Layout) → IsVolume volume last → layout (complete volume last) last ≡ found l
     → IsLawfulSparing volume last l → space (complete volume last) l ≡ found (standard_space volume l)
+
+-- placing as a function is placing as a relation
+abbrev pub PlacingLaw : Type 0
+PlacingLaw = (span : Span) (b n : ℕ) → IsSound span → ((place_in span b ≡ Some n) ↔ StandsAt span b n)
+
+-- what is known of a block of a spared packet is told by the packet's new place alone: two tables that agree there
+-- tell the same, whatever they say of the old place
+abbrev pub OldPlaceLaw : Type 0
+OldPlaceLaw = (space : Space) (blocks other : Blocks) (reference b : ℕ) (span : Span) (e : SparingEntry)
+    → slice_get space reference ≡ Some span → IsSound span → b < span.size → IsSparedBy span b e
+    → blocks (e.mapped + (b - e.original)) ≡ other (e.mapped + (b - e.original))
+    → block_at (view blocks space) reference b ≡ block_at (view other space) reference b

@@ -1,5 +1,5 @@
 //! Laws of sparing tables and places, each the contract of a function that does nothing.
-ghost use Rattle.udfs_space.specs.Laws.{PlaceLaw, SpaceLaw, StandardSpace};
+ghost use Rattle.udfs_space.specs.Laws.{OldPlaceLaw, PlaceLaw, PlacingLaw, SpaceLaw, StandardSpace};
 
 /// Over a table that agrees with a lawful volume, the places are the volume's and of each block of a
 /// sparing table a copy is known; or there are holes: all copies of some block of which none is known, and
@@ -18,4 +18,17 @@ pub fn places_are_blocks()
 /// gives.
 pub fn space_of_standard()
     ensures { StandardSpace }
+{}
+
+/// Placing is a relation on the set of spared packets: a block of a spared packet stands as far into the
+/// packet's new place as it lies in the packet, and every other one as far behind the partition's start as
+/// it lies in the partition.
+pub fn placing_is_a_relation()
+    ensures { PlacingLaw }
+{}
+
+/// The old place of a spared packet is never read: what is known of its blocks is told by the packet's new
+/// place alone.
+pub fn old_places_are_not_read()
+    ensures { OldPlaceLaw }
 {}

@@ -1,4 +1,4 @@
-use Rattle.std.proofs.Common.{◌≤◌, arith, subst, sym}
+use Rattle.std.proofs.Common.{arith, subst, sym}
 use Rattle.udfs_volume.specs.Laws.{IsBounded}
 use Rattle.udfs_volume.specs.LayoutParts.{parts_now}
 use Rattle.udfs_space.proofs.tests.said.space_of.Goals as goal
