@@ -1,0 +1,15 @@
+pub mod Building
+pub mod FirstCopies
+pub mod JoinedBlocks
+pub mod Judging
+pub mod Loops
+pub mod Orders
+pub mod Partitions
+pub mod Pasts
+pub mod PlaceLaw
+pub mod Searching
+pub mod SoundEntries
+pub mod SpaceLaw
+pub mod Standing
+pub mod Tables
+pub mod Telling

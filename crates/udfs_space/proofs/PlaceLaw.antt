@@ -1,0 +1,152 @@
+-- Every place of a volume that has a layout is one of its blocks.
+use Rattle.std.proofs.Common.{◌≡◌, refl, sym, ◌∙◌, ap, subst, inl, inr, ◌⊎◌, ℕ, ◌+◌, ◌-◌, ◌%◌, ◌<◌, ◌≤◌, Bool, true, false, not, List, [], ◌∷◌, drop, filter, cond, ◌&&◌, ◌||◌, arith, Option, Some, None, slice_get, nat_eq, nat_lt}
+use Rattle.std.specs.Prelude.{zero, suc, find}
+use Rattle.std.specs.List.{list_any}
+use Rattle.std.proofs.lemmas.Bool.{leb-true}
+use Rattle.std.proofs.lemmas.Nat.{mod_below}
+use Rattle.udfs_lattice.specs.Volumes.{Blocks, Includes, first_known}
+use Rattle.udfs_volume.specs.Sequence.{Bytes}
+use Rattle.udfs_lattice.specs.Volumes.{complete}
+use Rattle.udfs_tag.specs.Tags.{is_valid}
+use Rattle.udfs_volume.specs.Answers.{found, and_then}
+use Rattle.udfs_volume.specs.declared.faults.VolumeFault.{VolumeFault}
+use Rattle.udfs_volume.specs.declared.faults.VolumeFault.TheVariants.{SparingTag, SparingShape, SparingOrder, MappedRange}
+use Rattle.udfs_volume.specs.Layout.{Layout, Partition, PartitionMap, type1, sparable, blocks_in, layout}
+use Rattle.udfs_volume.specs.Laws.{IsBounded, IsBoundedMap, IsBoundedPartition}
+use Rattle.udfs_volume.proofs.Known.{complete-known, known_is}
+use Rattle.udfs_volume.proofs.Bounds.{and_then-found, found_same, unless_fault-found, layout_is_bounded}
+use Rattle.udfs_space.specs.Laws.{PlaceLaw}
+use Rattle.udfs_space.specs.declared.entries.SparingEntry.{SparingEntry}
+use Rattle.udfs_space.specs.Sparing.{Span, Space, Spared, spared, spared_unless, spared_by, spared_in, unread, is_used, is_sparing_table, is_misshapen, passes_end, is_out_of_order, entries, copies, place_of, sparing_fault, packet_of, span_of, span, spans, space, table_bytes}
+use Rattle.udfs_space.specs.Places.{place, place_in, place_by, placed_at}
+
+fits_if : (o : Bool) (a b : ℕ) → (o || nat_lt a b) ≡ false → b ≤ a
+fits_if true a b e = absurd (let z : ⊥ = cc in z)
+fits_if false a b e = grind arith
+
+-- spared packets are mapped to blocks of the volume
+abbrev FitsAll : ℕ → ℕ → Spared → Type 0
+FitsAll last packet sp = (p : SparingEntry → Bool) (e : SparingEntry) → find p sp ≡ Some e → e.mapped + packet ≤ last + 1
+
+either_false : (a b : Bool) → (a || b) ≡ false → (a ≡ false) × (b ≡ false)
+either_false true b e = absurd (let z : ⊥ = cc in z)
+either_false false b e = (refl, e)
+
+all_fit : (last packet : ℕ) (es : List SparingEntry) → list_any (passes_end last packet) es ≡ false → FitsAll last packet (filter is_used es)
+all_fit last packet [] h p e f = absurd (let z : ⊥ = cc in z)
+all_fit last packet (x ∷ es) h p e f = go (all_fit last packet es (either_false (is_used x && nat_lt (last + 1) (x.mapped + packet)) (list_any (passes_end last packet) es) h).1 p e) (is_used x) refl f
+  where
+    here : is_used x ≡ true → x.mapped + packet ≤ last + 1
+    here u = let q : (is_used x && nat_lt (last + 1) (x.mapped + packet)) ≡ false = (either_false (is_used x && nat_lt (last + 1) (x.mapped + packet)) (list_any (passes_end last packet) es) h).0 in
+        fits_if false (last + 1) (x.mapped + packet) (sym (ap (λ b. b && nat_lt (last + 1) (x.mapped + packet)) u) ∙ q)
+
+    pick : (b : Bool) → (find p (filter is_used es) ≡ Some e → e.mapped + packet ≤ last + 1) → is_used x ≡ true → cond b (Some x) (find p (filter is_used es)) ≡ Some e → e.mapped + packet ≤ last + 1
+    pick true later u q = subst (λ z. z.mapped + packet ≤ last + 1) (let same : x ≡ e = cc in same) (here u)
+    pick false later u q = later q
+
+    go : (find p (filter is_used es) ≡ Some e → e.mapped + packet ≤ last + 1) → (b : Bool) → is_used x ≡ b → find p (cond b (x ∷ filter is_used es) (filter is_used es)) ≡ Some e → e.mapped + packet ≤ last + 1
+    go later true u q = pick (p x) later u q
+    go later false u q = later q
+
+fourth : (a b c d : Bool) (f g h i : VolumeFault) → cond a (Some f) (cond b (Some g) (cond c (Some h) (cond d (Some i) None))) ≡ None → d ≡ false
+fourth true b c d f g h i e = absurd (let z : ⊥ = cc in z)
+fourth false true c d f g h i e = absurd (let z : ⊥ = cc in z)
+fourth false false true d f g h i e = absurd (let z : ⊥ = cc in z)
+fourth false false false true f g h i e = absurd (let z : ⊥ = cc in z)
+fourth false false false false f g h i e = refl
+
+spared_fit : (T : Blocks) (last : ℕ) (m : PartitionMap) (sp : Spared) → spared T last m ≡ found sp → FitsAll last (packet_of m) sp
+unfolding spared
+spared_fit T last type1 sp e = λ p x f. absurd (let same : [] ≡ sp = found_same [] sp e in let q : None ≡ Some x = ap (find p) same ∙ f in let z : ⊥ = cc in z)
+spared_fit T last (sparable packet size tables) sp e = go (unread T tables (blocks_in size)) e
+  where
+    table : Bytes
+    table = table_bytes T size tables
+
+    valid : Bool
+    valid = is_valid table (place_of (first_known T (copies tables 0))) 0
+
+    go : (ks : List ℕ) → spared_unless tables ks (spared_by T last packet size tables) ≡ found sp → FitsAll last packet sp
+    go [] q = let r : (sparing_fault last packet size valid (drop 16 table) ≡ None) × (spared_in (drop 16 table) ≡ sp) =
+        unless_fault-found (sparing_fault last packet size valid (drop 16 table)) (spared_in (drop 16 table)) sp q in
+        subst (FitsAll last packet) r.1 (all_fit last packet (entries (drop 16 table))
+        (fourth (not (is_sparing_table valid (drop 16 table)))
+        (is_misshapen packet size (drop 16 table)) (is_out_of_order (entries (drop 16 table)))
+        (list_any (passes_end last packet) (entries (drop 16 table))) SparingTag SparingShape SparingOrder MappedRange r.0))
+    go (k ∷ ks) q = absurd (let z : ⊥ = cc in z)
+
+-- Where the blocks of a partition can stand.
+record IsWithin (last : ℕ) (s : Span) : Type 0 where
+  pub packet : 0 < s.packet
+  pub ends : s.start + s.size ≤ last + 1
+  pub spared : FitsAll last s.packet s.spared
+
+packet_if : (n : ℕ) → (n ≡ 16) ⊎ (n ≡ 32) → 0 < n
+packet_if n (inl e) = omega (arith, e)
+packet_if n (inr e) = omega (arith, e)
+
+has_packet : (last : ℕ) (m : PartitionMap) → IsBoundedMap last m → 0 < packet_of m
+has_packet last type1 b = omega arith
+has_packet last (sparable packet size tables) b = packet_if packet b.packet_is
+
+span_within : (T : Blocks) (last : ℕ) (p : Partition) (s : Span) → IsBoundedPartition last p → span T last p ≡ found s → IsWithin last s
+span_within T last p s b e = let q : (sp : Spared) × (spared T last p.kind ≡ found sp) × (found (span_of p sp) ≡ found s) =
+    and_then-found (spared T last p.kind) (λ sp. found (span_of p sp)) s e in
+    subst (IsWithin last) (found_same (span_of p q.0) s q.2)
+    (record { packet = has_packet last p.kind b.bounded_map; ends = b.ends; spared = spared_fit T last p.kind q.0 q.1 })
+
+spans_within : (T : Blocks) (last : ℕ) (ps : List Partition) (ss : Space) → ((p : Partition) → Includes ps p → IsBoundedPartition last p)
+    → spans T last ps ≡ found ss → (s : Span) → Includes ss s → IsWithin last s
+spans_within T last [] ss b e s i = absurd (subst (λ x. Includes x s) (sym (found_same [] ss e)) i)
+spans_within T last (p ∷ ps) ss b e s i = let q : (x : Span) × (span T last p ≡ found x) × (and_then (spans T last ps) (λ xs. found (x ∷ xs)) ≡ found ss) =
+    and_then-found (span T last p) (λ x. and_then (spans T last ps) (λ xs. found (x ∷ xs))) ss e in
+    let r : (xs : Space) × (spans T last ps ≡ found xs) × (found (q.0 ∷ xs) ≡ found ss) = and_then-found (spans T last ps) (λ xs. found (q.0 ∷ xs)) ss q.2 in
+    go q.0 r.0 (span_within T last p q.0 (b p (inl refl)) q.1) (spans_within T last ps r.0 (λ p i. b p (inr i)) r.1 s)
+    (subst (λ x. Includes x s) (sym (found_same (q.0 ∷ r.0) ss r.2)) i)
+  where
+    go : (x : Span) (xs : Space) → IsWithin last x → (Includes xs s → IsWithin last s) → Includes (x ∷ xs) s → IsWithin last s
+    go x xs h later (inl k) = subst (IsWithin last) k h
+    go x xs h later (inr k) = later k
+
+-- where a logical block stands
+place_within : (last : ℕ) (s : Span) → IsWithin last s → (b n : ℕ) → place_in s b ≡ Some n → n ≤ last
+place_within last s w b n e = go (nat_lt b s.size) refl e
+  where
+    some_same : (x y : ℕ) → Some x ≡ Some y → x ≡ y
+    some_same x y q = cc
+
+    at : b < s.size → (o : Option SparingEntry) → find (λ e. nat_eq e.original (b - b % s.packet)) s.spared ≡ o → placed_at o (s.start + b) (b % s.packet) ≤ last
+    at l None q = let ends : s.start + s.size ≤ last + 1 = w.ends in omega (arith, l, ends)
+    at l (Some x) q = let f : x.mapped + s.packet ≤ last + 1 = w.spared (λ e. nat_eq e.original (b - b % s.packet)) x q in let m : b % s.packet < s.packet = mod_below b s.packet w.packet in omega (arith, f, m)
+
+    go : (x : Bool) → nat_lt b s.size ≡ x → cond x (Some (placed_at (find (λ e. nat_eq e.original (b - b % s.packet)) s.spared) (s.start + b) (b % s.packet))) None ≡ Some n → n ≤ last
+    go true x q = let l : suc b ≤ s.size = leb-true (suc b) s.size x in
+        subst (λ z. z ≤ last) (some_same (placed_at (find (λ e. nat_eq e.original (b - b % s.packet)) s.spared) (s.start + b) (b % s.packet)) n q)
+        (at (omega (arith, l)) (find (λ e. nat_eq e.original (b - b % s.packet)) s.spared) refl)
+    go false x q = absurd (let z : ⊥ = cc in z)
+
+included : (ss : Space) (r : ℕ) (s : Span) → slice_get ss r ≡ Some s → Includes ss s
+included [] r s e = absurd (let z : ⊥ = cc in z)
+included (x ∷ xs) zero s e = inl (let z : x ≡ s = cc in z)
+included (x ∷ xs) (suc r) s e = inr (included xs r s e)
+
+any_within : (last : ℕ) (ss : Space) → ((s : Span) → Includes ss s → IsWithin last s) → (r b n : ℕ) → place ss r b ≡ Some n → n ≤ last
+unfolding place
+any_within last ss all r b n e = go (slice_get ss r) refl e
+  where
+    go : (o : Option Span) → slice_get ss r ≡ o → place_by o b ≡ Some n → n ≤ last
+    go None q p = absurd (let z : ⊥ = cc in z)
+    go (Some s) q p = place_within last s (all s (included ss r s q)) b n p
+
+space_within : (T : Blocks) (last : ℕ) (l : Layout) (ss : Space) → layout T last ≡ found l → space T l ≡ found ss → (r b n : ℕ) → place ss r b ≡ Some n → n ≤ last
+unfolding space
+space_within T last l ss h e = let bounds : IsBounded last l = layout_is_bounded T last l h in
+    any_within last ss (spans_within T last l.partitions ss bounds.of_each (ap (λ x. spans T x l.partitions) (sym bounds.is_last) ∙ e))
+
+pub place_law : PlaceLaw
+place_law M V N l s hv hl hs a = record {
+  partitions = refl;
+  places = λ r b. refl;
+  complete = λ r b n e. (V n, complete-known V N n (space_within (complete V N) N l s hl hs r b n e));
+  agrees = λ r b n bytes e k. complete-known V N n (space_within (complete V N) N l s hl hs r b n e) ∙ sym (known_is M V N a n bytes k) ∙ k;
+}

@@ -1,0 +1,66 @@
+-- What holds of the places of a lawful volume of which a part is known.
+--     IsLawfulSparing volume last layout      copies of the sparing table that say the same, and no fault
+--     IsSparingGroup                          the copies of one block of the table
+--     SpaceLaw, PlaceLaw                      the places are the volume's, or a group is unread
+--     StandardSpace                           with all known they are those of the first sparing table
+--     PlacingLaw, OldPlaceLaw                 where a block stands, and that nothing is read where it stood
+use Rattle.std.specs.Prelude.{◌≡◌, ◌↔◌, ℕ, ◌+◌, ◌-◌, ◌<◌, List, [], drop, slice_get, true, Some, ⊤}
+use Rattle.udfs_lattice.specs.Volumes.{Blocks, Includes, Volume, IsVolume, Agrees, complete}
+use Rattle.udfs_tag.specs.Tags.{is_valid}
+use Rattle.udfs_volume.specs.Answers.{found}
+use Rattle.udfs_volume.specs.Layout.{Layout, Partition, PartitionMap, type1, sparable, blocks_in, layout}
+use Rattle.udfs_volume.specs.Laws.{IsAnswerOf}
+use Rattle.udfs_space.specs.declared.entries.SparingEntry.{SparingEntry}
+use Rattle.udfs_space.specs.Parts.{IsSound}
+use Rattle.udfs_space.specs.Sparing.{Space, Span, copies, space}
+use Rattle.udfs_space.specs.Standard.{table_at, standard_space}
+use Rattle.udfs_space.specs.Places.{IsPartOf, IsSparedBy, StandsAt, block_at, place_in, view}
+
+pub record AreTheSameTables (volume : Volume) (size : ℕ) (tables : List ℕ) : Type 0 where
+  pub tags : (place : ℕ) → Includes tables place → is_valid (table_at volume size place) place 0 ≡ true
+  pub contents : (a b : ℕ) → Includes tables a → Includes tables b
+      → drop 16 (table_at volume size a) ≡ drop 16 (table_at volume size b)
+
+abbrev pub SparingAgrees : Volume → PartitionMap → Type 0
+SparingAgrees volume type1 = ⊤
+SparingAgrees volume (sparable packet size tables) = AreTheSameTables volume size tables
+
+pub record IsLawfulSparing (volume : Volume) (last : ℕ) (l : Layout) : Type 0 where
+  pub tables : (p : Partition) → Includes l.partitions p → SparingAgrees volume p.kind
+  pub placed : (s : Space) × (space (complete volume last) l ≡ found s)
+
+abbrev pub IsTableGroup : PartitionMap → List ℕ → Type 0
+IsTableGroup type1 group = ⊥
+IsTableGroup (sparable packet size tables) group = (k : ℕ) × (k < blocks_in size) × (group ≡ copies tables k)
+
+-- the copies of one block of the sparing table of a partition
+abbrev pub IsSparingGroup : List Partition → List ℕ → Type 0
+IsSparingGroup partitions group = (p : Partition) × Includes partitions p × IsTableGroup p.kind group
+
+abbrev pub SpaceLaw : Type 0
+SpaceLaw = (blocks : Blocks) (volume : Volume) (last : ℕ) (l : Layout) → IsVolume volume last
+    → layout (complete volume last) last ≡ found l → IsLawfulSparing volume last l → Agrees blocks volume last
+    → IsAnswerOf blocks [] [] (IsSparingGroup l.partitions) (space blocks l) (space (complete volume last) l)
+
+-- every place is a block of the volume, so what is known of the partitions is part of the complete ones
+abbrev pub PlaceLaw : Type 0
+PlaceLaw = (blocks : Blocks) (volume : Volume) (last : ℕ) (l : Layout) (s : Space) → IsVolume volume last
+    → layout (complete volume last) last ≡ found l → space (complete volume last) l ≡ found s → Agrees blocks volume last
+    → IsPartOf (view blocks s) (view (complete volume last) s)
+
+-- with all known, the places are those that the first copy of a table gives
+abbrev pub StandardSpace : Type 0
+StandardSpace = (volume : Volume) (last : ℕ) (l : Layout) → IsVolume volume last → layout (complete volume last) last ≡ found l
+    → IsLawfulSparing volume last l → space (complete volume last) l ≡ found (standard_space volume l)
+
+-- placing as a function is placing as a relation
+abbrev pub PlacingLaw : Type 0
+PlacingLaw = (span : Span) (b n : ℕ) → IsSound span → ((place_in span b ≡ Some n) ↔ StandsAt span b n)
+
+-- what is known of a block of a spared packet is told by the packet's new place alone: two tables that agree there
+-- tell the same, whatever they say of the old place
+abbrev pub OldPlaceLaw : Type 0
+OldPlaceLaw = (space : Space) (blocks other : Blocks) (reference b : ℕ) (span : Span) (e : SparingEntry)
+    → slice_get space reference ≡ Some span → IsSound span → b < span.size → IsSparedBy span b e
+    → blocks (e.mapped + (b - e.original)) ≡ other (e.mapped + (b - e.original))
+    → block_at (view blocks space) reference b ≡ block_at (view other space) reference b

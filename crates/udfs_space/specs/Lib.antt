@@ -1,0 +1,6 @@
+pub mod Sparing
+pub mod Places
+pub mod Parts
+pub mod Standard
+pub mod Laws
+pub mod Told

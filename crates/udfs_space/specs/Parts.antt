@@ -1,0 +1,50 @@
+-- What holds of the partitions of the code, whichever table they come from.
+--     FitAll count places     tables of so many blocks end where blocks may end
+--     IsSound span            what holds of every partition of a space
+use Rattle.std.specs.Prelude.{◌≡◌, ℕ, ◌+◌, ◌%◌, ◌<◌, ◌≤◌, List, [], ◌∷◌, length, slice_index_or, All, Option, Some, None}
+use Rattle.std.specs.List.{list_any}
+use Rattle.std.specs.Borrow.{Bor}
+use Rattle.udfs_tag.specs.Faults.{first_fault}
+use Rattle.udfs_volume.specs.declared.faults.VolumeFault.{VolumeFault}
+use Rattle.udfs_volume.specs.declared.faults.VolumeFault.TheVariants.{SparingShape, SparingOrder, MappedRange}
+use Rattle.udfs_space.specs.declared.entries.SparingEntry.{SparingEntry}
+use Rattle.udfs_space.specs.Sparing.{Span, Spared, is_bad_original, is_out_of_order, passes_end}
+
+-- tables of so many blocks end where blocks may end
+abbrev pub FitAll : ℕ → List ℕ → Type 0
+FitAll count places = All (λ place. place + count ≤ 4194304) places
+
+-- a known copy behind its reference
+abbrev pub copy_now : Option (ℕ × Bor (List ℕ)) → Option (ℕ × List ℕ)
+copy_now None = None
+copy_now (Some known) = Some (known.0, (known.1).now)
+
+-- a packet begins at a multiple of its length, and is mapped to blocks that there may be
+pub record IsSoundEntry (packet : ℕ) (e : SparingEntry) : Type 0 where
+  pub whole : e.original % packet ≡ 0
+  pub ends : e.mapped + packet ≤ 4194304
+
+-- the originals rise
+abbrev pub Rises : Spared → Type 0
+Rises es = (i j : ℕ) (d : SparingEntry) → i < j → j < length es
+    → (slice_index_or es i d).original < (slice_index_or es j d).original
+
+-- packets that are spared: whole, within the blocks that there may be, each once
+pub record AreSound (packet : ℕ) (es : Spared) : Type 0 where
+  pub each : All (IsSoundEntry packet) es
+  pub rises : Rises es
+
+-- A partition is not empty and ends where blocks may end.
+pub record IsSound (s : Span) : Type 0 where
+  pub not_empty : 0 < s.size
+  pub ends : s.start + s.size ≤ 4194304
+  pub packet : 0 < s.packet
+  pub spared : AreSound s.packet s.spared
+
+-- the first fault of entries that are all there
+abbrev pub entries_fault : ℕ → ℕ → List SparingEntry → Option VolumeFault
+entries_fault last packet es = first_fault (
+    (list_any (is_bad_original packet) es, SparingShape)
+    ∷ (is_out_of_order es, SparingOrder)
+    ∷ (list_any (passes_end last packet) es, MappedRange)
+    ∷ [])

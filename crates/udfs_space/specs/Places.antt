@@ -1,0 +1,91 @@
+-- Where the logical blocks of partitions stand, and what is known there.
+--     place space reference b         the block that holds logical block b of a partition
+--     StandsIn space reference b n    the same as a relation: block n holds it
+--     length_of space reference       the number of logical blocks of a partition
+--     View                            a volume as the layers above see it: places and states
+--     block_at view reference b       the block at a logical address, with its state
+--     is_past places reference b n    whether one of n consecutive logical blocks has no place
+use Rattle.std.specs.Prelude.{◌≡◌, ◌⊎◌, ℕ, ◌+◌, ◌-◌, ◌%◌, ◌<◌, ◌≤◌, Bool, List, length, slice_get, cond, nat_eq, nat_lt, Option, Some, None, find, is_none, option_map}
+use Rattle.std.specs.List.{range_with_len, list_any}
+use Rattle.std.specs.Borrow.{Bor}
+use Rattle.udfs_lattice.specs.Volumes.{Blocks, Includes}
+use Rattle.udfs_lattice.specs.States.{State, fact_now}
+use Rattle.udfs_lattice.specs.declared.facts.Fact.{Fact}
+use Rattle.udfs_lattice.specs.declared.facts.Fact.TheVariants.{Known}
+use Rattle.udfs_volume.specs.Sequence.{Bytes}
+use Rattle.udfs_space.specs.declared.entries.SparingEntry.{SparingEntry}
+use Rattle.udfs_space.specs.Sparing.{Space, Span}
+
+-- the entry of the packet that begins at a logical block
+abbrev pub entry_at : Span → ℕ → Option SparingEntry
+entry_at span first = find (λ e. nat_eq e.original first) span.spared
+
+abbrev pub placed_at : Option SparingEntry → ℕ → ℕ → ℕ
+placed_at None direct offset = direct
+placed_at (Some e) direct offset = e.mapped + offset
+
+-- a block of a spared packet stands where the packet is mapped, and every other one behind the start
+abbrev pub place_in : Span → ℕ → Option ℕ
+place_in span b = let offset = b % span.packet in cond (nat_lt b span.size)
+    (Some (placed_at (entry_at span (b - offset)) (span.start + b) offset)) None
+
+abbrev pub place_by : Option Span → ℕ → Option ℕ
+place_by None b = None
+place_by (Some span) b = place_in span b
+
+-- A logical address is a partition reference and a logical block.
+unfoldable pub place : Space → ℕ → ℕ → Option ℕ
+place space reference b = place_by (slice_get space reference) b
+
+-- the block lies in the packet of the entry
+abbrev pub IsSparedBy : Span → ℕ → SparingEntry → Type 0
+IsSparedBy span b e = Includes span.spared e × (e.original ≤ b) × (b < e.original + span.packet)
+
+-- Block n holds logical block b of the partition. The spared packets are taken as a set.
+abbrev pub StandsAt : Span → ℕ → ℕ → Type 0
+StandsAt span b n = (b < span.size)
+    × (((e : SparingEntry) × IsSparedBy span b e × (n ≡ e.mapped + (b - e.original)))
+    ⊎ (((e : SparingEntry) → ¬ IsSparedBy span b e) × (n ≡ span.start + b)))
+
+-- the same in the partition of a reference
+abbrev pub StandsIn : Space → ℕ → ℕ → ℕ → Type 0
+StandsIn space reference b n = (span : Span) × (slice_get space reference ≡ Some span) × StandsAt span b n
+
+abbrev pub size_of : Option Span → ℕ
+size_of None = 0
+size_of (Some span) = span.size
+
+-- the number of logical blocks of a partition, and 0 where there is no such partition
+abbrev pub length_of : Space → ℕ → ℕ
+length_of space reference = size_of (slice_get space reference)
+
+-- A volume as the layers above see it.
+pub record View : Type 0 where
+  -- how many partition references are good
+  pub partitions : ℕ
+  pub place : ℕ → ℕ → Option ℕ
+  pub blocks : Blocks
+
+abbrev pub view : Blocks → Space → View
+view blocks space = record { partitions = length space; place = place space; blocks = blocks }
+
+-- the block at a logical address, and its state
+abbrev pub block_at : View → ℕ → ℕ → Option (ℕ × State)
+block_at view r b = option_map (λ n. (n, view.blocks n)) (view.place r b)
+
+-- one of so many consecutive logical blocks has no place
+abbrev pub is_past : (ℕ → ℕ → Option ℕ) → ℕ → ℕ → ℕ → Bool
+is_past places r b count = list_any (λ j. is_none (places r (b + j))) (range_with_len 0 count)
+
+-- Two views with the same places, of which the second knows each block that has a place, and the first only
+-- what the second knows.
+pub record IsPartOf (some all : View) : Type 0 where
+  pub partitions : some.partitions ≡ all.partitions
+  pub places : (r b : ℕ) → some.place r b ≡ all.place r b
+  pub complete : (r b n : ℕ) → all.place r b ≡ Some n → (bytes : Bytes) × (all.blocks n ≡ Known bytes)
+  pub agrees : (r b n : ℕ) (bytes : Bytes) → all.place r b ≡ Some n → some.blocks n ≡ Known bytes → all.blocks n ≡ Known bytes
+
+-- a block as it reads behind a reference, with its number
+abbrev pub block_now : Option (ℕ × Fact (Bor (List ℕ))) → Option (ℕ × State)
+block_now None = None
+block_now (Some e) = Some (e.0, fact_now e.1)

@@ -1,0 +1,144 @@
+-- The sparing table of a partition (UDF 2.2.12), put together from its copies.
+--     Space                       where the logical blocks of each partition stand
+--     space blocks layout         the partitions with their spared packets
+use Rattle.std.specs.Prelude.{ℕ, ◌+◌, ◌*◌, ◌%◌, Bool, false, not, List, [], ◌∷◌, take, drop, map, filter, flat_map, nat_eq, nat_lt, ◌&&◌, ◌||◌, Option, Some, None, codes, is_none}
+use Rattle.std.specs.List.{range_with_len, list_any}
+use Rattle.std.specs.Str.{bytes_eq}
+use Rattle.udfs_lattice.specs.Volumes.{Blocks, first_known, ascending}
+use Rattle.udfs_volume.specs.Sequence.{Bytes}
+use Rattle.udfs_tag.specs.Fields.{uint16_at, uint32_at, regid_at, filled}
+use Rattle.udfs_tag.specs.Faults.{is_within, first_fault}
+use Rattle.udfs_tag.specs.Tags.{is_valid}
+use Rattle.udfs_volume.specs.Answers.{Answer, found, holes, and_then, unless_fault}
+use Rattle.udfs_volume.specs.Layout.{Layout, Partition, PartitionMap, type1, sparable, bp, blocks_in}
+use Rattle.udfs_space.specs.declared.entries.SparingEntry.{SparingEntry}
+use Rattle.udfs_volume.specs.declared.faults.VolumeFault.{VolumeFault}
+use Rattle.udfs_volume.specs.declared.faults.VolumeFault.TheVariants.{SparingTag, SparingShape, SparingOrder, MappedRange}
+
+-- the spared packets: the first logical block of each, and the block at which it now begins
+abbrev pub Spared : Type 0
+Spared = List SparingEntry
+
+-- Where the logical blocks of one partition stand.
+pub record Span : Type 0 where
+  pub start : ℕ
+  pub size : ℕ
+  pub packet : ℕ
+  pub spared : Spared
+
+-- the partitions in the order of their maps
+abbrev pub Space : Type 0
+Space = List Span
+
+-- the blocks that hold block k of the table, in map order
+abbrev pub copies : List ℕ → ℕ → List ℕ
+copies tables k = map (λ place. place + k) tables
+
+-- the numbers of the table's blocks of which no copy is known
+abbrev pub unread : Blocks → List ℕ → ℕ → List ℕ
+unread blocks tables count = filter (λ k. is_none (first_known blocks (copies tables k))) (range_with_len 0 count)
+
+abbrev pub piece : Option (ℕ × Bytes) → Bytes
+piece None = []
+piece (Some known) = known.1
+
+abbrev pub place_of : Option (ℕ × Bytes) → ℕ
+place_of None = 0
+place_of (Some known) = known.0
+
+-- the table's bytes: of each of its blocks the first copy that is known
+abbrev pub table_bytes : Blocks → ℕ → List ℕ → Bytes
+table_bytes blocks size tables =
+    take size (flat_map (λ k. piece (first_known blocks (copies tables k))) (range_with_len 0 (blocks_in size)))
+
+-- the number of entries (2.2.12: reallocation table length)
+abbrev pub entry_count : Bytes → ℕ
+entry_count content = uint16_at content (bp 48)
+
+-- an entry: the first logical block of a packet and the block to which it is mapped
+abbrev pub entry_of : Bytes → SparingEntry
+entry_of bytes = record { original = uint32_at bytes 0; mapped = uint32_at bytes 4 }
+
+-- the entries of a table, whose bytes are those behind its tag
+abbrev pub entries : Bytes → List SparingEntry
+entries content = map (λ i. entry_of (drop (bp (56 + 8 * i)) content)) (range_with_len 0 (entry_count content))
+
+-- below FFFFFFF0 stands a packet, FFFFFFF0 is defective and FFFFFFFF available
+abbrev pub is_used : SparingEntry → Bool
+is_used e = nat_lt e.original 0xFFFF_FFF0
+
+-- a number that is none of these, or no first block of a packet
+abbrev pub is_bad_original : ℕ → SparingEntry → Bool
+is_bad_original packet e =
+    is_within 0xFFFF_FFF1 0xFFFF_FFFE e.original || is_used e && not (nat_eq (e.original % packet) 0)
+
+-- the next original is less, or the same while a packet stands there
+abbrev pub breaks_order : SparingEntry → SparingEntry → Bool
+breaks_order e next = nat_lt next.original e.original || is_used e && nat_eq next.original e.original
+
+-- the originals fall somewhere, or two used ones are equal
+abbrev pub is_out_of_order : List SparingEntry → Bool
+is_out_of_order [] = false
+is_out_of_order (e ∷ []) = false
+is_out_of_order (e ∷ f ∷ rest) = breaks_order e f || is_out_of_order (f ∷ rest)
+
+-- the identifier of a sparing table stands behind the tag, which is valid
+abbrev pub is_sparing_table : Bool → Bytes → Bool
+is_sparing_table valid content = valid && bytes_eq (regid_at content (bp 16)).name (filled 23 (codes "*UDF Sparing Table"))
+
+-- the entries pass the size, or an original is none that there may be
+abbrev pub is_misshapen : ℕ → ℕ → Bytes → Bool
+is_misshapen packet size content =
+    nat_lt size (56 + 8 * entry_count content) || list_any (is_bad_original packet) (entries content)
+
+-- a packet is mapped to blocks of which one lies behind the last
+abbrev pub passes_end : ℕ → ℕ → SparingEntry → Bool
+passes_end last packet e = is_used e && nat_lt (last + 1) (e.mapped + packet)
+
+-- the first fault of a table of that size, by whether its tag is valid, and what stands behind the tag
+abbrev pub sparing_fault : ℕ → ℕ → ℕ → Bool → Bytes → Option VolumeFault
+sparing_fault last packet size valid content = first_fault (
+    (not (is_sparing_table valid content), SparingTag)
+    ∷ (is_misshapen packet size content, SparingShape)
+    ∷ (is_out_of_order (entries content), SparingOrder)
+    ∷ (list_any (passes_end last packet) (entries content), MappedRange)
+    ∷ [])
+
+abbrev pub spared_in : Bytes → Spared
+spared_in content = filter is_used (entries content)
+
+abbrev pub spared_from : ℕ → ℕ → ℕ → Bool → Bytes → Answer Spared
+spared_from last packet size valid content = unless_fault (sparing_fault last packet size valid content) (spared_in content)
+
+-- What a table whose every block is known in some copy gives. Its tag is that of the copy whose block 0 was taken.
+abbrev pub spared_by : Blocks → ℕ → ℕ → ℕ → List ℕ → Answer Spared
+spared_by blocks last packet size tables = let table = table_bytes blocks size tables in
+    spared_from last packet size (is_valid table (place_of (first_known blocks (copies tables 0))) 0) (drop 16 table)
+
+-- where blocks of the table are known in no copy, all their copies have to be read
+abbrev pub spared_unless : List ℕ → List ℕ → Answer Spared → Answer Spared
+spared_unless tables [] answer = answer
+spared_unless tables (k ∷ ks) answer = holes (ascending (flat_map (copies tables) (k ∷ ks)))
+
+unfoldable pub spared : Blocks → ℕ → PartitionMap → Answer Spared
+spared blocks last type1 = found []
+spared blocks last (sparable packet size tables) =
+    spared_unless tables (unread blocks tables (blocks_in size)) (spared_by blocks last packet size tables)
+
+abbrev pub packet_of : PartitionMap → ℕ
+packet_of type1 = 1
+packet_of (sparable packet size tables) = packet
+
+abbrev pub span_of : Partition → Spared → Span
+span_of p spared = record { start = p.start; size = p.size; packet = packet_of p.kind; spared = spared }
+
+abbrev pub span : Blocks → ℕ → Partition → Answer Span
+span blocks last p = and_then (spared blocks last p.kind) (λ s. found (span_of p s))
+
+abbrev pub spans : Blocks → ℕ → List Partition → Answer Space
+spans blocks last [] = found []
+spans blocks last (p ∷ ps) = and_then (span blocks last p) (λ s. and_then (spans blocks last ps) (λ ss. found (s ∷ ss)))
+
+-- one map at most is sparable, so there is no order among faults or holes of several tables
+unfoldable pub space : Blocks → Layout → Answer Space
+space blocks layout = spans blocks layout.last layout.partitions

@@ -1,0 +1,34 @@
+-- What a call tells of a lawful volume of which a part is known.
+--     IsSpaceOf volume last blocks l got    the volume's places, as the standard reads them
+--     TellsLawful blocks l seen             of each lawful volume: its places, or all copies of an unread block
+use Rattle.std.specs.Prelude.{◌≡◌, ⊤, ℕ, List, []}
+use Rattle.udfs_lattice.specs.Volumes.{Blocks, Includes, Volume, IsVolume, Agrees, complete, IsKnownAt}
+use Rattle.udfs_volume.specs.declared.seen.Seen.{Seen}
+use Rattle.udfs_volume.specs.declared.seen.Seen.TheVariants.{Got, Holes, Fault, OutOfMemory}
+use Rattle.udfs_volume.specs.Answers.{found}
+use Rattle.udfs_volume.specs.Layout.{Layout, layout}
+use Rattle.udfs_volume.specs.Laws.{ListsGroup}
+use Rattle.udfs_space.specs.Laws.{IsLawfulSparing, IsSparingGroup}
+use Rattle.udfs_space.specs.Places.{IsPartOf, view}
+use Rattle.udfs_space.specs.Sparing.{Space, space}
+use Rattle.udfs_space.specs.Standard.{standard_space}
+use Rattle.udfs_space.specs.declared.spaces.Space as code_space
+
+-- the places of the volume, which the standard reads from the first sparing table; of each block of a table a
+-- copy is known; and each placed block is the volume's or not known
+pub record IsSpaceOf (volume : Volume) (last : ℕ) (blocks : Blocks) (l : Layout) (got : Space) : Type 0 where
+  pub whole : space (complete volume last) l ≡ found got
+  pub standard : standard_space volume l ≡ got
+  pub known : (group : List ℕ) → IsSparingGroup l.partitions group → (n : ℕ) × Includes group n × IsKnownAt blocks n
+  pub part : IsPartOf (view blocks got) (view (complete volume last) got)
+
+-- a lawful volume has no fault
+abbrev pub IsToldOf : Volume → ℕ → Blocks → Layout → Seen code_space.Space → Type 0
+IsToldOf volume last blocks l (Got got) = IsSpaceOf volume last blocks l got
+IsToldOf volume last blocks l (Holes listed) = ListsGroup blocks [] [] (IsSparingGroup l.partitions) listed.items
+IsToldOf volume last blocks l (Fault fault) = ⊥
+IsToldOf volume last blocks l OutOfMemory = ⊤
+
+abbrev pub TellsLawful : Blocks → Layout → Seen code_space.Space → Type 0
+TellsLawful blocks l seen = (volume : Volume) (last : ℕ) → IsVolume volume last → layout (complete volume last) last ≡ found l
+    → IsLawfulSparing volume last l → Agrees blocks volume last → IsToldOf volume last blocks l seen

@@ -1,0 +1,115 @@
+//! The copies of a sparing table (UDF 2.2.12).
+
+ghost use Rattle.std.specs.Prelude.{◌≡◌, ◌≢◌, ◌≤◌, ◌<◌, ◌+◌, ◌++◌, [], All, IfOk, IfSome, MatchOption, flat_map, length};
+ghost use Rattle.udfs_lattice.specs.Tables.{state_of};
+ghost use Rattle.udfs_lattice.specs.Volumes.{ascending, first_known};
+ghost use Rattle.udfs_volume.specs.Layout.{blocks_in};
+ghost use Rattle.udfs_space.specs.Parts.{FitAll, copy_now};
+ghost use Rattle.udfs_space.specs.Sparing.{copies, place_of, table_bytes, unread};
+
+use crate::ascending::ascending;
+use std::alloc::{AllocError, Global};
+use udfs_lattice::{BlockTable, Fact};
+use udfs_volume::SparableMap;
+
+/// The blocks of a table of so many bytes.
+fn blocks_in(bytes: u32) -> u32
+    ensures { result ≡ blocks_in bytes }
+{
+    ((u64::from(bytes) + 2047) / 2048) as u32
+}
+
+/// Of the copies of block `k` of a table the first that is known, with its bytes.
+fn first_copy<'a>(table: &'a BlockTable, places: &[u32], k: u32) -> Option<(u32, &'a [u8; 2048])>
+    requires { FitAll (k + 1) places.now }
+    ensures value { copy_now result ≡ first_known (state_of table.now) (copies places.now k) }
+    ensures size { IfSome result (λ known. length (known.1).now ≡ 2048) }
+{
+    for place in places {
+        if let Fact::Known(block) = table.state(*place + k) {
+            return Some((*place + k, block));
+        }
+    }
+    None
+}
+
+/// Where the copy stands from which the first block of a table comes, and 0 if none is known.
+pub(crate) fn first_place(table: &BlockTable, places: &[u32]) -> u32
+    requires { FitAll 1 places.now }
+    ensures { result ≡ place_of (first_known (state_of table.now) (copies places.now 0)) }
+{
+    match first_copy(table, places, 0) {
+        Some((place, _)) => place,
+        None => 0,
+    }
+}
+
+/// The bytes of a table, if of each block a copy is known: of each the first.
+pub(crate) fn table_bytes(
+    alloc: Global,
+    table: &BlockTable,
+    map: &SparableMap,
+) -> Result<Option<Vec<u8>>, AllocError>
+    requires { FitAll (blocks_in map.now.size) map.now.tables.items }
+    ensures holes { IfOk result (λ read. MatchOption read
+        (unread (state_of table.now) map.now.tables.items (blocks_in map.now.size) ≢ [])
+        (λ bytes. unread (state_of table.now) map.now.tables.items (blocks_in map.now.size) ≡ [])) }
+    ensures value { IfOk result (λ read. MatchOption read (Unit {0})
+        (λ bytes. bytes.items ≡ table_bytes (state_of table.now) map.now.size map.now.tables.items)) }
+    ensures size { IfOk result (λ read. MatchOption read (Unit {0}) (λ bytes. length bytes.items ≡ map.now.size)) }
+{
+    let mut bytes = Vec::new(alloc);
+    for k in 0..blocks_in(map.size) {
+        let Some((_, block)) = first_copy(table, &map.tables, k) else {
+            return Ok(None);
+        };
+        bytes.extend_from_slice(block)?;
+    }
+    bytes.truncate(map.size as usize);
+    Ok(Some(bytes))
+}
+
+/// The numbers of those blocks of a table of which no copy is known.
+fn unread(alloc: Global, table: &BlockTable, map: &SparableMap) -> Result<Vec<u32>, AllocError>
+    requires { FitAll (blocks_in map.now.size) map.now.tables.items }
+    ensures value { IfOk result (λ found. found.items ≡ unread (state_of table.now) map.now.tables.items (blocks_in map.now.size)) }
+    ensures below { IfOk result (λ found. All (λ k. k < blocks_in map.now.size) found.items) }
+{
+    let mut found = Vec::new(alloc);
+    for k in 0..blocks_in(map.size) {
+        match first_copy(table, &map.tables, k) {
+            Some(_) => {}
+            None => found.push(k)?,
+        }
+    }
+    Ok(found)
+}
+
+/// Puts the copies of block `k` behind the numbers.
+fn push_copies(numbers: &mut Vec<u32>, places: &[u32], k: u32) -> Result<(), AllocError>
+    requires { FitAll (k + 1) places.now }
+    ensures { IfOk result (λ done. numbers.new.items ≡ numbers.old.items ++ copies places.now k) }
+{
+    for first in places {
+        numbers.push(*first + k)?;
+    }
+    Ok(())
+}
+
+/// The copies of all those blocks of a table of which no copy is known, ascending and each once.
+pub(crate) fn holes(
+    alloc: Global,
+    table: &BlockTable,
+    map: &SparableMap,
+) -> Result<Vec<u32>, AllocError>
+    requires { FitAll (blocks_in map.now.size) map.now.tables.items }
+    ensures { IfOk result (λ holes. holes.items ≡ ascending (flat_map (copies map.now.tables.items)
+        (unread (state_of table.now) map.now.tables.items (blocks_in map.now.size)))) }
+{
+    let unread = unread(alloc, table, map)?;
+    let mut numbers = Vec::new(alloc);
+    for k in &unread {
+        push_copies(&mut numbers, &map.tables, *k)?;
+    }
+    ascending(alloc, &numbers)
+}

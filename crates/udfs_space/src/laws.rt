@@ -1,0 +1,34 @@
+//! Laws of sparing tables and places, each the contract of a function that does nothing.
+ghost use Rattle.udfs_space.specs.Laws.{OldPlaceLaw, PlaceLaw, PlacingLaw, SpaceLaw, StandardSpace};
+
+/// Over a table that agrees with a lawful volume, the places are the volume's and of each block of a
+/// sparing table a copy is known; or there are holes: all copies of some block of which none is known, and
+/// nothing else than copies of such blocks.
+pub fn space_of_lawful()
+    ensures { SpaceLaw }
+{}
+
+/// Every place of a volume that has a layout is one of its blocks, so what is known of the partitions is
+/// part of the whole.
+pub fn places_are_blocks()
+    ensures { PlaceLaw }
+{}
+
+/// With all blocks of a lawful volume known, the places are those that the first copy of a sparing table
+/// gives.
+pub fn space_of_standard()
+    ensures { StandardSpace }
+{}
+
+/// Placing is a relation on the set of spared packets: a block of a spared packet stands as far into the
+/// packet's new place as it lies in the packet, and every other one as far behind the partition's start as
+/// it lies in the partition.
+pub fn placing_is_a_relation()
+    ensures { PlacingLaw }
+{}
+
+/// The old place of a spared packet is never read: what is known of its blocks is told by the packet's new
+/// place alone.
+pub fn old_places_are_not_read()
+    ensures { OldPlaceLaw }
+{}

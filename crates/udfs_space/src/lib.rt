@@ -1,0 +1,15 @@
+//! Sparing tables, and where the logical blocks of partitions stand.
+#![tactic(auto)]
+
+mod ascending;
+mod copies;
+pub mod entries;
+pub mod laws;
+pub mod spaces;
+mod spans;
+
+pub use entries::SparingEntry;
+pub use spaces::Space;
+
+#[cfg(test)]
+mod tests;

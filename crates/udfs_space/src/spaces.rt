@@ -1,0 +1,194 @@
+//! Where the logical blocks of a volume's partitions stand.
+
+ghost use Rattle.std.specs.Prelude.{◌≡◌, ◌≤◌, ◌<◌, ◌↔◌, ℕ, All, IfOk, IfSome, IsSome, Some, length, map, option_map, slice_get};
+ghost use Rattle.udfs_lattice.specs.States.{fact_now};
+ghost use Rattle.udfs_lattice.specs.Tables.{state_of};
+ghost use Rattle.udfs_volume.specs.LayoutParts.{partition_now, parts_now};
+ghost use Rattle.udfs_volume.specs.Laws.{IsBounded, IsBoundedPartition};
+ghost use Rattle.udfs_volume.specs.Seen.{HolesRise, Sees};
+ghost use Rattle.udfs_space.specs.Parts.{IsSound};
+ghost use Rattle.udfs_space.specs.Places.{StandsIn, block_at, block_now, is_past, length_of, place, view};
+ghost use Rattle.udfs_space.specs.Sparing.{Span, space, spans};
+ghost use Rattle.udfs_space.specs.Told.{TellsLawful};
+
+use crate::spans::Span;
+use std::alloc::{AllocError, Global};
+use std::marker::Model;
+use udfs_lattice::{BlockTable, Fact};
+use udfs_volume::{Partition, Seen, VolumeParts};
+
+/// Where the logical blocks of each partition stand (UDF 2.2.12, ECMA-167 3/10.5.8).
+///
+/// A logical block is named by a partition reference, which is the number of a partition map, and its
+/// number in the partition.
+#[derive(Debug, Drop)]
+pub struct Space {
+    spans: Vec<Span>,
+}
+
+impl Model for Space {
+    ghost use Rattle.udfs_space.specs.Sparing as sparing;
+    ghost use Rattle.std.specs.Prelude.{length, ◌≤◌};
+
+    ghost Value = { sparing.Space };
+
+    ghost view = { λ s. s.spans.items };
+
+    ghost invariant = { λ s. (1 ≤ length s.spans.items) × (length s.spans.items ≤ 2) };
+}
+
+/// The spans of partitions, in their order.
+fn spans(
+    alloc: Global,
+    table: &BlockTable,
+    last: u32,
+    partitions: &[Partition],
+) -> Result<Seen<Vec<Span>>, AllocError>
+    requires last { last ≤ 4194303 }
+    requires bounded { All (λ p. IsBoundedPartition last (partition_now p)) partitions.now }
+    ensures { IfOk result (λ seen. Sees (λ found. found.items) seen (spans (state_of table.now) last (map partition_now partitions.now))) }
+{
+    let mut spans = Vec::new(alloc);
+    for partition in partitions {
+        match Span::build(alloc, table, last, partition)? {
+            Seen::Got(span) => spans.push(span)?,
+            Seen::Holes(blocks) => return Ok(Seen::Holes(blocks)),
+            Seen::Fault(fault) => return Ok(Seen::Fault(fault)),
+            Seen::OutOfMemory => return Ok(Seen::OutOfMemory),
+        }
+    }
+    Ok(Seen::Got(spans))
+}
+
+impl Space {
+    /// Where the blocks of the partitions of a layout stand: those of a type 1 map one after the other
+    /// (ECMA-167 3/10.7.2), those of a sparable map but for the packets that its sparing table maps
+    /// elsewhere (UDF 2.2.9, 2.2.12).
+    ///
+    /// Of each block of a sparing table the first known copy is read. Where some blocks have no known copy,
+    /// all copies of all these blocks are holes. Faults are, in this order: `SparingTag`, the tag is not
+    /// sound at the place of the copy from which the first block came, its identifier is not 0, or the name
+    /// is not that of a sparing table; `SparingShape`, the entries pass the table's size, or an original is
+    /// a number without a meaning or not the first block of a packet; `SparingOrder`, originals fall, or two
+    /// packets have the same; `MappedRange`, a packet is mapped to a block behind the last one.
+    ///
+    /// Of a lawful volume with which the table agrees it tells the volume's own places, as the standard reads
+    /// them from the first sparing table, or holes: then all copies of some block of a sparing table are
+    /// among them, of which none is known.
+    ///
+    /// The parts are those that [`udfs_volume::layouts::layout`] gives, or others that lie within a volume.
+    pub fn build(alloc: Global, table: &BlockTable, parts: &VolumeParts) -> Seen<Space>
+        requires to { parts.now.last ≤ 4194303 }
+        requires bounded { IsBounded parts.now.last (parts_now parts.now) }
+        ensures value { Sees (λ s. s) result (space (state_of table.now) (parts_now parts.now)) }
+        ensures lawful { TellsLawful (state_of table.now) (parts_now parts.now) result }
+        ensures rising { HolesRise result }
+    {
+        match spans(alloc, table, parts.last, &parts.partitions) {
+            Ok(Seen::Got(spans)) => Seen::Got(Space { spans }),
+            Ok(Seen::Holes(listed)) => Seen::Holes(listed),
+            Ok(Seen::Fault(fault)) => Seen::Fault(fault),
+            _ => Seen::OutOfMemory,
+        }
+    }
+
+    /// The number of partitions, 1 or 2: a partition reference is less. It takes no memory.
+    pub fn maps(&self) -> u16
+        ensures value { result ≡ length self.now }
+        ensures one { 1 ≤ result }
+        ensures two { result ≤ 2 }
+    {
+        self.spans.len() as u16
+    }
+
+    /// The number of logical blocks of a partition, and 0 where there is no such partition.
+    fn size(&self, reference: u16) -> u32
+        ensures value { result ≡ length_of self.now reference }
+        ensures not_empty { reference < length self.now → 0 < result }
+        ensures fits { result ≤ 4194304 }
+    {
+        match self.spans.get(usize::from(reference)) {
+            Some(span) => span.length(),
+            None => 0,
+        }
+    }
+
+    /// The block that holds a logical block.
+    fn find(&self, reference: u16, block: u32) -> Option<u32>
+        ensures value { result ≡ place self.now reference block }
+        ensures sound { (s : Span) → slice_get self.now reference ≡ Some s → IsSound s }
+    {
+        match self.spans.get(usize::from(reference)) {
+            Some(span) => span.place(block),
+            None => None,
+        }
+    }
+
+    /// The number of logical blocks of a partition (ECMA-167 3/10.5.9), which is not 0. It takes no memory.
+    pub fn length(&self, reference: u16) -> u32
+        requires { reference < length self.now }
+        ensures value { result ≡ length_of self.now reference }
+        ensures not_empty { 0 < result }
+        ensures fits { result ≤ 4194304 }
+    {
+        self.size(reference)
+    }
+
+    /// The block of the volume that holds a logical block: none where the reference is not below
+    /// [`Space::maps`] or the logical block not below the partition's length. A packet is found by binary
+    /// search. It takes no memory.
+    pub fn place(&self, reference: u16, block: u32) -> Option<u32>
+        ensures value { result ≡ place self.now reference block }
+        // The same as a relation: a block of a spared packet is in the packet's new place, and every other
+        // one behind the start.
+        ensures stands { (n : ℕ) → ((result ≡ Some n) ↔ StandsIn self.now reference block n) }
+        ensures exists { IsSome result ↔ (block < length_of self.now reference) }
+        ensures fits { IfSome result (λ n. n ≤ 4194303) }
+    {
+        self.find(reference, block)
+    }
+
+    /// Whether one of so many consecutive logical blocks has no place. It takes no memory, and no longer for
+    /// many blocks than for one.
+    pub fn is_past(&self, reference: u16, block: u32, count: u32) -> bool
+        ensures { result ≡ is_past (place self.now) reference block count }
+    {
+        count != 0 && u64::from(block) + u64::from(count) > u64::from(self.size(reference))
+    }
+
+    /// What is known of a logical block. It takes no memory.
+    pub fn logical<'a>(
+        &self,
+        table: &'a BlockTable,
+        reference: u16,
+        block: u32,
+    ) -> Fact<&'a [u8; 2048]>
+        requires reference { reference < length self.now }
+        requires block { block < length_of self.now reference }
+        ensures { option_map (state_of table.now) (place self.now reference block) ≡ Some (fact_now result) }
+    {
+        match self.place(reference, block) {
+            Some(place) => table.state(place),
+            None => Fact::Unknown,
+        }
+    }
+
+    /// The block of the volume that holds a logical block, and what is known of it: none where the logical
+    /// block has no place, as where its number passes 32 bits. It takes no memory.
+    pub fn block_at<'a>(
+        &self,
+        table: &'a BlockTable,
+        reference: u16,
+        block: u64,
+    ) -> Option<(u32, Fact<&'a [u8; 2048]>)>
+        ensures value { block_now result ≡ block_at (view (state_of table.now) self.now) reference block }
+        ensures small { IsSome result → block < 4294967296 }
+        ensures fits { IfSome result (λ found. found.0 ≤ 4194303) }
+    {
+        if block >= u64::from(self.size(reference)) {
+            return None;
+        }
+        let place = self.place(reference, block as u32)?;
+        Some((place, table.state(place)))
+    }
+}

@@ -1,0 +1,132 @@
+//! Where the blocks of one partition stand.
+
+ghost use Rattle.std.specs.Prelude.{◌≡◌, ◌≤◌, ◌<◌, ℕ, All, IfOk, IfSome, find, nat_eq};
+ghost use Rattle.udfs_lattice.specs.Tables.{state_of};
+ghost use Rattle.udfs_volume.specs.Laws.{IsBoundedPartition};
+ghost use Rattle.udfs_volume.specs.Layout.{blocks_in};
+ghost use Rattle.udfs_volume.specs.LayoutParts.{partition_now};
+ghost use Rattle.udfs_volume.specs.Parts.{sparable_now};
+ghost use Rattle.udfs_volume.specs.Seen.{IfGot, Sees};
+ghost use Rattle.udfs_space.specs.Parts.{AreSound, FitAll, IsSound, IsSoundEntry, Rises};
+ghost use Rattle.udfs_space.specs.Places.{place_in};
+ghost use Rattle.udfs_space.specs.Sparing.{span, spared};
+
+use crate::copies::{first_place, holes, table_bytes};
+use crate::entries::{SparingEntry, spared_by};
+use std::alloc::{AllocError, Global};
+use std::marker::Model;
+use udfs_lattice::BlockTable;
+use udfs_volume::{Partition, PartitionMap, Seen, SparableMap};
+
+/// Where the logical blocks of one partition stand.
+#[derive(Debug, Drop)]
+pub(crate) struct Span {
+    start: u32,
+    length: u32,
+    /// The blocks of a packet, 1 where none is spared.
+    packet: u32,
+    /// The spared packets, with rising originals.
+    spared: Vec<SparingEntry>,
+}
+
+impl Model for Span {
+    ghost use Rattle.udfs_space.specs.Sparing as sparing;
+    ghost use Rattle.udfs_space.specs.Parts.{IsSound};
+
+    ghost Value = { sparing.Span };
+
+    ghost view = { λ s. record { start = s.start; size = s.length; packet = s.packet; spared = s.spared.items } };
+
+    ghost invariant = { λ s. IsSound (record { start = s.start; size = s.length; packet = s.packet; spared = s.spared.items }) };
+}
+
+impl Span {
+    /// Where the blocks of a partition stand.
+    pub(crate) fn build(
+        alloc: Global,
+        table: &BlockTable,
+        last: u32,
+        partition: &Partition,
+    ) -> Result<Seen<Self>, AllocError>
+        requires last { last ≤ 4194303 }
+        requires bounded { IsBoundedPartition last (partition_now partition.now) }
+        ensures { IfOk result (λ seen. Sees (λ s. s) seen (span (state_of table.now) last (partition_now partition.now))) }
+    {
+        match &partition.kind {
+            PartitionMap::Type1 => Ok(Seen::Got(Span {
+                start: partition.start,
+                length: partition.length,
+                packet: 1,
+                spared: Vec::new(alloc),
+            })),
+            PartitionMap::Sparable(map) => match spared(alloc, table, last, map)? {
+                Seen::Got(spared) => Ok(Seen::Got(Span {
+                    start: partition.start,
+                    length: partition.length,
+                    packet: u32::from(map.packet),
+                    spared,
+                })),
+                Seen::Holes(blocks) => Ok(Seen::Holes(blocks)),
+                Seen::Fault(fault) => Ok(Seen::Fault(fault)),
+                Seen::OutOfMemory => Ok(Seen::OutOfMemory),
+            },
+        }
+    }
+
+    /// The number of logical blocks.
+    pub(crate) fn length(&self) -> u32
+        ensures value { result ≡ self.now.size }
+        ensures not_empty { 0 < result }
+        ensures fits { result ≤ 4194304 }
+    {
+        self.length
+    }
+
+    /// The block that holds a logical block.
+    pub(crate) fn place(&self, block: u32) -> Option<u32>
+        ensures value { result ≡ place_in self.now block }
+        ensures sound { IsSound self.now }
+    {
+        if block >= self.length {
+            return None;
+        }
+        let offset = block % self.packet;
+        match entry_at(&self.spared, block - offset) {
+            Some(entry) => Some(entry.mapped + offset),
+            None => Some(self.start + block),
+        }
+    }
+}
+
+/// The entry of the packet that begins at a logical block, by binary search.
+fn entry_at(spared: &[SparingEntry], first: u32) -> Option<SparingEntry>
+    requires { Rises spared.now }
+    ensures value { result ≡ find (λ e. nat_eq e.original first) spared.now }
+    ensures sound { (packet : ℕ) → AreSound packet spared.now → IfSome result (IsSoundEntry packet) }
+{
+    match spared.binary_search_by_key(&first, |entry| entry.original) {
+        Ok(i) => Some(spared[i]),
+        Err(_) => None,
+    }
+}
+
+/// The packets that the sparing table of a map spares.
+fn spared(
+    alloc: Global,
+    table: &BlockTable,
+    last: u32,
+    map: &SparableMap,
+) -> Result<Seen<Vec<SparingEntry>>, AllocError>
+    requires last { last ≤ 4194303 }
+    requires packet { 1 ≤ map.now.packet }
+    requires size { 56 ≤ map.now.size }
+    requires fit { FitAll (blocks_in map.now.size) map.now.tables.items }
+    ensures value { IfOk result (λ seen. Sees (λ packets. packets.items) seen (spared (state_of table.now) last (sparable_now map.now))) }
+    ensures sound { IfOk result (λ seen. IfGot seen (λ packets. AreSound map.now.packet packets.items)) }
+{
+    let Some(bytes) = table_bytes(alloc, table, map)? else {
+        return Ok(Seen::Holes(holes(alloc, table, map)?));
+    };
+    let place = first_place(table, &map.tables);
+    spared_by(alloc, last, map.packet, place, &bytes)
+}

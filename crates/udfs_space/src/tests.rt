@@ -1,0 +1,8 @@
+//! Places, holes and faults of small volumes. What is expected comes from the formats' description.
+
+mod faults;
+mod memory;
+mod places;
+mod said;
+mod two_blocks;
+mod two_maps;

@@ -1,0 +1,42 @@
+//! Want of memory: `tools/refuse-memory udfs_space TEST` refuses one allocation of a test after the other.
+
+use super::said::space_of;
+use std::test::Fail;
+use udfs_samples::{Disc, LAST};
+use udfs_volume::Seen;
+
+/// With any one allocation refused the answer is the space, or want of memory.
+#[test]
+fn want_of_memory_is_told(rt: HostRuntime) -> Result<(), Fail> {
+    let alloc = rt.alloc();
+    let Ok(disc) = Disc::two_maps(alloc) else {
+        return Ok(());
+    };
+    let Ok(table) = disc.known_at(alloc, &[256, 32, 33, 34, 35, 100]) else {
+        return Ok(());
+    };
+    match space_of(alloc, &table, LAST) {
+        Seen::Got(space) => assert_eq!(rt; space.maps(), 2),
+        Seen::OutOfMemory => {}
+        Seen::Holes(_) | Seen::Fault(_) => assert!(rt; false),
+    }
+    Ok(())
+}
+
+/// The same where the table's copies are holes.
+#[test]
+fn want_of_memory_for_holes_is_told(rt: HostRuntime) -> Result<(), Fail> {
+    let alloc = rt.alloc();
+    let Ok(disc) = Disc::sparable(alloc) else {
+        return Ok(());
+    };
+    let Ok(table) = disc.known_at(alloc, &[256, 32, 33, 34]) else {
+        return Ok(());
+    };
+    match space_of(alloc, &table, LAST) {
+        Seen::Holes(blocks) => assert_eq!(rt; blocks.as_slice(), [100, 200].as_slice()),
+        Seen::OutOfMemory => {}
+        Seen::Got(_) | Seen::Fault(_) => assert!(rt; false),
+    }
+    Ok(())
+}
