@@ -1,0 +1,12 @@
+use Rattle.std.proofs.Common.{◌≡◌, drop, length}
+use Rattle.udfs_lattice.specs.Tables.{state_of}
+use Rattle.udfs_space.specs.Places.{view}
+use Rattle.udfs_file.specs.Stretches.{cells_of}
+use Rattle.udfs_file.specs.CellsLeft.{cells_left}
+use Rattle.udfs_file.proofs.cells.Cells.settled.Given as goal
+
+abbrev pub invariant-stretches : goal.invariant-stretches
+invariant-stretches l = drop l.passed (cells_of (view (state_of l.self.table.now) l.self.space.now) l.stretches) ≡ cells_left l.self
+
+abbrev pub decreases-stretches : goal.decreases-stretches
+decreases-stretches l = length l.stretches

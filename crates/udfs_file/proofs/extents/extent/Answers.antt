@@ -1,0 +1,36 @@
+use Rattle.std.proofs.Common.{◌∙◌, sym, ◌≡◌}
+use Rattle.udfs_space.specs.Places.{view}
+use Rattle.udfs_file.specs.Bodies.{cells_in}
+use Rattle.udfs_file.proofs.ExtentLemmas.{misreferred, misplaced, odd, recorded, zeros, count_is}
+use Rattle.udfs_file.proofs.extents.extent.Goals as goal
+
+pub returns-then-is_misreferred : goal.returns-then-is_misreferred
+returns-then-is_misreferred c = λ blocks. misreferred (view blocks c.args.space.now) c.args.size c.args.c c.args.d
+    (sym (c.is_misreferred.ensures blocks) ∙ c.if-is_misreferred.true)
+
+pub returns-then-is_misplaced : goal.returns-then-is_misplaced
+returns-then-is_misplaced c = λ blocks.
+    let e : c.min-count.result ≡ cells_in c.args.size (c.args.c, c.args.d) = cc (count_is c.args.size c.args.c c.args.d c.requires.is_extent) in
+    misplaced (view blocks c.args.space.now) c.args.size c.args.c c.min-count.result c.args.d e
+    (sym (c.is_misreferred.ensures blocks) ∙ c.if-is_misreferred.false) (sym (c.is_misplaced.ensures blocks) ∙ c.if-is_misplaced.true)
+
+pub returns-then-is_odd : goal.returns-then-is_odd
+returns-then-is_odd c = λ blocks.
+    let e : c.min-count.result ≡ cells_in c.args.size (c.args.c, c.args.d) = cc (count_is c.args.size c.args.c c.args.d c.requires.is_extent) in
+    odd (view blocks c.args.space.now) c.args.size c.args.c c.min-count.result c.args.d e
+    (sym (c.is_misreferred.ensures blocks) ∙ c.if-is_misreferred.false) (sym (c.is_misplaced.ensures blocks) ∙ c.if-is_misplaced.false)
+    (sym c.is_odd.ensures ∙ c.if-is_odd.true)
+
+pub returns-then-d-eq0 : goal.returns-then-d-eq0
+returns-then-d-eq0 c = λ blocks.
+    let e : c.min-count.result ≡ cells_in c.args.size (c.args.c, c.args.d) = cc (count_is c.args.size c.args.c c.args.d c.requires.is_extent) in
+    recorded (view blocks c.args.space.now) c.args.size c.args.c c.min-count.result c.args.d e
+    (sym (c.is_misreferred.ensures blocks) ∙ c.if-is_misreferred.false) (sym (c.is_misplaced.ensures blocks) ∙ c.if-is_misplaced.false)
+    (sym c.is_odd.ensures ∙ c.if-is_odd.false) c.if-d-eq0.true
+
+pub returns-else-d-eq0 : goal.returns-else-d-eq0
+returns-else-d-eq0 c = λ blocks.
+    let e : c.min-count.result ≡ cells_in c.args.size (c.args.c, c.args.d) = cc (count_is c.args.size c.args.c c.args.d c.requires.is_extent) in
+    zeros (view blocks c.args.space.now) c.args.size c.args.c c.min-count.result c.args.d e
+    (sym (c.is_misreferred.ensures blocks) ∙ c.if-is_misreferred.false) (sym (c.is_misplaced.ensures blocks) ∙ c.if-is_misplaced.false)
+    (sym c.is_odd.ensures ∙ c.if-is_odd.false) c.if-d-eq0.false

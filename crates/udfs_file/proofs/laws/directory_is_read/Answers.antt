@@ -1,0 +1,5 @@
+use Rattle.udfs_file.proofs.Readings.{directory_law as law}
+use Rattle.udfs_file.proofs.laws.directory_is_read.Goals as goal
+
+pub returns : goal.returns
+returns f = law

@@ -1,0 +1,5 @@
+use Rattle.udfs_file.proofs.FileSets.{partial_file_set as law}
+use Rattle.udfs_file.proofs.laws.partial_file_set.Goals as goal
+
+pub returns : goal.returns
+returns f = law

@@ -1,0 +1,227 @@
+-- The body of an entry (ECMA-167 4/14.5, 4/14.14): its allocation descriptors, and the cells that they give.
+--     chain view form r left area       all descriptors, area after area
+--     used size ds                      those that are taken, each with its first cell
+--     body view r b entry               the cells, or the fault
+use Rattle.std.specs.Prelude.{◌≡◌, ℕ, zero, suc, ◌+◌, ◌-◌, ◌*◌, ◌/◌, ◌%◌, ◌<◌, ◌≤◌, min, Bool, true, false, not, List, [], ◌∷◌, ◌++◌, length, take, map, flat_map, replicate, take_while, slice_get, slice_index, cond, ◌==◌, nat_le, nat_lt, ◌&&◌, ◌||◌, Option, Some, None, is_none, ◌⊎◌}
+use Rattle.std.specs.List.{range_with_len}
+use Rattle.udfs_lattice.specs.States.{State}
+use Rattle.udfs_lattice.specs.Volumes.{Includes}
+use Rattle.udfs_lattice.specs.declared.facts.Fact.TheVariants.{Unknown, Known, Conflict}
+use Rattle.udfs_tag.specs.declared.layouts.LongAd.{LongAd}
+use Rattle.udfs_tag.specs.declared.layouts.ShortAd.{ShortAd}
+use Rattle.udfs_tag.specs.Fields.{uint32_at}
+use Rattle.udfs_tag.specs.Fields.{short_ad_at, long_ad_at, part}
+use Rattle.udfs_tag.specs.Faults.{first_fault}
+use Rattle.udfs_tag.specs.Tags.{is_valid}
+use Rattle.udfs_volume.specs.Layout.{blocks_in}
+use Rattle.udfs_space.specs.Places.{View, block_at, is_past}
+use Rattle.udfs_file.specs.Entries.{EntryFields, descriptor_size}
+use Rattle.udfs_file.specs.declared.cells.Cell.{Cell}
+use Rattle.udfs_file.specs.declared.cells.Cell.TheVariants.{Byte, Gap}
+use Rattle.udfs_file.specs.declared.faults.NodeFault.{NodeFault}
+use Rattle.udfs_file.specs.declared.faults.NodeFault.TheVariants.{Reference, Range, Short, Chain, Odd}
+
+-- a short descriptor speaks of the partition in which the entry stands
+abbrev pub long_of : ℕ → ShortAd → LongAd
+long_of r s = record { kind = s.kind; length = s.length; block = s.block; reference = r }
+
+-- descriptor i of an area
+abbrev pub descriptor_at : ℕ → ℕ → List ℕ → ℕ → LongAd
+descriptor_at form r area i = cond (form == 0) (long_of r (short_ad_at area (8 * i))) (long_ad_at area (16 * i))
+
+-- how many there are
+abbrev pub descriptor_count : ℕ → List ℕ → ℕ
+descriptor_count form area = length area / descriptor_size form
+
+-- the descriptors in an area
+abbrev pub descriptors_in : ℕ → ℕ → List ℕ → List LongAd
+descriptors_in form r area = map (descriptor_at form r area) (range_with_len 0 (descriptor_count form area))
+
+-- What stands behind the descriptors of an area: nothing, another area, a block that is not known, or a fault.
+pub data Next : Type 0 where
+  no_more : Next
+  area_at : List ℕ → Next
+  unread_at : ℕ → Next
+  broken : NodeFault → Next
+
+-- the bytes are an allocation extent descriptor of this form at logical block b (4/14.5)
+abbrev pub is_extent : ℕ → ℕ → List ℕ → Bool
+is_extent form b bytes =
+    is_valid bytes b 258 && nat_le (24 + uint32_at bytes 20) 2048 && (uint32_at bytes 20 % descriptor_size form == 0)
+
+-- the area in it
+abbrev pub next_area : ℕ → ℕ → ℕ → State → Next
+next_area form b n Unknown = unread_at n
+next_area form b n (Known bytes) = cond (is_extent form b bytes) (area_at (part bytes 24 (uint32_at bytes 20))) (broken Chain)
+next_area form b n Conflict = unread_at n
+
+abbrev pub next_if : ℕ → ℕ → Option NodeFault → Option (ℕ × State) → Next
+next_if form b (Some fault) block = broken fault
+next_if form b None None = broken Range
+next_if form b None (Some block) = next_area form b block.0 block.1
+
+-- the descriptor's reference, place, length and count are judged before its block is looked at
+abbrev pub continuation_fault : View → Bool → LongAd → Option NodeFault
+continuation_fault view is_last d = first_fault (
+    (nat_le view.partitions d.reference, Reference)
+    ∷ (is_none (view.place d.reference d.block), Range)
+    ∷ (nat_lt 2048 d.length || is_last, Chain)
+    ∷ [])
+
+abbrev pub next_by : View → ℕ → Bool → LongAd → Next
+next_by view form is_last d = next_if form d.block (continuation_fault view is_last d) (block_at view d.reference d.block)
+
+abbrev pub next_of : View → ℕ → Bool → Option LongAd → Next
+next_of view form is_last None = no_more
+next_of view form is_last (Some d) = next_by view form is_last d
+
+-- All descriptors of an entry, and what stands behind the last.
+pub record Descriptors : Type 0 where
+  pub all : List LongAd
+  pub behind : Next
+
+-- an area counts up to its first descriptor of type 3
+abbrev pub up_to_next : List LongAd → List LongAd
+up_to_next ds = take (length (take_while (λ d. not (d.kind == 3)) ds) + 1) ds
+
+abbrev pub next_descriptor : List LongAd → Option LongAd
+next_descriptor ds = slice_get ds (length (take_while (λ d. not (d.kind == 3)) ds))
+
+abbrev pub joined : List LongAd → Next → (List ℕ → Descriptors) → Descriptors
+joined ds no_more later = record { all = ds; behind = no_more }
+joined ds (area_at area) later = let rest = later area in record { all = ds ++ rest.all; behind = rest.behind }
+joined ds (unread_at n) later = record { all = ds; behind = unread_at n }
+joined ds (broken fault) later = record { all = ds; behind = broken fault }
+
+abbrev pub no_descriptors : Descriptors
+no_descriptors = record { all = []; behind = no_more }
+
+-- the areas of an entry joined, with at most so many continuations
+abbrev pub chain : View → ℕ → ℕ → ℕ → List ℕ → Descriptors
+chain view form r zero area = let ds = descriptors_in form r area in
+    joined (up_to_next ds) (next_of view form true (next_descriptor ds)) (λ a. no_descriptors)
+chain view form r (suc left) area = let ds = descriptors_in form r area in
+    joined (up_to_next ds) (next_of view form false (next_descriptor ds)) (λ a. chain view form r left a)
+
+unfoldable pub descriptors : View → ℕ → EntryFields → Descriptors
+descriptors view r entry = chain view entry.form r 256 entry.area
+
+-- how many cells a descriptor covers
+abbrev pub covers : LongAd → ℕ
+covers d = cond (d.kind == 3) 0 d.length
+
+-- each descriptor with the number of cells that those before it cover
+abbrev pub with_start : ℕ → List LongAd → List (ℕ × LongAd)
+with_start c [] = []
+with_start c (d ∷ ds) = (c, d) ∷ with_start (c + covers d) ds
+
+-- a descriptor is taken if cells are left at it, and its own length is not 0; the first that is not taken
+-- ends the list
+unfoldable pub used : ℕ → List LongAd → List (ℕ × LongAd)
+used size ds = take_while (λ e. nat_lt e.0 size && nat_lt 0 e.1.length) (with_start 0 ds)
+
+-- how many cells of the body lie in a taken extent
+abbrev pub cells_in : ℕ → ℕ × LongAd → ℕ
+cells_in size e = min (covers e.1) (size - e.0)
+
+-- only recorded extents have a partition and blocks, and only the blocks that hold cells of the body count
+abbrev pub is_misreferred : View → LongAd → Bool
+is_misreferred view d = (d.kind == 0) && nat_le view.partitions d.reference
+
+abbrev pub is_misplaced : View → LongAd → ℕ → Bool
+is_misplaced view d count = (d.kind == 0) && is_past view.place d.reference d.block (blocks_in count)
+
+-- an extent that ends before the body does fills its blocks
+abbrev pub is_odd : ℕ → ℕ → LongAd → Bool
+is_odd size c d = not (d.kind == 3) && nat_lt (c + d.length) size && not (d.length % 2048 == 0)
+
+abbrev pub extent_fault : View → ℕ → ℕ × LongAd → Option NodeFault
+extent_fault view size e = first_fault (
+    (is_misreferred view e.1, Reference)
+    ∷ (is_misplaced view e.1 (cells_in size e), Range)
+    ∷ (is_odd size e.0 e.1, Odd)
+    ∷ [])
+
+-- A cell of a body: a byte with the logical block that holds it, if one does, or the block that is missing.
+abbrev pub cell_in : ℕ → ℕ → ℕ → State → Cell
+cell_in b n i Unknown = Gap n
+cell_in b n i (Known bytes) = Byte (slice_index bytes i) (Some b)
+cell_in b n i Conflict = Gap n
+
+abbrev pub cell_at : ℕ → ℕ → Option (ℕ × State) → Cell
+cell_at b i None = Byte 0 None
+cell_at b i (Some block) = cell_in b block.0 i block.1
+
+-- the cell at offset i from the beginning of logical block b
+abbrev pub recorded_cell : View → ℕ → ℕ → ℕ → Cell
+recorded_cell view r b i = cell_at (b + i / 2048) (i % 2048) (block_at view r (b + i / 2048))
+
+-- consecutive logical blocks, or zeros where nothing is recorded
+abbrev pub extent_cells : View → ℕ → ℕ × LongAd → List Cell
+extent_cells view size e = cond (e.1.kind == 0)
+    (map (recorded_cell view e.1.reference e.1.block) (range_with_len 0 (cells_in size e)))
+    (replicate (cells_in size e) (Byte 0 None))
+
+pub data Body : Type 0 where
+  cells : List Cell → Body
+  faulty_body : NodeFault → Body
+
+abbrev pub first_of_all : List (Option NodeFault) → Option NodeFault
+first_of_all [] = None
+first_of_all (None ∷ faults) = first_of_all faults
+first_of_all (Some fault ∷ faults) = Some fault
+
+-- the body of taken extents where cells are left behind them
+abbrev pub ended_body : ℕ → Next → List Cell → Body
+ended_body left no_more front = faulty_body Short
+ended_body left (area_at area) front = faulty_body Short
+ended_body left (unread_at n) front = cells (front ++ replicate left (Gap n))
+ended_body left (broken fault) front = faulty_body fault
+
+abbrev pub body_unless : Option NodeFault → Body → Body
+body_unless None b = b
+body_unless (Some fault) b = faulty_body fault
+
+abbrev pub all_covered : List (ℕ × LongAd) → ℕ
+all_covered [] = 0
+all_covered (e ∷ es) = covers e.1 + all_covered es
+
+-- all cells are covered, or a descriptor of length 0 ends the list, or all descriptors are taken
+abbrev pub covered_body : ℕ → List (ℕ × LongAd) → Descriptors → List Cell → Body
+covered_body size taken ds front = let covered = all_covered taken in
+    cond (nat_le size covered) (cells front)
+    (cond (nat_lt (length taken) (length ds.all)) (faulty_body Short) (ended_body (size - covered) ds.behind front))
+
+abbrev pub extents_body : View → ℕ → Descriptors → Body
+extents_body view size ds = let taken = used size ds.all in
+    body_unless (first_of_all (map (extent_fault view size) taken))
+    (covered_body size taken ds (flat_map (extent_cells view size) taken))
+
+abbrev pub embedded_body : ℕ → EntryFields → Body
+embedded_body b entry = cond (nat_le entry.size (length entry.area))
+    (cells (map (λ x. Byte x (Some b)) (take entry.size entry.area))) (faulty_body Short)
+
+unfoldable pub body : View → ℕ → ℕ → EntryFields → Body
+body view r b entry = cond (entry.form == 3) (embedded_body b entry)
+    (extents_body view entry.size (descriptors view r entry))
+
+-- block n holds cell k, or it holds the continuation that is followed at or before cell k
+pub record IsRecordedFor (view : View) (size : ℕ) (taken : List (ℕ × LongAd)) (k n : ℕ) : Type 0 where
+  pub extent : ℕ × LongAd
+  pub is_taken : Includes taken extent
+  pub is_recorded : extent.1.kind ≡ 0
+  pub from : extent.0 ≤ k
+  pub to : k < extent.0 + cells_in size extent
+  pub place : view.place extent.1.reference (extent.1.block + (k - extent.0) / 2048) ≡ Some n
+
+pub record IsContinuedFor (view : View) (taken : List (ℕ × LongAd)) (k n : ℕ) : Type 0 where
+  pub extent : ℕ × LongAd
+  pub is_taken : Includes taken extent
+  pub continues : extent.1.kind ≡ 3
+  pub from : extent.0 ≤ k
+  pub place : view.place extent.1.reference extent.1.block ≡ Some n
+
+-- cell k of a body can be told only if block n is known
+abbrev pub IsNeededFor : View → ℕ → EntryFields → ℕ → ℕ → Type 0
+IsNeededFor view r entry k n = let taken = used entry.size (descriptors view r entry).all in
+    (k < entry.size) × (¬ (entry.form ≡ 3)) × (IsRecordedFor view entry.size taken k n ⊎ IsContinuedFor view taken k n)

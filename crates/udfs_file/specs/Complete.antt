@@ -1,0 +1,67 @@
+-- Over a complete partition the model's reading is the standard's.
+--     IsWhole view blocks         each block that has a place is known, and these are its bytes
+--     FileSetLaw                 the file set names the root that the standard reads
+--     BodyLaw                     a body without a fault is the one that the standard reads
+--     DirectoryLaw                a directory without a fault is the one list that the standard reads
+--     ReadsLaw                    `directory` gives the only reading that there is
+use Rattle.std.specs.Prelude.{◌≡◌, ℕ, List, length, map, Option, Some, None, ◌↔◌}
+use Rattle.udfs_volume.specs.Sequence.{Bytes}
+use Rattle.udfs_lattice.specs.declared.facts.Fact.TheVariants.{Known}
+use Rattle.udfs_space.specs.Places.{View}
+use Rattle.udfs_file.specs.Entries.{EntryFields}
+use Rattle.udfs_file.specs.Bodies.{cells, body}
+use Rattle.udfs_file.specs.declared.cells.Cell.{Cell}
+use Rattle.udfs_file.specs.declared.cells.Cell.TheVariants.{Byte}
+use Rattle.udfs_file.specs.Fronts.{ReadsAs, directory}
+use Rattle.udfs_file.specs.declared.directories.Identifier.{Identifier}
+use Rattle.udfs_file.specs.declared.directories.Rest.{Rest}
+use Rattle.udfs_file.specs.declared.directories.Rest.TheVariants.{Nothing}
+use Rattle.udfs_tag.specs.declared.layouts.LongAd.{LongAd}
+use Rattle.udfs_volume.specs.Answers.{found}
+use Rattle.udfs_file.specs.Addresses.{file_set}
+use Rattle.udfs_file.specs.Standard.{Located, IsFileSetAt, IsBodyOf, IsDirectoryBody}
+
+-- the blocks of a view of which each block that has a place is known, and is whole
+pub record IsWhole (all : View) (blocks : ℕ → ℕ → Option Bytes) : Type 0 where
+  pub nowhere : (r b : ℕ) → all.place r b ≡ None → blocks r b ≡ None
+  pub there : (r b n : ℕ) → all.place r b ≡ Some n
+      → (bytes : Bytes) × (all.blocks n ≡ Known bytes) × (blocks r b ≡ Some bytes) × (length bytes ≡ 2048)
+
+abbrev pub as_cell : Located → Cell
+as_cell x = Byte x.0 x.1
+
+abbrev pub as_cells : List Located → List Cell
+as_cells xs = map as_cell xs
+
+-- these cells are the bytes of one body, and the standard reads that body alone
+pub record IsReadBody (blocks : ℕ → ℕ → Option Bytes) (r b : ℕ) (entry : EntryFields) (cs : List Cell) : Type 0 where
+  pub whole : List Located
+  pub is : cs ≡ as_cells whole
+  pub reads : IsBodyOf blocks r b entry whole
+  pub only : (other : List Located) → IsBodyOf blocks r b entry other → other ≡ whole
+
+-- the standard reads this root from the file set at the address, and no other
+pub record IsReadFileSet (blocks : ℕ → ℕ → Option Bytes) (a root : LongAd) : Type 0 where
+  pub reads : IsFileSetAt blocks a root
+  pub only : (other : LongAd) → IsFileSetAt blocks a other → other ≡ root
+
+abbrev pub FileSetLaw : Type 0
+FileSetLaw = (all : View) (blocks : ℕ → ℕ → Option Bytes) → IsWhole all blocks → (a root : LongAd)
+    → file_set all a ≡ found root → IsReadFileSet blocks a root
+
+abbrev pub BodyLaw : Type 0
+BodyLaw = (all : View) (blocks : ℕ → ℕ → Option Bytes) → IsWhole all blocks → (r b : ℕ) (entry : EntryFields)
+    (cs : List Cell) → body all r b entry ≡ cells cs → IsReadBody blocks r b entry cs
+
+-- the descriptors and the rest are those that the cells read as, and no others
+abbrev pub ReadsLaw : Type 0
+ReadsLaw = (cs : List Cell) (ids : List Identifier) (rest : Rest)
+    → ReadsAs cs ids rest ↔ (((directory cs).identifiers ≡ ids) × ((directory cs).rest ≡ rest))
+
+pub record IsReadDirectory (whole : List Located) (ids : List Identifier) : Type 0 where
+  pub reads : IsDirectoryBody whole ids
+  pub only : (other : List Identifier) → IsDirectoryBody whole other → other ≡ ids
+
+abbrev pub DirectoryLaw : Type 0
+DirectoryLaw = (whole : List Located) → (directory (as_cells whole)).rest ≡ Nothing
+    → IsReadDirectory whole (directory (as_cells whole)).identifiers

@@ -1,0 +1,143 @@
+-- Directories (ECMA-167 4/14.4): a list of file identifier descriptors, one after the other, then a rest.
+--     ReadsAs cells ids rest      the cells are these descriptors, and then the rest
+--     directory cells             the descriptors and the rest
+--     front cells                 the entries that are neither deleted nor the parent
+use Rattle.std.specs.Prelude.{◌≡◌, ◌≤◌, ℕ, zero, suc, ◌+◌, ◌*◌, ◌/◌, ◌%◌, Bool, List, [], ◌∷◌, length, take, drop, map, cond, ◌==◌, nat_lt, ◌||◌, Option, Some, None, filter_map, Result, Ok, Err, ⊤}
+use Rattle.udfs_tag.specs.Fields.{uint16_at}
+use Rattle.udfs_tag.specs.Fields.{uint8_at, long_ad_at, part}
+use Rattle.udfs_tag.specs.Tags.{is_valid}
+use Rattle.udfs_osta.specs.Names.{units_of}
+use Rattle.udfs_osta.specs.declared.names.NameFault.{NameFault}
+use Rattle.udfs_file.specs.declared.cells.Cell.{Cell}
+use Rattle.udfs_file.specs.declared.cells.Cell.TheVariants.{Byte, Gap}
+use Rattle.udfs_file.specs.declared.directories.DirEntry.{DirEntry}
+use Rattle.udfs_file.specs.declared.directories.DirFront.{DirFront}
+use Rattle.udfs_file.specs.declared.directories.Identifier.{Identifier}
+use Rattle.udfs_file.specs.declared.directories.Rest.{Rest}
+use Rattle.udfs_file.specs.declared.directories.Rest.TheVariants.{Nothing, Stopped, Wrong}
+use Rattle.udfs_file.specs.declared.directories.Step.{Step}
+use Rattle.udfs_file.specs.declared.directories.Step.TheVariants.{AtRest, One}
+use Rattle.udfs_file.specs.declared.faults.NodeFault.{NodeFault}
+use Rattle.udfs_file.specs.declared.marks.Marks.{Marks}
+use Rattle.udfs_file.specs.declared.faults.NodeFault.TheVariants.{IdentifierTag, Name, Cut}
+
+abbrev pub first_missing : List Cell → Option ℕ
+first_missing [] = None
+first_missing (Byte x holder ∷ cells) = first_missing cells
+first_missing (Gap n ∷ cells) = Some n
+
+abbrev pub value : Cell → ℕ
+value (Byte x holder) = x
+value (Gap n) = 0
+
+abbrev pub holder_of : List Cell → Option ℕ
+holder_of [] = None
+holder_of (Byte x holder ∷ cells) = holder
+holder_of (Gap n ∷ cells) = None
+
+-- the length of a descriptor, a multiple of 4, told by its first 38 bytes (4/14.4.9)
+abbrev pub identifier_size : List ℕ → ℕ
+identifier_size bytes = 4 * ((uint8_at bytes 19 + uint16_at bytes 36 + 41) / 4)
+
+abbrev pub or_stop : Option ℕ → Step → Step
+or_stop None step = step
+or_stop (Some n) step = AtRest (Stopped n)
+
+-- bits 2 and 3 of the characteristics: deleted, parent
+abbrev pub is_listed : List ℕ → Bool
+is_listed bytes = uint8_at bytes 18 / 4 % 4 == 0
+
+-- the characteristics in a byte: five bits of it are known
+abbrev pub marks_of : ℕ → Marks
+marks_of byte = record { 0 = byte % 32 }
+
+abbrev pub entry_with : ℕ → List ℕ → Result (List ℕ) NameFault → Step
+entry_with size bytes (Ok units) = One (record {
+  size = size;
+  listed = Some (record { name = units; icb = long_ad_at bytes 20; marks = marks_of (uint8_at bytes 18) });
+})
+entry_with size bytes (Err fault) = AtRest (Wrong Name)
+
+-- the descriptor in these bytes, whose tag is checked
+abbrev pub identifier_in : ℕ → List ℕ → Step
+identifier_in size bytes = cond (is_listed bytes)
+    (entry_with size bytes (units_of (part bytes (38 + uint16_at bytes 36) (uint8_at bytes 19))))
+    (One (record { size = size; listed = None }))
+
+-- the tag's place is the logical block that holds the first byte; no block holds an unrecorded zero
+abbrev pub checked_identifier : Option ℕ → List ℕ → Step
+checked_identifier None bytes = AtRest (Wrong IdentifierTag)
+checked_identifier (Some b) bytes =
+    cond (is_valid bytes b 257) (identifier_in (length bytes) bytes) (AtRest (Wrong IdentifierTag))
+
+abbrev pub sized_identifier : List Cell → ℕ → Step
+sized_identifier cells size = cond (nat_lt 2048 size || nat_lt (length cells) size) (AtRest (Wrong Cut))
+    (or_stop (first_missing (take size cells)) (checked_identifier (holder_of cells) (map value (take size cells))))
+
+abbrev pub some_step : List Cell → Step
+some_step cells = cond (nat_lt (length cells) 38) (AtRest (Wrong Cut))
+    (or_stop (first_missing (take 38 cells)) (sized_identifier cells (identifier_size (map value (take 38 cells)))))
+
+-- the descriptor at the front of the cells, or what stands there in its place
+unfoldable pub step : List Cell → Step
+step [] = AtRest Nothing
+step (cell ∷ cells) = some_step (cell ∷ cells)
+
+-- the cells are these descriptors, one after the other, and then the rest
+abbrev pub ReadsAs : List Cell → List Identifier → Rest → Type 0
+ReadsAs cells [] rest = step cells ≡ AtRest rest
+ReadsAs cells (id ∷ ids) rest = (step cells ≡ One id) × ReadsAs (drop id.size cells) ids rest
+
+pub record DirectoryText : Type 0 where
+  pub identifiers : List Identifier
+  pub rest : Rest
+
+abbrev pub read_on : Step → (ℕ → DirectoryText) → DirectoryText
+read_on (AtRest rest) later = record { identifiers = []; rest = rest }
+read_on (One id) later = let more = later id.size in record { identifiers = id ∷ more.identifiers; rest = more.rest }
+
+-- the descriptors and the rest, as `ReadsAs` says; a directory has at most as many descriptors as cells
+abbrev pub read_from : ℕ → List Cell → DirectoryText
+read_from zero cells = record { identifiers = []; rest = Nothing }
+read_from (suc n) cells = read_on (step cells) (λ size. read_from n (drop size cells))
+
+unfoldable pub directory : List Cell → DirectoryText
+directory cells = read_from (length cells + 1) cells
+
+abbrev pub listed_entries : List Identifier → List DirEntry
+listed_entries ids = filter_map (λ id. id.listed) ids
+
+abbrev pub entries_of : List Cell → List DirEntry
+entries_of cells = listed_entries (directory cells).identifiers
+
+-- ---- what code tells of a directory
+-- a descriptor takes so many cells
+abbrev pub IsOfSize : ℕ → Step → Type 0
+IsOfSize n (AtRest rest) = ⊤
+IsOfSize n (One id) = id.size ≡ n
+
+-- a descriptor takes some of so many cells
+abbrev pub IsWithin : ℕ → Step → Type 0
+IsWithin n (AtRest rest) = ⊤
+IsWithin n (One id) = (1 ≤ id.size) × (id.size ≤ n)
+
+-- a descriptor was taken from the front of some cells, and the others are left
+abbrev pub IsBehind : Step → List Cell → List Cell → Type 0
+IsBehind (AtRest rest) before after = ⊤
+IsBehind (One id) before after = IsWithin (length before) (One id) × (after ≡ drop id.size before)
+
+abbrev pub missing_in : Rest → Option ℕ
+missing_in Nothing = None
+missing_in (Stopped n) = Some n
+missing_in (Wrong fault) = None
+
+abbrev pub fault_in : Rest → Option NodeFault
+fault_in Nothing = None
+fault_in (Stopped n) = None
+fault_in (Wrong fault) = Some fault
+
+-- the front is what the definition says of these cells
+pub record IsFrontOf (front : DirFront) (cells : List Cell) : Type 0 where
+  pub entries : front.entries.items ≡ entries_of cells
+  pub missing : front.missing ≡ missing_in (directory cells).rest
+  pub fault : front.fault ≡ fault_in (directory cells).rest

@@ -1,0 +1,10 @@
+pub mod FaultNames
+pub mod Addresses
+pub mod Entries
+pub mod Bodies
+pub mod Stretches
+pub mod CellsLeft
+pub mod Fronts
+pub mod Laws
+pub mod Standard
+pub mod Complete

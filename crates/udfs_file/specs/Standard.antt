@@ -1,0 +1,87 @@
+-- What the standard reads from complete blocks (ECMA-167 4/14.4, 4/14.5, 4/14.14): no state, nothing missing.
+-- Blocks are given by a partition reference and a logical block.
+--     IsFileSetAt blocks a root        the file set descriptor at an address, and the root's ICB that it names
+--     IsBodyOf blocks r b e body       the body of the entry at block b of partition r
+--     IsDirectoryBody body ids         the descriptors in a directory's body
+use Rattle.std.specs.Prelude.{◌≡◌, ℕ, ◌≤◌, true, not, List, [], ◌∷◌, ◌++◌, length, take, map, flat_map, replicate, take_while, cond, nat_eq, nat_lt, Option, Some, None}
+use Rattle.std.specs.List.{range_with_len}
+use Rattle.udfs_volume.specs.Sequence.{Bytes}
+use Rattle.udfs_tag.specs.declared.layouts.LongAd.{LongAd}
+use Rattle.udfs_tag.specs.Fields.{uint32_at, long_ad_at, part}
+use Rattle.udfs_tag.specs.Tags.{is_valid}
+use Rattle.udfs_volume.specs.Layout.{blocks_in}
+use Rattle.udfs_file.specs.Entries.{EntryFields}
+use Rattle.udfs_file.specs.Bodies.{descriptors_in, next_descriptor}
+use Rattle.udfs_file.specs.Fronts.{identifier_size, identifier_in}
+use Rattle.udfs_file.specs.declared.directories.Identifier.{Identifier}
+use Rattle.udfs_file.specs.declared.directories.Step.TheVariants.{One}
+
+-- the file set descriptor at an address names this ICB of the root directory (4/14.1)
+pub record IsFileSetAt (blocks : ℕ → ℕ → Option Bytes) (a root : LongAd) : Type 0 where
+  pub bytes : Bytes
+  pub block : blocks a.reference a.block ≡ Some bytes
+  pub valid : is_valid bytes a.block 256 ≡ true
+  pub is : root ≡ long_ad_at bytes 400
+
+-- A byte of a body, with the logical block that holds it, if one does.
+abbrev pub Located : Type 0
+Located = ℕ × Option ℕ
+
+abbrev pub located : ℕ → Bytes → List Located
+located b bytes = map (λ x. (x, Some b)) bytes
+
+abbrev pub block_bytes : ℕ → Option Bytes → List Located
+block_bytes b None = []
+block_bytes b (Some bytes) = located b bytes
+
+-- consecutive blocks, or zeros where nothing is recorded
+abbrev pub extent_bytes : (ℕ → ℕ → Option Bytes) → LongAd → List Located
+extent_bytes blocks d = cond (nat_eq d.kind 0)
+    (take d.length (flat_map (λ b. block_bytes b (blocks d.reference b)) (range_with_len d.block (blocks_in d.length))))
+    (replicate d.length (0, None))
+
+abbrev pub extents_in : ℕ → ℕ → Bytes → List LongAd
+extents_in form r area = take_while (λ d. not (nat_eq d.kind 3)) (descriptors_in form r area)
+
+-- the extents of an area, and those of each continuation in turn, as far as these blocks hold them
+abbrev pub IsJoined : (ℕ → ℕ → Option Bytes) → ℕ → ℕ → Bytes → List Bytes → List LongAd → Type 0
+IsJoined blocks form r area [] ds = ds ≡ extents_in form r area
+IsJoined blocks form r area (bytes ∷ more) ds = (d : LongAd) × (later : List LongAd)
+    × (next_descriptor (descriptors_in form r area) ≡ Some d) × (blocks d.reference d.block ≡ Some bytes)
+    × (is_valid bytes d.block 258 ≡ true) × IsJoined blocks form r (part bytes 24 (uint32_at bytes 20)) more later
+    × (ds ≡ extents_in form r area ++ later)
+
+-- a body is the first bytes of its extents put together, of which one of length 0 is the end
+pub record IsExtentsBody (blocks : ℕ → ℕ → Option Bytes) (r : ℕ) (e : EntryFields) (body : List Located) : Type 0 where
+  pub followed : List Bytes
+  pub extents : List LongAd
+  pub joined : IsJoined blocks e.form r e.area followed extents
+  pub bytes : List Located
+  pub together : bytes ≡ flat_map (extent_bytes blocks) (take_while (λ d. nat_lt 0 d.length) extents)
+  pub enough : e.size ≤ length bytes
+  pub is : body ≡ take e.size bytes
+
+-- or the first embedded bytes
+pub record IsEmbeddedBody (b : ℕ) (e : EntryFields) (body : List Located) : Type 0 where
+  pub enough : e.size ≤ length e.area
+  pub is : body ≡ located b (take e.size e.area)
+
+abbrev pub IsBodyOf : (ℕ → ℕ → Option Bytes) → ℕ → ℕ → EntryFields → List Located → Type 0
+IsBodyOf blocks r b e body = cond (nat_eq e.form 3) (IsEmbeddedBody b e body) (IsExtentsBody blocks r e body)
+
+-- these bytes are one valid file identifier descriptor
+pub record IsIdentifierIn (piece : List Located) (id : Identifier) : Type 0 where
+  pub bytes : Bytes
+  pub bytes_are : bytes ≡ map (λ x. x.0) piece
+  pub block : ℕ
+  pub first : (rest : List Located) × (x : ℕ) × (piece ≡ (x, Some block) ∷ rest)
+  pub long_enough : 38 ≤ length piece
+  pub size : length piece ≡ identifier_size bytes
+  pub valid : is_valid bytes block 257 ≡ true
+  pub is : identifier_in (length piece) bytes ≡ One id
+
+-- a directory's body is a list of them and nothing else
+abbrev pub IsDirectoryBody : List Located → List Identifier → Type 0
+IsDirectoryBody body [] = body ≡ []
+IsDirectoryBody body (id ∷ ids) = (piece : List Located) × (rest : List Located) × (body ≡ piece ++ rest)
+    × IsIdentifierIn piece id × IsDirectoryBody rest ids

@@ -1,0 +1,156 @@
+//! The bodies of entries (ECMA-167 4/12.1, 4/14.5, 4/14.14).
+
+ghost use Rattle.std.specs.Prelude.{◌≡◌, ◌≤◌, length};
+ghost use Rattle.udfs_lattice.specs.Tables.{state_of};
+ghost use Rattle.udfs_space.specs.Places.{view};
+
+use crate::entries::Entry;
+use crate::extents::{descriptor, descriptor_count, extent, follow};
+use crate::faults::{NodeFault, WalkError};
+use crate::stretches::{Follow, Run, Stretch};
+use std::alloc::Global;
+use std::marker::Model;
+use udfs_lattice::BlockTable;
+use udfs_space::Space;
+
+/// The body of an entry: as many bytes as its information length says, each of them known, zero or missing.
+/// In contracts a body is its stretches; `cells_of` makes cells of them.
+#[derive(Drop)]
+pub struct Body {
+    stretches: Vec<Stretch>,
+}
+
+impl Model for Body {
+    ghost use Rattle.std.specs.Prelude.{List};
+    ghost use Rattle.udfs_file.specs.declared.stretches.Stretch.{Stretch};
+
+    ghost Value = { List Stretch };
+
+    ghost view = { λ b. b.stretches.items };
+}
+
+impl Body {
+    ghost use Rattle.udfs_file.specs.Stretches.{Gives, listed_body, IsStanding};
+    ghost use Rattle.udfs_file.specs.Entries.{entry_of};
+    ghost use Rattle.udfs_file.specs.Bodies.{body};
+
+    /// The stretches, in order. It takes no memory.
+    pub fn stretches(&self) -> &[Stretch]
+        ensures { result.now ≡ self.now }
+    {
+        self.stretches.as_slice()
+    }
+
+    /// The body of the entry that stands at logical block `b` of the partition: the bytes embedded in it, or those
+    /// of its extents, as far as they are known. The entry is what is known there.
+    ///
+    /// The descriptors are taken in order while they cover less than the information length, and then no more.
+    /// Recorded extents take consecutive logical blocks, others are zeros. A descriptor of type 3 goes on in an
+    /// allocation extent descriptor (ECMA-167 4/14.5); where its block is not known, all further bytes are missing
+    /// with it. It takes a walk over the descriptors, and memory for one stretch of each.
+    ///
+    /// # Errors
+    ///
+    /// A fault found anywhere on the walk is the body's, whatever is missing. Of one descriptor, in this order:
+    /// [`NodeFault::Short`] where it is of length 0, or where there is none; [`NodeFault::Reference`] where it needs
+    /// blocks of a partition that there is not, [`NodeFault::Range`] where one of these blocks has no place;
+    /// [`NodeFault::Chain`] where it continues in a block that is no allocation extent descriptor there or has no
+    /// room for what it says to hold, or that is the 257th, or where its length passes 2048; [`NodeFault::Odd`] where
+    /// it ends before the body does and its length is no multiple of 2048. [`WalkError::OutOfMemory`] where memory
+    /// was refused.
+    pub fn read(
+        alloc: Global,
+        table: &BlockTable,
+        space: &Space,
+        entry: &Entry<'_>,
+        reference: u16,
+        b: u32,
+    ) -> Result<Body, WalkError>
+        requires { IsStanding (view (state_of table.now) space.now) reference b entry.now }
+        ensures { Gives (view (state_of table.now) space.now) result (body (view (state_of table.now) space.now) reference b (entry_of entry.now)) }
+    {
+        if entry.form() != 3 {
+            return Body::walk(
+                alloc,
+                table,
+                space,
+                entry.form(),
+                reference,
+                entry.size(),
+                entry.area(),
+            );
+        }
+        let size = entry.size();
+        if size > entry.area().len() as u64 {
+            return Err(WalkError::Fault(NodeFault::Short));
+        }
+        let run = Run {
+            reference,
+            block: b,
+            offset: entry.start(),
+        };
+        let mut stretches = Vec::new(alloc);
+        if stretches.push(Stretch::Recorded(run, size as u32)).is_err() {
+            return Err(WalkError::OutOfMemory);
+        }
+        Ok(Body { stretches })
+    }
+
+    /// Follows the descriptors in this area, and at most 256 continuations.
+    fn walk(
+        alloc: Global,
+        table: &BlockTable,
+        space: &Space,
+        form: u16,
+        reference: u16,
+        size: u64,
+        area: &[u8],
+    ) -> Result<Body, WalkError>
+        requires { length area.now ≤ 2048 }
+        ensures { Gives (view (state_of table.now) space.now) result
+            (listed_body (view (state_of table.now) space.now) form reference size area.now) }
+    {
+        let mut stretches = Vec::new(alloc);
+        let mut area = area;
+        let mut i = 0;
+        let mut left: u32 = 256;
+        let mut c = 0;
+        'walk: while c < size {
+            if i >= descriptor_count(form, area) {
+                return Err(WalkError::Fault(NodeFault::Short));
+            }
+            let d = descriptor(form, reference, area, i);
+            if d.length == 0 {
+                return Err(WalkError::Fault(NodeFault::Short));
+            }
+            if d.kind == 3 {
+                match follow(table, space, form, left == 0, d) {
+                    Follow::Broken(fault) => return Err(WalkError::Fault(fault)),
+                    Follow::Unread(n) => {
+                        if stretches.push(Stretch::Missing(n, size - c)).is_err() {
+                            return Err(WalkError::OutOfMemory);
+                        }
+                        return Ok(Body { stretches });
+                    }
+                    Follow::Area(next) => {
+                        area = next;
+                        i = 0;
+                        left -= 1;
+                    }
+                }
+            } else {
+                match extent(space, size, c, d) {
+                    Err(fault) => return Err(WalkError::Fault(fault)),
+                    Ok(stretch) => {
+                        if stretches.push(stretch).is_err() {
+                            return Err(WalkError::OutOfMemory);
+                        }
+                        c += stretch.count();
+                        i += 1;
+                    }
+                }
+            }
+        }
+        Ok(Body { stretches })
+    }
+}

@@ -1,0 +1,189 @@
+//! Descriptors one at a time: what each gives, and what follows an area.
+
+ghost use Rattle.std.specs.Prelude.{◌≡◌, ◌≢◌, ℕ, ◌≤◌, ◌<◌, ◌/◌, ◌&&◌, min, length, Bool, true, false, IsNone, is_none};
+ghost use Rattle.udfs_lattice.specs.Volumes.{Blocks};
+ghost use Rattle.udfs_lattice.specs.Tables.{state_of};
+ghost use Rattle.udfs_lattice.specs.States.{fact_now};
+ghost use Rattle.udfs_space.specs.Places.{view, place, block_now};
+ghost use Rattle.udfs_file.specs.Bodies.{descriptor_at, descriptor_count, continuation_fault, is_misreferred, is_misplaced, is_odd, cells_in, is_extent, next_area, next_if, next_by};
+ghost use Rattle.udfs_tag.specs.Fields.{uint32_at};
+ghost use Rattle.udfs_tag.specs.Fields.{part};
+ghost use Rattle.udfs_file.specs.Stretches.{IsExtentRead, next_now, IsFollowed, FitsArea};
+
+use crate::entries::descriptor_size;
+use crate::faults::NodeFault;
+use crate::stretches::{Follow, Run, Stretch};
+use byteorder::{ByteOrder, LittleEndian};
+use udfs_lattice::{BlockTable, Fact};
+use udfs_space::Space;
+use udfs_tag::{LongAd, ShortAd, Tag};
+
+/// How many descriptors an area has.
+pub(crate) fn descriptor_count(form: u16, area: &[u8]) -> usize
+    ensures value { result ≡ descriptor_count form area.now }
+    ensures fits { result ≤ length area.now }
+{
+    area.len() / descriptor_size(form) as usize
+}
+
+/// Descriptor i of an area.
+pub(crate) fn descriptor(form: u16, reference: u16, area: &[u8], i: usize) -> LongAd
+    requires { i < descriptor_count form area.now }
+    ensures { result ≡ descriptor_at form reference area.now i }
+{
+    if form == 0 {
+        let (_, rest) = area.split_at(8 * i);
+        let short = ShortAd::read(rest);
+        LongAd {
+            kind: short.kind,
+            length: short.length,
+            block: short.block,
+            reference,
+        }
+    } else {
+        let (_, rest) = area.split_at(16 * i);
+        LongAd::read(rest)
+    }
+}
+
+fn is_misreferred(space: &Space, d: LongAd) -> bool
+    ensures { (blocks : Blocks) → result ≡ is_misreferred (view blocks space.now) d }
+{
+    d.kind == 0 && d.reference >= space.maps()
+}
+
+fn is_misplaced(space: &Space, d: LongAd, count: u64) -> bool
+    requires { count < 4294967296 }
+    ensures { (blocks : Blocks) → result ≡ is_misplaced (view blocks space.now) d count }
+{
+    d.kind == 0 && space.is_past(d.reference, d.block, ((count + 2047) / 2048) as u32)
+}
+
+fn is_odd(size: u64, c: u64, d: LongAd) -> bool
+    requires { c ≤ size }
+    ensures { result ≡ is_odd size c d }
+{
+    d.kind != 3 && u64::from(d.length) < size - c && d.length % 2048 != 0
+}
+
+/// The stretch of a taken extent.
+pub(crate) fn extent(space: &Space, size: u64, c: u64, d: LongAd) -> Result<Stretch, NodeFault>
+    requires left { c < size }
+    requires is_extent { d.kind ≢ 3 }
+    ensures { (blocks : Blocks) → IsExtentRead result (view blocks space.now) size c d }
+{
+    let count = u64::from(d.length).min(size - c);
+    if is_misreferred(space, d) {
+        return Err(NodeFault::Reference);
+    }
+    if is_misplaced(space, d, count) {
+        return Err(NodeFault::Range);
+    }
+    if is_odd(size, c, d) {
+        return Err(NodeFault::Odd);
+    }
+    if d.kind == 0 {
+        let run = Run {
+            reference: d.reference,
+            block: d.block,
+            offset: 0,
+        };
+        Ok(Stretch::Recorded(run, count as u32))
+    } else {
+        Ok(Stretch::Zeros(count as u32))
+    }
+}
+
+/// The bytes are an allocation extent descriptor of this form at logical block b.
+fn is_extent(form: u16, b: u32, bytes: &[u8; 2048]) -> bool
+    ensures value { result ≡ is_extent form b bytes.now }
+    ensures fits { result ≡ true → uint32_at bytes.now 20 ≤ 2024 }
+{
+    let count = LittleEndian::read_u32(&bytes[20..]);
+    Tag::is_valid(bytes, b, 258) && count <= 2024 && count % descriptor_size(form) == 0
+}
+
+/// The descriptors in it.
+fn extent_area<'a>(bytes: &'a [u8; 2048]) -> &'a [u8]
+    requires { uint32_at bytes.now 20 ≤ 2024 }
+    ensures value { result.now ≡ part bytes.now 24 (uint32_at bytes.now 20) }
+    ensures fits { length result.now ≤ 2048 }
+{
+    let (_, rest) = bytes.split_at(24);
+    let (area, _) = rest.split_at(LittleEndian::read_u32(&bytes[20..]) as usize);
+    area
+}
+
+/// Whether an address has no place.
+pub(crate) fn is_unplaced(space: &Space, d: LongAd) -> bool
+    ensures { result ≡ is_none (place space.now d.reference d.block) }
+{
+    space.place(d.reference, d.block).is_none()
+}
+
+/// What is wrong with a continuation before its block is looked at.
+fn continuation_fault(space: &Space, is_last: bool, d: LongAd) -> Option<NodeFault>
+    ensures value { (blocks : Blocks) → result ≡ continuation_fault (view blocks space.now) is_last d }
+    ensures allowed { IsNone result → is_last ≡ false }
+{
+    if d.reference >= space.maps() {
+        return Some(NodeFault::Reference);
+    }
+    if is_unplaced(space, d) {
+        return Some(NodeFault::Range);
+    }
+    if d.length > 2048 || is_last {
+        return Some(NodeFault::Chain);
+    }
+    None
+}
+
+/// What a block in a continuation's place says.
+fn area_in<'a>(form: u16, b: u32, n: u32, fact: Fact<&'a [u8; 2048]>) -> Follow<'a>
+    ensures value { next_now result ≡ next_area form b n (fact_now fact.entry) }
+    ensures fits { FitsArea result }
+{
+    match fact {
+        Fact::Unknown => Follow::Unread(n),
+        Fact::Conflict => Follow::Unread(n),
+        Fact::Known(bytes) => {
+            if is_extent(form, b, bytes) {
+                Follow::Area(extent_area(bytes))
+            } else {
+                Follow::Broken(NodeFault::Chain)
+            }
+        }
+    }
+}
+
+/// The same, if there is such a place.
+fn area_at<'a>(form: u16, b: u32, block: Option<(u32, Fact<&'a [u8; 2048]>)>) -> Follow<'a>
+    ensures value { next_now result ≡ next_if form b None (block_now block.entry) }
+    ensures fits { FitsArea result }
+{
+    match block {
+        None => Follow::Broken(NodeFault::Range),
+        Some((n, fact)) => area_in(form, b, n, fact),
+    }
+}
+
+/// What follows the area that ends in this descriptor.
+pub(crate) fn follow<'a>(
+    table: &'a BlockTable,
+    space: &Space,
+    form: u16,
+    is_last: bool,
+    d: LongAd,
+) -> Follow<'a>
+    ensures value { next_now result ≡ next_by (view (state_of table.now) space.now) form is_last d }
+    ensures allowed { IsFollowed result is_last }
+{
+    match continuation_fault(space, is_last, d) {
+        Some(fault) => Follow::Broken(fault),
+        None => area_at(
+            form,
+            d.block,
+            space.block_at(table, d.reference, u64::from(d.block)),
+        ),
+    }
+}

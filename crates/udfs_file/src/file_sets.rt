@@ -1,0 +1,97 @@
+//! The file set (ECMA-167 4/14.1).
+
+ghost use Rattle.std.specs.Prelude.{◌≡◌, None};
+ghost use Rattle.udfs_lattice.specs.Tables.{state_of};
+ghost use Rattle.udfs_lattice.specs.States.{fact_now};
+ghost use Rattle.udfs_lattice.specs.Volumes.{Blocks};
+ghost use Rattle.udfs_space.specs.Places.{block_now, view};
+ghost use Rattle.udfs_volume.specs.Answers.{IsHoles};
+ghost use Rattle.udfs_volume.specs.Seen.{HolesRise, Sees};
+ghost use Rattle.udfs_file.specs.Addresses.{address_fault, file_set, file_set_at, file_set_in, is_no_reference};
+
+use crate::entries::behind;
+use crate::extents::is_unplaced;
+use crate::faults::NodeFault;
+use std::alloc::Global;
+use udfs_lattice::{BlockTable, Fact};
+use udfs_space::Space;
+use udfs_tag::{LongAd, Tag};
+use udfs_volume::{Seen, VolumeFault};
+
+/// Whether an address is no recorded extent, is empty, or is of no partition.
+fn is_no_reference(space: &Space, a: LongAd) -> bool
+    ensures { (blocks : Blocks) → result ≡ is_no_reference (view blocks space.now) a }
+{
+    a.kind != 0 || a.length == 0 || a.reference >= space.maps()
+}
+
+/// What is wrong with the address of a single block (long_ad, ECMA-167 4/14.14.2): [`NodeFault::Reference`]
+/// where it is no recorded extent, is empty or is of no partition, and [`NodeFault::Range`] where its block
+/// has no place. It takes no memory.
+pub fn address_fault(space: &Space, address: LongAd) -> Option<NodeFault>
+    ensures { (blocks : Blocks) → result ≡ address_fault (view blocks space.now) address }
+{
+    if is_no_reference(space, address) {
+        return Some(NodeFault::Reference);
+    }
+    if is_unplaced(space, address) {
+        return Some(NodeFault::Range);
+    }
+    None
+}
+
+/// What the block where the address leads says.
+fn file_set_in(alloc: Global, address: LongAd, n: u32, fact: Fact<&[u8; 2048]>) -> Seen<LongAd>
+    ensures value { Sees (λ a. a) result (file_set_in address n (fact_now fact.entry)) }
+    ensures rising { HolesRise result }
+    ensures memory { result ≡ Seen.OutOfMemory → IsHoles (file_set_in address n (fact_now fact.entry)) }
+{
+    let Fact::Known(bytes) = fact else {
+        return match vec![in alloc; n] {
+            Ok(holes) => Seen::Holes(holes),
+            Err(_) => Seen::OutOfMemory,
+        };
+    };
+    if Tag::is_valid(bytes, address.block, 256) {
+        Seen::Got(LongAd::read(behind(bytes, 400)))
+    } else {
+        Seen::Fault(VolumeFault::FileSet)
+    }
+}
+
+/// The same, if there is such a block.
+fn file_set_at(
+    alloc: Global,
+    address: LongAd,
+    block: Option<(u32, Fact<&[u8; 2048]>)>,
+) -> Seen<LongAd>
+    ensures value { Sees (λ a. a) result (file_set_at address None (block_now block.entry)) }
+    ensures rising { HolesRise result }
+    ensures memory { result ≡ Seen.OutOfMemory → IsHoles (file_set_at address None (block_now block.entry)) }
+{
+    match block {
+        None => Seen::Fault(VolumeFault::FileSet),
+        Some((n, fact)) => file_set_in(alloc, address, n, fact),
+    }
+}
+
+/// Where the information control block of the root directory is said to stand, by the file set descriptor at
+/// this address (ECMA-167 4/14.1). The address is that of the volume's layout.
+///
+/// The one fault is [`VolumeFault::FileSet`]: the address is not good, as [`address_fault`] says, or its
+/// block is no file set descriptor. A block that is not known is the one hole. It takes memory for holes alone: a
+/// root and the fault are told whatever memory there is.
+#[tactic(auto, unfolding(crate::specs::Addresses::file_set))]
+pub fn file_set(alloc: Global, table: &BlockTable, space: &Space, address: LongAd) -> Seen<LongAd>
+    ensures value { Sees (λ a. a) result (file_set (view (state_of table.now) space.now) address) }
+    ensures rising { HolesRise result }
+    ensures memory { result ≡ Seen.OutOfMemory → IsHoles (file_set (view (state_of table.now) space.now) address) }
+{
+    match address_fault(space, address) {
+        Some(_) => Seen::Fault(VolumeFault::FileSet),
+        None => {
+            let block = space.block_at(table, address.reference, u64::from(address.block));
+            file_set_at(alloc, address, block)
+        }
+    }
+}

@@ -1,0 +1,29 @@
+//! Files and directories of UDF volumes of which some blocks are not known.
+//!
+//! [`file_set()`] finds the root's information control block, [`Entry::read`] reads the entry in a block,
+//! [`Body::read`] follows its allocation descriptors, and [`Dir::front`] lists what a directory's body holds. An
+//! address is a partition reference and a logical block. Where a block that is needed is not known, the answer names
+//! it, and says as much as can be told without it; nothing is guessed. The laws in [`laws`] say what that means.
+#![tactic(auto)]
+
+pub mod bodies;
+pub mod cells;
+pub mod directories;
+pub mod entries;
+mod extents;
+pub mod faults;
+pub mod file_sets;
+pub mod laws;
+pub mod marks;
+pub mod stretches;
+
+pub use bodies::Body;
+pub use directories::{Dir, DirEntry, DirFront};
+pub use entries::Entry;
+pub use faults::{Kind, NodeFault, WalkError};
+pub use file_sets::file_set;
+pub use marks::Marks;
+pub use stretches::{Run, Stretch};
+
+#[cfg(test)]
+mod tests;

@@ -1,0 +1,168 @@
+//! Directories.
+
+use super::told::front;
+use crate::directories::identifier_size;
+use std::alloc::{AllocError, Global};
+use std::test::Fail;
+use udfs_samples::{Bytes, Disc};
+
+#[test]
+fn fronts(rt: HostRuntime) -> Result<(), Fail> {
+    let alloc = rt.alloc();
+    let table = Disc::type1(alloc)?.known_but(alloc, &[])?;
+    assert_eq!(rt; front(alloc, &table, 0, 1)?.as_str(), "front A 0:3 B 0:4");
+    let unread = Disc::type1(alloc)?.known_but(alloc, &[274])?;
+    assert_eq!(rt; front(alloc, &unread, 0, 1)?.as_str(), "front missing 274");
+    let both = Disc::two_maps(alloc)?.known_but(alloc, &[])?;
+    assert_eq!(rt; front(alloc, &both, 0, 1)?.as_str(), "front A 0:3 B 1:0");
+    // A file of 2 bytes is no directory.
+    assert_eq!(rt; front(alloc, &table, 0, 4)?.as_str(), "front fault 12 Cut");
+    Ok(())
+}
+
+/// The directory's block: two changes, and what the root then lists.
+const CHANGES: [(Bytes, Bytes, &str); 9] = [
+    // Deleted, and with a name that is none.
+    ((274, 58, &[4]), (274, 78, &[9]), "front B 0:4"),
+    ((274, 58, &[0]), (274, 78, &[9]), "front fault 11 Name"),
+    ((274, 58, &[8]), (274, 78, &[9]), "front B 0:4"),
+    ((274, 58, &[3]), (274, 119, b"A"), "front A 0:3 A 0:4"),
+    ((274, 58, &[0xf3]), (274, 119, b"B"), "front A 0:3 B 0:4"),
+    ((274, 58, &[0]), (274, 108, &[1]), "front A 0:3 B 1:4"),
+    (
+        (274, 58, &[0]),
+        (274, 80, &[2]),
+        "front A 0:3 fault 10 IdentifierTag",
+    ),
+    (
+        (274, 84, &[7]),
+        (274, 92, &[3]),
+        "front A 0:3 fault 10 IdentifierTag",
+    ),
+    (
+        (273, 56, &[0x77]),
+        (274, 119, b"B"),
+        "front A 0:3 fault 12 Cut",
+    ),
+];
+
+#[test]
+fn changed_directories(rt: HostRuntime) -> Result<(), Fail> {
+    let alloc = rt.alloc();
+    for (first, second, expected) in CHANGES {
+        let mut disc = Disc::type1(alloc)?;
+        disc.write(&[first, second])?;
+        let table = disc.known_but(alloc, &[])?;
+        assert_eq!(rt; front(alloc, &table, 0, 1)?.as_str(), expected);
+    }
+    Ok(())
+}
+
+#[test]
+fn identifier_sizes(rt: HostRuntime) -> Result<(), Fail> {
+    let mut bytes = [0; 38];
+    assert_eq!(rt; identifier_size(&bytes), 40);
+    bytes[19] = 9;
+    assert_eq!(rt; identifier_size(&bytes), 48);
+    bytes[19] = 2;
+    bytes[36] = 0xd8;
+    bytes[37] = 7;
+    assert_eq!(rt; identifier_size(&bytes), 2048);
+    bytes[36] = 0xd9;
+    assert_eq!(rt; identifier_size(&bytes), 2052);
+    Ok(())
+}
+
+/// A descriptor with 2008 bytes of implementation use takes a block; with one more it takes too much.
+#[test]
+fn longest_identifier(rt: HostRuntime) -> Result<(), Fail> {
+    let alloc = rt.alloc();
+    let mut disc = Disc::type1(alloc)?;
+    disc.fill(274, 0)?;
+    disc.write_tag(274, 0, 257, 2)?;
+    disc.write(&[
+        (273, 56, &[0, 8]),
+        (273, 176, &[0, 8]),
+        (274, 16, &[1, 0, 0, 2]),
+        (274, 20, &[0, 8, 0, 0, 3]),
+        (274, 36, &[0xd8, 7]),
+        (274, 2046, b"\x08A"),
+    ])?;
+    let table = disc.known_but(alloc, &[])?;
+    assert_eq!(rt; front(alloc, &table, 0, 1)?.as_str(), "front A 0:3");
+    disc.write(&[(273, 56, &[4, 8]), (273, 176, &[4, 8]), (274, 36, &[0xd9])])?;
+    let longer = disc.known_but(alloc, &[])?;
+    assert_eq!(rt; front(alloc, &longer, 0, 1)?.as_str(), "front fault 12 Cut");
+    Ok(())
+}
+
+/// The tag of an identifier in logical block 2, and that of one in logical block 3.
+const TAGS: [[u8; 16]; 2] = [
+    [1, 1, 2, 0, 6, 0, 0, 0, 0, 0, 0, 0, 2, 0, 0, 0],
+    [1, 1, 2, 0, 7, 0, 0, 0, 0, 0, 0, 0, 3, 0, 0, 0],
+];
+
+/// A root directory of 52 identifiers of 40 bytes in two blocks, the last of them in both.
+fn two_blocks(alloc: Global, last_tag: &[u8; 16]) -> Result<Disc, AllocError> {
+    let mut disc = Disc::type1(alloc)?;
+    disc.fill(274, 0)?;
+    disc.fill(275, 0)?;
+    disc.write(&[(273, 56, &[0x20, 8]), (273, 176, &[0x20, 8])])?;
+    for i in 0..51usize {
+        let at = i.wrapping_mul(40);
+        disc.write_at(274, at, &TAGS[0])?;
+        disc.write_at(274, at.wrapping_add(16), &[1, 0, 0, 2, 0, 8, 0, 0, 3])?;
+        disc.write_at(274, at.wrapping_add(38), b"\x08A")?;
+    }
+    disc.write_at(274, 2040, &last_tag[..8])?;
+    disc.write_at(275, 0, &last_tag[8..])?;
+    disc.write_at(275, 8, &[1, 0, 0, 2, 0, 8, 0, 0, 4])?;
+    disc.write_at(275, 30, b"\x08B")?;
+    Ok(disc)
+}
+
+#[test]
+fn identifiers_in_two_blocks(rt: HostRuntime) -> Result<(), Fail> {
+    let alloc = rt.alloc();
+    let disc = two_blocks(alloc, &TAGS[0])?;
+    let mut expected = format!(in alloc; "front")?;
+    for _ in 0..51 {
+        expected.push_str(" A 0:3")?;
+    }
+    let table = disc.known_but(alloc, &[])?;
+    let whole = front(alloc, &table, 0, 1)?;
+    assert_eq!(rt;
+        whole.as_str(),
+        format!(in alloc; "{expected} B 0:4")?.as_str()
+    );
+    let unread = disc.known_but(alloc, &[275])?;
+    let stopped = front(alloc, &unread, 0, 1)?;
+    assert_eq!(rt;
+        stopped.as_str(),
+        format!(in alloc; "{expected} missing 275")?.as_str()
+    );
+    let elsewhere = two_blocks(alloc, &TAGS[1])?.known_but(alloc, &[])?;
+    let broken = front(alloc, &elsewhere, 0, 1)?;
+    assert_eq!(rt;
+        broken.as_str(),
+        format!(in alloc; "{expected} fault 10 IdentifierTag")?.as_str()
+    );
+    Ok(())
+}
+
+/// A directory of zeros that are not recorded ends at its first byte, however long it is.
+#[test]
+fn unrecorded_directory(rt: HostRuntime) -> Result<(), Fail> {
+    let alloc = rt.alloc();
+    let mut disc = Disc::type1(alloc)?;
+    disc.write(&[
+        (273, 56, &[0, 0xf8, 0xff, 0x3f]),
+        (273, 176, &[0, 0xf8, 0xff, 0x7f]),
+    ])?;
+    let table = disc.known_but(alloc, &[])?;
+    assert_eq!(rt;
+        front(alloc, &table, 0, 1)?.as_str(),
+        "front fault 10 IdentifierTag"
+    );
+    Ok(())
+}

@@ -1,0 +1,235 @@
+//! What is told of the files of sample volumes, as texts.
+
+use crate::bodies::Body;
+use crate::cells::{Cell, Cells};
+use crate::directories::Dir;
+use crate::entries::Entry;
+use crate::faults::{Kind, NodeFault, WalkError};
+use crate::file_sets::file_set;
+use crate::stretches::Stretch;
+use std::alloc::{AllocError, Global};
+use std::test::Fail;
+use udfs_lattice::{BlockTable, Fact};
+use udfs_samples::LAST;
+use udfs_space::Space;
+use udfs_tag::LongAd;
+use udfs_volume::Seen;
+use udfs_volume::layouts::layout;
+
+/// The places of a table's volume, and the address of its file set.
+pub fn laid_out(alloc: Global, table: &BlockTable) -> Option<(Space, LongAd)> {
+    let Seen::Got(parts) = layout(alloc, table, LAST) else {
+        return None;
+    };
+    let Seen::Got(space) = Space::build(alloc, table, &parts) else {
+        return None;
+    };
+    Some((space, parts.file_set))
+}
+
+/// What the file set says: `root R:B`, holes, or a fault with its number.
+pub fn root(alloc: Global, table: &BlockTable) -> Result<String, Fail> {
+    let Some((space, address)) = laid_out(alloc, table) else {
+        return Ok(format!(in alloc; "no layout")?);
+    };
+    match file_set(alloc, table, &space, address) {
+        Seen::Got(root) => {
+            let (reference, block) = (root.reference, root.block);
+            Ok(format!(in alloc; "root {reference}:{block}")?)
+        }
+        Seen::Holes(blocks) => {
+            let mut text = format!(in alloc; "holes")?;
+            for n in &blocks {
+                let number = format!(in alloc; " {n}")?;
+                text.push_str(number.as_str())?;
+            }
+            Ok(text)
+        }
+        Seen::Fault(fault) => {
+            let number = fault as u8;
+            Ok(format!(in alloc; "fault {number} {fault}")?)
+        }
+        Seen::OutOfMemory => Ok(format!(in alloc; "out of memory")?),
+    }
+}
+
+/// A fault with its number.
+fn fault_text(alloc: Global, fault: NodeFault) -> Result<String, AllocError> {
+    let number = fault as u8;
+    format!(in alloc; "fault {number} {fault}")
+}
+
+/// The block at a logical address, if it is known.
+fn known_at<'a>(
+    table: &'a BlockTable,
+    space: &Space,
+    reference: u16,
+    b: u32,
+) -> Option<&'a [u8; 2048]> {
+    match space.block_at(table, reference, u64::from(b)) {
+        Some((_, Fact::Known(bytes))) => Some(bytes),
+        _ => None,
+    }
+}
+
+/// The kind, size and stamp of an entry, or its fault.
+pub fn entry(alloc: Global, table: &BlockTable, reference: u16, b: u32) -> Result<String, Fail> {
+    let Some((space, _)) = laid_out(alloc, table) else {
+        return Ok(format!(in alloc; "no layout")?);
+    };
+    let Some(bytes) = known_at(table, &space, reference, b) else {
+        return Ok(format!(in alloc; "unread")?);
+    };
+    let entry = match Entry::read(bytes, b) {
+        Ok(entry) => entry,
+        Err(fault) => return Ok(fault_text(alloc, fault)?),
+    };
+    let size = entry.size();
+    let mut text = match entry.kind() {
+        Kind::Directory => format!(in alloc; "directory {size} ")?,
+        Kind::File => format!(in alloc; "file {size} ")?,
+        Kind::Link => format!(in alloc; "link {size} ")?,
+        Kind::Other(t) => format!(in alloc; "other-{t} {size} ")?,
+        Kind::Unread => format!(in alloc; "unread {size} ")?,
+    };
+    entry.stamp().write_text(&mut text)?;
+    Ok(text)
+}
+
+/// The body of an entry, or what stands in its place.
+fn body_of(
+    alloc: Global,
+    table: &BlockTable,
+    space: &Space,
+    reference: u16,
+    b: u32,
+) -> Result<Result<Body, String>, Fail> {
+    let bytes = match space.block_at(table, reference, u64::from(b)) {
+        Some((_, Fact::Known(bytes))) => bytes,
+        _ => return Ok(Err(format!(in alloc; "unread")?)),
+    };
+    let entry = match Entry::read(bytes, b) {
+        Ok(entry) => entry,
+        Err(fault) => return Ok(Err(fault_text(alloc, fault)?)),
+    };
+    match Body::read(alloc, table, space, &entry, reference, b) {
+        Ok(body) => Ok(Ok(body)),
+        Err(WalkError::Fault(fault)) => Ok(Err(fault_text(alloc, fault)?)),
+        Err(WalkError::OutOfMemory) => Ok(Err(format!(in alloc; "out of memory")?)),
+    }
+}
+
+/// The stretches of a body, or its fault.
+pub fn stretches(
+    alloc: Global,
+    table: &BlockTable,
+    reference: u16,
+    b: u32,
+) -> Result<String, Fail> {
+    let Some((space, _)) = laid_out(alloc, table) else {
+        return Ok(format!(in alloc; "no layout")?);
+    };
+    let body = match body_of(alloc, table, &space, reference, b)? {
+        Ok(body) => body,
+        Err(text) => return Ok(text),
+    };
+    let mut text = format!(in alloc; "body")?;
+    for stretch in body.stretches() {
+        let one = match stretch {
+            Stretch::Recorded(run, count) => {
+                let (reference, block, offset) = (run.reference, run.block, run.offset);
+                format!(in alloc; " recorded {reference}:{block}+{offset} {count}")?
+            }
+            Stretch::Zeros(count) => format!(in alloc; " zeros {count}")?,
+            Stretch::Missing(n, count) => format!(in alloc; " missing {n} {count}")?,
+        };
+        text.push_str(one.as_str())?;
+    }
+    Ok(text)
+}
+
+/// Like cells, and how many of them.
+fn push_cells(
+    alloc: Global,
+    text: &mut String,
+    cell: Option<Cell>,
+    count: usize,
+) -> Result<(), Fail> {
+    let one = match cell {
+        None => return Ok(()),
+        Some(Cell::Byte(x, _)) => format!(in alloc; " {x:02x}*{count}")?,
+        Some(Cell::Gap(n)) => format!(in alloc; " ?{n}*{count}")?,
+    };
+    text.push_str(one.as_str())?;
+    Ok(())
+}
+
+/// Whether two cells are told alike.
+fn are_alike(a: Option<Cell>, b: Cell) -> bool {
+    match (a, b) {
+        (Some(Cell::Byte(x, _)), Cell::Byte(y, _)) => x == y,
+        (Some(Cell::Gap(m)), Cell::Gap(n)) => m == n,
+        _ => false,
+    }
+}
+
+/// The cells of a body, like ones together: `61*2048` for known ones, `?278*2048` for missing ones; or its fault.
+pub fn cells(alloc: Global, table: &BlockTable, reference: u16, b: u32) -> Result<String, Fail> {
+    let Some((space, _)) = laid_out(alloc, table) else {
+        return Ok(format!(in alloc; "no layout")?);
+    };
+    let body = match body_of(alloc, table, &space, reference, b)? {
+        Ok(body) => body,
+        Err(text) => return Ok(text),
+    };
+    let mut left = Cells {
+        table,
+        space: &space,
+        stretches: body.stretches(),
+        passed: 0,
+    };
+    let all = left.take(alloc, 8192)?;
+    let mut text = format!(in alloc; "cells")?;
+    let mut last = None;
+    let mut count = 0usize;
+    for cell in &all {
+        if !are_alike(last, *cell) {
+            push_cells(alloc, &mut text, last, count)?;
+            count = 0;
+        }
+        last = Some(*cell);
+        count = count.wrapping_add(1);
+    }
+    push_cells(alloc, &mut text, last, count)?;
+    Ok(text)
+}
+
+/// What a directory lists: each name with the address and characteristics, and what ends it.
+pub fn front(alloc: Global, table: &BlockTable, reference: u16, b: u32) -> Result<String, Fail> {
+    let Some((space, _)) = laid_out(alloc, table) else {
+        return Ok(format!(in alloc; "no layout")?);
+    };
+    let body = match body_of(alloc, table, &space, reference, b)? {
+        Ok(body) => body,
+        Err(text) => return Ok(text),
+    };
+    let front = Dir::front(alloc, table, &space, &body)?;
+    let mut text = format!(in alloc; "front")?;
+    for entry in &front.entries {
+        text.push(' ')?;
+        entry.name.write_escaped(&mut text)?;
+        let (reference, block) = (entry.icb.reference, entry.icb.block);
+        let icb = format!(in alloc; " {reference}:{block}")?;
+        text.push_str(icb.as_str())?;
+    }
+    if let Some(n) = front.missing {
+        let missing = format!(in alloc; " missing {n}")?;
+        text.push_str(missing.as_str())?;
+    }
+    if let Some(fault) = front.fault {
+        text.push(' ')?;
+        let fault = fault_text(alloc, fault)?;
+        text.push_str(fault.as_str())?;
+    }
+    Ok(text)
+}
