@@ -143,6 +143,10 @@ unfolding space
 space_within T last l ss h e = let bounds : IsBounded last l = layout_is_bounded T last l h in
     any_within last ss (spans_within T last l.partitions ss bounds.of_each (ap (λ x. spans T x l.partitions) (sym bounds.is_last) ∙ e))
 
+pub places_up_to : (T : Blocks) (l : Layout) (ss : Space) → IsBounded l.last l → space T l ≡ found ss → (r b n : ℕ) → place ss r b ≡ Some n → n ≤ l.last
+unfolding space
+places_up_to T l ss bounds e = any_within l.last ss (spans_within T l.last l.partitions ss bounds.of_each e)
+
 pub place_law : PlaceLaw
 place_law M V N l s hv hl hs a = record {
   partitions = refl;

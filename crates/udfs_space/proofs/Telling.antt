@@ -7,8 +7,8 @@ use Rattle.udfs_volume.specs.declared.seen.Seen.{Seen}
 use Rattle.udfs_volume.specs.declared.seen.Seen.TheVariants.{Got, Holes, Fault, OutOfMemory}
 use Rattle.udfs_volume.specs.Answers.{Answer, found, holes, faulty, and_then, unless_fault}
 use Rattle.udfs_volume.specs.Layout.{Layout, Partition, PartitionMap, type1, sparable, blocks_in, layout}
-use Rattle.udfs_volume.specs.Laws.{ListsGroup, IsAnswerOf, the_same, unread}
-use Rattle.udfs_volume.specs.Seen.{Sees, HolesRise}
+use Rattle.udfs_volume.specs.Laws.{IsBounded, ListsGroup, IsAnswerOf, the_same, unread}
+use Rattle.udfs_volume.specs.Seen.{Sees, HolesRise, IfGot}
 use Rattle.udfs_volume.proofs.Bounds.{found_same}
 use Rattle.udfs_volume.proofs.Rising.{Rises, holes_rise, rising_ascending}
 use Rattle.udfs_space.specs.declared.spaces.Space as code_space
@@ -17,8 +17,8 @@ use Rattle.std.specs.Prelude.{flat_map}
 use Rattle.udfs_space.specs.Sparing.{Space, Spared, copies, place_of, table_bytes, space, span, spans, spared, spared_by, spared_from, spared_unless, sparing_fault, span_of, spared_in}
 use Rattle.udfs_space.specs.Sparing.{unread as unread_in}
 use Rattle.udfs_space.specs.Standard.{standard_space}
-use Rattle.udfs_space.specs.Told.{IsSpaceOf, TellsLawful}
-use Rattle.udfs_space.proofs.PlaceLaw.{place_law}
+use Rattle.udfs_space.specs.Told.{ArePlacesUpTo, IsSpaceOf, TellsLawful}
+use Rattle.udfs_space.proofs.PlaceLaw.{place_law, places_up_to}
 use Rattle.udfs_space.proofs.SpaceLaw.{space_law, standard_space_law}
 
 -- ---- a lawful volume
@@ -78,6 +78,17 @@ space_rises : (T : Blocks) (l : Layout) → Rises (space T l)
 unfolding space
 space_rises T l = spans_rise T l.last l.partitions
 
-pub space_clauses : (T : Blocks) (l : Layout) (seen : Seen code_space.Space) → Sees (λ s. s) seen (space T l)
-    → record { value : Sees (λ s. s) seen (space T l); lawful : TellsLawful T l seen; rising : HolesRise seen }
-space_clauses T l seen s = record { value = s; lawful = tells_lawful T l seen s; rising = holes_rise (λ s. s) seen (space T l) s (space_rises T l) }
+got_up_to : (T : Blocks) (l : Layout) (seen : Seen code_space.Space) → IsBounded l.last l → Sees (λ s. s) seen (space T l) → IfGot seen (ArePlacesUpTo l.last)
+got_up_to T l (Got got) bounds s = places_up_to T l got bounds s
+got_up_to T l (Holes blocks) bounds s = tt
+got_up_to T l (Fault fault) bounds s = tt
+got_up_to T l OutOfMemory bounds s = tt
+
+pub space_clauses : (T : Blocks) (l : Layout) (seen : Seen code_space.Space) → IsBounded l.last l → Sees (λ s. s) seen (space T l)
+    → record { value : Sees (λ s. s) seen (space T l); lawful : TellsLawful T l seen; rising : HolesRise seen; within : IfGot seen (ArePlacesUpTo l.last) }
+space_clauses T l seen bounds s = record {
+  value = s;
+  lawful = tells_lawful T l seen s;
+  rising = holes_rise (λ s. s) seen (space T l) s (space_rises T l);
+  within = got_up_to T l seen bounds s;
+}

@@ -1,7 +1,8 @@
 -- What a call tells of a lawful volume of which a part is known.
 --     IsSpaceOf volume last blocks l got    the volume's places, as the standard reads them
+--     ArePlacesUpTo last space              each place is at most the last block
 --     TellsLawful blocks l seen             of each lawful volume: its places, or all copies of an unread block
-use Rattle.std.specs.Prelude.{◌≡◌, ⊤, ℕ, List, []}
+use Rattle.std.specs.Prelude.{◌≡◌, ◌≤◌, ⊤, ℕ, List, [], Some}
 use Rattle.udfs_lattice.specs.Volumes.{Blocks, Includes, Volume, IsVolume, Agrees, complete, IsKnownAt}
 use Rattle.udfs_volume.specs.declared.seen.Seen.{Seen}
 use Rattle.udfs_volume.specs.declared.seen.Seen.TheVariants.{Got, Holes, Fault, OutOfMemory}
@@ -9,7 +10,7 @@ use Rattle.udfs_volume.specs.Answers.{found}
 use Rattle.udfs_volume.specs.Layout.{Layout, layout}
 use Rattle.udfs_volume.specs.Laws.{ListsGroup}
 use Rattle.udfs_space.specs.Laws.{IsLawfulSparing, IsSparingGroup}
-use Rattle.udfs_space.specs.Places.{IsPartOf, view}
+use Rattle.udfs_space.specs.Places.{IsPartOf, place, view}
 use Rattle.udfs_space.specs.Sparing.{Space, space}
 use Rattle.udfs_space.specs.Standard.{standard_space}
 use Rattle.udfs_space.specs.declared.spaces.Space as code_space
@@ -32,3 +33,6 @@ IsToldOf volume last blocks l OutOfMemory = ⊤
 abbrev pub TellsLawful : Blocks → Layout → Seen code_space.Space → Type 0
 TellsLawful blocks l seen = (volume : Volume) (last : ℕ) → IsVolume volume last → layout (complete volume last) last ≡ found l
     → IsLawfulSparing volume last l → Agrees blocks volume last → IsToldOf volume last blocks l seen
+
+abbrev pub ArePlacesUpTo : ℕ → Space → Type 0
+ArePlacesUpTo last space = (reference b n : ℕ) → place space reference b ≡ Some n → n ≤ last

@@ -5,11 +5,11 @@ ghost use Rattle.udfs_lattice.specs.States.{fact_now};
 ghost use Rattle.udfs_lattice.specs.Tables.{state_of};
 ghost use Rattle.udfs_volume.specs.LayoutParts.{partition_now, parts_now};
 ghost use Rattle.udfs_volume.specs.Laws.{IsBounded, IsBoundedPartition};
-ghost use Rattle.udfs_volume.specs.Seen.{HolesRise, Sees};
+ghost use Rattle.udfs_volume.specs.Seen.{HolesRise, IfGot, Sees};
 ghost use Rattle.udfs_space.specs.Parts.{IsSound};
 ghost use Rattle.udfs_space.specs.Places.{StandsIn, block_at, block_now, is_past, length_of, place, view};
 ghost use Rattle.udfs_space.specs.Sparing.{Span, space, spans};
-ghost use Rattle.udfs_space.specs.Told.{TellsLawful};
+ghost use Rattle.udfs_space.specs.Told.{ArePlacesUpTo, TellsLawful};
 
 use crate::spans::Span;
 use std::alloc::{AllocError, Global};
@@ -83,6 +83,7 @@ impl Space {
         ensures value { Sees (λ s. s) result (space (state_of table.now) (parts_now parts.now)) }
         ensures lawful { TellsLawful (state_of table.now) (parts_now parts.now) result }
         ensures rising { HolesRise result }
+        ensures within { IfGot result (ArePlacesUpTo parts.now.last) }
     {
         match spans(alloc, table, parts.last, &parts.partitions) {
             Ok(Seen::Got(spans)) => Seen::Got(Space { spans }),

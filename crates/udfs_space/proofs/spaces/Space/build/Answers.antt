@@ -20,16 +20,16 @@ invariant_of-result c =
     (omega (arith, many, c.requires.bounded.one), omega (arith, many, c.requires.bounded.two))
 
 pub returns-in-Ok-Got : goal.returns-in-Ok-Got
-returns-in-Ok-Got c = space_clauses (state_of c.args.table.now) (parts_now c.args.parts.now) (Got c.in-Ok-Got.spans.items)
+returns-in-Ok-Got c = space_clauses (state_of c.args.table.now) (parts_now c.args.parts.now) (Got c.in-Ok-Got.spans.items) c.requires.bounded
     (space_by (state_of c.args.table.now) (parts_now c.args.parts.now) partition_now c.deref.result.now c.args.parts.now.partitions.items _ c.deref.ensures.value refl
     (rw c.in-Ok-Got.field-0-is at c.in-Ok-Got.ensures))
 
 pub returns-in-Ok-Holes : goal.returns-in-Ok-Holes
-returns-in-Ok-Holes c = space_clauses (state_of c.args.table.now) (parts_now c.args.parts.now) (Holes c.in-Ok-Holes.listed)
+returns-in-Ok-Holes c = space_clauses (state_of c.args.table.now) (parts_now c.args.parts.now) (Holes c.in-Ok-Holes.listed) c.requires.bounded
     (space_by (state_of c.args.table.now) (parts_now c.args.parts.now) partition_now c.deref.result.now c.args.parts.now.partitions.items _ c.deref.ensures.value refl
     (rw c.in-Ok-Holes.field-0-is at c.in-Ok-Holes.ensures))
 
 pub returns-in-Ok-Fault : goal.returns-in-Ok-Fault
-returns-in-Ok-Fault c = space_clauses (state_of c.args.table.now) (parts_now c.args.parts.now) (Fault c.in-Ok-Fault.fault)
+returns-in-Ok-Fault c = space_clauses (state_of c.args.table.now) (parts_now c.args.parts.now) (Fault c.in-Ok-Fault.fault) c.requires.bounded
     (space_by (state_of c.args.table.now) (parts_now c.args.parts.now) partition_now c.deref.result.now c.args.parts.now.partitions.items _ c.deref.ensures.value refl
     (rw c.in-Ok-Fault.field-0-is at c.in-Ok-Fault.ensures))
