@@ -1,6 +1,7 @@
 pub mod Joining
 pub mod Listed
 pub mod PacketCounts
+pub mod PacketEntries
 pub mod PacketJoin
 pub mod PacketRanks
 pub mod PacketStates

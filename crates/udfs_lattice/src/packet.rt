@@ -1,11 +1,12 @@
 //! The states of 32 blocks in two masks.
-ghost use Rattle.std.specs.Prelude.{◌≡◌, ◌≢◌, ◌<◌, ◌==◌, IsOk, OnOk, OnErr, true, false};
+ghost use Rattle.std.specs.Prelude.{◌≡◌, ◌≢◌, ◌<◌, ◌==◌, [], All, IsOk, OnOk, OnErr, IfSome, IfNone, true, false};
+ghost use Rattle.std.specs.Iterator.{YieldsFirstBy, item_count};
 ghost use Rattle.std.specs.Int.{bit_at};
 ghost use Rattle.std.specs.Vec.{vec_len, vec_capacity};
-ghost use Rattle.udfs_lattice.specs.States.{fact_now, is_known, is_conflict};
-ghost use Rattle.udfs_lattice.specs.Tables.{state_of, known_count, conflict_count, empty_table, one_entry, join_tables, IsAdded, IsTableBelow};
+ghost use Rattle.udfs_lattice.specs.States.{fact_now, entry_now, is_known, is_conflict};
+ghost use Rattle.udfs_lattice.specs.Tables.{state_of, entries_of, known_count, conflict_count, empty_table, one_entry, join_tables, IsAdded, IsTableBelow};
 ghost use Rattle.udfs_lattice.specs.TableLaws.{join_tables-comm, join_tables-assoc, join_tables-idem, IsTableBelow-join_tables, join_tables-least};
-ghost use Rattle.udfs_lattice.specs.Packets.{IsPacketTable, IsSetTo, IsMaskOf, rank};
+ghost use Rattle.udfs_lattice.specs.Packets.{IsPacketTable, IsSetTo, IsMaskOf, IsFirstLeft, entries_left, rank};
 ghost use Rattle.udfs_lattice.specs.declared.facts.Fact.TheVariants.{Unknown};
 
 use crate::error::TableError;
@@ -215,6 +216,65 @@ impl Packet {
     {
         self.conflict.count_ones()
     }
+
+    /// The first block that is not unknown from a place on: its place and its state.
+    pub(crate) fn first_from(&self, at: u32) -> Option<(u32, Fact<&[u8; 2048]>)>
+        ensures some { IfSome result (λ e. IsFirstLeft self.now at (entry_now e)) }
+        ensures none { IfNone result (entries_left self.now at ≡ []) }
+    {
+        for i in at..32 {
+            match self.state(i) {
+                Fact::Unknown => {}
+                fact => return Some((i, fact)),
+            }
+        }
+        None
+    }
+
+    /// The blocks that are not unknown, ascending, each as its place, 0 to 31, and its state. It takes no
+    /// memory.
+    pub fn entries(&self) -> PacketEntries<'_>
+        ensures entries { result ≡ entries_of self.now }
+        ensures places { All (λ e. e.0 < 32) result }
+    {
+        let _ = &self.known;
+        PacketEntries {
+            packet: self,
+            at: 0,
+        }
+    }
+}
+
+/// The entries of a packet that are left.
+#[derive(Drop)]
+pub struct PacketEntries<'a> {
+    packet: &'a Packet,
+    at: u32,
+}
+
+impl<'a> Model for PacketEntries<'a> {
+    ghost use Rattle.std.specs.Prelude.{List, ℕ};
+    ghost use Rattle.udfs_lattice.specs.States.{State};
+
+    ghost Value = { List (ℕ × State) };
+
+    ghost use Rattle.udfs_lattice.specs.Packets.{entries_left};
+
+    ghost view = { λ e. entries_left e.packet.now e.at };
+}
+
+impl<'a> Iterator for PacketEntries<'a> {
+    type Item = (u32, Fact<&'a [u8; 2048]>);
+
+    ghost next_gives = { YieldsFirstBy entry_now (λ e. e) };
+
+    ghost remaining = { item_count (λ e. e) };
+
+    fn next(&mut self) -> Option<(u32, Fact<&'a [u8; 2048]>)> {
+        let (i, fact) = self.packet.first_from(self.at)?;
+        self.at = i + 1;
+        Some((i, fact))
+    }
 }
 
 impl Join for Packet {
@@ -304,6 +364,24 @@ mod tests {
         assert_eq!(rt; packet.conflict_mask(), 1 << 7 | 1 << 31);
         assert_eq!(rt; packet.conflicts(), 2);
         assert_eq!(rt; packet.known(), 0);
+        Ok(())
+    }
+
+    #[test]
+    fn lists_its_entries(rt: HostRuntime) -> Result<(), Fail> {
+        let alloc = rt.alloc();
+        let mut packet = Packet::new(alloc);
+        assert!(rt; packet.entries().next().is_none());
+        packet.add(31, Fact::Known(&[3; 2048]))?;
+        packet.add(0, Fact::Known(&[1; 2048]))?;
+        packet.add(7, Fact::Conflict)?;
+        packet.add(8, Fact::Known(&[2; 2048]))?;
+        let mut places = Vec::new(alloc);
+        for (i, fact) in packet.entries() {
+            assert!(rt; fact == packet.state(i));
+            places.push(i)?;
+        }
+        assert_eq!(rt; places.as_slice(), [0, 7, 8, 31].as_slice());
         Ok(())
     }
 
