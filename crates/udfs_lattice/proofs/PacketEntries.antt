@@ -1,6 +1,6 @@
 -- The entries of a packet are those of its places, one after the other.
 use Rattle.std.specs.Prelude.{◌≡◌, ℕ, zero, suc, ◌+◌, ◌-◌, ◌<◌, ◌≤◌, ◌==◌, Bool, true, false, cond, nat_lt, List, [], ◌∷◌, All, refl}
-use Rattle.std.proofs.Common.{sym, ap, subst, ◌∙◌, arith}
+use Rattle.std.proofs.Common.{sym, ap, ◌∙◌, arith}
 use Rattle.std.proofs.lemmas.Bool.{eqb-true, eqb-false, ltb-true, ltb-false}
 use Rattle.std.proofs.lemmas.Bool.Decides.{nat_tests}
 use Rattle.std.proofs.lemmas.List.Elements.{All-nil, All-cons}
@@ -10,7 +10,7 @@ use Rattle.udfs_lattice.specs.declared.facts.Fact.TheVariants.{Unknown, Known, C
 use Rattle.udfs_lattice.specs.States.{State, fact_now, join_of, join_of-unknown}
 use Rattle.udfs_lattice.specs.Tables.{Table, state_of, entries_of, IsTable, IsStateAt}
 use Rattle.udfs_lattice.specs.TableLaws.{same_table, state_of-empty}
-use Rattle.udfs_lattice.specs.Records.{table_of_entries, IsEntry, RisesFrom}
+use Rattle.udfs_lattice.specs.Records.{table_of_entries, RisesFrom}
 use Rattle.udfs_lattice.specs.Packets.{IsPlace, IsPacketTable, listed_at, entries_from, entries_left}
 use Rattle.udfs_lattice.proofs.EntryLaws.{state_of-cons, entries_of-rising}
 

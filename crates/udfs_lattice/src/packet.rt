@@ -1,5 +1,5 @@
 //! The states of 32 blocks in two masks.
-ghost use Rattle.std.specs.Prelude.{◌≡◌, ◌≢◌, ◌<◌, ◌==◌, [], All, IsOk, OnOk, OnErr, IfSome, IfNone, true, false};
+ghost use Rattle.std.specs.Prelude.{◌≡◌, ◌≢◌, ◌<◌, ◌==◌, [], All, IsOk, OnOk, OnErr, IfSome, IfNone, IsErrOf, true, false};
 ghost use Rattle.std.specs.Iterator.{YieldsFirstBy, item_count};
 ghost use Rattle.std.specs.Int.{bit_at};
 ghost use Rattle.std.specs.Vec.{vec_len, vec_capacity};
@@ -298,7 +298,14 @@ impl Join for Packet {
     ///
     /// `OutOfMemory` alone. Then the packet lies between the old one and the join, and the same join
     /// again, once it succeeds, gives the join.
-    fn join(&mut self, other: &Self) -> Result<(), TableError> {
+    fn join(&mut self, other: &Self) -> Result<(), TableError>
+        ensures ok { OnOk result (self.new ≡ join_tables self.old other.now) }
+        ensures error { OnErr result (IsErrOf result TableError.OutOfMemory) }
+        ensures above_old { OnErr result (IsTableBelow self.old self.new) }
+        ensures below_join { OnErr result (IsTableBelow self.new (join_tables self.old other.now)) }
+        ensures again { OnErr result (join_tables self.new other.now ≡ join_tables self.old other.now) }
+        ensures packet { IsPacketTable self.new }
+    {
         let unknown = !(self.known | self.conflict);
         let more = (other.known & unknown).count_ones();
         self.reserve(more as usize)?;

@@ -1,4 +1,4 @@
-use Rattle.std.proofs.Common.{◌∙◌, ◌≡◌, ◌≤◌, arith}
+use Rattle.std.proofs.Common.{◌∙◌, ◌≤◌, arith}
 use Rattle.udfs_lattice.specs.Packets.{entries_left}
 use Rattle.udfs_lattice.proofs.PacketEntries.{first_left, none_here, entries_left-done}
 use Rattle.udfs_lattice.proofs.packet.Packet.first_from.Goals as goal
