@@ -38,9 +38,11 @@ fn bytes_of(n: u32) -> [u8; 2048] {
     bytes
 }
 
-/// Whether a block is among the half that are known at random.
+/// Whether a block is among the half that are known at random: the last bit of the number, well mixed.
 fn is_drawn(n: u32) -> bool {
-    n.wrapping_mul(2_654_435_761) >> 16 & 1 == 1
+    let mixed = (n ^ n >> 16).wrapping_mul(0x7feb_352d);
+    let mixed = (mixed ^ mixed >> 15).wrapping_mul(0x846c_a68b);
+    (mixed ^ mixed >> 16) & 1 == 1
 }
 
 /// The table of the first `count` blocks, or of those of them that are drawn.
@@ -55,7 +57,7 @@ fn put_all(alloc: Global, count: u32, order: Order, all: bool) -> Result<BlockTa
     Ok(table)
 }
 
-/// The table of the blocks of which three stand for two, from `from` on.
+/// The table of two of each three blocks below `count`.
 fn two_of_three(alloc: Global, count: u32, left_out: u32) -> Result<BlockTable, TableError> {
     let mut table = BlockTable::new(alloc);
     for n in 0..count {
