@@ -1,7 +1,8 @@
 -- A packet: two masks and the stored blocks, as a table of the places 0 to 31.
-use Rattle.std.specs.Prelude.{◌≡◌, ℕ, zero, suc, ◌+◌, ◌-◌, ◌<◌, ◌==◌, Bool, cond, List, [], ◌∷◌, length, All, Option, None, Some, slice_index_or}
+use Rattle.std.specs.Prelude.{◌≡◌, ℕ, zero, suc, ◌+◌, ◌-◌, ◌<◌, ◌==◌, Bool, cond, List, [], ◌∷◌, length, All, Option, None, Some, slice_index_or, map}
 use Rattle.std.specs.Int.{bit_at}
 use Rattle.std.specs.FinMap as fin
+use Rattle.std.specs.Global.{Box}
 use Rattle.udfs_lattice.specs.declared.facts.Fact.TheVariants.{Unknown, Known, Conflict}
 use Rattle.udfs_lattice.specs.States.{State, IsBlock}
 use Rattle.udfs_lattice.specs.Tables.{Table, Held, state_of}
@@ -28,6 +29,10 @@ IsMaskOf test t mask = (i : ℕ) → (bit_at mask i == 1) ≡ test (state_of t i
 unfoldable pub rank : ℕ → ℕ → ℕ
 rank mask zero = 0
 rank mask (suc i) = rank mask i + bit_at mask i
+
+-- what lies in the boxes
+abbrev pub box_values : List (Box (List ℕ)) → List (List ℕ)
+box_values boxes = map (λ b. b.value) boxes
 
 -- what the masks and the stored blocks hold at bit i: the known blocks lie in the order of their bits
 abbrev pub held_at : ℕ → ℕ → List (List ℕ) → ℕ → Option Held

@@ -2,7 +2,6 @@
 ghost use Rattle.std.specs.Prelude.{◌≡◌, ◌≢◌, ◌<◌, ◌==◌, [], All, IsOk, OnOk, OnErr, IfSome, IfNone, IsErrOf, true, false};
 ghost use Rattle.std.specs.Iterator.{YieldsFirstBy, item_count};
 ghost use Rattle.std.specs.Int.{bit_at};
-ghost use Rattle.std.specs.Vec.{vec_len, vec_capacity};
 ghost use Rattle.udfs_lattice.specs.States.{fact_now, entry_now, is_known, is_conflict};
 ghost use Rattle.udfs_lattice.specs.Tables.{state_of, entries_of, known_count, conflict_count, empty_table, one_entry, join_tables, IsAdded, IsTableBelow};
 ghost use Rattle.udfs_lattice.specs.TableLaws.{join_tables-comm, join_tables-assoc, join_tables-idem, IsTableBelow-join_tables, join_tables-least};
@@ -15,13 +14,13 @@ use std::alloc::{AllocError, Global};
 use std::marker::Model;
 
 /// The states of 32 blocks, at places 0 to 31: a mask of the known blocks, a mask of those in conflict, and
-/// the bytes of the known blocks in the order of their places. No bit is in both masks, and as many
-/// blocks are stored as bits are known. A block has 2048 bytes.
+/// the bytes of the known blocks in the order of their places, one box a block. No bit is in both masks,
+/// and as many blocks are stored as bits are known. A block has 2048 bytes.
 #[derive(Drop)]
 pub struct Packet {
     known: u32,
     conflict: u32,
-    blocks: Vec<[u8; 2048]>,
+    blocks: Vec<Box<[u8; 2048]>>,
 }
 
 impl Model for Packet {
@@ -31,11 +30,11 @@ impl Model for Packet {
 
     ghost coded = { table_code };
 
-    ghost use Rattle.udfs_lattice.specs.Packets.{table_packet, IsPacket};
+    ghost use Rattle.udfs_lattice.specs.Packets.{table_packet, box_values, IsPacket};
 
-    ghost view = { λ p. table_packet p.known p.conflict p.blocks.items };
+    ghost view = { λ p. table_packet p.known p.conflict (box_values p.blocks.items) };
 
-    ghost invariant = { λ p. IsPacket p.known p.conflict p.blocks.items };
+    ghost invariant = { λ p. IsPacket p.known p.conflict (box_values p.blocks.items) };
 }
 
 fn is_set(mask: u32, i: u32) -> bool
@@ -51,20 +50,6 @@ fn rank_of(mask: u32, i: u32) -> u32
     ensures { result ≡ rank mask i }
 {
     (mask & ((1 << i) - 1)).count_ones()
-}
-
-/// Makes room for one more block, for 4, 10, 19 and at last 32 of them: a packet known by half takes
-/// little more than its blocks, and each block is moved about once on the way.
-fn make_room(blocks: &mut Vec<[u8; 2048]>) -> Result<(), AllocError>
-    ensures items { blocks.new.items ≡ blocks.old.items }
-    ensures room { OnOk result (vec_len blocks.old < 32 → vec_len blocks.new < vec_capacity blocks.new) }
-{
-    let len = blocks.len();
-    if len == blocks.capacity() {
-        let more = 4 + len / 2;
-        blocks.reserve_exact(more.min(32usize.saturating_sub(len)))?;
-    }
-    Ok(())
 }
 
 impl Packet {
@@ -87,7 +72,7 @@ impl Packet {
     {
         if is_set(self.known, i) {
             let at = rank_of(self.known, i) as usize;
-            return Fact::Known(&self.blocks[at]);
+            return Fact::Known(&*self.blocks[at]);
         }
         if is_set(self.conflict, i) {
             return Fact::Conflict;
@@ -95,7 +80,7 @@ impl Packet {
         Fact::Unknown
     }
 
-    /// Makes room for so many more blocks at once.
+    /// Makes room for the boxes of so many more blocks at once.
     fn reserve(&mut self, more: usize) -> Result<(), AllocError>
         ensures { self.new ≡ self.old }
     {
@@ -110,8 +95,8 @@ impl Packet {
         ensures err { OnErr result (self.new ≡ self.old) }
     {
         let at = rank_of(self.known, i) as usize;
-        make_room(&mut self.blocks)?;
-        self.blocks.insert(at, *bytes)?;
+        let block = Box::new(*self.blocks.allocator(), *bytes)?;
+        self.blocks.insert(at, block)?;
         self.known |= 1 << i;
         Ok(())
     }
