@@ -34,7 +34,7 @@ at_head : (s rest : State) (b : Bool) → rest ≡ Unknown → join_of (cond b s
 at_head s rest true e = ap (join_of s) e ∙ join_of-unknown s
 at_head s rest false e = refl
 
-state_of-cons : (e : ℕ × State) (es : List (ℕ × State)) (q : ℕ) → state_of (table_of_entries (e ∷ es)) q ≡ join_of (cond (q == e.0) e.1 Unknown) (state_of (table_of_entries es) q)
+pub state_of-cons : (e : ℕ × State) (es : List (ℕ × State)) (q : ℕ) → state_of (table_of_entries (e ∷ es)) q ≡ join_of (cond (q == e.0) e.1 Unknown) (state_of (table_of_entries es) q)
 state_of-cons e es q =
     state_of-join_tables (one_entry e.0 e.1) (table_of_entries es) q
     ∙ ap (λ s. join_of s (state_of (table_of_entries es) q)) (state_of-one_entry e.0 e.1 q)

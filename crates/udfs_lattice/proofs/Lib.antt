@@ -1,9 +1,12 @@
 pub mod Joining
 pub mod Listed
 pub mod PacketCounts
+pub mod PacketEntries
+pub mod PacketLists
 pub mod PacketJoin
 pub mod PacketRanks
 pub mod PacketStates
+pub mod PacketTables
 pub mod PacketWrites
 pub mod RecordLaws
 pub mod EntryLaws

@@ -10,19 +10,21 @@ use Rattle.udfs_lattice.specs.declared.facts.Fact.TheVariants.{Unknown}
 use Rattle.udfs_lattice.specs.States.{State, IsBelow, IsBelow-refl, IsBelow-trans}
 use Rattle.udfs_lattice.specs.Tables.{Table, state_of, one_entry, join_tables, IsTableBelow}
 use Rattle.udfs_lattice.specs.TableLaws.{IsTableBelow-join_tables, IsTableBelow-second, IsTableBelow-antisym, join_tables-least, join_tables-between, state_of-one_entry}
-use Rattle.udfs_lattice.specs.Packets.{rank, table_packet}
-use Rattle.udfs_lattice.proofs.PacketStates.{state_of-place, state_of-beyond, says_unknown, zero_bit, clear_bit}
+use Rattle.udfs_lattice.specs.Packets.{rank, table_packet, IsPacketTable}
+use Rattle.udfs_lattice.proofs.PacketStates.{IsPacketTable-join, IsPacketTable-place, state_of-place, state_of-beyond, says_unknown, zero_bit, clear_bit}
 
 -- the packet lies between the old one and the join, and above the other at each place below i
 pub record IsJoinedBelow (old other now : Table) (i : ℕ) : Type 0 where
   pub above_old : IsTableBelow old now
   pub below_join : IsTableBelow now (join_tables old other)
+  pub packet : IsPacketTable now
   pub absorbed : (q : ℕ) → q < i → IsBelow (state_of other q) (state_of now q)
 
-pub joined_none : (old other : Table) → IsJoinedBelow old other old 0
-joined_none old other = record {
+pub joined_none : (old other : Table) → IsPacketTable old → IsJoinedBelow old other old 0
+joined_none old other packet = record {
   above_old = λ q. IsBelow-refl (state_of old q);
   below_join = IsTableBelow-join_tables old other;
+  packet = packet;
   absorbed = λ q h. absurd (omega arith);
 }
 
@@ -48,8 +50,8 @@ below_trans t u v h k q = IsBelow-trans (state_of t q) (state_of u q) (state_of 
 absorbed_one : (i : ℕ) (s : State) (u : Table) → IsTableBelow (one_entry i s) u → IsBelow s (state_of u i)
 absorbed_one i s u h = subst (λ x. IsBelow x (state_of u i)) (state_of-one_entry i s i ∙ ap (λ b. cond b s Unknown) (eq-eqb i i refl)) (h i)
 
-pub joined_more : (old other now new : Table) (i : ℕ) (s : State) → IsJoinedBelow old other now i → s ≡ state_of other i → new ≡ join_tables now (one_entry i s) → IsJoinedBelow old other new (i + 1)
-joined_more old other now new i s h place is =
+pub joined_more : (old other now new : Table) (i : ℕ) (s : State) → IsPacketTable other → IsJoinedBelow old other now i → s ≡ state_of other i → new ≡ join_tables now (one_entry i s) → IsJoinedBelow old other new (i + 1)
+joined_more old other now new i s packet h place is =
     let step : new ≡ join_tables now (one_entry i (state_of other i)) = is ∙ ap (λ x. join_tables now (one_entry i x)) place in
     let grows : IsTableBelow now new = subst (IsTableBelow now) (sym step) (IsTableBelow-join_tables now (one_entry i (state_of other i))) in
     let has : IsTableBelow (one_entry i (state_of other i)) new = subst (IsTableBelow (one_entry i (state_of other i))) (sym step) (IsTableBelow-second now (one_entry i (state_of other i))) in
@@ -58,6 +60,7 @@ joined_more old other now new i s h place is =
       below_join = subst (λ t. IsTableBelow t (join_tables old other)) (sym step)
           (join_tables-least now (one_entry i (state_of other i)) (join_tables old other) h.below_join
           (below_trans (one_entry i (state_of other i)) other (join_tables old other) (entry_below other i) (IsTableBelow-second old other)));
+      packet = subst IsPacketTable (sym step) (IsPacketTable-join now (one_entry i (state_of other i)) h.packet (IsPacketTable-place other i packet));
       absorbed = λ q near. ⊎_elim
           (λ lt. IsBelow-trans (state_of other q) (state_of now q) (state_of new q) (h.absorbed q lt) (grows q))
           (λ ge. subst (λ k. IsBelow (state_of other k) (state_of new k)) (sym (at_or_below q i near (not_less q i ge))) (absorbed_one i (state_of other i) new has))
@@ -69,6 +72,7 @@ pub joined_skip : (old other now : Table) (i : ℕ) → IsJoinedBelow old other 
 joined_skip old other now i h none = record {
   above_old = h.above_old;
   below_join = h.below_join;
+  packet = h.packet;
   absorbed = λ q near. ⊎_elim
       (λ lt. h.absorbed q lt)
       (λ ge. subst (λ k. IsBelow (state_of other k) (state_of now k)) (sym (at_or_below q i near (not_less q i ge))) (subst (λ s. IsBelow s (state_of now i)) (sym none) tt))

@@ -1,17 +1,19 @@
 -- The states of a packet, read off its masks and stored blocks.
 use Rattle.std.specs.Prelude.{◌≡◌, ℕ, zero, suc, ◌^◌, ◌<◌, ◌≤◌, ◌==◌, Bool, true, false, cond, List, [], length, All, Option, None, Some, slice_index_or, nat_lt, refl}
 use Rattle.std.specs.Int.{bit_at}
+use Rattle.std.specs.Global.{Box}
+use Rattle.std.specs.Str.{bytes_eq}
 use Rattle.std.proofs.Common.{sym, ap, subst, ◌∙◌, arith, ⊎_elim}
 use Rattle.std.proofs.lemmas.Nat.Bits.{bit_at-lt, bit_at-zero, bit_at_above}
-use Rattle.std.proofs.lemmas.List.{get_or_default}
+use Rattle.std.proofs.lemmas.List.{length-map, get_or-map}
 use Rattle.std.proofs.lemmas.List.Elements.{All-nil, All-get_or}
 use Rattle.std.proofs.lemmas.Bool.{eqb-true, eqb-false, ltb-true, ltb-false, lt-ltb, cases_lt}
 use Rattle.std.proofs.lemmas.Bool.Decides.{nat_tests}
 use Rattle.udfs_lattice.specs.declared.facts.Fact.TheVariants.{Unknown, Known, Conflict}
-use Rattle.udfs_lattice.specs.States.{State, IsBlock, is_known, is_conflict}
-use Rattle.udfs_lattice.specs.Tables.{Table, Held, fact_found, state_of, empty_table}
-use Rattle.udfs_lattice.specs.TableLaws.{state_of-insert, state_of-empty, same_table}
-use Rattle.udfs_lattice.specs.Packets.{rank, held_at, add_found, table_below, table_packet, IsPacket, IsPlace, IsPacketTable, IsMaskOf}
+use Rattle.udfs_lattice.specs.States.{State, IsBlock, is_known, is_conflict, join_of}
+use Rattle.udfs_lattice.specs.Tables.{Table, Held, fact_found, state_of, empty_table, one_entry, join_tables, IsStateAt}
+use Rattle.udfs_lattice.specs.TableLaws.{state_of-insert, state_of-empty, state_of-join_tables, state_of-one_entry, same_table}
+use Rattle.udfs_lattice.specs.Packets.{rank, held_at, add_found, table_below, table_packet, box_values, IsPacket, IsPlace, IsPacketTable, IsMaskOf}
 use Rattle.udfs_lattice.proofs.PacketRanks.{rank_below}
 
 none_at : (t : Table) (n q : ℕ) → state_of t n ≡ Unknown → (b : Bool) → (q == n) ≡ b → state_of t q ≡ cond b Unknown (state_of t q)
@@ -185,6 +187,41 @@ packet-none bs = same_table (table_packet 0 0 bs) empty_table (λ i.
     ∙ either_one (nat_lt i 32) Unknown
     ∙ sym (state_of-empty i))
 
--- what an index into the stored blocks reads
-pub stored_read : (bs : List (List ℕ)) (i r : ℕ) (x : List ℕ) → i ≡ r → r < length bs → x ≡ slice_index_or bs i x → slice_index_or bs r [] ≡ x
-stored_read bs i r x e h is = get_or_default bs r [] x h ∙ ap (λ k. slice_index_or bs k x) (sym e) ∙ sym is
+-- where the box of a known bit lies
+pub boxed_below : (k c : ℕ) (boxes : List (Box (List ℕ))) (i : ℕ) → IsPacket k c (box_values boxes) → i < 32 → (bit_at k i == 1) ≡ true → rank k i < length boxes
+boxed_below k c boxes i p h set = subst (λ n. rank k i < n) (length-map boxes (λ b. b.value)) (stored_below k c (box_values boxes) i p h set)
+
+-- what an index into the boxes reads
+pub stored_read : (boxes : List (Box (List ℕ))) (i r : ℕ) (x : Box (List ℕ)) → i ≡ r → r < length boxes → x ≡ slice_index_or boxes i x → slice_index_or (box_values boxes) r [] ≡ x.value
+stored_read boxes i r x e h is = get_or-map (λ b. b.value) boxes r x [] h ∙ ap (λ k. (slice_index_or boxes k x).value) (sym e) ∙ sym (ap (λ b. b.value) is)
+
+-- ---- what makes a packet that there is
+pub IsPlace-join_of : (i : ℕ) (x y : State) → IsPlace i x → IsPlace i y → IsPlace i (join_of x y)
+IsPlace-join_of i Unknown y p q = q
+IsPlace-join_of i (Known a) Unknown p q = p
+IsPlace-join_of i (Known a) (Known b) p q = elim (bytes_eq a b) as (λ r. IsPlace i (cond r (Known a) Conflict)) [ true ↦ p | false ↦ p.0 ]
+IsPlace-join_of i (Known a) Conflict p q = q
+IsPlace-join_of i Conflict y p q = p
+
+pub IsPacketTable-join : (t u : Table) → IsPacketTable t → IsPacketTable u → IsPacketTable (join_tables t u)
+IsPacketTable-join t u p q i = subst (IsPlace i) (sym (state_of-join_tables t u i)) (IsPlace-join_of i (state_of t i) (state_of u i) (p i) (q i))
+
+pub IsPacketTable-empty : IsPacketTable empty_table
+IsPacketTable-empty i = subst (IsPlace i) (sym (state_of-empty i)) tt
+
+-- a block's state at its place
+at_place : (n i : ℕ) (s : State) → i < 32 → IsStateAt n s → IsPlace i s
+at_place n i Unknown small h = tt
+at_place n i (Known bytes) small h = (small, h.1)
+at_place n i Conflict small h = small
+
+one_place : (i : ℕ) (s : State) (q : ℕ) (b : Bool) → IsPlace i s → (q == i) ≡ b → IsPlace q (cond b s Unknown)
+one_place i s q true h is = subst (λ k. IsPlace k s) (sym (eqb-true q i is)) h
+one_place i s q false h is = tt
+
+pub IsPacketTable-one : (n i : ℕ) (s : State) → i < 32 → IsStateAt n s → IsPacketTable (one_entry i s)
+IsPacketTable-one n i s small h q = subst (IsPlace q) (sym (state_of-one_entry i s q)) (one_place i s q (q == i) (at_place n i s small h) refl)
+
+-- one block of a packet
+pub IsPacketTable-place : (t : Table) (i : ℕ) → IsPacketTable t → IsPacketTable (one_entry i (state_of t i))
+IsPacketTable-place t i h q = subst (IsPlace q) (sym (state_of-one_entry i (state_of t i) q)) (one_place i (state_of t i) q (q == i) (h i) refl)

@@ -1,17 +1,19 @@
 -- A packet after its bytes of one block are stored or given up, and after a block is put into conflict.
-use Rattle.std.specs.Prelude.{◌≡◌, ◌≢◌, ℕ, suc, ◌+◌, ◌*◌, ◌^◌, ◌%◌, ◌<◌, ◌≤◌, ◌==◌, Bool, true, false, cond, List, [], ◌∷◌, length, Option, None, Some, slice_index_or, nat_lt, insert, take, drop, bit_or, bit_and, refl}
+use Rattle.std.specs.Prelude.{◌≡◌, ◌≢◌, ℕ, suc, ◌+◌, ◌*◌, ◌^◌, ◌%◌, ◌<◌, ◌≤◌, ◌==◌, Bool, true, false, cond, List, [], ◌∷◌, ◌++◌, length, Option, None, Some, slice_index_or, nat_lt, insert, take, drop, bit_or, bit_and, refl}
 use Rattle.std.specs.List.{remove}
+use Rattle.std.specs.Global.{Box}
 use Rattle.std.specs.Int.{bit_at, bit_not}
 use Rattle.std.proofs.Common.{sym, ap, subst, ◌∙◌, arith, ⊎_elim, w32}
 use Rattle.std.proofs.lemmas.Bool.{eq-eqb, eqb-true, eqb-false, ltb-true, cases_lt}
 use Rattle.std.proofs.lemmas.Grind.{get_or_default_zero}
 use Rattle.std.proofs.lemmas.Nat.Bits.{bit_at_set_other, bit_at_set_same, bit_at_clear_other, bit_at_clear_same}
+use Rattle.std.proofs.lemmas.List.{length-map, map-append, take-map, drop-map}
 use Rattle.std.proofs.lemmas.List.Edits.{length-insert, length-remove, get_or-insert_below, get_or-insert_at, get_or-insert_above, get_or-remove_below, get_or-remove_above}
 use Rattle.std.proofs.lemmas.List.Elements.{All-append, All-cons, All-take, All-drop}
 use Rattle.udfs_lattice.specs.declared.facts.Fact.TheVariants.{Unknown, Known, Conflict}
 use Rattle.udfs_lattice.specs.States.{State, IsBlock, is_known, join_of, join_of-comm}
 use Rattle.udfs_lattice.specs.Tables.{Table, Held, fact_found, state_of, IsAdded}
-use Rattle.udfs_lattice.specs.Packets.{rank, held_at, table_packet, IsPacket, IsSetTo}
+use Rattle.udfs_lattice.specs.Packets.{rank, held_at, table_packet, box_values, IsPacket, IsSetTo}
 use Rattle.udfs_lattice.proofs.PacketRanks.{HasAlso, rank_below, rank_same, rank_more, rank_up}
 use Rattle.udfs_lattice.proofs.PacketStates.{state_of-packet, state_of-place, stored_below, is_known-bit, zero_bit, clear_bit, set_bit, bits_say, says_known, says_conflict, says_unknown}
 
@@ -175,6 +177,31 @@ marks k c bs t b p view small not_known =
     (IsPacket-marked k c (bit_or c (1 * 2 ^ b % 2 ^ 32)) b bs p clear (λ j ne. bit_at_set_other w32 c b small j ne))
     (λ j near ne. ap (λ x. cond (bit_at k j == 1) (Some (Some (slice_index_or bs (rank k j) []))) (cond (x == 1) (Some None) None)) (bit_at_set_other w32 c b small j ne))
     (says_conflict (bit_at k b == 1) (bit_at (bit_or c (1 * 2 ^ b % 2 ^ 32)) b == 1) (slice_index_or bs (rank k b) []) test (set_bit (bit_or c (1 * 2 ^ b % 2 ^ 32)) b (bit_at_set_same w32 c b small)))
+
+-- ---- the boxes
+box_values-insert : (boxes : List (Box (List ℕ))) (at : ℕ) (b : Box (List ℕ)) → box_values (insert boxes at b) ≡ insert (box_values boxes) at b.value
+box_values-insert boxes at b =
+    map-append (λ b. b.value) (take at boxes) (b ∷ drop at boxes)
+    ∙ ap (λ l. l ++ b.value ∷ box_values (drop at boxes)) (sym (take-map (λ b. b.value) at boxes))
+    ∙ ap (λ l. take at (box_values boxes) ++ b.value ∷ l) (sym (drop-map (λ b. b.value) at boxes))
+
+box_values-remove : (boxes : List (Box (List ℕ))) (at : ℕ) → box_values (remove boxes at) ≡ remove (box_values boxes) at
+box_values-remove boxes at =
+    map-append (λ b. b.value) (take at boxes) (drop (suc at) boxes)
+    ∙ ap (λ l. l ++ box_values (drop (suc at) boxes)) (sym (take-map (λ b. b.value) at boxes))
+    ∙ ap (λ l. take at (box_values boxes) ++ l) (sym (drop-map (λ b. b.value) (suc at) boxes))
+
+-- where a box goes fits
+pub boxed_fits : (k c b : ℕ) (boxes : List (Box (List ℕ))) → IsPacket k c (box_values boxes) → b < 32 → rank k b ≤ length boxes
+boxed_fits k c b boxes p small = subst (λ n. rank k b ≤ n) (length-map boxes (λ b. b.value)) (stored_fits k c b (box_values boxes) p small)
+
+-- a box put in
+pub boxes_stored : (boxes boxes' : List (Box (List ℕ))) (at : ℕ) (b : Box (List ℕ)) (x : List ℕ) → b.value ≡ x → boxes' ≡ insert boxes at b → box_values boxes' ≡ insert (box_values boxes) at x
+boxes_stored boxes boxes' at b x same is = ap box_values is ∙ box_values-insert boxes at b ∙ ap (insert (box_values boxes) at) same
+
+-- a box taken out
+pub boxes_left : (boxes boxes' : List (Box (List ℕ))) (at : ℕ) → boxes' ≡ remove boxes at → box_values boxes' ≡ remove (box_values boxes) at
+boxes_left boxes boxes' at is = ap box_values is ∙ box_values-remove boxes at
 
 -- what the type of an array of 2048 bytes tells
 pub IsBlock-from_array : (xs : List ℕ) → length xs ≡ 2048 → ((i : ℕ) → slice_index_or xs i 0 < 256) → IsBlock xs

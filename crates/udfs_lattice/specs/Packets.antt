@@ -1,7 +1,8 @@
 -- A packet: two masks and the stored blocks, as a table of the places 0 to 31.
-use Rattle.std.specs.Prelude.{◌≡◌, ℕ, zero, suc, ◌+◌, ◌<◌, ◌==◌, Bool, cond, List, [], length, All, Option, None, Some, slice_index_or}
+use Rattle.std.specs.Prelude.{◌≡◌, ℕ, zero, suc, ◌+◌, ◌-◌, ◌<◌, ◌==◌, Bool, cond, List, [], ◌∷◌, length, All, Option, None, Some, slice_index_or, map}
 use Rattle.std.specs.Int.{bit_at}
 use Rattle.std.specs.FinMap as fin
+use Rattle.std.specs.Global.{Box}
 use Rattle.udfs_lattice.specs.declared.facts.Fact.TheVariants.{Unknown, Known, Conflict}
 use Rattle.udfs_lattice.specs.States.{State, IsBlock}
 use Rattle.udfs_lattice.specs.Tables.{Table, Held, state_of}
@@ -29,6 +30,10 @@ unfoldable pub rank : ℕ → ℕ → ℕ
 rank mask zero = 0
 rank mask (suc i) = rank mask i + bit_at mask i
 
+-- what lies in the boxes
+abbrev pub box_values : List (Box (List ℕ)) → List (List ℕ)
+box_values boxes = map (λ b. b.value) boxes
+
 -- what the masks and the stored blocks hold at bit i: the known blocks lie in the order of their bits
 abbrev pub held_at : ℕ → ℕ → List (List ℕ) → ℕ → Option Held
 held_at known conflict blocks i =
@@ -52,3 +57,22 @@ pub record IsPacket (known conflict : ℕ) (blocks : List (List ℕ)) : Type 0 w
   pub apart : (i : ℕ) → i < 32 → bit_at known i ≡ 1 → bit_at conflict i ≡ 0
   pub stored : length blocks ≡ rank known 32
   pub whole : All IsBlock blocks
+
+-- an entry in front of others, where the state is not Unknown
+abbrev pub listed_at : ℕ → State → List (ℕ × State) → List (ℕ × State)
+listed_at i Unknown rest = rest
+listed_at i (Known bytes) rest = (i, Known bytes) ∷ rest
+listed_at i Conflict rest = (i, Conflict) ∷ rest
+
+-- the entries of so many places from place i on
+unfoldable pub entries_from : Table → ℕ → ℕ → List (ℕ × State)
+entries_from t i zero = []
+entries_from t i (suc m) = listed_at i (state_of t i) (entries_from t (i + 1) m)
+
+-- the entries from place i of a packet on
+abbrev pub entries_left : Table → ℕ → List (ℕ × State)
+entries_left t i = entries_from t i (32 - i)
+
+-- this is the first entry from place i on, and the others are those after its place
+abbrev pub IsFirstLeft : Table → ℕ → ℕ × State → Type 0
+IsFirstLeft t i e = (e.0 < 32) × (entries_left t i ≡ e ∷ entries_left t (e.0 + 1))

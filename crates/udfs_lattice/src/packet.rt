@@ -1,11 +1,11 @@
 //! The states of 32 blocks in two masks.
-ghost use Rattle.std.specs.Prelude.{◌≡◌, ◌≢◌, ◌<◌, ◌==◌, IsOk, OnOk, OnErr, true, false};
+ghost use Rattle.std.specs.Prelude.{◌≡◌, ◌≢◌, ◌<◌, ◌==◌, [], All, IsOk, OnOk, OnErr, IfSome, IfNone, IsErrOf, true, false};
+ghost use Rattle.std.specs.Iterator.{YieldsFirstBy, item_count};
 ghost use Rattle.std.specs.Int.{bit_at};
-ghost use Rattle.std.specs.Vec.{vec_len, vec_capacity};
-ghost use Rattle.udfs_lattice.specs.States.{fact_now, is_known, is_conflict};
-ghost use Rattle.udfs_lattice.specs.Tables.{state_of, known_count, conflict_count, empty_table, one_entry, join_tables, IsAdded, IsTableBelow};
+ghost use Rattle.udfs_lattice.specs.States.{fact_now, entry_now, is_known, is_conflict};
+ghost use Rattle.udfs_lattice.specs.Tables.{state_of, entries_of, known_count, conflict_count, empty_table, one_entry, join_tables, IsAdded, IsTableBelow};
 ghost use Rattle.udfs_lattice.specs.TableLaws.{join_tables-comm, join_tables-assoc, join_tables-idem, IsTableBelow-join_tables, join_tables-least};
-ghost use Rattle.udfs_lattice.specs.Packets.{IsPacketTable, IsSetTo, IsMaskOf, rank};
+ghost use Rattle.udfs_lattice.specs.Packets.{IsPacketTable, IsSetTo, IsMaskOf, IsFirstLeft, entries_left, rank};
 ghost use Rattle.udfs_lattice.specs.declared.facts.Fact.TheVariants.{Unknown};
 
 use crate::error::TableError;
@@ -14,13 +14,13 @@ use std::alloc::{AllocError, Global};
 use std::marker::Model;
 
 /// The states of 32 blocks, at places 0 to 31: a mask of the known blocks, a mask of those in conflict, and
-/// the bytes of the known blocks in the order of their places. No bit is in both masks, and as many
-/// blocks are stored as bits are known. A block has 2048 bytes.
+/// the bytes of the known blocks in the order of their places, one box a block. No bit is in both masks,
+/// and as many blocks are stored as bits are known. A block has 2048 bytes.
 #[derive(Drop)]
 pub struct Packet {
     known: u32,
     conflict: u32,
-    blocks: Vec<[u8; 2048]>,
+    blocks: Vec<Box<[u8; 2048]>>,
 }
 
 impl Model for Packet {
@@ -30,11 +30,11 @@ impl Model for Packet {
 
     ghost coded = { table_code };
 
-    ghost use Rattle.udfs_lattice.specs.Packets.{table_packet, IsPacket};
+    ghost use Rattle.udfs_lattice.specs.Packets.{table_packet, box_values, IsPacket};
 
-    ghost view = { λ p. table_packet p.known p.conflict p.blocks.items };
+    ghost view = { λ p. table_packet p.known p.conflict (box_values p.blocks.items) };
 
-    ghost invariant = { λ p. IsPacket p.known p.conflict p.blocks.items };
+    ghost invariant = { λ p. IsPacket p.known p.conflict (box_values p.blocks.items) };
 }
 
 fn is_set(mask: u32, i: u32) -> bool
@@ -50,20 +50,6 @@ fn rank_of(mask: u32, i: u32) -> u32
     ensures { result ≡ rank mask i }
 {
     (mask & ((1 << i) - 1)).count_ones()
-}
-
-/// Makes room for one more block, for 4, 10, 19 and at last 32 of them: a packet known by half takes
-/// little more than its blocks, and each block is moved about once on the way.
-fn make_room(blocks: &mut Vec<[u8; 2048]>) -> Result<(), AllocError>
-    ensures items { blocks.new.items ≡ blocks.old.items }
-    ensures room { OnOk result (vec_len blocks.old < 32 → vec_len blocks.new < vec_capacity blocks.new) }
-{
-    let len = blocks.len();
-    if len == blocks.capacity() {
-        let more = 4 + len / 2;
-        blocks.reserve_exact(more.min(32usize.saturating_sub(len)))?;
-    }
-    Ok(())
 }
 
 impl Packet {
@@ -86,7 +72,7 @@ impl Packet {
     {
         if is_set(self.known, i) {
             let at = rank_of(self.known, i) as usize;
-            return Fact::Known(&self.blocks[at]);
+            return Fact::Known(&*self.blocks[at]);
         }
         if is_set(self.conflict, i) {
             return Fact::Conflict;
@@ -94,7 +80,7 @@ impl Packet {
         Fact::Unknown
     }
 
-    /// Makes room for so many more blocks at once.
+    /// Makes room for the boxes of so many more blocks at once.
     fn reserve(&mut self, more: usize) -> Result<(), AllocError>
         ensures { self.new ≡ self.old }
     {
@@ -109,8 +95,8 @@ impl Packet {
         ensures err { OnErr result (self.new ≡ self.old) }
     {
         let at = rank_of(self.known, i) as usize;
-        make_room(&mut self.blocks)?;
-        self.blocks.insert(at, *bytes)?;
+        let block = Box::new(*self.blocks.allocator(), *bytes)?;
+        self.blocks.insert(at, block)?;
         self.known |= 1 << i;
         Ok(())
     }
@@ -215,6 +201,65 @@ impl Packet {
     {
         self.conflict.count_ones()
     }
+
+    /// The first block that is not unknown from a place on: its place and its state.
+    pub(crate) fn first_from(&self, at: u32) -> Option<(u32, Fact<&[u8; 2048]>)>
+        ensures some { IfSome result (λ e. IsFirstLeft self.now at (entry_now e)) }
+        ensures none { IfNone result (entries_left self.now at ≡ []) }
+    {
+        for i in at..32 {
+            match self.state(i) {
+                Fact::Unknown => {}
+                fact => return Some((i, fact)),
+            }
+        }
+        None
+    }
+
+    /// The blocks that are not unknown, ascending, each as its place, 0 to 31, and its state. It takes no
+    /// memory.
+    pub fn entries(&self) -> PacketEntries<'_>
+        ensures entries { result ≡ entries_of self.now }
+        ensures places { All (λ e. e.0 < 32) result }
+    {
+        let _ = &self.known;
+        PacketEntries {
+            packet: self,
+            at: 0,
+        }
+    }
+}
+
+/// The entries of a packet that are left.
+#[derive(Drop)]
+pub struct PacketEntries<'a> {
+    packet: &'a Packet,
+    at: u32,
+}
+
+impl<'a> Model for PacketEntries<'a> {
+    ghost use Rattle.std.specs.Prelude.{List, ℕ};
+    ghost use Rattle.udfs_lattice.specs.States.{State};
+
+    ghost Value = { List (ℕ × State) };
+
+    ghost use Rattle.udfs_lattice.specs.Packets.{entries_left};
+
+    ghost view = { λ e. entries_left e.packet.now e.at };
+}
+
+impl<'a> Iterator for PacketEntries<'a> {
+    type Item = (u32, Fact<&'a [u8; 2048]>);
+
+    ghost next_gives = { YieldsFirstBy entry_now (λ e. e) };
+
+    ghost remaining = { item_count (λ e. e) };
+
+    fn next(&mut self) -> Option<(u32, Fact<&'a [u8; 2048]>)> {
+        let (i, fact) = self.packet.first_from(self.at)?;
+        self.at = i + 1;
+        Some((i, fact))
+    }
 }
 
 impl Join for Packet {
@@ -238,7 +283,14 @@ impl Join for Packet {
     ///
     /// `OutOfMemory` alone. Then the packet lies between the old one and the join, and the same join
     /// again, once it succeeds, gives the join.
-    fn join(&mut self, other: &Self) -> Result<(), TableError> {
+    fn join(&mut self, other: &Self) -> Result<(), TableError>
+        ensures ok { OnOk result (self.new ≡ join_tables self.old other.now) }
+        ensures error { OnErr result (IsErrOf result TableError.OutOfMemory) }
+        ensures above_old { OnErr result (IsTableBelow self.old self.new) }
+        ensures below_join { OnErr result (IsTableBelow self.new (join_tables self.old other.now)) }
+        ensures again { OnErr result (join_tables self.new other.now ≡ join_tables self.old other.now) }
+        ensures packet { IsPacketTable self.new }
+    {
         let unknown = !(self.known | self.conflict);
         let more = (other.known & unknown).count_ones();
         self.reserve(more as usize)?;
@@ -304,6 +356,24 @@ mod tests {
         assert_eq!(rt; packet.conflict_mask(), 1 << 7 | 1 << 31);
         assert_eq!(rt; packet.conflicts(), 2);
         assert_eq!(rt; packet.known(), 0);
+        Ok(())
+    }
+
+    #[test]
+    fn lists_its_entries(rt: HostRuntime) -> Result<(), Fail> {
+        let alloc = rt.alloc();
+        let mut packet = Packet::new(alloc);
+        assert!(rt; packet.entries().next().is_none());
+        packet.add(31, Fact::Known(&[3; 2048]))?;
+        packet.add(0, Fact::Known(&[1; 2048]))?;
+        packet.add(7, Fact::Conflict)?;
+        packet.add(8, Fact::Known(&[2; 2048]))?;
+        let mut places = Vec::new(alloc);
+        for (i, fact) in packet.entries() {
+            assert!(rt; fact == packet.state(i));
+            places.push(i)?;
+        }
+        assert_eq!(rt; places.as_slice(), [0, 7, 8, 31].as_slice());
         Ok(())
     }
 

@@ -1,17 +1,17 @@
 //! The table of the blocks of a volume.
-ghost use Rattle.std.specs.Prelude.{◌≡◌, ◌≢◌, ◌≤◌, ◌<◌, ◌↔◌, ℕ, List, length, IsOk, OnOk, OnErr, IfOk, IsErrOf, if◌then◌else◌};
-ghost use Rattle.std.specs.Prelude.{count_by};
-ghost use Rattle.std.specs.Ordering.{nat_cmp};
-ghost use Rattle.std.specs.BTreeMap.{values, IsOrdered};
+ghost use Rattle.std.specs.Prelude.{◌≡◌, ◌≢◌, ◌≤◌, ◌<◌, ◌↔◌, ◌^◌, ℕ, List, [], length, sum_by, All, IsOk, OnOk, OnErr, IfSome, IfNone, IsErrOf};
+ghost use Rattle.std.specs.BTreeMap.{values};
 ghost use Rattle.std.specs.Iterator.{YieldsFirstBy, item_count};
-ghost use Rattle.udfs_lattice.specs.States.{IsBelow, join_of, fact_now, entry_now};
-ghost use Rattle.udfs_lattice.specs.Kept.{fact_kept, fact_lookup, is_kept_known, is_kept_conflict};
-ghost use Rattle.udfs_lattice.specs.Tables.{state_of, entries_of, known_count, conflict_count, empty_table, one_record, one_entry, join_tables, IsAdded, IsStateAt, IsTable, IsTableBelow};
+ghost use Rattle.udfs_lattice.specs.States.{fact_now, entry_now};
+ghost use Rattle.udfs_lattice.specs.Tables.{state_of, entries_of, known_count, conflict_count, empty_table, one_record, one_entry, join_tables, IsStateAt, IsTable, IsTableBelow};
 ghost use Rattle.udfs_lattice.specs.TableLaws.{join_tables-comm, join_tables-assoc, join_tables-idem, IsTableBelow-join_tables, join_tables-least};
+ghost use Rattle.udfs_lattice.specs.Packets.{IsPacketTable};
+ghost use Rattle.udfs_lattice.specs.PacketTables.{one_packet, IsUnknownPacket, IsFound, packet_entries};
 ghost use Rattle.udfs_lattice.specs.declared.facts.Fact.TheVariants.{Unknown};
 
 use crate::error::TableError;
 use crate::facts::{Fact, Join};
+use crate::packet::Packet;
 use std::alloc::{AllocError, Global};
 use std::collections::BTreeMap;
 use std::collections::btree_map::Iter;
@@ -20,92 +20,26 @@ use std::marker::Model;
 /// The greatest block number.
 pub const LAST_BLOCK: u32 = 4_194_303;
 
-/// What is kept of a block that is not unknown.
-#[derive(Drop)]
-enum Kept {
-    Known(Box<[u8; 2048]>),
-    Conflict,
-}
-
-impl Kept {
-    /// `None` for what is unknown.
-    fn new(alloc: Global, fact: Fact<&[u8; 2048]>) -> Result<Option<Kept>, AllocError>
-        ensures { IfOk result (λ kept. fact_lookup kept ≡ fact_now fact.entry) }
-    {
-        match fact {
-            Fact::Unknown => Ok(None),
-            Fact::Known(bytes) => Ok(Some(Kept::Known(Box::new(alloc, *bytes)?))),
-            Fact::Conflict => Ok(Some(Kept::Conflict)),
-        }
-    }
-
-    fn fact(&self) -> Fact<&[u8; 2048]>
-        ensures { fact_now result ≡ fact_kept self.now }
-    {
-        match self {
-            Kept::Known(bytes) => Fact::Known(&**bytes),
-            Kept::Conflict => Fact::Conflict,
-        }
-    }
-
-    fn is_known(&self) -> bool
-        ensures { result ≡ is_kept_known self.now }
-    {
-        matches!(self, Kept::Known(_))
-    }
-
-    fn is_conflict(&self) -> bool
-        ensures { result ≡ is_kept_conflict self.now }
-    {
-        matches!(self, Kept::Conflict)
-    }
-
-    fn differs(&self, bytes: &[u8; 2048]) -> bool
-        ensures { (if result then Fact.Conflict else fact_kept self.now)
-            ≡ join_of (fact_kept self.now) (Fact.Known bytes.now) }
-    {
-        match self {
-            Kept::Known(mine) => **mine != *bytes,
-            Kept::Conflict => false,
-        }
-    }
-
-    /// Gives up its bytes where the two differ, and takes no memory.
-    fn add(&mut self, fact: Fact<&[u8; 2048]>)
-        ensures { fact_kept self.new ≡ join_of (fact_kept self.old) (fact_now fact.entry) }
-    {
-        match fact {
-            Fact::Unknown => {}
-            Fact::Known(bytes) => {
-                if self.differs(bytes) {
-                    *self = Kept::Conflict;
-                }
-            }
-            Fact::Conflict => *self = Kept::Conflict,
-        }
-    }
-}
-
-/// What is known of each block of a volume: a map from block numbers 0 to [`LAST_BLOCK`] to the states
-/// known and in conflict. A block that is not in it is unknown. A block has 2048 bytes.
+/// What is known of each block of a volume: the states of the blocks 0 to [`LAST_BLOCK`], in packets of 32
+/// blocks, of which those stand in a map that have a block that is not unknown. A block has 2048 bytes.
 #[derive(Drop)]
 pub struct BlockTable {
-    blocks: BTreeMap<u32, Kept>,
+    packets: BTreeMap<u32, Packet>,
     alloc: Global,
 }
 
 impl Model for BlockTable {
-    ghost use Rattle.udfs_lattice.specs.Tables.{Table, table_code, IsTable};
+    ghost use Rattle.udfs_lattice.specs.Tables.{Table, table_code};
 
     ghost Value = { Table };
 
     ghost coded = { table_code };
 
-    ghost use Rattle.udfs_lattice.specs.Kept.{table_kept};
+    ghost use Rattle.udfs_lattice.specs.PacketTables.{table_packets, IsPacketMap};
 
-    ghost view = { λ a. table_kept a.blocks.entries };
+    ghost view = { λ a. table_packets a.packets.entries };
 
-    ghost invariant = { λ a. IsTable (table_kept a.blocks.entries) };
+    ghost invariant = { λ a. IsPacketMap a.packets };
 }
 
 impl BlockTable {
@@ -114,50 +48,70 @@ impl BlockTable {
         ensures { result ≡ empty_table }
     {
         BlockTable {
-            blocks: BTreeMap::new(alloc),
+            packets: BTreeMap::new(alloc),
             alloc,
         }
     }
 
     /// The state of block `n`, unknown above [`LAST_BLOCK`]. It takes no memory.
-    #[tactic(auto, using(crate::specs::KeptRules::kept_rules))]
     pub fn state(&self, n: u32) -> Fact<&[u8; 2048]>
         ensures state { fact_now result ≡ state_of self.now n }
         ensures table { IsTable self.now }
     {
-        match self.blocks.get(&n) {
-            Some(kept) => kept.fact(),
+        match self.packets.get(&(n / 32)) {
+            Some(packet) => packet.state(n % 32),
             None => Fact::Unknown,
         }
     }
 
     /// Joins a state to that of a block.
     fn enter(&mut self, n: u32, fact: Fact<&[u8; 2048]>) -> Result<(), AllocError>
-        requires { IsStateAt n (fact_now fact) }
-        ensures ok { OnOk result (IsAdded self.old n (fact_now fact.entry) self.new) }
+        requires number { n ≤ 4194303 }
+        requires block { IsStateAt n (fact_now fact) }
+        ensures ok { OnOk result (self.new ≡ join_tables self.old (one_entry n (fact_now fact.entry))) }
         ensures err { OnErr result (self.new ≡ self.old) }
         ensures no_memory { state_of self.old n ≢ Unknown → IsOk result }
     {
-        match self.blocks.get_mut(&n) {
-            Some(kept) => {
-                kept.add(fact);
-                Ok(())
+        match self.packets.get_mut(&(n / 32)) {
+            Some(packet) => packet.add(n % 32, fact),
+            None => {
+                let mut packet = Packet::new(self.alloc);
+                packet.add(n % 32, fact)?;
+                self.insert(n / 32, packet)
             }
-            None => self.enter_new(n, fact),
         }
     }
 
-    fn enter_new(&mut self, n: u32, fact: Fact<&[u8; 2048]>) -> Result<(), AllocError>
-        requires number { IsStateAt n (fact_now fact) }
-        requires unknown { state_of self.old n ≡ Unknown }
-        ensures ok { OnOk result (IsAdded self.old n (fact_now fact.entry) self.new) }
+    /// Puts in a packet, where there is none of its number.
+    fn insert(&mut self, number: u32, packet: Packet) -> Result<(), AllocError>
+        requires number { number < 131072 }
+        requires packet { IsPacketTable packet }
+        requires missing { IsUnknownPacket self.old number }
+        ensures ok { OnOk result (self.new ≡ join_tables self.old (one_packet number packet)) }
         ensures err { OnErr result (self.new ≡ self.old) }
     {
-        let Some(kept) = Kept::new(self.alloc, fact)? else {
-            return Ok(());
-        };
-        self.blocks.insert(n, kept)?;
+        self.packets.insert(number, packet)?;
         Ok(())
+    }
+
+    /// Joins a packet to the one of its number.
+    fn join_packet(&mut self, number: u32, theirs: &Packet) -> Result<(), TableError>
+        requires number { number < 131072 }
+        requires packet { IsPacketTable theirs.now }
+        ensures ok { OnOk result (self.new ≡ join_tables self.old (one_packet number theirs.now)) }
+        ensures error { OnErr result (IsErrOf result TableError.OutOfMemory) }
+        ensures above_old { OnErr result (IsTableBelow self.old self.new) }
+        ensures below_join { OnErr result (IsTableBelow self.new (join_tables self.old (one_packet number theirs.now))) }
+    {
+        match self.packets.get_mut(&number) {
+            Some(packet) => packet.join(theirs),
+            None => {
+                let mut packet = Packet::new(self.alloc);
+                packet.join(theirs)?;
+                self.insert(number, packet)?;
+                Ok(())
+            }
+        }
     }
 
     /// Joins a state to that of block `n`, as [`put`](Self::put) does the bytes of one reading. With
@@ -209,14 +163,14 @@ impl BlockTable {
     pub fn known(&self) -> u32
         ensures { result ≡ known_count self.now }
     {
-        count_known(&self.blocks) as u32
+        count_known(&self.packets)
     }
 
     /// How many blocks are in conflict. It takes no memory.
     pub fn conflicts(&self) -> u32
         ensures { result ≡ conflict_count self.now }
     {
-        count_conflicts(&self.blocks) as u32
+        count_conflicts(&self.packets)
     }
 
     /// The blocks that are not unknown, ascending, each with its state. It takes no memory.
@@ -226,33 +180,31 @@ impl BlockTable {
         ensures table { IsTable self.now }
     {
         Entries {
-            inner: self.blocks.iter(),
+            packets: self.packets.iter(),
+            here: None,
+            at: 0,
         }
     }
 }
 
-fn count_known(blocks: &BTreeMap<u32, Kept>) -> usize
-    ensures count { result ≡ count_by is_kept_known (values blocks.now) }
-    ensures ordered { IsOrdered nat_cmp blocks.now }
+fn count_known(packets: &BTreeMap<u32, Packet>) -> u32
+    requires { sum_by known_count (values packets.now) < 2 ^ 32 }
+    ensures { result ≡ sum_by known_count (values packets.now) }
 {
-    let mut count = 0usize;
-    for kept in blocks.values() {
-        if kept.is_known() {
-            count += 1;
-        }
+    let mut count = 0;
+    for packet in packets.values() {
+        count += packet.known();
     }
     count
 }
 
-fn count_conflicts(blocks: &BTreeMap<u32, Kept>) -> usize
-    ensures count { result ≡ count_by is_kept_conflict (values blocks.now) }
-    ensures ordered { IsOrdered nat_cmp blocks.now }
+fn count_conflicts(packets: &BTreeMap<u32, Packet>) -> u32
+    requires { sum_by conflict_count (values packets.now) < 2 ^ 32 }
+    ensures { result ≡ sum_by conflict_count (values packets.now) }
 {
-    let mut count = 0usize;
-    for kept in blocks.values() {
-        if kept.is_conflict() {
-            count += 1;
-        }
+    let mut count = 0;
+    for packet in packets.values() {
+        count += packet.conflicts();
     }
     count
 }
@@ -272,35 +224,69 @@ impl Join for BlockTable {
 
     ghost least = { join_tables-least };
 
-    /// Joins each entry of the other table into this one.
+    /// Joins each packet of the other table to the one of its number in this one.
     ///
     /// # Errors
     ///
     /// `OutOfMemory` alone. Then the table lies between the old one and the join, and the same join
     /// again, once it succeeds, gives the join.
     fn join(&mut self, other: &Self) -> Result<(), TableError> {
-        for (n, kept) in other.blocks.iter() {
-            self.enter(*n, kept.fact())?;
+        for (number, packet) in other.packets.iter() {
+            self.join_packet(*number, packet)?;
         }
         Ok(())
     }
 }
 
-/// The entries of a table that are left.
+/// The entries of a table that are left: those of the packet under way from a place on, and those of the
+/// packets after it.
 #[derive(Drop)]
 pub struct Entries<'a> {
-    inner: Iter<'a, u32, Kept>,
+    packets: Iter<'a, u32, Packet>,
+    here: Option<(u32, &'a Packet)>,
+    at: u32,
 }
 
 impl<'a> Model for Entries<'a> {
-    ghost use Rattle.std.specs.Prelude.{List, ℕ};
+    ghost use Rattle.std.specs.Prelude.{List, ℕ, ◌++◌};
     ghost use Rattle.udfs_lattice.specs.States.{State};
 
     ghost Value = { List (ℕ × State) };
 
-    ghost use Rattle.udfs_lattice.specs.Kept.{facts_kept};
+    ghost use Rattle.udfs_lattice.specs.PacketTables.{entries_here, packet_entries, AreEntries};
 
-    ghost view = { λ e. facts_kept e.inner };
+    ghost view = { λ e. entries_here e.here e.at ++ packet_entries e.packets };
+
+    ghost invariant = { λ e. AreEntries e.here e.packets };
+}
+
+/// An entry: the packet that it is of with its number, and its place and state in the packet.
+#[derive(Drop)]
+struct Found<'a> {
+    number: u32,
+    packet: &'a Packet,
+    place: u32,
+    fact: Fact<&'a [u8; 2048]>,
+}
+
+/// The first entry of the packets that are left, of which its own is taken.
+fn first_entry<'a>(packets: &mut Iter<'a, u32, Packet>) -> Option<Found<'a>>
+    requires { All (λ e. e.0 < 131072) packets.old }
+    ensures some { IfSome result (λ f. IsFound packets.old f.number f.packet.now f.place (fact_now f.fact) packets.new) }
+    ensures none { IfNone result ((packet_entries packets.old ≡ []) × (packet_entries packets.new ≡ [])) }
+    ensures later { All (λ e. e.0 < 131072) packets.new }
+{
+    while let Some((number, packet)) = packets.next() {
+        if let Some((place, fact)) = packet.first_from(0) {
+            return Some(Found {
+                number: *number,
+                packet,
+                place,
+                fact,
+            });
+        }
+    }
+    None
 }
 
 impl<'a> Iterator for Entries<'a> {
@@ -311,8 +297,16 @@ impl<'a> Iterator for Entries<'a> {
     ghost remaining = { item_count (λ e. e) };
 
     fn next(&mut self) -> Option<(u32, Fact<&'a [u8; 2048]>)> {
-        let (n, kept) = self.inner.next()?;
-        Some((*n, kept.fact()))
+        if let Some((number, packet)) = self.here {
+            if let Some((i, fact)) = packet.first_from(self.at) {
+                self.at = i + 1;
+                return Some((number * 32 + i, fact));
+            }
+        }
+        let found = first_entry(&mut self.packets)?;
+        self.here = Some((found.number, found.packet));
+        self.at = found.place + 1;
+        Some((found.number * 32 + found.place, found.fact))
     }
 }
 

@@ -21,4 +21,6 @@ pub use inputs::{InputError, join_inputs};
 pub use writing::{WriteFault, write_table};
 
 #[cfg(test)]
+mod calls;
+#[cfg(test)]
 mod tests;
