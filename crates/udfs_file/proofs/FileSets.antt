@@ -1,6 +1,9 @@
 -- The file set over a view of which a part is known, and over a complete one.
-use Rattle.std.proofs.Common.{◌≡◌, refl, sym, ◌∙◌, ap, ℕ, Bool, true, false, cond, Option, Some, None}
-use Rattle.std.specs.Prelude.{option_map, length}
+use Rattle.std.proofs.Common.{◌≡◌, refl, sym, ◌≢◌, ◌∙◌, ap, ℕ, Bool, true, false, not, cond, [], ◌∷◌, Option, Some, None, nat_le, is_none, ◌||◌}
+use Rattle.std.specs.Prelude.{option_map, length, ◌==◌}
+use Rattle.std.proofs.lemmas.Bool.{eqb-true, true≢false}
+use Rattle.udfs_tag.specs.Faults.{first_fault}
+use Rattle.udfs_file.specs.declared.faults.NodeFault.TheVariants.{Reference, Range}
 use Rattle.udfs_lattice.specs.States.{State, is_known}
 use Rattle.udfs_lattice.specs.declared.facts.Fact.TheVariants.{Unknown, Known, Conflict}
 use Rattle.udfs_tag.specs.declared.layouts.LongAd.{LongAd}
@@ -69,9 +72,16 @@ named a root n bytes e = go (is_valid bytes a.block 256) refl e
 some_same : {A : Type 0} (x y : A) → Some x ≡ Some y → x ≡ y
 some_same x y e = cc
 
+is_recorded : (x y z u : Bool) (a : LongAd) → (a.kind == 0) ≡ x → (a.length == 0) ≡ y → first_fault ((not x || y || z, Reference) ∷ (u, Range) ∷ []) ≡ None
+    → (a.kind ≡ 0) × (a.length ≢ 0)
+is_recorded false y z u a p q e = absurd (let n : ⊥ = cc in n)
+is_recorded true true z u a p q e = absurd (let n : ⊥ = cc in n)
+is_recorded true false true u a p q e = absurd (let n : ⊥ = cc in n)
+is_recorded true false false u a p q e = (eqb-true a.kind 0 p, λ h. let t : true ≡ false = sym (ap (λ n. n == 0) h) ∙ q in true≢false t)
+
 pub file_set_law : FileSetLaw
 file_set_law all blocks w a root e = record {
-  reads = record { bytes = bytes; block = there.2; valid = what.valid; is = what.is };
+  reads = record { recorded = whole.0; not_empty = whole.1; bytes = bytes; block = there.2; valid = what.valid; is = what.is };
   only = λ other o. o.is ∙ ap (λ z. long_ad_at z 400) (some_same o.bytes bytes (sym o.block ∙ there.2)) ∙ sym what.is;
 }
   where
@@ -83,6 +93,9 @@ file_set_law all blocks w a root e = record {
 
     bytes : Bytes
     bytes = there.0
+
+    whole : (a.kind ≡ 0) × (a.length ≢ 0)
+    whole = is_recorded (a.kind == 0) (a.length == 0) (nat_le all.partitions a.reference) (is_none (all.place a.reference a.block)) a refl refl r.good
 
     what : Named a root bytes
     what = named a root r.block bytes (ap (file_set_in a r.block) (sym there.1) ∙ r.is)

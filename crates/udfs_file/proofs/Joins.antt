@@ -20,9 +20,9 @@ some_same x y e = cc
 joined_alike : (blocks : ℕ → ℕ → Option Bytes) (form r : ℕ) (area : Bytes) (f g : List Bytes) (xs ys : List LongAd)
     → IsJoined blocks form r area f xs → IsJoined blocks form r area g ys → AreAlike xs ys
 joined_alike blocks form r area [] [] xs ys p q = inl ([], q ∙ sym p ∙ sym (append-nil xs))
-joined_alike blocks form r area [] (b ∷ g) xs ys p (d, later, n, k, v, j, e) = inl (later, e ∙ ap (λ z. z ++ later) (sym p))
-joined_alike blocks form r area (a ∷ f) [] xs ys (d, later, n, k, v, j, e) q = inr (later, e ∙ ap (λ z. z ++ later) (sym q))
-joined_alike blocks form r area (a ∷ f) (b ∷ g) xs ys (d, later, n, k, v, j, e) (d', later', n', k', v', j', e') =
+joined_alike blocks form r area [] (b ∷ g) xs ys p (d, later, n, o, k, v, j, e) = inl (later, e ∙ ap (λ z. z ++ later) (sym p))
+joined_alike blocks form r area (a ∷ f) [] xs ys (d, later, n, o, k, v, j, e) q = inr (later, e ∙ ap (λ z. z ++ later) (sym q))
+joined_alike blocks form r area (a ∷ f) (b ∷ g) xs ys (d, later, n, o, k, v, j, e) (d', later', n', o', k', v', j', e') =
     go (joined_alike blocks form r (part a 24 (uint32_at a 20)) f g later later' j (subst (λ z. IsJoined blocks form r (part z 24 (uint32_at z 20)) g later') (sym same) j'))
   where
     at : d ≡ d'

@@ -1,5 +1,6 @@
 -- Over a complete partition a body without a fault is the one that the standard reads.
-use Rattle.std.proofs.Common.{◌≡◌, ◌≢◌, refl, sym, ◌∙◌, ap, subst, inl, inr, ◌⊎◌, ℕ, ◌+◌, ◌-◌, ◌<◌, ◌≤◌, min, Bool, true, false, not, List, [], ◌∷◌, ◌++◌, length, take, map, cond, ◌&&◌, arith, Option, Some, None, nat_eq, nat_le, nat_lt, add-zero}
+use Rattle.std.proofs.Common.{◌≡◌, ◌≢◌, refl, sym, ◌∙◌, ap, subst, inl, inr, ◌⊎◌, ℕ, ◌+◌, ◌-◌, ◌<◌, ◌≤◌, min, Bool, true, false, not, List, [], ◌∷◌, ◌++◌, length, take, map, cond, ◌&&◌, arith, Option, Some, None, nat_eq, nat_le, nat_lt, add-zero, is_none, ◌||◌}
+use Rattle.std.proofs.lemmas.Bool.{leb-true}
 use Rattle.std.specs.Prelude.{zero, suc, flat_map, take_while, option_map, ◌%◌}
 use Rattle.std.proofs.lemmas.List.{append-nil, length-append, map-append, take-append-le, take_all}
 use Rattle.std.proofs.lemmas.List.Sums.{take_while-cons}
@@ -14,10 +15,11 @@ use Rattle.udfs_file.specs.Entries.{EntryFields, descriptor_size}
 use Rattle.udfs_file.specs.Bodies.{Next, no_more, area_at, broken, Descriptors, covers, cells_in, continuation_fault, next_of, next_if, next_area, next_descriptor, up_to_next, descriptors_in, joined, no_descriptors, chain, descriptors, extent_cells, cells, faulty_body, ended_body, extents_body, embedded_body, body}
 use Rattle.udfs_file.specs.declared.cells.Cell.{Cell}
 use Rattle.udfs_file.specs.declared.cells.Cell.TheVariants.{Byte}
-use Rattle.udfs_file.specs.Standard.{Located, located, extent_bytes, extents_in, IsJoined, IsExtentsBody, IsEmbeddedBody, IsBodyOf}
+use Rattle.udfs_tag.specs.Faults.{first_fault}
+use Rattle.udfs_file.specs.Standard.{Located, located, extent_bytes, extents_in, IsOneBlock, IsJoined, IsExtentsBody, IsEmbeddedBody, IsBodyOf}
 use Rattle.udfs_file.specs.Complete.{IsWhole, as_cell, as_cells, BodyLaw}
 use Rattle.udfs_file.specs.declared.faults.NodeFault.{NodeFault}
-use Rattle.udfs_file.specs.declared.faults.NodeFault.TheVariants.{Short, Chain, Range}
+use Rattle.udfs_file.specs.declared.faults.NodeFault.TheVariants.{Short, Chain, Range, Reference}
 use Rattle.udfs_file.proofs.BodyFrom.{from, le_or_lt, body-from}
 use Rattle.udfs_file.proofs.Parts.{cells-same, no_cells, from-done, from-end, Taken, taken-inv, length-extent}
 use Rattle.udfs_file.proofs.ChainFits.{is_other, up-cons, next-cons, onto, joined-cons}
@@ -28,7 +30,7 @@ use Rattle.udfs_file.proofs.Joins.{only_body}
 abbrev IsJoinedBy : (ℕ → ℕ → Option Bytes) → ℕ → ℕ → List LongAd → List Bytes → List LongAd → Type 0
 IsJoinedBy blocks form r ds [] xs = xs ≡ take_while is_other ds
 IsJoinedBy blocks form r ds (bytes ∷ more) xs = (d : LongAd) × (later : List LongAd)
-    × (next_descriptor ds ≡ Some d) × (blocks d.reference d.block ≡ Some bytes) × (is_valid bytes d.block 258 ≡ true)
+    × (next_descriptor ds ≡ Some d) × IsOneBlock d × (blocks d.reference d.block ≡ Some bytes) × (is_valid bytes d.block 258 ≡ true)
     × IsJoined blocks form r (part bytes 24 (uint32_at bytes 20)) more later
     × (xs ≡ take_while is_other ds ++ later)
 
@@ -41,10 +43,11 @@ joined_by blocks form r area (b ∷ f) xs h = h
 joined_more : (blocks : ℕ → ℕ → Option Bytes) (form r : ℕ) (d : LongAd) (ds : List LongAd) (f : List Bytes) (xs : List LongAd) → is_other d ≡ true
     → IsJoinedBy blocks form r ds f xs → IsJoinedBy blocks form r (d ∷ ds) f (d ∷ xs)
 joined_more blocks form r d ds [] xs e h = ap (λ z. d ∷ z) h ∙ sym (take_while-cons is_other d ds ∙ ap (λ b. cond b (d ∷ take_while is_other ds) []) e)
-joined_more blocks form r d ds (b ∷ f) xs e (a, later, n, k, v, j, x) = (
+joined_more blocks form r d ds (b ∷ f) xs e (a, later, n, o, k, v, j, x) = (
   a,
   later,
   next-cons d ds ∙ ap (λ b. cond b (next_descriptor ds) (Some d)) e ∙ n,
+  o,
   k,
   v,
   j,
@@ -76,16 +79,27 @@ reading_done v blocks size joins behind c ds cs xs j h e = record {
   same = sym (cells-same [] cs (sym (from-done v size behind c ds h) ∙ e)) ∙ ap (λ z. as_cells (take z (bytes_of blocks xs))) (sym (none_left size c h));
 }
 
+-- where no test holds, a continuation is one block
+third_none : (x y z is_last : Bool) → first_fault ((x, Reference) ∷ (y, Range) ∷ (z || is_last, Chain) ∷ []) ≡ None → z ≡ false
+third_none true y z is_last e = absurd (let n : ⊥ = cc in n)
+third_none false true z is_last e = absurd (let n : ⊥ = cc in n)
+third_none false false true is_last e = absurd (let n : ⊥ = cc in n)
+third_none false false false is_last e = refl
+
+not_more : (n : ℕ) → nat_lt 2048 n ≡ false → n ≤ 2048
+not_more n h = grind arith
+
 -- What stands behind the descriptors of an area in a complete partition.
 data Then (blocks : ℕ → ℕ → Option Bytes) (d : LongAd) (x : Next) : Type 0 where
-  then_area : (bytes : Bytes) → x ≡ area_at (part bytes 24 (uint32_at bytes 20)) → blocks d.reference d.block ≡ Some bytes → is_valid bytes d.block 258 ≡ true → Then blocks d x
+  then_area : (bytes : Bytes) → x ≡ area_at (part bytes 24 (uint32_at bytes 20)) → blocks d.reference d.block ≡ Some bytes → is_valid bytes d.block 258 ≡ true → nat_lt 2048 d.length ≡ false → Then blocks d x
   then_broken : (f : NodeFault) → x ≡ broken f → Then blocks d x
 
-then_in : (blocks : ℕ → ℕ → Option Bytes) (form n : ℕ) (d : LongAd) (bytes : Bytes) → blocks d.reference d.block ≡ Some bytes → Then blocks d (next_area form d.block n (Known bytes))
-then_in blocks form n d bytes k = go (is_valid bytes d.block 258) refl (nat_le (24 + uint32_at bytes 20) 2048) (nat_eq (uint32_at bytes 20 % descriptor_size form) 0)
+then_in : (blocks : ℕ → ℕ → Option Bytes) (form n : ℕ) (d : LongAd) (bytes : Bytes) → blocks d.reference d.block ≡ Some bytes → nat_lt 2048 d.length ≡ false
+    → Then blocks d (next_area form d.block n (Known bytes))
+then_in blocks form n d bytes k long = go (is_valid bytes d.block 258) refl (nat_le (24 + uint32_at bytes 20) 2048) (nat_eq (uint32_at bytes 20 % descriptor_size form) 0)
   where
     go : (v : Bool) → is_valid bytes d.block 258 ≡ v → (x y : Bool) → Then blocks d (cond (v && x && y) (area_at (part bytes 24 (uint32_at bytes 20))) (broken Chain))
-    go true e true true = then_area bytes refl k e
+    go true e true true = then_area bytes refl k e long
     go true e true false = then_broken Chain refl
     go true e false y = then_broken Chain refl
     go false e x y = then_broken Chain refl
@@ -103,7 +117,8 @@ then_is all blocks w form is_last d = go (continuation_fault all is_last d) refl
     go (Some f) a x b = then_broken f (sym (to (Some f) x a b))
     go None a None b = then_broken Range (sym (to None None a b))
     go None a (Some n) b = let t : (bytes : Bytes) × (all.blocks n ≡ Known bytes) × (blocks d.reference d.block ≡ Some bytes) × (length bytes ≡ 2048) = w.there d.reference d.block n b in
-        subst (Then blocks d) (ap (next_area form d.block n) (sym t.1) ∙ to None (Some n) a b) (then_in blocks form n d t.0 t.2)
+        subst (Then blocks d) (ap (next_area form d.block n) (sym t.1) ∙ to None (Some n) a b)
+        (then_in blocks form n d t.0 t.2 (third_none (nat_le all.partitions d.reference) (is_none (all.place d.reference d.block)) (nat_lt 2048 d.length) is_last a))
 
 -- a continuation that leads nowhere ends the body
 no_body : {A : Type 0} (v : View) (size : ℕ) (x : Next) (c : ℕ) (d : LongAd) (cs : List Cell) → ((left : ℕ) (rest : List Cell) → ended_body left x [] ≢ cells rest) → covers d ≡ 0 → c < size
@@ -234,10 +249,10 @@ next_reads all blocks w form r size c is_last later h d ds cs e l x th k = go th
 
     go : Then blocks d x → Reading blocks size (IsJoinedBy blocks form r (d ∷ ds)) c cs
     go (then_broken f q) = no_body all size (broken f) c d cs (no_cells-broken f) short l (at (broken f) q)
-    go (then_area bytes q g v) = record {
+    go (then_area bytes q g v long) = record {
       followed = bytes ∷ read.followed;
       extents = read.extents;
-      joined = (d, read.extents, next-cons d ds ∙ ap (λ b. cond b (next_descriptor ds) (Some d)) e, g, v, read.joined, ap (λ z. z ++ read.extents) (sym none));
+      joined = (d, read.extents, next-cons d ds ∙ ap (λ b. cond b (next_descriptor ds) (Some d)) e, (leb-true 1 d.length t.is_long, not_more d.length long), g, v, read.joined, ap (λ z. z ++ read.extents) (sym none));
       enough = subst (λ z. size - z ≤ length (bytes_of blocks read.extents)) same_cell read.enough;
       same = sym t.then.joins ∙ ap (λ z. z ++ t.then.rest) empty ∙ read.same ∙ ap (λ z. as_cells (take (size - z) (bytes_of blocks read.extents))) same_cell;
     }

@@ -3,7 +3,7 @@
 --     IsFileSetAt blocks a root        the file set descriptor at an address, and the root's ICB that it names
 --     IsBodyOf blocks r b e body       the body of the entry at block b of partition r
 --     IsDirectoryBody body ids         the descriptors in a directory's body
-use Rattle.std.specs.Prelude.{◌≡◌, ℕ, ◌≤◌, true, not, List, [], ◌∷◌, ◌++◌, length, take, map, flat_map, replicate, take_while, cond, nat_eq, nat_lt, Option, Some, None}
+use Rattle.std.specs.Prelude.{◌≡◌, ◌≢◌, ℕ, ◌<◌, ◌≤◌, true, not, List, [], ◌∷◌, ◌++◌, length, take, map, flat_map, replicate, take_while, cond, nat_eq, nat_lt, Option, Some, None}
 use Rattle.std.specs.List.{range_with_len}
 use Rattle.udfs_volume.specs.Sequence.{Bytes}
 use Rattle.udfs_tag.specs.declared.layouts.LongAd.{LongAd}
@@ -18,6 +18,8 @@ use Rattle.udfs_file.specs.declared.directories.Step.TheVariants.{One}
 
 -- the file set descriptor at an address names this ICB of the root directory (4/14.1)
 pub record IsFileSetAt (blocks : ℕ → ℕ → Option Bytes) (a root : LongAd) : Type 0 where
+  pub recorded : a.kind ≡ 0
+  pub not_empty : a.length ≢ 0
   pub bytes : Bytes
   pub block : blocks a.reference a.block ≡ Some bytes
   pub valid : is_valid bytes a.block 256 ≡ true
@@ -43,11 +45,15 @@ extent_bytes blocks d = cond (nat_eq d.kind 0)
 abbrev pub extents_in : ℕ → ℕ → Bytes → List LongAd
 extents_in form r area = take_while (λ d. not (nat_eq d.kind 3)) (descriptors_in form r area)
 
+-- the extent that continues a list of descriptors is one block, and not empty (4/12.1; one block: own choice)
+abbrev pub IsOneBlock : LongAd → Type 0
+IsOneBlock d = (0 < d.length) × (d.length ≤ 2048)
+
 -- the extents of an area, and those of each continuation in turn, as far as these blocks hold them
 abbrev pub IsJoined : (ℕ → ℕ → Option Bytes) → ℕ → ℕ → Bytes → List Bytes → List LongAd → Type 0
 IsJoined blocks form r area [] ds = ds ≡ extents_in form r area
 IsJoined blocks form r area (bytes ∷ more) ds = (d : LongAd) × (later : List LongAd)
-    × (next_descriptor (descriptors_in form r area) ≡ Some d) × (blocks d.reference d.block ≡ Some bytes)
+    × (next_descriptor (descriptors_in form r area) ≡ Some d) × IsOneBlock d × (blocks d.reference d.block ≡ Some bytes)
     × (is_valid bytes d.block 258 ≡ true) × IsJoined blocks form r (part bytes 24 (uint32_at bytes 20)) more later
     × (ds ≡ extents_in form r area ++ later)
 
