@@ -18,7 +18,7 @@ pub use device::{DeviceFault, Reader, Sink, Source, Writer};
 pub use error::{ReadingError, ReadingFault};
 pub use input::{read_input, read_reading, read_table};
 pub use inputs::{InputError, join_inputs};
-pub use writing::{WriteFault, write_table};
+pub use writing::{WriteFault, write_all, write_table};
 
 #[cfg(test)]
 mod calls;

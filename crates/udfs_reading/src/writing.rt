@@ -19,8 +19,12 @@ const PIECE: usize = 262_144;
 #[derive(Clone, Copy, Debug, PartialEq, Eq)]
 pub struct WriteFault;
 
-/// Writes all of the bytes, in as many calls as the sink wants.
-fn write_all<W: Sink>(sink: &mut W, bytes: &[u8]) -> Result<(), WriteFault>
+/// Writes all of the bytes, in as many calls as the sink wants. It takes no memory.
+///
+/// # Errors
+///
+/// `WriteFault` exactly where the sink failed. Then a beginning of the bytes is out.
+pub fn write_all<W: Sink>(sink: &mut W, bytes: &[u8]) -> Result<(), WriteFault>
     ensures { Writes (W.contents sink.old) (W.contents sink.new) (W.faults sink.old) (W.faults sink.new) bytes.now result }
 {
     let mut at = 0;

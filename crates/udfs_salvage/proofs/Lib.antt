@@ -1,0 +1,5 @@
+pub mod Opens
+pub mod PastEnds
+pub mod Printed
+pub mod Runs
+pub mod VolumeLaw

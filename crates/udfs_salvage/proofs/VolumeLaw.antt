@@ -1,0 +1,178 @@
+-- Over a table that agrees with a lawful volume, what is found is the volume's, or a group of blocks is unread.
+use Rattle.std.proofs.Common.{◌≡◌, refl, sym, ◌∙◌, ap, subst, inl, inr, ◌⊎◌, ℕ, false, List, [], ◌∷◌, Option, Some, None}
+use Rattle.std.specs.Prelude.{option_map}
+use Rattle.udfs_lattice.specs.States.{State, is_known}
+use Rattle.udfs_lattice.specs.Volumes.{Blocks, Includes, Volume, complete, IsKnownAt, IsUnread}
+use Rattle.udfs_lattice.specs.declared.facts.Fact.TheVariants.{Unknown, Known, Conflict}
+use Rattle.udfs_lattice.proofs.VolumeLaws.{complete_agrees}
+use Rattle.udfs_tag.specs.declared.layouts.LongAd.{LongAd}
+use Rattle.udfs_volume.specs.Answers.{Answer, found, holes, faulty, and_then}
+use Rattle.udfs_volume.specs.declared.faults.VolumeFault.{VolumeFault}
+use Rattle.udfs_volume.specs.Sequence.{anchor_places}
+use Rattle.udfs_volume.specs.Layout.{Layout, layout}
+use Rattle.udfs_volume.specs.Laws.{valid_anchors, IsSequenceGroup, ListsGroup, IsAnswerOf, the_same}
+use Rattle.udfs_volume.specs.Laws.IsAnswerOf.{unread as unread_answer}
+use Rattle.udfs_volume.proofs.Bounds.{found_same}
+use Rattle.udfs_volume.proofs.Known.{known_is}
+use Rattle.udfs_volume.proofs.LayoutLaw.{layout_law}
+use Rattle.udfs_space.specs.Sparing.{Space, space}
+use Rattle.udfs_space.specs.Places.{View, view, place, block_at}
+use Rattle.udfs_space.specs.Laws.{IsSparingGroup}
+use Rattle.udfs_space.proofs.SpaceLaw.{space_law}
+use Rattle.udfs_file.specs.Addresses.{address_fault, file_set_in, file_set_at, file_set}
+use Rattle.udfs_file.specs.declared.faults.NodeFault.{NodeFault}
+use Rattle.udfs_salvage.specs.Found.{Found, placed, rooted, volume as volume_of}
+use Rattle.udfs_salvage.specs.Laws.{IsFoundOf, IsVolumeGroup, TellsLawful, VolumeLaw}
+use Rattle.udfs_salvage.proofs.Opens.{FoundBy, found_by, ReadsRoot, reads_root}
+
+abbrev IsHere : Blocks → List ℕ → Type 0
+IsHere M group = (n : ℕ) × Includes group n × IsKnownAt M n
+
+-- what holds of some groups holds of more
+more_groups : (M : Blocks) (av ps : List ℕ) (G H : List ℕ → Type 0) (listed : List ℕ) → ((g : List ℕ) → G g → H g) → ListsGroup M av ps G listed → ListsGroup M av ps H listed
+more_groups M av ps G H listed f x = record { group = x.group; is_group = f x.group x.is_group; unread = x.unread; holds = x.holds; not_known = x.not_known; each = λ n i. go n (x.each n i) }
+  where
+    go : (n : ℕ) → ((g : List ℕ) × G g × IsUnread M g × Includes g n) ⊎ (Includes ps n × IsUnread M av) → ((g : List ℕ) × H g × IsUnread M g × Includes g n) ⊎ (Includes ps n × IsUnread M av)
+    go n (inl w) = inl (w.0, f w.0 w.1, w.2, w.3)
+    go n (inr w) = inr w
+
+no_places : (M : Blocks) (av ps : List ℕ) (G : List ℕ → Type 0) (listed : List ℕ) → ListsGroup M [] [] G listed → ListsGroup M av ps G listed
+no_places M av ps G listed x = record { group = x.group; is_group = x.is_group; unread = x.unread; holds = x.holds; not_known = x.not_known; each = λ n i. go n (x.each n i) }
+  where
+    go : (n : ℕ) → ((g : List ℕ) × G g × IsUnread M g × Includes g n) ⊎ (⊥ × IsUnread M []) → ((g : List ℕ) × G g × IsUnread M g × Includes g n) ⊎ (Includes ps n × IsUnread M av)
+    go n (inl w) = inl w
+    go n (inr w) = absurd w.0
+
+-- the address of a file set that is found is good
+good_root : (v : View) (a root : LongAd) → file_set v a ≡ found root → address_fault v a ≡ None
+unfolding file_set
+good_root v a root e = go (address_fault v a) refl e
+  where
+    go : (f : Option NodeFault) → address_fault v a ≡ f → file_set_at a f (block_at v a.reference a.block) ≡ found root → address_fault v a ≡ None
+    go None p q = p
+    go (Some f) p q = absurd (let z : ⊥ = cc in z)
+
+-- a file set whose address is good and has a place
+file_set_by : (T : Blocks) (s : Space) (a : LongAd) (n : ℕ) (x : State) → address_fault (view T s) a ≡ None → place s a.reference a.block ≡ Some n → T n ≡ x
+    → file_set (view T s) a ≡ file_set_in a n x
+unfolding file_set
+file_set_by T s a n x good placed e = ap (λ f. file_set_at a f (block_at (view T s) a.reference a.block)) good
+    ∙ ap (λ o. file_set_at a None (option_map (λ n. (n, T n)) o)) placed ∙ ap (file_set_in a n) e
+
+pub volume_law : VolumeLaw
+unfolding volume_of
+volume_law M V N lawful a = by_layout (layout_law M V N lawful.volume_is lawful.layout a)
+  where
+    C : Blocks
+    C = complete V N
+
+    f : Found
+    f = lawful.found_is
+
+    by : FoundBy C N f
+    by = found_by C N f lawful.finds
+
+    l : Layout
+    l = f.layout
+
+    reads : ReadsRoot (view C f.space) l.file_set f.root
+    reads = reads_root (view C f.space) l.file_set f.root by.root_is
+
+    n : ℕ
+    n = reads.block
+
+    G : List ℕ → Type 0
+    G = IsVolumeGroup V N f
+
+    Result : Type 0
+    Result = IsAnswerOf M (valid_anchors V N) (anchor_places N) G (volume_of M N) (volume_of C N)
+
+    good : address_fault (view M f.space) l.file_set ≡ None
+    good = good_root (view C f.space) l.file_set f.root by.root_is
+
+    from_layout : layout M N ≡ layout C N → volume_of M N ≡ placed M l
+    from_layout q = ap (λ x. and_then x (placed M)) (q ∙ by.layout_is)
+
+    from_space : layout M N ≡ layout C N → space M l ≡ space C l → volume_of M N ≡ rooted M l f.space
+    from_space q r = from_layout q ∙ ap (λ x. and_then x (rooted M l)) (r ∙ by.space_is)
+
+    with_root : Answer LongAd → Answer Found
+    with_root x = and_then x (λ root. found (record { layout = l; space = f.space; root = root }))
+
+    root_by : (x : State) → M n ≡ x → rooted M l f.space ≡ with_root (file_set_in l.file_set n x)
+    root_by x e = ap with_root (file_set_by M f.space l.file_set n x good reads.placed e)
+
+    whole : volume_of C N ≡ with_root (file_set (view C f.space) l.file_set)
+    whole = ap (λ x. and_then x (λ l. and_then (space C l) (rooted C l))) by.layout_is ∙ ap (λ x. and_then x (rooted C l)) by.space_is
+
+    single : (g : List ℕ) → (m : ℕ) × (place f.space l.file_set.reference l.file_set.block ≡ Some m) × (g ≡ m ∷ []) → IsKnownAt M n → IsHere M g
+    single g (m, p, q) k = subst (IsHere M) (sym q) (m, inl refl, subst (IsKnownAt M) (some_same n m (sym reads.placed ∙ p)) k)
+      where
+        some_same : (x y : ℕ) → Some x ≡ Some y → x ≡ y
+        some_same x y e = cc
+
+    groups : ((g : List ℕ) → IsSequenceGroup V N g → IsHere M g) → ((g : List ℕ) → IsSparingGroup l.partitions g → IsHere M g) → IsKnownAt M n → (g : List ℕ) → G g → IsHere M g
+    groups hl hs k g (inl x) = hl g x
+    groups hl hs k g (inr (inl x)) = hs g x
+    groups hl hs k g (inr (inr x)) = single g x k
+
+    unread_root : is_known (M n) ≡ false → volume_of M N ≡ holes (n ∷ []) → Result
+    unread_root u e = unread_answer (n ∷ []) e (record {
+      group = n ∷ [];
+      is_group = is_root;
+      unread = none;
+      holds = λ m i. i;
+      not_known = none;
+      each = λ m i. inl (n ∷ [], is_root, none, i);
+    })
+      where
+        is_root : G (n ∷ [])
+        is_root = inr (inr (n, reads.placed, refl))
+
+        none : IsUnread M (n ∷ [])
+        none m (inl p) = subst (λ x. is_known (M x) ≡ false) p u
+        none m (inr x) = absurd x
+
+    by_root : layout M N ≡ layout C N → space M l ≡ space C l → ((g : List ℕ) → IsSequenceGroup V N g → IsHere M g) → ((g : List ℕ) → IsSparingGroup l.partitions g → IsHere M g)
+        → (x : State) → M n ≡ x → Result
+    by_root q r hl hs Unknown e = unread_root (ap is_known e) (from_space q r ∙ root_by Unknown e)
+    by_root q r hl hs (Known bytes) e = the_same
+        (from_space q r ∙ root_by (Known bytes) e ∙ sym (whole ∙ ap with_root (file_set_by C f.space l.file_set n (Known bytes) good reads.placed same)))
+        (groups hl hs (bytes, e))
+      where
+        same : C n ≡ Known bytes
+        same = known_is C V N (complete_agrees V N) n reads.bytes reads.known ∙ sym (known_is M V N a n bytes e) ∙ e
+    by_root q r hl hs Conflict e = unread_root (ap is_known e) (from_space q r ∙ root_by Conflict e)
+
+    by_space : layout M N ≡ layout C N → ((g : List ℕ) → IsSequenceGroup V N g → IsHere M g) → IsAnswerOf M [] [] (IsSparingGroup l.partitions) (space M l) (space C l) → Result
+    by_space q hl (the_same r hs) = by_root q r hl hs (M n) refl
+    by_space q hl (unread_answer listed r x) = unread_answer listed (from_layout q ∙ ap (λ y. and_then y (rooted M l)) r)
+        (no_places M (valid_anchors V N) (anchor_places N) G listed (more_groups M [] [] (IsSparingGroup l.partitions) G listed (λ g h. inr (inl h)) x))
+
+    by_layout : IsAnswerOf M (valid_anchors V N) (anchor_places N) (IsSequenceGroup V N) (layout M N) (layout C N) → Result
+    by_layout (the_same q hl) = by_space q hl (space_law M V N l lawful.volume_is by.layout_is lawful.sparing a)
+    by_layout (unread_answer listed q x) = unread_answer listed (ap (λ y. and_then y (placed M)) q)
+        (more_groups M (valid_anchors V N) (anchor_places N) (IsSequenceGroup V N) G listed (λ g h. inl h) x)
+
+-- ---- what is told
+
+found_of : (M : Blocks) (V : Volume) (N : ℕ) (all got : Found) → volume_of M N ≡ found got → volume_of (complete V N) N ≡ found all
+    → IsAnswerOf M (valid_anchors V N) (anchor_places N) (IsVolumeGroup V N all) (volume_of M N) (volume_of (complete V N) N) → IsFoundOf V M N all got
+found_of M V N all got e f (the_same q known) = record { same = found_same got all (sym e ∙ q ∙ f); known = known }
+found_of M V N all got e f (unread_answer listed q x) = absurd (let no : ⊥ = cc in no)
+
+holes_of : (M : Blocks) (V : Volume) (N : ℕ) (all : Found) (ns : List ℕ) → volume_of M N ≡ holes ns → volume_of (complete V N) N ≡ found all
+    → IsAnswerOf M (valid_anchors V N) (anchor_places N) (IsVolumeGroup V N all) (volume_of M N) (volume_of (complete V N) N)
+    → ListsGroup M (valid_anchors V N) (anchor_places N) (IsVolumeGroup V N all) ns
+holes_of M V N all ns e f (the_same q known) = absurd (let no : ⊥ = cc in no)
+holes_of M V N all ns e f (unread_answer listed q x) = let same : listed ≡ ns = cc in subst (ListsGroup M (valid_anchors V N) (anchor_places N) (IsVolumeGroup V N all)) same x
+
+no_fault_of : (M : Blocks) (V : Volume) (N : ℕ) (all : Found) (fault : VolumeFault) → volume_of M N ≡ faulty fault → volume_of (complete V N) N ≡ found all
+    → IsAnswerOf M (valid_anchors V N) (anchor_places N) (IsVolumeGroup V N all) (volume_of M N) (volume_of (complete V N) N) → ⊥
+no_fault_of M V N all fault e f (the_same q known) = cc
+no_fault_of M V N all fault e f (unread_answer listed q x) = cc
+
+pub tells_lawful : (M : Blocks) (N : ℕ) (told : Answer Found) → told ≡ volume_of M N → TellsLawful M N told
+tells_lawful M N (found got) e V lw a = found_of M V N lw.found_is got (sym e) lw.finds (volume_law M V N lw a)
+tells_lawful M N (holes listed) e V lw a = holes_of M V N lw.found_is listed (sym e) lw.finds (volume_law M V N lw a)
+tells_lawful M N (faulty fault) e V lw a = no_fault_of M V N lw.found_is fault (sym e) lw.finds (volume_law M V N lw a)

@@ -1,0 +1,41 @@
+-- What is found of a volume before its files are looked at.
+--     Found                  the layout, the places of its blocks, and the address of the root's ICB
+--     volume blocks last     these; or blocks that would have to be read first, or a fault
+use Rattle.std.specs.Prelude.{ℕ}
+use Rattle.udfs_lattice.specs.Volumes.{Blocks}
+use Rattle.udfs_tag.specs.declared.layouts.LongAd.{LongAd}
+use Rattle.udfs_volume.specs.Answers.{Answer, found, holes, faulty, and_then}
+use Rattle.udfs_volume.specs.Layout.{Layout, layout}
+use Rattle.udfs_volume.specs.LayoutParts.{parts_now}
+use Rattle.udfs_space.specs.Sparing.{Space, space}
+use Rattle.udfs_space.specs.Places.{view}
+use Rattle.udfs_file.specs.Addresses.{file_set}
+use Rattle.udfs_salvage.specs.declared.volumes.OpenVolume.{OpenVolume}
+use Rattle.udfs_salvage.specs.declared.volumes.Volume as code_volume
+use Rattle.udfs_salvage.specs.declared.volumes.Volume.TheVariants.{Open, Holes, Fault}
+
+pub record Found : Type 0 where
+  pub layout : Layout
+  pub space : Space
+  pub root : LongAd
+
+-- the root, by the file set
+abbrev pub rooted : Blocks → Layout → Space → Answer Found
+rooted blocks l s = and_then (file_set (view blocks s) l.file_set) (λ root. found (record { layout = l; space = s; root = root }))
+
+-- the places and the root of a layout
+abbrev pub placed : Blocks → Layout → Answer Found
+placed blocks l = and_then (space blocks l) (rooted blocks l)
+
+unfoldable pub volume : Blocks → ℕ → Answer Found
+volume blocks last = and_then (layout blocks last) (placed blocks)
+
+-- the same things of the code
+
+abbrev pub found_now : OpenVolume → Found
+found_now o = record { layout = parts_now o.parts; space = o.space; root = o.root }
+
+abbrev pub volume_now : code_volume.Volume → Answer Found
+volume_now (Open o) = found (found_now o)
+volume_now (Holes blocks) = holes blocks.items
+volume_now (Fault fault) = faulty fault

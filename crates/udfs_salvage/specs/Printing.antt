@@ -1,0 +1,32 @@
+-- What printing does to a sink that tells its bytes.
+--     Prints old new i j text result      all of the text was written; or a beginning of it, and then came the error
+--     PassesOn                            the same of text that is held before it is written
+use Rattle.std.specs.Prelude.{◌≡◌, ℕ, ◌+◌, ◌%◌, ◌^◌, List, ◌++◌, Option, Result, Ok, Err}
+use Rattle.std.specs.Io.KnownBytes.{Appends}
+use Rattle.udfs_reading.specs.Writing.{Wrote, Passed}
+use Rattle.udfs_salvage.specs.declared.errors.RunError.{RunError}
+use Rattle.udfs_salvage.specs.declared.errors.RunError.TheVariants.{Reading, Salvage, Write, OutOfMemory}
+
+-- the sink's count of faults, by the error: it moved exactly if the sink failed; and printing has no other error
+abbrev pub CountsBy : ℕ → ℕ → RunError → Type 0
+CountsBy i j (Reading e) = ⊥
+CountsBy i j (Salvage e) = ⊥
+CountsBy i j Write = j ≡ (i + 1) % 2 ^ 64
+CountsBy i j OutOfMemory = j ≡ i
+
+-- a beginning of the text was written, and then came the error
+pub record Stopped (old new : Option (List ℕ)) (i j : ℕ) (text : List ℕ) (e : RunError) : Type 0 where
+  pub out : List ℕ
+  pub rest : List ℕ
+  pub given : Appends old new out
+  pub whole : text ≡ out ++ rest
+  pub count : CountsBy i j e
+
+abbrev pub Prints : {X : Type 0} → Option (List ℕ) → Option (List ℕ) → ℕ → ℕ → List ℕ → Result X RunError → Type 0
+Prints old new i j text (Ok x) = Wrote old new i j text
+Prints old new i j text (Err e) = Stopped old new i j text e
+
+-- the text was taken behind what was held, of which a front was written
+abbrev pub PassesOn : {X : Type 0} → Option (List ℕ) → Option (List ℕ) → ℕ → ℕ → List ℕ → List ℕ → List ℕ → Result X RunError → Type 0
+PassesOn old new i j held still text (Ok x) = Passed old new i j held still text
+PassesOn old new i j held still text (Err e) = Stopped old new i j (held ++ text) e

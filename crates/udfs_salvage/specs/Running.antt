@@ -1,0 +1,74 @@
+-- What a run over the inputs of a disc answers.
+--     IsTextOf table last text       the text of the table's report
+--     IsRefusedFor table last e      why the table has no report
+--     Runs                           the inputs' tables, and what was printed of their join
+use Rattle.std.specs.Prelude.{◌≡◌, ⊤, ℕ, Bool, List, Option, Result, Ok, Err}
+use Rattle.udfs_lattice.specs.Tables.{Table, state_of}
+use Rattle.udfs_lattice.specs.Records.{join_all}
+use Rattle.udfs_reading.specs.Answers.{IsOfFile}
+use Rattle.udfs_reading.specs.Several.{TablesAre}
+use Rattle.udfs_reading.specs.declared.inputs.InputError.{InputError}
+use Rattle.udfs_reading.specs.declared.error.ReadingFault.{ReadingFault}
+use Rattle.udfs_reading.specs.declared.error.ReadingFault.TheVariants as reading
+use Rattle.udfs_salvage.specs.Reports.{Report, IsReport, IsOutOfRange, IsPastEnd}
+use Rattle.udfs_salvage.specs.Texts.{report_text}
+use Rattle.udfs_salvage.specs.Printing.{Prints}
+use Rattle.udfs_salvage.specs.declared.errors.SalvageError.{SalvageError}
+use Rattle.udfs_salvage.specs.declared.errors.SalvageError.TheVariants as salvage
+use Rattle.udfs_salvage.specs.declared.errors.RunError.{RunError}
+use Rattle.udfs_salvage.specs.declared.errors.RunError.TheVariants.{Reading, Salvage, Write, OutOfMemory}
+
+abbrev pub IsTextOf : Table → ℕ → List ℕ → Type 0
+IsTextOf table last text = (report : Report) × IsReport (state_of table) last report × (text ≡ report_text table last report)
+
+abbrev pub IsRefusedFor : Table → ℕ → SalvageError → Type 0
+IsRefusedFor table last salvage.LastRange = IsOutOfRange last
+IsRefusedFor table last (salvage.PastEnd n) = (¬ IsOutOfRange last) × IsPastEnd (state_of table) last n
+IsRefusedFor table last salvage.OutOfMemory = ⊥
+
+-- each input has a table, and this holds of their join
+abbrev pub OfJoin : {R : Type 0} → (R → Option (List ℕ)) → List R → (Table → Type 0) → Type 0
+OfJoin remaining inputs Holds = (ts : List Table) × TablesAre remaining inputs ts × Holds (join_all ts)
+
+-- the text of the table's report was printed, or a beginning of it
+abbrev pub PrintsOf : ℕ → Option (List ℕ) → Option (List ℕ) → ℕ → ℕ → Result Bool RunError → Table → Type 0
+PrintsOf last old new i j result table = (text : List ℕ) × IsTextOf table last text × Prints old new i j text result
+
+-- what a run says of the table of its inputs: its report; or why there is none, and then nothing is out
+abbrev pub AnswersFor : ℕ → Option (List ℕ) → Option (List ℕ) → ℕ → ℕ → Result Bool RunError → Table → Type 0
+AnswersFor last old new i j (Ok x) table = PrintsOf last old new i j (Ok x) table
+AnswersFor last old new i j (Err (Reading e)) table = ⊥
+AnswersFor last old new i j (Err (Salvage e)) table = IsRefusedFor table last e
+AnswersFor last old new i j (Err Write) table = PrintsOf last old new i j (Err Write) table
+AnswersFor last old new i j (Err OutOfMemory) table = PrintsOf last old new i j (Err OutOfMemory) table
+
+-- the inputs were read, as far as the answer alone tells: want of memory may have come before
+abbrev pub IfRead : Result Bool RunError → Type 0 → Type 0
+IfRead (Ok x) Holds = Holds
+IfRead (Err (Reading e)) Holds = ⊤
+IfRead (Err (Salvage e)) Holds = Holds
+IfRead (Err Write) Holds = Holds
+IfRead (Err OutOfMemory) Holds = ⊤
+
+-- it ended before anything was written
+abbrev pub EndsEarly : Result Bool RunError → Type 0
+EndsEarly (Ok x) = ⊥
+EndsEarly (Err (Reading e)) = ⊤
+EndsEarly (Err (Salvage e)) = ⊤
+EndsEarly (Err Write) = ⊥
+EndsEarly (Err OutOfMemory) = ⊥
+
+-- what a run without a report says where an input is the first that is no good file
+abbrev pub Names : ℕ → ReadingFault → ℕ → RunError → Type 0
+Names input fault number (Reading e) = IsOfFile e.error.fault → (e.input ≡ input) × (e.error.fault ≡ fault) × (e.error.number ≡ number)
+Names input fault number (Salvage e) = ⊥
+Names input fault number Write = ⊥
+Names input fault number OutOfMemory = ⊤
+
+-- want of memory is no input's fault
+abbrev pub by_fault : InputError → ReadingFault → RunError
+by_fault e reading.OutOfMemory = OutOfMemory
+by_fault e fault = Reading e
+
+abbrev pub run_error_of : InputError → RunError
+run_error_of e = by_fault e e.error.fault

@@ -1,0 +1,118 @@
+-- The text of a report.
+--     report_text table last report     all of it
+--     volume_line answer                its third line
+use Rattle.std.specs.Prelude.{ℕ, Bool, false, List, [], ◌∷◌, ◌++◌, length, nat_le, flat_map, cond, nat_eq, codes, decimal}
+use Rattle.udfs_lattice.specs.Tables.{Table, state_of, known_count, conflict_count}
+use Rattle.udfs_lattice.specs.Volumes.{Blocks}
+use Rattle.udfs_lattice.specs.States.{State}
+use Rattle.udfs_lattice.specs.declared.facts.Fact.TheVariants.{Unknown, Known, Conflict}
+use Rattle.udfs_osta.specs.Escapes.{escaped}
+use Rattle.udfs_osta.specs.declared.labels.Label.{Label}
+use Rattle.udfs_osta.specs.declared.labels.Label.TheVariants as label
+use Rattle.udfs_volume.specs.Answers.{Answer, found, holes, faulty}
+use Rattle.udfs_volume.specs.FaultNames.{fault_name}
+use Rattle.udfs_volume.specs.Layout.{Partition, PartitionMap, type1, sparable}
+use Rattle.udfs_volume.specs.declared.faults.VolumeFault.{VolumeFault}
+use Rattle.udfs_volume.specs.declared.faults.VolumeFault.TheVariants as fault
+use Rattle.udfs_salvage.specs.Found.{Found}
+use Rattle.udfs_salvage.specs.Reports.{Report}
+
+-- a line ends with a line feed
+abbrev pub line : List ℕ → List ℕ
+line text = text ++ 10 ∷ []
+
+-- ---- the volume
+
+abbrev pub fault_number : VolumeFault → ℕ
+fault_number fault.NoAnchor = 1
+fault_number fault.Extents = 2
+fault_number fault.Pointer = 3
+fault_number fault.NoLogicalVolume = 4
+fault_number fault.Domain = 5
+fault_number fault.BlockSize = 6
+fault_number fault.MapCount = 7
+fault_number fault.MapKind = 8
+fault_number fault.NoPartition = 9
+fault_number fault.Contents = 10
+fault_number fault.PartitionRange = 11
+fault_number fault.SparingTag = 12
+fault_number fault.SparingShape = 13
+fault_number fault.SparingOrder = 14
+fault_number fault.MappedRange = 15
+fault_number fault.FileSet = 16
+
+unfoldable pub revision_text : ℕ → List ℕ
+revision_text revision = cond (nat_eq revision 0x0150) (codes "1.50") (codes "2.01")
+
+abbrev pub open_text : ℕ → List ℕ
+open_text revision = codes "volume ok revision " ++ revision_text revision ++ codes " map"
+
+-- a space before each
+abbrev pub map_text : PartitionMap → List ℕ
+map_text type1 = codes " type1"
+map_text (sparable packet size tables) = codes " sparable " ++ decimal packet
+
+abbrev pub map_texts : List Partition → List ℕ
+map_texts partitions = flat_map (λ p. map_text p.kind) partitions
+
+-- a space before each
+abbrev pub block_texts : List ℕ → List ℕ
+block_texts blocks = flat_map (λ n. codes " " ++ decimal n) blocks
+
+abbrev pub volume_line : Answer Found → List ℕ
+volume_line (found f) = line (open_text f.layout.revision ++ map_texts f.layout.partitions)
+volume_line (holes blocks) = line (codes "volume holes" ++ block_texts blocks)
+volume_line (faulty f) = line (codes "volume fault " ++ decimal (fault_number f) ++ codes " " ++ fault_name f)
+
+-- ---- the lines before and behind it
+
+-- a volume is found, and has two partitions
+abbrev pub has_two : Answer Found → Bool
+has_two (found f) = nat_le 2 (length f.layout.partitions)
+has_two (holes blocks) = false
+has_two (faulty f) = false
+
+-- the form of the report of a volume with two partitions has another number
+abbrev pub form_text : Answer Found → List ℕ
+form_text answer = cond (has_two answer) (codes "UDFREPORT2") (codes "UDFREPORT1")
+
+abbrev pub first_line : Answer Found → ℕ → List ℕ
+first_line answer last = line (form_text answer ++ codes " last " ++ decimal last)
+
+abbrev pub count_line : Table → List ℕ
+count_line table = line (codes "known " ++ decimal (known_count table) ++ codes " conflict " ++ decimal (conflict_count table))
+
+abbrev pub label_line : Label → List ℕ
+label_line label.Empty = line (codes "label empty")
+label_line (label.Name units) = line (codes "label name " ++ escaped units)
+label_line label.Invalid = line (codes "label invalid")
+
+-- only a volume that is found has a label
+abbrev pub label_lines : Answer Found → List ℕ
+label_lines (found f) = label_line f.layout.label
+label_lines (holes blocks) = []
+label_lines (faulty f) = []
+
+unfoldable pub head_text : Table → ℕ → Answer Found → List ℕ
+head_text table last answer = first_line answer last ++ count_line table ++ volume_line answer ++ label_lines answer
+
+-- ---- the blocks to read again
+
+-- no block is listed that is known
+abbrev pub state_text : State → List ℕ
+state_text Unknown = codes " unknown"
+state_text (Known bytes) = codes " unknown"
+state_text Conflict = codes " conflict"
+
+abbrev pub reread_line : Blocks → ℕ → List ℕ
+reread_line blocks n = line (codes "reread " ++ decimal n ++ state_text (blocks n))
+
+abbrev pub reread_lines : Blocks → List ℕ → List ℕ
+reread_lines blocks ns = flat_map (reread_line blocks) ns
+
+abbrev pub end_line : List ℕ
+end_line = line (codes "end")
+
+unfoldable pub report_text : Table → ℕ → Report → List ℕ
+report_text table last report =
+    head_text table last report.volume ++ reread_lines (state_of table) report.reread ++ end_line

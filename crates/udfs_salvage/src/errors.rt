@@ -1,0 +1,77 @@
+//! Why there is no report.
+
+ghost use Rattle.std.specs.Prelude.{◌≡◌};
+
+use std::alloc::AllocError;
+use std::error::Error;
+use std::fmt;
+use udfs_reading::InputError;
+
+/// Why a table has no report.
+#[derive(Clone, Copy, Debug, PartialEq, Eq)]
+pub enum SalvageError {
+    /// The last block of a volume is not from 513 to 4,194,303.
+    LastRange,
+    /// Something is known of this block, the least such one behind the last.
+    PastEnd(u32),
+    /// Memory was refused.
+    OutOfMemory,
+}
+
+impl fmt::Display for SalvageError {
+    fn fmt<W: fmt::Write>(&self, f: &mut fmt::Formatter<W>) -> fmt::Result {
+        match self {
+            SalvageError::LastRange => write!(f, "the last block is not from 513 to 4194303"),
+            SalvageError::PastEnd(block) => write!(f, "block {block} lies behind the last one"),
+            SalvageError::OutOfMemory => write!(f, "out of memory"),
+        }
+    }
+}
+
+impl Error for SalvageError {}
+
+impl From<AllocError> for SalvageError {
+    ghost use Rattle.udfs_salvage.specs.declared.errors.SalvageError.TheVariants.{OutOfMemory};
+
+    ghost from_gives = { λ refused error. error ≡ OutOfMemory };
+
+    fn from(_: AllocError) -> SalvageError {
+        SalvageError::OutOfMemory
+    }
+}
+
+/// Why no report was printed, or only a beginning of one.
+#[derive(Clone, Copy, Debug, PartialEq, Eq)]
+pub enum RunError {
+    /// An input could not be read. Never for want of memory.
+    Reading(InputError),
+    /// The table has no report. Never for want of memory.
+    Salvage(SalvageError),
+    /// The sink failed.
+    Write,
+    /// Memory was refused, in whatever place.
+    OutOfMemory,
+}
+
+impl fmt::Display for RunError {
+    fn fmt<W: fmt::Write>(&self, f: &mut fmt::Formatter<W>) -> fmt::Result {
+        match self {
+            RunError::Reading(error) => write!(f, "input {} could not be read", error.input),
+            RunError::Salvage(error) => write!(f, "{error}"),
+            RunError::Write => write!(f, "the report could not be written"),
+            RunError::OutOfMemory => write!(f, "out of memory"),
+        }
+    }
+}
+
+impl Error for RunError {}
+
+impl From<AllocError> for RunError {
+    ghost use Rattle.udfs_salvage.specs.declared.errors.RunError.TheVariants.{OutOfMemory};
+
+    ghost from_gives = { λ refused error. error ≡ OutOfMemory };
+
+    fn from(_: AllocError) -> RunError {
+        RunError::OutOfMemory
+    }
+}

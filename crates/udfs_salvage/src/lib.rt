@@ -1,0 +1,19 @@
+//! What can be salvaged of a UDF volume of which some blocks are not known.
+//!
+//! [`salvage`] looks at a table of blocks and answers a [`Report`]: whether the volume opens, and which blocks are
+//! worth reading again. [`write_report`] prints it, and [`report_run`] does all of
+//! this from the readings of a disc.
+#![tactic(auto)]
+
+mod errors;
+mod lines;
+mod printing;
+mod reports;
+mod running;
+mod volumes;
+
+pub use errors::{RunError, SalvageError};
+pub use printing::{write_report, write_volume};
+pub use reports::{Report, salvage};
+pub use running::report_run;
+pub use volumes::{OpenVolume, Volume};

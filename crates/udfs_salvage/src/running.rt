@@ -1,0 +1,91 @@
+//! From the readings of a disc to its report.
+
+ghost use Rattle.std.specs.Prelude.{◌≡◌, ◌≢◌, ◌⊎◌, ℕ, List, Err, IfOk, MatchResult, false, map};
+ghost use Rattle.udfs_lattice.specs.Tables.{Table};
+ghost use Rattle.udfs_lattice.specs.Records.{Record, SameRecords, all_records, table_of};
+ghost use Rattle.udfs_reading.specs.Answers.{IsOfFile};
+ghost use Rattle.udfs_reading.specs.Several.{AllTell, InputFails, IsFirstFaulty};
+ghost use Rattle.udfs_reading.specs.declared.inputs.InputError.{InputError};
+ghost use Rattle.udfs_reading.specs.declared.error.ReadingFault.{ReadingFault};
+ghost use Rattle.udfs_salvage.specs.Running.{AnswersFor, EndsEarly, IfRead, Names, OfJoin, run_error_of};
+
+use crate::errors::{RunError, SalvageError};
+use crate::printing::write_report;
+use crate::reports::salvage;
+use std::alloc::Global;
+use udfs_lattice::BlockTable;
+use udfs_reading::{InputError, ReadingFault, Sink, Source, join_inputs};
+
+/// An input's error as a run tells it.
+fn run_error(error: InputError) -> RunError
+    ensures { result ≡ run_error_of error }
+{
+    match error.error.fault {
+        ReadingFault::OutOfMemory => RunError::OutOfMemory,
+        _ => RunError::Reading(error),
+    }
+}
+
+/// The report of a table, printed.
+fn report_table<W: Sink>(
+    alloc: Global,
+    table: &BlockTable,
+    last: u32,
+    sink: &mut W,
+) -> Result<bool, RunError>
+    ensures answers { AnswersFor last (W.contents sink.old) (W.contents sink.new) (W.faults sink.old) (W.faults sink.new) result table.now }
+    ensures untouched { EndsEarly result → sink.new ≡ sink.old }
+    ensures whole { IfOk result (λ whole. whole ≡ false) }
+{
+    match salvage(alloc, table, last) {
+        Ok(report) => match write_report(alloc, &report, sink) {
+            Ok(()) => Ok(false),
+            Err(error) => Err(error),
+        },
+        Err(SalvageError::OutOfMemory) => Err(RunError::OutOfMemory),
+        Err(error) => Err(RunError::Salvage(error)),
+    }
+}
+
+/// Joins the inputs, and writes the report of the volume of which `last` is the last block. It answers whether there are
+/// files and all of them are whole.
+///
+/// The text is the same for every order and repetition of the inputs, and however their records are split over files.
+///
+/// # Errors
+///
+/// `Reading` where an input cannot be read, with the answer of [`join_inputs`]; else `Salvage` where [`salvage`] refuses
+/// the table. Nothing is written then. `Write` exactly where the sink failed, and `OutOfMemory` for every want of memory:
+/// then a beginning of the text is out.
+pub fn report_run<R: Source, W: Sink>(
+    alloc: Global,
+    inputs: &mut [R],
+    last: u32,
+    sink: &mut W,
+) -> Result<bool, RunError>
+    // The report is that of the join of the inputs' tables.
+    ensures answers { IfRead result (OfJoin R.remaining inputs.old
+        (AnswersFor last (W.contents sink.old) (W.contents sink.new) (W.faults sink.old) (W.faults sink.new) result)) }
+    ensures memory { result ≡ Err RunError.OutOfMemory → (sink.new ≡ sink.old) ⊎ OfJoin R.remaining inputs.old
+        (AnswersFor last (W.contents sink.old) (W.contents sink.new) (W.faults sink.old) (W.faults sink.new) result) }
+    ensures untouched { EndsEarly result → sink.new ≡ sink.old }
+    ensures counts { IfRead result (map R.faults inputs.new ≡ map R.faults inputs.old) }
+    ensures whole { IfOk result (λ whole. whole ≡ false) }
+    // It is the same however the records are ordered, repeated and split over readings and table files.
+    ensures any_mixture { (rss : List (List Record)) (rs : List Record) → AllTell R.remaining inputs.old (map table_of rss) →
+        SameRecords (all_records rss) rs → IfRead result
+        (AnswersFor last (W.contents sink.old) (W.contents sink.new) (W.faults sink.old) (W.faults sink.new) result (table_of rs)) }
+    // Inputs are judged before the last block. The first that is no good file is named, or a device or memory is blamed;
+    // where all are good files, none is named.
+    ensures first { (input : ℕ) (fault : ReadingFault) (number : ℕ) → IsFirstFaulty R.remaining inputs.old input fault number →
+        MatchResult result (λ _. ⊥) (Names input fault number) }
+    ensures good { (ts : List Table) → AllTell R.remaining inputs.old ts →
+        (e : InputError) → result ≡ Err (RunError.Reading e) → ¬ IsOfFile e.error.fault }
+    ensures not_memory { (e : InputError) → result ≡ Err (RunError.Reading e) → e.error.fault ≢ ReadingFault.OutOfMemory }
+    ensures fails { (e : InputError) → result ≡ Err (RunError.Reading e) → InputFails R.remaining R.faults inputs.old inputs.new e }
+{
+    match join_inputs(alloc, inputs) {
+        Ok(table) => report_table(alloc, &table, last, sink),
+        Err(error) => Err(run_error(error)),
+    }
+}
