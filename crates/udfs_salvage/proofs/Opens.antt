@@ -63,4 +63,3 @@ found_by T N f e =
     let r : (root : LongAd) × (file_set (view T s.0) (l.0).file_set ≡ found root) × (found (record { layout = l.0; space = s.0; root = root }) ≡ found f) =
     and_then-found (file_set (view T s.0) (l.0).file_set) (λ root. found (record { layout = l.0; space = s.0; root = root })) f s.2 in
     subst (FoundBy T N) (found_same (record { layout = l.0; space = s.0; root = r.0 }) f r.2) (record { layout_is = l.1; space_is = s.1; root_is = r.1 })
-

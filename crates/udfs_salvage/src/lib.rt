@@ -17,3 +17,6 @@ pub use printing::{write_report, write_volume};
 pub use reports::{Report, salvage};
 pub use running::report_run;
 pub use volumes::{OpenVolume, Volume};
+
+#[cfg(test)]
+mod tests;

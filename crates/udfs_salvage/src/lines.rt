@@ -91,11 +91,7 @@ fn fault_number(fault: VolumeFault) -> u8
 fn revision_name(revision: u16) -> &'static str
     ensures { result.now ≡ revision_text revision }
 {
-    if revision == 0x0150 {
-        "1.50"
-    } else {
-        "2.01"
-    }
+    if revision == 0x0150 { "1.50" } else { "2.01" }
 }
 
 /// What the line of a volume that opens begins with.

@@ -87,11 +87,7 @@ fn put_end<W: Sink>(text: &mut String, sink: &mut W) -> Result<(), RunError>
 }
 
 /// All lines.
-fn put_report<W: Sink>(
-    text: &mut String,
-    sink: &mut W,
-    report: &Report<'_>,
-) -> Result<(), RunError>
+fn put_report<W: Sink>(text: &mut String, sink: &mut W, report: &Report<'_>) -> Result<(), RunError>
     ensures { PassesOn (W.contents sink.old) (W.contents sink.new) (W.faults sink.old) (W.faults sink.new) (string_bytes text.old) (string_bytes text.new)
         (report_text report.now.table.now report.now.last (report_now report.now)) result }
 {

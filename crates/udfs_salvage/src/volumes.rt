@@ -38,7 +38,12 @@ pub enum Volume {
 }
 
 /// The root, by the file set.
-fn open_root(alloc: Global, table: &BlockTable, parts: VolumeParts, space: Space) -> Seen<OpenVolume>
+fn open_root(
+    alloc: Global,
+    table: &BlockTable,
+    parts: VolumeParts,
+    space: Space,
+) -> Seen<OpenVolume>
     ensures value { Sees found_now result (rooted (state_of table.now) (parts_now parts) space) }
     ensures rising { HolesRise result }
 {

@@ -3,8 +3,11 @@ use Rattle.std.specs.Prelude.{alloc_error}
 use Rattle.udfs_reading.specs.declared.inputs.InputError.{InputError}
 use Rattle.udfs_reading.specs.declared.error.ReadingFault.{ReadingFault}
 use Rattle.udfs_reading.specs.declared.error.ReadingFault.TheVariants.{OutOfMemory}
+use Rattle.udfs_salvage.specs.declared.errors.RunError.{RunError}
+use Rattle.udfs_salvage.specs.declared.errors.RunError.TheVariants as run
+use Rattle.udfs_salvage.specs.declared.errors.SalvageError.TheVariants as salvage
 use Rattle.udfsalvage.specs.declared.refusal.Refusal.{Refusal}
-use Rattle.udfsalvage.specs.declared.refusal.Refusal.TheVariants.{Input, Memory}
+use Rattle.udfsalvage.specs.declared.refusal.Refusal.TheVariants.{Input, Output, LastRange, PastEnd, Memory}
 
 -- by the fault: want of memory is said as such, and any other with the input and the record
 abbrev refusal_by : InputError → ReadingFault → Refusal
@@ -13,3 +16,12 @@ refusal_by error fault = Input error.input error.error
 
 abbrev pub refusal_of : InputError → Refusal
 refusal_of error = refusal_by error error.error.fault
+
+-- what a command says where a report was not printed, or only begun
+abbrev pub run_refusal_of : RunError → Refusal
+run_refusal_of (run.Reading error) = refusal_of error
+run_refusal_of (run.Salvage salvage.LastRange) = LastRange
+run_refusal_of (run.Salvage (salvage.PastEnd n)) = PastEnd n
+run_refusal_of (run.Salvage salvage.OutOfMemory) = Memory alloc_error
+run_refusal_of run.Write = Output
+run_refusal_of run.OutOfMemory = Memory alloc_error

@@ -1,17 +1,19 @@
 //! The program as a function: words and files in, a status out.
 
-ghost use Rattle.std.specs.Prelude.{◌≡◌, ◌≢◌, ◌⊎◌, List, IfOk, IfErr};
+ghost use Rattle.std.specs.Prelude.{◌≡◌, ◌≢◌, ◌⊎◌, ℕ, Bool, List, Ok, IfOk, IfErr, OnErr, cond};
 ghost use Rattle.std.specs.Io.KnownBytes.{Appends};
 ghost use Rattle.udfs_lattice.specs.Tables.{Table};
 ghost use Rattle.udfs_lattice.specs.Records.{join_all};
 ghost use Rattle.udfs_reading.specs.Several.{TablesAre};
 ghost use Rattle.udfs_reading.specs.TableFile.{table_bytes};
+ghost use Rattle.udfs_salvage.specs.Running.{OfJoin, PrintsOf};
 
 use crate::files::Files;
 use crate::merge::merge;
 use crate::printing::send;
 use crate::refusal::Refusal;
-use crate::words::{INPUTS, OUT, grammar};
+use crate::report::report;
+use crate::words::{INPUTS, LAST, OUT, grammar};
 use clap::error::ErrorKind;
 use clap::{ArgMatches, Error};
 use std::alloc::{AllocError, Global};
@@ -24,8 +26,8 @@ const NO_MEMORY: &[u8] = b"udfsalvage: out of memory\n";
 const NOT_TEXT: &[u8] =
     b"error: invalid UTF-8 was detected in one or more arguments\n\nFor more information, try '--help'.\n";
 
-/// Runs the command that the words ask for, the program's name first, and answers its exit status: 0 where it is done, 2
-/// where it is refused. A refusal is one line on `err`, and a fault of the words is clap's text there. Help and the
+/// Runs the command that the words ask for, the program's name first, and answers its exit status: 0 where it is done and
+/// nothing is lacking, 1 where a volume is not whole, 2 where the command is refused. A refusal is one line on `err`, and a fault of the words is clap's text there. Help and the
 /// version go to `out`.
 pub fn run<F: Files, O: Sink, E: Sink>(
     alloc: Global,
@@ -34,8 +36,8 @@ pub fn run<F: Files, O: Sink, E: Sink>(
     out: &mut O,
     err: &mut E,
 ) -> u8
-    ensures status { (result ≡ 0) ⊎ (result ≡ 2) }
-    ensures silent { result ≡ 0 → err.new ≡ err.old }
+    ensures status { (result ≡ 0) ⊎ (result ≡ 1) ⊎ (result ≡ 2) }
+    ensures silent { result ≢ 2 → err.new ≡ err.old }
 {
     let command = match grammar(alloc) {
         Ok(command) => command,
@@ -46,12 +48,27 @@ pub fn run<F: Files, O: Sink, E: Sink>(
         Err(error) => return show(alloc, &error, out, err),
     };
     let outcome = match matches.subcommand() {
-        Some(("merge", words)) => merge_words(alloc, words, files),
+        Some(("merge", words)) => match merge_words(alloc, words, files) {
+            Ok(_) => Ok(true),
+            Err(refusal) => Err(refusal),
+        },
+        Some(("report", words)) => report_words(alloc, words, files, out),
         // The grammar asks for a command and has no other.
         _ => return 2,
     };
+    finish(alloc, outcome, err)
+}
+
+/// The exit status of a command that is done, with or without something lacking, or refused.
+fn finish<E: Sink>(alloc: Global, outcome: Result<bool, Refusal>, err: &mut E) -> u8
+    ensures status { (result ≡ 0) ⊎ (result ≡ 1) ⊎ (result ≡ 2) }
+    ensures silent { result ≢ 2 → err.new ≡ err.old }
+    ensures done { IfOk outcome (λ whole. result ≡ cond whole 0 1) }
+    ensures refused { OnErr outcome (result ≡ 2) }
+{
     match outcome {
-        Ok(_) => 0,
+        Ok(true) => 0,
+        Ok(false) => 1,
         Err(refusal) => refuse(alloc, &refusal, err),
     }
 }
@@ -69,6 +86,22 @@ fn merge_words<F: Files>(
     let inputs = words.get_strs(INPUTS).unwrap_or(&[]);
     let out = words.get_str(OUT).unwrap_or("");
     merge(alloc, inputs, out, files)
+}
+
+/// Does what the words after `report` ask for.
+fn report_words<F: Files, O: Sink>(
+    alloc: Global,
+    words: &ArgMatches<'_>,
+    files: &F,
+    out: &mut O,
+) -> Result<bool, Refusal>
+    ensures printed { (whole : Bool) → result ≡ Ok whole → (last : ℕ) × (sources : List F.Input) ×
+        OfJoin F.Input.remaining sources (PrintsOf last (O.contents out.old) (O.contents out.new) (O.faults out.old) (O.faults out.new) (Ok whole)) }
+{
+    let inputs = words.get_strs(INPUTS).unwrap_or(&[]);
+    // The grammar asks for it.
+    let last = words.get_one::<u32>(LAST).unwrap_or(0);
+    report(alloc, inputs, last, files, out)
 }
 
 /// Says that the words of the command line could not be had, and answers the status.

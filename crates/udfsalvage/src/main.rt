@@ -7,6 +7,7 @@ mod machine;
 mod merge;
 mod printing;
 mod refusal;
+mod report;
 #[cfg(test)]
 mod tests;
 mod words;

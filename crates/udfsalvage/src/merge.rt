@@ -37,7 +37,11 @@ pub fn merge<F: Files>(
 }
 
 /// Opens all inputs in order, or says which is the first that cannot be opened.
-fn open_all<F: Files>(alloc: Global, paths: &[&str], files: &F) -> Result<Vec<F::Input>, Refusal>
+pub fn open_all<F: Files>(
+    alloc: Global,
+    paths: &[&str],
+    files: &F,
+) -> Result<Vec<F::Input>, Refusal>
     ensures each { IfOk result (λ sources. vec_len sources ≡ length paths.now) }
     ensures named { IfErr result (λ refusal. (input : ℕ) → refusal ≡ Refusal.Open input → (0 < input) × (input ≤ length paths.now)) }
 {

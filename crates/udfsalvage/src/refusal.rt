@@ -1,11 +1,12 @@
 //! Why a command was refused.
 
 ghost use Rattle.std.specs.Prelude.{◌≡◌};
-ghost use Rattle.udfsalvage.specs.Refusing.{refusal_of};
+ghost use Rattle.udfsalvage.specs.Refusing.{refusal_of, run_refusal_of};
 
 use std::alloc::AllocError;
 use thiserror::Error;
 use udfs_reading::{InputError, ReadingError, ReadingFault};
+use udfs_salvage::{RunError, SalvageError};
 
 /// Why a command was refused: its text is the line on standard error, without the program's name.
 #[derive(Debug, Drop, Error)]
@@ -22,6 +23,14 @@ pub enum Refusal {
     #[error("cannot write output")]
     Output,
 
+    /// The last block of a volume is out of range.
+    #[error("fault 1 LastRange")]
+    LastRange,
+
+    /// Something is known of this block, the least such one behind the last.
+    #[error("fault 2 PastEnd {0}")]
+    PastEnd(u32),
+
     /// Memory ran out, in whatever place.
     #[error("out of memory")]
     Memory(#[from(alloc)] AllocError),
@@ -35,6 +44,23 @@ impl From<InputError> for Refusal {
         match error.error.fault {
             ReadingFault::OutOfMemory => Refusal::Memory(AllocError),
             _ => Refusal::Input(error.input, error.error),
+        }
+    }
+}
+
+/// A report that was not printed, or only begun.
+impl From<RunError> for Refusal {
+    ghost from_gives = { λ error refusal. refusal ≡ run_refusal_of error };
+
+    fn from(error: RunError) -> Refusal {
+        match error {
+            RunError::Reading(error) => Refusal::from(error),
+            RunError::Salvage(SalvageError::LastRange) => Refusal::LastRange,
+            RunError::Salvage(SalvageError::PastEnd(block)) => Refusal::PastEnd(block),
+            RunError::Write => Refusal::Output,
+            RunError::Salvage(SalvageError::OutOfMemory) | RunError::OutOfMemory => {
+                Refusal::Memory(AllocError)
+            }
         }
     }
 }

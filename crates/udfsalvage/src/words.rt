@@ -1,6 +1,6 @@
 //! The words of the command line.
 
-use clap::{Arg, ArgAction, Command};
+use clap::{Arg, ArgAction, Command, value_parser};
 use std::alloc::{AllocError, Global};
 
 /// The inputs' id among the matches.
@@ -9,13 +9,17 @@ pub const INPUTS: &str = "input";
 /// The output file's id among the matches.
 pub const OUT: &str = "out";
 
+/// The last block's id among the matches.
+pub const LAST: &str = "last";
+
 /// The commands and what they take.
 pub fn grammar<'a>(alloc: Global) -> Result<Command<'a>, AllocError> {
     Command::new(alloc, "udfsalvage")
         .about("Salvages scratched rewritable UDF discs from several passes over them")
         .version("0.1.0")
         .subcommand_required(true)
-        .subcommand(merge(alloc)?)
+        .subcommand(merge(alloc)?)?
+        .subcommand(report(alloc)?)
 }
 
 /// `merge --out FILE IN...`
@@ -29,6 +33,21 @@ fn merge<'a>(alloc: Global) -> Result<Command<'a>, AllocError> {
     Command::new(alloc, "merge")
         .about("Joins readings and table files into one table file")
         .arg(out)?
+        .arg(inputs(alloc))
+}
+
+/// `report --last N IN...`
+fn report<'a>(alloc: Global) -> Result<Command<'a>, AllocError> {
+    let last = Arg::new(alloc, LAST)
+        .long("last")
+        .value_name("N")
+        .help("The number of the volume's last block")
+        .required(true)
+        .value_parser(value_parser!(u32))
+        .action(ArgAction::Set);
+    Command::new(alloc, "report")
+        .about("Prints what the inputs tell of the volume, and which blocks to read again")
+        .arg(last)?
         .arg(inputs(alloc))
 }
 

@@ -21,6 +21,11 @@ fn help_and_version_go_to_standard_output(rt: HostRuntime) -> Result<(), Fail> {
             "Joins readings and table files into one table file",
             "<IN>...",
         ),
+        (
+            "report --help",
+            "Prints what the inputs tell of the volume",
+            "--last <N>",
+        ),
         ("--version", "udfsalvage 0.1.0\n", "0.1.0"),
         ("-V", "udfsalvage 0.1.0\n", "0.1.0"),
     ] {
@@ -59,8 +64,24 @@ fn a_fault_of_the_words_is_told_and_changes_nothing(rt: HostRuntime) -> Result<(
             "error: the argument '--out <FILE>' cannot be used multiple times",
         ),
         (
-            "report --last 600 a.rd",
-            "error: unrecognized subcommand 'report'",
+            "reread --last 600 a.rd",
+            "error: unrecognized subcommand 'reread'",
+        ),
+        (
+            "report a.rd",
+            "error: the following required arguments were not provided",
+        ),
+        (
+            "report --last 600",
+            "error: the following required arguments were not provided",
+        ),
+        (
+            "report --last all a.rd",
+            "error: invalid value 'all' for '--last <N>'",
+        ),
+        (
+            "report --last 4294967296 a.rd",
+            "error: invalid value '4294967296' for '--last <N>'",
         ),
     ] {
         let mut memory = passes(alloc)?;

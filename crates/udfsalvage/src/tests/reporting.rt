@@ -1,0 +1,240 @@
+//! What `report` prints.
+
+use super::memory::{Memory, Outcome, passes, ran, reading};
+use std::alloc::Global;
+use std::test::Fail;
+use udfs_lattice::BlockTable;
+use udfs_reading::{Writer, write_table};
+use udfs_samples::{Bytes, Disc};
+
+/// Runs `report` over the table's file.
+fn reported(alloc: Global, table: &BlockTable) -> Result<Outcome, Fail> {
+    let mut file = Writer::new(Vec::new(alloc));
+    let _ = write_table(table, &mut file);
+    let mut memory = Memory::new(alloc);
+    memory.store("disc.tab", file.into_inner().as_slice())?;
+    Ok(ran(alloc, &mut memory, "report --last 600 disc.tab")?)
+}
+
+/// Whether the report of a disc of which all blocks are known has this line, with status 1.
+fn has_line(alloc: Global, disc: &Disc, line: &str) -> Result<bool, Fail> {
+    let ran = reported(alloc, &disc.known_but(alloc, &[])?)?;
+    let line = format!(in alloc; "\n{line}\n")?;
+    Ok(ran.status == 1 && ran.err.is_empty() && ran.out.as_str().contains(line.as_str()))
+}
+
+#[test]
+fn an_empty_table_asks_for_the_anchors(rt: HostRuntime) -> Result<(), Fail> {
+    let alloc = rt.alloc();
+    let mut memory = Memory::new(alloc);
+    memory.store("empty.rd", reading(alloc, &[])?.as_slice())?;
+    let first = ran(alloc, &mut memory, "report --last 600 empty.rd")?;
+    assert_eq!(rt; first.status, 1);
+    assert_eq!(rt;
+        first.out.as_str(),
+        "UDFREPORT1 last 600\nknown 0 conflict 0\nvolume holes 256 344 600\nreread 256 unknown\nreread 344 unknown\nreread 600 unknown\nend\n"
+    );
+    let least = ran(alloc, &mut memory, "report --last 513 empty.rd")?;
+    assert_eq!(rt; least.status, 1);
+    assert_eq!(rt;
+        least.out.as_str(),
+        "UDFREPORT1 last 513\nknown 0 conflict 0\nvolume holes 256 257 513\nreread 256 unknown\nreread 257 unknown\nreread 513 unknown\nend\n"
+    );
+    Ok(())
+}
+
+#[test]
+fn a_volume_that_opens(rt: HostRuntime) -> Result<(), Fail> {
+    let alloc = rt.alloc();
+    for (disc, begin) in [
+        (
+            Disc::type1(alloc)?,
+            "UDFREPORT1 last 600\nknown 601 conflict 0\nvolume ok revision 1.50 map type1\nlabel name TEST\n",
+        ),
+        (
+            Disc::sparable(alloc)?,
+            "UDFREPORT1 last 600\nknown 601 conflict 0\nvolume ok revision 1.50 map sparable 32\nlabel name TEST\n",
+        ),
+        (
+            Disc::two_maps(alloc)?,
+            "UDFREPORT2 last 600\nknown 601 conflict 0\nvolume ok revision 1.50 map type1 sparable 32\nlabel name TEST\n",
+        ),
+    ] {
+        let ran = reported(alloc, &disc.known_but(alloc, &[])?)?;
+        assert_eq!(rt; ran.status, 1);
+        assert!(rt; ran.out.as_str().starts_with(begin), "{ran:?}");
+        assert!(rt; ran.out.as_str().ends_with("\nend\n"), "{ran:?}");
+    }
+    Ok(())
+}
+
+#[test]
+fn a_volume_of_one_map_with_changes(rt: HostRuntime) -> Result<(), Fail> {
+    let alloc = rt.alloc();
+    let changes: [(Bytes, &str); 14] = [
+        ((32, 240, &[1, 2]), "volume ok revision 2.01 map type1"),
+        ((32, 240, &[2, 1]), "volume fault 5 Domain"),
+        ((32, 268, &[3]), "volume fault 7 MapCount"),
+        ((32, 268, &[2]), "volume fault 8 MapKind"),
+        ((32, 444, &[5]), "volume fault 9 NoPartition"),
+        ((33, 192, &[0x49, 1]), "volume ok revision 1.50 map type1"),
+        ((33, 192, &[0x4A, 1]), "volume fault 11 PartitionRange"),
+        ((256, 16, &[0, 0x78, 0, 0]), "volume fault 2 Extents"),
+        (
+            (
+                34,
+                0,
+                &[3, 0, 2, 0, 0x27, 0, 0, 0, 0, 0, 0, 0, 0x22, 0, 0, 0],
+            ),
+            "volume fault 3 Pointer",
+        ),
+        ((32, 0, &[7]), "volume fault 4 NoLogicalVolume"),
+        ((34, 0, &[3]), "volume ok revision 1.50 map type1"),
+        ((32, 211, &[0]), "label empty"),
+        ((32, 211, &[0x80]), "label invalid"),
+        ((272, 0, &[1]), "volume fault 16 FileSet"),
+    ];
+    for (change, line) in changes {
+        let mut disc = Disc::type1(alloc)?;
+        disc.write(&[change])?;
+        assert!(rt; has_line(alloc, &disc, line)?, "{line}");
+    }
+    Ok(())
+}
+
+#[test]
+fn a_sparable_volume_with_changes(rt: HostRuntime) -> Result<(), Fail> {
+    let alloc = rt.alloc();
+    let changes: [(Bytes, &str); 7] = [
+        ((100, 60, &[0x3A, 2]), "volume fault 15 MappedRange"),
+        ((100, 60, &[0x39, 2]), "volume fault 16 FileSet"),
+        ((100, 56, &[0x21]), "volume fault 13 SparingShape"),
+        ((100, 48, &[0xFA]), "volume fault 13 SparingShape"),
+        ((100, 48, &[0xF9]), "volume fault 14 SparingOrder"),
+        ((100, 16, &[0; 32]), "volume fault 12 SparingTag"),
+        ((32, 480, &[8]), "volume fault 8 MapKind"),
+    ];
+    for (change, line) in changes {
+        let mut disc = Disc::sparable(alloc)?;
+        disc.write(&[change])?;
+        assert!(rt; has_line(alloc, &disc, line)?, "{line}");
+    }
+    Ok(())
+}
+
+#[test]
+fn one_copy_of_each_is_enough(rt: HostRuntime) -> Result<(), Fail> {
+    let alloc = rt.alloc();
+    let disc = Disc::sparable(alloc)?;
+    let table = disc.known_at(
+        alloc,
+        &[256, 32, 33, 34, 200, 400, 401, 402, 403, 404, 405, 406, 407],
+    )?;
+    let ran = reported(alloc, &table)?;
+    assert!(rt;
+        ran.out.as_str().starts_with(
+            "UDFREPORT1 last 600\nknown 13 conflict 0\nvolume ok revision 1.50 map sparable 32\nlabel name TEST\n"
+        ),
+        "{ran:?}"
+    );
+    Ok(())
+}
+
+#[test]
+fn holes_are_to_be_read_again(rt: HostRuntime) -> Result<(), Fail> {
+    let alloc = rt.alloc();
+    let disc = Disc::type1(alloc)?;
+    let both = reported(alloc, &disc.known_but(alloc, &[33, 49])?)?;
+    assert_eq!(rt; both.status, 1);
+    assert_eq!(rt;
+        both.out.as_str(),
+        "UDFREPORT1 last 600\nknown 599 conflict 0\nvolume holes 33 49\nreread 33 unknown\nreread 49 unknown\nend\n"
+    );
+    let ends = reported(alloc, &disc.known_but(alloc, &[34, 50])?)?;
+    assert!(rt;
+        ends.out.as_str().contains("\nvolume holes 34 50\n"),
+        "{ends:?}"
+    );
+    let root = reported(alloc, &disc.known_but(alloc, &[272])?)?;
+    assert_eq!(rt;
+        root.out.as_str(),
+        "UDFREPORT1 last 600\nknown 600 conflict 0\nvolume holes 272\nreread 272 unknown\nend\n"
+    );
+    let spared = reported(
+        alloc,
+        &Disc::sparable(alloc)?.known_but(alloc, &[100, 200])?,
+    )?;
+    assert_eq!(rt;
+        spared.out.as_str(),
+        "UDFREPORT1 last 600\nknown 599 conflict 0\nvolume holes 100 200\nreread 100 unknown\nreread 200 unknown\nend\n"
+    );
+    Ok(())
+}
+
+#[test]
+fn a_conflict_is_told(rt: HostRuntime) -> Result<(), Fail> {
+    let alloc = rt.alloc();
+    let mut table = Disc::type1(alloc)?.known_but(alloc, &[49])?;
+    table.put(33, &[0; 2048])?;
+    let ran = reported(alloc, &table)?;
+    assert_eq!(rt;
+        ran.out.as_str(),
+        "UDFREPORT1 last 600\nknown 599 conflict 1\nvolume holes 33 49\nreread 33 conflict\nreread 49 unknown\nend\n"
+    );
+    Ok(())
+}
+
+#[test]
+fn order_and_repetition_change_nothing(rt: HostRuntime) -> Result<(), Fail> {
+    let alloc = rt.alloc();
+    let mut memory = passes(alloc)?;
+    let text =
+        "UDFREPORT1 last 600\nknown 1 conflict 1\nvolume holes 256 344 600\nreread 256 unknown\nreread 344 unknown\nreread 600 unknown\nend\n";
+    for words in [
+        "report --last 600 a.rd b.rd c.rd",
+        "report --last 600 c.rd b.rd a.rd",
+        "report c.rd a.rd b.rd a.rd --last=600",
+    ] {
+        let ran = ran(alloc, &mut memory, words)?;
+        assert_eq!(rt; ran.status, 1, "{words}");
+        assert_eq!(rt; ran.out.as_str(), text, "{words}");
+        assert_eq!(rt; ran.err.as_str(), "", "{words}");
+    }
+    Ok(())
+}
+
+#[test]
+fn a_last_block_that_cannot_be_is_refused(rt: HostRuntime) -> Result<(), Fail> {
+    let alloc = rt.alloc();
+    let mut memory = passes(alloc)?;
+    let past = reading(alloc, &[(700, 0x61), (601, 0x62), (600, 0x63)])?;
+    memory.store("past.rd", past.as_slice())?;
+    memory.store("bad.rd", b"UDFREADX\x00\x08\x00\x00\x00\x00\x00\x00")?;
+    for (words, line) in [
+        ("report --last 512 a.rd", "udfsalvage: fault 1 LastRange\n"),
+        (
+            "report --last 4194304 a.rd",
+            "udfsalvage: fault 1 LastRange\n",
+        ),
+        (
+            "report --last 600 past.rd",
+            "udfsalvage: fault 2 PastEnd 601\n",
+        ),
+        (
+            "report --last 699 past.rd",
+            "udfsalvage: fault 2 PastEnd 700\n",
+        ),
+        (
+            "report --last 512 a.rd bad.rd",
+            "udfsalvage: input 2: fault 1 Magic at record 0\n",
+        ),
+        (
+            "report --last 512 bad.rd none.rd",
+            "udfsalvage: cannot open input 2\n",
+        ),
+    ] {
+        let ran = ran(alloc, &mut memory, words)?;
+        assert!(rt; ran.is_refused(line), "{words}: {ran:?}");
+    }
+    Ok(())
+}
