@@ -1,0 +1,5 @@
+pub mod Rising
+pub mod RunLemmas
+pub mod RouteOrder
+pub mod Trees
+pub mod BlockCells

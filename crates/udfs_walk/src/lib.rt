@@ -1,0 +1,11 @@
+//! The nodes of a volume of which some blocks are not known: every path with what is told of it, the entries that no
+//! name leads to, and the blocks to read again.
+#![tactic(auto)]
+
+mod ascending;
+mod gaps;
+pub mod nodes;
+pub mod standings;
+
+pub use nodes::{Node, NodesError};
+pub use standings::{Standing, Torn};
