@@ -3,3 +3,4 @@ pub mod RunLemmas
 pub mod RouteOrder
 pub mod Trees
 pub mod BlockCells
+pub mod TargetLemmas

@@ -1,6 +1,5 @@
 -- What is told of the end of a route.
 --     node view w                          the node
---     GivesNodes view root result          the nodes of a volume, or that there are too many
 use Rattle.std.specs.Prelude.{[], ◌∷◌, cond, Some, None}
 use Rattle.udfs_space.specs.Places.{View}
 use Rattle.udfs_file.specs.Entries.{EntryFields}
@@ -8,7 +7,7 @@ use Rattle.udfs_file.specs.Bodies.{body}
 use Rattle.udfs_file.specs.declared.faults.Kind.TheVariants.{Unread}
 use Rattle.udfs_walk.specs.NodeFields.{NodeFields}
 use Rattle.udfs_walk.specs.Standings.{body_standing}
-use Rattle.udfs_walk.specs.Targets.{Target, bad_address, unread_icb, bad_entry, entry, target}
+use Rattle.udfs_walk.specs.Targets.{Target, bad, unread, entry, target}
 use Rattle.udfs_walk.specs.Routes.{Walked, is_loop, is_deep}
 use Rattle.udfs_walk.specs.declared.standings.Standing.{Standing}
 use Rattle.udfs_walk.specs.declared.standings.Standing.TheVariants.{Torn, Loop, Fault}
@@ -45,9 +44,8 @@ entry_standing view w e = cond (is_loop w) Loop
 -- the first that holds: a bad address, an ICB that is not known, a fault of the entry, a loop, a fault of the body
 -- or of what a directory lists, missing cells; else it is whole
 abbrev pub node_at : View → Walked → Target → NodeFields
-node_at view w (bad_address f) = untold w (Fault f)
-node_at view w (unread_icb n) = untold w (Torn (record { missing = n ∷ []; holes = [] }))
-node_at view w (bad_entry f) = untold w (Fault f)
+node_at view w (bad f) = untold w (Fault f)
+node_at view w (unread n) = untold w (Torn (record { missing = n ∷ []; holes = [] }))
 node_at view w (entry e) = told w e (entry_standing view w e)
 
 unfoldable pub node : View → Walked → NodeFields

@@ -1,5 +1,5 @@
 -- What the address of an information control block leads to.
---     target view a        no block, a block that is not known, no entry, or an entry
+--     target view a        a fault, a block that is not known, or an entry
 --     icb_of a             the partition reference and logical block of an address
 use Rattle.std.specs.Prelude.{ℕ, Bool, ◌==◌, ◌&&◌, Option, Some, None}
 use Rattle.udfs_lattice.specs.States.{State}
@@ -11,27 +11,26 @@ use Rattle.udfs_file.specs.Entries.{EntryFields, entry_fault, entry_of}
 use Rattle.udfs_file.specs.declared.faults.NodeFault.{NodeFault}
 use Rattle.udfs_file.specs.declared.faults.NodeFault.TheVariants.{Range}
 
--- a bad address, a block that is not known, a block that is no entry without a fault, or an entry
+-- a fault of the address or of the entry there, a block that is not known, or an entry
 pub data Target : Type 0 where
-  bad_address : NodeFault → Target
-  unread_icb : ℕ → Target
-  bad_entry : NodeFault → Target
+  bad : NodeFault → Target
+  unread : ℕ → Target
   entry : EntryFields → Target
 
 abbrev pub entry_unless : Option NodeFault → EntryFields → Target
 entry_unless None e = entry e
-entry_unless (Some fault) e = bad_entry fault
+entry_unless (Some fault) e = bad fault
 
 -- what block n says at logical block b
 abbrev pub target_in : ℕ → ℕ → State → Target
-target_in b n Unknown = unread_icb n
+target_in b n Unknown = unread n
 target_in b n (Known bytes) = entry_unless (entry_fault bytes b) (entry_of bytes)
-target_in b n Conflict = unread_icb n
+target_in b n Conflict = unread n
 
 -- where the address has no fault, its block has a place
 abbrev pub target_at : Option NodeFault → ℕ → Option (ℕ × State) → Target
-target_at (Some fault) b block = bad_address fault
-target_at None b None = bad_address Range
+target_at (Some fault) b block = bad fault
+target_at None b None = bad Range
 target_at None b (Some block) = target_in b block.0 block.1
 
 unfoldable pub target : View → LongAd → Target

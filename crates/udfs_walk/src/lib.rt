@@ -6,6 +6,8 @@ mod ascending;
 mod gaps;
 pub mod nodes;
 pub mod standings;
+mod targets;
+mod visits;
 
 pub use nodes::{Node, NodesError};
 pub use standings::{Standing, Torn};
