@@ -4,3 +4,4 @@ pub mod RouteOrder
 pub mod Trees
 pub mod BlockCells
 pub mod TargetLemmas
+pub mod Owed

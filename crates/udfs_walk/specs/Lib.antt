@@ -6,3 +6,5 @@ pub mod Targets
 pub mod Routes
 pub mod Nodes
 pub mod Visits
+pub mod Frames
+pub mod Walks

@@ -2,12 +2,14 @@
 //! name leads to, and the blocks to read again.
 #![tactic(auto)]
 
+pub mod answers;
 mod ascending;
 mod gaps;
-pub mod nodes;
 pub mod standings;
 mod targets;
 mod visits;
+mod walks;
 
-pub use nodes::{Node, NodesError};
+pub use answers::{Node, NodesError};
 pub use standings::{Standing, Torn};
+pub use walks::nodes;

@@ -16,7 +16,7 @@ ghost use Rattle.udfs_walk.specs.Nodes.{node, told, untold};
 ghost use Rattle.udfs_walk.specs.Visits.{end_at};
 
 use crate::gaps::cells_standing;
-use crate::nodes::Node;
+use crate::answers::Node;
 use crate::standings::{Standing, Torn};
 use crate::targets::{Target, target_at};
 use std::alloc::{AllocError, Global};

@@ -57,7 +57,7 @@ pub enum NodesError {
 
 impl From<AllocError> for NodesError {
     ghost use Rattle.std.specs.Prelude.{◌≡◌};
-    ghost use Rattle.udfs_walk.specs.declared.nodes.NodesError.TheVariants as nodes_error;
+    ghost use Rattle.udfs_walk.specs.declared.answers.NodesError.TheVariants as nodes_error;
 
     ghost from_gives = { λ _ e. e ≡ nodes_error.OutOfMemory };
 
