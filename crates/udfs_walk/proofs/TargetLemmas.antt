@@ -1,0 +1,38 @@
+-- What an address leads to, by its fault and its block.
+use Rattle.std.proofs.Common.{◌≡◌, refl, sym, ◌∙◌, ap, ℕ, List, Option, Some, None}
+use Rattle.udfs_lattice.specs.States.{State}
+use Rattle.udfs_lattice.specs.declared.facts.Fact.TheVariants.{Known}
+use Rattle.udfs_tag.specs.declared.layouts.LongAd.{LongAd}
+use Rattle.udfs_space.specs.Places.{View, block_at}
+use Rattle.udfs_file.specs.Addresses.{address_fault}
+use Rattle.udfs_file.specs.Entries.{entry_fault, entry_of}
+use Rattle.udfs_file.specs.declared.faults.NodeFault.{NodeFault}
+use Rattle.udfs_file.specs.declared.faults.NodeFault.TheVariants.{Range}
+use Rattle.udfs_walk.specs.Nodes.{node, node_at}
+use Rattle.udfs_walk.specs.Routes.{Walked}
+use Rattle.udfs_walk.specs.Targets.{Target, bad, entry, entry_unless, target_in, target_at, target}
+
+target_is : (v : View) (a : LongAd) (f : Option NodeFault) (o : Option (ℕ × State)) → address_fault v a ≡ f → block_at v a.reference a.block ≡ o → target v a ≡ target_at f a.block o
+unfolding target
+target_is v a f o e h = λ i. target_at (e i) a.block (h i)
+
+pub bad_target : (v : View) (a : LongAd) (f : NodeFault) → Some f ≡ address_fault v a → bad f ≡ target v a
+bad_target v a f e = sym (target_is v a (Some f) (block_at v a.reference a.block) (sym e) refl)
+
+pub no_block : (v : View) (a : LongAd) (b : ℕ) → None ≡ address_fault v a → None ≡ block_at v a.reference b → b ≡ a.block → bad Range ≡ target v a
+no_block v a b e h q = sym (target_is v a None None (sym e) (ap (block_at v a.reference) (sym q) ∙ sym h))
+
+pub block_target : (v : View) (a : LongAd) (b n : ℕ) (s : State) → None ≡ address_fault v a → Some (n, s) ≡ block_at v a.reference b → b ≡ a.block → target_in a.block n s ≡ target v a
+block_target v a b n s e h q = sym (target_is v a None (Some (n, s)) (sym e) (ap (block_at v a.reference) (sym q) ∙ sym h))
+
+pub entry_target : (v : View) (a : LongAd) (b n : ℕ) (bytes got : List ℕ) → None ≡ address_fault v a → Some (n, Known bytes) ≡ block_at v a.reference b → b ≡ a.block
+    → got ≡ bytes → entry_fault bytes a.block ≡ None → entry (entry_of got) ≡ target v a
+entry_target v a b n bytes got e h q g f = ap (λ x. entry (entry_of x)) g ∙ ap (λ o. entry_unless o (entry_of bytes)) (sym f) ∙ block_target v a b n (Known bytes) e h q
+
+pub fault_target : (v : View) (a : LongAd) (b n : ℕ) (bytes : List ℕ) (fault : NodeFault) → None ≡ address_fault v a → Some (n, Known bytes) ≡ block_at v a.reference b → b ≡ a.block
+    → entry_fault bytes a.block ≡ Some fault → bad fault ≡ target v a
+fault_target v a b n bytes fault e h q f = ap (λ o. entry_unless o (entry_of bytes)) (sym f) ∙ block_target v a b n (Known bytes) e h q
+
+pub node_is : (v : View) (w : Walked) (t : Target) → t ≡ target v w.address → node_at v w t ≡ node v w
+unfolding node
+node_is v w t e = ap (node_at v w) e

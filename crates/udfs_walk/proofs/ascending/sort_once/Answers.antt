@@ -1,0 +1,14 @@
+use Rattle.std.proofs.lemmas.List.Filters.{dedup_is}
+use Rattle.std.proofs.lemmas.List.Kept.{Contains-dedup_nat, Contains-from_dedup}
+use Rattle.std.proofs.lemmas.List.Sorted.{Contains-permutation, IsPermutation-sym}
+use Rattle.std.proofs.lemmas.Map.Keys.{IsStrictlyIncreasing-dedup}
+use Rattle.udfs_walk.proofs.Rising.{increasing_is}
+use Rattle.udfs_walk.proofs.ascending.sort_once.Goals as goal
+
+pub returns : goal.returns
+returns c =
+    let is = dedup_is _ _ _ c.dedup.ensures.filtered in
+    let moved = c.sort_unstable.ensures.permutation in
+    rw is (increasing_is _ _ (IsStrictlyIncreasing-dedup _ c.sort_unstable.ensures.sorted)
+    (λ x h. Contains-dedup_nat _ x (Contains-permutation _ _ x moved h))
+    (λ x h. Contains-permutation _ _ x (IsPermutation-sym _ _ moved) (Contains-from_dedup _ _ x h)))

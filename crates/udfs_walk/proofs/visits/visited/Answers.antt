@@ -1,0 +1,34 @@
+use Rattle.std.proofs.Common.{◌≡◌, ◌∙◌, ap, cond, nat_le, length, arith}
+use Rattle.udfs_lattice.specs.Tables.{state_of}
+use Rattle.udfs_space.specs.Places.{view}
+use Rattle.udfs_file.specs.Bodies.{body}
+use Rattle.udfs_file.specs.Entries.{entry_of}
+use Rattle.udfs_walk.specs.Standings.{body_standing}
+use Rattle.udfs_walk.specs.Nodes.{told, untold}
+use Rattle.udfs_walk.specs.Targets.{bad, entry, unread}
+use Rattle.udfs_walk.specs.Visits.{end_at}
+use Rattle.udfs_walk.specs.declared.standings.Standing.TheVariants.{Torn, Loop}
+use Rattle.udfs_walk.proofs.TargetLemmas.{node_is}
+use Rattle.udfs_walk.proofs.visits.visited.Goals as goal
+
+pub returns-in-Fault-clause-node : goal.returns-in-Fault-clause-node
+returns-in-Fault-clause-node c =
+    let w = end_at c.args.address c.args.path.items c.args.above.now c.args.hidden in
+    c.unread.ensures c.args.above.now ∙ node_is (view (state_of c.args.table.now) c.args.space.now) w (bad c.in-Fault.fault) c.in-Fault.ensures.value
+
+pub returns-in_ok-missing-in-Unread-clause-node : goal.returns-in_ok-missing-in-Unread-clause-node
+returns-in_ok-missing-in-Unread-clause-node c =
+    let w = end_at c.args.address c.args.path.items c.args.above.now c.args.hidden in
+    c.unread-in-Unread.ensures c.args.above.now
+    ∙ (λ i. untold w (Torn (record { missing = c.in_ok-missing-in-Unread.ensures.items i; holes = c.new-holes.ensures.items i })))
+    ∙ node_is (view (state_of c.args.table.now) c.args.space.now) w (unread c.in-Unread.n) c.in-Unread.ensures.value
+
+pub returns-in_ok-told-in-Entry-clause-node : goal.returns-in_ok-told-in-Entry-clause-node
+returns-in_ok-told-in-Entry-clause-node c =
+    let v = view (state_of c.args.table.now) c.args.space.now in
+    let w = end_at c.args.address c.args.path.items c.args.above.now c.args.hidden in
+    let e = entry_of c.in-Entry.entry in
+    let n : c.len-is_deep.result ≡ length c.args.path.items = omega (arith, c.args.path.ok.0) in
+    c.read.ensures c.args.above.now ∙ ap (told w e) c.in_ok-told-in-Entry.ensures.standing
+    ∙ (λ i. told w e (cond (c.is_loop-is_loop.ensures i) Loop (body_standing e.kind (nat_le 64 (n i)) (body v c.args.address.reference c.args.address.block e))))
+    ∙ node_is v w (entry e) c.in-Entry.ensures.value

@@ -1,0 +1,32 @@
+-- The directories on the way that code keeps.
+--     frame_at view w            the directory at the end of a route, none of whose entries was gone into
+--     IsTaken view old taken new     the next entry was gone into
+use Rattle.std.specs.Prelude.{◌≡◌, ℕ, List, [], ◌∷◌, ◌++◌, Option, Some, None}
+use Rattle.udfs_space.specs.Places.{View}
+use Rattle.udfs_file.specs.declared.directories.DirEntry.{DirEntry}
+use Rattle.udfs_walk.specs.NodeFields.{NodeFields}
+use Rattle.udfs_walk.specs.Targets.{Icb, icb_of}
+use Rattle.udfs_walk.specs.Routes.{Walked, inside, entries_below}
+use Rattle.udfs_walk.specs.Nodes.{node}
+
+-- a directory: its path, the ICBs down to its own, and the entries that are left
+pub record FrameFields : Type 0 where
+  pub path : List (List ℕ)
+  pub above : List Icb
+  pub left : List DirEntry
+
+abbrev pub frame_at : View → Walked → FrameFields
+frame_at view w = record { path = w.path; above = w.above ++ icb_of w.address ∷ []; left = entries_below view w }
+
+-- of the entries that are left the first
+pub record IsNextTaken (view : View) (old new : FrameFields) (n : NodeFields) (below : FrameFields) : Type 0 where
+  pub entry : DirEntry
+  pub first : old.left ≡ entry ∷ new.left
+  pub path : new.path ≡ old.path
+  pub above : new.above ≡ old.above
+  pub node : n ≡ node view (inside old.path old.above entry)
+  pub frame : below ≡ frame_at view (inside old.path old.above entry)
+
+abbrev pub IsTaken : View → FrameFields → Option (NodeFields × FrameFields) → FrameFields → Type 0
+IsTaken view old None new = old.left ≡ []
+IsTaken view old (Some taken) new = IsNextTaken view old new taken.0 taken.1

@@ -1,0 +1,62 @@
+-- What code keeps of the cells that it has gone through.
+--     IsPassed whole rest gaps          of these cells the rest is left
+--     Leaves cells rest old new         of these cells the rest is left
+use Rattle.std.specs.Prelude.{◌≡◌, ℕ, zero, suc, List, [], ◌∷◌, ◌++◌, replicate, Option, Some, None, ⊤}
+use Rattle.udfs_lattice.specs.States.{State}
+use Rattle.udfs_lattice.specs.declared.facts.Fact.TheVariants.{Unknown, Known, Conflict}
+use Rattle.udfs_lattice.specs.Volumes.{ascending}
+use Rattle.udfs_file.specs.declared.cells.Cell.{Cell}
+use Rattle.udfs_file.specs.declared.cells.Cell.TheVariants.{Byte, Gap}
+use Rattle.udfs_walk.specs.Standings.{missing_blocks, runs_from}
+
+-- the blocks and the runs so far, and a last run of this many cells from this place on that may grow
+pub record GapFields : Type 0 where
+  pub missing : List ℕ
+  pub holes : List (ℕ × ℕ)
+  pub start : ℕ
+  pub grown : ℕ
+
+-- a run, if it has cells, and those behind it
+abbrev pub closed : ℕ → ℕ → List (ℕ × ℕ) → List (ℕ × ℕ)
+closed start zero runs = runs
+closed start (suc grown) runs = (start, suc grown) ∷ runs
+
+-- the runs in cells behind a run that may grow
+abbrev pub runs_open : ℕ → ℕ → List Cell → List (ℕ × ℕ)
+runs_open start grown rest = runs_from start (replicate grown (Gap 0) ++ rest)
+
+pub record IsPassed (whole rest : List Cell) (g : GapFields) : Type 0 where
+  pub blocks : ascending (missing_blocks whole) ≡ ascending (g.missing ++ missing_blocks rest)
+  pub runs : runs_from 0 whole ≡ g.holes ++ runs_open g.start g.grown rest
+
+-- of these cells those in front were gone through, and the rest is left
+unfoldable pub Leaves : List Cell → List Cell → GapFields → GapFields → Type 0
+Leaves cs rest old new = (whole later : List Cell) → IsPassed whole (cs ++ later) old → IsPassed whole (rest ++ later) new
+
+abbrev pub IsByte : Cell → Type 0
+IsByte (Byte x holder) = ⊤
+IsByte (Gap n) = ⊥
+
+abbrev pub IsGapOf : ℕ → Cell → Type 0
+IsGapOf n (Byte x holder) = ⊥
+IsGapOf n (Gap m) = m ≡ n
+
+-- all cells are known
+abbrev pub AreBytes : List Cell → Type 0
+AreBytes [] = ⊤
+AreBytes (c ∷ cs) = IsByte c × AreBytes cs
+
+-- all cells are missing with this block
+abbrev pub AreGapsOf : ℕ → List Cell → Type 0
+AreGapsOf n [] = ⊤
+AreGapsOf n (c ∷ cs) = IsGapOf n c × AreGapsOf n cs
+
+-- the block that is missing at a logical address, if one is
+abbrev pub missing_in : ℕ → State → Option ℕ
+missing_in n Unknown = Some n
+missing_in n (Known bytes) = None
+missing_in n Conflict = Some n
+
+abbrev pub missing_at : Option (ℕ × State) → Option ℕ
+missing_at None = None
+missing_at (Some block) = missing_in block.0 block.1

@@ -1,0 +1,97 @@
+-- Routes from the root: at each directory the place of an entry among its entries.
+--     walked view root route              what stands at the end of a route, if it leads anywhere
+--     IsBefore, IsInOrder                 the order of words: a route directly before those that it begins
+--     IsWalk view root walks              all routes in that order
+--     HasMoreRoutes view root count       more than so many routes lead anywhere
+use Rattle.std.specs.Prelude.{◌≡◌, ℕ, ◌<◌, bit_and, Bool, false, List, [], ◌∷◌, ◌++◌, length, cond, nat_le, ◌==◌, ◌||◌, ◌⊎◌, Option, Some, None, slice_get, IsSome, ⊤}
+use Rattle.std.specs.List.{list_any, AllZip}
+use Rattle.udfs_lattice.specs.Volumes.{Includes}
+use Rattle.udfs_tag.specs.declared.layouts.LongAd.{LongAd}
+use Rattle.udfs_space.specs.Places.{View}
+use Rattle.udfs_file.specs.Bodies.{Body, cells, faulty_body, body}
+use Rattle.udfs_file.specs.Fronts.{entries_of}
+use Rattle.udfs_file.specs.declared.directories.DirEntry.{DirEntry}
+use Rattle.udfs_file.specs.declared.faults.Kind.{Kind}
+use Rattle.udfs_file.specs.declared.faults.Kind.TheVariants.{Directory}
+use Rattle.udfs_walk.specs.Targets.{Target, entry, target, Icb, icb_of, is_icb}
+
+-- The end of a route: the address read there, the names read on the way, the ICBs of the directories on the way,
+-- and whether the last name is marked as hidden.
+pub record Walked : Type 0 where
+  pub address : LongAd
+  pub path : List (List ℕ)
+  pub above : List Icb
+  pub hidden : Bool
+
+abbrev pub at_root : LongAd → Walked
+at_root root = record { address = root; path = []; above = []; hidden = false }
+
+-- an entry of a directory of this path, below these ICBs
+abbrev pub inside : List (List ℕ) → List Icb → DirEntry → Walked
+inside path above e = record { address = e.icb; path = path ++ e.name ∷ []; above = above; hidden = bit_and e.marks.0 1 == 1 }
+
+-- one entry further
+abbrev pub below : Walked → DirEntry → Walked
+below w e = inside w.path (w.above ++ icb_of w.address ∷ []) e
+
+-- the ICB is that of a directory on the way
+abbrev pub is_loop : Walked → Bool
+is_loop w = list_any (is_icb (icb_of w.address)) w.above
+
+-- 64 names lead here
+abbrev pub is_deep : Walked → Bool
+is_deep w = nat_le 64 (length w.path)
+
+abbrev pub entries_in : Body → List DirEntry
+entries_in (cells cs) = entries_of cs
+entries_in (faulty_body fault) = []
+
+abbrev pub kind_entries : Kind → Body → List DirEntry
+kind_entries Directory b = entries_in b
+kind_entries _ b = []
+
+abbrev pub target_entries : View → LongAd → Target → List DirEntry
+target_entries view a (entry e) = kind_entries e.kind (body view a.reference a.block e)
+target_entries view a _ = []
+
+-- the entries to which a route goes on: those of a directory that is no loop and has fewer than 64 names above
+unfoldable pub entries_below : View → Walked → List DirEntry
+entries_below view w = cond (is_loop w || is_deep w) [] (target_entries view w.address (target view w.address))
+
+-- at each directory the place of an entry, counted from 0
+abbrev pub Route : Type 0
+Route = List ℕ
+
+abbrev pub walk_from : View → Walked → Route → Option Walked
+walk_from view w [] = Some w
+walk_from view w (j ∷ js) = elim (slice_get (entries_below view w) j) [ None ↦ None | Some e ↦ walk_from view (below w e) js ]
+
+-- what stands at the end of a route
+unfoldable pub walked : View → LongAd → Route → Option Walked
+walked view root route = walk_from view (at_root root) route
+
+-- the order of words
+abbrev pub IsBefore : Route → Route → Type 0
+IsBefore [] [] = ⊥
+IsBefore [] (j ∷ js) = ⊤
+IsBefore (i ∷ is) [] = ⊥
+IsBefore (i ∷ is) (j ∷ js) = (i < j) ⊎ ((i ≡ j) × IsBefore is js)
+
+abbrev pub IsInOrder : List Route → Type 0
+IsInOrder [] = ⊤
+IsInOrder (r ∷ []) = ⊤
+IsInOrder (r ∷ s ∷ rest) = IsBefore r s × IsInOrder (s ∷ rest)
+
+-- all routes in order, and what stands at the end of each
+pub record IsWalk (view : View) (root : LongAd) (walks : List Walked) : Type 0 where
+  pub routes : List Route
+  pub in_order : IsInOrder routes
+  pub all : (route : Route) → IsSome (walked view root route) → Includes routes route
+  pub each : AllZip (λ route w. walked view root route ≡ Some w) routes walks
+
+-- more than so many routes lead anywhere
+pub record HasMoreRoutes (view : View) (root : LongAd) (count : ℕ) : Type 0 where
+  pub routes : List Route
+  pub in_order : IsInOrder routes
+  pub lead : (route : Route) → Includes routes route → IsSome (walked view root route)
+  pub more : count < length routes

@@ -1,0 +1,64 @@
+-- Standings: what is missing of a body, and what is told of a node with a body.
+--     missing_blocks cells                       the blocks that missing cells name
+--     runs_from at cells                         the maximal runs of missing cells
+--     body_standing kind is_deep body            the standing of an entry with this body
+use Rattle.std.specs.Prelude.{ℕ, ◌+◌, Bool, true, false, List, [], ◌∷◌, cond, nat_eq, Option, Some, None}
+use Rattle.udfs_lattice.specs.Volumes.{ascending}
+use Rattle.udfs_file.specs.Bodies.{Body, cells, faulty_body}
+use Rattle.udfs_file.specs.Fronts.{directory, entries_of, fault_in}
+use Rattle.udfs_file.specs.declared.cells.Cell.{Cell}
+use Rattle.udfs_file.specs.declared.cells.Cell.TheVariants.{Byte, Gap}
+use Rattle.udfs_file.specs.declared.directories.DirEntry.{DirEntry}
+use Rattle.udfs_file.specs.declared.faults.Kind.{Kind}
+use Rattle.udfs_file.specs.declared.faults.Kind.TheVariants.{Directory}
+use Rattle.udfs_file.specs.declared.faults.NodeFault.{NodeFault}
+use Rattle.udfs_file.specs.declared.faults.NodeFault.TheVariants.{Depth}
+use Rattle.udfs_walk.specs.declared.standings.Standing.{Standing}
+use Rattle.udfs_walk.specs.declared.standings.Standing.TheVariants.{Whole, Torn, Fault}
+
+abbrev pub missing_blocks : List Cell → List ℕ
+missing_blocks [] = []
+missing_blocks (Byte x holder ∷ cs) = missing_blocks cs
+missing_blocks (Gap n ∷ cs) = n ∷ missing_blocks cs
+
+-- a missing cell at this place goes into the run that begins behind it, or is a run of its own
+abbrev pub with_hole : ℕ → List (ℕ × ℕ) → List (ℕ × ℕ)
+with_hole at [] = (at, 1) ∷ []
+with_hole at (run ∷ runs) = cond (nat_eq run.0 (at + 1)) ((at, run.1 + 1) ∷ runs) ((at, 1) ∷ run ∷ runs)
+
+-- the maximal runs of missing cells, each by its offset and length, where the first cell stands at this place
+abbrev pub runs_from : ℕ → List Cell → List (ℕ × ℕ)
+runs_from at [] = []
+runs_from at (Byte x holder ∷ cs) = runs_from (at + 1) cs
+runs_from at (Gap n ∷ cs) = with_hole at (runs_from (at + 1) cs)
+
+abbrev pub torn_or_whole : List ℕ → List (ℕ × ℕ) → Standing
+torn_or_whole [] runs = Whole
+torn_or_whole (n ∷ ns) runs = Torn (record { missing = n ∷ ns; holes = runs })
+
+-- what the cells alone say: torn if some are missing, with the blocks ascending and each once
+unfoldable pub cells_standing : List Cell → Standing
+cells_standing cs = torn_or_whole (ascending (missing_blocks cs)) (runs_from 0 cs)
+
+-- a directory with 64 names in its path has no entries
+abbrev pub depth_or : Bool → List DirEntry → Standing → Standing
+depth_or true (e ∷ es) standing = Fault Depth
+depth_or true [] standing = standing
+depth_or false es standing = standing
+
+abbrev pub unless_fault : Option NodeFault → Standing → Standing
+unless_fault None standing = standing
+unless_fault (Some f) standing = Fault f
+
+-- of a directory, a fault of what it lists comes first
+abbrev pub directory_standing : Bool → List Cell → Standing
+directory_standing is_deep cs = unless_fault (fault_in (directory cs).rest) (depth_or is_deep (entries_of cs) (cells_standing cs))
+
+abbrev pub kind_standing : Kind → Bool → List Cell → Standing
+kind_standing Directory is_deep cs = directory_standing is_deep cs
+kind_standing _ is_deep cs = cells_standing cs
+
+-- a fault of the body comes first of all
+abbrev pub body_standing : Kind → Bool → Body → Standing
+body_standing kind is_deep (faulty_body f) = Fault f
+body_standing kind is_deep (cells cs) = kind_standing kind is_deep cs

@@ -1,0 +1,31 @@
+-- The end of a route as code has it.
+--     end_at address path above hidden       the same, put together
+--     open_entries view w target             the entries to which a route goes on from this target
+use Rattle.std.specs.Prelude.{ℕ, Bool, List, [], cond, ◌||◌, ⊤}
+use Rattle.udfs_tag.specs.declared.layouts.LongAd.{LongAd}
+use Rattle.udfs_space.specs.Places.{View}
+use Rattle.udfs_file.specs.Entries.{entry_of}
+use Rattle.udfs_file.specs.Stretches.{IsStanding}
+use Rattle.udfs_file.specs.declared.directories.DirEntry.{DirEntry}
+use Rattle.udfs_walk.specs.Targets as targets
+use Rattle.udfs_walk.specs.Targets.{Icb}
+use Rattle.udfs_walk.specs.Routes.{Walked, is_loop, is_deep, target_entries}
+use Rattle.udfs_walk.specs.declared.targets.Target.{Target}
+use Rattle.udfs_walk.specs.declared.targets.Target.TheVariants.{Fault, Unread, Entry}
+
+abbrev pub end_at : LongAd → List (List ℕ) → List Icb → Bool → Walked
+end_at address path above hidden = record { address = address; path = path; above = above; hidden = hidden }
+
+abbrev pub open_entries : View → Walked → targets.Target → List DirEntry
+open_entries view w target = cond (is_loop w || is_deep w) [] (target_entries view w.address target)
+
+abbrev pub target_now : Target → targets.Target
+target_now (Fault f) = targets.bad f
+target_now (Unread n) = targets.unread n
+target_now (Entry bytes) = targets.entry (entry_of bytes)
+
+-- an entry stands at the address
+abbrev pub Stands : View → LongAd → Target → Type 0
+Stands view a (Fault f) = ⊤
+Stands view a (Unread n) = ⊤
+Stands view a (Entry bytes) = IsStanding view a.reference a.block bytes

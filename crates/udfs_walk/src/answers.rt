@@ -1,0 +1,78 @@
+//! What is told of a node.
+
+use std::alloc::AllocError;
+use std::error::Error;
+use std::fmt;
+use std::marker::Model;
+use udfs_file::Kind;
+use udfs_osta::{Name, Stamp};
+use udfs_tag::LongAd;
+
+use crate::standings::Standing;
+
+/// What is told of a node: of what stands at the end of one route from the root. Two equal names in a directory are
+/// two nodes, and so is every path to a file that has several.
+#[derive(Debug, Drop)]
+pub struct Node {
+    /// The names on the way from the root, whose own path is empty.
+    pub path: Vec<Name>,
+    /// Where its information control block is said to stand.
+    pub icb: LongAd,
+    /// Its kind.
+    pub kind: Kind,
+    /// Its information length, if its entry is read.
+    pub size: Option<u64>,
+    /// The time of its last change, if its entry is read.
+    pub stamp: Option<Stamp>,
+    /// Whether its name is marked as hidden.
+    pub hidden: bool,
+    /// How whole it is.
+    pub standing: Standing,
+}
+
+impl Model for Node {
+    ghost use Rattle.udfs_walk.specs.NodeFields.{NodeFields};
+
+    ghost Value = { NodeFields };
+
+    ghost view = { λ n. record {
+        path = n.path.items;
+        icb = n.icb;
+        kind = n.kind;
+        size = n.size;
+        stamp = n.stamp;
+        hidden = n.hidden;
+        standing = n.standing;
+    } };
+}
+
+/// Why nodes are not listed.
+#[derive(Clone, Copy, Debug, PartialEq, Eq)]
+pub enum NodesError {
+    /// More than 65,536 routes lead from the root to a node.
+    TooManyPaths,
+    /// Memory was refused.
+    OutOfMemory,
+}
+
+impl From<AllocError> for NodesError {
+    ghost use Rattle.std.specs.Prelude.{◌≡◌};
+    ghost use Rattle.udfs_walk.specs.declared.answers.NodesError.TheVariants as nodes_error;
+
+    ghost from_gives = { λ _ e. e ≡ nodes_error.OutOfMemory };
+
+    fn from(_error: AllocError) -> NodesError {
+        NodesError::OutOfMemory
+    }
+}
+
+impl fmt::Display for NodesError {
+    fn fmt<W: fmt::Write>(&self, f: &mut fmt::Formatter<W>) -> fmt::Result {
+        f.write_str(match self {
+            NodesError::TooManyPaths => "more than 65536 paths",
+            NodesError::OutOfMemory => "out of memory",
+        })
+    }
+}
+
+impl Error for NodesError {}
