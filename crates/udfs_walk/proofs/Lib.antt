@@ -5,3 +5,4 @@ pub mod Trees
 pub mod BlockCells
 pub mod TargetLemmas
 pub mod Owed
+pub mod NamedLemmas

@@ -8,3 +8,7 @@ pub mod Nodes
 pub mod Visits
 pub mod Frames
 pub mod Walks
+pub mod Laws
+pub mod Rereads
+pub mod UnnamedEntries
+pub mod NamedKeys

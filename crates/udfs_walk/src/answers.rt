@@ -1,4 +1,4 @@
-//! What is told of a node.
+//! What is told of nodes, and of entries that no name leads to.
 
 use std::alloc::AllocError;
 use std::error::Error;
@@ -44,6 +44,23 @@ impl Model for Node {
         hidden = n.hidden;
         standing = n.standing;
     } };
+}
+
+/// An entry that no name leads to.
+#[derive(Debug, Drop)]
+pub struct Unnamed {
+    /// The partition reference.
+    pub reference: u16,
+    /// The logical block in which it stands.
+    pub block: u32,
+    /// Its kind.
+    pub kind: Kind,
+    /// Its information length.
+    pub size: u64,
+    /// The time of its last change.
+    pub stamp: Stamp,
+    /// How whole it is.
+    pub standing: Standing,
 }
 
 /// Why nodes are not listed.

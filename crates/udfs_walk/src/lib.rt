@@ -5,11 +5,15 @@
 pub mod answers;
 mod ascending;
 mod gaps;
+pub mod laws;
+mod rereads;
 pub mod standings;
 mod targets;
+pub mod unnamed_entries;
 mod visits;
 mod walks;
 
-pub use answers::{Node, NodesError};
+pub use answers::{Node, NodesError, Unnamed};
+pub use rereads::reread;
 pub use standings::{Standing, Torn};
 pub use walks::nodes;

@@ -1,0 +1,16 @@
+-- What has to be read again.
+--     reread nodes      the blocks that are missing in torn nodes, ascending and each once
+use Rattle.std.specs.Prelude.{ℕ, List, [], flat_map}
+use Rattle.udfs_lattice.specs.Volumes.{ascending}
+use Rattle.udfs_walk.specs.NodeFields.{NodeFields}
+use Rattle.udfs_walk.specs.declared.standings.Standing.{Standing}
+use Rattle.udfs_walk.specs.declared.standings.Standing.TheVariants.{Whole, Torn, Loop, Fault}
+
+abbrev pub missing_of : Standing → List ℕ
+missing_of Whole = []
+missing_of (Torn torn) = torn.missing
+missing_of Loop = []
+missing_of (Fault f) = []
+
+abbrev pub reread : List NodeFields → List ℕ
+reread nodes = ascending (flat_map (λ n. missing_of n.standing) nodes)

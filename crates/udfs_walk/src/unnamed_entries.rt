@@ -1,0 +1,141 @@
+//! Entries that no name leads to.
+
+ghost use Rattle.std.specs.Prelude.{◌≡◌, ◌++◌, ◌<◌, IfOk, IsSorted, List, nat_eq, filter_map, length};
+ghost use Rattle.std.specs.List.{list_any};
+ghost use Rattle.std.specs.Ordering.{nat_cmp};
+ghost use Rattle.udfs_lattice.specs.Tables.{state_of};
+ghost use Rattle.udfs_lattice.specs.Volumes.{Blocks};
+ghost use Rattle.udfs_space.specs.Places.{view};
+ghost use Rattle.udfs_walk.specs.UnnamedEntries.{icbs_in, unnamed, unnamed_at};
+ghost use Rattle.udfs_walk.specs.NodeFields.{NodeFields};
+ghost use Rattle.udfs_walk.specs.NamedKeys.{AreNamed, key_of};
+
+use crate::answers::{Node, Unnamed};
+use crate::targets::{Target, target_at};
+use crate::visits::entry_told;
+use std::alloc::{AllocError, Global};
+use udfs_file::file_sets::address_fault;
+use udfs_lattice::BlockTable;
+use udfs_osta::OutOfMemory;
+use udfs_space::Space;
+use udfs_tag::LongAd;
+
+/// An ICB as one number.
+fn key(reference: u16, block: u32) -> u64
+    ensures value { result ≡ key_of reference block }
+    ensures block { block < 4294967296 }
+{
+    u64::from(reference) * 4294967296 + u64::from(block)
+}
+
+/// The ICBs that nodes name, in rising order.
+fn named(alloc: Global, space: &Space, nodes: &[Node]) -> Result<Vec<u64>, AllocError>
+    ensures named { IfOk result (λ keys. (blocks : Blocks) → AreNamed (view blocks space.now) nodes.now keys.items) }
+    ensures sorted { IfOk result (λ keys. IsSorted nat_cmp keys.items) }
+{
+    let mut keys = Vec::new(alloc);
+    for node in nodes {
+        match address_fault(space, node.icb) {
+            Some(_) => {}
+            None => keys.push(key(node.icb.reference, node.icb.block))?,
+        }
+    }
+    keys.sort_unstable();
+    Ok(keys)
+}
+
+/// Whether a number is among these.
+fn is_among(keys: &[u64], key: u64) -> bool
+    requires { IsSorted nat_cmp keys.now }
+    ensures { result ≡ list_any (nat_eq key) keys.now }
+{
+    match keys.binary_search(&key) {
+        Ok(_) => true,
+        Err(_) => false,
+    }
+}
+
+/// The entry at a logical block, if one stands there and no name leads to it.
+fn unnamed_at(
+    alloc: Global,
+    table: &BlockTable,
+    space: &Space,
+    keys: &[u64],
+    reference: u16,
+    block: u32,
+) -> Result<Option<Unnamed>, AllocError>
+    requires { IsSorted nat_cmp keys.now }
+    ensures { IfOk result (λ found. (nodes : List NodeFields) → AreNamed (view (state_of table.now) space.now) nodes keys.now
+        → found ≡ unnamed_at (view (state_of table.now) space.now) nodes (reference, block)) }
+{
+    let address = LongAd {
+        kind: 0,
+        length: 2048,
+        block,
+        reference,
+    };
+    match target_at(table, space, address) {
+        Target::Fault(_) => Ok(None),
+        Target::Unread(_) => Ok(None),
+        Target::Entry(entry) => {
+            if is_among(keys, key(reference, block)) {
+                return Ok(None);
+            }
+            let told = entry_told(alloc, table, space, &entry, address, false, false)?;
+            Ok(Some(Unnamed {
+                reference,
+                block,
+                kind: entry.kind(),
+                size: entry.size(),
+                stamp: entry.stamp(),
+                standing: told.standing,
+            }))
+        }
+    }
+}
+
+/// Those in a partition, put behind the others.
+fn push_unnamed(
+    alloc: Global,
+    table: &BlockTable,
+    space: &Space,
+    keys: &[u64],
+    reference: u16,
+    found: &mut Vec<Unnamed>,
+) -> Result<(), AllocError>
+    requires sorted { IsSorted nat_cmp keys.now }
+    requires reference { reference < length space.now }
+    ensures { IfOk result (λ done. (nodes : List NodeFields) → AreNamed (view (state_of table.now) space.now) nodes keys.now
+        → found.new.items ≡ found.old.items ++ filter_map (unnamed_at (view (state_of table.now) space.now) nodes) (icbs_in space.now reference)) }
+{
+    for block in 0..space.length(reference) {
+        match unnamed_at(alloc, table, space, keys, reference, block)? {
+            Some(entry) => found.push(entry)?,
+            None => {}
+        }
+    }
+    Ok(())
+}
+
+/// The entries of the volume that no name leads to, by partition reference and then by block: the logical blocks
+/// whose known content is an entry without a fault of its own, and that no good address of a node names. The nodes
+/// are all those of the volume.
+///
+/// # Errors
+///
+/// Memory was refused.
+pub fn unnamed(
+    alloc: Global,
+    table: &BlockTable,
+    space: &Space,
+    nodes: &[Node],
+) -> Result<Vec<Unnamed>, OutOfMemory>
+    ensures { IfOk result (λ found. found.items ≡ unnamed (view (state_of table.now) space.now) space.now nodes.now) }
+{
+    let keys = named(alloc, space, nodes)?;
+    let mut found = Vec::new(alloc);
+    for reference in 0..space.maps() {
+        push_unnamed(alloc, table, space, &keys, reference, &mut found)?;
+    }
+    Ok(found)
+}
