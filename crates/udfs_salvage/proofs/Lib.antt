@@ -1,5 +1,7 @@
+pub mod NumberedNodes
 pub mod Opens
 pub mod PastEnds
 pub mod Printed
+pub mod Rereads
 pub mod Runs
 pub mod VolumeLaw

@@ -63,6 +63,15 @@ stopped_piece {a = a} {b = b} {c = c} {i = i} {j = j} {k = k} {p = p} {q = q} {e
     subst (λ (t : List ℕ). Stopped a c i k (p ++ t) e) (pieces_at f xs n d l)
     (stopped_then (f (get_or xs n d) ++ flat_map f (drop (n + 1) xs)) h (subst (λ (t : List ℕ). Stopped b c j k t e) (append_assoc q (f (get_or xs n d)) (flat_map f (drop (n + 1) xs))) (stopped_more (flat_map f (drop (n + 1) xs)) g)))
 
+-- the same of a piece that has a name
+pub passed_item : {A : Type 0} {a b c : Option (List ℕ)} {i j k : ℕ} {p q r : List ℕ} (f : A → List ℕ) (xs : List A) (n : ℕ) (x : A) → n < length xs → x ≡ get_or xs n x
+    → Passed a b i j p q (flat_map f (take n xs)) → Passed b c j k q r (f x) → Passed a c i k p r (flat_map f (take (n + 1) xs))
+passed_item {b = b} {c = c} {j = j} {k = k} {q = q} {r = r} f xs n x l is h g = passed_piece f xs n x l h (subst (λ z. Passed b c j k q r (f z)) is g)
+
+pub stopped_item : {A : Type 0} {a b c : Option (List ℕ)} {i j k : ℕ} {p q : List ℕ} {e : RunError} (f : A → List ℕ) (xs : List A) (n : ℕ) (x : A) → n < length xs → x ≡ get_or xs n x
+    → Passed a b i j p q (flat_map f (take n xs)) → Stopped b c j k (q ++ f x) e → Stopped a c i k (p ++ flat_map f xs) e
+stopped_item {b = b} {c = c} {j = j} {k = k} {q = q} {e = e} f xs n x l is h g = stopped_piece f xs n x l h (subst (λ z. Stopped b c j k (q ++ f z) e) is g)
+
 -- ---- a report
 
 -- one text behind another, whether or not it was passed on whole

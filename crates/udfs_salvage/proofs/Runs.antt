@@ -1,28 +1,19 @@
 -- What a run says where nothing was printed.
-use Rattle.std.proofs.Common.{◌≡◌, ◌≢◌, refl, sym, subst, ◌∙◌, ℕ, List, [], Option}
+use Rattle.std.proofs.Common.{◌≡◌, ◌⊎◌, inl, ◌≢◌, refl, sym, subst, ◌∙◌, ℕ, List, Option}
 use Rattle.std.specs.Prelude.{Err}
 use Rattle.std.proofs.KnownBytes.{Appends-nil}
-use Rattle.udfs_lattice.specs.Tables.{Table, state_of}
+use Rattle.udfs_lattice.specs.Tables.{Table}
 use Rattle.udfs_reading.specs.Answers.{IsOfFile}
 use Rattle.udfs_reading.specs.declared.inputs.InputError.{InputError}
 use Rattle.udfs_reading.specs.declared.error.ReadingFault.{ReadingFault}
 use Rattle.udfs_reading.specs.declared.error.ReadingFault.TheVariants as reading
-use Rattle.udfs_salvage.specs.Found.{volume}
-use Rattle.udfs_salvage.specs.Reports.{Report, holes_of}
-use Rattle.udfs_salvage.specs.Texts.{report_text}
-use Rattle.udfs_salvage.specs.Running.{Names, PrintsOf, by_fault, run_error_of}
+use Rattle.udfs_salvage.specs.Running.{Names, PrintsNothing, PrintsOf, by_fault, run_error_of}
 use Rattle.udfs_salvage.specs.declared.errors.RunError.{RunError}
 use Rattle.udfs_salvage.specs.declared.errors.RunError.TheVariants.{Reading, OutOfMemory}
 
--- nothing is a beginning of the text
-pub nothing_out : (old : Option (List ℕ)) (i : ℕ) (last : ℕ) (table : Table) → PrintsOf last old old i i (Err OutOfMemory) table
-nothing_out old i last table = (text, (report, record { volume_is = refl; reread_is = refl }, refl), record { out = []; rest = text; given = Appends-nil old; whole = refl; count = refl })
-  where
-    report : Report
-    report = record { volume = volume (state_of table) last; reread = holes_of (volume (state_of table) last) }
-
-    text : List ℕ
-    text = report_text table last report
+-- nothing was printed yet
+pub nothing_out : (old : Option (List ℕ)) (i : ℕ) (last : ℕ) (table : Table) → PrintsNothing old old i i ⊎ PrintsOf last old old i i (Err OutOfMemory) table
+nothing_out old i last table = inl (record { given = Appends-nil old; kept = refl })
 
 abbrev IsNamed : InputError → ℕ → ReadingFault → ℕ → Type 0
 IsNamed e input fault number = IsOfFile e.error.fault → (e.input ≡ input) × (e.error.fault ≡ fault) × (e.error.number ≡ number)

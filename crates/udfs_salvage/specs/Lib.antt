@@ -2,5 +2,6 @@ pub mod Found
 pub mod Laws
 pub mod Reports
 pub mod Texts
+pub mod NodeTexts
 pub mod Printing
 pub mod Running

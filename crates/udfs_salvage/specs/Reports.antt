@@ -1,26 +1,52 @@
 -- What is reported of a volume.
---     IsReport blocks last report     what is found of it, and the blocks to read again
---     IsPastEnd blocks last n         the least block behind the last one of which something is known
-use Rattle.std.specs.Prelude.{◌≡◌, ◌≢◌, ◌⊎◌, ℕ, ◌<◌, ◌≤◌, List, []}
+--     IsReport blocks last report          what is found of it, its nodes, and the blocks to read again
+--     IsPastEnd blocks last n              the least block behind the last one of which something is known
+--     HasTooManyPaths blocks last          it has more nodes than there may be
+use Rattle.std.specs.Prelude.{◌≡◌, ◌≢◌, ◌⊎◌, ⊤, ℕ, ◌<◌, ◌≤◌, Bool, true, false, List, [], ◌∷◌}
+use Rattle.std.specs.List.{list_all}
 use Rattle.udfs_lattice.specs.Volumes.{Blocks}
 use Rattle.udfs_lattice.specs.declared.facts.Fact.TheVariants.{Unknown}
 use Rattle.udfs_volume.specs.Answers.{Answer, found, holes, faulty}
+use Rattle.udfs_space.specs.Places.{view}
+use Rattle.udfs_walk.specs.NodeFields.{NodeFields}
+use Rattle.udfs_walk.specs.Walks.{AreNodes}
+use Rattle.udfs_walk.specs.Routes.{HasMoreRoutes}
+use Rattle.udfs_walk.specs.UnnamedEntries.{unnamed}
+use Rattle.udfs_walk.specs.Rereads.{reread}
+use Rattle.udfs_walk.specs.declared.answers.Unnamed.{Unnamed}
+use Rattle.udfs_walk.specs.declared.standings.Standing.{Standing}
+use Rattle.udfs_walk.specs.declared.standings.Standing.TheVariants.{Whole, Torn, Loop, Fault}
 use Rattle.udfs_salvage.specs.Found.{Found, volume, volume_now}
+use Rattle.udfs_salvage.specs.declared.errors.SalvageError.{SalvageError}
+use Rattle.udfs_salvage.specs.declared.errors.SalvageError.TheVariants as errors
 use Rattle.udfs_salvage.specs.declared.reports.Report as code_report
 
 pub record Report : Type 0 where
   pub volume : Answer Found
+  pub nodes : List NodeFields
+  pub unnamed : List Unnamed
   pub reread : List ℕ
 
--- what has to be read before anything is found
-abbrev pub holes_of : Answer Found → List ℕ
-holes_of (found f) = []
-holes_of (holes listed) = listed
-holes_of (faulty fault) = []
+-- the nodes of a volume that is found, the entries that no name leads to, and what is missing of torn nodes
+pub record ReportsNodes (blocks : Blocks) (f : Found) (report : Report) : Type 0 where
+  pub nodes_are : AreNodes (view blocks f.space) f.root report.nodes
+  pub unnamed_is : report.unnamed ≡ unnamed (view blocks f.space) f.space report.nodes
+  pub reread_is : report.reread ≡ reread report.nodes
+
+-- no nodes, and what has to be read before there are any
+pub record ReportsNone (listed : List ℕ) (report : Report) : Type 0 where
+  pub no_nodes : report.nodes ≡ []
+  pub no_unnamed : report.unnamed ≡ []
+  pub reread_is : report.reread ≡ listed
+
+abbrev pub ReportsBy : Blocks → Answer Found → Report → Type 0
+ReportsBy blocks (found f) report = ReportsNodes blocks f report
+ReportsBy blocks (holes listed) report = ReportsNone listed report
+ReportsBy blocks (faulty fault) report = ReportsNone [] report
 
 pub record IsReport (blocks : Blocks) (last : ℕ) (report : Report) : Type 0 where
   pub volume_is : report.volume ≡ volume blocks last
-  pub reread_is : report.reread ≡ holes_of report.volume
+  pub by_volume : ReportsBy blocks report.volume report
 
 -- nothing is known behind the last block
 abbrev pub IsNothingPast : Blocks → ℕ → Type 0
@@ -35,5 +61,33 @@ pub record IsPastEnd (blocks : Blocks) (last n : ℕ) : Type 0 where
   pub not_unknown : blocks n ≢ Unknown
   pub least : (m : ℕ) → last < m → blocks m ≢ Unknown → n ≤ m
 
+-- more than 65,536 routes lead from the root of the volume to a node
+abbrev pub HasTooManyPaths : Blocks → ℕ → Type 0
+HasTooManyPaths blocks last = (f : Found) × (volume blocks last ≡ found f) × HasMoreRoutes (view blocks f.space) f.root 65536
+
+abbrev pub is_whole : Standing → Bool
+is_whole Whole = true
+is_whole (Torn torn) = false
+is_whole Loop = false
+is_whole (Fault f) = false
+
+-- there are nodes, and all are whole
+abbrev pub all_whole : List NodeFields → Bool
+all_whole [] = false
+all_whole (n ∷ ns) = list_all (λ n. is_whole n.standing) (n ∷ ns)
+
 abbrev pub report_now : code_report.Report → Report
-report_now r = record { volume = volume_now r.volume; reread = r.reread.items }
+report_now r = record { volume = volume_now r.volume; nodes = r.nodes.items; unnamed = r.unnamed.items; reread = r.reread.items }
+
+-- why nodes are not listed: there are too many, or memory was refused
+abbrev pub IsWalkRefused : Blocks → Found → SalvageError → Type 0
+IsWalkRefused blocks f errors.LastRange = ⊥
+IsWalkRefused blocks f (errors.PastEnd n) = ⊥
+IsWalkRefused blocks f errors.TooManyPaths = HasMoreRoutes (view blocks f.space) f.root 65536
+IsWalkRefused blocks f errors.OutOfMemory = ⊤
+
+abbrev pub IsLookRefused : Blocks → ℕ → SalvageError → Type 0
+IsLookRefused blocks last errors.LastRange = ⊥
+IsLookRefused blocks last (errors.PastEnd n) = ⊥
+IsLookRefused blocks last errors.TooManyPaths = HasTooManyPaths blocks last
+IsLookRefused blocks last errors.OutOfMemory = ⊤

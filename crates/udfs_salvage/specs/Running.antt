@@ -1,8 +1,9 @@
 -- What a run over the inputs of a disc answers.
---     IsTextOf table last text       the text of the table's report
+--     PrintsOf                       the text of the table's report
 --     IsRefusedFor table last e      why the table has no report
 --     Runs                           the inputs' tables, and what was printed of their join
-use Rattle.std.specs.Prelude.{◌≡◌, ⊤, ℕ, Bool, List, Option, Result, Ok, Err}
+use Rattle.std.specs.Prelude.{◌≡◌, ◌⊎◌, ⊤, ℕ, Bool, List, [], Option, Result, Ok, Err}
+use Rattle.std.specs.Io.KnownBytes.{Appends}
 use Rattle.udfs_lattice.specs.Tables.{Table, state_of}
 use Rattle.udfs_lattice.specs.Records.{join_all}
 use Rattle.udfs_reading.specs.Answers.{IsOfFile}
@@ -10,29 +11,40 @@ use Rattle.udfs_reading.specs.Several.{TablesAre}
 use Rattle.udfs_reading.specs.declared.inputs.InputError.{InputError}
 use Rattle.udfs_reading.specs.declared.error.ReadingFault.{ReadingFault}
 use Rattle.udfs_reading.specs.declared.error.ReadingFault.TheVariants as reading
-use Rattle.udfs_salvage.specs.Reports.{Report, IsReport, IsOutOfRange, IsPastEnd}
-use Rattle.udfs_salvage.specs.Texts.{report_text}
+use Rattle.udfs_salvage.specs.Reports.{Report, IsReport, IsNothingPast, IsOutOfRange, IsPastEnd, HasTooManyPaths, all_whole}
+use Rattle.udfs_salvage.specs.NodeTexts.{report_text}
 use Rattle.udfs_salvage.specs.Printing.{Prints}
 use Rattle.udfs_salvage.specs.declared.errors.SalvageError.{SalvageError}
 use Rattle.udfs_salvage.specs.declared.errors.SalvageError.TheVariants as salvage
 use Rattle.udfs_salvage.specs.declared.errors.RunError.{RunError}
 use Rattle.udfs_salvage.specs.declared.errors.RunError.TheVariants.{Reading, Salvage, Write, OutOfMemory}
 
-abbrev pub IsTextOf : Table → ℕ → List ℕ → Type 0
-IsTextOf table last text = (report : Report) × IsReport (state_of table) last report × (text ≡ report_text table last report)
-
 abbrev pub IsRefusedFor : Table → ℕ → SalvageError → Type 0
 IsRefusedFor table last salvage.LastRange = IsOutOfRange last
 IsRefusedFor table last (salvage.PastEnd n) = (¬ IsOutOfRange last) × IsPastEnd (state_of table) last n
+IsRefusedFor table last salvage.TooManyPaths = (¬ IsOutOfRange last) × IsNothingPast (state_of table) last × HasTooManyPaths (state_of table) last
 IsRefusedFor table last salvage.OutOfMemory = ⊥
 
 -- each input has a table, and this holds of their join
 abbrev pub OfJoin : {R : Type 0} → (R → Option (List ℕ)) → List R → (Table → Type 0) → Type 0
 OfJoin remaining inputs Holds = (ts : List Table) × TablesAre remaining inputs ts × Holds (join_all ts)
 
+-- where there is an answer, it is whether there are nodes and all are whole
+abbrev pub SaysWhole : Result Bool RunError → Report → Type 0
+SaysWhole (Ok whole) report = whole ≡ all_whole report.nodes
+SaysWhole (Err e) report = ⊤
+
 -- the text of the table's report was printed, or a beginning of it
-abbrev pub PrintsOf : ℕ → Option (List ℕ) → Option (List ℕ) → ℕ → ℕ → Result Bool RunError → Table → Type 0
-PrintsOf last old new i j result table = (text : List ℕ) × IsTextOf table last text × Prints old new i j text result
+pub record PrintsOf (last : ℕ) (old new : Option (List ℕ)) (i j : ℕ) (result : Result Bool RunError) (table : Table) : Type 0 where
+  pub report : Report
+  pub is_report : IsReport (state_of table) last report
+  pub prints : Prints old new i j (report_text table last report) result
+  pub says : SaysWhole result report
+
+-- nothing was printed
+pub record PrintsNothing (old new : Option (List ℕ)) (i j : ℕ) : Type 0 where
+  pub given : Appends old new []
+  pub kept : j ≡ i
 
 -- what a run says of the table of its inputs: its report; or why there is none, and then nothing is out
 abbrev pub AnswersFor : ℕ → Option (List ℕ) → Option (List ℕ) → ℕ → ℕ → Result Bool RunError → Table → Type 0
@@ -40,7 +52,7 @@ AnswersFor last old new i j (Ok x) table = PrintsOf last old new i j (Ok x) tabl
 AnswersFor last old new i j (Err (Reading e)) table = ⊥
 AnswersFor last old new i j (Err (Salvage e)) table = IsRefusedFor table last e
 AnswersFor last old new i j (Err Write) table = PrintsOf last old new i j (Err Write) table
-AnswersFor last old new i j (Err OutOfMemory) table = PrintsOf last old new i j (Err OutOfMemory) table
+AnswersFor last old new i j (Err OutOfMemory) table = PrintsNothing old new i j ⊎ PrintsOf last old new i j (Err OutOfMemory) table
 
 -- the inputs were read, as far as the answer alone tells: want of memory may have come before
 abbrev pub IfRead : Result Bool RunError → Type 0 → Type 0

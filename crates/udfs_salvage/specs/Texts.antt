@@ -1,8 +1,9 @@
 -- The text of a report.
---     report_text table last report     all of it
+--     head_text table last answer       the lines before those of nodes
+--     reread_lines blocks ns            those of the blocks to read again
 --     volume_line answer                its third line
 use Rattle.std.specs.Prelude.{ℕ, Bool, false, List, [], ◌∷◌, ◌++◌, length, nat_le, flat_map, cond, nat_eq, codes, decimal}
-use Rattle.udfs_lattice.specs.Tables.{Table, state_of, known_count, conflict_count}
+use Rattle.udfs_lattice.specs.Tables.{Table, known_count, conflict_count}
 use Rattle.udfs_lattice.specs.Volumes.{Blocks}
 use Rattle.udfs_lattice.specs.States.{State}
 use Rattle.udfs_lattice.specs.declared.facts.Fact.TheVariants.{Unknown, Known, Conflict}
@@ -15,7 +16,6 @@ use Rattle.udfs_volume.specs.Layout.{Partition, PartitionMap, type1, sparable}
 use Rattle.udfs_volume.specs.declared.faults.VolumeFault.{VolumeFault}
 use Rattle.udfs_volume.specs.declared.faults.VolumeFault.TheVariants as fault
 use Rattle.udfs_salvage.specs.Found.{Found}
-use Rattle.udfs_salvage.specs.Reports.{Report}
 
 -- a line ends with a line feed
 abbrev pub line : List ℕ → List ℕ
@@ -112,7 +112,3 @@ reread_lines blocks ns = flat_map (reread_line blocks) ns
 
 abbrev pub end_line : List ℕ
 end_line = line (codes "end")
-
-unfoldable pub report_text : Table → ℕ → Report → List ℕ
-report_text table last report =
-    head_text table last report.volume ++ reread_lines (state_of table) report.reread ++ end_line

@@ -14,6 +14,8 @@ pub enum SalvageError {
     LastRange,
     /// Something is known of this block, the least such one behind the last.
     PastEnd(u32),
+    /// More than 65,536 routes lead from the root of the volume to a node.
+    TooManyPaths,
     /// Memory was refused.
     OutOfMemory,
 }
@@ -23,6 +25,7 @@ impl fmt::Display for SalvageError {
         match self {
             SalvageError::LastRange => write!(f, "the last block is not from 513 to 4194303"),
             SalvageError::PastEnd(block) => write!(f, "block {block} lies behind the last one"),
+            SalvageError::TooManyPaths => write!(f, "more than 65536 paths"),
             SalvageError::OutOfMemory => write!(f, "out of memory"),
         }
     }

@@ -1,12 +1,14 @@
 //! What can be salvaged of a UDF volume of which some blocks are not known.
 //!
-//! [`salvage`] looks at a table of blocks and answers a [`Report`]: whether the volume opens, and which blocks are
-//! worth reading again. [`write_report`] prints it, and [`report_run`] does all of
+//! [`salvage`] looks at a table of blocks and answers a [`Report`]: whether the volume opens, its files and directories
+//! and how whole each of them is, and which blocks are worth reading again. [`write_report`] prints it, and [`report_run`] does all of
 //! this from the readings of a disc.
 #![tactic(auto)]
 
 mod errors;
 mod lines;
+mod node_lines;
+mod node_printing;
 mod printing;
 mod reports;
 mod running;

@@ -16,7 +16,7 @@ use udfs_osta::{Label, OutOfMemory};
 use udfs_volume::{Partition, PartitionMap, VolumeFault};
 
 /// Whether the volume opens and has two partitions.
-fn has_two(volume: &Volume) -> bool
+pub(crate) fn has_two(volume: &Volume) -> bool
     ensures { result ≡ has_two (volume_now volume.now) }
 {
     match volume {

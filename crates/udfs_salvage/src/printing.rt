@@ -6,10 +6,12 @@ ghost use Rattle.udfs_lattice.specs.Tables.{state_of};
 ghost use Rattle.udfs_salvage.specs.Found.{volume_now};
 ghost use Rattle.udfs_salvage.specs.Printing.{PassesOn, Prints};
 ghost use Rattle.udfs_salvage.specs.Reports.{report_now};
-ghost use Rattle.udfs_salvage.specs.Texts.{end_line, head_text, reread_line, reread_lines, report_text, volume_line};
+ghost use Rattle.udfs_salvage.specs.NodeTexts.{report_text};
+ghost use Rattle.udfs_salvage.specs.Texts.{end_line, head_text, reread_line, reread_lines, volume_line};
 
 use crate::errors::RunError;
-use crate::lines::{push_end, push_head, push_reread, push_volume};
+use crate::lines::{has_two, push_end, push_head, push_reread, push_volume};
+use crate::node_printing::{put_all_unnamed, put_nodes};
 use crate::reports::Report;
 use std::alloc::Global;
 use udfs_lattice::BlockTable;
@@ -33,7 +35,7 @@ fn flush<W: Sink>(text: &mut String, sink: &mut W) -> Result<(), RunError>
 }
 
 /// Writes the text that is held, where it is long.
-fn pass_on<W: Sink>(text: &mut String, sink: &mut W) -> Result<(), RunError>
+pub(crate) fn pass_on<W: Sink>(text: &mut String, sink: &mut W) -> Result<(), RunError>
     ensures { PassesOn (W.contents sink.old) (W.contents sink.new) (W.faults sink.old) (W.faults sink.new) (string_bytes text.old) (string_bytes text.new) [] result }
 {
     if text.len() < PIECE {
@@ -92,6 +94,8 @@ fn put_report<W: Sink>(text: &mut String, sink: &mut W, report: &Report<'_>) -> 
         (report_text report.now.table.now report.now.last (report_now report.now)) result }
 {
     put_head(text, sink, report)?;
+    put_nodes(text, sink, &report.nodes)?;
+    put_all_unnamed(text, sink, has_two(&report.volume), &report.unnamed)?;
     put_rereads(text, sink, report.table, &report.reread)?;
     put_end(text, sink)
 }

@@ -1,18 +1,23 @@
 //! Reports.
 
-ghost use Rattle.std.specs.Prelude.{◌≡◌, ◌≤◌, ◌↔◌, ℕ, ◌<◌, IfOk, IsErrOf, MatchOption};
+ghost use Rattle.std.specs.Prelude.{◌≡◌, ◌≤◌, ◌↔◌, ℕ, [], IfOk, IfErr, IsErrOf, MatchOption};
 ghost use Rattle.udfs_lattice.specs.Tables.{state_of};
+ghost use Rattle.udfs_volume.specs.Answers.{found};
 ghost use Rattle.udfs_volume.specs.Seen.{IsRising};
-ghost use Rattle.udfs_salvage.specs.Found.{volume_now};
+ghost use Rattle.udfs_space.specs.Places.{view};
+ghost use Rattle.udfs_walk.specs.Walks.{AreNodes};
+ghost use Rattle.udfs_salvage.specs.Found.{found_now, volume_now};
 ghost use Rattle.udfs_salvage.specs.Laws.{TellsLawful};
-ghost use Rattle.udfs_salvage.specs.Reports.{IsNothingPast, IsOutOfRange, IsPastEnd, IsReport, report_now};
+ghost use Rattle.udfs_salvage.specs.Reports.{HasTooManyPaths, IsLookRefused, IsNothingPast, IsOutOfRange, IsPastEnd, IsReport, IsWalkRefused, ReportsBy, all_whole, is_whole, report_now};
 
 use crate::errors::SalvageError;
-use crate::volumes::{Volume, open};
+use crate::volumes::{OpenVolume, Volume, open};
 use std::alloc::{AllocError, Global};
 use udfs_lattice::BlockTable;
 use udfs_lattice::table::LAST_BLOCK;
 use udfs_volume::Seen;
+use udfs_walk::unnamed_entries::unnamed;
+use udfs_walk::{Node, NodesError, Standing, Unnamed, nodes, reread};
 
 /// The least last block of a volume.
 const FIRST_LAST: u32 = 513;
@@ -26,8 +31,31 @@ pub struct Report<'a> {
     pub last: u32,
     /// Whether the volume opens.
     pub volume: Volume,
+    /// The nodes: the root, and behind each directory its entries in their order, each with all that is below it.
+    pub nodes: Vec<Node>,
+    /// The entries that no name leads to, by partition reference and then by block.
+    pub unnamed: Vec<Unnamed>,
     /// The blocks to read again, ascending and each once. None of them is known.
     pub reread: Vec<u32>,
+}
+
+/// Whether all of it is known.
+fn is_whole(standing: &Standing) -> bool
+    ensures { result ≡ is_whole standing.now }
+{
+    matches!(standing, Standing::Whole)
+}
+
+/// Whether there are nodes, and all are whole.
+pub(crate) fn all_whole(nodes: &[Node]) -> bool
+    ensures { result ≡ all_whole nodes.now }
+{
+    for node in nodes {
+        if !is_whole(&node.standing) {
+            return false;
+        }
+    }
+    !nodes.is_empty()
 }
 
 /// The first block behind the last one of which something is known.
@@ -42,26 +70,94 @@ fn past_end(table: &BlockTable, last: u32) -> Option<u32>
     None
 }
 
-/// The volume, and what has to be read before it opens.
-fn look(alloc: Global, table: &BlockTable, last: u32) -> Result<(Volume, Vec<u32>), AllocError>
-    requires from { 513 ≤ last }
-    requires to { last ≤ 4194303 }
-    ensures report { IfOk result (λ seen. IsReport (state_of table.now) last (record { volume = volume_now seen.0; reread = (seen.1).items })) }
-    ensures rising { IfOk result (λ seen. IsRising (seen.1).items) }
+/// The nodes of a volume that opens.
+fn list(alloc: Global, table: &BlockTable, opened: &OpenVolume) -> Result<Vec<Node>, SalvageError>
+    ensures nodes { IfOk result (λ listed. AreNodes (view (state_of table.now) opened.now.space) opened.now.root listed.items) }
+    ensures refused { IfErr result (IsWalkRefused (state_of table.now) (found_now opened.now)) }
 {
-    match open(alloc, table, last) {
-        Seen::Got(opened) => Ok((Volume::Open(opened), Vec::new(alloc))),
-        Seen::Holes(blocks) => {
-            let reread = blocks.clone()?;
-            Ok((Volume::Holes(blocks), reread))
-        }
-        Seen::Fault(fault) => Ok((Volume::Fault(fault), Vec::new(alloc))),
-        Seen::OutOfMemory => Err(AllocError),
+    match nodes(alloc, table, &opened.space, opened.root) {
+        Ok(listed) => Ok(listed),
+        Err(NodesError::TooManyPaths) => Err(SalvageError::TooManyPaths),
+        Err(NodesError::OutOfMemory) => Err(SalvageError::OutOfMemory),
     }
 }
 
-/// What the table tells of a volume, of which `last` is the last block: whether it opens, and which blocks are worth
-/// reading again.
+/// The report of a volume that opens.
+#[tactic(auto, using(crate::proofs::Rereads::reread_rises))]
+fn report_open<'a>(
+    alloc: Global,
+    table: &'a BlockTable,
+    last: u32,
+    opened: OpenVolume,
+) -> Result<Report<'a>, SalvageError>
+    ensures report { IfOk result (λ report. ReportsBy (state_of table.now) (found (found_now opened)) (report_now report)) }
+    ensures volume { IfOk result (λ report. volume_now report.volume ≡ found (found_now opened)) }
+    ensures of { IfOk result (λ report. (report.table.now ≡ table.now) × (report.last ≡ last)) }
+    ensures rising { IfOk result (λ report. IsRising report.reread.items) }
+    ensures refused { IfErr result (IsWalkRefused (state_of table.now) (found_now opened)) }
+{
+    let listed = list(alloc, table, &opened)?;
+    let unnamed = unnamed(alloc, table, &opened.space, &listed)?;
+    let reread = reread(alloc, &listed)?;
+    Ok(Report {
+        table,
+        last,
+        volume: Volume::Open(opened),
+        nodes: listed,
+        unnamed,
+        reread,
+    })
+}
+
+/// The report of a volume that does not open.
+fn report_closed<'a>(
+    alloc: Global,
+    table: &'a BlockTable,
+    last: u32,
+    volume: Volume,
+    reread: Vec<u32>,
+) -> Report<'a>
+    ensures value { report_now result ≡ record { volume = volume_now volume; nodes = []; unnamed = []; reread = reread.items } }
+    ensures of { (result.table.now ≡ table.now) × (result.last ≡ last) }
+{
+    Report {
+        table,
+        last,
+        volume,
+        nodes: Vec::new(alloc),
+        unnamed: Vec::new(alloc),
+        reread,
+    }
+}
+
+/// The report of a volume, by what is found of it.
+fn look<'a>(alloc: Global, table: &'a BlockTable, last: u32) -> Result<Report<'a>, SalvageError>
+    requires from { 513 ≤ last }
+    requires to { last ≤ 4194303 }
+    ensures report { IfOk result (λ report. IsReport (state_of table.now) last (report_now report)) }
+    ensures of { IfOk result (λ report. (report.table.now ≡ table.now) × (report.last ≡ last)) }
+    ensures rising { IfOk result (λ report. IsRising report.reread.items) }
+    ensures refused { IfErr result (IsLookRefused (state_of table.now) last) }
+{
+    match open(alloc, table, last) {
+        Seen::Got(opened) => report_open(alloc, table, last, opened),
+        Seen::Holes(blocks) => {
+            let reread = blocks.clone()?;
+            Ok(report_closed(alloc, table, last, Volume::Holes(blocks), reread))
+        }
+        Seen::Fault(fault) => Ok(report_closed(
+            alloc,
+            table,
+            last,
+            Volume::Fault(fault),
+            Vec::new(alloc),
+        )),
+        Seen::OutOfMemory => Err(SalvageError::OutOfMemory),
+    }
+}
+
+/// What the table tells of the volume, of which `last` is the last block: whether it opens, its files and directories
+/// and how whole they are, and which blocks are worth reading again.
 ///
 /// Of a lawful volume with which the table agrees, it tells what is found of the volume itself; or it has holes: then all
 /// blocks of some group are among them, of which one is needed and none is known. It never tells a fault.
@@ -69,7 +165,8 @@ fn look(alloc: Global, table: &BlockTable, last: u32) -> Result<(Volume, Vec<u32
 /// # Errors
 ///
 /// `LastRange` exactly where `last` is not from 513 to 4,194,303; else `PastEnd` exactly where something is known of a
-/// block behind the last, with the least such block; else `OutOfMemory`, where memory is refused.
+/// block behind the last, with the least such block; else `TooManyPaths` where more than 65,536 routes lead from the
+/// root to a node; and `OutOfMemory` where memory is refused.
 #[tactic(auto, using(crate::proofs::VolumeLaw::tells_lawful))]
 pub fn salvage<'a>(
     alloc: Global,
@@ -78,6 +175,7 @@ pub fn salvage<'a>(
 ) -> Result<Report<'a>, SalvageError>
     ensures range { IsErrOf result SalvageError.LastRange ↔ IsOutOfRange last }
     ensures past { (n : ℕ) → (IsErrOf result (SalvageError.PastEnd n) ↔ ((¬ IsOutOfRange last) × IsPastEnd (state_of table.now) last n)) }
+    ensures too_many { IsErrOf result SalvageError.TooManyPaths → (¬ IsOutOfRange last) × IsNothingPast (state_of table.now) last × HasTooManyPaths (state_of table.now) last }
     ensures report { IfOk result (λ report. IsReport (state_of table.now) last (report_now report)) }
     ensures lawful { IfOk result (λ report. TellsLawful (state_of table.now) last (volume_now report.volume)) }
     ensures rising { IfOk result (λ report. IsRising report.reread.items) }
@@ -89,11 +187,5 @@ pub fn salvage<'a>(
     if let Some(block) = past_end(table, last) {
         return Err(SalvageError::PastEnd(block));
     }
-    let (volume, reread) = look(alloc, table, last)?;
-    Ok(Report {
-        table,
-        last,
-        volume,
-        reread,
-    })
+    look(alloc, table, last)
 }

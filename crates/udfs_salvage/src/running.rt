@@ -1,6 +1,6 @@
 //! From the readings of a disc to its report.
 
-ghost use Rattle.std.specs.Prelude.{◌≡◌, ◌≢◌, ◌⊎◌, ℕ, List, Err, IfOk, MatchResult, false, map};
+ghost use Rattle.std.specs.Prelude.{◌≡◌, ◌≢◌, ◌⊎◌, ℕ, List, Err, MatchResult, map};
 ghost use Rattle.udfs_lattice.specs.Tables.{Table};
 ghost use Rattle.udfs_lattice.specs.Records.{Record, SameRecords, all_records, table_of};
 ghost use Rattle.udfs_reading.specs.Answers.{IsOfFile};
@@ -11,7 +11,7 @@ ghost use Rattle.udfs_salvage.specs.Running.{AnswersFor, EndsEarly, IfRead, Name
 
 use crate::errors::{RunError, SalvageError};
 use crate::printing::write_report;
-use crate::reports::salvage;
+use crate::reports::{all_whole, salvage};
 use std::alloc::Global;
 use udfs_lattice::BlockTable;
 use udfs_reading::{InputError, ReadingFault, Sink, Source, join_inputs};
@@ -35,11 +35,10 @@ fn report_table<W: Sink>(
 ) -> Result<bool, RunError>
     ensures answers { AnswersFor last (W.contents sink.old) (W.contents sink.new) (W.faults sink.old) (W.faults sink.new) result table.now }
     ensures untouched { EndsEarly result → sink.new ≡ sink.old }
-    ensures whole { IfOk result (λ whole. whole ≡ false) }
 {
     match salvage(alloc, table, last) {
         Ok(report) => match write_report(alloc, &report, sink) {
-            Ok(()) => Ok(false),
+            Ok(()) => Ok(all_whole(&report.nodes)),
             Err(error) => Err(error),
         },
         Err(SalvageError::OutOfMemory) => Err(RunError::OutOfMemory),
@@ -70,7 +69,6 @@ pub fn report_run<R: Source, W: Sink>(
         (AnswersFor last (W.contents sink.old) (W.contents sink.new) (W.faults sink.old) (W.faults sink.new) result) }
     ensures untouched { EndsEarly result → sink.new ≡ sink.old }
     ensures counts { IfRead result (map R.faults inputs.new ≡ map R.faults inputs.old) }
-    ensures whole { IfOk result (λ whole. whole ≡ false) }
     // It is the same however the records are ordered, repeated and split over readings and table files.
     ensures any_mixture { (rss : List (List Record)) (rs : List Record) → AllTell R.remaining inputs.old (map table_of rss) →
         SameRecords (all_records rss) rs → IfRead result

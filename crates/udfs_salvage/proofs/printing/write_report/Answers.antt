@@ -1,7 +1,7 @@
 use Rattle.std.specs.String.{string_bytes}
 use Rattle.std.proofs.lemmas.Result.{err_from_is_err_and}
 use Rattle.udfs_salvage.specs.Reports.{report_now}
-use Rattle.udfs_salvage.specs.Texts.{report_text}
+use Rattle.udfs_salvage.specs.NodeTexts.{report_text}
 use Rattle.udfs_salvage.proofs.Printed.{prints_then, stopped_first}
 use Rattle.udfs_salvage.proofs.printing.write_report.Goals as goal
 
