@@ -7,6 +7,7 @@ use Rattle.udfs_file.specs.declared.stretches.Stretch.{Stretch}
 use Rattle.udfs_file.specs.declared.directories.Step.TheVariants.{AtRest}
 use Rattle.udfs_file.specs.Fronts.{step, missing_in, fault_in}
 use Rattle.udfs_file.proofs.FrontLemmas.{IsFronting, front-start, front-rest, front-listed, front-unlisted}
+use Rattle.udfs_file.proofs.Telling.{front_clauses}
 use Rattle.udfs_file.proofs.directories.Dir.front.Goals as goal
 
 pub steps-init : goal.steps-init
@@ -20,11 +21,12 @@ pub returns-in-AtRest : goal.returns-in-AtRest
 returns-in-AtRest c =
     let e : step (cells_left c.steps.cells) ≡ AtRest c.in-AtRest.rest = sym c.in_ok-rest.ensures.value ∙ c.in-AtRest.is in
     let r = front-rest (cells_of (view (state_of c.args.table.now) c.args.space.now) c.args.body.now) (cells_left c.steps.cells) c.steps.entries.items c.in-AtRest.rest c.steps.invariant e in
-    record {
+    front_clauses (cells_of (view (state_of c.args.table.now) c.args.space.now) c.args.body.now)
+    (record { entries = c.steps.entries; missing = c.missing.result; fault = c.fault.result }) (record {
       entries = r.0;
       missing = c.missing.ensures ∙ ap missing_in r.1;
       fault = c.fault.ensures ∙ ap fault_in r.1;
-    }
+    })
 
 pub steps-preserved-in-Continue-branch-3 : goal.steps-preserved-in-Continue-branch-3
 steps-preserved-in-Continue-branch-3 c =
