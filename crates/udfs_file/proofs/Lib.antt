@@ -19,3 +19,4 @@ pub mod WholeBodies
 pub mod FileSets
 pub mod BodyLengths
 pub mod Telling
+pub mod BlockLemmas

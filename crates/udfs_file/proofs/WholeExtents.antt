@@ -20,6 +20,7 @@ use Rattle.udfs_file.specs.Complete.{IsWhole, as_cell, as_cells}
 use Rattle.udfs_file.specs.declared.faults.NodeFault.TheVariants.{Reference, Range, Odd}
 use Rattle.std.proofs.lemmas.Bool.{eqb-true}
 use Rattle.udfs_file.proofs.BodyFrom.{le_or_lt, is_lt}
+use Rattle.udfs_file.proofs.ExtentLemmas.{last_of}
 
 -- A block that has a place.
 pub record IsHeld (all : View) (blocks : ℕ → ℕ → Option Bytes) (r b : ℕ) : Type 0 where
@@ -202,13 +203,6 @@ third_clear true b c x y z e = absurd (let n : ⊥ = cc in n)
 third_clear false true c x y z e = absurd (let n : ⊥ = cc in n)
 third_clear false false true x y z e = absurd (let n : ⊥ = cc in n)
 third_clear false false false x y z e = refl
-
--- an extent that is not odd fills its blocks
-last_of : (a b c : Bool) → a ≡ true → b ≡ true → (a && b && not c) ≡ false → c ≡ true
-last_of a b true p q e = refl
-last_of true true false p q e = absurd (let n : ⊥ = cc in n)
-last_of false b false p q e = absurd (let n : ⊥ = cc in n)
-last_of true false false p q e = absurd (let n : ⊥ = cc in n)
 
 within_both : (a l s c : ℕ) → a < l → c + a < s → a < min l (s - c)
 within_both a l s c p q = grind arith

@@ -23,21 +23,26 @@ pub struct Body {
 impl Model for Body {
     ghost use Rattle.std.specs.Prelude.{List};
     ghost use Rattle.udfs_file.specs.declared.stretches.Stretch.{Stretch};
+    ghost use Rattle.udfs_file.specs.Stretches.{LieInBlocks};
 
     ghost Value = { List Stretch };
 
     ghost view = { λ b. b.stretches.items };
+
+    ghost invariant = { λ b. LieInBlocks b.stretches.items };
 }
 
 impl Body {
-    ghost use Rattle.udfs_file.specs.Stretches.{Gives, listed_body, IsStanding};
+    ghost use Rattle.udfs_file.specs.Stretches.{Gives, LieInBlocks, listed_body, IsStanding};
     ghost use Rattle.udfs_file.specs.Entries.{entry_of};
     ghost use Rattle.udfs_file.specs.Bodies.{body};
     ghost use Rattle.udfs_file.specs.Told.{TellsBody};
 
-    /// The stretches, in order. It takes no memory.
+    /// The stretches, in order. Each but the last fills its blocks, so at most 2048 bytes side by side lie in one
+    /// block, or in the end of one and the beginning of the next. It takes no memory.
     pub fn stretches(&self) -> &[Stretch]
-        ensures { result.now ≡ self.now }
+        ensures value { result.now ≡ self.now }
+        ensures blocks { LieInBlocks self.now }
     {
         self.stretches.as_slice()
     }

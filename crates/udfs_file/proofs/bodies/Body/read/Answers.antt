@@ -7,7 +7,7 @@ use Rattle.std.specs.Prelude.{Ok, Err}
 use Rattle.udfs_file.specs.declared.faults.NodeFault.TheVariants.{Short}
 use Rattle.udfs_file.specs.declared.faults.WalkError.TheVariants.{Fault}
 use Rattle.udfs_file.specs.declared.stretches.Stretch.TheVariants.{Recorded}
-use Rattle.udfs_file.proofs.EmbeddedLemmas.{body-by, body-short, body-recorded, pushed_alone}
+use Rattle.udfs_file.proofs.EmbeddedLemmas.{embedded_lies, body-by, body-short, body-recorded, pushed_alone}
 use Rattle.udfs_file.proofs.Telling.{body_clauses}
 use Rattle.udfs_file.proofs.bodies.Body.read.Goals as goal
 
@@ -24,6 +24,16 @@ returns-then-size-area c =
     let short : length (entry_of c.args.entry.now).area < (entry_of c.args.entry.now).size = rw (← c.area-2.ensures.value, ← c.size-size.ensures) c.if-size-area.true in
     body_clauses (view (state_of c.args.table.now) c.args.space.now) c.args.reference c.args.b (entry_of c.args.entry.now) (Err (Fault Short))
     (body-short (view (state_of c.args.table.now) c.args.space.now) c.args.reference c.args.b c.args.entry.now (sym c.form.ensures ∙ c.if-form-ne3.false) short)
+
+pub invariant_of-result : goal.invariant_of-result
+invariant_of-result c =
+    let enough : (entry_of c.args.entry.now).size ≤ length (entry_of c.args.entry.now).area = rw (← c.area-2.ensures.value, ← c.size-size.ensures) c.if-size-area.false in
+    embedded_lies c.args.reference c.args.b c.args.entry.now c.push.new.self.items c.start.ensures.fits enough
+    (pushed_alone c.new-stretches.result.items c.push.new.self.items (Recorded (record { reference = c.args.reference; block = c.args.b; offset = c.start.result }) c.size-size.result)
+    (Recorded (record { reference = c.args.reference; block = c.args.b; offset = area_start c.args.entry.now }) (entry_of c.args.entry.now).size)
+    (is_ok c.push.result) c.new-stretches.ensures.items c.push.ensures.items (c.is_err.ensures.negation ∙ ap not c.if-is_err.false)
+    (ap (λ o. Recorded (record { reference = c.args.reference; block = c.args.b; offset = o }) c.size-size.result) c.start.ensures.value
+    ∙ ap (λ n. Recorded (record { reference = c.args.reference; block = c.args.b; offset = area_start c.args.entry.now }) n) c.size-size.ensures))
 
 pub returns : goal.returns
 returns c =

@@ -14,7 +14,7 @@ pub steps-init : goal.steps-init
 steps-init c =
     let same : IsFronting (cells_of (view (state_of c.args.table.now) c.args.space.now) c.args.body.now) (cells_of (view (state_of c.args.table.now) c.args.space.now) c.stretches.result.now) [] =
     subst (λ (ss : List Stretch). IsFronting (cells_of (view (state_of c.args.table.now) c.args.space.now) c.args.body.now) (cells_of (view (state_of c.args.table.now) c.args.space.now) ss) [])
-    (sym c.stretches.ensures) (front-start (cells_of (view (state_of c.args.table.now) c.args.space.now) c.args.body.now)) in
+    (sym c.stretches.ensures.value) (front-start (cells_of (view (state_of c.args.table.now) c.args.space.now) c.args.body.now)) in
     subst (IsFronting (cells_of (view (state_of c.args.table.now) c.args.space.now) c.args.body.now) (cells_of (view (state_of c.args.table.now) c.args.space.now) c.stretches.result.now)) (sym c.new-entries.ensures.items) same
 
 pub returns-in-AtRest : goal.returns-in-AtRest
