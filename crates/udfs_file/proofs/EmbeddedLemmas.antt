@@ -1,5 +1,5 @@
 -- A body as its entry gives it: listed by descriptors, or embedded.
-use Rattle.std.proofs.Common.{◌≡◌, ◌≢◌, refl, sym, ◌∙◌, ap, subst, ℕ, ◌+◌, ◌/◌, ◌%◌, ◌<◌, ◌≤◌, Bool, true, false, cond, List, [], ◌∷◌, ◌++◌, length, take, drop, map, get_or, arith, Some, slice_index, drop-cons, append-nil}
+use Rattle.std.proofs.Common.{◌≡◌, ◌≢◌, refl, sym, ◌∙◌, ap, subst, inr, ℕ, ◌+◌, ◌/◌, ◌%◌, ◌<◌, ◌≤◌, Bool, true, false, cond, List, [], ◌∷◌, ◌++◌, length, take, drop, map, get_or, arith, Some, slice_index, drop-cons, append-nil}
 use Rattle.std.proofs.lemmas.List.{length-take}
 use Rattle.udfs_file.specs.declared.stretches.Stretch.{Stretch}
 use Rattle.std.specs.Prelude.{zero, suc}
@@ -10,7 +10,7 @@ use Rattle.udfs_file.specs.Entries.{entry_of, area_start, descriptors_length, Fi
 use Rattle.udfs_file.specs.Bodies.{cell_at, recorded_cell, cells, faulty_body, body, embedded_body, extents_body, descriptors}
 use Rattle.udfs_file.specs.declared.cells.Cell.{Cell}
 use Rattle.udfs_file.specs.declared.cells.Cell.TheVariants.{Byte}
-use Rattle.udfs_file.specs.Stretches.{listed_body, cells_of}
+use Rattle.udfs_file.specs.Stretches.{LieInBlocks, listed_body, cells_of}
 use Rattle.udfs_file.specs.declared.stretches.Stretch.TheVariants.{Recorded}
 use Rattle.udfs_file.specs.declared.faults.NodeFault.TheVariants.{Short}
 use Rattle.udfs_file.proofs.BodyFrom.{not_le, is_le}
@@ -70,6 +70,17 @@ one_stretch v r b at k = append-nil (map (recorded_cell v r b) (range_with_len a
 
 area_length : (n at : ℕ) (bytes : List ℕ) → length (take n (drop at bytes)) ≤ n
 area_length n at bytes = omega (arith, length-take {A = ℕ})
+
+-- embedded bytes lie in the entry's block
+embedded_fits : (bytes : List ℕ) → FitsBlock bytes → (entry_of bytes).size ≤ length (entry_of bytes).area → area_start bytes + (entry_of bytes).size ≤ 2048
+embedded_fits bytes fit k = sum_le (area_start bytes) (entry_of bytes).size (descriptors_length bytes)
+    (le_trans (entry_of bytes).size (length (entry_of bytes).area) (descriptors_length bytes) k
+    (subst (λ (a : List ℕ). length a ≤ descriptors_length bytes) (sym (area_is bytes)) (area_length (descriptors_length bytes) (area_start bytes) bytes)))
+    fit
+
+pub embedded_lies : (r b : ℕ) (bytes : List ℕ) (items : List Stretch) → FitsBlock bytes → (entry_of bytes).size ≤ length (entry_of bytes).area
+    → items ≡ Recorded (record { reference = r; block = b; offset = area_start bytes }) (entry_of bytes).size ∷ [] → LieInBlocks items
+embedded_lies r b bytes items fit k is = subst LieInBlocks (sym is) (inr (embedded_fits bytes fit k))
 
 pub body-recorded : (v : View) (r b n : ℕ) (bytes : List ℕ) (items : List Stretch) → (entry_of bytes).form ≡ 3 → block_at v r b ≡ Some (n, Known bytes)
     → length bytes ≡ 2048 → FitsBlock bytes → (entry_of bytes).size ≤ length (entry_of bytes).area

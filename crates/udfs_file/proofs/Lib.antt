@@ -18,3 +18,5 @@ pub mod WholeExtents
 pub mod WholeBodies
 pub mod FileSets
 pub mod BodyLengths
+pub mod Telling
+pub mod BlockLemmas

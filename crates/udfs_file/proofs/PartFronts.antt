@@ -151,7 +151,7 @@ part_read (suc n) xs ys h = go (λ k. part_read n (drop k xs) (drop k ys) (AllZi
     go ih (step_same p) = subst (λ t. IsBeginningOf (read_on t (next xs)).identifiers (read_on (step ys) (next ys)).identifiers) (sym p) (same ih (step ys))
     go ih (step_stop b p) = subst (λ t. IsBeginningOf (read_on t (next xs)).identifiers (read_on (step ys) (next ys)).identifiers) (sym p) ((read_on (step ys) (next ys)).identifiers, refl)
 
-listed-append : (xs ys : List Identifier) → listed_entries (xs ++ ys) ≡ listed_entries xs ++ listed_entries ys
+pub listed-append : (xs ys : List Identifier) → listed_entries (xs ++ ys) ≡ listed_entries xs ++ listed_entries ys
 listed-append [] ys = refl
 listed-append (x ∷ xs) ys = go (listed-append xs ys) x.listed
   where

@@ -35,7 +35,7 @@ found_missing (suc n) [] m e = absurd (let x : ⊥ = cc in x)
 found_missing (suc n) (Byte x o ∷ xs) m e = let r : (k : ℕ) × (k < n) × IsMissingAt xs k = found_missing n xs m e in (suc r.0, (let h : r.0 < n = r.1 in omega arith), r.2)
 found_missing (suc n) (Gap b ∷ xs) m e = (zero, omega arith, (b, refl))
 
-slice_get-drop : (s : ℕ) (xs : List Cell) (k : ℕ) → slice_get (drop s xs) k ≡ slice_get xs (s + k)
+pub slice_get-drop : (s : ℕ) (xs : List Cell) (k : ℕ) → slice_get (drop s xs) k ≡ slice_get xs (s + k)
 slice_get-drop zero xs k = ap (slice_get xs) (let e : k ≡ 0 + k = omega arith in e)
 slice_get-drop (suc s) [] k = refl
 slice_get-drop (suc s) (x ∷ xs) k = slice_get-drop s xs k ∙ ap (slice_get (x ∷ xs)) (let e : suc (s + k) ≡ suc s + k = omega arith in e)
@@ -135,7 +135,7 @@ no_stop_in {A} n bytes true e = go (units_of (part bytes (38 + uint16_at bytes 3
     go (Err f) q = absurd (let x : ⊥ = cc in x)
 no_stop_in n bytes false e = absurd (let x : ⊥ = cc in x)
 
-no_stop : {A : Type 0} (n : ℕ) (o : Option ℕ) (bytes : Bytes) → checked_identifier o bytes ≡ AtRest (Stopped n) → A
+pub no_stop : {A : Type 0} (n : ℕ) (o : Option ℕ) (bytes : Bytes) → checked_identifier o bytes ≡ AtRest (Stopped n) → A
 no_stop n None bytes e = absurd (let x : ⊥ = cc in x)
 no_stop {A} n (Some b) bytes e = go (is_valid bytes b 257) e
   where
@@ -200,10 +200,10 @@ step_clear xs ys h id e clear = go (step_is xs ys h)
     go (step_same p) = p ∙ e
     go (step_stop n p) = absurd (no (stop_missing xs n p))
 
-cons_head : {A : Type 0} (x y : A) (xs ys : List A) → x ∷ xs ≡ y ∷ ys → x ≡ y
+pub cons_head : {A : Type 0} (x y : A) (xs ys : List A) → x ∷ xs ≡ y ∷ ys → x ≡ y
 cons_head x y xs ys e = cc
 
-cons_tail : {A : Type 0} (x y : A) (xs ys : List A) → x ∷ xs ≡ y ∷ ys → xs ≡ ys
+pub cons_tail : {A : Type 0} (x y : A) (xs ys : List A) → x ∷ xs ≡ y ∷ ys → xs ≡ ys
 cons_tail x y xs ys e = cc
 
 nil_cons : {A B : Type 0} (x : A) (front xs : List A) → [] ≡ front ++ x ∷ xs → B

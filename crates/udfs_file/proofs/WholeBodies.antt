@@ -1,6 +1,6 @@
 -- Over a complete partition a body without a fault is the one that the standard reads.
 use Rattle.std.proofs.Common.{◌≡◌, ◌≢◌, refl, sym, ◌∙◌, ap, subst, inl, inr, ◌⊎◌, ℕ, ◌+◌, ◌-◌, ◌<◌, ◌≤◌, min, Bool, true, false, not, List, [], ◌∷◌, ◌++◌, length, take, map, cond, ◌&&◌, arith, Option, Some, None, nat_eq, nat_le, nat_lt, add-zero, is_none, ◌||◌}
-use Rattle.std.proofs.lemmas.Bool.{leb-true}
+use Rattle.std.proofs.lemmas.Bool.{eqb-true, leb-true}
 use Rattle.std.specs.Prelude.{zero, suc, flat_map, take_while, option_map, ◌%◌}
 use Rattle.std.proofs.lemmas.List.{append-nil, length-append, map-append, take-append-le, take_all}
 use Rattle.std.proofs.lemmas.List.Sums.{take_while-cons}
@@ -16,7 +16,7 @@ use Rattle.udfs_file.specs.Bodies.{Next, no_more, area_at, broken, Descriptors, 
 use Rattle.udfs_file.specs.declared.cells.Cell.{Cell}
 use Rattle.udfs_file.specs.declared.cells.Cell.TheVariants.{Byte}
 use Rattle.udfs_tag.specs.Faults.{first_fault}
-use Rattle.udfs_file.specs.Standard.{Located, located, extent_bytes, extents_in, IsOneBlock, IsJoined, IsExtentsBody, IsEmbeddedBody, IsBodyOf}
+use Rattle.udfs_file.specs.Standard.{Located, located, extent_bytes, extents_in, up_to_end, IsOneBlock, IsExtentAt, AreExtentsOf, IsJoined, IsExtentsBody, IsEmbeddedBody, IsBodyOf}
 use Rattle.udfs_file.specs.Complete.{IsWhole, as_cell, as_cells, BodyLaw}
 use Rattle.udfs_file.specs.declared.faults.NodeFault.{NodeFault}
 use Rattle.udfs_file.specs.declared.faults.NodeFault.TheVariants.{Short, Chain, Range, Reference}
@@ -30,7 +30,7 @@ use Rattle.udfs_file.proofs.Joins.{only_body}
 abbrev IsJoinedBy : (ℕ → ℕ → Option Bytes) → ℕ → ℕ → List LongAd → List Bytes → List LongAd → Type 0
 IsJoinedBy blocks form r ds [] xs = xs ≡ take_while is_other ds
 IsJoinedBy blocks form r ds (bytes ∷ more) xs = (d : LongAd) × (later : List LongAd)
-    × (next_descriptor ds ≡ Some d) × IsOneBlock d × (blocks d.reference d.block ≡ Some bytes) × (is_valid bytes d.block 258 ≡ true)
+    × (next_descriptor ds ≡ Some d) × IsOneBlock d × (blocks d.reference d.block ≡ Some bytes) × IsExtentAt form d.block bytes
     × IsJoined blocks form r (part bytes 24 (uint32_at bytes 20)) more later
     × (xs ≡ take_while is_other ds ++ later)
 
@@ -55,56 +55,90 @@ joined_more blocks form r d ds (b ∷ f) xs e (a, later, n, o, k, v, j, x) = (
 )
 
 abbrev bytes_of : (ℕ → ℕ → Option Bytes) → List LongAd → List Located
-bytes_of blocks xs = flat_map (extent_bytes blocks) (take_while (λ d. nat_lt 0 d.length) xs)
+bytes_of blocks xs = flat_map (extent_bytes blocks) (up_to_end xs)
 
--- The standard's reading from cell c on.
-record Reading (blocks : ℕ → ℕ → Option Bytes) (size : ℕ) (joins : List Bytes → List LongAd → Type 0) (c : ℕ) (cs : List Cell) : Type 0 where
+-- The standard's reading from cell c on, with at most so many continuations.
+record Reading (blocks : ℕ → ℕ → Option Bytes) (size most : ℕ) (joins : List Bytes → List LongAd → Type 0) (c : ℕ) (cs : List Cell) : Type 0 where
   followed : List Bytes
   extents : List LongAd
   joined : joins followed extents
+  limit : length followed ≤ most
+  sound : AreExtentsOf blocks c size (up_to_end extents)
   enough : size - c ≤ length (bytes_of blocks extents)
   same : cs ≡ as_cells (take (size - c) (bytes_of blocks extents))
 
 none_left : (size c : ℕ) → size ≤ c → size - c ≡ 0
 none_left size c h = omega arith
 
+-- behind the end of the body nothing is asked of an extent
+sound_behind : (blocks : ℕ → ℕ → Option Bytes) (c size : ℕ) (ds : List LongAd) → size ≤ c → AreExtentsOf blocks c size ds
+sound_behind blocks c size [] h = tt
+sound_behind blocks c size (d ∷ ds) h = (
+  record { there = λ k j l q. absurd (let no : ⊥ = omega (arith, h, q) in no); full = λ l. absurd (let no : ⊥ = omega (arith, h, l) in no) },
+  sound_behind blocks (c + d.length) size ds (omega (arith, h)),
+)
+
+nothing_below : (n : ℕ) → 0 ≤ n
+nothing_below n = omega arith
+
 -- where no cells are left
-reading_done : (v : View) (blocks : ℕ → ℕ → Option Bytes) (size : ℕ) (joins : List Bytes → List LongAd → Type 0) (behind : Next) (c : ℕ) (ds : List LongAd) (cs : List Cell) (xs : List LongAd)
-    → joins [] xs → size ≤ c → from v size behind c ds ≡ cells cs → Reading blocks size joins c cs
-reading_done v blocks size joins behind c ds cs xs j h e = record {
+reading_done : (v : View) (blocks : ℕ → ℕ → Option Bytes) (size most : ℕ) (joins : List Bytes → List LongAd → Type 0) (behind : Next) (c : ℕ) (ds : List LongAd) (cs : List Cell) (xs : List LongAd)
+    → joins [] xs → size ≤ c → from v size behind c ds ≡ cells cs → Reading blocks size most joins c cs
+reading_done v blocks size most joins behind c ds cs xs j h e = record {
   followed = [];
   extents = xs;
   joined = j;
+  limit = nothing_below most;
+  sound = sound_behind blocks c size (up_to_end xs) h;
   enough = subst (λ z. z ≤ length (bytes_of blocks xs)) (sym (none_left size c h)) (omega arith);
   same = sym (cells-same [] cs (sym (from-done v size behind c ds h) ∙ e)) ∙ ap (λ z. as_cells (take z (bytes_of blocks xs))) (sym (none_left size c h));
 }
 
--- where no test holds, a continuation is one block
-third_none : (x y z is_last : Bool) → first_fault ((x, Reference) ∷ (y, Range) ∷ (z || is_last, Chain) ∷ []) ≡ None → z ≡ false
+-- where no test holds, a continuation is one block, and not one too many
+third_none : (x y z is_last : Bool) → first_fault ((x, Reference) ∷ (y, Range) ∷ (z || is_last, Chain) ∷ []) ≡ None → (z ≡ false) × (is_last ≡ false)
 third_none true y z is_last e = absurd (let n : ⊥ = cc in n)
 third_none false true z is_last e = absurd (let n : ⊥ = cc in n)
 third_none false false true is_last e = absurd (let n : ⊥ = cc in n)
-third_none false false false is_last e = refl
+third_none false false false true e = absurd (let n : ⊥ = cc in n)
+third_none false false false false e = (refl, refl)
 
 not_more : (n : ℕ) → nat_lt 2048 n ≡ false → n ≤ 2048
 not_more n h = grind arith
 
 -- What stands behind the descriptors of an area in a complete partition.
-data Then (blocks : ℕ → ℕ → Option Bytes) (d : LongAd) (x : Next) : Type 0 where
-  then_area : (bytes : Bytes) → x ≡ area_at (part bytes 24 (uint32_at bytes 20)) → blocks d.reference d.block ≡ Some bytes → is_valid bytes d.block 258 ≡ true → nat_lt 2048 d.length ≡ false → Then blocks d x
-  then_broken : (f : NodeFault) → x ≡ broken f → Then blocks d x
+record IsFollowing (blocks : ℕ → ℕ → Option Bytes) (form : ℕ) (is_last : Bool) (d : LongAd) (x : Next) (bytes : Bytes) : Type 0 where
+  is : x ≡ area_at (part bytes 24 (uint32_at bytes 20))
+  given : blocks d.reference d.block ≡ Some bytes
+  extent : IsExtentAt form d.block bytes
+  long : nat_lt 2048 d.length ≡ false
+  allowed : is_last ≡ false
 
-then_in : (blocks : ℕ → ℕ → Option Bytes) (form n : ℕ) (d : LongAd) (bytes : Bytes) → blocks d.reference d.block ≡ Some bytes → nat_lt 2048 d.length ≡ false
-    → Then blocks d (next_area form d.block n (Known bytes))
-then_in blocks form n d bytes k long = go (is_valid bytes d.block 258) refl (nat_le (24 + uint32_at bytes 20) 2048) (nat_eq (uint32_at bytes 20 % descriptor_size form) 0)
+data Then (blocks : ℕ → ℕ → Option Bytes) (form : ℕ) (is_last : Bool) (d : LongAd) (x : Next) : Type 0 where
+  then_area : (bytes : Bytes) → IsFollowing blocks form is_last d x bytes → Then blocks form is_last d x
+  then_broken : (f : NodeFault) → x ≡ broken f → Then blocks form is_last d x
+
+then_in : (blocks : ℕ → ℕ → Option Bytes) (form n : ℕ) (is_last : Bool) (d : LongAd) (bytes : Bytes) → blocks d.reference d.block ≡ Some bytes → (nat_lt 2048 d.length ≡ false) × (is_last ≡ false)
+    → Then blocks form is_last d (next_area form d.block n (Known bytes))
+then_in blocks form n is_last d bytes k short =
+    go (is_valid bytes d.block 258) refl (nat_le (24 + uint32_at bytes 20) 2048) refl (nat_eq (uint32_at bytes 20 % descriptor_size form) 0) refl
   where
-    go : (v : Bool) → is_valid bytes d.block 258 ≡ v → (x y : Bool) → Then blocks d (cond (v && x && y) (area_at (part bytes 24 (uint32_at bytes 20))) (broken Chain))
-    go true e true true = then_area bytes refl k e long
-    go true e true false = then_broken Chain refl
-    go true e false y = then_broken Chain refl
-    go false e x y = then_broken Chain refl
+    A : Bytes
+    A = part bytes 24 (uint32_at bytes 20)
 
-then_is : (all : View) (blocks : ℕ → ℕ → Option Bytes) → IsWhole all blocks → (form : ℕ) (is_last : Bool) (d : LongAd) → Then blocks d (next_of all form is_last (Some d))
+    go : (v : Bool) → is_valid bytes d.block 258 ≡ v → (x : Bool) → nat_le (24 + uint32_at bytes 20) 2048 ≡ x → (y : Bool) → nat_eq (uint32_at bytes 20 % descriptor_size form) 0 ≡ y
+        → Then blocks form is_last d (cond (v && x && y) (area_at A) (broken Chain))
+    go true e true p true q = then_area bytes (record {
+      is = refl;
+      given = k;
+      extent = (e, leb-true (24 + uint32_at bytes 20) 2048 p, eqb-true (uint32_at bytes 20 % descriptor_size form) 0 q);
+      long = short.0;
+      allowed = short.1;
+    })
+    go true e true p false q = then_broken Chain refl
+    go true e false p y q = then_broken Chain refl
+    go false e x p y q = then_broken Chain refl
+
+then_is : (all : View) (blocks : ℕ → ℕ → Option Bytes) → IsWhole all blocks → (form : ℕ) (is_last : Bool) (d : LongAd) → Then blocks form is_last d (next_of all form is_last (Some d))
 then_is all blocks w form is_last d = go (continuation_fault all is_last d) refl (all.place d.reference d.block) refl
   where
     F : Option NodeFault → Option ℕ → Next
@@ -113,12 +147,12 @@ then_is all blocks w form is_last d = go (continuation_fault all is_last d) refl
     to : (o : Option NodeFault) (x : Option ℕ) → continuation_fault all is_last d ≡ o → all.place d.reference d.block ≡ x → F o x ≡ next_of all form is_last (Some d)
     to o x a b = λ i. F (sym a i) (sym b i)
 
-    go : (o : Option NodeFault) → continuation_fault all is_last d ≡ o → (x : Option ℕ) → all.place d.reference d.block ≡ x → Then blocks d (next_of all form is_last (Some d))
+    go : (o : Option NodeFault) → continuation_fault all is_last d ≡ o → (x : Option ℕ) → all.place d.reference d.block ≡ x → Then blocks form is_last d (next_of all form is_last (Some d))
     go (Some f) a x b = then_broken f (sym (to (Some f) x a b))
     go None a None b = then_broken Range (sym (to None None a b))
     go None a (Some n) b = let t : (bytes : Bytes) × (all.blocks n ≡ Known bytes) × (blocks d.reference d.block ≡ Some bytes) × (length bytes ≡ 2048) = w.there d.reference d.block n b in
-        subst (Then blocks d) (ap (next_area form d.block n) (sym t.1) ∙ to None (Some n) a b)
-        (then_in blocks form n d t.0 t.2 (third_none (nat_le all.partitions d.reference) (is_none (all.place d.reference d.block)) (nat_lt 2048 d.length) is_last a))
+        subst (Then blocks form is_last d) (ap (next_area form d.block n) (sym t.1) ∙ to None (Some n) a b)
+        (then_in blocks form n is_last d t.0 t.2 (third_none (nat_le all.partitions d.reference) (is_none (all.place d.reference d.block)) (nat_lt 2048 d.length) is_last a))
 
 -- a continuation that leads nowhere ends the body
 no_body : {A : Type 0} (v : View) (size : ℕ) (x : Next) (c : ℕ) (d : LongAd) (cs : List Cell) → ((left : ℕ) (rest : List Cell) → ended_body left x [] ≢ cells rest) → covers d ≡ 0 → c < size
@@ -190,12 +224,14 @@ area-cons v form is_last later d ds b e = (λ i. joined (up-cons d ds i) (next_o
     go false = refl
 
 -- an extent, and the reading behind it
-extent_reads : (all : View) (blocks : ℕ → ℕ → Option Bytes) → IsWhole all blocks → (form r size c : ℕ) (behind : Next) (d : LongAd) (ds all_ds : List LongAd) (cs : List Cell) → is_other d ≡ true
-    → (t : Taken all size behind c d all_ds cs) → Reading blocks size (IsJoinedBy blocks form r ds) (c + covers d) t.then.rest → Reading blocks size (IsJoinedBy blocks form r (d ∷ ds)) c cs
-extent_reads all blocks w form r size c behind d ds all_ds cs e t q = record {
+extent_reads : (all : View) (blocks : ℕ → ℕ → Option Bytes) → IsWhole all blocks → (form r size most c : ℕ) (behind : Next) (d : LongAd) (ds all_ds : List LongAd) (cs : List Cell) → is_other d ≡ true
+    → (t : Taken all size behind c d all_ds cs) → Reading blocks size most (IsJoinedBy blocks form r ds) (c + covers d) t.then.rest → Reading blocks size most (IsJoinedBy blocks form r (d ∷ ds)) c cs
+extent_reads all blocks w form r size most c behind d ds all_ds cs e t q = record {
   followed = q.followed;
   extents = d ∷ q.extents;
   joined = joined_more blocks form r d ds q.followed q.extents e q.joined;
+  limit = q.limit;
+  sound = subst (AreExtentsOf blocks c size) (sym ends) (x.sound, subst (λ n. AreExtentsOf blocks (c + n) size (up_to_end q.extents)) cover q.sound);
   enough = subst (λ z. size - c ≤ length z) (sym front) m.enough;
   same = sym t.then.joins ∙ (λ i. sym x.same i ++ (q.same ∙ ap (λ z. as_cells (take z B)) left) i)
       ∙ sym (map-append as_cell (take (cells_in size (c, d)) E) (take (size - c - covers d) B)) ∙ ap as_cells (sym m.same) ∙ ap (λ z. as_cells (take (size - c) z)) (sym front);
@@ -211,23 +247,26 @@ extent_reads all blocks w form r size c behind d ds all_ds cs e t q = record {
     cover = ap (λ b. cond b 0 d.length) (not_three (nat_eq d.kind 3) e)
 
     x : ExtentIs all blocks size c d
-    x = extent_is all blocks w size c d cover t.no_fault
+    x = extent_is all blocks w size c d e cover t.no_fault
+
+    ends : up_to_end (d ∷ q.extents) ≡ d ∷ up_to_end q.extents
+    ends = take_while-cons (λ a. nat_lt 0 a.length) d q.extents ∙ ap (λ b. cond b (d ∷ up_to_end q.extents) []) t.is_long
 
     left : size - (c + covers d) ≡ size - c - covers d
     left = omega arith
 
     front : bytes_of blocks (d ∷ q.extents) ≡ E ++ B
-    front = ap (flat_map (extent_bytes blocks)) (take_while-cons (λ a. nat_lt 0 a.length) d q.extents ∙ ap (λ b. cond b (d ∷ take_while (λ a. nat_lt 0 a.length) q.extents) []) t.is_long)
+    front = ap (flat_map (extent_bytes blocks)) ends
 
     m : Meet (covers d) (size - c) E B
     m = meet (covers d) (size - c) E B x.enough (subst (λ z. length E ≤ z) (sym cover) x.most) (subst (λ z. z ≤ length B) left q.enough)
 
 -- a continuation, and the reading in its area
-next_reads : (all : View) (blocks : ℕ → ℕ → Option Bytes) → IsWhole all blocks → (form r size c : ℕ) (is_last : Bool) (later : Bytes → Descriptors)
-    → ((a : Bytes) (c : ℕ) (cs : List Cell) → from all size (later a).behind c (later a).all ≡ cells cs → Reading blocks size (IsJoined blocks form r a) c cs)
-    → (d : LongAd) (ds : List LongAd) (cs : List Cell) → is_other d ≡ false → c < size → (x : Next) → Then blocks d x
-    → from all size (joined (d ∷ []) x later).behind c (joined (d ∷ []) x later).all ≡ cells cs → Reading blocks size (IsJoinedBy blocks form r (d ∷ ds)) c cs
-next_reads all blocks w form r size c is_last later h d ds cs e l x th k = go th
+next_reads : (all : View) (blocks : ℕ → ℕ → Option Bytes) → IsWhole all blocks → (form r size most below c : ℕ) (is_last : Bool) → (is_last ≡ false → suc below ≤ most) → (later : Bytes → Descriptors)
+    → ((a : Bytes) (c : ℕ) (cs : List Cell) → from all size (later a).behind c (later a).all ≡ cells cs → Reading blocks size below (IsJoined blocks form r a) c cs)
+    → (d : LongAd) (ds : List LongAd) (cs : List Cell) → is_other d ≡ false → c < size → (x : Next) → Then blocks form is_last d x
+    → from all size (joined (d ∷ []) x later).behind c (joined (d ∷ []) x later).all ≡ cells cs → Reading blocks size most (IsJoinedBy blocks form r (d ∷ ds)) c cs
+next_reads all blocks w form r size most below c is_last room later h d ds cs e l x th k = go th
   where
     three : nat_eq d.kind 3 ≡ true
     three = is_three (nat_eq d.kind 3) e
@@ -247,12 +286,17 @@ next_reads all blocks w form r size c is_last later h d ds cs e l x th k = go th
     empty : extent_cells all size (c, d) ≡ []
     empty = no_length (extent_cells all size (c, d)) (length-extent all size (c, d) ∙ ap (λ z. min z (size - c)) short ∙ min_zero (size - c))
 
-    go : Then blocks d x → Reading blocks size (IsJoinedBy blocks form r (d ∷ ds)) c cs
+    one_more : (a b n : ℕ) → a ≤ b → suc b ≤ n → suc a ≤ n
+    one_more a b n p q = omega (arith, p, q)
+
+    go : Then blocks form is_last d x → Reading blocks size most (IsJoinedBy blocks form r (d ∷ ds)) c cs
     go (then_broken f q) = no_body all size (broken f) c d cs (no_cells-broken f) short l (at (broken f) q)
-    go (then_area bytes q g v long) = record {
+    go (then_area bytes f) = record {
       followed = bytes ∷ read.followed;
       extents = read.extents;
-      joined = (d, read.extents, next-cons d ds ∙ ap (λ b. cond b (next_descriptor ds) (Some d)) e, (leb-true 1 d.length t.is_long, not_more d.length long), g, v, read.joined, ap (λ z. z ++ read.extents) (sym none));
+      joined = (d, read.extents, next-cons d ds ∙ ap (λ b. cond b (next_descriptor ds) (Some d)) e, (leb-true 1 d.length t.is_long, not_more d.length f.long), f.given, f.extent, read.joined, ap (λ z. z ++ read.extents) (sym none));
+      limit = one_more (length read.followed) below most read.limit (room f.allowed);
+      sound = subst (λ z. AreExtentsOf blocks z size (up_to_end read.extents)) same_cell read.sound;
       enough = subst (λ z. size - z ≤ length (bytes_of blocks read.extents)) same_cell read.enough;
       same = sym t.then.joins ∙ ap (λ z. z ++ t.then.rest) empty ∙ read.same ∙ ap (λ z. as_cells (take (size - z) (bytes_of blocks read.extents))) same_cell;
     }
@@ -261,24 +305,24 @@ next_reads all blocks w form r size c is_last later h d ds cs e l x th k = go th
         area = part bytes 24 (uint32_at bytes 20)
 
         t : Taken all size (later area).behind c d (later area).all cs
-        t = taken-inv all size (later area).behind c d (later area).all cs l (at (area_at area) q)
+        t = taken-inv all size (later area).behind c d (later area).all cs l (at (area_at area) f.is)
 
         same_cell : c + covers d ≡ c
         same_cell = ap (λ n. c + n) short ∙ add-zero c
 
-        read : Reading blocks size (IsJoined blocks form r area) (c + covers d) t.then.rest
+        read : Reading blocks size below (IsJoined blocks form r area) (c + covers d) t.then.rest
         read = h area (c + covers d) t.then.rest t.then.is
 
-area_reads : (all : View) (blocks : ℕ → ℕ → Option Bytes) → IsWhole all blocks → (form r size : ℕ) (is_last : Bool) (later : Bytes → Descriptors)
-    → ((a : Bytes) (c : ℕ) (cs : List Cell) → from all size (later a).behind c (later a).all ≡ cells cs → Reading blocks size (IsJoined blocks form r a) c cs)
+area_reads : (all : View) (blocks : ℕ → ℕ → Option Bytes) → IsWhole all blocks → (form r size most below : ℕ) (is_last : Bool) → (is_last ≡ false → suc below ≤ most) → (later : Bytes → Descriptors)
+    → ((a : Bytes) (c : ℕ) (cs : List Cell) → from all size (later a).behind c (later a).all ≡ cells cs → Reading blocks size below (IsJoined blocks form r a) c cs)
     → (ds : List LongAd) (c : ℕ) (cs : List Cell) → from all size (area_chain all form is_last later ds).behind c (area_chain all form is_last later ds).all ≡ cells cs
-    → Reading blocks size (IsJoinedBy blocks form r ds) c cs
-area_reads all blocks w form r size is_last later h [] c cs e = go (le_or_lt size c)
+    → Reading blocks size most (IsJoinedBy blocks form r ds) c cs
+area_reads all blocks w form r size most below is_last room later h [] c cs e = go (le_or_lt size c)
   where
-    go : (size ≤ c) ⊎ (c < size) → Reading blocks size (IsJoinedBy blocks form r []) c cs
-    go (inl l) = reading_done all blocks size (IsJoinedBy blocks form r []) no_more c [] cs [] refl l e
+    go : (size ≤ c) ⊎ (c < size) → Reading blocks size most (IsJoinedBy blocks form r []) c cs
+    go (inl l) = reading_done all blocks size most (IsJoinedBy blocks form r []) no_more c [] cs [] refl l e
     go (inr l) = no_cells Short cs (sym (from-end all size no_more c l) ∙ e)
-area_reads all blocks w form r size is_last later h (d ∷ ds) c cs e = go (le_or_lt size c) (is_other d) refl (area_reads all blocks w form r size is_last later h ds (c + covers d))
+area_reads all blocks w form r size most below is_last room later h (d ∷ ds) c cs e = go (le_or_lt size c) (is_other d) refl (area_reads all blocks w form r size most below is_last room later h ds (c + covers d))
   where
     J : List LongAd → Descriptors
     J x = area_chain all form is_last later x
@@ -287,31 +331,34 @@ area_reads all blocks w form r size is_last later h (d ∷ ds) c cs e = go (le_o
     to D q = subst (λ z. from all size z.behind c z.all ≡ cells cs) q e
 
     go : (size ≤ c) ⊎ (c < size) → (b : Bool) → is_other d ≡ b
-        → ((rest : List Cell) → from all size (J ds).behind (c + covers d) (J ds).all ≡ cells rest → Reading blocks size (IsJoinedBy blocks form r ds) (c + covers d) rest)
-        → Reading blocks size (IsJoinedBy blocks form r (d ∷ ds)) c cs
-    go (inl l) b q ih = reading_done all blocks size (IsJoinedBy blocks form r (d ∷ ds)) (J (d ∷ ds)).behind c (J (d ∷ ds)).all cs (take_while is_other (d ∷ ds)) refl l e
+        → ((rest : List Cell) → from all size (J ds).behind (c + covers d) (J ds).all ≡ cells rest → Reading blocks size most (IsJoinedBy blocks form r ds) (c + covers d) rest)
+        → Reading blocks size most (IsJoinedBy blocks form r (d ∷ ds)) c cs
+    go (inl l) b q ih = reading_done all blocks size most (IsJoinedBy blocks form r (d ∷ ds)) (J (d ∷ ds)).behind c (J (d ∷ ds)).all cs (take_while is_other (d ∷ ds)) refl l e
     go (inr l) true q ih = let t : Taken all size (J ds).behind c d (J ds).all cs = taken-inv all size (J ds).behind c d (J ds).all cs l (to (onto d (J ds)) (area-cons all form is_last later d ds true q)) in
-        extent_reads all blocks w form r size c (J ds).behind d ds (J ds).all cs q t (ih t.then.rest t.then.is)
-    go (inr l) false q ih = next_reads all blocks w form r size c is_last later h d ds cs q l (next_of all form is_last (Some d)) (then_is all blocks w form is_last d)
+        extent_reads all blocks w form r size most c (J ds).behind d ds (J ds).all cs q t (ih t.then.rest t.then.is)
+    go (inr l) false q ih = next_reads all blocks w form r size most below c is_last room later h d ds cs q l (next_of all form is_last (Some d)) (then_is all blocks w form is_last d)
         (to (joined (d ∷ []) (next_of all form is_last (Some d)) later) (area-cons all form is_last later d ds false q))
 
-of_area : (blocks : ℕ → ℕ → Option Bytes) (form r size : ℕ) (area : Bytes) (c : ℕ) (cs : List Cell) → Reading blocks size (IsJoinedBy blocks form r (descriptors_in form r area)) c cs
-    → Reading blocks size (IsJoined blocks form r area) c cs
-of_area blocks form r size area c cs q = record { followed = q.followed; extents = q.extents; joined = joined_by blocks form r area q.followed q.extents q.joined; enough = q.enough; same = q.same }
+of_area : (blocks : ℕ → ℕ → Option Bytes) (form r size most : ℕ) (area : Bytes) (c : ℕ) (cs : List Cell) → Reading blocks size most (IsJoinedBy blocks form r (descriptors_in form r area)) c cs
+    → Reading blocks size most (IsJoined blocks form r area) c cs
+of_area blocks form r size most area c cs q = record { followed = q.followed; extents = q.extents; joined = joined_by blocks form r area q.followed q.extents q.joined; limit = q.limit; sound = q.sound; enough = q.enough; same = q.same }
+
+no_less : (n : ℕ) → n ≤ n
+no_less n = omega arith
 
 chain_reads : (all : View) (blocks : ℕ → ℕ → Option Bytes) → IsWhole all blocks → (form r size left : ℕ) (area : Bytes) (c : ℕ) (cs : List Cell)
-    → from all size (chain all form r left area).behind c (chain all form r left area).all ≡ cells cs → Reading blocks size (IsJoined blocks form r area) c cs
-chain_reads all blocks w form r size zero area c cs e = of_area blocks form r size area c cs
-    (area_reads all blocks w form r size true (λ a. no_descriptors) nothing_more (descriptors_in form r area) c cs e)
+    → from all size (chain all form r left area).behind c (chain all form r left area).all ≡ cells cs → Reading blocks size left (IsJoined blocks form r area) c cs
+chain_reads all blocks w form r size zero area c cs e = of_area blocks form r size 0 area c cs
+    (area_reads all blocks w form r size 0 0 true (λ t. absurd (let no : ⊥ = cc in no)) (λ a. no_descriptors) nothing_more (descriptors_in form r area) c cs e)
   where
-    nothing_more : (a : Bytes) (c : ℕ) (cs : List Cell) → from all size no_more c [] ≡ cells cs → Reading blocks size (IsJoined blocks form r a) c cs
+    nothing_more : (a : Bytes) (c : ℕ) (cs : List Cell) → from all size no_more c [] ≡ cells cs → Reading blocks size 0 (IsJoined blocks form r a) c cs
     nothing_more a c cs e = go (le_or_lt size c)
       where
-        go : (size ≤ c) ⊎ (c < size) → Reading blocks size (IsJoined blocks form r a) c cs
-        go (inl l) = reading_done all blocks size (IsJoined blocks form r a) no_more c [] cs (extents_in form r a) refl l e
+        go : (size ≤ c) ⊎ (c < size) → Reading blocks size 0 (IsJoined blocks form r a) c cs
+        go (inl l) = reading_done all blocks size 0 (IsJoined blocks form r a) no_more c [] cs (extents_in form r a) refl l e
         go (inr l) = no_cells Short cs (sym (from-end all size no_more c l) ∙ e)
-chain_reads all blocks w form r size (suc left) area c cs e = of_area blocks form r size area c cs
-    (area_reads all blocks w form r size false (λ a. chain all form r left a) (λ a. chain_reads all blocks w form r size left a) (descriptors_in form r area) c cs e)
+chain_reads all blocks w form r size (suc left) area c cs e = of_area blocks form r size (suc left) area c cs
+    (area_reads all blocks w form r size (suc left) left false (λ t. no_less (suc left)) (λ a. chain all form r left a) (λ a. chain_reads all blocks w form r size left a) (descriptors_in form r area) c cs e)
 
 -- the body is read
 record Found (blocks : ℕ → ℕ → Option Bytes) (cs : List Cell) (reads : List Located → Type 0) : Type 0 where
@@ -329,6 +376,8 @@ extents_read all blocks w r entry cs e = record {
     followed = q.followed;
     extents = q.extents;
     joined = q.joined;
+    limit = q.limit;
+    sound = q.sound;
     bytes = bytes_of blocks q.extents;
     together = refl;
     enough = subst (λ z. z ≤ length (bytes_of blocks q.extents)) whole_size q.enough;
@@ -339,7 +388,7 @@ extents_read all blocks w r entry cs e = record {
     whole_size : entry.size - 0 ≡ entry.size
     whole_size = omega arith
 
-    q : Reading blocks entry.size (IsJoined blocks entry.form r entry.area) 0 cs
+    q : Reading blocks entry.size 256 (IsJoined blocks entry.form r entry.area) 0 cs
     q = chain_reads all blocks w entry.form r entry.size 256 entry.area 0 cs (sym (body-from all entry.size (descriptors all r entry)) ∙ e)
 
 le_is : (a b : ℕ) → nat_le a b ≡ true → a ≤ b

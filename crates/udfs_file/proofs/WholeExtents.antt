@@ -15,10 +15,12 @@ use Rattle.udfs_space.specs.Places.{block_at}
 use Rattle.udfs_file.specs.Bodies.{covers, cells_in, extent_fault, cell_in, cell_at, recorded_cell, extent_cells}
 use Rattle.udfs_file.specs.declared.cells.Cell.{Cell}
 use Rattle.udfs_file.specs.declared.cells.Cell.TheVariants.{Byte, Gap}
-use Rattle.udfs_file.specs.Standard.{Located, located, block_bytes, extent_bytes}
+use Rattle.udfs_file.specs.Standard.{Located, located, block_bytes, extent_bytes, IsExtentOf}
 use Rattle.udfs_file.specs.Complete.{IsWhole, as_cell, as_cells}
 use Rattle.udfs_file.specs.declared.faults.NodeFault.TheVariants.{Reference, Range, Odd}
-use Rattle.udfs_file.proofs.BodyFrom.{le_or_lt}
+use Rattle.std.proofs.lemmas.Bool.{eqb-true}
+use Rattle.udfs_file.proofs.BodyFrom.{le_or_lt, is_lt}
+use Rattle.udfs_file.proofs.ExtentLemmas.{last_of}
 
 -- A block that has a place.
 pub record IsHeld (all : View) (blocks : ℕ → ℕ → Option Bytes) (r b : ℕ) : Type 0 where
@@ -171,6 +173,7 @@ pub record ExtentIs (all : View) (blocks : ℕ → ℕ → Option Bytes) (size c
   pub same : as_cells (take (cells_in size (c, d)) (extent_bytes blocks d)) ≡ extent_cells all size (c, d)
   pub enough : cells_in size (c, d) ≤ length (extent_bytes blocks d)
   pub most : length (extent_bytes blocks d) ≤ d.length
+  pub sound : IsExtentOf blocks c size d
 
 cells-replicate : (n : ℕ) → as_cells (replicate n (0, None)) ≡ replicate n (Byte 0 None)
 cells-replicate zero = refl
@@ -195,9 +198,18 @@ second_clear true b x y more e = absurd (let z : ⊥ = cc in z)
 second_clear false true x y more e = absurd (let z : ⊥ = cc in z)
 second_clear false false x y more e = refl
 
-pub extent_is : (all : View) (blocks : ℕ → ℕ → Option Bytes) → IsWhole all blocks → (size c : ℕ) (d : LongAd) → covers d ≡ d.length → extent_fault all size (c, d) ≡ None
-    → ExtentIs all blocks size c d
-extent_is all blocks w size c d cover fault = go (nat_eq d.kind 0) refl
+third_clear : {A : Type 0} (a b c : Bool) (x y z : A) → first_fault ((a, x) ∷ (b, y) ∷ (c, z) ∷ []) ≡ None → c ≡ false
+third_clear true b c x y z e = absurd (let n : ⊥ = cc in n)
+third_clear false true c x y z e = absurd (let n : ⊥ = cc in n)
+third_clear false false true x y z e = absurd (let n : ⊥ = cc in n)
+third_clear false false false x y z e = refl
+
+within_both : (a l s c : ℕ) → a < l → c + a < s → a < min l (s - c)
+within_both a l s c p q = grind arith
+
+pub extent_is : (all : View) (blocks : ℕ → ℕ → Option Bytes) → IsWhole all blocks → (size c : ℕ) (d : LongAd) → not (nat_eq d.kind 3) ≡ true → covers d ≡ d.length
+    → extent_fault all size (c, d) ≡ None → ExtentIs all blocks size c d
+extent_is all blocks w size c d other cover fault = go (nat_eq d.kind 0) refl
   where
     m : ℕ
     m = cells_in size (c, d)
@@ -224,6 +236,17 @@ extent_is all blocks w size c d cover fault = go (nat_eq d.kind 0) refl
     flat : nat_eq d.kind 0 ≡ true → FlatIs all blocks d.reference d.block (blocks_in d.length) m
     flat e = flat_is all blocks d.reference (blocks_in d.length) d.block m (omega (arith, no_more)) (each e)
 
+    odd : Bool
+    odd = not (nat_eq d.kind 3) && nat_lt (c + d.length) size && not (nat_eq (d.length % 2048) 0)
+
+    sound : IsExtentOf blocks c size d
+    sound = record {
+      there = λ k j l q. let h : IsHeld all blocks d.reference (d.block + j) = each (ap (λ n. nat_eq n 0) k) j
+          (subst (λ z. 2048 * j < min z (size - c)) (sym cover) (within_both (2048 * j) d.length size c l q)) in (h.bytes, h.given);
+      full = λ l. eqb-true (d.length % 2048) 0 (last_of (not (nat_eq d.kind 3)) (nat_lt (c + d.length) size) (nat_eq (d.length % 2048) 0) other (is_lt (c + d.length) size l)
+          (third_clear (nat_eq d.kind 0 && nat_le all.partitions d.reference) (nat_eq d.kind 0 && list_any absent (range_with_len 0 (blocks_in m))) odd Reference Range Odd fault));
+    }
+
     to : (b : Bool) → List Located
     to b = cond b (take d.length X) (replicate d.length (0, None))
 
@@ -231,7 +254,7 @@ extent_is all blocks w size c d cover fault = go (nat_eq d.kind 0) refl
     cs b = cond b (map (recorded_cell all d.reference d.block) (range_with_len 0 m)) (replicate m (Byte 0 None))
 
     back : (b : Bool) → nat_eq d.kind 0 ≡ b → as_cells (take m (to b)) ≡ cs b → m ≤ length (to b) → length (to b) ≤ d.length → ExtentIs all blocks size c d
-    back b e x y z = record { same = (λ i. as_cells (take m (to (e i)))) ∙ x ∙ (λ i. cs (sym e i)); enough = subst (λ t. m ≤ length (to t)) (sym e) y; most = subst (λ t. length (to t) ≤ d.length) (sym e) z }
+    back b e x y z = record { same = (λ i. as_cells (take m (to (e i)))) ∙ x ∙ (λ i. cs (sym e i)); enough = subst (λ t. m ≤ length (to t)) (sym e) y; most = subst (λ t. length (to t) ≤ d.length) (sym e) z; sound = sound }
 
     go : (b : Bool) → nat_eq d.kind 0 ≡ b → ExtentIs all blocks size c d
     go true e = back true e (ap as_cells (take-take m d.length X no_more) ∙ (flat e).same)

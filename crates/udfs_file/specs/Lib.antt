@@ -8,3 +8,4 @@ pub mod Fronts
 pub mod Laws
 pub mod Standard
 pub mod Complete
+pub mod Told

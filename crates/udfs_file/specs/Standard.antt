@@ -3,14 +3,14 @@
 --     IsFileSetAt blocks a root        the file set descriptor at an address, and the root's ICB that it names
 --     IsBodyOf blocks r b e body       the body of the entry at block b of partition r
 --     IsDirectoryBody body ids         the descriptors in a directory's body
-use Rattle.std.specs.Prelude.{◌≡◌, ◌≢◌, ℕ, ◌<◌, ◌≤◌, true, not, List, [], ◌∷◌, ◌++◌, length, take, map, flat_map, replicate, take_while, cond, nat_eq, nat_lt, Option, Some, None}
+use Rattle.std.specs.Prelude.{◌≡◌, ◌≢◌, ⊤, ℕ, ◌+◌, ◌*◌, ◌%◌, ◌<◌, ◌≤◌, true, not, List, [], ◌∷◌, ◌++◌, length, take, map, flat_map, replicate, take_while, cond, nat_eq, nat_lt, Option, Some, None}
 use Rattle.std.specs.List.{range_with_len}
 use Rattle.udfs_volume.specs.Sequence.{Bytes}
 use Rattle.udfs_tag.specs.declared.layouts.LongAd.{LongAd}
 use Rattle.udfs_tag.specs.Fields.{uint32_at, long_ad_at, part}
 use Rattle.udfs_tag.specs.Tags.{is_valid}
 use Rattle.udfs_volume.specs.Layout.{blocks_in}
-use Rattle.udfs_file.specs.Entries.{EntryFields}
+use Rattle.udfs_file.specs.Entries.{EntryFields, descriptor_size}
 use Rattle.udfs_file.specs.Bodies.{descriptors_in, next_descriptor}
 use Rattle.udfs_file.specs.Fronts.{identifier_size, identifier_in}
 use Rattle.udfs_file.specs.declared.directories.Identifier.{Identifier}
@@ -49,21 +49,42 @@ extents_in form r area = take_while (λ d. not (nat_eq d.kind 3)) (descriptors_i
 abbrev pub IsOneBlock : LongAd → Type 0
 IsOneBlock d = (0 < d.length) × (d.length ≤ 2048)
 
+-- the bytes are an allocation extent descriptor at logical block b: its descriptors are whole and lie in it (4/14.5)
+abbrev pub IsExtentAt : ℕ → ℕ → Bytes → Type 0
+IsExtentAt form b bytes = (is_valid bytes b 258 ≡ true) × (24 + uint32_at bytes 20 ≤ 2048) × (uint32_at bytes 20 % descriptor_size form ≡ 0)
+
 -- the extents of an area, and those of each continuation in turn, as far as these blocks hold them
 abbrev pub IsJoined : (ℕ → ℕ → Option Bytes) → ℕ → ℕ → Bytes → List Bytes → List LongAd → Type 0
 IsJoined blocks form r area [] ds = ds ≡ extents_in form r area
 IsJoined blocks form r area (bytes ∷ more) ds = (d : LongAd) × (later : List LongAd)
     × (next_descriptor (descriptors_in form r area) ≡ Some d) × IsOneBlock d × (blocks d.reference d.block ≡ Some bytes)
-    × (is_valid bytes d.block 258 ≡ true) × IsJoined blocks form r (part bytes 24 (uint32_at bytes 20)) more later
+    × IsExtentAt form d.block bytes × IsJoined blocks form r (part bytes 24 (uint32_at bytes 20)) more later
     × (ds ≡ extents_in form r area ++ later)
 
--- a body is the first bytes of its extents put together, of which one of length 0 is the end
+-- the extents up to one of length 0, which is the end (4/12.1)
+abbrev pub up_to_end : List LongAd → List LongAd
+up_to_end ds = take_while (λ d. nat_lt 0 d.length) ds
+
+-- An extent that begins at byte c of a body of this size: each of its recorded blocks that holds a byte of the body
+-- is there, and where it ends before the body does, it fills its blocks (4/12.1).
+pub record IsExtentOf (blocks : ℕ → ℕ → Option Bytes) (c size : ℕ) (d : LongAd) : Type 0 where
+  pub there : d.kind ≡ 0 → (j : ℕ) → 2048 * j < d.length → c + 2048 * j < size
+      → (bytes : Bytes) × (blocks d.reference (d.block + j) ≡ Some bytes)
+  pub full : c + d.length < size → d.length % 2048 ≡ 0
+
+abbrev pub AreExtentsOf : (ℕ → ℕ → Option Bytes) → ℕ → ℕ → List LongAd → Type 0
+AreExtentsOf blocks c size [] = ⊤
+AreExtentsOf blocks c size (d ∷ ds) = IsExtentOf blocks c size d × AreExtentsOf blocks (c + d.length) size ds
+
+-- a body is the first bytes of its extents put together (256 continuations: own choice)
 pub record IsExtentsBody (blocks : ℕ → ℕ → Option Bytes) (r : ℕ) (e : EntryFields) (body : List Located) : Type 0 where
   pub followed : List Bytes
   pub extents : List LongAd
   pub joined : IsJoined blocks e.form r e.area followed extents
+  pub limit : length followed ≤ 256
+  pub sound : AreExtentsOf blocks 0 e.size (up_to_end extents)
   pub bytes : List Located
-  pub together : bytes ≡ flat_map (extent_bytes blocks) (take_while (λ d. nat_lt 0 d.length) extents)
+  pub together : bytes ≡ flat_map (extent_bytes blocks) (up_to_end extents)
   pub enough : e.size ≤ length bytes
   pub is : body ≡ take e.size bytes
 

@@ -1,8 +1,9 @@
 -- What code tells of a body: stretches of cells, each by numbers alone.
 --     stretch_cells view s       the cells of a stretch
 --     cells_of view ss           the cells of stretches, one after the other
+--     LieInBlocks ss             all but the last fill their blocks
 --     Gives view result whole    what is answered is what the definition says
-use Rattle.std.specs.Prelude.{◌≡◌, ◌≤◌, Bool, false, length, ℕ, List, map, flat_map, replicate, Some, None, Result, Ok, Err}
+use Rattle.std.specs.Prelude.{◌≡◌, ◌⊎◌, ⊤, ◌+◌, ◌%◌, ◌<◌, ◌≤◌, Bool, false, length, ℕ, List, [], ◌∷◌, map, flat_map, replicate, Some, None, Result, Ok, Err}
 use Rattle.std.specs.List.{range_with_len}
 use Rattle.udfs_tag.specs.declared.layouts.LongAd.{LongAd}
 use Rattle.udfs_space.specs.Places.{View, block_at}
@@ -32,11 +33,31 @@ stretch_count (Recorded run count) = count
 stretch_count (Zeros count) = count
 stretch_count (Missing n count) = count
 
+-- the last stretch begins a block, or lies in one
+abbrev pub IsLast : Stretch → Type 0
+IsLast (Recorded run count) = (run.offset ≡ 0) ⊎ (run.offset + count ≤ 2048)
+IsLast (Zeros count) = ⊤
+IsLast (Missing n count) = ⊤
+
+-- a stretch before the last begins a block and fills its blocks, and no byte of it is missing
+abbrev pub FillsBlocks : Stretch → Type 0
+FillsBlocks (Recorded run count) = (run.offset ≡ 0) × (count % 2048 ≡ 0)
+FillsBlocks (Zeros count) = count % 2048 ≡ 0
+FillsBlocks (Missing n count) = ⊥
+
+-- so at most 2048 bytes side by side lie in one block, or in the end of one and the beginning of the next
+abbrev pub LieInBlocks : List Stretch → Type 0
+LieInBlocks [] = ⊤
+LieInBlocks (s ∷ []) = IsLast s
+LieInBlocks (s ∷ next ∷ ss) = FillsBlocks s × LieInBlocks (next ∷ ss)
+
 -- a taken extent as a stretch, or its fault
 pub record IsExtent (view : View) (size c : ℕ) (d : LongAd) (s : Stretch) : Type 0 where
   pub no_fault : extent_fault view size (c, d) ≡ None
   pub cells : stretch_cells view s ≡ extent_cells view size (c, d)
   pub count : stretch_count s ≡ cells_in size (c, d)
+  pub last : IsLast s
+  pub fills : c + stretch_count s < size → FillsBlocks s
 
 abbrev pub IsExtentRead : Result Stretch NodeFault → View → ℕ → ℕ → LongAd → Type 0
 IsExtentRead (Ok s) view size c d = IsExtent view size c d s

@@ -23,20 +23,26 @@ pub struct Body {
 impl Model for Body {
     ghost use Rattle.std.specs.Prelude.{List};
     ghost use Rattle.udfs_file.specs.declared.stretches.Stretch.{Stretch};
+    ghost use Rattle.udfs_file.specs.Stretches.{LieInBlocks};
 
     ghost Value = { List Stretch };
 
     ghost view = { λ b. b.stretches.items };
+
+    ghost invariant = { λ b. LieInBlocks b.stretches.items };
 }
 
 impl Body {
-    ghost use Rattle.udfs_file.specs.Stretches.{Gives, listed_body, IsStanding};
+    ghost use Rattle.udfs_file.specs.Stretches.{Gives, LieInBlocks, listed_body, IsStanding};
     ghost use Rattle.udfs_file.specs.Entries.{entry_of};
     ghost use Rattle.udfs_file.specs.Bodies.{body};
+    ghost use Rattle.udfs_file.specs.Told.{TellsBody};
 
-    /// The stretches, in order. It takes no memory.
+    /// The stretches, in order. Each but the last fills its blocks, so at most 2048 bytes side by side lie in one
+    /// block, or in the end of one and the beginning of the next. It takes no memory.
     pub fn stretches(&self) -> &[Stretch]
-        ensures { result.now ≡ self.now }
+        ensures value { result.now ≡ self.now }
+        ensures blocks { LieInBlocks self.now }
     {
         self.stretches.as_slice()
     }
@@ -48,6 +54,10 @@ impl Body {
     /// Recorded extents take consecutive logical blocks, others are zeros. A descriptor of type 3 goes on in an
     /// allocation extent descriptor (ECMA-167 4/14.5); where its block is not known, all further bytes are missing
     /// with it. It takes a walk over the descriptors, and memory for one stretch of each.
+    ///
+    /// Where the partitions are a part of complete ones, in which the body has no fault and is the one that the
+    /// standard reads, it has none here, and each of its cells is that body's or missing: missing exactly if some
+    /// block that it needs is not known, and the block that it names is one of these.
     ///
     /// # Errors
     ///
@@ -67,7 +77,8 @@ impl Body {
         b: u32,
     ) -> Result<Body, WalkError>
         requires { IsStanding (view (state_of table.now) space.now) reference b entry.now }
-        ensures { Gives (view (state_of table.now) space.now) result (body (view (state_of table.now) space.now) reference b (entry_of entry.now)) }
+        ensures value { Gives (view (state_of table.now) space.now) result (body (view (state_of table.now) space.now) reference b (entry_of entry.now)) }
+        ensures complete { TellsBody (view (state_of table.now) space.now) reference b (entry_of entry.now) result }
     {
         if entry.form() != 3 {
             return Body::walk(

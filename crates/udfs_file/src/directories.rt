@@ -7,6 +7,7 @@ ghost use Rattle.udfs_tag.specs.Fields.{uint8_at, uint16_at, part};
 ghost use Rattle.udfs_file.specs.Stretches.{cells_of};
 ghost use Rattle.udfs_file.specs.CellsLeft.{cells_left};
 ghost use Rattle.udfs_file.specs.Fronts.{first_missing, holder_of, value, is_listed, identifier_size, identifier_in, checked_identifier, sized_identifier, step, or_stop, entry_with, IsOfSize, IsBehind, missing_in, fault_in, IsFrontOf};
+ghost use Rattle.udfs_file.specs.Told.{TellsFront};
 
 use crate::bodies::Body;
 use crate::cells::{Cell, Cells};
@@ -278,6 +279,10 @@ impl Dir {
     /// logical block that holds its first byte; [`NodeFault::Name`] where its name is none, unless the entry
     /// is deleted or the directory's parent. What pads a descriptor to a multiple of 4 is not looked at.
     ///
+    /// Where each cell of the body is missing or that of a whole body, the entries are a beginning of those that
+    /// the standard reads from the whole: an entry is among them exactly if no cell before the end of its
+    /// descriptor is missing. There is a fault only if the whole has one.
+    ///
     /// # Errors
     ///
     /// Memory was refused.
@@ -287,7 +292,8 @@ impl Dir {
         space: &Space,
         body: &Body,
     ) -> Result<DirFront, OutOfMemory>
-        ensures { IfOk result (λ front. IsFrontOf front (cells_of (view (state_of table.now) space.now) body.now)) }
+        ensures value { IfOk result (λ front. IsFrontOf front (cells_of (view (state_of table.now) space.now) body.now)) }
+        ensures complete { IfOk result (TellsFront (cells_of (view (state_of table.now) space.now) body.now)) }
     {
         let mut cells = Cells {
             table,

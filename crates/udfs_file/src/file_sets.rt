@@ -8,6 +8,7 @@ ghost use Rattle.udfs_space.specs.Places.{block_now, view};
 ghost use Rattle.udfs_volume.specs.Answers.{IsHoles};
 ghost use Rattle.udfs_volume.specs.Seen.{HolesRise, Sees};
 ghost use Rattle.udfs_file.specs.Addresses.{address_fault, file_set, file_set_at, file_set_in, is_no_reference};
+ghost use Rattle.udfs_file.specs.Told.{TellsFileSet};
 
 use crate::entries::behind;
 use crate::extents::is_unplaced;
@@ -81,9 +82,13 @@ fn file_set_at(
 /// The one fault is [`VolumeFault::FileSet`]: the address is not good, as [`address_fault`] says, or its
 /// block is no file set descriptor. A block that is not known is the one hole. It takes memory for holes alone: a
 /// root and the fault are told whatever memory there is.
+///
+/// Where the partitions are a part of complete ones, whose file set names a root as the standard reads it, this
+/// is the root that is told, and its block is known; or that block is the hole, and is not known.
 #[tactic(auto, unfolding(crate::specs::Addresses::file_set))]
 pub fn file_set(alloc: Global, table: &BlockTable, space: &Space, address: LongAd) -> Seen<LongAd>
     ensures value { Sees (λ a. a) result (file_set (view (state_of table.now) space.now) address) }
+    ensures complete { TellsFileSet (view (state_of table.now) space.now) address result }
     ensures rising { HolesRise result }
     ensures memory { result ≡ Seen.OutOfMemory → IsHoles (file_set (view (state_of table.now) space.now) address) }
 {

@@ -104,9 +104,14 @@ const TAGS: [[u8; 16]; 2] = [
 
 /// A root directory of 52 identifiers of 40 bytes in two blocks, the last of them in both.
 fn two_blocks(alloc: Global, last_tag: &[u8; 16]) -> Result<Disc, AllocError> {
+    in_blocks(alloc, last_tag, 275)
+}
+
+/// The same, with the last 32 bytes in a block of their own.
+fn in_blocks(alloc: Global, last_tag: &[u8; 16], second: u32) -> Result<Disc, AllocError> {
     let mut disc = Disc::type1(alloc)?;
     disc.fill(274, 0)?;
-    disc.fill(275, 0)?;
+    disc.fill(second, 0)?;
     disc.write(&[(273, 56, &[0x20, 8]), (273, 176, &[0x20, 8])])?;
     for i in 0..51usize {
         let at = i.wrapping_mul(40);
@@ -115,9 +120,9 @@ fn two_blocks(alloc: Global, last_tag: &[u8; 16]) -> Result<Disc, AllocError> {
         disc.write_at(274, at.wrapping_add(38), b"\x08A")?;
     }
     disc.write_at(274, 2040, &last_tag[..8])?;
-    disc.write_at(275, 0, &last_tag[8..])?;
-    disc.write_at(275, 8, &[1, 0, 0, 2, 0, 8, 0, 0, 4])?;
-    disc.write_at(275, 30, b"\x08B")?;
+    disc.write_at(second, 0, &last_tag[8..])?;
+    disc.write_at(second, 8, &[1, 0, 0, 2, 0, 8, 0, 0, 4])?;
+    disc.write_at(second, 30, b"\x08B")?;
     Ok(disc)
 }
 
@@ -164,5 +169,78 @@ fn unrecorded_directory(rt: HostRuntime) -> Result<(), Fail> {
         front(alloc, &table, 0, 1)?.as_str(),
         "front fault 10 IdentifierTag"
     );
+    Ok(())
+}
+
+/// Two extents: logical block 2, and 32 bytes of logical block 10, which is block 282.
+const APART: [Bytes; 3] = [
+    (273, 172, &[16]),
+    (273, 176, &[0, 8, 0, 0, 2, 0, 0, 0]),
+    (273, 184, &[32, 0, 0, 0, 10, 0, 0, 0]),
+];
+
+/// An identifier in two extents that do not lie side by side.
+#[test]
+fn identifiers_in_two_extents(rt: HostRuntime) -> Result<(), Fail> {
+    let alloc = rt.alloc();
+    let mut disc = in_blocks(alloc, &TAGS[0], 282)?;
+    disc.write(&APART)?;
+    let mut expected = format!(in alloc; "front")?;
+    for _ in 0..51 {
+        expected.push_str(" A 0:3")?;
+    }
+    let whole = front(alloc, &disc.known_but(alloc, &[])?, 0, 1)?;
+    assert_eq!(rt;
+        whole.as_str(),
+        format!(in alloc; "{expected} B 0:4")?.as_str()
+    );
+    let stopped = front(alloc, &disc.known_but(alloc, &[282])?, 0, 1)?;
+    assert_eq!(rt;
+        stopped.as_str(),
+        format!(in alloc; "{expected} missing 282")?.as_str()
+    );
+    let first = front(alloc, &disc.known_but(alloc, &[274])?, 0, 1)?;
+    assert_eq!(rt; first.as_str(), "front missing 274");
+    Ok(())
+}
+
+/// An identifier whose last 32 bytes are not recorded: they are zeros, and so is the location in its tag, though
+/// its first byte stands in logical block 2. It is wrong whatever the checksum.
+#[test]
+fn identifier_ends_in_zeros(rt: HostRuntime) -> Result<(), Fail> {
+    let alloc = rt.alloc();
+    let mut expected = format!(in alloc; "front")?;
+    for _ in 0..51 {
+        expected.push_str(" A 0:3")?;
+    }
+    expected.push_str(" fault 10 IdentifierTag")?;
+    for checksum in [6u8, 4] {
+        let mut disc = in_blocks(alloc, &TAGS[0], 282)?;
+        disc.write(&APART)?;
+        disc.write(&[(273, 187, &[0x40])])?;
+        disc.write_at(274, 2044, &[checksum])?;
+        let told = front(alloc, &disc.known_but(alloc, &[])?, 0, 1)?;
+        assert_eq!(rt; told.as_str(), expected.as_str());
+    }
+    Ok(())
+}
+
+/// A directory of one identifier that is embedded in its entry, which stands in logical block 1.
+#[test]
+fn embedded_directory(rt: HostRuntime) -> Result<(), Fail> {
+    let alloc = rt.alloc();
+    for (location, expected) in [(1, "front A 0:3"), (2, "front fault 10 IdentifierTag")] {
+        let mut disc = Disc::type1(alloc)?;
+        disc.write(&[
+            (273, 34, &[3]),
+            (273, 56, &[40]),
+            (273, 172, &[40]),
+            (273, 192, &[1, 0, 0, 2, 0, 8, 0, 0, 3]),
+            (273, 212, &[0, 0, 8, 65]),
+        ])?;
+        disc.write_tag(273, 176, 257, location)?;
+        let table = disc.known_but(alloc, &[])?;
+        assert_eq!(rt; front(alloc, &table, 0, 1)?.as_str(), expected);
+    }
     Ok(())
 }

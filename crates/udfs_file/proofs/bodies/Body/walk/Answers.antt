@@ -3,9 +3,10 @@ use Rattle.std.specs.Prelude.{suc, ◌==◌}
 use Rattle.udfs_lattice.specs.Tables.{state_of}
 use Rattle.udfs_space.specs.Places.{view}
 use Rattle.udfs_file.specs.Bodies.{descriptor_count, covers, cells}
-use Rattle.udfs_file.specs.Stretches.{listed_body, cells_of, stretch_count, IsExtent}
+use Rattle.udfs_file.specs.Stretches.{LieInBlocks, listed_body, cells_of, stretch_count, IsExtent}
 use Rattle.udfs_file.specs.declared.stretches.Stretch.{Stretch}
 use Rattle.udfs_file.specs.declared.stretches.Stretch.TheVariants.{Missing}
+use Rattle.udfs_file.proofs.BlockLemmas.{AllFill, fill_more, lie_more}
 use Rattle.udfs_file.proofs.WalkLemmas.{IsWalk, walk-start, walk-done, walk-zero, walk-fault, walk-extent, walk-area, walk-unread, walk-broken}
 use Rattle.udfs_file.proofs.bodies.Body.walk.Goals as goal
 
@@ -27,6 +28,8 @@ walk-init c = record {
       (walk-start (view (state_of c.args.table.now) c.args.space.now) c.args.size c.args.form c.args.reference c.args.area.now);
   area_fits = c.requires;
   within = omega arith;
+  fill = λ more. subst AllFill (sym c.new-stretches.ensures.items) tt;
+  lie = subst LieInBlocks (sym c.new-stretches.ensures.items) tt;
 }
 
 pub returns-then-d-eq0 : goal.returns-then-d-eq0
@@ -49,6 +52,12 @@ returns-in-Unread c =
     c.in-Unread.n (sym c.in-Unread.ensures.value)
     ∙ ap (λ (taken : List Stretch). cells (cells_of (view (state_of c.args.table.now) c.args.space.now) taken)) (sym e)
 
+pub invariant_of-result : goal.invariant_of-result
+invariant_of-result c =
+    let e : c.walk.stretches.items ++ Missing c.in-Unread.n (c.args.size - c.walk.c) ∷ [] ≡ c.push.new.self.items =
+    sym (pushed c.push.new.self.items c.walk.stretches.items _ (is_ok c.push.result) c.push.ensures.items (c.is_err.ensures.negation ∙ ap not c.if-is_err.false)) in
+    subst LieInBlocks e (lie_more c.walk.stretches.items (Missing c.in-Unread.n (c.args.size - c.walk.c)) (c.walk.invariant.fill c.walk-test.true) tt)
+
 pub walk-preserved-in-Area : goal.walk-preserved-in-Area
 walk-preserved-in-Area c =
     let here : c.walk.i < descriptor_count c.args.form c.walk.area.now = omega arith in
@@ -58,6 +67,8 @@ walk-preserved-in-Area c =
           c.in-Area.next.now (sym c.in-Area.ensures.value) (c.walk.left - 1) more;
       area_fits = c.in-Area.ensures.allowed.0;
       within = c.walk.invariant.within;
+      fill = c.walk.invariant.fill;
+      lie = c.walk.invariant.lie;
     }
 
 pub returns-in-Err : goal.returns-in-Err
@@ -89,6 +100,9 @@ walk-preserved c =
           (listed_body (view (state_of c.args.table.now) c.args.space.now) c.args.form c.args.reference c.args.size c.args.area.now) c.walk.left (c.walk.c + stretch_count c.in-Ok.stretch) c.walk.area.now (c.walk.i + 1)) e w);
       area_fits = c.walk.invariant.area_fits;
       within = let k : stretch_count c.in-Ok.stretch ≡ min (covers c.descriptor-d.result) (c.args.size - c.walk.c) = x.count in omega arith;
+      fill = λ more. subst AllFill e (fill_more c.walk.stretches.items c.in-Ok.stretch (c.walk.invariant.fill c.walk-test.true)
+          (x.fills (subst (λ (m : ℕ). c.walk.c + m < c.args.size) (sym n) more)));
+      lie = subst LieInBlocks e (lie_more c.walk.stretches.items c.in-Ok.stretch (c.walk.invariant.fill c.walk-test.true) x.last);
     }
 
 pub returns : goal.returns

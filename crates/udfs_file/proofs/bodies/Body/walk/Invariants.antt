@@ -1,7 +1,8 @@
-use Rattle.std.proofs.Common.{◌+◌, ◌-◌, ◌*◌, ◌≤◌, length}
+use Rattle.std.proofs.Common.{◌+◌, ◌-◌, ◌*◌, ◌<◌, ◌≤◌, length}
 use Rattle.udfs_lattice.specs.Tables.{state_of}
 use Rattle.udfs_space.specs.Places.{view}
-use Rattle.udfs_file.specs.Stretches.{listed_body}
+use Rattle.udfs_file.specs.Stretches.{LieInBlocks, listed_body}
+use Rattle.udfs_file.proofs.BlockLemmas.{AllFill}
 use Rattle.udfs_file.proofs.WalkLemmas.{IsWalk}
 use Rattle.udfs_file.proofs.bodies.Body.walk.Given as goal
 
@@ -12,6 +13,8 @@ invariant-walk l = record {
       l.left l.c l.area l.i l.stretches.items;
   area_fits : length l.area ≤ 2048;
   within : l.c ≤ l.size;
+  fill : l.c < l.size → AllFill l.stretches.items;
+  lie : LieInBlocks l.stretches.items;
 }
 
 abbrev pub decreases-walk : goal.decreases-walk

@@ -1,0 +1,91 @@
+-- What the calls tell of partitions of which a part is known: of every complete view of which this one is a part.
+--     TellsFileSet some a seen           the root of the complete file set, or its block as the one hole
+--     TellsBody some r b entry told      each cell of the complete body, or a block that is not known and that it needs
+--     TellsFront part front              the first entries of the whole directory, up to a missing cell
+-- What they tell of a complete view itself is what the standard reads from its blocks, and nothing else.
+use Rattle.std.specs.Prelude.{◌≡◌, ◌↔◌, ◌<◌, ⊤, ℕ, true, false, List, [], ◌∷◌, ◌++◌, length, slice_get, Option, Some, None, Result, Ok, Err}
+use Rattle.std.specs.List.{AllZip}
+use Rattle.udfs_lattice.specs.States.{is_known}
+use Rattle.udfs_tag.specs.declared.layouts.LongAd.{LongAd}
+use Rattle.udfs_volume.specs.Answers.{found}
+use Rattle.udfs_volume.specs.Sequence.{Bytes}
+use Rattle.udfs_volume.specs.declared.seen.Seen.{Seen}
+use Rattle.udfs_volume.specs.declared.seen.Seen.TheVariants as seen
+use Rattle.udfs_space.specs.Places.{View, IsPartOf}
+use Rattle.udfs_file.specs.Addresses.{file_set}
+use Rattle.udfs_file.specs.Bodies.{cells, body, IsNeededFor}
+use Rattle.udfs_file.specs.Complete.{IsWhole, IsReadBody, IsReadDirectory, IsReadFileSet, as_cells}
+use Rattle.udfs_file.specs.Entries.{EntryFields}
+use Rattle.udfs_file.specs.Fronts.{directory, entries_of, listed_entries}
+use Rattle.udfs_file.specs.Laws.{IsBeginningOf, IsCellOf, IsClearTo, IsMissingAt, end_of}
+use Rattle.udfs_file.specs.Standard.{Located}
+use Rattle.udfs_file.specs.Stretches.{cells_of}
+use Rattle.udfs_file.specs.declared.cells.Cell.{Cell}
+use Rattle.udfs_file.specs.declared.cells.Cell.TheVariants.{Gap}
+use Rattle.udfs_file.specs.declared.directories.DirEntry.{DirEntry}
+use Rattle.udfs_file.specs.declared.directories.DirFront.{DirFront}
+use Rattle.udfs_file.specs.declared.directories.Identifier.{Identifier}
+use Rattle.udfs_file.specs.declared.directories.Rest.TheVariants.{Nothing}
+use Rattle.udfs_file.specs.declared.faults.WalkError.{WalkError}
+use Rattle.udfs_file.specs.declared.faults.WalkError.TheVariants as walk_error
+use Rattle.udfs_file.specs.declared.stretches.Stretch.{Stretch}
+
+-- ---- the file set
+-- this root, and block n is known; or block n is the one hole and is not known, as where memory is wanted for it
+abbrev pub IsRootOf : View → ℕ → LongAd → Seen LongAd → Type 0
+IsRootOf some n root (seen.Got got) = (got ≡ root) × (is_known (some.blocks n) ≡ true)
+IsRootOf some n root (seen.Holes listed) = (listed.items ≡ n ∷ []) × (is_known (some.blocks n) ≡ false)
+IsRootOf some n root (seen.Fault fault) = ⊥
+IsRootOf some n root seen.OutOfMemory = is_known (some.blocks n) ≡ false
+
+-- what is told of a file set whose descriptor, in the complete view, stands in a block and names this root
+pub record IsFileSetTold (some all : View) (a root : LongAd) (told : Seen LongAd) : Type 0 where
+  pub block : ℕ
+  pub place : all.place a.reference a.block ≡ Some block
+  pub root_or_hole : IsRootOf some block root told
+  pub standard : (blocks : ℕ → ℕ → Option Bytes) → IsWhole all blocks → IsReadFileSet blocks a root
+
+abbrev pub TellsFileSet : View → LongAd → Seen LongAd → Type 0
+TellsFileSet some a told = (all : View) → IsPartOf some all → (root : LongAd) → file_set all a ≡ found root
+    → IsFileSetTold some all a root told
+
+-- ---- a body
+-- the cells of a body that is without a fault in the complete view
+pub record IsBodyPart (some all : View) (r b : ℕ) (entry : EntryFields) (part whole : List Cell) : Type 0 where
+  pub size : length part ≡ entry.size
+  pub each : AllZip IsCellOf part whole
+  -- the block that a missing cell names is not known, and the cell needs it
+  pub names : (k n : ℕ) → slice_get part k ≡ Some (Gap n) → (is_known (some.blocks n) ≡ false) × IsNeededFor all r entry k n
+  -- a cell is missing exactly if some block that it needs is not known
+  pub gaps : (k : ℕ) → IsMissingAt part k ↔ ((n : ℕ) × (is_known (some.blocks n) ≡ false) × IsNeededFor all r entry k n)
+  pub standard : (blocks : ℕ → ℕ → Option Bytes) → IsWhole all blocks → IsReadBody blocks r b entry whole
+
+-- such a body has no fault in a part of the view; memory may be wanted
+abbrev pub IsBodyTold : View → View → ℕ → ℕ → EntryFields → List Cell → Result (List Stretch) WalkError → Type 0
+IsBodyTold some all r b entry whole (Ok stretches) = IsBodyPart some all r b entry (cells_of some stretches) whole
+IsBodyTold some all r b entry whole (Err (walk_error.Fault fault)) = ⊥
+IsBodyTold some all r b entry whole (Err walk_error.OutOfMemory) = ⊤
+
+abbrev pub TellsBody : View → ℕ → ℕ → EntryFields → Result (List Stretch) WalkError → Type 0
+TellsBody some r b entry told = (all : View) → IsPartOf some all → (whole : List Cell) → body all r b entry ≡ cells whole
+    → IsBodyTold some all r b entry whole told
+
+-- ---- a directory
+-- the front of the directory in some cells, each of which is the whole's or missing
+pub record IsFrontPart (part whole : List Cell) (front : DirFront) : Type 0 where
+  pub entries : IsBeginningOf front.entries.items (entries_of whole)
+  -- an entry is among them exactly if no cell before the end of its descriptor is missing
+  pub reached : (before behind : List Identifier) (id : Identifier) (entry : DirEntry)
+      → (directory whole).identifiers ≡ before ++ id ∷ behind → id.listed ≡ Some entry
+      → (length (listed_entries before) < length front.entries.items) ↔ IsClearTo part (end_of before id)
+  -- the block that ended it is one that a missing cell names
+  pub stopped : (n : ℕ) → front.missing ≡ Some n → (k : ℕ) × (slice_get part k ≡ Some (Gap n))
+  -- where the whole has no fault, it has none, and its entries are all of them unless a missing block ended it
+  pub no_fault : (directory whole).rest ≡ Nothing → front.fault ≡ None
+  pub all : (directory whole).rest ≡ Nothing → front.missing ≡ None → front.entries.items ≡ entries_of whole
+  -- the whole's entries are those of the one list of descriptors that the standard reads from its bytes
+  pub standard : (bytes : List Located) → whole ≡ as_cells bytes → (directory whole).rest ≡ Nothing
+      → (ids : List Identifier) × IsReadDirectory bytes ids × (entries_of whole ≡ listed_entries ids)
+
+abbrev pub TellsFront : List Cell → DirFront → Type 0
+TellsFront part front = (whole : List Cell) → AllZip IsCellOf part whole → IsFrontPart part whole front
