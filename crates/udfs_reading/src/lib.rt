@@ -1,4 +1,4 @@
-//! The two file formats of block tables: readings, which are lists of records, and table files.
+//! The file formats of block tables: readings, which are lists of records, and table files in two versions.
 #![tactic(auto)]
 
 mod block;
@@ -9,6 +9,7 @@ mod header;
 mod input;
 mod inputs;
 pub mod laws;
+mod packet_file;
 mod reading;
 mod table_file;
 mod window;

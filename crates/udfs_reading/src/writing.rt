@@ -4,7 +4,7 @@ ghost use Rattle.std.specs.Prelude.{◌≡◌, ◌+◌, ◌++◌, ◌≤◌, [],
 ghost use Rattle.udfs_lattice.specs.States.{fact_now};
 ghost use Rattle.udfs_lattice.specs.Tables.{entries_of};
 ghost use Rattle.udfs_reading.specs.Format.{number};
-ghost use Rattle.udfs_reading.specs.TableFile.{table_header, state_bytes, table_bytes};
+ghost use Rattle.udfs_reading.specs.TableFile.{table_header, state_bytes, table_bytes_v1};
 ghost use Rattle.udfs_reading.specs.Writing.{Writes, Passes};
 
 use crate::device::Sink;
@@ -157,7 +157,7 @@ fn write_entries<W: Sink>(
     sink: &mut W,
     table: &BlockTable,
 ) -> Result<(), WriteFault>
-    ensures { Passes (W.contents sink.old) (W.contents sink.new) (W.faults sink.old) (W.faults sink.new) out.old out.new (table_bytes table.now) result }
+    ensures { Passes (W.contents sink.old) (W.contents sink.new) (W.faults sink.old) (W.faults sink.new) out.old out.new (table_bytes_v1 table.now) result }
 {
     let count = count_entries(table);
     write_header(out, sink, count)?;
@@ -174,7 +174,7 @@ fn write_entries<W: Sink>(
 ///
 /// `WriteFault` exactly where the sink failed. Then a beginning of the file is out.
 pub fn write_table<W: Sink>(table: &BlockTable, sink: &mut W) -> Result<(), WriteFault>
-    ensures { Writes (W.contents sink.old) (W.contents sink.new) (W.faults sink.old) (W.faults sink.new) (table_bytes table.now) result }
+    ensures { Writes (W.contents sink.old) (W.contents sink.new) (W.faults sink.old) (W.faults sink.new) (table_bytes_v1 table.now) result }
 {
     let mut out = Outgoing::new();
     write_entries(&mut out, sink, table)?;

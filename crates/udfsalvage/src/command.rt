@@ -5,7 +5,7 @@ ghost use Rattle.std.specs.Io.KnownBytes.{Appends};
 ghost use Rattle.udfs_lattice.specs.Tables.{Table};
 ghost use Rattle.udfs_lattice.specs.Records.{join_all};
 ghost use Rattle.udfs_reading.specs.Several.{TablesAre};
-ghost use Rattle.udfs_reading.specs.TableFile.{table_bytes};
+ghost use Rattle.udfs_reading.specs.TableFile.{table_bytes_v1};
 
 use crate::files::Files;
 use crate::merge::merge;
@@ -63,7 +63,7 @@ fn merge_words<F: Files>(
     files: &mut F,
 ) -> Result<F::Output, Refusal>
     ensures written { IfOk result (λ output. (sources : List F.Input) × (before : F.Output) × (tables : List Table) ×
-        TablesAre F.Input.remaining sources tables × Appends (F.Output.contents before) (F.Output.contents output) (table_bytes (join_all tables))) }
+        TablesAre F.Input.remaining sources tables × Appends (F.Output.contents before) (F.Output.contents output) (table_bytes_v1 (join_all tables))) }
     ensures untouched { IfErr result (λ refusal. refusal ≢ Refusal.Output → files.new ≡ files.old) }
 {
     let inputs = words.get_strs(INPUTS).unwrap_or(&[]);
