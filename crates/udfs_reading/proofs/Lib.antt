@@ -13,6 +13,8 @@ pub mod PacketStates
 pub mod PacketTables
 pub mod PacketSteps
 pub mod Packets
+pub mod PacketWalk
+pub mod PacketWriting
 pub mod Entries
 pub mod Public
 pub mod Magics

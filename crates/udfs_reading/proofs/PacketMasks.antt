@@ -50,7 +50,7 @@ apart_half k c h =
     sym (and_double (k % 2) (c % 2) (k / 2) (c / 2) (omega arith) (omega arith)) ∙ ap (λ x. bit_and x (c % 2 + 2 * (c / 2))) (sym e) ∙ ap (bit_and k) (sym f) ∙ h in
     (omega arith, omega arith)
 
-pow_double : (m : ℕ) → 2 ^ suc m ≡ 2 * 2 ^ m
+pub pow_double : (m : ℕ) → 2 ^ suc m ≡ 2 * 2 ^ m
 pow_double m = ap (λ k. 2 ^ k) (sym (one-add m)) ∙ pow-add 2 1 m
 
 pub halve : (k m : ℕ) → k < 2 ^ suc m → k / 2 < 2 ^ m

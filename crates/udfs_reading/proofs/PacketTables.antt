@@ -19,7 +19,7 @@ packet_at t p = (p, states_from t (32 * p) 32)
 
 -- ---- the packets below a number
 
-below_none : (t : Table) → packets_below t 0 ≡ []
+pub below_none : (t : Table) → packets_below t 0 ≡ []
 unfolding packets_below
 below_none t = refl
 
@@ -136,6 +136,9 @@ all_packets : (t : Table) → IsTable t → IsFront (packets_of t) 131072
 unfolding packets_of
 all_packets t is = front_below t 131072 (omega arith) is
 
+pub few_below : (t : Table) (p : ℕ) → p ≤ 131072 → IsTable t → length (packets_below t p) ≤ p
+few_below t p fits is = (front_below t p fits is).few
+
 pub rises-packets_of : (t : Table) → IsTable t → PacketsRise 0 (packets_of t)
 rises-packets_of t is = (all_packets t is).rises
 
@@ -195,3 +198,19 @@ unfolding packets_of
 table_of_packets-packets_of t is =
     let z : 32 * 131072 ≡ 4194304 = omega arith in
     ap table_of_entries (entries_below t 131072) ∙ same_states t (32 * 131072) z is
+
+-- ---- a front of the packets
+
+below_more : (t : Table) (n k : ℕ) → (later : List Packet) × (packets_below t (k + n) ≡ packets_below t n ++ later)
+below_more t n zero = let z : 0 + n ≡ n = omega arith in ([], ap (packets_below t) z ∙ sym (append-nil (packets_below t n)))
+below_more t n (suc k) =
+    let z : suc k + n ≡ suc (k + n) = omega arith in
+    let h = below_more t n k in
+    let last = some_packet (packet_at t (k + n)) in
+    (h.0 ++ last, ap (packets_below t) z ∙ below_next t (k + n) ∙ ap (λ (l : List Packet). l ++ last) h.1 ∙ append_assoc (packets_below t n) h.0 last)
+
+pub below_front : (t : Table) (n m : ℕ) → n ≤ m → (front : List Packet) → packets_below t n ≡ front → (later : List Packet) × (packets_below t m ≡ front ++ later)
+below_front t n m le front is =
+    let z : m ≡ (m - n) + n = omega arith in
+    let h = below_more t n (m - n) in
+    (h.0, ap (packets_below t) z ∙ h.1 ∙ ap (λ (l : List Packet). l ++ h.0) is)

@@ -10,6 +10,7 @@ mod input;
 mod inputs;
 pub mod laws;
 mod packet_file;
+mod packing;
 mod reading;
 mod table_file;
 mod window;
@@ -19,9 +20,12 @@ pub use device::{DeviceFault, Reader, Sink, Source, Writer};
 pub use error::{ReadingError, ReadingFault};
 pub use input::{read_input, read_reading, read_table};
 pub use inputs::{InputError, join_inputs};
-pub use writing::{WriteFault, write_table};
+pub use packing::write_table;
+pub use writing::{WriteFault, write_table_v1};
 
 #[cfg(test)]
 mod calls;
+#[cfg(test)]
+mod packet_tests;
 #[cfg(test)]
 mod tests;

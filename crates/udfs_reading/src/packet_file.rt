@@ -23,9 +23,9 @@ const LAST_PACKET: u32 = 131_071;
 
 /// The masks of a packet: bit i stands for its block i.
 #[derive(Clone, Copy)]
-struct Masks {
-    known: u32,
-    conflict: u32,
+pub struct Masks {
+    pub known: u32,
+    pub conflict: u32,
 }
 
 /// Takes the two masks of a packet.
