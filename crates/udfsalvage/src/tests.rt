@@ -4,4 +4,5 @@ mod devices;
 mod memory;
 mod merging;
 mod refusals;
+mod versions;
 mod words;
