@@ -62,9 +62,10 @@ fn whole_sample(alloc: Global) -> Result<Vec<u8>, AllocError> {
     let disc = Disc::type1(alloc)?;
     let mut bytes = header(alloc, b"UDFREAD1", LAST as usize + 1)?;
     for n in 0..=LAST {
-        if let Some(block) = disc.block(n) {
-            bytes.extend_from_slice(&number(u64::from(n)))?;
-            bytes.extend_from_slice(block)?;
+        bytes.extend_from_slice(&number(u64::from(n)))?;
+        match disc.block(n) {
+            Some(block) => bytes.extend_from_slice(block)?,
+            None => bytes.extend_from_slice(&[0; 2048])?,
         }
     }
     Ok(bytes)
