@@ -66,18 +66,21 @@ fn file_of_v2(alloc: Global, map: &BTreeMap<u32, Fact<[u8; 2048]>>) -> Result<Ve
         let mut known = 0u32;
         let mut conflict = 0u32;
         let mut blocks = Vec::new(alloc);
-        for (bit, block) in [(1u32, p * 32), (0x8000_0000, p * 32 + 31)] {
+        for (bit, block) in [
+            (1u32, p.wrapping_mul(32)),
+            (0x8000_0000, p.wrapping_mul(32).wrapping_add(31)),
+        ] {
             match map.get(&block) {
                 Some(Fact::Known(bytes)) => {
-                    known += bit;
+                    known |= bit;
                     blocks.extend_from_slice(bytes)?;
                 }
-                Some(Fact::Conflict) => conflict += bit,
+                Some(Fact::Conflict) => conflict |= bit,
                 _ => {}
             }
         }
         if known > 0 || conflict > 0 {
-            count += 1;
+            count = count.wrapping_add(1);
             packets.extend_from_slice(&p.to_le_bytes())?;
             packets.extend_from_slice(&known.to_le_bytes())?;
             packets.extend_from_slice(&conflict.to_le_bytes())?;

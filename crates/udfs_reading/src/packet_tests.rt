@@ -95,7 +95,7 @@ fn the_empty_table_has_no_packet(rt: HostRuntime) -> Result<(), Fail> {
         b"UDFTABL2\x00\x08\x00\x00\x00\x00\x00\x00".as_slice()
     );
     let again = read_table(alloc, &mut Reader::new(file.as_slice()))?;
-    assert_eq!(rt; again.known() + again.conflicts(), 0);
+    assert_eq!(rt; (again.known(), again.conflicts()), (0, 0));
     Ok(())
 }
 
