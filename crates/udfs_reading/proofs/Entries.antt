@@ -12,7 +12,7 @@ use Rattle.udfs_lattice.proofs.EntryLaws.{table_of_entries-push, entries_of-risi
 use Rattle.udfs_reading.specs.Format.{number, header}
 use Rattle.udfs_reading.specs.Outcome.{HeaderIsSound}
 use Rattle.udfs_reading.specs.TableFile.{table_magic, entry_bytes, file_of}
-use Rattle.udfs_reading.specs.TableReading.{entries_front, IsUnderEntries, IsTableFile, floor_after, tables, TakesEntry, TakesEntries}
+use Rattle.udfs_reading.specs.TableReading.{entries_front, IsUnderEntries, IsTableFile, floor_after, tables_v1, TakesEntry, TakesEntries}
 use Rattle.udfs_reading.proofs.JudgeEntries.{header_is_sound}
 
 pub one_byte : (bytes : List ℕ) → length bytes ≡ 1 → bytes ≡ get_or bytes 0 0 ∷ []
@@ -21,9 +21,9 @@ one_byte (b ∷ []) h = refl
 one_byte (b ∷ c ∷ bytes) h = absurd (omega arith)
 
 -- past the header, at the state of a block
-pub state_sound : (count : ℕ) (done : List (ℕ × State)) (block : ℕ) (got : List ℕ) → IsUnderEntries count done → HeaderIsSound tables ((entries_front count done ++ number block) ++ got)
+pub state_sound : (count : ℕ) (done : List (ℕ × State)) (block : ℕ) (got : List ℕ) → IsUnderEntries count done → HeaderIsSound tables_v1 ((entries_front count done ++ number block) ++ got)
 state_sound count done block got under =
-    subst (HeaderIsSound tables) (sym (append_assoc (entries_front count done) (number block) got)) (header_is_sound count done (number block ++ got) under)
+    subst (HeaderIsSound tables_v1) (sym (append_assoc (entries_front count done) (number block) got)) (header_is_sound count done (number block ++ got) under)
 
 rises-push : (low : ℕ) (es : List (ℕ × State)) (e : ℕ × State) → RisesFrom low es → floor_after low es ≤ e.0 → IsEntry e.0 e.1 → RisesFrom low (es ++ e ∷ [])
 rises-push low [] e h above entry = (above, entry, tt)

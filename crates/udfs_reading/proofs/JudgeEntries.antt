@@ -12,7 +12,7 @@ use Rattle.udfs_reading.specs.declared.error.ReadingFault.TheVariants as fault
 use Rattle.udfs_reading.specs.Format.{number, value_of, header, In, FaultHere, HasFault}
 use Rattle.udfs_reading.specs.Outcome.{HeaderIsSound}
 use Rattle.udfs_reading.specs.TableFile.{table_magic, state_bytes, entry_bytes}
-use Rattle.udfs_reading.specs.TableReading.{floor_after, entries_front, IsUnderEntries, IsOtherState, TablePlace, IsTablePlace, before_table_place, record_of_table_place, AtNumber, AtState, AtContent, AtTableEnd, table_format, tables}
+use Rattle.udfs_reading.specs.TableReading.{floor_after, entries_front, IsUnderEntries, IsOtherState, TablePlace, IsTablePlace, before_table_place, record_of_table_place, AtNumber, AtState, AtContent, AtTableEnd, table_format, tables_v1}
 use Rattle.udfs_reading.proofs.Numbers.{length-number, value_of-number}
 use Rattle.udfs_reading.proofs.JudgeHeader as header
 use Rattle.udfs_reading.proofs.JudgeHeader.{Judged, judge, judge_header, number_long, with_first, with_all, all_err, all_ok, IsFrom, from_ok, from_err, first_keeps, from_either}
@@ -214,7 +214,7 @@ past_header (suc n) rest f number some fits h =
     let from : IsFrom {X = Entry} 1 (Err (f, number)) = subst (IsFrom 1) e (some_first n rest) in from.is
 
 -- after the header and some entries, the header has no fault, whatever follows
-pub header_is_sound : (count : ℕ) (done : List Entry) (got : List ℕ) → IsUnderEntries count done → HeaderIsSound tables (entries_front count done ++ got)
+pub header_is_sound : (count : ℕ) (done : List Entry) (got : List ℕ) → IsUnderEntries count done → HeaderIsSound tables_v1 (entries_front count done ++ got)
 header_is_sound count done got under more f number h =
     let fewer = under.more in
     past_header count (flat_map entry_bytes done ++ (got ++ more)) f number (omega arith) under.fits

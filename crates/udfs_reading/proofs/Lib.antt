@@ -7,6 +7,14 @@ pub mod JudgeRecords
 pub mod More
 pub mod Cuts
 pub mod JudgeEntries
+pub mod PacketMasks
+pub mod JudgePackets
+pub mod PacketStates
+pub mod PacketTables
+pub mod PacketSteps
+pub mod Packets
+pub mod PacketWalk
+pub mod PacketWriting
 pub mod Entries
 pub mod Public
 pub mod Magics

@@ -1,11 +1,12 @@
 -- A whole field that breaks its rule is a fault whatever follows it.
-use Rattle.std.proofs.Common.{◌≡◌, ℕ, ◌≤◌, List, [], ◌∷◌, ◌++◌, length, refl, ap, ◌∙◌, append_assoc, arith, length-append}
-use Rattle.std.proofs.lemmas.List.{take-append-le}
+use Rattle.std.proofs.Common.{◌≡◌, ℕ, ◌≤◌, List, [], ◌∷◌, ◌++◌, length, drop, refl, ap, ◌∙◌, append_assoc, arith, length-append}
+use Rattle.std.proofs.lemmas.List.{take-append-le, drop-append-le, length-drop}
 use Rattle.byteorder.specs.Numbers.{little_from-append}
 use Rattle.udfs_reading.specs.declared.error.ReadingFault.{ReadingFault}
 use Rattle.udfs_reading.specs.declared.error.ReadingFault.TheVariants as fault
 use Rattle.udfs_reading.specs.Format.{value_of, Format, Spot, AtMagic, AtBlockSize, AtCount, In, before, size_of, Breaks, FaultHere, HasFault}
 use Rattle.udfs_reading.specs.Reading.{AtBlock, AtBytes, AtEnd, reading_format}
+use Rattle.udfs_reading.specs.PacketReading.{AtPacket, AtMasks, AtBlocks, AtPacketsEnd, Clash, packet_format}
 use Rattle.udfs_reading.specs.TableReading.{AtNumber, AtState, AtContent, AtTableEnd, IsOtherState, table_format}
 
 value_of-more : (rest left : List ℕ) → 4 ≤ length rest → value_of (rest ++ left) ≡ value_of rest
@@ -59,3 +60,19 @@ table_goes_on (AtState count done block) rest left _ long h = absurd h
 table_goes_on (AtContent count done block) rest left _ long h = absurd h
 table_goes_on (AtTableEnd done) rest left fault.Trailing long h = omega (arith, length-append rest left)
 table_goes_on (AtTableEnd done) rest left _ long h = absurd h
+
+clash_more : (rest left : List ℕ) → 8 ≤ length rest → Clash (value_of rest) (value_of (drop 4 rest)) → Clash (value_of (rest ++ left)) (value_of (drop 4 (rest ++ left)))
+clash_more rest left long h =
+    let later : drop 4 (rest ++ left) ≡ drop 4 rest ++ left = drop-append-le 4 rest left (omega arith) in
+    let four : 4 ≤ length (drop 4 rest) = omega (arith, length-drop 4 rest) in
+    rw (value_of-more rest left (omega arith), later, value_of-more (drop 4 rest) left four) h
+
+pub packet_goes_on : GoesOn packet_format
+packet_goes_on (AtPacket count done) rest left fault.BlockNumber long h = rw (value_of-more rest left long) h
+packet_goes_on (AtPacket count done) rest left fault.Order long h = rw (value_of-more rest left long) h
+packet_goes_on (AtPacket count done) rest left _ long h = absurd h
+packet_goes_on (AtMasks count done p) rest left fault.State long h = clash_more rest left long h
+packet_goes_on (AtMasks count done p) rest left _ long h = absurd h
+packet_goes_on (AtBlocks count done p known conflict) rest left _ long h = absurd h
+packet_goes_on (AtPacketsEnd done) rest left fault.Trailing long h = omega (arith, length-append rest left)
+packet_goes_on (AtPacketsEnd done) rest left _ long h = absurd h

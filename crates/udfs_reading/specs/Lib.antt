@@ -7,6 +7,8 @@ pub mod Answers
 pub mod Reading
 pub mod TableFile
 pub mod TableReading
+pub mod PacketFile
+pub mod PacketReading
 pub mod Inputs
 pub mod Writing
 pub mod Several

@@ -26,5 +26,5 @@ unfoldable pub file_of : List (ℕ × State) → List ℕ
 file_of es = table_header (length es) ++ flat_map entry_bytes es
 
 -- the one spelling of a table
-abbrev pub table_bytes : Table → List ℕ
-table_bytes t = file_of (entries_of t)
+abbrev pub table_bytes_v1 : Table → List ℕ
+table_bytes_v1 t = file_of (entries_of t)

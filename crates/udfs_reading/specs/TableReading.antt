@@ -9,7 +9,7 @@ use Rattle.udfs_reading.specs.declared.error.ReadingFault.{ReadingFault}
 use Rattle.udfs_reading.specs.declared.error.ReadingFault.TheVariants as fault
 use Rattle.udfs_reading.specs.Format.{number, value_of, header, Format}
 use Rattle.udfs_reading.specs.Kind.{Kind, kind}
-use Rattle.udfs_reading.specs.TableFile.{table_magic, state_bytes, entry_bytes, table_bytes}
+use Rattle.udfs_reading.specs.TableFile.{table_magic, state_bytes, entry_bytes, table_bytes_v1}
 
 -- the least number that may come after these
 abbrev pub floor_after : ℕ → List (ℕ × State) → ℕ
@@ -23,7 +23,7 @@ entries_front count es = header table_magic count ++ flat_map entry_bytes es
 -- the bytes are the file of this table, and nothing else
 pub record IsTableFile (bytes : List ℕ) (table : Table) : Type 0 where
   pub is_table : IsTable table
-  pub spelled : bytes ≡ table_bytes table
+  pub spelled : bytes ≡ table_bytes_v1 table
 
 -- ---- a file with a fault
 
@@ -89,8 +89,8 @@ table_format = record {
   IsFile = λ bytes count table. IsTableFile bytes table × (count ≡ length (entries_of table));
 }
 
-abbrev pub tables : Kind
-tables = kind table_format
+abbrev pub tables_v1 : Kind
+tables_v1 = kind table_format
 
 -- ---- what was read of it
 

@@ -1,7 +1,8 @@
-//! The table file after each call of a row, beside that of an ordered map of single blocks.
+//! The table files after each call of a row, beside that of an ordered map of single blocks.
 
 use crate::device::Writer;
-use crate::writing::write_table;
+use crate::packing::write_table;
+use crate::writing::write_table_v1;
 use std::alloc::{AllocError, Global};
 use std::collections::BTreeMap;
 use std::io;
@@ -35,8 +36,8 @@ fn add(
     }
 }
 
-/// The table file of the map, as the format spells it.
-fn file_of(alloc: Global, map: &BTreeMap<u32, Fact<[u8; 2048]>>) -> Result<Vec<u8>, AllocError> {
+/// The table file of version 1 of the map, as the format spells it.
+fn file_of_v1(alloc: Global, map: &BTreeMap<u32, Fact<[u8; 2048]>>) -> Result<Vec<u8>, AllocError> {
     let mut file = Vec::new(alloc);
     file.extend_from_slice(b"UDFTABL1\x00\x08\x00\x00")?;
     file.extend_from_slice(&(map.len().min(6) as u32).to_le_bytes())?;
@@ -51,6 +52,45 @@ fn file_of(alloc: Global, map: &BTreeMap<u32, Fact<[u8; 2048]>>) -> Result<Vec<u
             Fact::Conflict => file.push(2)?,
         }
     }
+    Ok(file)
+}
+
+/// The numbers of the packets of the row's blocks, of which each is the first or the last of a packet.
+const PACKETS: [u32; 3] = [0, 1, 131_071];
+
+/// The table file of version 2 of the map, as the format spells it.
+fn file_of_v2(alloc: Global, map: &BTreeMap<u32, Fact<[u8; 2048]>>) -> Result<Vec<u8>, AllocError> {
+    let mut packets = Vec::new(alloc);
+    let mut count = 0u8;
+    for p in PACKETS {
+        let mut known = 0u32;
+        let mut conflict = 0u32;
+        let mut blocks = Vec::new(alloc);
+        for (bit, block) in [
+            (1u32, p.wrapping_mul(32)),
+            (0x8000_0000, p.wrapping_mul(32).wrapping_add(31)),
+        ] {
+            match map.get(&block) {
+                Some(Fact::Known(bytes)) => {
+                    known |= bit;
+                    blocks.extend_from_slice(bytes)?;
+                }
+                Some(Fact::Conflict) => conflict |= bit,
+                _ => {}
+            }
+        }
+        if known > 0 || conflict > 0 {
+            count = count.wrapping_add(1);
+            packets.extend_from_slice(&p.to_le_bytes())?;
+            packets.extend_from_slice(&known.to_le_bytes())?;
+            packets.extend_from_slice(&conflict.to_le_bytes())?;
+            packets.extend_from_slice(blocks.as_slice())?;
+        }
+    }
+    let mut file = Vec::new(alloc);
+    file.extend_from_slice(b"UDFTABL2\x00\x08\x00\x00")?;
+    file.extend_from_slice(&[count, 0, 0, 0])?;
+    file.extend_from_slice(packets.as_slice())?;
     Ok(file)
 }
 
@@ -75,12 +115,16 @@ impl Pair {
         Ok(())
     }
 
-    fn file(&self, alloc: Global) -> Result<Vec<u8>, Fail> {
-        let mut out = Writer::new(Vec::new(alloc));
-        if write_table(&self.table, &mut out).is_err() {
+    /// The files of both versions.
+    fn files(&self, alloc: Global) -> Result<(Vec<u8>, Vec<u8>), Fail> {
+        let mut first = Writer::new(Vec::new(alloc));
+        let mut second = Writer::new(Vec::new(alloc));
+        if write_table_v1(&self.table, &mut first).is_err()
+            || write_table(&self.table, &mut second).is_err()
+        {
             return Err(Fail::from(io::Error::from(io::ErrorKind::Other)));
         }
-        Ok(out.into_inner())
+        Ok((first.into_inner(), second.into_inner()))
     }
 }
 
@@ -103,8 +147,9 @@ fn table_files_agree_over_ten_thousand_calls(rt: HostRuntime) -> Result<(), Fail
             let n = BLOCKS[(drawn >> 20) as usize % 6];
             first.put(n, &[(drawn >> 24) as u8 % 3; 2048])?;
         }
-        let file = first.file(alloc)?;
-        assert!(rt; file == file_of(alloc, &first.map)?, "call {call}");
+        let (one, two) = first.files(alloc)?;
+        assert!(rt; one == file_of_v1(alloc, &first.map)?, "call {call}");
+        assert!(rt; two == file_of_v2(alloc, &first.map)?, "call {call}");
         if drawn >> 19 & 1 == 1 {
             std::mem::swap(&mut first, &mut second);
         }

@@ -9,6 +9,7 @@ ghost use Rattle.std.specs.Str.{bytes_eq};
 ghost use Rattle.udfs_reading.specs.Kind.{kind};
 ghost use Rattle.udfs_reading.specs.Reading.{magic};
 ghost use Rattle.udfs_reading.specs.TableFile.{table_magic};
+ghost use Rattle.udfs_reading.specs.PacketFile.{packet_magic};
 ghost use Rattle.udfs_reading.specs.Outcome.{Ends};
 
 use crate::device::Source;
@@ -44,10 +45,18 @@ pub fn names_reading(bytes: &[u8; 8]) -> bool
     *bytes == *b"UDFREAD1"
 }
 
-/// Whether these eight bytes name a table file.
+/// Whether these eight bytes name a table file of version 1.
 #[tactic(auto, unfolding(crate::specs::TableFile::table_magic))]
 pub fn names_table(bytes: &[u8; 8]) -> bool
     ensures { result ≡ bytes_eq bytes.now table_magic }
 {
     *bytes == *b"UDFTABL1"
+}
+
+/// Whether these eight bytes name a table file of version 2.
+#[tactic(auto, unfolding(crate::specs::PacketFile::packet_magic))]
+pub fn names_packets(bytes: &[u8; 8]) -> bool
+    ensures { result ≡ bytes_eq bytes.now packet_magic }
+{
+    *bytes == *b"UDFTABL2"
 }

@@ -1,22 +1,22 @@
-//! One input: a reading, a table file, or either, told by its first eight bytes.
+//! One input: a reading, a table file of either version, or any of them, told by its first eight bytes.
 
 ghost use Rattle.std.specs.Prelude.{◌≡◌, ◌≢◌, ◌↔◌, ℕ, List, [], OnOk, IfOk, IfErr, IfSome, IsErrAnd, MatchResult};
 ghost use Rattle.udfs_reading.specs.declared.error.ReadingFault.TheVariants.{Io};
 ghost use Rattle.udfs_lattice.specs.Tables.{Table, IsTable};
 ghost use Rattle.udfs_reading.specs.Device.{left};
 ghost use Rattle.udfs_reading.specs.Answers.{IsOfFile, GivesTable, GivesFault, TakesFile, RefusesFaulty, FailsAfter};
-ghost use Rattle.udfs_reading.specs.Inputs.{kind_accepted, inputs};
+ghost use Rattle.udfs_reading.specs.Inputs.{kind_accepted, tables, inputs};
 ghost use Rattle.udfs_reading.specs.Outcome.{Ends, Takes, Reads, Stops};
 ghost use Rattle.udfs_reading.specs.Reading.{readings};
-ghost use Rattle.udfs_reading.specs.TableFile.{table_bytes};
-ghost use Rattle.udfs_reading.specs.TableReading.{tables};
+ghost use Rattle.udfs_reading.specs.TableFile.{table_bytes_v1};
+ghost use Rattle.udfs_reading.specs.PacketFile.{table_bytes};
 
 use crate::device::Source;
 use crate::error::{ReadingError, ReadingFault};
 use crate::field::read_magic;
-use crate::header::{names_reading, names_table};
+use crate::header::{names_packets, names_reading, names_table};
 use crate::window::Window;
-use crate::{reading, table_file};
+use crate::{packet_file, reading, table_file};
 use std::alloc::Global;
 use udfs_lattice::BlockTable;
 
@@ -25,7 +25,7 @@ use udfs_lattice::BlockTable;
 pub enum Accepted {
     Readings,
     Tables,
-    Both,
+    All,
 }
 
 /// Reads a reading to the end of the source, and joins its table to the table.
@@ -52,7 +52,7 @@ fn join_reading<R: Source>(
     })
 }
 
-/// Reads a table file to the end of the source, and joins its table to the table.
+/// Reads a table file of either version to the end of the source, and joins its table to the table.
 fn join_table<R: Source>(
     source: &mut R,
     window: &mut Window,
@@ -70,14 +70,18 @@ fn join_table<R: Source>(
         table_file::read_body(source, window, table)?;
         return Ok(());
     }
+    if names_packets(&magic) {
+        packet_file::read_body(source, window, table)?;
+        return Ok(());
+    }
     Err(ReadingError {
         fault: ReadingFault::Magic,
         number: 0,
     })
 }
 
-/// Reads a file of either kind to the end of the source, and joins its table to the table.
-pub fn join_either<R: Source>(
+/// Reads a file of any kind to the end of the source, and joins its table to the table.
+pub fn join_any<R: Source>(
     source: &mut R,
     window: &mut Window,
     table: &mut BlockTable,
@@ -96,6 +100,10 @@ pub fn join_either<R: Source>(
     }
     if names_table(&magic) {
         table_file::read_body(source, window, table)?;
+        return Ok(());
+    }
+    if names_packets(&magic) {
+        packet_file::read_body(source, window, table)?;
         return Ok(());
     }
     Err(ReadingError {
@@ -121,7 +129,7 @@ fn join_accepted<R: Source>(
     match which {
         Accepted::Readings => join_reading(source, window, table),
         Accepted::Tables => join_table(source, window, table),
-        Accepted::Both => join_either(source, window, table),
+        Accepted::All => join_any(source, window, table),
     }
 }
 
@@ -170,7 +178,7 @@ pub fn read_reading<R: Source>(alloc: Global, source: &mut R) -> Result<BlockTab
     outcome
 }
 
-/// Reads a table file to the end of the source, and answers its table.
+/// Reads a table file of either version to the end of the source, and answers its table.
 ///
 /// # Errors
 ///
@@ -189,26 +197,28 @@ pub fn read_table<R: Source>(alloc: Global, source: &mut R) -> Result<BlockTable
     ensures kept { ¬ IsErrAnd result (λ e. e.fault ≡ Io) → R.faults source.new ≡ R.faults source.old }
     // Then the bytes that it had given have no fault but a cut at their end.
     ensures cut { FailsAfter tables (R.remaining source.old) (R.remaining source.new) result }
-    // What `write_table` writes of a table reads back as that table.
+    // What `write_table` or `write_table_v1` writes of a table reads back as that table.
     ensures written { IfSome (R.remaining source.old) (λ bytes. (table : Table) → IsTable table → bytes ≡ table_bytes table →
+        MatchResult result (λ t. t ≡ table) (λ e. ¬ IsOfFile e.fault)) }
+    ensures written_v1 { IfSome (R.remaining source.old) (λ bytes. (table : Table) → IsTable table → bytes ≡ table_bytes_v1 table →
         MatchResult result (λ t. t ≡ table) (λ e. ¬ IsOfFile e.fault)) }
 {
     let outcome = read_accepted(alloc, source, Accepted::Tables);
     outcome
 }
 
-/// Reads a reading or a table file, told by its first eight bytes, to the end of the source, and
-/// answers its table.
+/// Reads a reading or a table file of either version, told by its first eight bytes, to the end of the
+/// source, and answers its table.
 ///
 /// # Errors
 ///
-/// As [`read_reading`] has them. Eight first bytes that name neither are `Magic` at record 0.
+/// As [`read_reading`] has them. Eight first bytes that name none of them are `Magic` at record 0.
 pub fn read_input<R: Source>(alloc: Global, source: &mut R) -> Result<BlockTable, ReadingError>
     // A table is that of the file.
     ensures table { GivesTable inputs (R.remaining source.old) result }
     // A fault of the file is the first one of the bytes, at its record.
     ensures fault { GivesFault inputs (R.remaining source.old) result }
-    // A file of either kind is refused only by the device or for want of memory.
+    // A file of any kind is refused only by the device or for want of memory.
     ensures file { TakesFile inputs (R.remaining source.old) result }
     // Other bytes give no table and no other fault of the file, and want of memory only past the header.
     ensures faulty { RefusesFaulty inputs (R.remaining source.old) result }
@@ -218,6 +228,6 @@ pub fn read_input<R: Source>(alloc: Global, source: &mut R) -> Result<BlockTable
     // Then the bytes that it had given have no fault but a cut at their end.
     ensures cut { FailsAfter inputs (R.remaining source.old) (R.remaining source.new) result }
 {
-    let outcome = read_accepted(alloc, source, Accepted::Both);
+    let outcome = read_accepted(alloc, source, Accepted::All);
     outcome
 }

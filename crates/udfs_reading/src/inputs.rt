@@ -11,7 +11,7 @@ ghost use Rattle.udfs_reading.specs.Several.{TablesAre, AllTell, AllReadings, Jo
 
 use crate::device::Source;
 use crate::error::ReadingError;
-use crate::input::join_either;
+use crate::input::join_any;
 use crate::window::Window;
 use std::alloc::Global;
 use udfs_lattice::BlockTable;
@@ -36,7 +36,7 @@ fn join_input<R: Source>(
         (R.faults source.old) (R.faults source.new) e) }
     ensures empty { OnOk result (window.new ≡ []) }
 {
-    join_either(source, window, table)?;
+    join_any(source, window, table)?;
     Ok(())
 }
 
@@ -57,7 +57,7 @@ fn join_each<R: Source>(alloc: Global, inputs: &mut [R]) -> Result<BlockTable, I
     Ok(table)
 }
 
-/// Reads all inputs, readings and table files, in order, and answers the join of their tables. The
+/// Reads all inputs, readings and table files of either version, in order, and answers the join of their tables. The
 /// records go straight into that one table.
 ///
 /// # Errors

@@ -1,11 +1,13 @@
 //! Laws of the file formats, each the contract of a function that does nothing.
 ghost use Rattle.std.specs.Prelude.{◌≡◌, ℕ, List};
 ghost use Rattle.udfs_lattice.specs.Tables.{Table, IsTable};
-ghost use Rattle.udfs_reading.specs.Inputs.{inputs};
+ghost use Rattle.udfs_reading.specs.Inputs.{tables, inputs};
 ghost use Rattle.udfs_reading.specs.Kind.{HasOneOutcome};
 ghost use Rattle.udfs_reading.specs.Reading.{readings};
-ghost use Rattle.udfs_reading.specs.TableFile.{table_bytes};
-ghost use Rattle.udfs_reading.specs.TableReading.{IsTableFile, tables};
+ghost use Rattle.udfs_reading.specs.PacketFile.{table_bytes};
+ghost use Rattle.udfs_reading.specs.PacketReading.{IsPacketFile};
+ghost use Rattle.udfs_reading.specs.TableFile.{table_bytes_v1};
+ghost use Rattle.udfs_reading.specs.TableReading.{IsTableFile};
 
 /// No bytes are two files of a kind, or a file and faulty, or have two first faults.
 pub fn one_outcome()
@@ -14,9 +16,12 @@ pub fn one_outcome()
     ensures of_inputs { HasOneOutcome inputs }
 {}
 
-/// Each table has one spelling as a file, and no two tables have the same one.
+/// Each table has one spelling as a file of each version, and no two tables have the same one.
 pub fn one_spelling()
-    ensures spelled { (t : Table) → IsTable t → IsTableFile (table_bytes t) t }
-    ensures one { (bytes other : List ℕ) (t : Table) → IsTableFile bytes t → IsTableFile other t → bytes ≡ other }
+    ensures spelled { (t : Table) → IsTable t → IsPacketFile (table_bytes t) t }
+    ensures one { (bytes other : List ℕ) (t : Table) → IsPacketFile bytes t → IsPacketFile other t → bytes ≡ other }
     ensures tells_it { (t u : Table) → IsTable t → IsTable u → table_bytes t ≡ table_bytes u → t ≡ u }
+    ensures spelled_v1 { (t : Table) → IsTable t → IsTableFile (table_bytes_v1 t) t }
+    ensures one_v1 { (bytes other : List ℕ) (t : Table) → IsTableFile bytes t → IsTableFile other t → bytes ≡ other }
+    ensures tells_it_v1 { (t u : Table) → IsTable t → IsTable u → table_bytes_v1 t ≡ table_bytes_v1 u → t ≡ u }
 {}

@@ -1,4 +1,4 @@
-//! The two file formats of block tables: readings, which are lists of records, and table files.
+//! The file formats of block tables: readings, which are lists of records, and table files in two versions.
 #![tactic(auto)]
 
 mod block;
@@ -9,6 +9,8 @@ mod header;
 mod input;
 mod inputs;
 pub mod laws;
+mod packet_file;
+mod packing;
 mod reading;
 mod table_file;
 mod window;
@@ -18,9 +20,12 @@ pub use device::{DeviceFault, Reader, Sink, Source, Writer};
 pub use error::{ReadingError, ReadingFault};
 pub use input::{read_input, read_reading, read_table};
 pub use inputs::{InputError, join_inputs};
-pub use writing::{WriteFault, write_all, write_table};
+pub use packing::write_table;
+pub use writing::{WriteFault, write_all, write_table_v1};
 
 #[cfg(test)]
 mod calls;
+#[cfg(test)]
+mod packet_tests;
 #[cfg(test)]
 mod tests;

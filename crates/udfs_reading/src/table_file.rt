@@ -7,7 +7,7 @@ ghost use Rattle.udfs_reading.specs.Device.{left};
 ghost use Rattle.udfs_reading.specs.Format.{number, header};
 ghost use Rattle.udfs_reading.specs.Outcome.{Ends, Takes};
 ghost use Rattle.udfs_reading.specs.TableFile.{table_magic};
-ghost use Rattle.udfs_reading.specs.TableReading.{tables, entries_front, floor_after, IsUnderEntries, TakesState, TakesEntry, TakesEntries};
+ghost use Rattle.udfs_reading.specs.TableReading.{tables_v1, entries_front, floor_after, IsUnderEntries, TakesState, TakesEntry, TakesEntries};
 
 use crate::block::{LAST_BLOCK, join_block};
 use crate::device::Source;
@@ -29,7 +29,7 @@ fn read_state<R: Source>(
     ensures ok { OnOk result (TakesState (left window.old (R.remaining source.old)) (left window.new (R.remaining source.new)) block table.old table.new) }
     ensures count { OnOk result (R.faults source.new ≡ R.faults source.old) }
     ensures err { IfErr result (λ e. (count : ℕ) (done : List (ℕ × State)) → IsUnderEntries count done → length done + 1 ≡ entry → floor_after 0 done ≤ block →
-        Ends tables (entries_front count done ++ number block) (left window.old (R.remaining source.old)) (left window.new (R.remaining source.new))
+        Ends tables_v1 (entries_front count done ++ number block) (left window.old (R.remaining source.old)) (left window.new (R.remaining source.new))
         (R.faults source.old) (R.faults source.new) e) }
     ensures empty { IfErr result (λ e. e.fault ≡ Io → window.new ≡ []) }
 {
@@ -64,7 +64,7 @@ fn read_entry<R: Source>(
     ensures ok { IfOk result (λ next. TakesEntry (left window.old (R.remaining source.old)) (left window.new (R.remaining source.new)) floor next table.old table.new) }
     ensures count { OnOk result (R.faults source.new ≡ R.faults source.old) }
     ensures err { IfErr result (λ e. (count : ℕ) (done : List (ℕ × State)) → IsUnderEntries count done → length done + 1 ≡ entry → floor_after 0 done ≡ floor →
-        Ends tables (entries_front count done) (left window.old (R.remaining source.old)) (left window.new (R.remaining source.new))
+        Ends tables_v1 (entries_front count done) (left window.old (R.remaining source.old)) (left window.new (R.remaining source.new))
         (R.faults source.old) (R.faults source.new) e) }
     ensures empty { IfErr result (λ e. e.fault ≡ Io → window.new ≡ []) }
 {
@@ -94,7 +94,7 @@ fn read_entries<R: Source>(
 ) -> Result<(), ReadingError>
     ensures ok { OnOk result ((floor : ℕ) × TakesEntries (left window.old (R.remaining source.old)) (left window.new (R.remaining source.new)) count floor table.old table.new) }
     ensures count { OnOk result (R.faults source.new ≡ R.faults source.old) }
-    ensures err { IfErr result (λ e. Ends tables (header table_magic count) (left window.old (R.remaining source.old)) (left window.new (R.remaining source.new))
+    ensures err { IfErr result (λ e. Ends tables_v1 (header table_magic count) (left window.old (R.remaining source.old)) (left window.new (R.remaining source.new))
         (R.faults source.old) (R.faults source.new) e) }
     ensures empty { IfErr result (λ e. e.fault ≡ Io → window.new ≡ []) }
 {
@@ -112,9 +112,9 @@ pub fn read_body<R: Source>(
     window: &mut Window,
     table: &mut BlockTable,
 ) -> Result<(), ReadingError>
-    ensures ok { OnOk result (Takes tables table_magic (left window.old (R.remaining source.old)) (left window.new (R.remaining source.new)) table.old table.new) }
+    ensures ok { OnOk result (Takes tables_v1 table_magic (left window.old (R.remaining source.old)) (left window.new (R.remaining source.new)) table.old table.new) }
     ensures count { OnOk result (R.faults source.new ≡ R.faults source.old) }
-    ensures err { IfErr result (λ e. Ends tables table_magic (left window.old (R.remaining source.old)) (left window.new (R.remaining source.new))
+    ensures err { IfErr result (λ e. Ends tables_v1 table_magic (left window.old (R.remaining source.old)) (left window.new (R.remaining source.new))
         (R.faults source.old) (R.faults source.new) e) }
     ensures empty { IfErr result (λ e. e.fault ≡ Io → window.new ≡ []) }
     ensures done { OnOk result (window.new ≡ []) }

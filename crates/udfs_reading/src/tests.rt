@@ -8,14 +8,14 @@ use std::test::Fail;
 use udfs_lattice::{BlockTable, Fact};
 
 /// A disputed block 300 alone, as a table file.
-const DISPUTED: &[u8; 21] = b"UDFTABL1\x00\x08\x00\x00\x01\x00\x00\x00\x2c\x01\x00\x00\x02";
+pub const DISPUTED: &[u8; 21] = b"UDFTABL1\x00\x08\x00\x00\x01\x00\x00\x00\x2c\x01\x00\x00\x02";
 
 /// Gives at most `most` bytes a call, and fails once it has given `good`.
 #[derive(Drop)]
-struct Pieces<'a> {
-    rest: &'a [u8],
-    most: usize,
-    good: usize,
+pub struct Pieces<'a> {
+    pub rest: &'a [u8],
+    pub most: usize,
+    pub good: usize,
 }
 
 impl Read for Pieces<'_> {
@@ -34,10 +34,10 @@ impl Read for Pieces<'_> {
 
 /// Takes at most `most` bytes a call, and fails once it has taken `good`.
 #[derive(Drop)]
-struct Narrow {
-    taken: Vec<u8>,
-    most: usize,
-    good: usize,
+pub struct Narrow {
+    pub taken: Vec<u8>,
+    pub most: usize,
+    pub good: usize,
 }
 
 impl Write for Narrow {
@@ -53,12 +53,12 @@ impl Write for Narrow {
     }
 }
 
-fn push_number(out: &mut Vec<u8>, n: u32) -> Result<(), AllocError> {
+pub fn push_number(out: &mut Vec<u8>, n: u32) -> Result<(), AllocError> {
     out.extend_from_slice(&n.to_le_bytes())
 }
 
 /// The reading of these records, each a block and the byte that fills it.
-fn reading(alloc: Global, records: &[(u32, u8)]) -> Result<Vec<u8>, AllocError> {
+pub fn reading(alloc: Global, records: &[(u32, u8)]) -> Result<Vec<u8>, AllocError> {
     let mut out = Vec::new(alloc);
     out.extend_from_slice(b"UDFREAD1")?;
     push_number(&mut out, 2048)?;
@@ -70,30 +70,35 @@ fn reading(alloc: Global, records: &[(u32, u8)]) -> Result<Vec<u8>, AllocError> 
     Ok(out)
 }
 
-fn fault_of(outcome: Result<BlockTable, ReadingError>) -> Option<(ReadingFault, u32)> {
+pub fn fault_of(outcome: Result<BlockTable, ReadingError>) -> Option<(ReadingFault, u32)> {
     match outcome {
         Ok(_) => None,
         Err(e) => Some((e.fault, e.number)),
     }
 }
 
+/// The table file of version 1.
 fn written(alloc: Global, table: &BlockTable) -> Result<Vec<u8>, Fail> {
     let mut out = Writer::new(Vec::new(alloc));
-    if write_table(table, &mut out).is_err() {
+    if write_table_v1(table, &mut out).is_err() {
         return Err(Fail::from(io::Error::from(io::ErrorKind::Other)));
     }
     Ok(out.into_inner())
 }
 
-fn joined(alloc: Global, files: &[&[u8]]) -> Result<Vec<u8>, Fail> {
+pub fn join_of(alloc: Global, files: &[&[u8]]) -> Result<BlockTable, Fail> {
     let mut inputs = Vec::new(alloc);
     for file in files {
         inputs.push(Reader::new(*file))?;
     }
     match join_inputs(alloc, inputs.as_mut_slice()) {
-        Ok(table) => written(alloc, &table),
+        Ok(table) => Ok(table),
         Err(e) => Err(Fail::from(e.error)),
     }
+}
+
+fn joined(alloc: Global, files: &[&[u8]]) -> Result<Vec<u8>, Fail> {
+    written(alloc, &join_of(alloc, files)?)
 }
 
 #[test]
@@ -365,7 +370,7 @@ fn a_sink_fails_after_each_byte(rt: HostRuntime) -> Result<(), Fail> {
             most: 7,
             good,
         });
-        let outcome = write_table(&table, &mut out);
+        let outcome = write_table_v1(&table, &mut out);
         assert_eq!(rt; outcome.is_ok(), good == DISPUTED.len(), "fails at {good}");
         assert_eq!(rt; out.into_inner().taken.as_slice(), &DISPUTED[..good]);
     }
@@ -387,6 +392,7 @@ fn want_of_memory_is_named(rt: HostRuntime) -> Result<(), Fail> {
         Ok(table) => {
             assert_eq!(rt; table.known(), 2);
             let mut out = Writer::new(io::sink());
+            assert!(rt; write_table_v1(&table, &mut out).is_ok());
             assert!(rt; write_table(&table, &mut out).is_ok());
         }
         Err(e) => assert_eq!(rt; e.error.fault, ReadingFault::OutOfMemory),
@@ -401,6 +407,7 @@ fn a_header_fault_needs_no_memory(rt: HostRuntime) -> Result<(), Fail> {
     for bytes in [
         b"UDFREAD1\x00\x04\x00\x00".as_slice(),
         b"UDFTABL1\x00\x04\x00\x00".as_slice(),
+        b"UDFTABL2\x00\x04\x00\x00".as_slice(),
     ] {
         let found = fault_of(read_input(alloc, &mut Reader::new(bytes)));
         assert_eq!(rt; found, Some((ReadingFault::BlockSize, 0)));

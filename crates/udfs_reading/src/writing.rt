@@ -1,10 +1,11 @@
-//! Table files are written: the one spelling of a table.
+//! Table files of version 1 are written: the one spelling of a table in it. And what writing a file of either
+//! version takes.
 
 ghost use Rattle.std.specs.Prelude.{◌≡◌, ◌+◌, ◌++◌, ◌≤◌, [], ◌∷◌, length, OnOk};
 ghost use Rattle.udfs_lattice.specs.States.{fact_now};
 ghost use Rattle.udfs_lattice.specs.Tables.{entries_of};
-ghost use Rattle.udfs_reading.specs.Format.{number};
-ghost use Rattle.udfs_reading.specs.TableFile.{table_header, state_bytes, table_bytes};
+ghost use Rattle.udfs_reading.specs.Format.{number, header};
+ghost use Rattle.udfs_reading.specs.TableFile.{state_bytes, table_bytes_v1};
 ghost use Rattle.udfs_reading.specs.Writing.{Writes, Passes};
 
 use crate::device::Sink;
@@ -39,7 +40,7 @@ pub fn write_all<W: Sink>(sink: &mut W, bytes: &[u8]) -> Result<(), WriteFault>
 
 /// Bytes that are still to be written. They stand in a piece of their own, and no memory is asked for.
 #[derive(Drop)]
-struct Outgoing {
+pub struct Outgoing {
     bytes: [u8; 262_144],
     len: usize,
 }
@@ -55,7 +56,7 @@ impl Model for Outgoing {
 }
 
 impl Outgoing {
-    fn new() -> Self
+    pub fn new() -> Self
         ensures { result ≡ [] }
     {
         Outgoing {
@@ -65,7 +66,7 @@ impl Outgoing {
     }
 
     /// Writes all bytes that are held.
-    fn flush<W: Sink>(&mut self, sink: &mut W) -> Result<(), WriteFault>
+    pub fn flush<W: Sink>(&mut self, sink: &mut W) -> Result<(), WriteFault>
         ensures written { Writes (W.contents sink.old) (W.contents sink.new) (W.faults sink.old) (W.faults sink.new) self.old result }
         ensures empty { OnOk result (self.new ≡ []) }
     {
@@ -85,7 +86,7 @@ impl Outgoing {
     }
 
     /// Takes these bytes to be written, and writes what is held before where there is no room for them.
-    fn push<W: Sink>(&mut self, sink: &mut W, bytes: &[u8]) -> Result<(), WriteFault>
+    pub fn push<W: Sink>(&mut self, sink: &mut W, bytes: &[u8]) -> Result<(), WriteFault>
         requires { length bytes.now ≤ 2048 }
         ensures { Passes (W.contents sink.old) (W.contents sink.new) (W.faults sink.old) (W.faults sink.new) self.old self.new bytes.now result }
     {
@@ -97,7 +98,7 @@ impl Outgoing {
     }
 }
 
-fn write_number<W: Sink>(out: &mut Outgoing, sink: &mut W, n: u32) -> Result<(), WriteFault>
+pub fn write_number<W: Sink>(out: &mut Outgoing, sink: &mut W, n: u32) -> Result<(), WriteFault>
     ensures { Passes (W.contents sink.old) (W.contents sink.new) (W.faults sink.old) (W.faults sink.new) out.old out.new (number n) result }
 {
     let mut bytes = [0; 4];
@@ -127,10 +128,16 @@ fn write_state<W: Sink>(
     }
 }
 
-fn write_header<W: Sink>(out: &mut Outgoing, sink: &mut W, count: u32) -> Result<(), WriteFault>
-    ensures { Passes (W.contents sink.old) (W.contents sink.new) (W.faults sink.old) (W.faults sink.new) out.old out.new (table_header count) result }
+/// The header of a file with this magic.
+pub fn write_header<W: Sink>(
+    out: &mut Outgoing,
+    sink: &mut W,
+    magic: &[u8; 8],
+    count: u32,
+) -> Result<(), WriteFault>
+    ensures { Passes (W.contents sink.old) (W.contents sink.new) (W.faults sink.old) (W.faults sink.new) out.old out.new (header magic.now count) result }
 {
-    out.push(sink, b"UDFTABL1")?;
+    out.push(sink, magic)?;
     write_number(out, sink, 2048)?;
     write_number(out, sink, count)?;
     Ok(())
@@ -161,24 +168,24 @@ fn write_entries<W: Sink>(
     sink: &mut W,
     table: &BlockTable,
 ) -> Result<(), WriteFault>
-    ensures { Passes (W.contents sink.old) (W.contents sink.new) (W.faults sink.old) (W.faults sink.new) out.old out.new (table_bytes table.now) result }
+    ensures { Passes (W.contents sink.old) (W.contents sink.new) (W.faults sink.old) (W.faults sink.new) out.old out.new (table_bytes_v1 table.now) result }
 {
     let count = count_entries(table);
-    write_header(out, sink, count)?;
+    write_header(out, sink, b"UDFTABL1", count)?;
     for (block, fact) in table.entries() {
         write_entry(out, sink, block, fact)?;
     }
     Ok(())
 }
 
-/// Writes the table file of the table: `UDFTABL1`, the block size, the number of entries, and each
-/// entry in the order of the block numbers. It takes no memory.
+/// Writes the table file of the table in version 1: `UDFTABL1`, the block size, the number of entries, and
+/// each entry in the order of the block numbers. It takes no memory.
 ///
 /// # Errors
 ///
 /// `WriteFault` exactly where the sink failed. Then a beginning of the file is out.
-pub fn write_table<W: Sink>(table: &BlockTable, sink: &mut W) -> Result<(), WriteFault>
-    ensures { Writes (W.contents sink.old) (W.contents sink.new) (W.faults sink.old) (W.faults sink.new) (table_bytes table.now) result }
+pub fn write_table_v1<W: Sink>(table: &BlockTable, sink: &mut W) -> Result<(), WriteFault>
+    ensures { Writes (W.contents sink.old) (W.contents sink.new) (W.faults sink.old) (W.faults sink.new) (table_bytes_v1 table.now) result }
 {
     let mut out = Outgoing::new();
     write_entries(&mut out, sink, table)?;

@@ -1,19 +1,21 @@
 //! The program as a function: words and files in, a status out.
 
-ghost use Rattle.std.specs.Prelude.{◌≡◌, ◌≢◌, ◌⊎◌, ℕ, Bool, List, Ok, IfOk, IfErr, OnErr, cond};
+ghost use Rattle.std.specs.Prelude.{◌≡◌, ◌≢◌, ◌⊎◌, ℕ, Bool, List, Some, None, Ok, IfOk, IfErr, OnErr, codes, cond};
+ghost use Rattle.clap.specs.Matches.{found_of, one_text};
 ghost use Rattle.std.specs.Io.KnownBytes.{Appends};
 ghost use Rattle.udfs_lattice.specs.Tables.{Table};
 ghost use Rattle.udfs_lattice.specs.Records.{join_all};
 ghost use Rattle.udfs_reading.specs.Several.{TablesAre};
-ghost use Rattle.udfs_reading.specs.TableFile.{table_bytes};
 ghost use Rattle.udfs_salvage.specs.Running.{OfJoin, PrintsOf};
+ghost use Rattle.udfsalvage.specs.Spelling.{table_file};
+ghost use Rattle.udfsalvage.specs.declared.merge.Version.{Version};
 
 use crate::files::Files;
-use crate::merge::merge;
+use crate::merge::{Version, merge};
 use crate::printing::send;
 use crate::refusal::Refusal;
 use crate::report::report;
-use crate::words::{INPUTS, LAST, OUT, grammar};
+use crate::words::{INPUTS, LAST, OUT, V1, grammar};
 use clap::error::ErrorKind;
 use clap::{ArgMatches, Error};
 use std::alloc::{AllocError, Global};
@@ -79,13 +81,25 @@ fn merge_words<F: Files>(
     words: &ArgMatches<'_>,
     files: &mut F,
 ) -> Result<F::Output, Refusal>
-    ensures written { IfOk result (λ output. (sources : List F.Input) × (before : F.Output) × (tables : List Table) ×
-        TablesAre F.Input.remaining sources tables × Appends (F.Output.contents before) (F.Output.contents output) (table_bytes (join_all tables))) }
+    ensures written { IfOk result (λ output. (sources : List F.Input) × (before : F.Output) × (version : Version) × (tables : List Table) ×
+        TablesAre F.Input.remaining sources tables × Appends (F.Output.contents before) (F.Output.contents output) (table_file version (join_all tables))) }
     ensures untouched { IfErr result (λ refusal. refusal ≢ Refusal.Output → files.new ≡ files.old) }
 {
     let inputs = words.get_strs(INPUTS).unwrap_or(&[]);
     let out = words.get_str(OUT).unwrap_or("");
-    merge(alloc, inputs, out, files)
+    merge(alloc, inputs, out, asked_version(words), files)
+}
+
+/// The version of the table file that the words after `merge` ask for: 1 with `--v1`, and else 2.
+fn asked_version(words: &ArgMatches<'_>) -> Version
+    ensures unset { one_text (found_of words.now) (codes "v1") ≡ None → result ≡ Version.Two }
+    ensures without { one_text (found_of words.now) (codes "v1") ≡ Some (codes "false") → result ≡ Version.Two }
+    ensures with { one_text (found_of words.now) (codes "v1") ≡ Some (codes "true") → result ≡ Version.One }
+{
+    if words.get_flag(V1) {
+        return Version::One;
+    }
+    Version::Two
 }
 
 /// Does what the words after `report` ask for.

@@ -5,4 +5,5 @@ mod memory;
 mod merging;
 mod refusals;
 mod reporting;
+mod versions;
 mod words;

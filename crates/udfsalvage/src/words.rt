@@ -12,6 +12,9 @@ pub const OUT: &str = "out";
 /// The last block's id among the matches.
 pub const LAST: &str = "last";
 
+/// The id of the flag for version 1.
+pub const V1: &str = "v1";
+
 /// The commands and what they take.
 pub fn grammar<'a>(alloc: Global) -> Result<Command<'a>, AllocError> {
     Command::new(alloc, "udfsalvage")
@@ -22,7 +25,7 @@ pub fn grammar<'a>(alloc: Global) -> Result<Command<'a>, AllocError> {
         .subcommand(report(alloc)?)
 }
 
-/// `merge --out FILE IN...`
+/// `merge [--v1] --out FILE IN...`
 fn merge<'a>(alloc: Global) -> Result<Command<'a>, AllocError> {
     let out = Arg::new(alloc, OUT)
         .long("out")
@@ -30,9 +33,14 @@ fn merge<'a>(alloc: Global) -> Result<Command<'a>, AllocError> {
         .help("The table file to write, over an old one")
         .required(true)
         .action(ArgAction::Set);
+    let v1 = Arg::new(alloc, V1)
+        .long("v1")
+        .help("Write the table file in version 1, the old form")
+        .action(ArgAction::SetTrue);
     Command::new(alloc, "merge")
         .about("Joins readings and table files into one table file")
         .arg(out)?
+        .arg(v1)?
         .arg(inputs(alloc))
 }
 

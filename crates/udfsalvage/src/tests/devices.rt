@@ -4,7 +4,7 @@ use super::memory::{Memory, ran, reading, table};
 use std::alloc::{AllocError, Global};
 use std::test::Fail;
 
-const WORDS: &str = "merge --out t.tab two.rd";
+const WORDS: &str = "merge --v1 --out t.tab two.rd";
 
 /// The reading of two records, and an old output.
 fn prepared(alloc: Global) -> Result<Memory, AllocError> {

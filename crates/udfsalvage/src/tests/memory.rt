@@ -126,6 +126,36 @@ impl Memory {
         }
     }
 
+    /// How long the file is, 0 where there is none.
+    pub fn len(&self, path: &str) -> usize {
+        match self.find(path) {
+            Some(file) => match file.try_borrow() {
+                Ok(held) => held.len(),
+                Err(_) => 0,
+            },
+            None => 0,
+        }
+    }
+
+    /// Whether these bytes stand at this place of the file.
+    pub fn holds(&self, path: &str, at: usize, bytes: &[u8]) -> bool {
+        let end = at.saturating_add(bytes.len());
+        match self.find(path) {
+            Some(file) => {
+                matches!(file.try_borrow(), Ok(held) if held.get(at..end) == Some(bytes))
+            }
+            None => false,
+        }
+    }
+
+    /// Whether two files are there and have the same bytes.
+    pub fn same(&self, one: &str, other: &str) -> bool {
+        match self.find(one) {
+            Some(file) => matches!(file.try_borrow(), Ok(held) if self.has(other, held.as_slice())),
+            None => false,
+        }
+    }
+
     fn find(&self, path: &str) -> Option<&Shared> {
         for stored in &self.stored {
             if stored.path.as_str() == path {
@@ -245,7 +275,7 @@ fn text_of(alloc: Global, bytes: &Shared) -> Result<String, AllocError> {
 }
 
 /// A header: the magic, the block size 2048 and the count.
-fn header(alloc: Global, magic: &[u8; 8], count: usize) -> Result<Vec<u8>, AllocError> {
+pub fn header(alloc: Global, magic: &[u8; 8], count: usize) -> Result<Vec<u8>, AllocError> {
     let mut bytes = Vec::from_slice(alloc, magic)?;
     bytes.extend_from_slice(&[0, 8, 0, 0])?;
     bytes.extend_from_slice(&number(count as u64))?;
@@ -253,7 +283,7 @@ fn header(alloc: Global, magic: &[u8; 8], count: usize) -> Result<Vec<u8>, Alloc
 }
 
 /// The low 32 bits of a number, little-endian.
-fn number(number: u64) -> [u8; 4] {
+pub fn number(number: u64) -> [u8; 4] {
     let [a, b, c, d, ..] = number.to_le_bytes();
     [a, b, c, d]
 }

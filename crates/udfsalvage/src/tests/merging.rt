@@ -10,10 +10,10 @@ fn order_and_repetition_change_nothing(rt: HostRuntime) -> Result<(), Fail> {
     let whole = table(alloc, &[(300, 0x61), (301, 0x62)])?;
     assert_eq!(rt; whole.len(), 4122);
     for words in [
-        "merge --out t.tab a.rd b.rd",
-        "merge --out t.tab b.rd a.rd",
-        "merge --out t.tab a.rd b.rd a.rd",
-        "merge a.rd b.rd --out=t.tab",
+        "merge --v1 --out t.tab a.rd b.rd",
+        "merge --v1 --out t.tab b.rd a.rd",
+        "merge --v1 --out t.tab a.rd b.rd a.rd",
+        "merge a.rd b.rd --out=t.tab --v1",
     ] {
         let mut memory = passes(alloc)?;
         let ran = ran(alloc, &mut memory, words)?;
@@ -29,7 +29,7 @@ fn the_split_over_files_changes_nothing(rt: HostRuntime) -> Result<(), Fail> {
     let mut memory = passes(alloc)?;
     let both = reading(alloc, &[(301, 0x62), (300, 0x61), (301, 0x62)])?;
     memory.store("both.rd", both.as_slice())?;
-    let ran = ran(alloc, &mut memory, "merge --out t.tab both.rd")?;
+    let ran = ran(alloc, &mut memory, "merge --v1 --out t.tab both.rd")?;
     assert!(rt; ran.is_silent(), "{ran:?}");
     let whole = table(alloc, &[(300, 0x61), (301, 0x62)])?;
     assert!(rt; memory.has("t.tab", whole.as_slice()));
@@ -40,9 +40,9 @@ fn the_split_over_files_changes_nothing(rt: HostRuntime) -> Result<(), Fail> {
 fn a_dispute_is_an_entry_of_five_bytes(rt: HostRuntime) -> Result<(), Fail> {
     let alloc = rt.alloc();
     for words in [
-        "merge --out t.tab a.rd c.rd a.rd",
-        "merge --out t.tab c.rd a.rd",
-        "merge --out t.tab a.rd a.rd c.rd",
+        "merge --v1 --out t.tab a.rd c.rd a.rd",
+        "merge --v1 --out t.tab c.rd a.rd",
+        "merge --v1 --out t.tab a.rd a.rd c.rd",
     ] {
         let mut memory = passes(alloc)?;
         let ran = ran(alloc, &mut memory, words)?;
@@ -64,7 +64,7 @@ fn no_record_makes_an_empty_table(rt: HostRuntime) -> Result<(), Fail> {
         0x55, 0x44, 0x46, 0x52, 0x45, 0x41, 0x44, 0x31, 0, 8, 0, 0, 0, 0, 0, 0,
     ];
     memory.store("empty.rd", &empty)?;
-    let ran = ran(alloc, &mut memory, "merge --out t.tab empty.rd")?;
+    let ran = ran(alloc, &mut memory, "merge --v1 --out t.tab empty.rd")?;
     assert!(rt; ran.is_silent(), "{ran:?}");
     let bytes = [
         0x55, 0x44, 0x46, 0x54, 0x41, 0x42, 0x4C, 0x31, 0, 8, 0, 0, 0, 0, 0, 0,
@@ -77,7 +77,7 @@ fn no_record_makes_an_empty_table(rt: HostRuntime) -> Result<(), Fail> {
 fn the_output_may_be_an_input(rt: HostRuntime) -> Result<(), Fail> {
     let alloc = rt.alloc();
     let mut memory = passes(alloc)?;
-    let ran = ran(alloc, &mut memory, "merge --out b.rd a.rd b.rd")?;
+    let ran = ran(alloc, &mut memory, "merge --v1 --out b.rd a.rd b.rd")?;
     assert!(rt; ran.is_silent(), "{ran:?}");
     let whole = table(alloc, &[(300, 0x61), (301, 0x62)])?;
     assert!(rt; memory.has("b.rd", whole.as_slice()));
@@ -89,7 +89,7 @@ fn nothing_of_an_old_output_is_left(rt: HostRuntime) -> Result<(), Fail> {
     let alloc = rt.alloc();
     let mut memory = passes(alloc)?;
     memory.store("t.tab", &[0x77; 9000])?;
-    let ran = ran(alloc, &mut memory, "merge --out t.tab b.rd")?;
+    let ran = ran(alloc, &mut memory, "merge --v1 --out t.tab b.rd")?;
     assert!(rt; ran.is_silent(), "{ran:?}");
     let whole = table(alloc, &[(301, 0x62)])?;
     assert!(rt; memory.has("t.tab", whole.as_slice()));
@@ -108,7 +108,7 @@ fn a_table_of_many_pieces_is_whole(rt: HostRuntime) -> Result<(), Fail> {
     memory.store("many.rd", reading(alloc, records.as_slice())?.as_slice())?;
     for most in [usize::MAX, 1000, 262_144, 262_143] {
         memory.outputs.most = most;
-        let ran = ran(alloc, &mut memory, "merge --out t.tab many.rd")?;
+        let ran = ran(alloc, &mut memory, "merge --v1 --out t.tab many.rd")?;
         assert!(rt; ran.is_silent(), "{most}: {ran:?}");
         let whole = table(alloc, records.as_slice())?;
         assert_eq!(rt; whole.len(), 1_231_816);
@@ -134,24 +134,24 @@ fn a_pass_is_merged_into_an_earlier_table(rt: HostRuntime) -> Result<(), Fail> {
     let expected = disputed(alloc)?;
     for (first, second) in [
         (
-            "merge --out t.tab a.rd b.rd c.rd",
-            "merge --out t.tab t.tab",
+            "merge --v1 --out t.tab a.rd b.rd c.rd",
+            "merge --v1 --out t.tab t.tab",
         ),
         (
-            "merge --out t.tab a.rd b.rd",
-            "merge --out t.tab t.tab c.rd",
+            "merge --v1 --out t.tab a.rd b.rd",
+            "merge --v1 --out t.tab t.tab c.rd",
         ),
         (
-            "merge --out t.tab a.rd b.rd",
-            "merge --out t.tab c.rd t.tab b.rd",
+            "merge --v1 --out t.tab a.rd b.rd",
+            "merge --v1 --out t.tab c.rd t.tab b.rd",
         ),
         (
-            "merge --out t.tab c.rd",
-            "merge --out t.tab b.rd t.tab a.rd",
+            "merge --v1 --out t.tab c.rd",
+            "merge --v1 --out t.tab b.rd t.tab a.rd",
         ),
         (
-            "merge --out t.tab a.rd c.rd",
-            "merge --out t.tab t.tab b.rd a.rd t.tab",
+            "merge --v1 --out t.tab a.rd c.rd",
+            "merge --v1 --out t.tab t.tab b.rd a.rd t.tab",
         ),
     ] {
         let mut memory = passes(alloc)?;

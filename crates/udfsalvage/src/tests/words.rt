@@ -19,6 +19,11 @@ fn help_and_version_go_to_standard_output(rt: HostRuntime) -> Result<(), Fail> {
         (
             "merge --help",
             "Joins readings and table files into one table file",
+            "--v1",
+        ),
+        (
+            "merge --help",
+            "Joins readings and table files into one table file",
             "<IN>...",
         ),
         (
@@ -58,6 +63,10 @@ fn a_fault_of_the_words_is_told_and_changes_nothing(rt: HostRuntime) -> Result<(
         (
             "merge --oot t.tab a.rd",
             "error: unexpected argument '--oot' found",
+        ),
+        (
+            "merge --v1 --v1 --out t.tab a.rd",
+            "error: the argument '--v1' cannot be used multiple times",
         ),
         (
             "merge --out a.rd --out b.rd c.rd",

@@ -1,26 +1,37 @@
-use Rattle.std.proofs.Common.{[], refl, sym, ◌∙◌}
+use Rattle.std.proofs.Common.{false, refl, sym, ◌∙◌}
 use Rattle.std.proofs.lemmas.Result.{err_from_is_err_and}
-use Rattle.std.proofs.KnownBytes.{Consumes-nil}
-use Rattle.udfs_reading.specs.Format.{AtMagic}
 use Rattle.udfs_reading.specs.TableFile.{table_magic}
-use Rattle.udfs_reading.specs.TableReading.{table_format, tables}
-use Rattle.udfs_reading.proofs.Ends.{ends_cut}
-use Rattle.udfs_reading.proofs.Magics.{ends_magic, ends_behind, takes_behind}
+use Rattle.udfs_reading.specs.TableReading.{tables_v1}
+use Rattle.udfs_reading.specs.PacketFile.{packet_magic}
+use Rattle.udfs_reading.specs.PacketReading.{tables_v2}
+use Rattle.udfs_reading.specs.Inputs.{tables}
+use Rattle.udfs_reading.proofs.Magics.{ends_behind, takes_behind, v1_at, v2_at, ends_input, takes_input, ends_input_cut, ends_input_magic}
 use Rattle.udfs_reading.proofs.input.join_table.Goals as goal
 
 pub returns-in_err-magic-clause-err : goal.returns-in_err-magic-clause-err
 returns-in_err-magic-clause-err g c =
     let p = err_from_is_err_and c.from_residual.result c.from_residual.ensures.1 in
-    rw (p.1, p.2) (ends_cut table_format AtMagic [] [] tt refl refl (Consumes-nil _) refl c.in_err-magic.ensures.err)
+    rw (p.1, p.2) (ends_input_cut false c.in_err-magic.ensures.err)
 
 pub returns-in_err-read_body-clause-err : goal.returns-in_err-read_body-clause-err
 returns-in_err-read_body-clause-err g c =
     let p = err_from_is_err_and c.from_residual-in_err-read_body.result c.from_residual-in_err-read_body.ensures.1 in
-    rw (p.1, p.2) (ends_behind tables table_magic c.in_ok-magic.magic c.in_ok-magic.ensures.bytes c.in_ok-magic.ensures.count (sym c.names_table.ensures ∙ c.if-names_table.true) c.in_err-read_body.ensures.err)
+    rw (p.1, p.2) (ends_behind tables table_magic c.in_ok-magic.magic c.in_ok-magic.ensures.bytes c.in_ok-magic.ensures.count (sym c.names_table.ensures ∙ c.if-names_table.true) (ends_input false tables_v1 table_magic (v1_at false) c.in_err-read_body.ensures.err))
 
 pub returns-then-names_table-clause-ok : goal.returns-then-names_table-clause-ok
-returns-then-names_table-clause-ok g c = takes_behind tables table_magic c.in_ok-magic.magic c.in_ok-magic.ensures.bytes (sym c.names_table.ensures ∙ c.if-names_table.true) c.in_ok-read_body.ensures.ok
+returns-then-names_table-clause-ok g c =
+    takes_behind tables table_magic c.in_ok-magic.magic c.in_ok-magic.ensures.bytes (sym c.names_table.ensures ∙ c.if-names_table.true) (takes_input false tables_v1 table_magic (v1_at false) c.in_ok-read_body.ensures.ok)
+
+pub returns-in_err-read_body-2-clause-err : goal.returns-in_err-read_body-2-clause-err
+returns-in_err-read_body-2-clause-err g c =
+    let p = err_from_is_err_and c.from_residual-in_err-read_body-2.result c.from_residual-in_err-read_body-2.ensures.1 in
+    rw (p.1, p.2) (ends_behind tables packet_magic c.in_ok-magic.magic c.in_ok-magic.ensures.bytes c.in_ok-magic.ensures.count (sym c.names_packets.ensures ∙ c.if-names_packets.true) (ends_input false tables_v2 packet_magic (v2_at false) c.in_err-read_body-2.ensures.err))
+
+pub returns-then-names_packets-clause-ok : goal.returns-then-names_packets-clause-ok
+returns-then-names_packets-clause-ok g c =
+    takes_behind tables packet_magic c.in_ok-magic.magic c.in_ok-magic.ensures.bytes (sym c.names_packets.ensures ∙ c.if-names_packets.true) (takes_input false tables_v2 packet_magic (v2_at false) c.in_ok-read_body-2.ensures.ok)
 
 pub returns-clause-err : goal.returns-clause-err
 returns-clause-err g c =
-    ends_magic table_format c.in_ok-magic.magic c.in_ok-magic.ensures.bytes c.in_ok-magic.ensures.count c.in_ok-magic.ensures.eight (sym c.names_table.ensures ∙ c.if-names_table.false)
+    ends_input_magic false c.in_ok-magic.magic c.in_ok-magic.ensures.bytes c.in_ok-magic.ensures.count c.in_ok-magic.ensures.eight
+    refl (sym c.names_table.ensures ∙ c.if-names_table.false) (sym c.names_packets.ensures ∙ c.if-names_packets.false)

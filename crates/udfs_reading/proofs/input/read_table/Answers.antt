@@ -1,5 +1,5 @@
-use Rattle.udfs_reading.specs.TableReading.{tables}
-use Rattle.udfs_reading.proofs.Outcomes.{tables_laws, public_written}
+use Rattle.udfs_reading.specs.Inputs.{tables}
+use Rattle.udfs_reading.proofs.Outcomes.{tables_laws, public_written, public_written_v1}
 use Rattle.udfs_reading.proofs.Public.{whole_from, public_table, public_fault, public_file, public_faulty, public_io, public_kept, public_cut}
 use Rattle.udfs_reading.proofs.input.read_table.Goals as goal
 
@@ -21,4 +21,5 @@ returns g c =
       kept = public_kept tables old new i j r whole;
       cut = public_cut tables old new i j r whole;
       written = public_written old r (public_file tables tables_laws old new i j r whole);
+      written_v1 = public_written_v1 old r (public_file tables tables_laws old new i j r whole);
     }

@@ -1,6 +1,5 @@
-use Rattle.udfs_reading.specs.Inputs.{inputs}
+use Rattle.udfs_reading.specs.Inputs.{tables, inputs}
 use Rattle.udfs_reading.specs.Reading.{readings}
-use Rattle.udfs_reading.specs.TableReading.{tables}
 use Rattle.udfs_reading.proofs.Outcomes.{readings_laws, tables_laws, inputs_laws}
 use Rattle.udfs_reading.proofs.Public.{outcome}
 use Rattle.udfs_reading.proofs.laws.one_outcome.Goals as goal

@@ -5,7 +5,7 @@ use Rattle.std.specs.Io.KnownBytes.{Consumes}
 use Rattle.std.proofs.KnownBytes.{Consumes-trans}
 use Rattle.udfs_lattice.specs.Records.{table_of_entries}
 use Rattle.udfs_reading.specs.TableFile.{table_magic, entry_bytes}
-use Rattle.udfs_reading.specs.TableReading.{table_format, tables, AtTableEnd}
+use Rattle.udfs_reading.specs.TableReading.{table_format, tables_v1, AtTableEnd}
 use Rattle.udfs_reading.specs.Format.{number}
 use Rattle.udfs_reading.proofs.Ends.{ends_after, ends_bare, ends_end}
 use Rattle.udfs_reading.proofs.Entries.{whole_table_front, is_table_file}
@@ -20,7 +20,7 @@ pub returns-in_err-read_entries-clause-err : goal.returns-in_err-read_entries-cl
 returns-in_err-read_entries-clause-err g c =
     let p = err_from_is_err_and c.from_residual-in_err-read_entries.result c.from_residual-in_err-read_entries.ensures.1 in
     let n = c.in_ok-count.count in
-    rw (p.1, p.2) (ends_after tables table_magic (number 2048 ++ number n) c.in_ok-count.ensures.bytes c.in_ok-count.ensures.count
+    rw (p.1, p.2) (ends_after tables_v1 table_magic (number 2048 ++ number n) c.in_ok-count.ensures.bytes c.in_ok-count.ensures.count
     (rw (← whole_table_front n) c.in_err-read_entries.ensures.err))
 
 pub returns-in_err-read_end-clause-err : goal.returns-in_err-read_end-clause-err
@@ -31,7 +31,7 @@ returns-in_err-read_end-clause-err g c =
     let got = (number 2048 ++ number n) ++ flat_map entry_bytes t.taken in
     let fits : n < 2 ^ 32 = search rules in
     let file = is_table_file n t.taken t.many t.rises in
-    rw (p.1, p.2) (ends_after tables table_magic got
+    rw (p.1, p.2) (ends_after tables_v1 table_magic got
     (Consumes-trans _ _ _ (number 2048 ++ number n) (flat_map entry_bytes t.taken) c.in_ok-count.ensures.bytes t.given)
     (c.in_ok-read_entries.ensures.count ∙ c.in_ok-count.ensures.count)
     (ends_end table_format (AtTableEnd t.taken) (table_magic ++ got) (table_of_entries t.taken) (subst (λ (k : ℕ). k < 2 ^ 32) (sym t.many) fits, t.rises) file.2 (sym t.many) refl (λ more some. some) (file.0, file.1) c.in_err-read_end.ensures.err))

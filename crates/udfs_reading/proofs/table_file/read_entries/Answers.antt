@@ -4,7 +4,7 @@ use Rattle.std.specs.List.{flat_map}
 use Rattle.udfs_reading.specs.Device.{left}
 use Rattle.udfs_reading.specs.Format.{header}
 use Rattle.udfs_reading.specs.TableFile.{table_magic, entry_bytes}
-use Rattle.udfs_reading.specs.TableReading.{tables, TakesEntries}
+use Rattle.udfs_reading.specs.TableReading.{tables_v1, TakesEntries}
 use Rattle.udfs_reading.proofs.Ends.{ends_after}
 use Rattle.udfs_reading.proofs.Entries.{entries_none, entries_more}
 use Rattle.udfs_reading.proofs.table_file.read_entries.Goals as goal
@@ -25,7 +25,7 @@ returns-in_err-floor-clause-err g c =
     let so_far = c.loop-index.invariant.taken in
     let many = so_far.many in
     let more : length so_far.taken < c.args.count = omega arith in
-    rw (p.1, p.2) (ends_after tables (header table_magic c.args.count) (flat_map entry_bytes so_far.taken) so_far.given c.loop-index.invariant.kept
+    rw (p.1, p.2) (ends_after tables_v1 (header table_magic c.args.count) (flat_map entry_bytes so_far.taken) so_far.given c.loop-index.invariant.kept
     (c.in_err-floor.ensures.err c.args.count so_far.taken (record { more = more; fits = search rules; each = so_far.rises }) (omega arith) so_far.floor_is))
 
 pub returns-clause-ok : goal.returns-clause-ok

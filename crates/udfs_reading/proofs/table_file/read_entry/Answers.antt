@@ -4,7 +4,7 @@ use Rattle.std.proofs.KnownBytes.{Consumes-nil, Consumes-trans}
 use Rattle.udfs_reading.specs.declared.error.ReadingFault.TheVariants.{BlockNumber, Order}
 use Rattle.udfs_reading.specs.Format.{number, value_of, In}
 use Rattle.udfs_reading.specs.TableFile.{state_bytes}
-use Rattle.udfs_reading.specs.TableReading.{table_format, tables, entries_front, AtNumber}
+use Rattle.udfs_reading.specs.TableReading.{table_format, tables_v1, entries_front, AtNumber}
 use Rattle.udfs_reading.proofs.Numbers.{length-number, value_of-number}
 use Rattle.udfs_reading.proofs.Ends.{fault_at, ends_cut, ends_after}
 use Rattle.udfs_reading.proofs.table_file.read_entry.Goals as goal
@@ -37,7 +37,7 @@ returns-then-block-floor-clause-err g c count done under at floor =
 pub returns-in_err-read_state-clause-err : goal.returns-in_err-read_state-clause-err
 returns-in_err-read_state-clause-err g c =
     let p = err_from_is_err_and c.from_residual-in_err-read_state.result c.from_residual-in_err-read_state.ensures.1 in
-    rw (p.1, p.2) (λ count done under at floor. ends_after tables (entries_front count done) (number c.in_ok-block.block) c.in_ok-block.ensures.bytes c.in_ok-block.ensures.count (c.in_err-read_state.ensures.err count done under at (omega arith)))
+    rw (p.1, p.2) (λ count done under at floor. ends_after tables_v1 (entries_front count done) (number c.in_ok-block.block) c.in_ok-block.ensures.bytes c.in_ok-block.ensures.count (c.in_err-read_state.ensures.err count done under at (omega arith)))
 
 pub returns-clause-ok : goal.returns-clause-ok
 returns-clause-ok g c =

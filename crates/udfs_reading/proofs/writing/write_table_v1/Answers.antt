@@ -1,6 +1,6 @@
 use Rattle.std.proofs.lemmas.Result.{err_from_is_err_and}
 use Rattle.udfs_reading.proofs.WritingLemmas.{wrote_all, failed_last, failed_first}
-use Rattle.udfs_reading.proofs.writing.write_table.Goals as goal
+use Rattle.udfs_reading.proofs.writing.write_table_v1.Goals as goal
 
 pub returns-in_err-write_entries : goal.returns-in_err-write_entries
 returns-in_err-write_entries g c =

@@ -1,0 +1,33 @@
+use Rattle.std.proofs.Common.{◌*◌}
+use Rattle.std.specs.List.{flat_map}
+use Rattle.std.proofs.lemmas.Result.{err_from_is_err_and}
+use Rattle.udfs_reading.specs.PacketFile.{content, states_from}
+use Rattle.udfs_reading.proofs.WritingLemmas.{passed_then, failed_then, failed_more}
+use Rattle.udfs_reading.proofs.PacketWriting.{passed_number, failed_number}
+use Rattle.udfs_reading.proofs.packing.write_packet.Goals as goal
+
+pub returns-in_err-write_number : goal.returns-in_err-write_number
+returns-in_err-write_number g c =
+    let p = err_from_is_err_and c.from_residual.result c.from_residual.ensures.1 in
+    rw p.1 (failed_more _ c.in_err-write_number.ensures)
+
+pub returns-in_err-write_number-2 : goal.returns-in_err-write_number-2
+returns-in_err-write_number-2 g c =
+    let p = err_from_is_err_and c.from_residual-in_err-write_number-2.result c.from_residual-in_err-write_number-2.ensures.1 in
+    let blocks = flat_map content (states_from c.args.table.now (32 * c.args.packet) 32) in
+    rw p.1 (failed_then c.in_ok-write_number.ensures (failed_more blocks (failed_more _ (failed_number _ _ c.masks_of-masks.ensures.known c.in_err-write_number-2.ensures))))
+
+pub returns-in_err-write_number-3 : goal.returns-in_err-write_number-3
+returns-in_err-write_number-3 g c =
+    let p = err_from_is_err_and c.from_residual-in_err-write_number-3.result c.from_residual-in_err-write_number-3.ensures.1 in
+    let blocks = flat_map content (states_from c.args.table.now (32 * c.args.packet) 32) in
+    rw p.1 (failed_then c.in_ok-write_number.ensures (failed_more blocks (failed_then (passed_number _ _ c.masks_of-masks.ensures.known c.in_ok-write_number-2.ensures) (failed_number _ _ c.masks_of-masks.ensures.conflict c.in_err-write_number-3.ensures))))
+
+pub returns-in_err-write_blocks : goal.returns-in_err-write_blocks
+returns-in_err-write_blocks g c =
+    let p = err_from_is_err_and c.from_residual-in_err-write_blocks.result c.from_residual-in_err-write_blocks.ensures.1 in
+    rw p.1 (failed_then c.in_ok-write_number.ensures (failed_then (passed_then (passed_number _ _ c.masks_of-masks.ensures.known c.in_ok-write_number-2.ensures) (passed_number _ _ c.masks_of-masks.ensures.conflict c.in_ok-write_number-3.ensures)) c.in_err-write_blocks.ensures))
+
+pub returns : goal.returns
+returns g c =
+    passed_then c.in_ok-write_number.ensures (passed_then (passed_then (passed_number _ _ c.masks_of-masks.ensures.known c.in_ok-write_number-2.ensures) (passed_number _ _ c.masks_of-masks.ensures.conflict c.in_ok-write_number-3.ensures)) c.in_ok-write_blocks.ensures)

@@ -1,0 +1,16 @@
+use Rattle.std.proofs.lemmas.Result.{err_from_is_err_and}
+use Rattle.udfs_reading.proofs.WritingLemmas.{wrote_all, failed_last, failed_first}
+use Rattle.udfs_reading.proofs.packing.write_table.Goals as goal
+
+pub returns-in_err-write_packets : goal.returns-in_err-write_packets
+returns-in_err-write_packets g c =
+    let p = err_from_is_err_and c.from_residual.result c.from_residual.ensures.1 in
+    rw p.1 (failed_first c.new-out.ensures c.in_err-write_packets.ensures)
+
+pub returns-in_err-flush : goal.returns-in_err-flush
+returns-in_err-flush g c =
+    let p = err_from_is_err_and c.from_residual-in_err-flush.result c.from_residual-in_err-flush.ensures.1 in
+    rw p.1 (failed_last c.new-out.ensures c.in_ok-write_packets.ensures c.in_err-flush.ensures.written)
+
+pub returns : goal.returns
+returns g c = wrote_all c.new-out.ensures c.in_ok-write_packets.ensures c.in_ok-flush.ensures.written
