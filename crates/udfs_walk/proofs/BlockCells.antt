@@ -41,16 +41,18 @@ same_block q p h k = omega arith
 bytes_from : (v : View) (r b q p k : ℕ) → 2048 * q ≤ p → p + k ≤ 2048 * q + 2048 → missing_at (block_at v r (b + q)) ≡ None
     → AreBytes (map (recorded_cell v r b) (range_with_len p k))
 bytes_from v r b q p zero h m e = tt
-bytes_from v r b q p (suc k) h m e =
-    (byte_at (b + p / 2048) (p % 2048) (block_at v r (b + p / 2048)) (ap (λ z. missing_at (block_at v r (b + z))) (same_block q p h (omega (arith, m))) ∙ e),
-    bytes_from v r b q (p + 1) k (omega (arith, h)) (omega (arith, m)) e)
+bytes_from v r b q p (suc k) h m e = (
+  byte_at (b + p / 2048) (p % 2048) (block_at v r (b + p / 2048)) (ap (λ z. missing_at (block_at v r (b + z))) (same_block q p h (omega (arith, m))) ∙ e),
+  bytes_from v r b q (p + 1) k (omega (arith, h)) (omega (arith, m)) e,
+)
 
 gaps_from : (n : ℕ) (v : View) (r b q p k : ℕ) → 2048 * q ≤ p → p + k ≤ 2048 * q + 2048 → missing_at (block_at v r (b + q)) ≡ Some n
     → AreGapsOf n (map (recorded_cell v r b) (range_with_len p k))
 gaps_from n v r b q p zero h m e = tt
-gaps_from n v r b q p (suc k) h m e =
-    (gap_at n (b + p / 2048) (p % 2048) (block_at v r (b + p / 2048)) (ap (λ z. missing_at (block_at v r (b + z))) (same_block q p h (omega (arith, m))) ∙ e),
-    gaps_from n v r b q (p + 1) k (omega (arith, h)) (omega (arith, m)) e)
+gaps_from n v r b q p (suc k) h m e = (
+  gap_at n (b + p / 2048) (p % 2048) (block_at v r (b + p / 2048)) (ap (λ z. missing_at (block_at v r (b + z))) (same_block q p h (omega (arith, m))) ∙ e),
+  gaps_from n v r b q (p + 1) k (omega (arith, h)) (omega (arith, m)) e,
+)
 
 pub block_bytes : (v : View) (r b at k : ℕ) → at % 2048 + k ≤ 2048 → missing_at (block_at v r (b + at / 2048)) ≡ None
     → AreBytes (map (recorded_cell v r b) (range_with_len at k))

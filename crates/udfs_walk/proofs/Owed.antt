@@ -62,10 +62,10 @@ taken_owed v frames rest f g n b e t =
     ∙ ap (λ es. flat_map (λ e. tree v (inside f.path f.above e)) es ++ owed v rest) t.first
     ∙ ap (λ x. (x ++ flat_map (λ e. tree v (inside f.path f.above e)) g.left) ++ owed v rest) (tree_frame v (inside f.path f.above t.entry))
     ∙ ap (λ x. inside f.path f.above t.entry ∷ x) (
-        append_assoc (owed_frame v (frame_at v (inside f.path f.above t.entry))) (flat_map (λ e. tree v (inside f.path f.above e)) g.left) (owed v rest)
-        ∙ (λ i. owed_frame v (sym t.frame i) ++ (flat_map (λ e. tree v (inside (sym t.path i) (sym t.above i) e)) g.left ++ owed v rest))
-        ∙ ap (λ x. owed_frame v b ++ x) (sym (owed_last v rest g))
-        ∙ sym (owed_last v (rest ++ g ∷ []) b))
+    append_assoc (owed_frame v (frame_at v (inside f.path f.above t.entry))) (flat_map (λ e. tree v (inside f.path f.above e)) g.left) (owed v rest)
+    ∙ (λ i. owed_frame v (sym t.frame i) ++ (flat_map (λ e. tree v (inside (sym t.path i) (sym t.above i) e)) g.left ++ owed v rest))
+    ∙ ap (λ x. owed_frame v b ++ x) (sym (owed_last v rest g))
+    ∙ sym (owed_last v (rest ++ g ∷ []) b))
 
 pub walk_some : (v : View) (root : LongAd) (nodes more : List NodeFields) (frames rest next : List FrameFields) (f g : FrameFields) (n : NodeFields) (b : FrameFields)
     → IsWalking v root nodes frames → frames ≡ rest ++ f ∷ [] → IsNextTaken v f g n b → length nodes < 65536
@@ -83,8 +83,8 @@ pub walk_many : (v : View) (root : LongAd) (nodes : List NodeFields) (frames res
 walk_many v root nodes frames rest f g n b w e t h = tree_more v root 65536 (
     let all : length (map (node v) (tree v (at_root root))) ≡ length (tree v (at_root root)) = length-map (tree v (at_root root)) (node v) in
     let sum : length (map (node v) (tree v (at_root root))) ≡ length nodes + suc (length (map (node v) (owed v ((rest ++ g ∷ []) ++ b ∷ []))))
-        = ap length (w.all ∙ ap (λ x. nodes ++ map (node v) x) (taken_owed v frames rest f g n b e t))
-        ∙ length-append nodes (node v (inside f.path f.above t.entry) ∷ map (node v) (owed v ((rest ++ g ∷ []) ++ b ∷ []))) in
+    = ap length (w.all ∙ ap (λ x. nodes ++ map (node v) x) (taken_owed v frames rest f g n b e t))
+    ∙ length-append nodes (node v (inside f.path f.above t.entry) ∷ map (node v) (owed v ((rest ++ g ∷ []) ++ b ∷ []))) in
     omega (arith, all, sum, h))
 
 none_left : (xs : List FrameFields) → length xs ≡ 0 → xs ≡ []

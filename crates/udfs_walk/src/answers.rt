@@ -1,5 +1,6 @@
 //! What is told of nodes, and of entries that no name leads to.
 
+use crate::standings::Standing;
 use std::alloc::AllocError;
 use std::error::Error;
 use std::fmt;
@@ -7,8 +8,6 @@ use std::marker::Model;
 use udfs_file::Kind;
 use udfs_osta::{Name, Stamp};
 use udfs_tag::LongAd;
-
-use crate::standings::Standing;
 
 /// What is told of a node: of what stands at the end of one route from the root. Two equal names in a directory are
 /// two nodes, and so is every path to a file that has several.
@@ -36,13 +35,13 @@ impl Model for Node {
     ghost Value = { NodeFields };
 
     ghost view = { λ n. record {
-        path = n.path.items;
-        icb = n.icb;
-        kind = n.kind;
-        size = n.size;
-        stamp = n.stamp;
-        hidden = n.hidden;
-        standing = n.standing;
+      path = n.path.items;
+      icb = n.icb;
+      kind = n.kind;
+      size = n.size;
+      stamp = n.stamp;
+      hidden = n.hidden;
+      standing = n.standing;
     } };
 }
 

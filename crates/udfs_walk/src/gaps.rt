@@ -112,7 +112,12 @@ impl Gaps {
             (map (recorded_cell (view (state_of table.now) space.now) run.reference run.block) (range_with_len at count)) [] self.old self.new) }
         ensures place { IfOk result (λ done. self.new.start + self.new.grown ≡ self.old.start + self.old.grown + count) }
     {
-        match missing_at(table, space, run.reference, u64::from(run.block) + at / 2048) {
+        match missing_at(
+            table,
+            space,
+            run.reference,
+            u64::from(run.block) + at / 2048,
+        ) {
             None => {
                 self.pass_known(count)?;
                 Ok(())
@@ -149,7 +154,12 @@ impl Gaps {
     }
 
     /// Goes through the cells of a stretch.
-    fn pass(&mut self, table: &BlockTable, space: &Space, stretch: Stretch) -> Result<(), AllocError>
+    fn pass(
+        &mut self,
+        table: &BlockTable,
+        space: &Space,
+        stretch: Stretch,
+    ) -> Result<(), AllocError>
         requires { self.old.start + self.old.grown + stretch_count stretch < 2 ^ 64 }
         ensures passes { IfOk result (λ done. Leaves (stretch_cells (view (state_of table.now) space.now) stretch) [] self.old self.new) }
         ensures place { IfOk result (λ done. self.new.start + self.new.grown ≡ self.old.start + self.old.grown + stretch_count stretch) }
@@ -177,7 +187,9 @@ impl Gaps {
     {
         self.close()?;
         let Gaps {
-            mut missing, holes, ..
+            mut missing,
+            holes,
+            ..
         } = self;
         sort_once(&mut missing);
         if missing.len() == 0 {

@@ -17,3 +17,6 @@ pub use answers::{Node, NodesError, Unnamed};
 pub use rereads::reread;
 pub use standings::{Standing, Torn};
 pub use walks::nodes;
+
+#[cfg(test)]
+mod tests;

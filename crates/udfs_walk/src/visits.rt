@@ -15,8 +15,8 @@ ghost use Rattle.udfs_walk.specs.Routes.{kind_entries, entries_below};
 ghost use Rattle.udfs_walk.specs.Nodes.{node, told, untold};
 ghost use Rattle.udfs_walk.specs.Visits.{end_at};
 
-use crate::gaps::cells_standing;
 use crate::answers::Node;
+use crate::gaps::cells_standing;
 use crate::standings::{Standing, Torn};
 use crate::targets::{Target, target_at};
 use std::alloc::{AllocError, Global};
@@ -196,7 +196,12 @@ pub(crate) fn visited(
             let missing = vec![in alloc; n]?;
             let holes = Vec::new(alloc);
             Ok(Visit {
-                node: unread(address, path, hidden, Standing::Torn(Torn { missing, holes })),
+                node: unread(
+                    address,
+                    path,
+                    hidden,
+                    Standing::Torn(Torn { missing, holes }),
+                ),
                 entries: Vec::new(alloc),
             })
         }

@@ -23,11 +23,11 @@ loop-stretch-preserved c =
     let n = length-next (view (state_of c.args.table.now) c.args.space.now) c.stretches-stretches.result.now c.loop-stretch.stretch-index
     (Recorded (record { reference = 0; block = 0; offset = 0 }) 0) c.loop-stretch-test.true in
     record {
-  leaves = stretch_more (view (state_of c.args.table.now) c.args.space.now) c.stretches-stretches.result.now c.loop-stretch.stretch-index _ _
-      c.loop-stretch.gaps c.pass.new.self c.loop-stretch-test.true c.loop-stretch.invariant.leaves c.in_ok-pass.ensures.passes;
-  place = omega (arith, n, c.in_ok-pass.ensures.place, c.loop-stretch.invariant.place);
-  all = c.loop-stretch.invariant.all;
-}
+      leaves = stretch_more (view (state_of c.args.table.now) c.args.space.now) c.stretches-stretches.result.now c.loop-stretch.stretch-index _ _
+          c.loop-stretch.gaps c.pass.new.self c.loop-stretch-test.true c.loop-stretch.invariant.leaves c.in_ok-pass.ensures.passes;
+      place = omega (arith, n, c.in_ok-pass.ensures.place, c.loop-stretch.invariant.place);
+      all = c.loop-stretch.invariant.all;
+    }
 
 pub standing-requires : goal.standing-requires
 standing-requires c =

@@ -13,15 +13,15 @@ pub loop-node-preserved : goal.loop-node-preserved
 loop-node-preserved c = λ blocks.
     let v = view blocks c.args.space.now in
     elim c.match-address_fault.branch [
-    | in-Some w ↦ subst (AreNamed v (take (c.loop-node.node-index + 1) c.args.nodes.now)) (ap (λ k. k.items) (sym w.keys-is))
-        (named_skip v c.args.nodes.now c.loop-node.node-index c.node-item.result c.loop-node.keys.items w.in-Some.field-0 c.loop-node-test.true c.node-item.is
-        (w.in-Some.ensures blocks ∙ ap (λ n. address_fault v n.icb) c.node.view_is) (c.loop-node.invariant blocks))
-    | in-None+in_ok-push-in-None w ↦ subst (AreNamed v (take (c.loop-node.node-index + 1) c.args.nodes.now)) (ap (λ k. k.items) (sym w.keys-is))
-        (named_more v c.args.nodes.now c.loop-node.node-index c.node-item.result c.loop-node.keys.items w.push.new.self.items w.key.result c.loop-node-test.true c.node-item.is
-        (w.in-None.ensures blocks ∙ ap (λ n. address_fault v n.icb) c.node.view_is)
-        (w.key.ensures.value ∙ ap (λ n. key_of n.icb.reference n.icb.block) c.node.view_is)
-        (subst (λ n. n.icb.block < 4294967296) c.node.view_is w.key.ensures.block)
-        w.in_ok-push-in-None.ensures.items (c.loop-node.invariant blocks))
+      | in-Some w ↦ subst (AreNamed v (take (c.loop-node.node-index + 1) c.args.nodes.now)) (ap (λ k. k.items) (sym w.keys-is))
+          (named_skip v c.args.nodes.now c.loop-node.node-index c.node-item.result c.loop-node.keys.items w.in-Some.field-0 c.loop-node-test.true c.node-item.is
+          (w.in-Some.ensures blocks ∙ ap (λ n. address_fault v n.icb) c.node.view_is) (c.loop-node.invariant blocks))
+      | in-None+in_ok-push-in-None w ↦ subst (AreNamed v (take (c.loop-node.node-index + 1) c.args.nodes.now)) (ap (λ k. k.items) (sym w.keys-is))
+          (named_more v c.args.nodes.now c.loop-node.node-index c.node-item.result c.loop-node.keys.items w.push.new.self.items w.key.result c.loop-node-test.true c.node-item.is
+          (w.in-None.ensures blocks ∙ ap (λ n. address_fault v n.icb) c.node.view_is)
+          (w.key.ensures.value ∙ ap (λ n. key_of n.icb.reference n.icb.block) c.node.view_is)
+          (subst (λ n. n.icb.block < 4294967296) c.node.view_is w.key.ensures.block)
+          w.in_ok-push-in-None.ensures.items (c.loop-node.invariant blocks))
     ]
 
 pub returns-clause-named : goal.returns-clause-named

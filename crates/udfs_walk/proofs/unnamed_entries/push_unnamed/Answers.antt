@@ -10,8 +10,8 @@ pub loop-block-preserved : goal.loop-block-preserved
 loop-block-preserved c = λ nodes a.
     let f = unnamed_at (view (state_of c.args.table.now) c.args.space.now) nodes in
     elim c.match-branch-2.branch [
-    | in-Some+in_ok-push-in-Some w ↦ push_some f c.args.reference c.loop-block.block c.args.found.now.items c.loop-block.found.items c.match-branch-2.found.items w.in-Some.entry
-        (c.loop-block.invariant nodes a) (sym w.in-Some.is ∙ c.in_ok-entry.ensures nodes a) (ap (λ x. x.items) w.found-is ∙ w.in_ok-push-in-Some.ensures.items)
-    | in-None w ↦ ap (λ x. x.items) w.found-is ∙ push_none f c.args.reference c.loop-block.block c.args.found.now.items c.loop-block.found.items
-        (c.loop-block.invariant nodes a) (sym w.in-None.is ∙ c.in_ok-entry.ensures nodes a)
+      | in-Some+in_ok-push-in-Some w ↦ push_some f c.args.reference c.loop-block.block c.args.found.now.items c.loop-block.found.items c.match-branch-2.found.items w.in-Some.entry
+          (c.loop-block.invariant nodes a) (sym w.in-Some.is ∙ c.in_ok-entry.ensures nodes a) (ap (λ x. x.items) w.found-is ∙ w.in_ok-push-in-Some.ensures.items)
+      | in-None w ↦ ap (λ x. x.items) w.found-is ∙ push_none f c.args.reference c.loop-block.block c.args.found.now.items c.loop-block.found.items
+          (c.loop-block.invariant nodes a) (sym w.in-None.is ∙ c.in_ok-entry.ensures nodes a)
     ]
