@@ -1,17 +1,17 @@
 -- No bytes are two table files of version 2, or such a file and faulty, or have two first faults.
-use Rattle.std.proofs.Common.{◌≡◌, ◌≢◌, ℕ, zero, suc, ◌+◌, ◌-◌, ◌^◌, ◌<◌, ◌≤◌, Bool, true, false, cond, ltb, List, [], ◌∷◌, ◌++◌, length, take, drop, Ok, Err, refl, sym, ap, subst, ◌∙◌, append_assoc, append-nil, arith, length-append, inl, inr}
-use Rattle.std.specs.Prelude.{nat_lt, ◌==◌, if◌then◌else◌, ◌⊎◌}
-use Rattle.std.specs.List.{flat_map, AllByRecursion}
+use Rattle.std.proofs.Common.{◌≡◌, ℕ, zero, suc, ◌+◌, ◌-◌, ◌^◌, ◌<◌, ◌≤◌, Bool, true, false, cond, ltb, List, [], ◌∷◌, ◌++◌, length, drop, Ok, Err, refl, sym, ap, subst, ◌∙◌, append_assoc, append-nil, arith, length-append, inl, inr}
+use Rattle.std.specs.Prelude.{nat_lt, ◌==◌, if◌then◌else◌}
+use Rattle.std.specs.List.{flat_map}
 use Rattle.std.specs.Int.Bits.{bit_and}
 use Rattle.std.proofs.lemmas.Bool.{le-ltb, lt-ltb, eq-eqb, ne_eqb}
-use Rattle.std.proofs.lemmas.List.{take_at, drop_at}
+use Rattle.std.proofs.lemmas.List.{drop_at}
 use Rattle.udfs_lattice.specs.States.{State, is_known, is_conflict}
 use Rattle.udfs_reading.specs.declared.error.ReadingFault.{ReadingFault}
 use Rattle.udfs_reading.specs.declared.error.ReadingFault.TheVariants as fault
 use Rattle.udfs_reading.specs.Format.{number, value_of, header, In, FaultHere, HasFault}
 use Rattle.udfs_reading.specs.Outcome.{HeaderIsSound}
 use Rattle.udfs_reading.specs.PacketFile.{packet_magic, Packet, mask_of, content, masks_bytes, packet_bytes}
-use Rattle.udfs_reading.specs.PacketReading.{IsHeld, AreStates, PacketsRise, low_after, Clash, AreMasks, size_of_blocks, packets_front, IsUnderPackets, PacketPlace, IsPacketPlace, before_packet_place, record_of_packet_place, AtPacket, AtMasks, AtBlocks, AtPacketsEnd, packet_format, tables_v2}
+use Rattle.udfs_reading.specs.PacketReading.{AreStates, PacketsRise, low_after, Clash, AreMasks, size_of_blocks, packets_front, IsUnderPackets, PacketPlace, IsPacketPlace, before_packet_place, record_of_packet_place, AtPacket, AtMasks, AtBlocks, AtPacketsEnd, packet_format, tables_v2}
 use Rattle.udfs_reading.proofs.Numbers.{length-number, value_of-number}
 use Rattle.udfs_reading.proofs.PacketMasks.{masks_apart, mask_below, some_mask, blocks_size, states_by, states_again}
 use Rattle.udfs_reading.proofs.JudgeHeader as header

@@ -19,7 +19,7 @@ use Rattle.udfs_reading.specs.TableFile.{table_magic}
 use Rattle.udfs_reading.specs.TableReading.{tables_v1}
 use Rattle.udfs_reading.specs.PacketFile.{packet_magic}
 use Rattle.udfs_reading.specs.PacketReading.{tables_v2}
-use Rattle.udfs_reading.specs.Inputs.{named, kind_by, files}
+use Rattle.udfs_reading.specs.Inputs.{named, files}
 use Rattle.udfs_reading.proofs.Ends.{fault_at, ends_after}
 use Rattle.udfs_reading.proofs.JudgeRecords.{length-magic}
 use Rattle.udfs_reading.proofs.JudgeEntries.{length-table_magic}

@@ -25,7 +25,7 @@ use Rattle.udfs_reading.proofs.JudgeRecords as records
 use Rattle.udfs_reading.proofs.JudgeEntries as entries
 use Rattle.udfs_reading.proofs.JudgePackets as packets
 use Rattle.udfs_reading.proofs.PacketTables.{rises-packets_of, few_packets, table_of_packets-packets_of}
-use Rattle.udfs_reading.proofs.Magics.{readings_at, v1_at, v2_at}
+use Rattle.udfs_reading.proofs.Magics.{v1_at, v2_at}
 use Rattle.udfs_reading.proofs.More.{fault_more, reading_goes_on, table_goes_on, packet_goes_on}
 use Rattle.udfs_reading.proofs.Public.{KindLaws}
 

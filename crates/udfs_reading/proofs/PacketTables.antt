@@ -1,6 +1,6 @@
 -- The packets of a table: their numbers rise, their table is that table, and rising packets are those of their table.
 use Rattle.std.proofs.Common.{◌≡◌, ℕ, zero, suc, ◌+◌, ◌-◌, ◌*◌, ◌<◌, ◌≤◌, Bool, true, false, cond, List, [], ◌∷◌, ◌++◌, length, refl, sym, ap, subst, ◌∙◌, append_assoc, append-nil, arith, length-append, ⊎_elim}
-use Rattle.std.specs.List.{flat_map, AllByRecursion}
+use Rattle.std.specs.List.{flat_map}
 use Rattle.std.proofs.lemmas.Bool.{cases_lt}
 use Rattle.std.proofs.lemmas.List.Concat.{flat_map-append}
 use Rattle.udfs_lattice.specs.declared.facts.Fact.TheVariants.{Unknown, Known, Conflict}
@@ -10,7 +10,7 @@ use Rattle.udfs_lattice.specs.TableLaws.{same_table, state_of-empty}
 use Rattle.udfs_lattice.specs.Records.{table_of_entries, RisesFrom}
 use Rattle.udfs_lattice.proofs.EntryLaws.{IsTable-rising}
 use Rattle.udfs_reading.specs.PacketFile.{Packet, states_from, says_some, some_packet, packets_below, packets_of}
-use Rattle.udfs_reading.specs.PacketReading.{IsHeld, AreStates, PacketsRise, low_after, listed, packet_entries, table_of_packets}
+use Rattle.udfs_reading.specs.PacketReading.{AreStates, PacketsRise, low_after, listed, packet_entries, table_of_packets}
 use Rattle.udfs_reading.proofs.PacketStates.{states-none, length-states, held-states, states-same, states-tell, states-unknown, listed-unsaid, listed-append, states-append, rises-weaken, rises-listed, unknown-below, state-past, states-listed}
 
 -- the packet p of a table

@@ -1,14 +1,14 @@
 -- The entries of a table are walked, and its packets are met on the way.
-use Rattle.std.proofs.Common.{◌≡◌, ◌≢◌, ℕ, ◌+◌, ◌-◌, ◌*◌, ◌/◌, ◌<◌, ◌≤◌, true, List, [], ◌∷◌, ◌++◌, length, refl, sym, ap, subst, ◌∙◌, arith}
+use Rattle.std.proofs.Common.{◌≡◌, ◌≢◌, ℕ, ◌+◌, ◌-◌, ◌*◌, ◌/◌, ◌<◌, ◌≤◌, true, List, [], ◌∷◌, ◌++◌, sym, ap, subst, ◌∙◌, arith}
 use Rattle.udfs_lattice.specs.declared.facts.Fact.TheVariants.{Unknown, Known, Conflict}
 use Rattle.udfs_lattice.specs.States.{State}
 use Rattle.udfs_lattice.specs.Tables.{Table, state_of, entries_of, IsTable}
 use Rattle.udfs_lattice.specs.TableLaws.{state_of-empty}
 use Rattle.udfs_lattice.specs.Records.{table_of_entries, IsEntry, RisesFrom}
 use Rattle.udfs_lattice.proofs.EntryLaws.{rises-entries_of, table_of_entries-entries_of}
-use Rattle.udfs_reading.specs.PacketFile.{Packet, states_from, says_some, packets_below, packets_of}
+use Rattle.udfs_reading.specs.PacketFile.{states_from, says_some, packets_below, packets_of}
 use Rattle.udfs_reading.proofs.PacketStates.{states-some, state-other, state-here, unknown-below}
-use Rattle.udfs_reading.proofs.PacketTables.{packet_at, next_packet, no_more, below_none, few_below}
+use Rattle.udfs_reading.proofs.PacketTables.{packet_at, next_packet, no_more}
 
 -- the packets below `next` were met; what the table says of the blocks after them, the entries that are left say
 pub record Walk (t : Table) (left : List (ℕ × State)) (next : ℕ) : Type 0 where

@@ -1,5 +1,5 @@
 -- A list of packets that grows at its end.
-use Rattle.std.proofs.Common.{◌≡◌, ℕ, ◌+◌, ◌≤◌, List, [], ◌∷◌, ◌++◌, length, Option, refl, sym, ap, subst, ◌∙◌, append_assoc, append-nil, arith, length-append}
+use Rattle.std.proofs.Common.{◌≡◌, ℕ, ◌+◌, List, [], ◌∷◌, ◌++◌, length, Option, refl, sym, ap, subst, ◌∙◌, append_assoc, append-nil, arith, length-append}
 use Rattle.std.specs.List.{flat_map}
 use Rattle.std.specs.Io.KnownBytes.{Consumes}
 use Rattle.std.proofs.KnownBytes.{Consumes-nil, Consumes-trans}
@@ -10,7 +10,7 @@ use Rattle.udfs_lattice.specs.TableLaws.{join_tables-assoc, join_tables-empty, j
 use Rattle.udfs_lattice.specs.Records.{table_of_entries}
 use Rattle.udfs_reading.specs.Format.{number, header}
 use Rattle.udfs_reading.specs.PacketFile.{packet_magic, Packet, packet_bytes, packed_file, packets_of}
-use Rattle.udfs_reading.specs.PacketReading.{IsPacketFile, PacketsRise, low_after, packets_front, packet_entries, table_of_packets, TakesPacket, TakesPackets}
+use Rattle.udfs_reading.specs.PacketReading.{IsPacketFile, PacketsRise, packets_front, packet_entries, table_of_packets, TakesPacket, TakesPackets}
 use Rattle.udfs_reading.proofs.PacketTables.{rises-push, low-push, packets_of-rising, IsTable-packets}
 
 bytes-push : (qs : List Packet) (q : Packet) → flat_map packet_bytes (qs ++ q ∷ []) ≡ flat_map packet_bytes qs ++ packet_bytes q

@@ -7,7 +7,7 @@ use Rattle.udfs_salvage.specs.declared.errors.RunError.{RunError}
 use Rattle.udfs_salvage.specs.declared.errors.RunError.TheVariants as run
 use Rattle.udfs_salvage.specs.declared.errors.SalvageError.TheVariants as salvage
 use Rattle.udfsalvage.specs.declared.refusal.Refusal.{Refusal}
-use Rattle.udfsalvage.specs.declared.refusal.Refusal.TheVariants.{Input, Output, LastRange, PastEnd, Memory}
+use Rattle.udfsalvage.specs.declared.refusal.Refusal.TheVariants.{Input, Output, LastRange, PastEnd, TooManyPaths, Memory}
 
 -- by the fault: want of memory is said as such, and any other with the input and the record
 abbrev refusal_by : InputError → ReadingFault → Refusal
@@ -22,6 +22,7 @@ abbrev pub run_refusal_of : RunError → Refusal
 run_refusal_of (run.Reading error) = refusal_of error
 run_refusal_of (run.Salvage salvage.LastRange) = LastRange
 run_refusal_of (run.Salvage (salvage.PastEnd n)) = PastEnd n
+run_refusal_of (run.Salvage salvage.TooManyPaths) = TooManyPaths
 run_refusal_of (run.Salvage salvage.OutOfMemory) = Memory alloc_error
 run_refusal_of run.Write = Output
 run_refusal_of run.OutOfMemory = Memory alloc_error

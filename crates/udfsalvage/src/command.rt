@@ -109,8 +109,8 @@ fn report_words<F: Files, O: Sink>(
     files: &F,
     out: &mut O,
 ) -> Result<bool, Refusal>
-    ensures printed { (whole : Bool) → result ≡ Ok whole → (last : ℕ) × (sources : List F.Input) ×
-        OfJoin F.Input.remaining sources (PrintsOf last (O.contents out.old) (O.contents out.new) (O.faults out.old) (O.faults out.new) (Ok whole)) }
+    ensures printed { IfOk result (λ whole. (last : ℕ) × (sources : List F.Input) ×
+        OfJoin F.Input.remaining sources (PrintsOf last (O.contents out.old) (O.contents out.new) (O.faults out.old) (O.faults out.new) (Ok whole))) }
 {
     let inputs = words.get_strs(INPUTS).unwrap_or(&[]);
     // The grammar asks for it.

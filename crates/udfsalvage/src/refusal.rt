@@ -31,6 +31,10 @@ pub enum Refusal {
     #[error("fault 2 PastEnd {0}")]
     PastEnd(u32),
 
+    /// More than 65,536 routes lead from the root of the volume to a node.
+    #[error("fault 3 TooManyPaths")]
+    TooManyPaths,
+
     /// Memory ran out, in whatever place.
     #[error("out of memory")]
     Memory(#[from(alloc)] AllocError),
@@ -57,6 +61,7 @@ impl From<RunError> for Refusal {
             RunError::Reading(error) => Refusal::from(error),
             RunError::Salvage(SalvageError::LastRange) => Refusal::LastRange,
             RunError::Salvage(SalvageError::PastEnd(block)) => Refusal::PastEnd(block),
+            RunError::Salvage(SalvageError::TooManyPaths) => Refusal::TooManyPaths,
             RunError::Write => Refusal::Output,
             RunError::Salvage(SalvageError::OutOfMemory) | RunError::OutOfMemory => {
                 Refusal::Memory(AllocError)

@@ -1,6 +1,6 @@
 //! The command `report`: readings in, the report of their volume out.
 
-ghost use Rattle.std.specs.Prelude.{◌≡◌, ℕ, Bool, List, Ok, length};
+ghost use Rattle.std.specs.Prelude.{◌≡◌, ℕ, List, Ok, IfOk, length};
 ghost use Rattle.udfs_salvage.specs.Running.{OfJoin, PrintsOf};
 
 use crate::files::Files;
@@ -19,8 +19,8 @@ pub fn report<F: Files, O: Sink>(
     files: &F,
     out: &mut O,
 ) -> Result<bool, Refusal>
-    ensures printed { (whole : Bool) → result ≡ Ok whole → (sources : List F.Input) × (length sources ≡ length inputs.now) ×
-        OfJoin F.Input.remaining sources (PrintsOf last (O.contents out.old) (O.contents out.new) (O.faults out.old) (O.faults out.new) (Ok whole)) }
+    ensures printed { IfOk result (λ whole. (sources : List F.Input) × (length sources ≡ length inputs.now) ×
+        OfJoin F.Input.remaining sources (PrintsOf last (O.contents out.old) (O.contents out.new) (O.faults out.old) (O.faults out.new) (Ok whole))) }
 {
     let mut sources = open_all(alloc, inputs, files)?;
     match report_run(alloc, sources.as_mut_slice(), last, out) {

@@ -1,4 +1,4 @@
-use Rattle.std.proofs.Common.{◌≡◌, Bool, false, cond, refl, sym, ap, ◌∙◌, rules}
+use Rattle.std.proofs.Common.{Bool, false, cond, sym, ap, rules}
 use Rattle.std.proofs.KnownBytes.{Consumes-nil}
 use Rattle.udfs_lattice.specs.declared.facts.Fact.TheVariants.{Unknown, Known}
 use Rattle.udfs_lattice.specs.TableLaws.{join_tables-empty_right}

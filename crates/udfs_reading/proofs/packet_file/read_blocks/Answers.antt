@@ -1,4 +1,4 @@
-use Rattle.std.proofs.Common.{◌≡◌, ◌<◌, rules, arith, refl, ◌∙◌}
+use Rattle.std.proofs.Common.{rules, refl, ◌∙◌}
 use Rattle.std.proofs.lemmas.Result.{err_from_is_err_and}
 use Rattle.udfs_reading.proofs.PacketSteps.{blocks_none, blocks_more, blocks_all, ends_place}
 use Rattle.udfs_reading.proofs.packet_file.read_blocks.Goals as goal

@@ -1,4 +1,4 @@
-use Rattle.std.proofs.Common.{◌≡◌, ℕ, [], ◌++◌, rules, refl, sym, ◌∙◌, append-nil, inl, inr}
+use Rattle.std.proofs.Common.{[], ◌++◌, rules, refl, sym, ◌∙◌, append-nil, inl, inr}
 use Rattle.std.proofs.lemmas.Result.{err_from_is_err_and}
 use Rattle.std.proofs.KnownBytes.{Consumes-nil, Consumes-trans}
 use Rattle.udfs_reading.specs.declared.error.ReadingFault.TheVariants.{State}

@@ -4,7 +4,7 @@ use Rattle.std.specs.List.{flat_map}
 use Rattle.std.specs.Io.KnownBytes.{Consumes}
 use Rattle.std.proofs.KnownBytes.{Consumes-nil, Consumes-trans}
 use Rattle.udfs_lattice.specs.States.{State, is_known, is_conflict}
-use Rattle.udfs_lattice.specs.Tables.{Table, join_tables}
+use Rattle.udfs_lattice.specs.Tables.{join_tables}
 use Rattle.udfs_lattice.specs.Records.{table_of_entries}
 use Rattle.udfs_reading.specs.declared.error.ReadingFault.TheVariants.{BlockNumber, Order}
 use Rattle.udfs_reading.specs.Format.{number, value_of, In}

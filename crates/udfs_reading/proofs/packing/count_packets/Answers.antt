@@ -1,4 +1,4 @@
-use Rattle.std.proofs.Common.{ℕ, ◌/◌, List, length, rules, arith, sym, ap, ◌∙◌}
+use Rattle.std.proofs.Common.{◌/◌, List, length, arith, sym, ap, ◌∙◌}
 use Rattle.udfs_lattice.specs.States.{fact_now}
 use Rattle.udfs_reading.specs.PacketFile.{Packet}
 use Rattle.udfs_reading.proofs.PacketTables.{below_none, few_below}

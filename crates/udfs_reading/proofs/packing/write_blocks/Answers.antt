@@ -1,7 +1,6 @@
-use Rattle.std.proofs.Common.{rules, sym, subst, ◌∙◌}
-use Rattle.std.specs.List.{flat_map}
+use Rattle.std.proofs.Common.{rules, sym, subst}
 use Rattle.std.proofs.lemmas.Result.{err_from_is_err_and}
-use Rattle.udfs_reading.specs.Writing.{Passed, FailedPast}
+use Rattle.udfs_reading.specs.Writing.{Passed}
 use Rattle.udfs_reading.proofs.WritingLemmas.{passed_none, passed_then}
 use Rattle.udfs_reading.proofs.PacketWriting.{contents_none, contents_next, blocks_fail}
 use Rattle.udfs_reading.proofs.packing.write_blocks.Goals as goal

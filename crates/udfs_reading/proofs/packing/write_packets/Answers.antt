@@ -1,9 +1,7 @@
-use Rattle.std.proofs.Common.{ℕ, ◌/◌, List, rules, sym, ap, subst, ◌∙◌}
-use Rattle.std.specs.List.{flat_map}
+use Rattle.std.proofs.Common.{ℕ, ◌/◌, ◌∙◌}
 use Rattle.std.proofs.lemmas.Result.{err_from_is_err_and}
 use Rattle.udfs_lattice.specs.States.{State, fact_now}
-use Rattle.udfs_reading.specs.PacketFile.{packet_magic, Packet, packet_bytes}
-use Rattle.udfs_reading.specs.Writing.{Passed}
+use Rattle.udfs_reading.specs.PacketFile.{packet_magic}
 use Rattle.udfs_reading.proofs.WritingLemmas.{passed_none}
 use Rattle.udfs_reading.proofs.PacketTables.{below_none}
 use Rattle.udfs_reading.proofs.PacketWalk.{walk_none, walk_same, packet_there, walk_next, walk_end}

@@ -9,7 +9,7 @@ use Rattle.udfs_walk.proofs.RunLemmas.{leaves_all}
 use Rattle.udfs_walk.proofs.gaps.cells_standing.Goals as goal
 
 pub loop-stretch-init : goal.loop-stretch-init
-loop-stretch-init c = record { leaves = leaves_all _ _; place = omega arith; all = c.stretches-stretches.ensures }
+loop-stretch-init c = record { leaves = leaves_all _ _; place = omega arith; all = c.stretches-stretches.ensures.value }
 
 pub pass-requires : goal.pass-requires
 pass-requires c =

@@ -9,5 +9,5 @@ use Rattle.udfs_walk.proofs.visits.entry_told.Goals as goal
 pub body_told-requires : goal.body_told-requires
 body_told-requires c =
     let n = body_length (view (state_of c.args.table.now) c.args.space.now) c.args.address.reference c.args.address.block (entry_of c.args.entry.now)
-    (cells_of (view (state_of c.args.table.now) c.args.space.now) c.in-Ok.body) c.in-Ok.ensures in
+    (cells_of (view (state_of c.args.table.now) c.args.space.now) c.in-Ok.body) c.in-Ok.ensures.value in
     omega (arith, n, c.size-size.ensures, c.size-size.type_inv)
