@@ -71,6 +71,7 @@ bench: all
 
 examples:
 	tools/make-examples examples
+	tools/make-disc examples
 	cp examples/a.rd examples/b.rd crates/udfsalvage/data
 
 .PHONY: all have-rt demo test try install bench examples
