@@ -1,7 +1,8 @@
 -- Names in compressed Unicode (OSTA UDF 2.1.1).
 --     units_of bytes       the units of a name, or its first fault
+--     fault_of given       the fault, if it is one
 --     AreUnits units       what a unit is: a number of 16 bits
-use Rattle.std.specs.Prelude.{◌≡◌, ℕ, ◌+◌, ◌*◌, ◌%◌, ◌<◌, ◌^◌, ◌==◌, ◌||◌, List, [], ◌∷◌, length, Result, Ok, Err, IsOk, if◌then◌else◌}
+use Rattle.std.specs.Prelude.{◌≡◌, ℕ, ◌+◌, ◌*◌, ◌%◌, ◌<◌, ◌^◌, ◌==◌, ◌||◌, List, [], ◌∷◌, length, Option, Some, None, Result, Ok, Err, IsOk, if◌then◌else◌}
 use Rattle.std.specs.List.{All}
 use Rattle.udfs_osta.specs.declared.names.NameFault.{NameFault}
 use Rattle.udfs_osta.specs.declared.names.NameFault.TheVariants.{Empty, Compression, Odd, OutOfMemory}
@@ -33,6 +34,10 @@ units_after kind (b ∷ bs) =
 abbrev pub units_of : List ℕ → Result (List ℕ) NameFault
 units_of [] = Err Empty
 units_of (kind ∷ rest) = if kind == 8 || kind == 16 then units_after kind rest else Err Compression
+
+abbrev pub fault_of : Result (List ℕ) NameFault → Option NameFault
+fault_of (Ok units) = None
+fault_of (Err fault) = Some fault
 
 -- what is answered is what the bytes give, and memory is wanted for units alone: never where a fault is to be told
 abbrev pub Gives : Result (List ℕ) NameFault → Result (List ℕ) NameFault → Type 0

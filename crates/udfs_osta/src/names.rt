@@ -1,10 +1,10 @@
 //! Names in compressed Unicode.
 
 ghost use Rattle.std.specs.List.{All};
-ghost use Rattle.std.specs.Prelude.{◌≡◌, ℕ, ◌<◌, ◌^◌, ◌++◌, List, length, OnOk, OnErr, IfOk, IsOk};
+ghost use Rattle.std.specs.Prelude.{◌≡◌, ℕ, ◌<◌, ◌^◌, ◌++◌, ◌∷◌, List, length, OnOk, OnErr, IfOk, IsOk};
 ghost use Rattle.std.specs.String.{string_bytes};
 ghost use Rattle.udfs_osta.specs.Texts.{AppendsPart};
-ghost use Rattle.udfs_osta.specs.Names.{pair_units, units_of, AreUnits, IsName};
+ghost use Rattle.udfs_osta.specs.Names.{fault_of, pair_units, units_of, AreUnits, IsName};
 ghost use Rattle.udfs_osta.specs.Parts.{IsPathPart};
 
 use crate::escapes::{is_dots, write_escapes, write_units};
@@ -105,6 +105,20 @@ impl Name {
         }
     }
 
+    /// Why the bytes of the first piece and then the second are no name: the fault that [`Name::read`] would tell, or
+    /// `None` where they are one. It takes no memory.
+    pub fn fault(first: &[u8], second: &[u8]) -> Option<NameFault>
+        ensures { result ≡ fault_of (units_of (first.now ++ second.now)) }
+    {
+        if let Some((kind, rest)) = first.split_first() {
+            return fault_behind(*kind, rest.len() + second.len());
+        }
+        match second.split_first() {
+            Some((kind, rest)) => fault_behind(*kind, rest.len()),
+            None => Some(NameFault::Empty),
+        }
+    }
+
     /// The units. It takes no memory.
     pub fn units(&self) -> &[u16]
         ensures value { result.now ≡ self.now }
@@ -135,6 +149,22 @@ impl Name {
             write_units(units, text)
         }
     }
+}
+
+/// Why this first byte and so many more are no name.
+fn fault_behind(kind: u8, count: usize) -> Option<NameFault>
+    ensures { (rest : List ℕ) → length rest ≡ count → result ≡ fault_of (units_of (kind ∷ rest)) }
+{
+    if kind != 8 && kind != 16 {
+        return Some(NameFault::Compression);
+    }
+    if count == 0 {
+        return Some(NameFault::Empty);
+    }
+    if kind == 16 && count % 2 == 1 {
+        return Some(NameFault::Odd);
+    }
+    None
 }
 
 /// Each byte as a unit.
