@@ -4,6 +4,7 @@ pub mod WalkLemmas
 pub mod EmbeddedLemmas
 pub mod FrontLemmas
 pub mod CellLemmas
+pub mod PieceCells
 pub mod StepLemmas
 pub mod AddressLemmas
 pub mod Parts

@@ -3,6 +3,7 @@ pub mod Addresses
 pub mod Entries
 pub mod Bodies
 pub mod Stretches
+pub mod Pieces
 pub mod CellsLeft
 pub mod Fronts
 pub mod Laws

@@ -15,6 +15,7 @@ pub mod faults;
 pub mod file_sets;
 pub mod laws;
 pub mod marks;
+mod pieces;
 pub mod stretches;
 
 pub use bodies::Body;

@@ -1,0 +1,68 @@
+//! Cells of a body that lie side by side, borrowed from the table's blocks.
+
+ghost use Rattle.std.specs.Prelude.{◌≡◌, ◌≤◌, ◌<◌, ◌+◌, ◌%◌, ◌^◌, length, map, replicate, take, drop};
+ghost use Rattle.std.specs.List.{range_with_len};
+ghost use Rattle.udfs_lattice.specs.Tables.{state_of};
+ghost use Rattle.udfs_space.specs.Places.{view};
+ghost use Rattle.udfs_file.specs.Bodies.{recorded_cell};
+ghost use Rattle.udfs_file.specs.Pieces.{IsPieceOf};
+
+use crate::stretches::Run;
+use udfs_lattice::{BlockTable, Fact};
+use udfs_space::Space;
+
+/// A block of zeros, for those that are not recorded.
+static ZEROS: [u8; 2048] = [0; 2048];
+
+/// Cells at the front of some, in one block.
+#[derive(Clone, Copy)]
+pub(crate) enum Piece<'a> {
+    /// Bytes, with the logical block that holds them, if one does.
+    Bytes(&'a [u8], Option<u32>),
+    /// The first cell is missing, since this block of the volume is not known.
+    Gap(u32),
+}
+
+/// So many zeros.
+pub(crate) fn zeros(count: usize) -> &'static [u8]
+    requires { count ≤ 2048 }
+    ensures { result.now ≡ replicate count 0 }
+{
+    let (front, _) = ZEROS.split_at(count);
+    front
+}
+
+/// So many bytes of a block from one on.
+fn bytes_at(block: &[u8; 2048], at: usize, count: usize) -> &[u8]
+    requires { at + count ≤ 2048 }
+    ensures value { result.now ≡ take count (drop at block.now) }
+    ensures size { length block.now ≡ 2048 }
+{
+    let (_, behind) = block.split_at(at);
+    let (front, _) = behind.split_at(count);
+    front
+}
+
+/// So many recorded cells in one block, from this place behind the run's block on.
+pub(crate) fn recorded_piece<'a>(
+    table: &'a BlockTable,
+    space: &Space,
+    run: Run,
+    at: u64,
+    count: usize,
+) -> Piece<'a>
+    requires inside { at % 2048 + count ≤ 2048 }
+    requires some { 1 ≤ count }
+    requires near { at < 2 ^ 33 }
+    ensures { IsPieceOf result (map (recorded_cell (view (state_of table.now) space.now) run.reference run.block) (range_with_len at count)) }
+{
+    let b = u64::from(run.block) + at / 2048;
+    match space.block_at(table, run.reference, b) {
+        None => Piece::Bytes(zeros(count), None),
+        Some((_, Fact::Known(bytes))) => {
+            Piece::Bytes(bytes_at(bytes, (at % 2048) as usize, count), Some(b as u32))
+        }
+        Some((n, Fact::Unknown)) => Piece::Gap(n),
+        Some((n, Fact::Conflict)) => Piece::Gap(n),
+    }
+}
