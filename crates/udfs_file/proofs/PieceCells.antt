@@ -7,7 +7,11 @@ use Rattle.udfs_lattice.specs.States.{State}
 use Rattle.udfs_lattice.specs.declared.facts.Fact.TheVariants.{Unknown, Known, Conflict}
 use Rattle.udfs_space.specs.Places.{View, block_at}
 use Rattle.udfs_file.specs.Bodies.{cell_in, cell_at, recorded_cell}
-use Rattle.udfs_file.specs.Pieces.{byte_cells}
+use Rattle.udfs_file.specs.Pieces.{byte_cells, rest_in_block}
+use Rattle.udfs_file.specs.Stretches.{stretch_cells, stretch_count}
+use Rattle.udfs_file.specs.declared.stretches.Run.{Run}
+use Rattle.udfs_file.specs.declared.stretches.Stretch.{Stretch}
+use Rattle.udfs_file.specs.declared.stretches.Stretch.TheVariants.{Recorded, Zeros, Missing}
 use Rattle.udfs_file.specs.declared.cells.Cell.{Cell}
 use Rattle.udfs_file.specs.declared.cells.Cell.TheVariants.{Byte, Gap}
 
@@ -69,3 +73,79 @@ pub gap_first : (v : View) (r b at k n : ℕ) (s : State) → 1 ≤ k → (s ≡
 gap_first v r b at zero n s h u e = absurd (let z : ⊥ = omega (arith, h) in z)
 gap_first v r b at (suc k) n s h u e = (map (recorded_cell v r b) (range_with_len (at + 1) k),
   ap (λ c. c ∷ map (recorded_cell v r b) (range_with_len (at + 1) k)) (ap (cell_at (b + at / 2048) (at % 2048)) e ∙ gap_at (b + at / 2048) (at % 2048) n s u))
+
+-- ---- a part of one stretch
+drop_range : {A : Type 0} (f : ℕ → A) (a n p : ℕ) → p ≤ n → drop p (map f (range_with_len a n)) ≡ map f (range_with_len (a + p) (n - p))
+drop_range f a n zero h = λ i. map f (range_with_len (e i) (g i))
+  where
+    e : a ≡ a + 0
+    e = omega arith
+
+    g : n ≡ n - 0
+    g = omega arith
+drop_range f a zero (suc p) h = absurd (let z : ⊥ = omega (arith, h) in z)
+drop_range f a (suc n) (suc p) h = drop_range f (a + 1) n p (omega (arith, h)) ∙ (λ i. map f (range_with_len (e i) (g i)))
+  where
+    e : a + 1 + p ≡ a + suc p
+    e = omega arith
+
+    g : n - p ≡ suc n - suc p
+    g = omega arith
+
+take_range : {A : Type 0} (f : ℕ → A) (a n k : ℕ) → k ≤ n → take k (map f (range_with_len a n)) ≡ map f (range_with_len a k)
+take_range f a n zero h = refl
+take_range f a zero (suc k) h = absurd (let z : ⊥ = omega (arith, h) in z)
+take_range f a (suc n) (suc k) h = ap (λ l. f a ∷ l) (take_range f (a + 1) n k (omega (arith, h)))
+
+pub part_range : {A : Type 0} (f : ℕ → A) (a n p k : ℕ) → p + k ≤ n → take k (drop p (map f (range_with_len a n))) ≡ map f (range_with_len (a + p) k)
+part_range f a n p k h = ap (take k) (drop_range f a n p (omega (arith, h))) ∙ take_range f (a + p) (n - p) k (omega (arith, h))
+
+pub part_same : {A : Type 0} (x : A) (n p k : ℕ) → p + k ≤ n → take k (drop p (replicate n x)) ≡ replicate k x
+part_same x n zero zero h = refl
+part_same x n (suc p) zero h = refl
+part_same x zero zero (suc k) h = absurd (let z : ⊥ = omega (arith, h) in z)
+part_same x (suc n) zero (suc k) h = ap (λ l. x ∷ l) (part_same x n zero k (omega (arith, h)))
+part_same x zero (suc p) (suc k) h = absurd (let z : ⊥ = omega (arith, h) in z)
+part_same x (suc n) (suc p) (suc k) h = part_same x n p (suc k) (omega (arith, h))
+
+pub zero_bytes : (k : ℕ) → byte_cells None (replicate k 0) ≡ replicate k (Byte 0 None)
+zero_bytes zero = refl
+zero_bytes (suc k) = ap (λ l. Byte 0 None ∷ l) (zero_bytes k)
+
+pub gap_part : (n count p k : ℕ) → 1 ≤ k → p + k ≤ count → (rest : List Cell) × (take k (drop p (replicate count (Gap n))) ≡ Gap n ∷ rest)
+gap_part n count p zero h l = absurd (let z : ⊥ = omega (arith, h) in z)
+gap_part n count p (suc k) h l = (replicate k (Gap n), part_same (Gap n) count p (suc k) l)
+
+pub recorded_part : (v : View) (s : Stretch) (run : Run) (n p want at here : ℕ) → s ≡ Recorded run n → p < stretch_count s
+    → at ≡ run.offset + p → here ≡ min (min (2048 - at % 2048) (n - p)) want
+    → map (recorded_cell v run.reference run.block) (range_with_len at here) ≡ take (min want (rest_in_block s p)) (drop p (stretch_cells v s))
+recorded_part v s run n p want at here e h a l = (λ i. map (recorded_cell v run.reference run.block) (range_with_len (a i) (same i)))
+    ∙ sym (part_range (recorded_cell v run.reference run.block) run.offset n p (min want (rest_in_block (Recorded run n) p)) (omega (arith, left)))
+    ∙ ap (λ z. take (min want (rest_in_block z p)) (drop p (stretch_cells v z))) (sym e)
+  where
+    left : p < n
+    left = subst (λ z. p < stretch_count z) e h
+
+    same : here ≡ min want (min (2048 - (run.offset + p) % 2048) (n - p))
+    same = omega (arith, l, a)
+
+pub zero_part : (v : View) (s : Stretch) (n p want here : ℕ) (bytes : List ℕ) → s ≡ Zeros n → p < stretch_count s → here ≡ min (n - p) want → bytes ≡ replicate here 0
+    → take (min want (rest_in_block s p)) (drop p (stretch_cells v s)) ≡ byte_cells None bytes
+zero_part v s n p want here bytes e h l b = ap (λ z. take (min want (rest_in_block z p)) (drop p (stretch_cells v z))) e
+    ∙ part_same (Byte 0 None) n p (min want (n - p)) (omega (arith, left))
+    ∙ ap (λ k. replicate k (Byte 0 None)) same
+    ∙ sym (zero_bytes here) ∙ ap (byte_cells None) (sym b)
+  where
+    left : p < n
+    left = subst (λ z. p < stretch_count z) e h
+
+    same : min want (n - p) ≡ here
+    same = omega (arith, l)
+
+pub gap_piece : (v : View) (s : Stretch) (n count p want : ℕ) → s ≡ Missing n count → p < stretch_count s → 1 ≤ want
+    → (rest : List Cell) × (take (min want (rest_in_block s p)) (drop p (stretch_cells v s)) ≡ Gap n ∷ rest)
+gap_piece v s n count p want e h o = let g = gap_part n count p (min want (count - p)) (omega (arith, left, o)) (omega (arith, left)) in
+    (g.0, ap (λ z. take (min want (rest_in_block z p)) (drop p (stretch_cells v z))) e ∙ g.1)
+  where
+    left : p < count
+    left = subst (λ z. p < stretch_count z) e h

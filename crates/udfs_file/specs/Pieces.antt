@@ -1,11 +1,20 @@
 -- Cells side by side as borrowed bytes.
 --     byte_cells holder bytes      the cells with these bytes, which one logical block holds, or none
 --     IsPieceOf piece cells        all cells are bytes of one block, or the first is missing
-use Rattle.std.specs.Prelude.{◌≡◌, ℕ, List, ◌∷◌, map, Option}
+--     Starts passed stretches      a block or a stretch begins there
+--     IsTaken front cells          the bytes of all cells in two pieces, or the first missing block
+use Rattle.std.specs.Prelude.{◌≡◌, ◌⊎◌, ⊤, ℕ, ◌+◌, ◌-◌, ◌%◌, ◌<◌, ◌≤◌, min, List, [], ◌∷◌, ◌++◌, map, Option, Some, None}
 use Rattle.udfs_file.specs.declared.cells.Cell.{Cell}
 use Rattle.udfs_file.specs.declared.cells.Cell.TheVariants.{Byte, Gap}
 use Rattle.udfs_file.specs.declared.pieces.Piece.{Piece}
 use Rattle.udfs_file.specs.declared.pieces.Piece.TheVariants as piece
+use Rattle.udfs_file.specs.declared.pieces.Front.{Front}
+use Rattle.udfs_file.specs.declared.pieces.Front.TheVariants as front
+use Rattle.udfs_file.specs.declared.pieces.View.{View}
+use Rattle.udfs_file.specs.declared.stretches.Stretch.{Stretch}
+use Rattle.udfs_file.specs.declared.stretches.Stretch.TheVariants.{Recorded, Zeros, Missing}
+use Rattle.udfs_file.specs.Fronts.{first_missing, holder_of, value}
+use Rattle.udfs_file.specs.Stretches.{stretch_count}
 
 abbrev pub byte_cells : Option ℕ → List ℕ → List Cell
 byte_cells holder bytes = map (λ x. Byte x holder) bytes
@@ -13,3 +22,31 @@ byte_cells holder bytes = map (λ x. Byte x holder) bytes
 abbrev pub IsPieceOf : Piece → List Cell → Type 0
 IsPieceOf (piece.Bytes bytes holder) cells = cells ≡ byte_cells holder bytes.now
 IsPieceOf (piece.Gap n) cells = (rest : List Cell) × (cells ≡ Gap n ∷ rest)
+
+-- ---- two pieces
+-- how many cells of a stretch, behind some, lie in one block
+abbrev pub rest_in_block : Stretch → ℕ → ℕ
+rest_in_block (Recorded run count) passed = min (2048 - (run.offset + passed) % 2048) (count - passed)
+rest_in_block (Zeros count) passed = count - passed
+rest_in_block (Missing n count) passed = count - passed
+
+-- what is behind these cells of a stretch begins a block, or the stretch
+abbrev pub BeginsBlock : Stretch → ℕ → Type 0
+BeginsBlock (Recorded run count) passed = ((run.offset + passed) % 2048 ≡ 0) ⊎ (passed ≡ 0)
+BeginsBlock (Zeros count) passed = passed ≡ 0
+BeginsBlock (Missing n count) passed = ⊤
+
+-- what is behind the first cells of stretches does so, in the stretch in which it lies
+abbrev pub Starts : ℕ → List Stretch → Type 0
+Starts passed [] = ⊤
+Starts passed (s ∷ ss) = (passed < stretch_count s → BeginsBlock s passed) × (stretch_count s ≤ passed → Starts (passed - stretch_count s) ss)
+
+-- none of the cells is missing, and these are their bytes
+pub record AreBytes (view : View) (cells : List Cell) : Type 0 where
+  pub no_missing : first_missing cells ≡ None
+  pub values : map value cells ≡ view.first.now ++ view.second.now
+  pub holder : holder_of cells ≡ view.holder
+
+abbrev pub IsTaken : Front → List Cell → Type 0
+IsTaken (front.Bytes view) cells = AreBytes view cells
+IsTaken (front.Gap n) cells = first_missing cells ≡ Some n

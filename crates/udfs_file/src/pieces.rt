@@ -1,13 +1,14 @@
 //! Cells of a body that lie side by side, borrowed from the table's blocks.
 
-ghost use Rattle.std.specs.Prelude.{◌≡◌, ◌≤◌, ◌<◌, ◌+◌, ◌%◌, ◌^◌, length, map, replicate, take, drop};
+ghost use Rattle.std.specs.Prelude.{◌≡◌, ◌≤◌, ◌<◌, ◌+◌, ◌%◌, ◌^◌, length, map, min, replicate, take, drop};
 ghost use Rattle.std.specs.List.{range_with_len};
 ghost use Rattle.udfs_lattice.specs.Tables.{state_of};
 ghost use Rattle.udfs_space.specs.Places.{view};
 ghost use Rattle.udfs_file.specs.Bodies.{recorded_cell};
-ghost use Rattle.udfs_file.specs.Pieces.{IsPieceOf};
+ghost use Rattle.udfs_file.specs.Pieces.{IsPieceOf, rest_in_block};
+ghost use Rattle.udfs_file.specs.Stretches.{stretch_cells, stretch_count};
 
-use crate::stretches::Run;
+use crate::stretches::{Run, Stretch};
 use udfs_lattice::{BlockTable, Fact};
 use udfs_space::Space;
 
@@ -20,6 +21,26 @@ pub(crate) enum Piece<'a> {
     /// Bytes, with the logical block that holds them, if one does.
     Bytes(&'a [u8], Option<u32>),
     /// The first cell is missing, since this block of the volume is not known.
+    Gap(u32),
+}
+
+/// Bytes of a body that lie side by side: one borrowed piece, or the end of one block and then the beginning of another.
+#[derive(Clone, Copy, Debug)]
+pub struct View<'a> {
+    /// The first of them, at least one.
+    pub first: &'a [u8],
+    /// Those behind the first piece.
+    pub second: &'a [u8],
+    /// The logical block that holds the first byte; no block holds a zero that is not recorded.
+    pub holder: Option<u32>,
+}
+
+/// So many cells at the front of some.
+#[derive(Clone, Copy)]
+pub(crate) enum Front<'a> {
+    /// Their bytes, of which none is missing.
+    Bytes(View<'a>),
+    /// The block of the first of them that is missing.
     Gap(u32),
 }
 
@@ -64,5 +85,32 @@ pub(crate) fn recorded_piece<'a>(
         }
         Some((n, Fact::Unknown)) => Piece::Gap(n),
         Some((n, Fact::Conflict)) => Piece::Gap(n),
+    }
+}
+
+/// The cells of a stretch behind some that are passed, as far as they lie in one block, and at most so many.
+pub(crate) fn stretch_piece<'a>(
+    table: &'a BlockTable,
+    space: &Space,
+    stretch: Stretch,
+    passed: u64,
+    want: usize,
+) -> Piece<'a>
+    requires left { passed < stretch_count stretch }
+    requires some { 1 ≤ want }
+    requires block { want ≤ 2048 }
+    ensures { IsPieceOf result (take (min want (rest_in_block stretch passed)) (drop passed (stretch_cells (view (state_of table.now) space.now) stretch))) }
+{
+    match stretch {
+        Stretch::Recorded(run, count) => {
+            let at = u64::from(run.offset) + passed;
+            let here = (2048 - at % 2048).min(u64::from(count) - passed);
+            recorded_piece(table, space, run, at, here.min(want as u64) as usize)
+        }
+        Stretch::Zeros(count) => {
+            let here = (u64::from(count) - passed).min(want as u64);
+            Piece::Bytes(zeros(here as usize), None)
+        }
+        Stretch::Missing(n, _) => Piece::Gap(n),
     }
 }
