@@ -4,10 +4,10 @@ use Rattle.std.specs.Prelude.{zero, suc}
 use Rattle.std.proofs.lemmas.List.{length-drop}
 use Rattle.udfs_file.specs.declared.cells.Cell.{Cell}
 use Rattle.udfs_file.specs.declared.directories.DirEntry.{DirEntry}
-use Rattle.udfs_file.specs.declared.directories.Identifier.{Identifier}
-use Rattle.udfs_file.specs.declared.directories.Rest.{Rest}
-use Rattle.udfs_file.specs.declared.directories.Step.{Step}
-use Rattle.udfs_file.specs.declared.directories.Step.TheVariants.{AtRest, One}
+use Rattle.udfs_file.specs.Identifiers.{Identifier}
+use Rattle.udfs_file.specs.Identifiers.{Rest}
+use Rattle.udfs_file.specs.Identifiers.{Step}
+use Rattle.udfs_file.specs.Identifiers.{AtRest, One}
 use Rattle.udfs_file.specs.Fronts.{step, read_on, read_from, directory, listed_entries, entries_of, DirectoryText, IsWithin, IsBehind}
 
 pub record IsFronting (cells left : List Cell) (listed : List DirEntry) : Type 0 where

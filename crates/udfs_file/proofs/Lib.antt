@@ -4,6 +4,7 @@ pub mod WalkLemmas
 pub mod EmbeddedLemmas
 pub mod FrontLemmas
 pub mod CellLemmas
+pub mod FrontPieces
 pub mod PieceCells
 pub mod StepLemmas
 pub mod AddressLemmas
@@ -14,6 +15,7 @@ pub mod ChainFits
 pub mod Gaps
 pub mod PartialBodies
 pub mod Readings
+pub mod CursorSteps
 pub mod Joins
 pub mod WholeExtents
 pub mod WholeBodies

@@ -6,10 +6,10 @@ use Rattle.udfs_file.specs.declared.cells.Cell.{Cell}
 use Rattle.udfs_file.specs.declared.cells.Cell.TheVariants.{Byte, Gap}
 use Rattle.udfs_file.specs.Fronts.{first_missing, value, holder_of, identifier_size, or_stop, checked_identifier, sized_identifier, step, DirectoryText, read_on, read_from, directory, listed_entries, entries_of}
 use Rattle.udfs_file.specs.declared.directories.DirEntry.{DirEntry}
-use Rattle.udfs_file.specs.declared.directories.Identifier.{Identifier}
-use Rattle.udfs_file.specs.declared.directories.Rest.TheVariants.{Stopped, Wrong}
-use Rattle.udfs_file.specs.declared.directories.Step.{Step}
-use Rattle.udfs_file.specs.declared.directories.Step.TheVariants.{AtRest, One}
+use Rattle.udfs_file.specs.Identifiers.{Identifier}
+use Rattle.udfs_file.specs.Identifiers.{Stopped, Wrong}
+use Rattle.udfs_file.specs.Identifiers.{Step}
+use Rattle.udfs_file.specs.Identifiers.{AtRest, One}
 use Rattle.udfs_file.specs.Laws.{IsCellOf, IsBeginningOf}
 use Rattle.udfs_file.specs.declared.faults.NodeFault.TheVariants.{Cut}
 

@@ -11,11 +11,11 @@ use Rattle.udfs_volume.specs.Sequence.{Bytes}
 use Rattle.udfs_file.specs.declared.cells.Cell.{Cell}
 use Rattle.udfs_file.specs.declared.cells.Cell.TheVariants.{Byte, Gap}
 use Rattle.udfs_file.specs.Fronts.{first_missing, value, holder_of, identifier_size, or_stop, is_listed, entry_with, identifier_in, checked_identifier, sized_identifier, step, DirectoryText, read_on, read_from, directory}
-use Rattle.udfs_file.specs.declared.directories.Identifier.{Identifier}
-use Rattle.udfs_file.specs.declared.directories.Rest.{Rest}
-use Rattle.udfs_file.specs.declared.directories.Rest.TheVariants.{Nothing, Stopped, Wrong}
-use Rattle.udfs_file.specs.declared.directories.Step.{Step}
-use Rattle.udfs_file.specs.declared.directories.Step.TheVariants.{AtRest, One}
+use Rattle.udfs_file.specs.Identifiers.{Identifier}
+use Rattle.udfs_file.specs.Identifiers.{Rest}
+use Rattle.udfs_file.specs.Identifiers.{Nothing, Stopped, Wrong}
+use Rattle.udfs_file.specs.Identifiers.{Step}
+use Rattle.udfs_file.specs.Identifiers.{AtRest, One}
 use Rattle.udfs_file.specs.Laws.{IsCellOf, IsMissingAt, end_of, IsClearTo, IsPartialDirectory}
 use Rattle.udfs_file.specs.declared.faults.NodeFault.{NodeFault}
 use Rattle.udfs_file.specs.declared.faults.NodeFault.TheVariants.{Cut, IdentifierTag}

@@ -1,83 +1,151 @@
 -- A descriptor at the front of cells, told by the first cells alone.
-use Rattle.std.proofs.Common.{◌≡◌, ◌≢◌, refl, sym, ◌∙◌, ap, subst, ℕ, ◌<◌, ◌≤◌, min, Bool, true, false, List, [], ◌∷◌, length, take, drop, map, cond, ◌||◌, arith, Some, None, nat_lt}
-use Rattle.std.specs.Prelude.{zero, suc}
-use Rattle.std.proofs.lemmas.List.{length-take, length-take-le}
+use Rattle.std.proofs.Common.{◌≡◌, ◌≢◌, refl, sym, ◌∙◌, ap, subst, ℕ, ◌+◌, ◌-◌, ◌<◌, ◌≤◌, min, Bool, true, false, List, [], ◌∷◌, ◌++◌, length, take, drop, map, cond, ◌||◌, arith, Option, Some, None, nat_lt, nat_le, length-append}
+use Rattle.std.specs.Prelude.{zero, suc, is_some, Result, Ok, Err}
+use Rattle.udfs_tag.specs.Fields.{part, uint8_at, uint16_at}
+use Rattle.udfs_osta.specs.Names.{fault_of, units_of}
+use Rattle.udfs_osta.specs.declared.names.NameFault.{NameFault}
+use Rattle.std.proofs.lemmas.List.{length-take, length-take-le, length-map}
+use Rattle.udfs_file.specs.Pieces.{AreBytes}
+use Rattle.udfs_file.specs.Steps.{IsDescriptor, StepIs, bytes_of}
 use Rattle.udfs_file.specs.declared.cells.Cell.{Cell}
 use Rattle.udfs_file.specs.declared.cells.Cell.TheVariants.{Byte, Gap}
-use Rattle.udfs_file.specs.declared.directories.Rest.TheVariants.{Nothing, Stopped, Wrong}
-use Rattle.udfs_file.specs.declared.directories.Step.{Step}
-use Rattle.udfs_file.specs.declared.directories.Step.TheVariants.{AtRest, One}
-use Rattle.udfs_file.specs.declared.faults.NodeFault.TheVariants.{Cut}
-use Rattle.udfs_file.specs.Fronts.{first_missing, value, holder_of, identifier_size, or_stop, checked_identifier, sized_identifier, step, IsOfSize, IsBehind}
+use Rattle.udfs_file.specs.declared.cursors.Step as told
+use Rattle.udfs_file.specs.declared.pieces.Pieces.{Pieces}
+use Rattle.udfs_file.specs.Identifiers.{Identifier, Step, AtRest, One, Nothing, Stopped, Wrong}
+use Rattle.udfs_file.specs.declared.faults.NodeFault.TheVariants.{Cut, Name}
+use Rattle.udfs_file.specs.Fronts.{first_missing, value, holder_of, identifier_size, or_stop, checked_identifier, sized_identifier, step, is_listed, entry_with, identifier_in}
 
-is_lt : (a b : ℕ) → a < b → nat_lt a b ≡ true
+is_lt : (a b : ℕ) → nat_le b a ≡ false → nat_lt a b ≡ true
 is_lt a b h = grind arith
 
-not_lt : (a b : ℕ) → b ≤ a → nat_lt a b ≡ false
+not_lt : (a b : ℕ) → nat_le b a ≡ true → nat_lt a b ≡ false
 not_lt a b h = grind arith
 
--- so many are fewer than wanted where all are
-few : (n : ℕ) (cells head : List Cell) → head ≡ take n cells → length head < n → length cells < n
-few n cells head e h = let q : length head ≡ min n (length cells) = ap length e ∙ length-take n cells in omega (arith, h, q)
+le_of : (a b : ℕ) → nat_le a b ≡ true → a ≤ b
+le_of a b h = grind arith
 
-many : (n : ℕ) (cells head : List Cell) → head ≡ take n cells → n ≤ length head → n ≤ length cells
-many n cells head e h = let q : length head ≡ min n (length cells) = ap length e ∙ length-take n cells in omega (arith, h, q)
-
-pub step-none : (cells head : List Cell) → head ≡ take 38 cells → length head ≡ 0 → step cells ≡ AtRest Nothing
+pub step_none : (cells : List Cell) → nat_le 1 (length cells) ≡ false → step cells ≡ AtRest Nothing
 unfolding step
-step-none [] head e h = refl
-step-none (c ∷ cs) head e h = absurd (let q : length head ≡ min 38 (length (c ∷ cs)) = ap length e ∙ length-take 38 (c ∷ cs) in let z : ⊥ = omega (arith, h, q) in z)
+step_none [] h = refl
+step_none (c ∷ cs) h = absurd (let z : nat_le 1 (length (c ∷ cs)) ≡ true = grind arith in let y : ⊥ = cc in y)
 
-pub step-cut : (cells head : List Cell) → head ≡ take 38 cells → length head ≢ 0 → length head < 38 → step cells ≡ AtRest (Wrong Cut)
+abbrev of_many : List Cell → Bool → Step
+of_many cells b = cond b (AtRest (Wrong Cut)) (or_stop (first_missing (take 38 cells)) (sized_identifier cells (identifier_size (map value (take 38 cells)))))
+
+step_some : (cells : List Cell) → nat_le 1 (length cells) ≡ true → step cells ≡ of_many cells (nat_lt (length cells) 38)
 unfolding step
-step-cut [] head e n h = absurd (n (ap length e))
-step-cut (c ∷ cs) head e n h = ap (λ b. cond b (AtRest (Wrong Cut)) (or_stop (first_missing (take 38 (c ∷ cs))) (sized_identifier (c ∷ cs) (identifier_size (map value (take 38 (c ∷ cs)))))))
-    (is_lt (length (c ∷ cs)) 38 (few 38 (c ∷ cs) head e h))
+step_some [] h = absurd (let z : nat_le 1 (length {A = Cell} []) ≡ false = grind arith in let y : ⊥ = cc in y)
+step_some (c ∷ cs) h = refl
 
-step-long : (cells head : List Cell) → head ≡ take 38 cells → 38 ≤ length head
-    → step cells ≡ or_stop (first_missing head) (sized_identifier cells (identifier_size (map value head)))
-unfolding step
-step-long [] head e h = absurd (let q : 38 ≤ length {A = Cell} [] = subst (λ z. 38 ≤ length z) e h in let z : ⊥ = omega (arith, q) in z)
-step-long (c ∷ cs) head e h = ap (λ b. cond b (AtRest (Wrong Cut)) (or_stop (first_missing (take 38 (c ∷ cs))) (sized_identifier (c ∷ cs) (identifier_size (map value (take 38 (c ∷ cs)))))))
-    (not_lt (length (c ∷ cs)) 38 (many 38 (c ∷ cs) head e h))
-    ∙ ap (λ z. or_stop (first_missing z) (sized_identifier (c ∷ cs) (identifier_size (map value z)))) (sym e)
+pub step_cut : (cells : List Cell) → nat_le 1 (length cells) ≡ true → nat_le 38 (length cells) ≡ false → step cells ≡ AtRest (Wrong Cut)
+step_cut cells o h = step_some cells o ∙ ap (of_many cells) (is_lt (length cells) 38 h)
 
-pub step-stopped : (cells head : List Cell) (n : ℕ) → head ≡ take 38 cells → 38 ≤ length head → first_missing head ≡ Some n → step cells ≡ AtRest (Stopped n)
-step-stopped cells head n e h m = step-long cells head e h ∙ ap (λ o. or_stop o (sized_identifier cells (identifier_size (map value head)))) m
+step_long : (cells : List Cell) → nat_le 1 (length cells) ≡ true → nat_le 38 (length cells) ≡ true
+    → step cells ≡ or_stop (first_missing (take 38 cells)) (sized_identifier cells (identifier_size (map value (take 38 cells))))
+step_long cells o h = step_some cells o ∙ ap (of_many cells) (not_lt (length cells) 38 h)
 
-pub step-sized : (cells head : List Cell) → head ≡ take 38 cells → 38 ≤ length head → first_missing head ≡ None
-    → step cells ≡ sized_identifier cells (identifier_size (map value head))
-step-sized cells head e h m = step-long cells head e h ∙ ap (λ o. or_stop o (sized_identifier cells (identifier_size (map value head)))) m
+pub step_stopped : (cells : List Cell) (n : ℕ) → nat_le 1 (length cells) ≡ true → nat_le 38 (length cells) ≡ true → first_missing (take 38 cells) ≡ Some n → step cells ≡ AtRest (Stopped n)
+step_stopped cells n o h m = step_long cells o h ∙ ap (λ b. or_stop b (sized_identifier cells (identifier_size (map value (take 38 cells))))) m
+
+pub step_sized : (cells : List Cell) (head : Pieces) → nat_le 1 (length cells) ≡ true → nat_le 38 (length cells) ≡ true → AreBytes head (take 38 cells)
+    → step cells ≡ sized_identifier cells (identifier_size (bytes_of head))
+step_sized cells head o h b = step_long cells o h ∙ ap (λ m. or_stop m (sized_identifier cells (identifier_size (map value (take 38 cells))))) b.no_missing
+    ∙ ap (λ bytes. sized_identifier cells (identifier_size bytes)) b.values
+
+-- pieces have as many bytes as there are cells
+pub bytes_length : (cells : List Cell) (n : ℕ) (view : Pieces) → n ≤ length cells → AreBytes view (take n cells) → length (bytes_of view) ≡ n
+bytes_length cells n view h b = sym (ap length b.values) ∙ length-map (take n cells) value ∙ length-take-le n cells h
+
+pub head_length : (cells : List Cell) (n : ℕ) (view : Pieces) → nat_le n (length cells) ≡ true → AreBytes view (take n cells) → n ≤ length (bytes_of view)
+head_length cells n view h b = let e : length (bytes_of view) ≡ n = bytes_length cells n view (le_of n (length cells) h) b in omega (arith, e)
 
 -- ---- a descriptor of a size
-pub sized-cut : (cells front : List Cell) (size : ℕ) → front ≡ take size cells → length front < size → sized_identifier cells size ≡ AtRest (Wrong Cut)
-sized-cut cells front size e h = go (nat_lt 2048 size)
+abbrev of_size : List Cell → ℕ → Bool → Step
+of_size cells size b = cond b (AtRest (Wrong Cut)) (or_stop (first_missing (take size cells)) (checked_identifier (holder_of cells) (map value (take size cells))))
+
+pub sized_long : (cells : List Cell) (size : ℕ) → 2048 < size → sized_identifier cells size ≡ AtRest (Wrong Cut)
+sized_long cells size h = ap (of_size cells size) (let e : nat_lt 2048 size ≡ true = grind arith in ap (λ b. b || nat_lt (length cells) size) e)
+
+pub sized_cut : (cells : List Cell) (size : ℕ) → nat_le size (length cells) ≡ false → sized_identifier cells size ≡ AtRest (Wrong Cut)
+sized_cut cells size h = ap (λ b. of_size cells size (nat_lt 2048 size || b)) (is_lt (length cells) size h) ∙ go (nat_lt 2048 size)
   where
-    go : (b : Bool) → cond (b || nat_lt (length cells) size) (AtRest (Wrong Cut))
-        (or_stop (first_missing (take size cells)) (checked_identifier (holder_of cells) (map value (take size cells)))) ≡ AtRest (Wrong Cut)
+    go : (b : Bool) → of_size cells size (b || true) ≡ AtRest (Wrong Cut)
     go true = refl
-    go false = ap (λ b. cond b (AtRest (Wrong Cut)) (or_stop (first_missing (take size cells)) (checked_identifier (holder_of cells) (map value (take size cells)))))
-        (is_lt (length cells) size (few size cells front e h))
+    go false = refl
 
-holder-front : (size : ℕ) (cells : List Cell) → 0 < size → holder_of (take size cells) ≡ holder_of cells
-holder-front zero cells h = absurd (let z : ⊥ = omega (arith, h) in z)
-holder-front (suc n) [] h = refl
-holder-front (suc n) (Byte x o ∷ cs) h = refl
-holder-front (suc n) (Gap b ∷ cs) h = refl
+sized_fits : (cells : List Cell) (size : ℕ) → size ≤ 2048 → nat_le size (length cells) ≡ true
+    → sized_identifier cells size ≡ or_stop (first_missing (take size cells)) (checked_identifier (holder_of cells) (map value (take size cells)))
+sized_fits cells size l h = ap (of_size cells size) ((λ i. long i || short i))
+  where
+    long : nat_lt 2048 size ≡ false
+    long = grind arith
 
-pub sized-whole : (cells front : List Cell) (size : ℕ) → front ≡ take size cells → 38 ≤ size → size ≤ 2048 → size ≤ length front
-    → or_stop (first_missing front) (checked_identifier (holder_of front) (map value front)) ≡ sized_identifier cells size
-sized-whole cells front size e low high h =
-    ap (λ z. or_stop (first_missing z) (checked_identifier (holder_of z) (map value z))) e
-    ∙ ap (λ o. or_stop (first_missing (take size cells)) (checked_identifier o (map value (take size cells)))) (holder-front size cells (omega arith))
-    ∙ sym (ap (λ b. cond (b || nat_lt (length cells) size) (AtRest (Wrong Cut)) (or_stop (first_missing (take size cells)) (checked_identifier (holder_of cells) (map value (take size cells))))) (not_lt 2048 size high)
-    ∙ ap (λ b. cond b (AtRest (Wrong Cut)) (or_stop (first_missing (take size cells)) (checked_identifier (holder_of cells) (map value (take size cells))))) (not_lt (length cells) size (many size cells front e h)))
+    short : nat_lt (length cells) size ≡ false
+    short = not_lt (length cells) size h
 
-pub behind-front : (cells front after : List Cell) (size : ℕ) (s : Step) → front ≡ take size cells → 38 ≤ size → size ≤ length front → after ≡ drop size cells
-    → IsOfSize (length front) s → IsBehind s cells after
-behind-front cells front after size (AtRest r) e low h d w = tt
-behind-front cells front after size (One id) e low h d w =
-    let all : size ≤ length cells = many size cells front e h in
-    let exact : length front ≡ size = ap length e ∙ length-take-le size cells all in
-    let same : id.size ≡ size = w ∙ exact in
-    ((omega (arith, same, low), omega (arith, same, all)), d ∙ ap (λ n. drop n cells) (sym same))
+pub sized_stopped : (cells : List Cell) (size n : ℕ) → size ≤ 2048 → nat_le size (length cells) ≡ true → first_missing (take size cells) ≡ Some n → sized_identifier cells size ≡ AtRest (Stopped n)
+sized_stopped cells size n l h m = sized_fits cells size l h ∙ ap (λ b. or_stop b (checked_identifier (holder_of cells) (map value (take size cells)))) m
+
+holder_front : (size : ℕ) (cells : List Cell) → 0 < size → holder_of (take size cells) ≡ holder_of cells
+holder_front zero cells h = absurd (let z : ⊥ = omega (arith, h) in z)
+holder_front (suc n) [] h = refl
+holder_front (suc n) (Byte x o ∷ cs) h = refl
+holder_front (suc n) (Gap b ∷ cs) h = refl
+
+pub sized_whole : (cells : List Cell) (size : ℕ) (view : Pieces) → 38 ≤ size → size ≤ 2048 → nat_le size (length cells) ≡ true → AreBytes view (take size cells)
+    → checked_identifier view.holder (bytes_of view) ≡ sized_identifier cells size
+sized_whole cells size view low l h b = sym (sized_fits cells size l h ∙ ap (λ m. or_stop m (checked_identifier (holder_of cells) (map value (take size cells)))) b.no_missing
+    ∙ (λ i. checked_identifier (holder i) (b.values i)))
+  where
+    holder : holder_of cells ≡ view.holder
+    holder = sym (holder_front size cells (omega (arith, low))) ∙ b.holder
+
+-- ---- the name in a descriptor
+drop_append : {A : Type 0} (n : ℕ) (xs ys : List A) → drop n (xs ++ ys) ≡ drop n xs ++ drop (n - length xs) ys
+drop_append n [] ys = ap (λ k. drop k ys) (let e : n ≡ n - 0 = omega arith in e) ∙ ap (λ l. l ++ drop (n - 0) ys) (sym (drop_nothing n))
+  where
+    drop_nothing : {A : Type 0} (n : ℕ) → drop {A = A} n [] ≡ []
+    drop_nothing zero = refl
+    drop_nothing (suc n) = refl
+drop_append zero (x ∷ xs) ys = ap (λ k. x ∷ (xs ++ drop k ys)) (let e : 0 ≡ 0 - suc (length xs) = omega arith in e)
+drop_append (suc n) (x ∷ xs) ys = drop_append n xs ys ∙ ap (λ k. drop n xs ++ drop k ys) (let e : n - length xs ≡ suc n - suc (length xs) = omega arith in e)
+
+take_append : {A : Type 0} (n : ℕ) (xs ys : List A) → take n (xs ++ ys) ≡ take n xs ++ take (n - length (take n xs)) ys
+take_append zero [] ys = refl
+take_append (suc n) [] ys = ap (λ k. take k ys) (let e : suc n ≡ suc n - 0 = omega arith in e)
+take_append zero (x ∷ xs) ys = refl
+take_append (suc n) (x ∷ xs) ys = ap (λ l. x ∷ l) (take_append n xs ys ∙ ap (λ k. take n xs ++ take k ys) (let e : n - length (take n xs) ≡ suc n - suc (length (take n xs)) = omega arith in e))
+
+-- a part of two pieces
+pub part_two : (first second a b : List ℕ) (start count : ℕ) → a ≡ take count (drop start first) → b ≡ take (count - length a) (drop (start - length first) second)
+    → a ++ b ≡ take count (drop start (first ++ second))
+part_two first second a b start count e f = (λ i. e i ++ (f ∙ ap (λ z. take (count - length z) (drop (start - length first) second)) e) i)
+    ∙ sym (ap (take count) (drop_append start first second) ∙ take_append count (drop start first) (drop (start - length first) second))
+
+abbrev name_of : List ℕ → List ℕ
+name_of bytes = part bytes (38 + uint16_at bytes 36) (uint8_at bytes 19)
+
+pub unlisted : (bytes : List ℕ) → 38 ≤ length bytes → length bytes ≤ 2048 → is_listed bytes ≡ false
+    → (id : Identifier) × IsDescriptor bytes id × (identifier_in (length bytes) bytes ≡ One id)
+unlisted bytes l m e = (record { size = length bytes; listed = None }, record { least = l; most = m; size = refl; is = is }, is)
+  where
+    is : identifier_in (length bytes) bytes ≡ One (record { size = length bytes; listed = None })
+    is = ap (λ b. cond b (entry_with (length bytes) bytes (units_of (name_of bytes))) (One (record { size = length bytes; listed = None }))) e
+
+listed_is : (bytes : List ℕ) (r : Result (List ℕ) NameFault) → is_listed bytes ≡ true → units_of (name_of bytes) ≡ r → identifier_in (length bytes) bytes ≡ entry_with (length bytes) bytes r
+listed_is bytes r e u = ap (λ b. cond b (entry_with (length bytes) bytes (units_of (name_of bytes))) (One (record { size = length bytes; listed = None }))) e ∙ ap (entry_with (length bytes) bytes) u
+
+pub good_name : (bytes : List ℕ) → 38 ≤ length bytes → length bytes ≤ 2048 → is_listed bytes ≡ true → is_some (fault_of (units_of (name_of bytes))) ≡ false
+    → (id : Identifier) × IsDescriptor bytes id × (identifier_in (length bytes) bytes ≡ One id)
+good_name bytes l m e n = go (units_of (name_of bytes)) refl n
+  where
+    go : (r : Result (List ℕ) NameFault) → units_of (name_of bytes) ≡ r → is_some (fault_of r) ≡ false → (id : Identifier) × IsDescriptor bytes id × (identifier_in (length bytes) bytes ≡ One id)
+    go (Ok units) u f = (_, record { least = l; most = m; size = refl; is = listed_is bytes (Ok units) e u }, listed_is bytes (Ok units) e u)
+    go (Err fault) u f = absurd (let z : ⊥ = cc in z)
+
+pub bad_name : (bytes : List ℕ) → is_listed bytes ≡ true → is_some (fault_of (units_of (name_of bytes))) ≡ true → identifier_in (length bytes) bytes ≡ AtRest (Wrong Name)
+bad_name bytes e n = go (units_of (name_of bytes)) refl n
+  where
+    go : (r : Result (List ℕ) NameFault) → units_of (name_of bytes) ≡ r → is_some (fault_of r) ≡ true → identifier_in (length bytes) bytes ≡ AtRest (Wrong Name)
+    go (Ok units) u f = absurd (let z : ⊥ = cc in z)
+    go (Err fault) u f = listed_is bytes (Err fault) e u

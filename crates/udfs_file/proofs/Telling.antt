@@ -21,11 +21,11 @@ use Rattle.udfs_file.specs.declared.cells.Cell.{Cell}
 use Rattle.udfs_file.specs.declared.cells.Cell.TheVariants.{Byte, Gap}
 use Rattle.udfs_file.specs.declared.directories.DirEntry.{DirEntry}
 use Rattle.udfs_file.specs.declared.directories.DirFront.{DirFront}
-use Rattle.udfs_file.specs.declared.directories.Identifier.{Identifier}
-use Rattle.udfs_file.specs.declared.directories.Rest.{Rest}
-use Rattle.udfs_file.specs.declared.directories.Rest.TheVariants.{Nothing, Stopped, Wrong}
-use Rattle.udfs_file.specs.declared.directories.Step.{Step}
-use Rattle.udfs_file.specs.declared.directories.Step.TheVariants.{AtRest, One}
+use Rattle.udfs_file.specs.Identifiers.{Identifier}
+use Rattle.udfs_file.specs.Identifiers.{Rest}
+use Rattle.udfs_file.specs.Identifiers.{Nothing, Stopped, Wrong}
+use Rattle.udfs_file.specs.Identifiers.{Step}
+use Rattle.udfs_file.specs.Identifiers.{AtRest, One}
 use Rattle.udfs_file.specs.declared.faults.NodeFault.TheVariants.{Cut}
 use Rattle.udfs_file.specs.declared.faults.WalkError.{WalkError}
 use Rattle.udfs_file.specs.declared.faults.WalkError.TheVariants as walk_error

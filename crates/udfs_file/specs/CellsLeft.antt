@@ -1,20 +1,17 @@
 -- The cells of a body behind a first few.
 --     cells_left cells      those that are left
+--     room cells            how many of the first lie in one block
 use Rattle.std.specs.Prelude.{◌≡◌, ◌<◌, ℕ, List, [], ◌∷◌, drop, Option, Some, None, ⊤}
 use Rattle.udfs_lattice.specs.Tables.{state_of}
 use Rattle.udfs_space.specs.Places.{view}
 use Rattle.udfs_file.specs.Stretches.{cells_of, stretch_count}
+use Rattle.udfs_file.specs.Pieces.{rest_in_block}
 use Rattle.udfs_file.specs.declared.cells.Cell.{Cell}
 use Rattle.udfs_file.specs.declared.cells.Cells.{Cells}
 use Rattle.udfs_file.specs.declared.stretches.Stretch.{Stretch}
 
 abbrev pub cells_left : Cells → List Cell
 cells_left c = drop c.passed (cells_of (view (state_of c.table.now) c.space.now) c.stretches.now)
-
--- the cell that was taken stood at the front
-abbrev pub IsNext : List Cell → Option Cell → List Cell → Type 0
-IsNext cells None later = (cells ≡ []) × (later ≡ [])
-IsNext cells (Some cell) later = cells ≡ cell ∷ later
 
 -- the next cell is one of the first stretch, if there is a stretch, and it is not the 2^64th
 abbrev pub IsInFirst : ℕ → List Stretch → Type 0
@@ -23,3 +20,11 @@ IsInFirst passed (s ∷ ss) = (passed < stretch_count s) × (passed < 1844674407
 
 abbrev pub IsSettled : Cells → Type 0
 IsSettled c = IsInFirst c.passed c.stretches.now
+
+-- how many of the first cells lie in one block
+abbrev pub room_of : ℕ → List Stretch → ℕ
+room_of passed [] = 0
+room_of passed (s ∷ ss) = rest_in_block s passed
+
+abbrev pub room : Cells → ℕ
+room c = room_of c.passed c.stretches.now

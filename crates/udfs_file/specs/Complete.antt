@@ -13,9 +13,9 @@ use Rattle.udfs_file.specs.Bodies.{cells, body}
 use Rattle.udfs_file.specs.declared.cells.Cell.{Cell}
 use Rattle.udfs_file.specs.declared.cells.Cell.TheVariants.{Byte}
 use Rattle.udfs_file.specs.Fronts.{ReadsAs, directory}
-use Rattle.udfs_file.specs.declared.directories.Identifier.{Identifier}
-use Rattle.udfs_file.specs.declared.directories.Rest.{Rest}
-use Rattle.udfs_file.specs.declared.directories.Rest.TheVariants.{Nothing}
+use Rattle.udfs_file.specs.Identifiers.{Identifier}
+use Rattle.udfs_file.specs.Identifiers.{Rest}
+use Rattle.udfs_file.specs.Identifiers.{Nothing}
 use Rattle.udfs_tag.specs.declared.layouts.LongAd.{LongAd}
 use Rattle.udfs_volume.specs.Answers.{found}
 use Rattle.udfs_file.specs.Addresses.{file_set}

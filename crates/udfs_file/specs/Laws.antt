@@ -12,8 +12,8 @@ use Rattle.udfs_file.specs.Bodies.{cells, body, IsNeededFor}
 use Rattle.udfs_file.specs.declared.cells.Cell.{Cell}
 use Rattle.udfs_file.specs.declared.cells.Cell.TheVariants.{Byte, Gap}
 use Rattle.udfs_file.specs.Fronts.{directory, entries_of}
-use Rattle.udfs_file.specs.declared.directories.Rest.TheVariants.{Nothing, Wrong}
-use Rattle.udfs_file.specs.declared.directories.Identifier.{Identifier}
+use Rattle.udfs_file.specs.Identifiers.{Nothing, Wrong}
+use Rattle.udfs_file.specs.Identifiers.{Identifier}
 use Rattle.udfs_file.specs.declared.faults.NodeFault.{NodeFault}
 
 -- the first is the second, or missing

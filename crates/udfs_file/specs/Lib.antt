@@ -5,7 +5,9 @@ pub mod Bodies
 pub mod Stretches
 pub mod Pieces
 pub mod CellsLeft
+pub mod Identifiers
 pub mod Fronts
+pub mod Steps
 pub mod Laws
 pub mod Standard
 pub mod Complete

@@ -3,14 +3,14 @@
 --     IsPieceOf piece cells        all cells are bytes of one block, or the first is missing
 --     Starts passed stretches      a block or a stretch begins there
 --     IsTaken front cells          the bytes of all cells in two pieces, or the first missing block
-use Rattle.std.specs.Prelude.{◌≡◌, ◌⊎◌, ⊤, ℕ, ◌+◌, ◌-◌, ◌%◌, ◌<◌, ◌≤◌, min, List, [], ◌∷◌, ◌++◌, map, Option, Some, None}
+use Rattle.std.specs.Prelude.{◌≡◌, ◌⊎◌, ⊤, ℕ, ◌+◌, ◌-◌, ◌%◌, ◌<◌, ◌≤◌, min, List, [], ◌∷◌, ◌++◌, length, map, Option, Some, None}
 use Rattle.udfs_file.specs.declared.cells.Cell.{Cell}
 use Rattle.udfs_file.specs.declared.cells.Cell.TheVariants.{Byte, Gap}
 use Rattle.udfs_file.specs.declared.pieces.Piece.{Piece}
 use Rattle.udfs_file.specs.declared.pieces.Piece.TheVariants as piece
 use Rattle.udfs_file.specs.declared.pieces.Front.{Front}
 use Rattle.udfs_file.specs.declared.pieces.Front.TheVariants as front
-use Rattle.udfs_file.specs.declared.pieces.View.{View}
+use Rattle.udfs_file.specs.declared.pieces.Pieces.{Pieces}
 use Rattle.udfs_file.specs.declared.stretches.Stretch.{Stretch}
 use Rattle.udfs_file.specs.declared.stretches.Stretch.TheVariants.{Recorded, Zeros, Missing}
 use Rattle.udfs_file.specs.Fronts.{first_missing, holder_of, value}
@@ -22,6 +22,11 @@ byte_cells holder bytes = map (λ x. Byte x holder) bytes
 abbrev pub IsPieceOf : Piece → List Cell → Type 0
 IsPieceOf (piece.Bytes bytes holder) cells = cells ≡ byte_cells holder bytes.now
 IsPieceOf (piece.Gap n) cells = (rest : List Cell) × (cells ≡ Gap n ∷ rest)
+
+-- a piece without a missing cell has so many bytes
+abbrev pub FitsPiece : Piece → ℕ → Type 0
+FitsPiece (piece.Bytes bytes holder) count = length bytes.now ≡ count
+FitsPiece (piece.Gap n) count = ⊤
 
 -- ---- two pieces
 -- how many cells of a stretch, behind some, lie in one block
@@ -42,7 +47,7 @@ Starts passed [] = ⊤
 Starts passed (s ∷ ss) = (passed < stretch_count s → BeginsBlock s passed) × (stretch_count s ≤ passed → Starts (passed - stretch_count s) ss)
 
 -- none of the cells is missing, and these are their bytes
-pub record AreBytes (view : View) (cells : List Cell) : Type 0 where
+pub record AreBytes (view : Pieces) (cells : List Cell) : Type 0 where
   pub no_missing : first_missing cells ≡ None
   pub values : map value cells ≡ view.first.now ++ view.second.now
   pub holder : holder_of cells ≡ view.holder

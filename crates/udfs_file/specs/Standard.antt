@@ -13,8 +13,8 @@ use Rattle.udfs_volume.specs.Layout.{blocks_in}
 use Rattle.udfs_file.specs.Entries.{EntryFields, descriptor_size}
 use Rattle.udfs_file.specs.Bodies.{descriptors_in, next_descriptor}
 use Rattle.udfs_file.specs.Fronts.{identifier_size, identifier_in}
-use Rattle.udfs_file.specs.declared.directories.Identifier.{Identifier}
-use Rattle.udfs_file.specs.declared.directories.Step.TheVariants.{One}
+use Rattle.udfs_file.specs.Identifiers.{Identifier}
+use Rattle.udfs_file.specs.Identifiers.{One}
 
 -- the file set descriptor at an address names this ICB of the root directory (4/14.1)
 pub record IsFileSetAt (blocks : ℕ → ℕ → Option Bytes) (a root : LongAd) : Type 0 where

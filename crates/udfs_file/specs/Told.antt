@@ -24,8 +24,8 @@ use Rattle.udfs_file.specs.declared.cells.Cell.{Cell}
 use Rattle.udfs_file.specs.declared.cells.Cell.TheVariants.{Gap}
 use Rattle.udfs_file.specs.declared.directories.DirEntry.{DirEntry}
 use Rattle.udfs_file.specs.declared.directories.DirFront.{DirFront}
-use Rattle.udfs_file.specs.declared.directories.Identifier.{Identifier}
-use Rattle.udfs_file.specs.declared.directories.Rest.TheVariants.{Nothing}
+use Rattle.udfs_file.specs.Identifiers.{Identifier}
+use Rattle.udfs_file.specs.Identifiers.{Nothing}
 use Rattle.udfs_file.specs.declared.faults.WalkError.{WalkError}
 use Rattle.udfs_file.specs.declared.faults.WalkError.TheVariants as walk_error
 use Rattle.udfs_file.specs.declared.stretches.Stretch.{Stretch}

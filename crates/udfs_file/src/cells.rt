@@ -1,16 +1,14 @@
-//! The cells of a body, one by one.
+//! The cells of a body, as borrowed pieces.
 
-ghost use Rattle.std.specs.Prelude.{◌≡◌, ◌<◌, Some, IfOk, drop, slice_get, take};
-ghost use Rattle.udfs_lattice.specs.Tables.{state_of};
-ghost use Rattle.udfs_lattice.specs.States.{fact_now};
-ghost use Rattle.udfs_space.specs.Places.{view};
-ghost use Rattle.udfs_file.specs.Bodies.{cell_in, recorded_cell};
-ghost use Rattle.udfs_file.specs.Stretches.{stretch_cells, stretch_count};
-ghost use Rattle.udfs_file.specs.CellsLeft.{cells_left, IsNext, IsSettled};
+ghost use Rattle.std.specs.Prelude.{◌≡◌, ℕ, ◌≤◌, ◌<◌, ◌+◌, drop, length, min, nat_le, take};
+ghost use Rattle.udfs_space.specs.Places.{View};
+ghost use Rattle.udfs_file.specs.Stretches.{LieInBlocks, cells_of};
+ghost use Rattle.udfs_file.specs.CellsLeft.{cells_left, IsSettled, room};
+ghost use Rattle.udfs_file.specs.Pieces.{FitsPiece, IsPieceOf, IsTaken, Starts};
 
-use crate::stretches::{Run, Stretch};
-use std::alloc::{AllocError, Global};
-use udfs_lattice::{BlockTable, Fact};
+use crate::pieces::{Front, Piece, Pieces, stretch_piece};
+use crate::stretches::Stretch;
+use udfs_lattice::BlockTable;
 use udfs_space::Space;
 
 /// One cell of a body.
@@ -32,39 +30,18 @@ pub(crate) struct Cells<'a> {
     pub(crate) passed: u64,
 }
 
-/// Byte i of logical block b, whose state is that of block n.
-fn cell_in(b: u32, n: u32, i: usize, fact: Fact<&[u8; 2048]>) -> Cell
-    requires { i < 2048 }
-    ensures { result ≡ cell_in b n i (fact_now fact.entry) }
+/// Whether stretches have at least so many cells.
+fn hold(stretches: &[Stretch], count: u64) -> bool
+    ensures { (v : View) → result ≡ nat_le count (length (cells_of v stretches.now)) }
 {
-    match fact {
-        Fact::Unknown => Cell::Gap(n),
-        Fact::Conflict => Cell::Gap(n),
-        Fact::Known(bytes) => Cell::Byte(bytes[i], Some(b)),
+    let mut left = count;
+    for stretch in stretches {
+        if left <= stretch.count() {
+            return true;
+        }
+        left -= stretch.count();
     }
-}
-
-/// The cell so many bytes behind the start of a run's block.
-fn recorded_cell(table: &BlockTable, space: &Space, run: Run, i: u64) -> Cell
-    ensures { result ≡ recorded_cell (view (state_of table.now) space.now) run.reference run.block i }
-{
-    let b = u64::from(run.block) + i / 2048;
-    match space.block_at(table, run.reference, b) {
-        None => Cell::Byte(0, None),
-        Some((n, fact)) => cell_in(b as u32, n, (i % 2048) as usize, fact),
-    }
-}
-
-/// Cell i of a stretch.
-fn stretch_cell(table: &BlockTable, space: &Space, stretch: Stretch, i: u64) -> Cell
-    requires { i < stretch_count stretch }
-    ensures { slice_get (stretch_cells (view (state_of table.now) space.now) stretch) i ≡ Some result }
-{
-    match stretch {
-        Stretch::Recorded(run, _) => recorded_cell(table, space, run, u64::from(run.offset) + i),
-        Stretch::Zeros(_) => Cell::Byte(0, None),
-        Stretch::Missing(n, _) => Cell::Gap(n),
-    }
+    left == 0
 }
 
 impl<'a> Cells<'a> {
@@ -72,6 +49,8 @@ impl<'a> Cells<'a> {
     fn settled(&self) -> Cells<'a>
         ensures cells { cells_left result ≡ cells_left self.now }
         ensures settled { IsSettled result }
+        ensures starts { (k : ℕ) → Starts (self.now.passed + k) self.now.stretches.now → Starts (result.passed + k) result.stretches.now }
+        ensures lies { LieInBlocks self.now.stretches.now → LieInBlocks result.stretches.now }
     {
         let mut stretches = self.stretches;
         let mut passed = self.passed;
@@ -90,36 +69,84 @@ impl<'a> Cells<'a> {
         }
     }
 
-    /// The next cell, which is then passed.
-    fn next(&mut self) -> Option<Cell>
-        ensures { IsNext (cells_left self.old) result (cells_left self.new) }
+    /// Whether at least so many cells are left.
+    pub(crate) fn holds(&self, count: u64) -> bool
+        ensures { result ≡ nat_le count (length (cells_left self.now)) }
     {
         let ahead = self.settled();
-        let Some((first, _)) = ahead.stretches.split_first() else {
-            return None;
+        let Some((first, rest)) = ahead.stretches.split_first() else {
+            return count == 0;
         };
-        let cell = stretch_cell(ahead.table, ahead.space, *first, ahead.passed);
-        *self = Cells {
-            table: ahead.table,
-            space: ahead.space,
-            stretches: ahead.stretches,
-            passed: ahead.passed + 1,
-        };
-        Some(cell)
+        let here = first.count() - ahead.passed;
+        if count <= here {
+            return true;
+        }
+        hold(rest, count - here)
     }
 
-    /// So many cells, or all if fewer are left. They are then passed.
-    pub(crate) fn take(&mut self, alloc: Global, count: usize) -> Result<Vec<Cell>, AllocError>
-        ensures cells { IfOk result (λ cells. cells.items ≡ take count (cells_left self.old)) }
-        ensures rest { IfOk result (λ cells. cells_left self.new ≡ drop count (cells_left self.old)) }
+    /// The first cells as far as they lie in one block, and at most so many.
+    fn first_piece(&self, want: usize) -> Piece<'a>
+        requires settled { IsSettled self.now }
+        requires some { 1 ≤ want }
+        requires block { want ≤ 2048 }
+        ensures cells { IsPieceOf result (take (min want (room self.now)) (cells_left self.now)) }
+        ensures size { FitsPiece result (min want (room self.now)) }
     {
-        let mut cells = Vec::new(alloc);
-        for _ in 0..count {
-            match self.next() {
-                Some(cell) => cells.push(cell)?,
-                None => {}
-            }
+        match self.stretches.split_first() {
+            Some((first, _)) => stretch_piece(self.table, self.space, *first, self.passed, want),
+            None => Piece::Bytes(&[], None),
         }
-        Ok(cells)
+    }
+
+    /// So many cells at the front, which are there.
+    pub(crate) fn front(&self, want: usize) -> Front<'a>
+        requires some { 1 ≤ want }
+        requires block { want ≤ 2048 }
+        requires there { want ≤ length (cells_left self.now) }
+        requires lies { LieInBlocks self.now.stretches.now }
+        ensures { IsTaken result (take want (cells_left self.now)) }
+    {
+        let ahead = self.settled();
+        let (first, holder) = match ahead.first_piece(want) {
+            Piece::Gap(n) => return Front::Gap(n),
+            Piece::Bytes(first, holder) => (first, holder),
+        };
+        if first.len() >= want {
+            let second: &[u8] = &[];
+            return Front::Bytes(Pieces { first, second, holder });
+        }
+        let behind = ahead.behind(first.len()).settled();
+        match behind.first_piece(want - first.len()) {
+            Piece::Gap(n) => Front::Gap(n),
+            Piece::Bytes(second, _) => Front::Bytes(Pieces { first, second, holder }),
+        }
+    }
+
+    /// The cells behind so many.
+    pub(crate) fn behind(&self, count: usize) -> Cells<'a>
+        ensures cells { cells_left result ≡ drop count (cells_left self.now) }
+        ensures starts { Starts (self.now.passed + count) self.now.stretches.now → Starts result.passed result.stretches.now }
+        ensures lies { LieInBlocks self.now.stretches.now → LieInBlocks result.stretches.now }
+    {
+        let ahead = self.settled();
+        let Some((first, rest)) = ahead.stretches.split_first() else {
+            return ahead;
+        };
+        let here = first.count() - ahead.passed;
+        let count = count as u64;
+        if count <= here {
+            return Cells {
+                table: ahead.table,
+                space: ahead.space,
+                stretches: ahead.stretches,
+                passed: ahead.passed + count,
+            };
+        }
+        Cells {
+            table: ahead.table,
+            space: ahead.space,
+            stretches: rest,
+            passed: count - here,
+        }
     }
 }

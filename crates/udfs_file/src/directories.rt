@@ -1,24 +1,26 @@
 //! Directories: the file identifier descriptors in the cells of a body (ECMA-167 4/14.4).
 
-ghost use Rattle.std.specs.Prelude.{◌≡◌, ◌≤◌, ◌+◌, map, length, IfOk};
+ghost use Rattle.std.specs.Prelude.{◌≡◌, ◌≤◌, ◌+◌, length, true, Ok, Some, IfOk};
 ghost use Rattle.udfs_lattice.specs.Tables.{state_of};
 ghost use Rattle.udfs_space.specs.Places.{view};
 ghost use Rattle.udfs_tag.specs.Fields.{uint8_at, uint16_at, part};
 ghost use Rattle.udfs_file.specs.Stretches.{cells_of};
-ghost use Rattle.udfs_file.specs.CellsLeft.{cells_left};
-ghost use Rattle.udfs_file.specs.Fronts.{first_missing, holder_of, value, is_listed, identifier_size, identifier_in, checked_identifier, sized_identifier, step, or_stop, entry_with, IsOfSize, IsBehind, missing_in, fault_in, IsFrontOf};
+ghost use Rattle.udfs_file.specs.Fronts.{entry_with, is_listed, IsFrontOf};
+ghost use Rattle.udfs_file.specs.Identifiers.{One};
+ghost use Rattle.udfs_file.specs.Steps.{IsListedIn, bytes_of};
 ghost use Rattle.udfs_file.specs.Told.{TellsFront};
 
 use crate::bodies::Body;
-use crate::cells::{Cell, Cells};
+use crate::cursors::{Cursor, Step};
 use crate::faults::NodeFault;
 use crate::marks::Marks;
+use crate::pieces::Pieces;
 use byteorder::{ByteOrder, LittleEndian};
 use std::alloc::{AllocError, Global};
 use udfs_lattice::BlockTable;
 use udfs_osta::{Name, NameFault, OutOfMemory};
 use udfs_space::Space;
-use udfs_tag::{LongAd, Tag};
+use udfs_tag::LongAd;
 
 /// An entry of a directory.
 #[derive(Debug, Drop)]
@@ -31,41 +33,6 @@ pub struct DirEntry {
     pub marks: Marks,
 }
 
-/// A file identifier descriptor: how many bytes it takes, and the entry if it is neither deleted nor the parent.
-#[derive(Drop)]
-struct Identifier {
-    size: usize,
-    listed: Option<DirEntry>,
-}
-
-/// What ends the descriptors of a directory: its end, a missing block, or a fault.
-#[derive(Clone, Copy)]
-enum Rest {
-    Nothing,
-    Stopped(u32),
-    Wrong(NodeFault),
-}
-
-impl Rest {
-    fn missing(self) -> Option<u32>
-        ensures { result ≡ missing_in self }
-    {
-        match self {
-            Rest::Stopped(n) => Some(n),
-            _ => None,
-        }
-    }
-
-    fn fault(self) -> Option<NodeFault>
-        ensures { result ≡ fault_in self }
-    {
-        match self {
-            Rest::Wrong(fault) => Some(fault),
-            _ => None,
-        }
-    }
-}
-
 /// The entries of a directory as far as they can be told, and what ended them.
 #[derive(Debug, Drop)]
 pub struct DirFront {
@@ -75,64 +42,6 @@ pub struct DirFront {
     pub missing: Option<u32>,
     /// The fault that ended it, if one did.
     pub fault: Option<NodeFault>,
-}
-
-/// What stands at the front of the cells.
-#[derive(Drop)]
-enum Step {
-    AtRest(Rest),
-    One(Identifier),
-}
-
-/// The block of the first cell that is missing.
-fn first_missing(cells: &[Cell]) -> Option<u32>
-    ensures { result ≡ first_missing cells.now }
-{
-    for cell in cells {
-        if let Cell::Gap(n) = cell {
-            return Some(*n);
-        }
-    }
-    None
-}
-
-/// The logical block that holds the first cell.
-fn holder_of(cells: &[Cell]) -> Option<u32>
-    ensures { result ≡ holder_of cells.now }
-{
-    match cells {
-        [Cell::Byte(_, holder), ..] => *holder,
-        _ => None,
-    }
-}
-
-/// The byte of a cell, 0 where it is missing.
-fn value(cell: Cell) -> u8
-    ensures { result ≡ value cell }
-{
-    match cell {
-        Cell::Byte(x, _) => x,
-        Cell::Gap(_) => 0,
-    }
-}
-
-/// The bytes of cells.
-fn values(alloc: Global, cells: &[Cell]) -> Result<Vec<u8>, AllocError>
-    ensures { IfOk result (λ bytes. bytes.items ≡ map value cells.now) }
-{
-    let mut bytes = Vec::new(alloc);
-    for cell in cells {
-        bytes.push(value(*cell))?;
-    }
-    Ok(bytes)
-}
-
-/// Whether a descriptor is neither deleted nor the parent's.
-fn is_listed(bytes: &[u8]) -> bool
-    requires { 38 ≤ length bytes.now }
-    ensures { result ≡ is_listed bytes.now }
-{
-    bytes[18] / 4 % 4 == 0
 }
 
 /// The bytes of the name.
@@ -153,117 +62,58 @@ fn name_bytes(bytes: &[u8]) -> &[u8]
     name
 }
 
-/// The descriptor in these bytes, of an entry of this name.
-fn listed(bytes: &[u8], name: Name) -> Step
-    requires { 38 ≤ length bytes.now }
-    ensures { result ≡ entry_with (length bytes.now) bytes.now (Ok name) }
+/// A front that ended so.
+fn ended(entries: Vec<DirEntry>, missing: Option<u32>, fault: Option<NodeFault>) -> DirFront
+    ensures { (result.entries ≡ entries) × (result.missing ≡ missing) × (result.fault ≡ fault) }
 {
-    Step::One(Identifier {
-        size: bytes.len(),
-        listed: Some(DirEntry {
-            name,
-            icb: LongAd::read(&bytes[20..]),
-            marks: Marks::read(bytes[18]),
-        }),
-    })
+    DirFront {
+        entries,
+        missing,
+        fault,
+    }
 }
 
-/// The descriptor in these bytes, whose tag was checked.
-fn identifier_in(alloc: Global, bytes: &[u8]) -> Result<Step, AllocError>
+/// The entry of this name in a descriptor.
+fn entry(bytes: &[u8], name: Name) -> DirEntry
     requires { 38 ≤ length bytes.now }
-    ensures value { IfOk result (λ s. s ≡ identifier_in (length bytes.now) bytes.now) }
-    ensures size { IfOk result (IsOfSize (length bytes.now)) }
+    ensures { One (record { size = length bytes.now; listed = Some result }) ≡ entry_with (length bytes.now) bytes.now (Ok name) }
 {
-    if !is_listed(bytes) {
-        return Ok(Step::One(Identifier {
-            size: bytes.len(),
-            listed: None,
-        }));
+    DirEntry {
+        name,
+        icb: LongAd::read(&bytes[20..]),
+        marks: Marks::read(bytes[18]),
     }
+}
+
+/// The entry in a descriptor that is neither deleted nor the parent's.
+fn listed_entry(alloc: Global, bytes: &[u8]) -> Result<Option<DirEntry>, AllocError>
+    requires least { 38 ≤ length bytes.now }
+    requires listed { is_listed bytes.now ≡ true }
+    ensures { IfOk result (IsListedIn bytes.now) }
+{
     match Name::read(alloc, name_bytes(bytes)) {
-        Ok(name) => Ok(listed(bytes, name)),
+        Ok(name) => Ok(Some(entry(bytes, name))),
         Err(NameFault::OutOfMemory) => Err(AllocError),
-        Err(_) => Ok(Step::AtRest(Rest::Wrong(NodeFault::Name))),
+        Err(_) => Ok(None),
     }
 }
 
-/// The descriptor in these bytes, the first of which the block holds.
-fn checked_identifier(alloc: Global, holder: Option<u32>, bytes: &[u8]) -> Result<Step, AllocError>
-    requires { 38 ≤ length bytes.now }
-    ensures value { IfOk result (λ s. s ≡ checked_identifier holder bytes.now) }
-    ensures size { IfOk result (IsOfSize (length bytes.now)) }
+/// The entry in a descriptor, if it is neither deleted nor the parent's.
+fn listed(alloc: Global, view: &Pieces<'_>) -> Result<Option<DirEntry>, AllocError>
+    requires { 38 ≤ length (bytes_of view.now) }
+    ensures { IfOk result (IsListedIn (bytes_of view.now)) }
 {
-    match holder {
-        None => Ok(Step::AtRest(Rest::Wrong(NodeFault::IdentifierTag))),
-        Some(b) => {
-            if Tag::is_valid(bytes, b, 257) {
-                identifier_in(alloc, bytes)
-            } else {
-                Ok(Step::AtRest(Rest::Wrong(NodeFault::IdentifierTag)))
-            }
-        }
+    if !view.is_listed() {
+        return Ok(None);
     }
-}
-
-/// The size of a descriptor of which these are the first bytes (ECMA-167 4/14.4.9).
-pub(crate) fn identifier_size(bytes: &[u8]) -> usize
-    requires { 38 ≤ length bytes.now }
-    ensures value { result ≡ identifier_size bytes.now }
-    ensures least { 38 ≤ result }
-{
-    4 * ((bytes[19] as usize + LittleEndian::read_u16(&bytes[36..]) as usize + 41) / 4)
-}
-
-/// The descriptor in these cells, and in no others.
-fn whole_identifier(alloc: Global, cells: &[Cell]) -> Result<Step, AllocError>
-    requires { 38 ≤ length cells.now }
-    ensures value { IfOk result (λ s. s ≡ or_stop (first_missing cells.now) (checked_identifier (holder_of cells.now) (map value cells.now))) }
-    ensures size { IfOk result (IsOfSize (length cells.now)) }
-{
-    if let Some(n) = first_missing(cells) {
-        return Ok(Step::AtRest(Rest::Stopped(n)));
+    if view.second.is_empty() {
+        let entry = listed_entry(alloc, view.first)?;
+        return Ok(entry);
     }
-    let bytes = values(alloc, cells)?;
-    let step = checked_identifier(alloc, holder_of(cells), bytes.as_slice())?;
-    Ok(step)
-}
-
-/// The descriptor of this size at the front of the cells, which are then behind it.
-fn sized_identifier(alloc: Global, cells: &mut Cells<'_>, size: usize) -> Result<Step, AllocError>
-    requires { 38 ≤ size }
-    ensures value { IfOk result (λ s. s ≡ sized_identifier (cells_left cells.old) size) }
-    ensures behind { IfOk result (λ s. IsBehind s (cells_left cells.old) (cells_left cells.new)) }
-{
-    if size > 2048 {
-        return Ok(Step::AtRest(Rest::Wrong(NodeFault::Cut)));
-    }
-    let front = cells.take(alloc, size)?;
-    if front.len() < size {
-        return Ok(Step::AtRest(Rest::Wrong(NodeFault::Cut)));
-    }
-    let step = whole_identifier(alloc, front.as_slice())?;
-    Ok(step)
-}
-
-/// The descriptor at the front of the cells, which are then behind it, or what stands there in its place.
-fn next_step(alloc: Global, cells: &mut Cells<'_>) -> Result<Step, AllocError>
-    ensures value { IfOk result (λ s. s ≡ step (cells_left cells.old)) }
-    ensures behind { IfOk result (λ s. IsBehind s (cells_left cells.old) (cells_left cells.new)) }
-{
-    let mut ahead = *cells;
-    let head = ahead.take(alloc, 38)?;
-    if head.is_empty() {
-        return Ok(Step::AtRest(Rest::Nothing));
-    }
-    if head.len() < 38 {
-        return Ok(Step::AtRest(Rest::Wrong(NodeFault::Cut)));
-    }
-    if let Some(n) = first_missing(head.as_slice()) {
-        return Ok(Step::AtRest(Rest::Stopped(n)));
-    }
-    let bytes = values(alloc, head.as_slice())?;
-    let step = sized_identifier(alloc, cells, identifier_size(bytes.as_slice()))?;
-    Ok(step)
+    let mut bytes = Vec::from_slice(alloc, view.first)?;
+    bytes.extend_from_slice(view.second)?;
+    let entry = listed_entry(alloc, bytes.as_slice())?;
+    Ok(entry)
 }
 
 /// The directories of a volume.
@@ -295,26 +145,17 @@ impl Dir {
         ensures value { IfOk result (λ front. IsFrontOf front (cells_of (view (state_of table.now) space.now) body.now)) }
         ensures complete { IfOk result (TellsFront (cells_of (view (state_of table.now) space.now) body.now)) }
     {
-        let mut cells = Cells {
-            table,
-            space,
-            stretches: body.stretches(),
-            passed: 0,
-        };
+        let mut cursor = Cursor::new(table, space, body);
         let mut entries = Vec::new(alloc);
         'steps: loop {
-            match next_step(alloc, &mut cells)? {
-                Step::AtRest(rest) => {
-                    return Ok(DirFront {
-                        entries,
-                        missing: rest.missing(),
-                        fault: rest.fault(),
-                    });
-                }
-                Step::One(Identifier { listed, .. }) => match listed {
+            match cursor.next() {
+                Step::Id(view) => match listed(alloc, &view)? {
                     Some(entry) => entries.push(entry)?,
                     None => {}
                 },
+                Step::Stop(n) => return Ok(ended(entries, Some(n), None)),
+                Step::Fault(fault) => return Ok(ended(entries, None, Some(fault))),
+                Step::End => return Ok(ended(entries, None, None)),
             }
         }
     }

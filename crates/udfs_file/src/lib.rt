@@ -8,6 +8,7 @@
 
 pub mod bodies;
 pub mod cells;
+pub mod cursors;
 pub mod directories;
 pub mod entries;
 mod extents;
@@ -19,11 +20,13 @@ mod pieces;
 pub mod stretches;
 
 pub use bodies::Body;
+pub use cursors::{Cursor, Step};
 pub use directories::{Dir, DirEntry, DirFront};
 pub use entries::Entry;
 pub use faults::{Kind, NodeFault, WalkError};
 pub use file_sets::file_set;
 pub use marks::Marks;
+pub use pieces::Pieces;
 pub use stretches::{Run, Stretch};
 
 #[cfg(test)]

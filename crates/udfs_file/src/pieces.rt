@@ -26,7 +26,7 @@ pub(crate) enum Piece<'a> {
 
 /// Bytes of a body that lie side by side: one borrowed piece, or the end of one block and then the beginning of another.
 #[derive(Clone, Copy, Debug)]
-pub struct View<'a> {
+pub struct Pieces<'a> {
     /// The first of them, at least one.
     pub first: &'a [u8],
     /// Those behind the first piece.
@@ -39,7 +39,7 @@ pub struct View<'a> {
 #[derive(Clone, Copy)]
 pub(crate) enum Front<'a> {
     /// Their bytes, of which none is missing.
-    Bytes(View<'a>),
+    Bytes(Pieces<'a>),
     /// The block of the first of them that is missing.
     Gap(u32),
 }

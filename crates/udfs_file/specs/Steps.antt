@@ -1,0 +1,52 @@
+-- Steps of a cursor through a directory.
+--     bytes_of view            the bytes of both pieces
+--     StepIs told step         what is told is this step of the definition
+--     IsStep before told after what stood next, and what is left behind it
+--     Goes before told after   the same of the list of all descriptors and what ends it
+use Rattle.std.specs.Prelude.{◌≡◌, ◌≤◌, ℕ, List, [], ◌∷◌, ◌++◌, length, drop, Option}
+use Rattle.udfs_file.specs.Fronts.{DirectoryText, directory, identifier_in, step}
+use Rattle.udfs_file.specs.Identifiers.{Identifier, Rest, Nothing, Stopped, Wrong, AtRest, One}
+use Rattle.udfs_file.specs.Identifiers as identifiers
+use Rattle.udfs_file.specs.declared.cells.Cell.{Cell}
+use Rattle.udfs_file.specs.declared.directories.DirEntry.{DirEntry}
+use Rattle.udfs_file.specs.declared.cursors.Step.{Step}
+use Rattle.udfs_file.specs.declared.cursors.Step.TheVariants.{Id, Stop, Fault, End}
+use Rattle.udfs_file.specs.declared.pieces.Pieces.{Pieces}
+
+abbrev pub bytes_of : Pieces → List ℕ
+bytes_of view = view.first.now ++ view.second.now
+
+-- the bytes are a descriptor
+pub record IsDescriptor (bytes : List ℕ) (id : Identifier) : Type 0 where
+  pub least : 38 ≤ length bytes
+  pub most : length bytes ≤ 2048
+  pub size : id.size ≡ length bytes
+  pub is : identifier_in (length bytes) bytes ≡ One id
+
+abbrev pub StepIs : Step → identifiers.Step → Type 0
+StepIs (Id view) s = (id : Identifier) × IsDescriptor (bytes_of view) id × (s ≡ One id)
+StepIs (Stop n) s = s ≡ AtRest (Stopped n)
+StepIs (Fault fault) s = s ≡ AtRest (Wrong fault)
+StepIs End s = s ≡ AtRest Nothing
+
+-- the cells behind what stood next: behind what ends a directory the cursor does not go
+abbrev pub left_behind : Step → List Cell → List Cell
+left_behind (Id view) before = drop (length (bytes_of view)) before
+left_behind (Stop n) before = before
+left_behind (Fault fault) before = before
+left_behind End before = before
+
+pub record IsStep (before : List Cell) (told : Step) (after : List Cell) : Type 0 where
+  pub is : StepIs told (step before)
+  pub behind : after ≡ left_behind told before
+
+-- the first descriptor, and then those that are left; or the rest alone, and it stays so
+abbrev pub Goes : DirectoryText → Step → DirectoryText → Type 0
+Goes before (Id view) after = (id : Identifier) × IsDescriptor (bytes_of view) id × (before.identifiers ≡ id ∷ after.identifiers) × (before.rest ≡ after.rest)
+Goes before (Stop n) after = (before.identifiers ≡ []) × (before.rest ≡ Stopped n) × (after ≡ before)
+Goes before (Fault fault) after = (before.identifiers ≡ []) × (before.rest ≡ Wrong fault) × (after ≡ before)
+Goes before End after = (before.identifiers ≡ []) × (before.rest ≡ Nothing) × (after ≡ before)
+
+-- this is the entry of the descriptor in these bytes, if they are one
+abbrev pub IsListedIn : List ℕ → Option DirEntry → Type 0
+IsListedIn bytes listed = (id : Identifier) → identifier_in (length bytes) bytes ≡ One id → id.listed ≡ listed
