@@ -1,5 +1,5 @@
 -- A directory from the middle on: what was listed, before what the rest lists, is all of it.
-use Rattle.std.proofs.Common.{◌≡◌, refl, sym, ◌∙◌, ap, subst, ℕ, ◌+◌, ◌<◌, ◌≤◌, List, [], ◌∷◌, ◌++◌, length, drop, arith, Option, Some, None, append_assoc, append-nil}
+use Rattle.std.proofs.Common.{◌≡◌, refl, sym, ◌∙◌, ap, subst, ℕ, ◌+◌, ◌-◌, ◌<◌, ◌≤◌, List, [], ◌∷◌, ◌++◌, length, drop, arith, Option, Some, None, append_assoc, append-nil, nat_eq, true, false}
 use Rattle.std.specs.Prelude.{zero, suc}
 use Rattle.std.proofs.lemmas.List.{length-drop}
 use Rattle.udfs_file.specs.declared.cells.Cell.{Cell}
@@ -7,8 +7,15 @@ use Rattle.udfs_file.specs.declared.directories.DirEntry.{DirEntry}
 use Rattle.udfs_file.specs.Identifiers.{Identifier}
 use Rattle.udfs_file.specs.Identifiers.{Rest}
 use Rattle.udfs_file.specs.Identifiers.{Step}
-use Rattle.udfs_file.specs.Identifiers.{AtRest, One}
-use Rattle.udfs_file.specs.Fronts.{step, read_on, read_from, directory, listed_entries, entries_of, DirectoryText, IsWithin, IsBehind}
+use Rattle.udfs_file.specs.Identifiers.{AtRest, One, Nothing, Stopped, Wrong}
+use Rattle.udfs_file.specs.declared.directories.DirFront.{DirFront}
+use Rattle.udfs_file.specs.declared.faults.NodeFault.{NodeFault}
+use Rattle.udfs_file.specs.Fronts.{step, read_on, read_from, directory, listed_entries, entries_of, DirectoryText, missing_in, fault_in, IsFrontOf}
+use Rattle.udfs_file.specs.Steps.{IsDescriptor, IsListedIn, IsStep, bytes_of}
+use Rattle.udfs_file.specs.declared.cursors.Step as cursor
+use Rattle.udfs_file.specs.declared.cursors.Step.TheVariants.{Id, Stop, Fault, End}
+use Rattle.udfs_file.specs.declared.pieces.Pieces.{Pieces}
+use Rattle.udfs_file.proofs.Readings.{StepOne, step_one}
 
 pub record IsFronting (cells left : List Cell) (listed : List DirEntry) : Type 0 where
   pub fuel : ℕ
@@ -62,22 +69,60 @@ go_on cells left listed (suc k) size o h e l w p q = record {
   rest = sym (ap (λ (t : DirectoryText). t.rest) (text k left (One (record { size = size; listed = o })) e)) ∙ q;
 }
 
-one_more : (cells left : List Cell) (listed items : List DirEntry) (behind : List Cell) (id : Identifier) (s : Step) (o : Option DirEntry)
-    → IsFronting cells left listed → s ≡ step left → s ≡ One id → IsBehind s left behind → id.listed ≡ o → items ≡ also listed o
-    → IsFronting cells behind items
-one_more cells left listed items behind id s o f v h n e i =
-    let taken : IsBehind (One id) left behind = subst (λ (s : Step). IsBehind s left behind) h n in
-    let w : IsWithin (length left) (One id) = taken.0 in
-    let b : behind ≡ drop id.size left = taken.1 in
-    let g : IsFronting cells (drop id.size left) (also listed id.listed) = go_on cells left listed f.fuel id.size id.listed f.enough (sym v ∙ h) w.0 w.1 f.entries f.rest in
-    subst (IsFronting cells behind) (ap (also listed) e ∙ sym i) (subst (λ (x : List Cell). IsFronting cells x (also listed id.listed)) (sym b) g)
+one_more : (cells left : List Cell) (listed items : List DirEntry) (behind : List Cell) (view : Pieces) (o : Option DirEntry)
+    → IsFronting cells left listed → IsStep left (Id view) behind → IsListedIn (bytes_of view) o → items ≡ also listed o → IsFronting cells behind items
+one_more cells left listed items behind view o f s l i = subst (IsFronting cells behind) (ap (also listed) same ∙ sym i)
+    (subst (λ (x : List Cell). IsFronting cells x (also listed id.listed)) (sym (s.behind ∙ ap (λ n. drop n left) (sym d.size)))
+    (go_on cells left listed f.fuel id.size id.listed f.enough is (let q : 38 ≤ id.size = one.big in omega (arith, q)) one.fits f.entries f.rest))
+  where
+    id : Identifier
+    id = s.is.0
 
-pub front-listed : (cells left : List Cell) (listed items : List DirEntry) (behind : List Cell) (id : Identifier) (s : Step) (entry : DirEntry)
-    → IsFronting cells left listed → s ≡ step left → s ≡ One id → IsBehind s left behind → id.listed ≡ Some entry → items ≡ listed ++ entry ∷ []
-    → IsFronting cells behind items
-front-listed cells left listed items behind id s entry = one_more cells left listed items behind id s (Some entry)
+    d : IsDescriptor (bytes_of view) id
+    d = s.is.1
 
-pub front-unlisted : (cells left : List Cell) (listed : List DirEntry) (behind : List Cell) (id : Identifier) (s : Step)
-    → IsFronting cells left listed → s ≡ step left → s ≡ One id → IsBehind s left behind → id.listed ≡ None
+    is : step left ≡ One id
+    is = s.is.2
+
+    one : StepOne left id
+    one = step_one left id is
+
+    same : id.listed ≡ o
+    same = l id d.is
+
+pub front_listed : (cells left : List Cell) (listed items : List DirEntry) (behind : List Cell) (view : Pieces) (told : cursor.Step) (entry : DirEntry) (o : Option DirEntry)
+    → IsFronting cells left listed → IsStep left told behind → told ≡ Id view → IsListedIn (bytes_of view) o → o ≡ Some entry → items ≡ listed ++ entry ∷ []
+    → IsFronting cells behind items
+front_listed cells left listed items behind view told entry o f s t l e i = one_more cells left listed items behind view (Some entry) f
+    (subst (λ (x : cursor.Step). IsStep left x behind) t s) (subst (IsListedIn (bytes_of view)) e l) i
+
+pub front_unlisted : (cells left : List Cell) (listed : List DirEntry) (behind : List Cell) (view : Pieces) (told : cursor.Step) (o : Option DirEntry)
+    → IsFronting cells left listed → IsStep left told behind → told ≡ Id view → IsListedIn (bytes_of view) o → o ≡ None
     → IsFronting cells behind listed
-front-unlisted cells left listed behind id s f v h n e = one_more cells left listed listed behind id s None f v h n e refl
+front_unlisted cells left listed behind view told o f s t l e = one_more cells left listed listed behind view None f
+    (subst (λ (x : cursor.Step). IsStep left x behind) t s) (subst (IsListedIn (bytes_of view)) e l) refl
+
+-- the pieces of a descriptor in one block are one
+pub nothing_behind : (first second : List ℕ) (o : Option DirEntry) → nat_eq (length second) 0 ≡ true → IsListedIn first o → IsListedIn (first ++ second) o
+nothing_behind first [] o e l = subst (λ b. IsListedIn b o) (sym (append-nil first)) l
+nothing_behind first (x ∷ xs) o e l = absurd (let z : nat_eq (length (x ∷ xs)) 0 ≡ false = grind arith in let y : ⊥ = cc in y)
+
+pub fewer_left : (left behind : List Cell) (told : cursor.Step) (view : Pieces) → IsStep left told behind → told ≡ Id view → length behind < length left
+fewer_left left behind told view s t = go (subst (λ (x : cursor.Step). IsStep left x behind) t s)
+  where
+    go : IsStep left (Id view) behind → length behind < length left
+    go i = let one : StepOne left i.is.0 = step_one left i.is.0 i.is.2 in
+        let d : IsDescriptor (bytes_of view) i.is.0 = i.is.1 in
+        let size : i.is.0.size ≡ length (bytes_of view) = d.size in
+        let big : 38 ≤ i.is.0.size = one.big in let fits : i.is.0.size ≤ length left = one.fits in
+        let e : length behind ≡ length left - length (bytes_of view) = ap length i.behind ∙ length-drop (length (bytes_of view)) left in
+        omega (arith, size, big, fits, e)
+
+-- the front ends with what ends the descriptors
+pub front_ended : (cells left : List Cell) (listed : List DirEntry) (front : DirFront) (rest : Rest)
+    → IsFronting cells left listed → (step left ≡ AtRest rest) → front.entries.items ≡ listed → front.missing ≡ missing_in rest → front.fault ≡ fault_in rest → IsFrontOf front cells
+front_ended cells left listed front rest f e i m q = let r = front-rest cells left listed rest f e in record {
+  entries = i ∙ r.0;
+  missing = m ∙ ap missing_in r.1;
+  fault = q ∙ ap fault_in r.1;
+}

@@ -111,21 +111,6 @@ abbrev pub entries_of : List Cell → List DirEntry
 entries_of cells = listed_entries (directory cells).identifiers
 
 -- ---- what code tells of a directory
--- a descriptor takes so many cells
-abbrev pub IsOfSize : ℕ → Step → Type 0
-IsOfSize n (AtRest rest) = ⊤
-IsOfSize n (One id) = id.size ≡ n
-
--- a descriptor takes some of so many cells
-abbrev pub IsWithin : ℕ → Step → Type 0
-IsWithin n (AtRest rest) = ⊤
-IsWithin n (One id) = (1 ≤ id.size) × (id.size ≤ n)
-
--- a descriptor was taken from the front of some cells, and the others are left
-abbrev pub IsBehind : Step → List Cell → List Cell → Type 0
-IsBehind (AtRest rest) before after = ⊤
-IsBehind (One id) before after = IsWithin (length before) (One id) × (after ≡ drop id.size before)
-
 abbrev pub missing_in : Rest → Option ℕ
 missing_in Nothing = None
 missing_in (Stopped n) = Some n

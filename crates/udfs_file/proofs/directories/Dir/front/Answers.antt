@@ -1,0 +1,44 @@
+use Rattle.std.proofs.Common.{◌≡◌, ◌∙◌, sym, ap, subst, List, []}
+use Rattle.udfs_lattice.specs.Tables.{state_of}
+use Rattle.udfs_space.specs.Places.{view}
+use Rattle.udfs_file.specs.Identifiers.{Nothing, Stopped, Wrong}
+use Rattle.udfs_file.specs.Stretches.{cells_of}
+use Rattle.udfs_file.specs.declared.cells.Cell.{Cell}
+use Rattle.udfs_file.proofs.FrontLemmas.{IsFronting, front-start, front_listed, front_unlisted, fewer_left, front_ended}
+use Rattle.udfs_file.proofs.Telling.{front_clauses}
+use Rattle.udfs_file.proofs.directories.Dir.front.Goals as goal
+
+pub steps-init : goal.steps-init
+steps-init c = subst (IsFronting (cells_of (view (state_of c.args.table.now) c.args.space.now) c.args.body.now) c.new-cursor.result) (sym c.new-entries.ensures.items)
+    (subst (λ (cs : List Cell). IsFronting (cells_of (view (state_of c.args.table.now) c.args.space.now) c.args.body.now) cs []) (sym c.new-cursor.ensures)
+    (front-start (cells_of (view (state_of c.args.table.now) c.args.space.now) c.args.body.now)))
+
+pub steps-smaller-in-Continue-branch-3 : goal.steps-smaller-in-Continue-branch-3
+steps-smaller-in-Continue-branch-3 c = fewer_left c.steps.cursor c.next.new.self c.next.result c.in-Id.view c.next.ensures.step c.in-Id.is
+
+pub steps-preserved-in-Continue-branch-3 : goal.steps-preserved-in-Continue-branch-3
+steps-preserved-in-Continue-branch-3 c = front_listed (cells_of (view (state_of c.args.table.now) c.args.space.now) c.args.body.now) c.steps.cursor c.steps.entries.items c.push.new.self.items
+    c.next.new.self c.in-Id.view c.next.result c.in-Some.entry c.in_ok-entry-in-Id.field-0 c.steps.invariant c.next.ensures.step c.in-Id.is c.in_ok-entry-in-Id.ensures c.in-Some.is
+    c.in_ok-push-in-Some.ensures.items
+
+pub steps-smaller : goal.steps-smaller
+steps-smaller c = fewer_left c.steps.cursor c.next.new.self c.next.result c.in-Id.view c.next.ensures.step c.in-Id.is
+
+pub steps-preserved : goal.steps-preserved
+steps-preserved c = front_unlisted (cells_of (view (state_of c.args.table.now) c.args.space.now) c.args.body.now) c.steps.cursor c.steps.entries.items
+    c.next.new.self c.in-Id.view c.next.result c.in_ok-entry-in-Id.field-0 c.steps.invariant c.next.ensures.step c.in-Id.is c.in_ok-entry-in-Id.ensures c.in-None.is
+
+pub returns-in-Stop : goal.returns-in-Stop
+returns-in-Stop c = front_clauses (cells_of (view (state_of c.args.table.now) c.args.space.now) c.args.body.now) c.ended.result
+    (front_ended (cells_of (view (state_of c.args.table.now) c.args.space.now) c.args.body.now) c.steps.cursor c.steps.entries.items c.ended.result (Stopped c.in-Stop.n) c.steps.invariant c.in-Stop.ensures.step.is
+    (ap (λ es. es.items) c.ended.ensures.0) c.ended.ensures.1 c.ended.ensures.2)
+
+pub returns-in-Fault : goal.returns-in-Fault
+returns-in-Fault c = front_clauses (cells_of (view (state_of c.args.table.now) c.args.space.now) c.args.body.now) c.ended-in-Fault.result
+    (front_ended (cells_of (view (state_of c.args.table.now) c.args.space.now) c.args.body.now) c.steps.cursor c.steps.entries.items c.ended-in-Fault.result (Wrong c.in-Fault.fault) c.steps.invariant c.in-Fault.ensures.step.is
+    (ap (λ es. es.items) c.ended-in-Fault.ensures.0) c.ended-in-Fault.ensures.1 c.ended-in-Fault.ensures.2)
+
+pub returns-in-End : goal.returns-in-End
+returns-in-End c = front_clauses (cells_of (view (state_of c.args.table.now) c.args.space.now) c.args.body.now) c.ended-in-End.result
+    (front_ended (cells_of (view (state_of c.args.table.now) c.args.space.now) c.args.body.now) c.steps.cursor c.steps.entries.items c.ended-in-End.result Nothing c.steps.invariant c.in-End.ensures.step.is
+    (ap (λ es. es.items) c.ended-in-End.ensures.0) c.ended-in-End.ensures.1 c.ended-in-End.ensures.2)
