@@ -1,15 +1,15 @@
 -- Cells behind a first few, and how many of them lie in one block.
-use Rattle.std.proofs.Common.{◌≡◌, refl, sym, ◌∙◌, ap, subst, inl, inr, ◌⊎◌, ℕ, ◌+◌, ◌-◌, ◌*◌, ◌%◌, ◌<◌, ◌≤◌, min, List, [], ◌∷◌, ◌++◌, length, take, drop, map, arith, replicate, length-append, true, false, nat_le, nat_eq, None, get_or, drop-cons}
+use Rattle.std.proofs.Common.{◌≡◌, refl, sym, ◌∙◌, ap, subst, inl, inr, ◌⊎◌, ℕ, ◌+◌, ◌-◌, ◌<◌, ◌≤◌, min, List, [], ◌∷◌, ◌++◌, length, take, drop, arith, length-append, true, false, nat_le, nat_eq, None, get_or, drop-cons}
 use Rattle.std.specs.Prelude.{zero, suc}
 use Rattle.std.proofs.Math.Seq.{drop-append-add}
-use Rattle.std.proofs.lemmas.List.{length-replicate, drop-drop, length-drop, length-map, length-take, length-take-le, drop-append-le, take-append-le}
+use Rattle.std.proofs.lemmas.List.{length-replicate, drop-drop, length-drop, length-map, length-take-le, drop-append-le, take-append-le}
 use Rattle.std.proofs.lemmas.List.FromFn.{length-map-range_with_len}
 use Rattle.udfs_space.specs.Places.{View}
 use Rattle.udfs_file.specs.Bodies.{recorded_cell}
 use Rattle.udfs_file.specs.CellsLeft.{IsInFirst, room_of}
 use Rattle.udfs_file.proofs.BodyFrom.{le_or_lt}
-use Rattle.udfs_file.specs.Pieces.{BeginsBlock, FitsPiece, IsPieceOf, Starts, rest_in_block}
-use Rattle.udfs_file.specs.Stretches.{FillsBlocks, IsLast, LieInBlocks, stretch_cells, stretch_count, cells_of}
+use Rattle.udfs_file.specs.Pieces.{FitsPiece, IsPieceOf, Starts, rest_in_block}
+use Rattle.udfs_file.specs.Stretches.{LieInBlocks, stretch_cells, stretch_count, cells_of}
 use Rattle.udfs_file.specs.declared.cells.Cell.{Cell}
 use Rattle.udfs_file.specs.declared.cells.Cell.TheVariants.{Byte, Gap}
 use Rattle.udfs_file.specs.declared.pieces.Piece.{Piece}

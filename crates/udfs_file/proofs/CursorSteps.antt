@@ -1,8 +1,7 @@
 -- Steps of a cursor as steps through the list of all descriptors.
-use Rattle.std.proofs.Common.{◌≡◌, refl, sym, ◌∙◌, ap, subst, ℕ, List, [], ◌∷◌, ◌++◌, length, drop}
-use Rattle.udfs_file.specs.Complete.{ReadsLaw}
+use Rattle.std.proofs.Common.{◌≡◌, sym, ◌∙◌, ap, subst, List, [], ◌∷◌, drop}
 use Rattle.udfs_file.specs.Fronts.{ReadsAs, directory, step}
-use Rattle.udfs_file.specs.Identifiers.{Identifier, Rest, AtRest, One, Nothing, Stopped, Wrong}
+use Rattle.udfs_file.specs.Identifiers.{Identifier, Rest, AtRest, Nothing, Stopped, Wrong}
 use Rattle.udfs_file.specs.Steps.{Goes, IsDescriptor, IsStep, bytes_of}
 use Rattle.udfs_file.specs.declared.cells.Cell.{Cell}
 use Rattle.udfs_file.specs.declared.cursors.Step.{Step}

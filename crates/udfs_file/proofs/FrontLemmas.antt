@@ -7,13 +7,12 @@ use Rattle.udfs_file.specs.declared.directories.DirEntry.{DirEntry}
 use Rattle.udfs_file.specs.Identifiers.{Identifier}
 use Rattle.udfs_file.specs.Identifiers.{Rest}
 use Rattle.udfs_file.specs.Identifiers.{Step}
-use Rattle.udfs_file.specs.Identifiers.{AtRest, One, Nothing, Stopped, Wrong}
+use Rattle.udfs_file.specs.Identifiers.{AtRest, One}
 use Rattle.udfs_file.specs.declared.directories.DirFront.{DirFront}
-use Rattle.udfs_file.specs.declared.faults.NodeFault.{NodeFault}
 use Rattle.udfs_file.specs.Fronts.{step, read_on, read_from, directory, listed_entries, entries_of, DirectoryText, missing_in, fault_in, IsFrontOf}
 use Rattle.udfs_file.specs.Steps.{IsDescriptor, IsListedIn, IsStep, bytes_of}
 use Rattle.udfs_file.specs.declared.cursors.Step as cursor
-use Rattle.udfs_file.specs.declared.cursors.Step.TheVariants.{Id, Stop, Fault, End}
+use Rattle.udfs_file.specs.declared.cursors.Step.TheVariants.{Id}
 use Rattle.udfs_file.specs.declared.pieces.Pieces.{Pieces}
 use Rattle.udfs_file.proofs.Readings.{StepOne, step_one}
 

@@ -1,16 +1,16 @@
 -- So many cells at the front, where 2048 at most lie in one block or in two.
-use Rattle.std.proofs.Common.{◌≡◌, refl, sym, ◌∙◌, ap, subst, inl, inr, ◌⊎◌, ℕ, ◌+◌, ◌-◌, ◌*◌, ◌%◌, ◌<◌, ◌≤◌, min, List, [], ◌∷◌, ◌++◌, length, take, drop, map, arith, length-append, Option, Some, None, append-nil}
+use Rattle.std.proofs.Common.{◌≡◌, refl, sym, ◌∙◌, ap, subst, inl, inr, ℕ, ◌+◌, ◌-◌, ◌%◌, ◌<◌, ◌≤◌, min, List, [], ◌∷◌, ◌++◌, length, take, drop, map, arith, Option, Some, None, append-nil}
 use Rattle.std.specs.Prelude.{zero, suc}
-use Rattle.std.proofs.lemmas.List.{length-drop, length-map, length-take-le, drop-drop, map-append, take_all}
+use Rattle.std.proofs.lemmas.List.{length-drop, map-append}
 use Rattle.udfs_space.specs.Places.{View, view}
 use Rattle.udfs_file.specs.CellsLeft.{IsInFirst, IsSettled, cells_left, room, room_of}
 use Rattle.udfs_lattice.specs.Tables.{state_of}
 use Rattle.udfs_file.specs.declared.cells.Cells.{Cells}
 use Rattle.udfs_file.specs.Fronts.{first_missing, holder_of, value}
-use Rattle.udfs_file.specs.Pieces.{AreBytes, BeginsBlock, Starts, byte_cells, rest_in_block}
+use Rattle.udfs_file.specs.Pieces.{BeginsBlock, Starts, byte_cells, rest_in_block}
 use Rattle.udfs_file.specs.Stretches.{FillsBlocks, IsLast, LieInBlocks, stretch_count, cells_of}
 use Rattle.udfs_file.specs.declared.cells.Cell.{Cell}
-use Rattle.udfs_file.specs.declared.cells.Cell.TheVariants.{Byte, Gap}
+use Rattle.udfs_file.specs.declared.cells.Cell.TheVariants.{Gap}
 use Rattle.udfs_file.specs.declared.stretches.Stretch.{Stretch}
 use Rattle.udfs_file.specs.declared.stretches.Stretch.TheVariants.{Recorded, Zeros, Missing}
 use Rattle.udfs_file.proofs.CellLemmas.{left_in, none_after, rest_some}
@@ -27,8 +27,10 @@ starts_zero (s ∷ ss) = (λ h. begins s, λ h. subst (λ n. Starts n ss) (let e
 
 -- behind all cells of the first stretch that lie in its block
 starts_behind : (s : Stretch) (ss : List Stretch) (p k : ℕ) → p < stretch_count s → k ≡ rest_in_block s p → Starts (p + k) (s ∷ ss)
-starts_behind (Recorded run n) ss p k h e = (λ l. inl (let z : (run.offset + (p + k)) % 2048 ≡ 0 = omega (arith, e, l, h) in z),
-  λ l. subst (λ m. Starts m ss) (let z : 0 ≡ p + k - n = omega (arith, e, l, h) in z) (starts_zero ss))
+starts_behind (Recorded run n) ss p k h e = (
+  λ l. inl (let z : (run.offset + (p + k)) % 2048 ≡ 0 = omega (arith, e, l, h) in z),
+  λ l. subst (λ m. Starts m ss) (let z : 0 ≡ p + k - n = omega (arith, e, l, h) in z) (starts_zero ss),
+)
 starts_behind (Zeros n) ss p k h e = (λ l. absurd (let z : ⊥ = omega (arith, e, l, h) in z), λ l. subst (λ m. Starts m ss) (let z : 0 ≡ p + k - n = omega (arith, e, l, h) in z) (starts_zero ss))
 starts_behind (Missing b n) ss p k h e = (λ l. tt, λ l. subst (λ m. Starts m ss) (let z : 0 ≡ p + k - n = omega (arith, e, l, h) in z) (starts_zero ss))
 

@@ -1,8 +1,7 @@
 -- The cells of one block, as bytes side by side.
-use Rattle.std.proofs.Common.{◌≡◌, refl, sym, ◌∙◌, ap, subst, inl, inr, ◌⊎◌, ℕ, ◌+◌, ◌-◌, ◌*◌, ◌/◌, ◌%◌, ◌<◌, ◌≤◌, min, List, [], ◌∷◌, ◌++◌, length, take, drop, map, arith, Option, Some, None, replicate, get_or, drop-cons}
-use Rattle.std.specs.Prelude.{zero, suc, slice_index}
+use Rattle.std.proofs.Common.{◌≡◌, refl, sym, ◌∙◌, ap, subst, inl, inr, ◌⊎◌, ℕ, ◌+◌, ◌-◌, ◌*◌, ◌/◌, ◌%◌, ◌<◌, ◌≤◌, min, List, ◌∷◌, length, take, drop, map, arith, Some, None, replicate, get_or, drop-cons}
+use Rattle.std.specs.Prelude.{zero, suc}
 use Rattle.std.specs.List.{range_with_len}
-use Rattle.std.proofs.lemmas.List.{take-replicate}
 use Rattle.udfs_lattice.specs.States.{State}
 use Rattle.udfs_lattice.specs.declared.facts.Fact.TheVariants.{Unknown, Known, Conflict}
 use Rattle.udfs_space.specs.Places.{View, block_at}
@@ -71,8 +70,10 @@ gap_at b i n s (inr e) = ap (cell_in b n i) e
 pub gap_first : (v : View) (r b at k n : ℕ) (s : State) → 1 ≤ k → (s ≡ Unknown) ⊎ (s ≡ Conflict) → block_at v r (b + at / 2048) ≡ Some (n, s)
     → (rest : List Cell) × (map (recorded_cell v r b) (range_with_len at k) ≡ Gap n ∷ rest)
 gap_first v r b at zero n s h u e = absurd (let z : ⊥ = omega (arith, h) in z)
-gap_first v r b at (suc k) n s h u e = (map (recorded_cell v r b) (range_with_len (at + 1) k),
-  ap (λ c. c ∷ map (recorded_cell v r b) (range_with_len (at + 1) k)) (ap (cell_at (b + at / 2048) (at % 2048)) e ∙ gap_at (b + at / 2048) (at % 2048) n s u))
+gap_first v r b at (suc k) n s h u e = (
+  map (recorded_cell v r b) (range_with_len (at + 1) k),
+  ap (λ c. c ∷ map (recorded_cell v r b) (range_with_len (at + 1) k)) (ap (cell_at (b + at / 2048) (at % 2048)) e ∙ gap_at (b + at / 2048) (at % 2048) n s u),
+)
 
 -- ---- a part of one stretch
 drop_range : {A : Type 0} (f : ℕ → A) (a n p : ℕ) → p ≤ n → drop p (map f (range_with_len a n)) ≡ map f (range_with_len (a + p) (n - p))

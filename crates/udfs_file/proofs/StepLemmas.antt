@@ -1,15 +1,14 @@
 -- A descriptor at the front of cells, told by the first cells alone.
-use Rattle.std.proofs.Common.{◌≡◌, ◌≢◌, refl, sym, ◌∙◌, ap, subst, ℕ, ◌+◌, ◌-◌, ◌<◌, ◌≤◌, min, Bool, true, false, List, [], ◌∷◌, ◌++◌, length, take, drop, map, cond, ◌||◌, arith, Option, Some, None, nat_lt, nat_le, length-append}
+use Rattle.std.proofs.Common.{◌≡◌, refl, sym, ◌∙◌, ap, ℕ, ◌+◌, ◌-◌, ◌<◌, ◌≤◌, Bool, true, false, List, [], ◌∷◌, ◌++◌, length, take, drop, map, cond, ◌||◌, arith, Some, None, nat_lt, nat_le}
 use Rattle.std.specs.Prelude.{zero, suc, is_some, Result, Ok, Err}
 use Rattle.udfs_tag.specs.Fields.{part, uint8_at, uint16_at}
 use Rattle.udfs_osta.specs.Names.{fault_of, units_of}
 use Rattle.udfs_osta.specs.declared.names.NameFault.{NameFault}
-use Rattle.std.proofs.lemmas.List.{length-take, length-take-le, length-map}
+use Rattle.std.proofs.lemmas.List.{length-take-le, length-map}
 use Rattle.udfs_file.specs.Pieces.{AreBytes}
-use Rattle.udfs_file.specs.Steps.{IsDescriptor, StepIs, bytes_of}
+use Rattle.udfs_file.specs.Steps.{IsDescriptor, bytes_of}
 use Rattle.udfs_file.specs.declared.cells.Cell.{Cell}
 use Rattle.udfs_file.specs.declared.cells.Cell.TheVariants.{Byte, Gap}
-use Rattle.udfs_file.specs.declared.cursors.Step as told
 use Rattle.udfs_file.specs.declared.pieces.Pieces.{Pieces}
 use Rattle.udfs_file.specs.Identifiers.{Identifier, Step, AtRest, One, Nothing, Stopped, Wrong}
 use Rattle.udfs_file.specs.declared.faults.NodeFault.TheVariants.{Cut, Name}

@@ -1,7 +1,7 @@
 -- The cells of a body behind a first few.
 --     cells_left cells      those that are left
 --     room cells            how many of the first lie in one block
-use Rattle.std.specs.Prelude.{◌≡◌, ◌<◌, ℕ, List, [], ◌∷◌, drop, Option, Some, None, ⊤}
+use Rattle.std.specs.Prelude.{◌<◌, ℕ, List, [], ◌∷◌, drop, ⊤}
 use Rattle.udfs_lattice.specs.Tables.{state_of}
 use Rattle.udfs_space.specs.Places.{view}
 use Rattle.udfs_file.specs.Stretches.{cells_of, stretch_count}

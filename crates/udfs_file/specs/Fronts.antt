@@ -2,7 +2,7 @@
 --     ReadsAs cells ids rest      the cells are these descriptors, and then the rest
 --     directory cells             the descriptors and the rest
 --     front cells                 the entries that are neither deleted nor the parent
-use Rattle.std.specs.Prelude.{◌≡◌, ◌≤◌, ℕ, zero, suc, ◌+◌, ◌*◌, ◌/◌, ◌%◌, Bool, List, [], ◌∷◌, length, take, drop, map, cond, ◌==◌, nat_lt, ◌||◌, Option, Some, None, filter_map, Result, Ok, Err, ⊤}
+use Rattle.std.specs.Prelude.{◌≡◌, ℕ, zero, suc, ◌+◌, ◌*◌, ◌/◌, ◌%◌, Bool, List, [], ◌∷◌, length, take, drop, map, cond, ◌==◌, nat_lt, ◌||◌, Option, Some, None, filter_map, Result, Ok, Err}
 use Rattle.udfs_tag.specs.Fields.{uint16_at}
 use Rattle.udfs_tag.specs.Fields.{uint8_at, long_ad_at, part}
 use Rattle.udfs_tag.specs.Tags.{is_valid}

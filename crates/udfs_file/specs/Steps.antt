@@ -4,7 +4,7 @@
 --     IsStep before told after what stood next, and what is left behind it
 --     Goes before told after   the same of the list of all descriptors and what ends it
 use Rattle.std.specs.Prelude.{◌≡◌, ◌≤◌, ℕ, List, [], ◌∷◌, ◌++◌, length, drop, Option}
-use Rattle.udfs_file.specs.Fronts.{DirectoryText, directory, identifier_in, step}
+use Rattle.udfs_file.specs.Fronts.{DirectoryText, identifier_in, step}
 use Rattle.udfs_file.specs.Identifiers.{Identifier, Rest, Nothing, Stopped, Wrong, AtRest, One}
 use Rattle.udfs_file.specs.Identifiers as identifiers
 use Rattle.udfs_file.specs.declared.cells.Cell.{Cell}

@@ -113,12 +113,20 @@ impl<'a> Cells<'a> {
         };
         if first.len() >= want {
             let second: &[u8] = &[];
-            return Front::Bytes(Pieces { first, second, holder });
+            return Front::Bytes(Pieces {
+                first,
+                second,
+                holder,
+            });
         }
         let behind = ahead.behind(first.len()).settled();
         match behind.first_piece(want - first.len()) {
             Piece::Gap(n) => Front::Gap(n),
-            Piece::Bytes(second, _) => Front::Bytes(Pieces { first, second, holder }),
+            Piece::Bytes(second, _) => Front::Bytes(Pieces {
+                first,
+                second,
+                holder,
+            }),
         }
     }
 

@@ -85,7 +85,7 @@ impl<'a> Pieces<'a> {
     }
 
     /// The size of a descriptor of which these are the first bytes (ECMA-167 4/14.4.9).
-    fn identifier_size(&self) -> usize
+    pub(crate) fn identifier_size(&self) -> usize
         requires { 38 ≤ length (bytes_of self.now) }
         ensures value { result ≡ identifier_size (bytes_of self.now) }
         ensures least { 38 ≤ result }
@@ -136,7 +136,11 @@ fn has_bad_name(view: &Pieces<'_>) -> bool
     let start = 38 + view.uint16(36) as usize;
     let count = view.uint8(19) as usize;
     let first = slice_of(view.first, start, count);
-    let second = slice_of(view.second, start.saturating_sub(view.first.len()), count - first.len());
+    let second = slice_of(
+        view.second,
+        start.saturating_sub(view.first.len()),
+        count - first.len(),
+    );
     Name::fault(first, second).is_some()
 }
 

@@ -1,7 +1,7 @@
 //! Directories.
 
-use super::told::front;
-use crate::directories::identifier_size;
+use super::told::{front, steps};
+use crate::pieces::Pieces;
 use std::alloc::{AllocError, Global};
 use std::test::Fail;
 use udfs_samples::{Bytes, Disc};
@@ -58,22 +58,33 @@ fn changed_directories(rt: HostRuntime) -> Result<(), Fail> {
     Ok(())
 }
 
+/// The size of a descriptor that begins with these bytes, cut behind so many.
+fn size_of(bytes: &[u8; 38], cut: usize) -> usize {
+    let (first, second) = bytes.split_at(cut.min(38));
+    let holder = None;
+    Pieces {
+        first,
+        second,
+        holder,
+    }
+    .identifier_size()
+}
+
 #[test]
 fn identifier_sizes(rt: HostRuntime) -> Result<(), Fail> {
     let mut bytes = [0; 38];
-    assert_eq!(rt; identifier_size(&bytes), 40);
+    assert_eq!(rt; size_of(&bytes, 38), 40);
     bytes[19] = 9;
-    assert_eq!(rt; identifier_size(&bytes), 48);
+    assert_eq!(rt; size_of(&bytes, 19), 48);
     bytes[19] = 2;
     bytes[36] = 0xd8;
     bytes[37] = 7;
-    assert_eq!(rt; identifier_size(&bytes), 2048);
+    assert_eq!(rt; size_of(&bytes, 37), 2048);
     bytes[36] = 0xd9;
-    assert_eq!(rt; identifier_size(&bytes), 2052);
+    assert_eq!(rt; size_of(&bytes, 0), 2052);
     Ok(())
 }
 
-/// A descriptor with 2008 bytes of implementation use takes a block; with one more it takes too much.
 #[test]
 fn longest_identifier(rt: HostRuntime) -> Result<(), Fail> {
     let alloc = rt.alloc();
@@ -242,5 +253,34 @@ fn embedded_directory(rt: HostRuntime) -> Result<(), Fail> {
         let table = disc.known_but(alloc, &[])?;
         assert_eq!(rt; front(alloc, &table, 0, 1)?.as_str(), expected);
     }
+    Ok(())
+}
+
+/// The steps of a cursor over 52 identifiers of 40 bytes: the last lies in two pieces, and what ends them is told again.
+#[test]
+fn steps_in_two_blocks(rt: HostRuntime) -> Result<(), Fail> {
+    let alloc = rt.alloc();
+    let mut expected = format!(in alloc; "steps")?;
+    for _ in 0..51 {
+        expected.push_str(" 40+0")?;
+    }
+    let disc = two_blocks(alloc, &TAGS[0])?;
+    let whole = steps(alloc, &disc.known_but(alloc, &[])?, 1, 54)?;
+    assert_eq!(rt;
+        whole.as_str(),
+        format!(in alloc; "{expected} 8+32 end end")?.as_str()
+    );
+    let stopped = steps(alloc, &disc.known_but(alloc, &[275])?, 1, 53)?;
+    assert_eq!(rt;
+        stopped.as_str(),
+        format!(in alloc; "{expected} stop 275 stop 275")?.as_str()
+    );
+    let elsewhere = two_blocks(alloc, &TAGS[1])?;
+    let broken = steps(alloc, &elsewhere.known_but(alloc, &[])?, 1, 53)?;
+    let fault = "fault 10 IdentifierTag";
+    assert_eq!(rt;
+        broken.as_str(),
+        format!(in alloc; "{expected} {fault} {fault}")?.as_str()
+    );
     Ok(())
 }

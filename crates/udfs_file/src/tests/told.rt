@@ -1,12 +1,13 @@
 //! What is told of the files of sample volumes, as texts.
 
 use crate::bodies::Body;
-use crate::cells::{Cell, Cells};
+use crate::cells::Cell;
+use crate::cursors::{Cursor, Step};
 use crate::directories::Dir;
 use crate::entries::Entry;
 use crate::faults::{Kind, NodeFault, WalkError};
 use crate::file_sets::file_set;
-use crate::stretches::Stretch;
+use crate::stretches::{Run, Stretch};
 use std::alloc::{AllocError, Global};
 use std::test::Fail;
 use udfs_lattice::{BlockTable, Fact};
@@ -173,6 +174,38 @@ fn are_alike(a: Option<Cell>, b: Cell) -> bool {
     }
 }
 
+/// The cell so many bytes behind the start of a run's block.
+fn recorded_cell(table: &BlockTable, space: &Space, run: Run, at: u64) -> Cell {
+    let b = u64::from(run.block).wrapping_add(at / 2048);
+    match space.block_at(table, run.reference, b) {
+        None => Cell::Byte(0, None),
+        Some((_, Fact::Known(bytes))) => Cell::Byte(bytes[(at % 2048) as usize], Some(b as u32)),
+        Some((n, _)) => Cell::Gap(n),
+    }
+}
+
+/// The cells of a body one by one, and at most 8192 of a stretch.
+fn all_cells(
+    alloc: Global,
+    table: &BlockTable,
+    space: &Space,
+    body: &Body,
+) -> Result<Vec<Cell>, AllocError> {
+    let mut cells = Vec::new(alloc);
+    for stretch in body.stretches() {
+        for i in 0..stretch.count().min(8192) {
+            cells.push(match stretch {
+                Stretch::Recorded(run, _) => {
+                    recorded_cell(table, space, *run, u64::from(run.offset).wrapping_add(i))
+                }
+                Stretch::Zeros(_) => Cell::Byte(0, None),
+                Stretch::Missing(n, _) => Cell::Gap(*n),
+            })?;
+        }
+    }
+    Ok(cells)
+}
+
 /// The cells of a body, like ones together: `61*2048` for known ones, `?278*2048` for missing ones; or its fault.
 pub fn cells(alloc: Global, table: &BlockTable, reference: u16, b: u32) -> Result<String, Fail> {
     let Some((space, _)) = laid_out(alloc, table) else {
@@ -182,13 +215,7 @@ pub fn cells(alloc: Global, table: &BlockTable, reference: u16, b: u32) -> Resul
         Ok(body) => body,
         Err(text) => return Ok(text),
     };
-    let mut left = Cells {
-        table,
-        space: &space,
-        stretches: body.stretches(),
-        passed: 0,
-    };
-    let all = left.take(alloc, 8192)?;
+    let all = all_cells(alloc, table, &space, &body)?;
     let mut text = format!(in alloc; "cells")?;
     let mut last = None;
     let mut count = 0usize;
@@ -230,6 +257,35 @@ pub fn front(alloc: Global, table: &BlockTable, reference: u16, b: u32) -> Resul
         text.push(' ')?;
         let fault = fault_text(alloc, fault)?;
         text.push_str(fault.as_str())?;
+    }
+    Ok(text)
+}
+
+/// So many steps of a cursor through a directory: of a descriptor the sizes of its pieces, else what ends them.
+pub fn steps(alloc: Global, table: &BlockTable, b: u32, count: usize) -> Result<String, Fail> {
+    let Some((space, _)) = laid_out(alloc, table) else {
+        return Ok(format!(in alloc; "no layout")?);
+    };
+    let body = match body_of(alloc, table, &space, 0, b)? {
+        Ok(body) => body,
+        Err(text) => return Ok(text),
+    };
+    let mut cursor = Cursor::new(table, &space, &body);
+    let mut text = format!(in alloc; "steps")?;
+    for _ in 0..count {
+        let step = match cursor.next() {
+            Step::Id(view) => {
+                let (first, second) = (view.first.len(), view.second.len());
+                format!(in alloc; " {first}+{second}")?
+            }
+            Step::Stop(n) => format!(in alloc; " stop {n}")?,
+            Step::Fault(fault) => {
+                let fault = fault_text(alloc, fault)?;
+                format!(in alloc; " {fault}")?
+            }
+            Step::End => format!(in alloc; " end")?,
+        };
+        text.push_str(step.as_str())?;
     }
     Ok(text)
 }

@@ -1,4 +1,4 @@
-use Rattle.std.proofs.Common.{◌≡◌, ◌≤◌, ◌<◌, ◌-◌, ◌+◌, ◌∙◌, sym, ap, subst, length, drop, nat_le}
+use Rattle.std.proofs.Common.{◌≤◌, ◌<◌, ◌-◌, ◌+◌, ◌∙◌, ap, subst, length, drop, nat_le}
 use Rattle.udfs_file.specs.Stretches.{cells_of}
 use Rattle.udfs_file.proofs.CellLemmas.{held_first, held_on, held_none}
 use Rattle.udfs_file.proofs.cells.hold.Goals as goal

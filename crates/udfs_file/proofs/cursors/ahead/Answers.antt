@@ -1,4 +1,4 @@
-use Rattle.std.proofs.Common.{◌≡◌, ◌∙◌, sym, ap, subst}
+use Rattle.std.proofs.Common.{◌∙◌, sym, ap, subst}
 use Rattle.udfs_file.specs.CellsLeft.{cells_left}
 use Rattle.udfs_file.specs.Fronts.{sized_identifier}
 use Rattle.udfs_file.specs.Steps.{StepIs}

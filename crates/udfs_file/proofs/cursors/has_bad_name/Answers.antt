@@ -1,4 +1,4 @@
-use Rattle.std.proofs.Common.{◌≡◌, ◌∙◌, sym, ap, ◌+◌, ◌-◌, length, take, drop}
+use Rattle.std.proofs.Common.{◌∙◌, ap, ◌+◌, ◌-◌, length, take, drop}
 use Rattle.std.specs.Prelude.{is_some}
 use Rattle.udfs_osta.specs.Names.{fault_of, units_of}
 use Rattle.udfs_file.specs.Steps.{bytes_of}

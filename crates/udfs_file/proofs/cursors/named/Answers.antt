@@ -1,4 +1,4 @@
-use Rattle.std.proofs.Common.{◌≡◌, ◌∙◌, sym}
+use Rattle.std.proofs.Common.{◌∙◌, sym}
 use Rattle.udfs_file.specs.Steps.{bytes_of}
 use Rattle.udfs_file.proofs.StepLemmas.{unlisted, good_name}
 use Rattle.udfs_file.proofs.cursors.named.Goals as goal

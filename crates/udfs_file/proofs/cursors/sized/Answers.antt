@@ -1,4 +1,4 @@
-use Rattle.std.proofs.Common.{◌≡◌, ◌∙◌, sym, subst, arith}
+use Rattle.std.proofs.Common.{◌∙◌, sym, subst}
 use Rattle.udfs_file.specs.CellsLeft.{cells_left}
 use Rattle.udfs_file.specs.Steps.{StepIs}
 use Rattle.udfs_file.proofs.StepLemmas.{sized_whole}

@@ -1,4 +1,4 @@
-use Rattle.std.proofs.Common.{◌≡◌, ◌∙◌, sym}
+use Rattle.std.proofs.Common.{◌∙◌, sym}
 use Rattle.udfs_file.proofs.FrontLemmas.{nothing_behind}
 use Rattle.udfs_file.proofs.directories.listed.Goals as goal
 

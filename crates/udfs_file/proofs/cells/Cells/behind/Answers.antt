@@ -1,4 +1,4 @@
-use Rattle.std.proofs.Common.{◌≡◌, ◌<◌, ◌-◌, ◌∙◌, sym, ap, subst, drop}
+use Rattle.std.proofs.Common.{◌<◌, ◌-◌, ◌∙◌, ap, subst, drop}
 use Rattle.udfs_lattice.specs.Tables.{state_of}
 use Rattle.udfs_space.specs.Places.{view}
 use Rattle.udfs_file.proofs.CellLemmas.{behind_in, behind_none, in_first, starts_in, starts_none}

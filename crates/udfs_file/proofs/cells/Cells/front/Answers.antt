@@ -1,6 +1,5 @@
-use Rattle.std.proofs.Common.{◌≡◌, ◌≤◌, ◌∙◌, sym, ap, subst, length, take, min, arith}
+use Rattle.std.proofs.Common.{◌≡◌, ◌≤◌, ◌∙◌, sym, ap, length, take, min, arith}
 use Rattle.udfs_file.specs.CellsLeft.{cells_left, room}
-use Rattle.udfs_file.specs.Pieces.{AreBytes, byte_cells}
 use Rattle.udfs_file.proofs.FrontPieces.{one_piece, two_pieces, gap_second, first_bytes, joined_front}
 use Rattle.udfs_file.proofs.cells.Cells.front.Goals as goal
 

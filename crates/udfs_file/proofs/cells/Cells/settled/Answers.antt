@@ -1,8 +1,7 @@
-use Rattle.std.proofs.Common.{◌≡◌, ◌≤◌, ◌-◌, ◌∙◌, sym, ap, subst, arith}
+use Rattle.std.proofs.Common.{◌≤◌, ◌-◌, ap, subst, arith}
 use Rattle.udfs_lattice.specs.Tables.{state_of}
 use Rattle.udfs_space.specs.Places.{view}
-use Rattle.udfs_file.specs.Stretches.{stretch_count}
-use Rattle.udfs_file.proofs.CellLemmas.{settling, settle_on}
+use Rattle.udfs_file.proofs.CellLemmas.{settle_on}
 use Rattle.udfs_file.proofs.cells.Cells.settled.Goals as goal
 
 pub stretches-preserved : goal.stretches-preserved

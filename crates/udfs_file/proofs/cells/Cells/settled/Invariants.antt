@@ -1,8 +1,6 @@
-use Rattle.std.proofs.Common.{◌≡◌, drop, length}
+use Rattle.std.proofs.Common.{length}
 use Rattle.udfs_lattice.specs.Tables.{state_of}
 use Rattle.udfs_space.specs.Places.{view}
-use Rattle.udfs_file.specs.Stretches.{cells_of}
-use Rattle.udfs_file.specs.CellsLeft.{cells_left}
 use Rattle.udfs_file.proofs.CellLemmas.{IsSettling}
 use Rattle.udfs_file.proofs.cells.Cells.settled.Given as goal
 
