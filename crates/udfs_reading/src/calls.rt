@@ -1,40 +1,15 @@
-//! The table files after each call of a row, beside that of an ordered map of single blocks.
+//! A table and its files after each call of a row, beside an ordered map of single blocks.
 
 use crate::device::Writer;
+use crate::ordered::{BLOCKS, Pair};
 use crate::packing::write_table;
+use crate::steps::STEPS;
 use crate::writing::write_table_v1;
 use std::alloc::{AllocError, Global};
 use std::collections::BTreeMap;
 use std::io;
 use std::test::Fail;
-use udfs_lattice::{BlockTable, Fact, Join, TableError};
-
-/// The blocks of the row: the first and the last of packets of 32 blocks.
-const BLOCKS: [u32; 6] = [0, 31, 32, 63, 4_194_272, 4_194_303];
-
-/// How many calls the row has.
-const CALLS: u32 = 10_000;
-
-/// A table, and the ordered map whose file it is to have.
-#[derive(Drop)]
-struct Pair {
-    table: BlockTable,
-    map: BTreeMap<u32, Fact<[u8; 2048]>>,
-}
-
-fn add(
-    map: &mut BTreeMap<u32, Fact<[u8; 2048]>>,
-    n: u32,
-    fact: &Fact<[u8; 2048]>,
-) -> Result<(), TableError> {
-    match map.get_mut(&n) {
-        Some(mine) => mine.join(fact),
-        None => match map.insert(n, *fact) {
-            Ok(_) => Ok(()),
-            Err(_) => Err(TableError::OutOfMemory),
-        },
-    }
-}
+use udfs_lattice::{BlockTable, Fact};
 
 /// The table file of version 1 of the map, as the format spells it.
 fn file_of_v1(alloc: Global, map: &BTreeMap<u32, Fact<[u8; 2048]>>) -> Result<Vec<u8>, AllocError> {
@@ -94,65 +69,78 @@ fn file_of_v2(alloc: Global, map: &BTreeMap<u32, Fact<[u8; 2048]>>) -> Result<Ve
     Ok(file)
 }
 
-impl Pair {
-    fn new(alloc: Global) -> Self {
-        Pair {
-            table: BlockTable::new(alloc),
-            map: BTreeMap::new(alloc),
-        }
+/// The files of both versions of a table.
+fn files(alloc: Global, table: &BlockTable) -> Result<(Vec<u8>, Vec<u8>), Fail> {
+    let mut first = Writer::new(Vec::new(alloc));
+    let mut second = Writer::new(Vec::new(alloc));
+    if write_table_v1(table, &mut first).is_err() || write_table(table, &mut second).is_err() {
+        return Err(Fail::from(io::Error::from(io::ErrorKind::Other)));
     }
-
-    fn put(&mut self, n: u32, bytes: &[u8; 2048]) -> Result<(), TableError> {
-        self.table.put(n, bytes)?;
-        add(&mut self.map, n, &Fact::Known(*bytes))
-    }
-
-    fn join(&mut self, other: &Pair) -> Result<(), TableError> {
-        self.table.join(&other.table)?;
-        for (n, fact) in other.map.iter() {
-            add(&mut self.map, *n, fact)?;
-        }
-        Ok(())
-    }
-
-    /// The files of both versions.
-    fn files(&self, alloc: Global) -> Result<(Vec<u8>, Vec<u8>), Fail> {
-        let mut first = Writer::new(Vec::new(alloc));
-        let mut second = Writer::new(Vec::new(alloc));
-        if write_table_v1(&self.table, &mut first).is_err()
-            || write_table(&self.table, &mut second).is_err()
-        {
-            return Err(Fail::from(io::Error::from(io::ErrorKind::Other)));
-        }
-        Ok((first.into_inner(), second.into_inner()))
-    }
+    Ok((first.into_inner(), second.into_inner()))
 }
 
-/// The calls come from a linear recurrence, whose upper bits are used: one of four is a `join`, the others put
-/// one of three contents at one of the blocks. One in 32 is made on an empty table.
+/// A call of the row.
+enum Call {
+    Put(u32, u8),
+    Join,
+}
+
+/// The call that a character stands for, whether it is made on an empty table, and whether the two tables change places
+/// behind it.
+fn call_of(character: u8) -> (Call, bool, bool) {
+    let code = if character > b'\\' {
+        character.wrapping_sub(36)
+    } else {
+        character.wrapping_sub(35)
+    };
+    let which = code % 19;
+    let call = if which == 18 {
+        Call::Join
+    } else {
+        Call::Put(BLOCKS[(which / 3) as usize % 6], which % 3)
+    };
+    (call, code / 38 == 1, code / 19 % 2 == 1)
+}
+
 #[test]
-fn table_files_agree_over_ten_thousand_calls(rt: HostRuntime) -> Result<(), Fail> {
+fn ten_thousand_calls_agree_with_the_ordered_map(rt: HostRuntime) -> Result<(), Fail> {
     let alloc = rt.alloc();
     let mut first = Pair::new(alloc);
     let mut second = Pair::new(alloc);
-    let mut drawn = 1u32;
-    for call in 0..CALLS {
-        drawn = drawn.wrapping_mul(1_664_525).wrapping_add(1_013_904_223);
-        if drawn >> 27 == 0 {
-            first = Pair::new(alloc);
-        }
-        if drawn >> 16 & 3 == 0 {
-            first.join(&second)?;
-        } else {
-            let n = BLOCKS[(drawn >> 20) as usize % 6];
-            first.put(n, &[(drawn >> 24) as u8 % 3; 2048])?;
-        }
-        let (one, two) = first.files(alloc)?;
-        assert!(rt; one == file_of_v1(alloc, &first.map)?, "call {call}");
-        assert!(rt; two == file_of_v2(alloc, &first.map)?, "call {call}");
-        if drawn >> 19 & 1 == 1 {
-            std::mem::swap(&mut first, &mut second);
+    let mut calls = 0u32;
+    let mut most_known = 0u32;
+    let mut most_conflicts = 0u32;
+    for line in STEPS.iter() {
+        for character in line.as_bytes() {
+            let (call, begins_anew, change_places) = call_of(*character);
+            if begins_anew {
+                first = Pair::new(alloc);
+            }
+            match call {
+                Call::Join => first.join(&second)?,
+                Call::Put(n, byte) => first.put(n, &[byte; 2048])?,
+            }
+            assert!(rt; first.agrees(), "call {calls}");
+            let (one, two) = files(alloc, &first.table)?;
+            assert!(rt;
+                one == file_of_v1(alloc, &first.map.blocks)?,
+                "call {calls}"
+            );
+            assert!(rt;
+                two == file_of_v2(alloc, &first.map.blocks)?,
+                "call {calls}"
+            );
+            most_known = most_known.max(first.table.known());
+            most_conflicts = most_conflicts.max(first.table.conflicts());
+            calls = calls.wrapping_add(1);
+            if change_places {
+                std::mem::swap(&mut first, &mut second);
+            }
         }
     }
+    assert_eq!(rt; calls, 10_000);
+    // The row comes to tables in which all blocks are known, and to such in which all are in conflict.
+    assert_eq!(rt; most_known, 6);
+    assert_eq!(rt; most_conflicts, 6);
     Ok(())
 }

@@ -26,6 +26,10 @@ pub use writing::{WriteFault, write_all, write_table_v1};
 #[cfg(test)]
 mod calls;
 #[cfg(test)]
+mod ordered;
+#[cfg(test)]
 mod packet_tests;
+#[cfg(test)]
+mod steps;
 #[cfg(test)]
 mod tests;
