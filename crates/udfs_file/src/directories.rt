@@ -31,18 +31,23 @@ pub struct DirEntry {
     pub marks: Marks,
 }
 
-/// A file identifier descriptor: how many bytes it takes, and the entry if it is neither deleted nor the parent.
+/// A file identifier descriptor (ECMA-167 4/14.4), as far as a directory tells of it.
 #[derive(Drop)]
-struct Identifier {
-    size: usize,
-    listed: Option<DirEntry>,
+pub struct Identifier {
+    /// How many bytes it takes.
+    pub size: usize,
+    /// The entry, if it is neither deleted nor the parent.
+    pub listed: Option<DirEntry>,
 }
 
-/// What ends the descriptors of a directory: its end, a missing block, or a fault.
+/// What ends the descriptors of a directory.
 #[derive(Clone, Copy)]
-enum Rest {
+pub enum Rest {
+    /// The end of the body.
     Nothing,
+    /// This block, which is not known.
     Stopped(u32),
+    /// A fault.
     Wrong(NodeFault),
 }
 

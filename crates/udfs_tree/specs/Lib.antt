@@ -1,0 +1,5 @@
+pub mod Trees
+pub mod Needs
+pub mod Lawful
+pub mod Cells
+pub mod Laws

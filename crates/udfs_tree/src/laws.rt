@@ -1,0 +1,1 @@
+//! Laws of the tree, each the contract of a function that does nothing.
