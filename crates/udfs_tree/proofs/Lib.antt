@@ -1,0 +1,5 @@
+pub mod EntryAddresses
+pub mod WholeFiles
+pub mod WholeRoutes
+pub mod PartRoutes
+pub mod Runs
