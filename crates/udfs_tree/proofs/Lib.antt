@@ -3,3 +3,7 @@ pub mod WholeFiles
 pub mod WholeRoutes
 pub mod PartRoutes
 pub mod Runs
+pub mod MissedBlocks
+pub mod Rising
+pub mod Settled
+pub mod Wanted

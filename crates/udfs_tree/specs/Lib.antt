@@ -3,3 +3,4 @@ pub mod Needs
 pub mod Lawful
 pub mod Cells
 pub mod Laws
+pub mod KnownLaws

@@ -3,4 +3,5 @@
 //! Nothing here runs: each function is a law over one view, of which a part is known, and its complete one.
 #![tactic(auto)]
 
+pub mod known_laws;
 pub mod laws;
