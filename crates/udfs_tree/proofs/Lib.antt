@@ -3,3 +3,7 @@ pub mod WholeFiles
 pub mod WholeRoutes
 pub mod PartRoutes
 pub mod Runs
+pub mod Settings
+pub mod Cuts
+pub mod Names
+pub mod MetNodes
