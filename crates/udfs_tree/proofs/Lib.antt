@@ -7,3 +7,6 @@ pub mod Settings
 pub mod Cuts
 pub mod Names
 pub mod MetNodes
+pub mod Listed
+pub mod PartNodes
+pub mod CompleteNodes

@@ -1,5 +1,5 @@
 -- Of a node whose body is all there, each group that it needs has a known block.
-use Rattle.std.proofs.Common.{◌≡◌, ◌≢◌, refl, sym, ◌∙◌, ap, subst, inl, inr, ℕ, Bool, true, false, List, [], ◌∷◌, ◌++◌, cond, ◌||◌, Option, Some, None, slice_get}
+use Rattle.std.proofs.Common.{◌≡◌, refl, sym, ◌∙◌, ap, subst, inl, ℕ, Bool, true, false, List, [], ◌∷◌, ◌++◌, cond, ◌||◌, Some, None, slice_get}
 use Rattle.std.proofs.lemmas.List.{append_assoc}
 use Rattle.udfs_lattice.specs.States.{State, is_known}
 use Rattle.udfs_lattice.specs.Volumes.{Includes, IsKnownAt}
@@ -19,7 +19,7 @@ use Rattle.udfs_file.proofs.PartFronts.{part_ids}
 use Rattle.udfs_walk.specs.Targets.{entry, target}
 use Rattle.udfs_walk.specs.Routes.{Route, Walked, at_root, is_loop, is_deep, entries_in, kind_entries, target_entries, entries_below, walked}
 use Rattle.udfs_tree.specs.Trees.{PartitionBlocks, TreeFile, IsFileAt, IsDirectoryAt}
-use Rattle.udfs_tree.specs.Needs.{IsIcbOnWay, EndsAt, IsDirectoryBlock, IsBodyBlock, Needs, for_icb, for_way, for_body, HasKnown, IsMet}
+use Rattle.udfs_tree.specs.Needs.{IsIcbOnWay, EndsAt, IsDirectoryBlock, IsBodyBlock, for_icb, for_way, for_body, HasKnown, IsMet}
 use Rattle.udfs_tree.proofs.WholeFiles.{IsReadDirectoryAt, directory_at_law}
 use Rattle.udfs_tree.proofs.WholeRoutes.{WholeAt, Open, open_at, entries_are, get_includes}
 use Rattle.udfs_tree.proofs.PartRoutes.{TargetPart, target_same, target_unread, target_part, part_at}
