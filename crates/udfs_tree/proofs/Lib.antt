@@ -7,3 +7,10 @@ pub mod MissedBlocks
 pub mod Rising
 pub mod Settled
 pub mod Wanted
+pub mod Settings
+pub mod Cuts
+pub mod Names
+pub mod MetNodes
+pub mod Listed
+pub mod PartNodes
+pub mod CompleteNodes

@@ -1,5 +1,5 @@
 -- Over a part of a complete view, routes and their ends are those of the whole, and no node has a fault.
-use Rattle.std.proofs.Common.{◌≡◌, ◌≢◌, refl, sym, ◌∙◌, ap, subst, inl, inr, ℕ, Bool, true, false, List, [], ◌∷◌, ◌++◌, length, cond, ◌||◌, Option, Some, None, slice_get}
+use Rattle.std.proofs.Common.{◌≡◌, ◌≢◌, refl, sym, ◌∙◌, ap, subst, inl, inr, ℕ, Bool, true, false, List, [], ◌∷◌, ◌++◌, cond, ◌||◌, Option, Some, None, slice_get}
 use Rattle.std.specs.Prelude.{zero, suc, option_map, IsSome}
 use Rattle.udfs_lattice.specs.States.{State, is_known}
 use Rattle.udfs_lattice.specs.Volumes.{Includes, ascending}
@@ -24,7 +24,7 @@ use Rattle.udfs_walk.specs.Routes.{Route, Walked, at_root, below, is_loop, is_de
 use Rattle.udfs_walk.specs.Nodes.{entry_standing, node_at, node}
 use Rattle.udfs_walk.specs.Standings.{missing_blocks, runs_from, torn_or_whole, cells_standing, depth_or, unless_fault, kind_standing, body_standing}
 use Rattle.udfs_walk.specs.declared.standings.Standing.{Standing}
-use Rattle.udfs_walk.specs.declared.standings.Standing.TheVariants.{Whole, Torn, Loop, Fault}
+use Rattle.udfs_walk.specs.declared.standings.Standing.TheVariants.{Loop, Fault}
 use Rattle.udfs_tree.specs.Trees.{PartitionBlocks}
 use Rattle.udfs_tree.specs.Lawful.{AreWhole}
 use Rattle.udfs_tree.specs.Cells.{HasNoFault}

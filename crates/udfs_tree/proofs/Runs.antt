@@ -1,15 +1,14 @@
 -- The runs of missing cells hold the missing cells and no other.
-use Rattle.std.proofs.Common.{◌≡◌, refl, sym, ◌∙◌, ap, subst, inl, inr, ◌⊎◌, ℕ, ◌+◌, ◌<◌, ◌≤◌, Bool, true, false, List, [], ◌∷◌, cond, arith, Option, Some, None, slice_get, nat_eq}
+use Rattle.std.proofs.Common.{◌≡◌, refl, sym, subst, inl, inr, ◌⊎◌, ℕ, ◌+◌, ◌<◌, ◌≤◌, Bool, true, false, List, [], ◌∷◌, cond, arith, nat_eq}
 use Rattle.std.specs.Prelude.{zero, suc, ◌↔◌}
 use Rattle.std.proofs.lemmas.Bool.{eqb-true}
-use Rattle.udfs_lattice.specs.Volumes.{Includes, ascending, insert_once}
+use Rattle.udfs_lattice.specs.Volumes.{Includes, ascending}
 use Rattle.udfs_file.specs.Laws.{IsMissingAt}
 use Rattle.udfs_file.specs.declared.cells.Cell.{Cell}
 use Rattle.udfs_file.specs.declared.cells.Cell.TheVariants.{Byte, Gap}
 use Rattle.udfs_lattice.proofs.VolumeLaws.{includes_ascending}
 use Rattle.udfs_walk.specs.Standings.{missing_blocks, with_hole, runs_from, torn_or_whole, cells_standing}
-use Rattle.udfs_walk.specs.declared.standings.Standing.{Standing}
-use Rattle.udfs_walk.specs.declared.standings.Standing.TheVariants.{Whole, Torn}
+use Rattle.udfs_walk.specs.declared.standings.Standing.TheVariants.{Whole}
 use Rattle.udfs_tree.specs.Cells.{holes_of, IsInRuns}
 
 in_first : (run : ℕ × ℕ) (runs : List (ℕ × ℕ)) (k : ℕ) → run.0 ≤ k → k < run.0 + run.1 → IsInRuns (run ∷ runs) k

@@ -5,7 +5,7 @@ use Rattle.udfs_space.specs.Places.{View}
 use Rattle.udfs_file.specs.Entries.{EntryFields, entry_of}
 use Rattle.udfs_file.specs.Bodies.{cells, body}
 use Rattle.udfs_file.specs.Fronts.{directory}
-use Rattle.udfs_file.specs.Standard.{Located, IsBodyOf, IsDirectoryBody}
+use Rattle.udfs_file.specs.Standard.{IsBodyOf, IsDirectoryBody}
 use Rattle.udfs_file.specs.Complete.{IsWhole, as_cells, IsReadBody, IsReadDirectory}
 use Rattle.udfs_file.specs.declared.cells.Cell.{Cell}
 use Rattle.udfs_file.specs.declared.directories.Identifier.{Identifier}

@@ -2,7 +2,7 @@
 use Rattle.std.proofs.Common.{◌≡◌, ◌≢◌, refl, sym, ◌∙◌, ap, subst, inl, inr, ◌⊎◌, ℕ, ◌+◌, ◌<◌, ◌≤◌, Bool, true, false, List, [], ◌∷◌, ◌++◌, length, cond, ◌||◌, arith, Option, Some, None, slice_get}
 use Rattle.std.specs.Prelude.{zero, suc, AllPairs, slice_index_or}
 use Rattle.std.proofs.lemmas.List.{append_assoc, append-nil, length-append}
-use Rattle.udfs_lattice.specs.Volumes.{Includes, ascending}
+use Rattle.udfs_lattice.specs.Volumes.{Includes}
 use Rattle.udfs_tag.specs.declared.layouts.LongAd.{LongAd}
 use Rattle.udfs_space.specs.Places.{View}
 use Rattle.udfs_file.specs.Entries.{EntryFields}
@@ -19,10 +19,10 @@ use Rattle.udfs_file.proofs.BodyFrom.{le_or_lt}
 use Rattle.udfs_file.proofs.Readings.{never_stops}
 use Rattle.udfs_walk.specs.Targets.{Target, bad, unread, entry, target}
 use Rattle.udfs_walk.specs.Routes.{Route, Walked, at_root, below, is_loop, is_deep, entries_in, kind_entries, target_entries, entries_below, walk_from, walked}
-use Rattle.udfs_walk.specs.Nodes.{entry_standing, node_at, node}
-use Rattle.udfs_walk.specs.Standings.{cells_standing, depth_or, unless_fault, directory_standing, kind_standing, body_standing}
+use Rattle.udfs_walk.specs.Nodes.{node_at, node}
+use Rattle.udfs_walk.specs.Standings.{cells_standing, depth_or, unless_fault, kind_standing, body_standing}
 use Rattle.udfs_walk.specs.declared.standings.Standing.{Standing}
-use Rattle.udfs_walk.specs.declared.standings.Standing.TheVariants.{Whole, Torn, Loop, Fault}
+use Rattle.udfs_walk.specs.declared.standings.Standing.TheVariants.{Whole, Loop, Fault}
 use Rattle.udfs_tree.specs.Trees.{PartitionBlocks, Leads}
 use Rattle.udfs_tree.specs.Lawful.{AreWhole, AreDistinct}
 use Rattle.udfs_tree.proofs.WholeFiles.{IsReadFile, entry_law, IsReadDirectoryAt, directory_at_law}
