@@ -1,5 +1,6 @@
 pub mod Found
 pub mod Laws
+pub mod VolumeTrees
 pub mod Reports
 pub mod Texts
 pub mod NodeTexts
