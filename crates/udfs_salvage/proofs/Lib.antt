@@ -1,5 +1,6 @@
 pub mod NumberedNodes
 pub mod Opens
+pub mod Openings
 pub mod PastEnds
 pub mod Printed
 pub mod Rereads
