@@ -6,3 +6,4 @@ pub mod Printed
 pub mod Rereads
 pub mod Runs
 pub mod VolumeLaw
+pub mod Rereading

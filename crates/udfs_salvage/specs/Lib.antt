@@ -6,3 +6,4 @@ pub mod Texts
 pub mod NodeTexts
 pub mod Printing
 pub mod Running
+pub mod KnownEnough

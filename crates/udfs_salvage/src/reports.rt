@@ -7,6 +7,7 @@ ghost use Rattle.udfs_volume.specs.Seen.{IsRising};
 ghost use Rattle.udfs_space.specs.Places.{view};
 ghost use Rattle.udfs_walk.specs.Walks.{AreNodes};
 ghost use Rattle.udfs_salvage.specs.Found.{found_now, volume_now};
+ghost use Rattle.udfs_salvage.specs.KnownEnough.{MetIsReported, RereadsSuffice, StaysWhole};
 ghost use Rattle.udfs_salvage.specs.Laws.{TellsLawful};
 ghost use Rattle.udfs_salvage.specs.Reports.{HasTooManyPaths, IsLookRefused, IsNothingPast, IsOutOfRange, IsPastEnd, IsReport, IsWalkRefused, ReportsBy, all_whole, is_whole, report_now};
 
@@ -178,6 +179,11 @@ pub fn salvage<'a>(
     ensures too_many { IsErrOf result SalvageError.TooManyPaths → (¬ IsOutOfRange last) × IsNothingPast (state_of table.now) last × HasTooManyPaths (state_of table.now) last }
     ensures report { IfOk result (λ report. IsReport (state_of table.now) last (report_now report)) }
     ensures lawful { IfOk result (λ report. TellsLawful (state_of table.now) last (volume_now report.volume)) }
+    // Of every lawful volume with which the table agrees: what is known enough is whole, and stays so as more is known; and
+    // what is listed to be read again is needed, and enough of it.
+    ensures met { IfOk result (λ report. MetIsReported (state_of table.now) last (report_now report)) }
+    ensures stays { IfOk result (λ report. StaysWhole (state_of table.now) last (report_now report)) }
+    ensures rereads { IfOk result (λ report. RereadsSuffice (state_of table.now) last (report_now report)) }
     ensures rising { IfOk result (λ report. IsRising report.reread.items) }
     ensures of { IfOk result (λ report. (report.table.now ≡ table.now) × (report.last ≡ last)) }
 {

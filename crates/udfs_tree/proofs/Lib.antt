@@ -14,3 +14,4 @@ pub mod MetNodes
 pub mod Listed
 pub mod PartNodes
 pub mod CompleteNodes
+pub mod OneReading
