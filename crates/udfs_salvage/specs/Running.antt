@@ -12,6 +12,7 @@ use Rattle.udfs_reading.specs.declared.inputs.InputError.{InputError}
 use Rattle.udfs_reading.specs.declared.error.ReadingFault.{ReadingFault}
 use Rattle.udfs_reading.specs.declared.error.ReadingFault.TheVariants as reading
 use Rattle.udfs_salvage.specs.Reports.{Report, IsReport, IsNothingPast, IsOutOfRange, IsPastEnd, HasTooManyPaths, all_whole}
+use Rattle.udfs_salvage.specs.KnownEnough.{MetIsReported, RereadsSuffice, StaysWhole}
 use Rattle.udfs_salvage.specs.NodeTexts.{report_text}
 use Rattle.udfs_salvage.specs.Printing.{Prints}
 use Rattle.udfs_salvage.specs.declared.errors.SalvageError.{SalvageError}
@@ -34,12 +35,16 @@ abbrev pub SaysWhole : Result Bool RunError → Report → Type 0
 SaysWhole (Ok whole) report = whole ≡ all_whole report.nodes
 SaysWhole (Err e) report = ⊤
 
--- the text of the table's report was printed, or a beginning of it
+-- the text of the table's report was printed, or a beginning of it, and what the report says of volumes holds
 pub record PrintsOf (last : ℕ) (old new : Option (List ℕ)) (i j : ℕ) (result : Result Bool RunError) (table : Table) : Type 0 where
   pub report : Report
   pub is_report : IsReport (state_of table) last report
   pub prints : Prints old new i j (report_text table last report) result
   pub says : SaysWhole result report
+  -- of every lawful volume with which the table agrees
+  pub met : MetIsReported (state_of table) last report
+  pub stays : StaysWhole (state_of table) last report
+  pub rereads : RereadsSuffice (state_of table) last report
 
 -- nothing was printed
 pub record PrintsNothing (old new : Option (List ℕ)) (i j : ℕ) : Type 0 where
