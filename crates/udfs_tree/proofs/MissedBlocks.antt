@@ -1,23 +1,24 @@
 -- What nodes miss: the blocks of their missing cells, and the list of all.
-use Rattle.std.proofs.Common.{◌≡◌, refl, sym, ◌∙◌, ap, subst, inl, inr, ℕ, ◌<◌, List, [], ◌∷◌, ◌++◌, map, ◌⊎◌, arith, Option, Some, None, slice_get}
-use Rattle.std.specs.Prelude.{zero, suc, flat_map, IsSome}
+use Rattle.std.proofs.Common.{◌≡◌, refl, sym, ◌∙◌, ap, subst, inl, inr, ℕ, ◌<◌, List, [], ◌∷◌, ◌++◌, map, ◌⊎◌, arith, Some, None, slice_get}
+use Rattle.std.specs.Prelude.{zero, suc, flat_map}
 use Rattle.std.specs.List.{AllZip}
 use Rattle.udfs_lattice.specs.Volumes.{Includes, ascending}
 use Rattle.udfs_lattice.proofs.VolumeLaws.{includes_ascending}
 use Rattle.udfs_tag.specs.declared.layouts.LongAd.{LongAd}
 use Rattle.udfs_space.specs.Places.{View}
-use Rattle.udfs_file.specs.Laws.{IsMissingAt, IsClearTo}
+use Rattle.udfs_file.specs.Laws.{IsClearTo}
 use Rattle.udfs_file.specs.declared.cells.Cell.{Cell}
 use Rattle.udfs_file.specs.declared.cells.Cell.TheVariants.{Byte, Gap}
 use Rattle.udfs_walk.specs.NodeFields.{NodeFields}
 use Rattle.udfs_walk.specs.Nodes.{node, node_at}
 use Rattle.udfs_walk.specs.Rereads.{missing_of, reread}
-use Rattle.udfs_walk.specs.Routes.{Route, Walked, walked, IsWalk}
+use Rattle.udfs_walk.specs.Routes.{Route, Walked, walked}
 use Rattle.udfs_walk.specs.Standings.{missing_blocks, runs_from, torn_or_whole, cells_standing}
 use Rattle.udfs_walk.specs.Targets.{unread, target}
 use Rattle.udfs_walk.specs.Walks.{AreNodes}
 use Rattle.udfs_walk.specs.declared.standings.Standing.{Standing}
 use Rattle.udfs_tree.proofs.EntryAddresses.{some_same}
+use Rattle.udfs_tree.proofs.Listed.{Placed, placed}
 
 -- ---- missing cells
 -- a missing cell, with its block
@@ -38,20 +39,6 @@ gap_before (Byte x o ∷ cs) (suc end) = go (gap_before cs end)
     go : ((k : ℕ) × (n : ℕ) × (k < end) × IsGapAt cs k n) ⊎ IsClearTo cs end → ((k : ℕ) × (n : ℕ) × (k < suc end) × IsGapAt (Byte x o ∷ cs) k n) ⊎ IsClearTo (Byte x o ∷ cs) (suc end)
     go (inl (k, n, lt, g)) = inl (suc k, n, omega (arith, lt), g)
     go (inr h) = inr (clear h)
-
--- a cell is missing, or none is
-pub gap_or_none : (cs : List Cell) → ((k : ℕ) × (n : ℕ) × IsGapAt cs k n) ⊎ ((k : ℕ) → ¬ IsMissingAt cs k)
-gap_or_none [] = inr (λ k m. let e : None ≡ Some (Gap m.0) = m.1 in let z : ⊥ = cc in z)
-gap_or_none (Gap n ∷ cs) = inl (0, n, refl)
-gap_or_none (Byte x o ∷ cs) = go (gap_or_none cs)
-  where
-    none : ((k : ℕ) → ¬ IsMissingAt cs k) → (k : ℕ) → ¬ IsMissingAt (Byte x o ∷ cs) k
-    none h zero m = let e : Some (Cell.Byte x o) ≡ Some (Cell.Gap m.0) = m.1 in let z : ⊥ = cc in z
-    none h (suc k) m = h k m
-
-    go : ((k : ℕ) × (n : ℕ) × IsGapAt cs k n) ⊎ ((k : ℕ) → ¬ IsMissingAt cs k) → ((k : ℕ) × (n : ℕ) × IsGapAt (Byte x o ∷ cs) k n) ⊎ ((k : ℕ) → ¬ IsMissingAt (Byte x o ∷ cs) k)
-    go (inl (k, n, g)) = inl (suc k, n, g)
-    go (inr h) = inr (none h)
 
 -- the block of a missing cell is missing
 pub gap_missing : (cs : List Cell) (k n : ℕ) → IsGapAt cs k n → Includes (missing_blocks cs) n
@@ -132,26 +119,11 @@ in_right : (xs ys : List ℕ) (n : ℕ) → Includes ys n → Includes (xs ++ ys
 in_right [] ys n i = i
 in_right (x ∷ xs) ys n i = inr (in_right xs ys n i)
 
--- the end of a route stands in the list of ends
-pub end_at : (v : View) (root : LongAd) (rs : List Route) (ws : List Walked) → AreEnds v root rs ws → (route : Route) (w : Walked) → Includes rs route → walked v root route ≡ Some w
-    → (i : ℕ) × (slice_get ws i ≡ Some w)
-end_at v root [] ws z route w i k = absurd i
-end_at v root (r ∷ rs) [] z route w i k = absurd z
-end_at v root (r ∷ rs) (x ∷ ws) z route w (inl q) k = (0, sym z.0 ∙ ap (walked v root) q ∙ k)
-end_at v root (r ∷ rs) (x ∷ ws) z route w (inr i) k = let t : (j : ℕ) × (slice_get ws j ≡ Some w) = end_at v root rs ws z.1 route w i k in (suc t.0, t.1)
-
 misses_in : (v : View) (ws : List Walked) (i : ℕ) (w : Walked) → slice_get ws i ≡ Some w → (n : ℕ) → Includes (missing_of (node v w).standing) n → Includes (blocks_of v ws) n
 misses_in v [] i w e n m = absurd (let z : ⊥ = cc in z)
 misses_in v (x ∷ ws) zero w e n m = in_left (missing_of (node v x).standing) (blocks_of v ws) n
     (subst (λ y. Includes (missing_of (node v y).standing) n) (some_same w x (sym e)) m)
 misses_in v (x ∷ ws) (suc i) w e n m = in_right (missing_of (node v x).standing) (blocks_of v ws) n (misses_in v ws i w e n m)
-
-is_some : (o : Option Walked) (w : Walked) → o ≡ Some w → IsSome o
-is_some o w e = subst IsSome (sym e) refl
-
--- the place of the end of a route among all ends
-pub place_of : (v : View) (root : LongAd) (ws : List Walked) → IsWalk v root ws → (route : Route) (w : Walked) → walked v root route ≡ Some w → (i : ℕ) × (slice_get ws i ≡ Some w)
-place_of v root ws x route w k = end_at v root x.routes ws x.each route w (x.all route (is_some (walked v root route) w k)) k
 
 -- the blocks to read again are those that are missing in nodes
 pub listed_is_missed : (v : View) (root : LongAd) (nodes : List NodeFields) → AreNodes v root nodes → (n : ℕ) → Includes (reread nodes) n → IsMissed v root n
@@ -160,4 +132,4 @@ listed_is_missed v root nodes x n i = missed v root x.walk.routes x.walks x.walk
 
 pub missed_is_listed : (v : View) (root : LongAd) (nodes : List NodeFields) → AreNodes v root nodes → (n : ℕ) → IsMissed v root n → Includes (reread nodes) n
 missed_is_listed v root nodes x n m = subst (λ z. Includes (reread z) n) (sym x.is)
-    ((includes_ascending (blocks_of v x.walks) n).1 (let at = place_of v root x.walks x.walk m.route m.end m.leads in misses_in v x.walks at.0 m.end at.1 n m.misses))
+    ((includes_ascending (blocks_of v x.walks) n).1 (let at : Placed v root nodes x m.end = placed v root nodes x m.route m.end m.leads in misses_in v x.walks at.index m.end at.at n m.misses))

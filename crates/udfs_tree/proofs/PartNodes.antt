@@ -83,7 +83,7 @@ torn_as some all blocks root s w h t e = record {
     cs : List Cell
     cs = (part_here some all blocks root s w h).part
 
-whole_as : (some all : View) (blocks : PartitionBlocks) (root : LongAd) (s : Setting some all blocks root) (w : Walked) (h : Here some all blocks root w) → target some w.address ≡ entry h.at.fields
+pub whole_as : (some all : View) (blocks : PartitionBlocks) (root : LongAd) (s : Setting some all blocks root) (w : Walked) (h : Here some all blocks root w) → target some w.address ≡ entry h.at.fields
     → (node some w).standing ≡ cells_standing (part_here some all blocks root s w h).part → (node some w).standing ≡ Whole
     → IsWholeAs (node some w) h.file.file (part_here some all blocks root s w h).part
 whole_as some all blocks root s w h t e is_whole = record {

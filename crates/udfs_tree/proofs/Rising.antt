@@ -1,6 +1,5 @@
 -- Names that lead on, over a part of a complete view: a route for them, or a block that is not known and stops it.
-use Rattle.std.proofs.Common.{◌≡◌, refl, sym, ◌∙◌, ap, subst, inl, inr, ℕ, ◌<◌, false, List, [], ◌∷◌, ◌++◌, cond, ◌||◌, ◌⊎◌, Option, Some, None, slice_get}
-use Rattle.std.specs.List.{cons_option}
+use Rattle.std.proofs.Common.{◌≡◌, refl, sym, ◌∙◌, ap, subst, inl, inr, ℕ, ◌<◌, false, List, [], ◌∷◌, ◌++◌, cond, ◌||◌, ◌⊎◌, Some, slice_get}
 use Rattle.std.proofs.lemmas.List.{append_assoc, append-nil}
 use Rattle.udfs_lattice.specs.States.{is_known}
 use Rattle.udfs_lattice.specs.Volumes.{Includes}
@@ -23,44 +22,16 @@ use Rattle.udfs_walk.specs.Targets.{entry, target}
 use Rattle.udfs_tree.specs.Trees.{PartitionBlocks, Leads, IsDirectoryAt}
 use Rattle.udfs_tree.specs.Needs.{EndsAt, Needs, for_icb, for_way, for_body}
 use Rattle.udfs_tree.proofs.MissedBlocks.{IsGapAt, gap_before, gap_misses, unread_misses}
+use Rattle.udfs_tree.proofs.Names.{Splits, split_at, listed_in}
 use Rattle.udfs_tree.proofs.PartRoutes.{NodePart, node_unread, node_read, node_part, part_at, entries_begin, get_begin}
 use Rattle.udfs_tree.proofs.WholeFiles.{IsReadFile, IsReadDirectoryAt, directory_at_law}
 use Rattle.udfs_tree.proofs.WholeRoutes.{WholeAt, whole_at, file_at, Open, open_at, includes_get, step_on, AllWhole, whole_below}
 
--- ---- listed entries
--- a listed entry has a descriptor
-record Listed (ids : List Identifier) (d : DirEntry) : Type 0 where
-  front : List Identifier
-  id : Identifier
-  back : List Identifier
-  splits : ids ≡ front ++ id ∷ back
-  is_listed : id.listed ≡ Some d
-
-listed_at : (ids : List Identifier) (d : DirEntry) → Includes (listed_entries ids) d → Listed ids d
-listed_at [] d i = absurd i
-listed_at (id ∷ ids) d i = go (λ i. listed_at ids d i) id.listed refl i
-  where
-    later : Listed ids d → Listed (id ∷ ids) d
-    later t = record { front = id ∷ t.front; id = t.id; back = t.back; splits = ap (λ z. id ∷ z) t.splits; is_listed = t.is_listed }
-
-    go : (Includes (listed_entries ids) d → Listed ids d) → (o : Option DirEntry) → id.listed ≡ o → Includes (cons_option o (listed_entries ids)) d → Listed (id ∷ ids) d
-    go ih None e i = later (ih i)
-    go ih (Some x) e (inl q) = record { front = []; id = id; back = ids; splits = refl; is_listed = e ∙ ap Some q }
-    go ih (Some x) e (inr i) = later (ih i)
-
-listed_in : (front more : List Identifier) (id : Identifier) (d : DirEntry) → id.listed ≡ Some d → Includes (listed_entries (front ++ id ∷ more)) d
-listed_in [] more id d e = subst (λ o. Includes (cons_option o (listed_entries more)) d) (sym e) (inl refl)
-listed_in (x ∷ front) more id d e = go x.listed (listed_in front more id d e)
-  where
-    go : (o : Option DirEntry) → Includes (listed_entries (front ++ id ∷ more)) d → Includes (cons_option o (listed_entries (front ++ id ∷ more))) d
-    go None i = i
-    go (Some y) i = inr i
-
 -- the entries of a directory that is read
-entries_are : (v : View) (w : Walked) (e : EntryFields) (cs : List Cell) → target v w.address ≡ entry e → is_loop w ≡ false → is_deep w ≡ false
+entries_here : (v : View) (w : Walked) (e : EntryFields) (cs : List Cell) → target v w.address ≡ entry e → is_loop w ≡ false → is_deep w ≡ false
     → e.kind ≡ Directory → body v w.address.reference w.address.block e ≡ cells cs → entries_below v w ≡ entries_of cs
 unfolding entries_below
-entries_are v w e cs t l deep k b = (λ i. cond (l i || deep i) [] (target_entries v w.address (t i)))
+entries_here v w e cs t l deep k b = (λ i. cond (l i || deep i) [] (target_entries v w.address (t i)))
     ∙ ap (λ z. kind_entries z (body v w.address.reference w.address.block e)) k ∙ ap entries_in b
 
 -- ---- groups
@@ -137,8 +108,8 @@ rise some all blocks p c (name ∷ names) w address h (ids, d, is_dir, i, named,
         inside : Includes (entries_of x.cs) d
         inside = subst (λ z. Includes (listed_entries z) d) (dir.only ids is_dir) i
 
-        l : Listed (directory x.cs).identifiers d
-        l = listed_at (directory x.cs).identifiers d inside
+        l : Splits (directory x.cs).identifiers d
+        l = split_at (directory x.cs).identifiers d inside
 
         end : ℕ
         end = end_of l.front l.id
@@ -181,7 +152,7 @@ rise some all blocks p c (name ∷ names) w address h (ids, d, is_dir, i, named,
             at = includes_get (entries_of part.part) d there
 
             get : slice_get (entries_below some w) at.0 ≡ Some d
-            get = ap (λ z. slice_get z at.0) (entries_are some w x.fields part.part is_entry x.no_loop (o.room d inside) kind part.is) ∙ at.1
+            get = ap (λ z. slice_get z at.0) (entries_here some w x.fields part.part is_entry x.no_loop (o.room d inside) kind part.is) ∙ at.1
 
             begin : IsBeginningOf (entries_below some w) (entries_below all w)
             begin = entries_begin some all p w x

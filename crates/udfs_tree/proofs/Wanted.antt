@@ -1,6 +1,5 @@
 -- The laws of what is known enough, and of what is missing.
-use Rattle.std.proofs.Common.{◌≡◌, refl, sym, ◌∙◌, ap, subst, inl, inr, ◌⊎◌, ℕ, true, false, List, [], ◌∷◌, map, Some, slice_get}
-use Rattle.std.specs.Prelude.{zero, suc}
+use Rattle.std.proofs.Common.{◌≡◌, refl, sym, ◌∙◌, ap, subst, inl, inr, ◌⊎◌, ℕ, true, false, List, [], ◌∷◌, Some}
 use Rattle.std.proofs.lemmas.List.{append-nil}
 use Rattle.udfs_lattice.specs.States.{is_known}
 use Rattle.udfs_lattice.specs.Volumes.{Blocks, Includes, IsKnownAt, IsUnread}
@@ -12,18 +11,17 @@ use Rattle.udfs_file.specs.Complete.{IsWhole}
 use Rattle.udfs_walk.specs.NodeFields.{NodeFields}
 use Rattle.udfs_walk.specs.Nodes.{node}
 use Rattle.udfs_walk.specs.Rereads.{missing_of, reread}
-use Rattle.udfs_walk.specs.Routes.{Route, Walked, walked}
+use Rattle.udfs_walk.specs.Routes.{Walked}
 use Rattle.udfs_walk.specs.Walks.{AreNodes}
 use Rattle.udfs_tree.specs.Trees.{PartitionBlocks, TreeFile, Leads, InTree}
 use Rattle.udfs_tree.specs.Needs.{Needs, for_icb, for_way, for_body, HasKnown}
 use Rattle.udfs_tree.specs.Lawful.{IsLawfulTree}
 use Rattle.udfs_tree.specs.KnownLaws.{IsListedWhole, HoldsWanted, MetIsWhole, MissingIsWanted}
-use Rattle.udfs_tree.proofs.EntryAddresses.{some_same}
-use Rattle.udfs_tree.proofs.MissedBlocks.{IsGapAt, misses_gap, unread_misses, IsMissed, AreEnds, listed_is_missed}
-use Rattle.udfs_tree.proofs.PartRoutes.{NodePart, node_unread, node_read, node_part, part_at, part_route}
-use Rattle.udfs_tree.proofs.Settled.{path_is, settle}
-use Rattle.udfs_tree.proofs.WholeFiles.{IsReadFile}
-use Rattle.udfs_tree.proofs.WholeRoutes.{WholeAt, whole_at, file_at, route_law}
+use Rattle.udfs_tree.proofs.Listed.{path_is, Stands, stands}
+use Rattle.udfs_tree.proofs.MissedBlocks.{IsGapAt, misses_gap, unread_misses, IsMissed, listed_is_missed}
+use Rattle.udfs_tree.proofs.PartRoutes.{NodePart, node_unread, node_read, node_part}
+use Rattle.udfs_tree.proofs.Settings.{Setting, setting, Here, here, part_here, tree_here, one_end}
+use Rattle.udfs_tree.proofs.Settled.{settle}
 
 -- a group has one block
 pub needs_one : (all : View) (blocks : PartitionBlocks) (root : LongAd) (path : List (List ℕ)) (g : List ℕ) → Needs all blocks root path g → (n : ℕ) × (g ≡ n ∷ [])
@@ -51,42 +49,39 @@ pub record IsMissedFor (some all : View) (blocks : PartitionBlocks) (root : Long
 
 pub missed_for : (some all : View) (blocks : PartitionBlocks) → IsPartOf some all → IsWhole all blocks → (root : LongAd) → IsLawfulTree all root → (n : ℕ) (m : IsMissed some root n)
     → IsMissedFor some all blocks root m.end n
-missed_for some all blocks p c root lawful n m = by_node (node_part some all blocks p c w x)
+missed_for some all blocks p c root lawful n m = by_node (node_part some all blocks s.part s.is_whole w h.at)
   where
+    s : Setting some all blocks root
+    s = setting some all blocks p c root lawful
+
     w : Walked
     w = m.end
 
-    walks : walked all root m.route ≡ Some w
-    walks = part_route some all p root lawful.nodes m.route w m.leads
+    h : Here some all blocks root w
+    h = here some all blocks root s m.route w m.leads
 
-    x : WholeAt all w
-    x = whole_at all w (lawful.nodes m.route w walks)
-
-    part : IsPartialBody some all w.address.reference w.address.block x.fields x.cs
-    part = part_at some all p w x
-
-    f : IsReadFile blocks w.address x.fields x.cs
-    f = file_at all blocks c w x
+    part : IsPartialBody some all w.address.reference w.address.block h.at.fields h.at.cs
+    part = part_here some all blocks root s w h
 
     leads : Leads blocks root w.path w.address
-    leads = (route_law all blocks c root lawful.nodes).is_path m.route w walks
+    leads = s.routes.is_path h.route w h.walks
 
-    tree : InTree blocks root w.path f.file
-    tree = record { address = w.address; leads = leads; is_file = f.is_file }
+    tree : InTree blocks root w.path h.file.file
+    tree = tree_here some all blocks root s w h
 
     by_cell : (k : ℕ) × IsGapAt part.part k n → IsMissedFor some all blocks root w n
-    by_cell (k, g) = let named : (is_known (some.blocks n) ≡ false) × IsNeededFor all w.address.reference x.fields k n = part.names k n g in record {
+    by_cell (k, g) = let named : (is_known (some.blocks n) ≡ false) × IsNeededFor all w.address.reference h.at.fields k n = part.names k n g in record {
       not_known = named.0;
-      file = f.file;
+      file = h.file.file;
       in_tree = tree;
       needs = for_body (record {
         address = w.address;
         leads = leads;
-        file = f.file;
-        is_file = f.is_file;
+        file = h.file.file;
+        is_file = h.file.is_file;
         cell = k;
         block = n;
-        needed = subst (λ z. IsNeededFor all w.address.reference z k n) (sym f.fields) named.1;
+        needed = subst (λ z. IsNeededFor all w.address.reference z k n) (sym h.file.fields) named.1;
         is = refl;
       });
     }
@@ -94,7 +89,7 @@ missed_for some all blocks p c root lawful n m = by_node (node_part some all blo
     by_icb : (k : ℕ) → all.place w.address.reference w.address.block ≡ Some k → is_known (some.blocks k) ≡ false → n ≡ k → IsMissedFor some all blocks root w n
     by_icb k placed u e = record {
       not_known = subst (λ z. is_known (some.blocks z) ≡ false) (sym e) u;
-      file = f.file;
+      file = h.file.file;
       in_tree = tree;
       needs = for_icb (record { before = w.path; after = []; is_way = sym (append-nil w.path); address = w.address; leads = leads; is = (k, placed, ap (λ z. z ∷ []) e) });
     }
@@ -103,23 +98,9 @@ missed_for some all blocks p c root lawful n m = by_node (node_part some all blo
     one k (inl e) = sym e
     one k (inr i) = absurd i
 
-    by_node : NodePart some all p w x → IsMissedFor some all blocks root w n
-    by_node (node_read t stands) = by_cell (misses_gap (node some w).standing part.part stands n m.misses)
+    by_node : NodePart some all s.part w h.at → IsMissedFor some all blocks root w n
+    by_node (node_read t e) = by_cell (misses_gap (node some w).standing part.part e n m.misses)
     by_node (node_unread k placed u is) = by_icb k placed u (one k (subst (λ z. Includes z n) (unread_misses some w k is) m.misses))
-
--- ---- one node for each path
-record EndOf (v : View) (root : LongAd) (n : NodeFields) : Type 0 where
-  route : Route
-  end : Walked
-  leads : walked v root route ≡ Some end
-  is : n ≡ node v end
-
-end_of : (v : View) (root : LongAd) (rs : List Route) (ws : List Walked) → AreEnds v root rs ws → (i : ℕ) (n : NodeFields) → slice_get (map (node v) ws) i ≡ Some n → EndOf v root n
-end_of v root [] [] z i n e = absurd (let z : ⊥ = cc in z)
-end_of v root [] (w ∷ ws) z i n e = absurd z
-end_of v root (r ∷ rs) [] z i n e = absurd z
-end_of v root (r ∷ rs) (w ∷ ws) z zero n e = record { route = r; end = w; leads = z.0; is = some_same n (node v w) (sym e) }
-end_of v root (r ∷ rs) (w ∷ ws) z (suc i) n e = end_of v root rs ws z.1 i n e
 
 no_member : (xs : List ℕ) → ((n : ℕ) → ¬ Includes xs n) → xs ≡ []
 no_member [] h = refl
@@ -131,18 +112,15 @@ not_whole : (some all : View) (blocks : PartitionBlocks) → IsPartOf some all �
 not_whole some all blocks p c root lawful nodes listed n m file (i, n', cs, get, path, cells_at, is_as) =
     subst (λ z. Includes (missing_of z) n) (ap (λ z. (node some z).standing) same ∙ ap (λ z. z.standing) (sym e.is) ∙ is_as.standing) m.misses
   where
-    e : EndOf some root n'
-    e = end_of some root listed.walk.routes listed.walks listed.walk.each i n' (subst (λ z. slice_get z i ≡ Some n') listed.is get)
+    s : Setting some all blocks root
+    s = setting some all blocks p c root lawful
 
-    whole_walk : (route : Route) (w : Walked) → walked some root route ≡ Some w → walked all root route ≡ Some w
-    whole_walk route w k = part_route some all p root lawful.nodes route w k
-
-    routes : m.route ≡ e.route
-    routes = (route_law all blocks c root lawful.nodes).one lawful.distinct m.route e.route m.end e.end (whole_walk m.route m.end m.leads) (whole_walk e.route e.end e.leads)
-        (sym path ∙ ap (λ z. z.path) e.is ∙ path_is some e.end)
+    e : Stands some root nodes listed i n'
+    e = stands some root nodes listed i n' get
 
     same : m.end ≡ e.end
-    same = some_same m.end e.end (sym m.leads ∙ ap (walked some root) routes ∙ e.leads)
+    same = one_end some all blocks root s m.end e.end (here some all blocks root s m.route m.end m.leads) (here some all blocks root s e.route e.end e.walks)
+        (sym path ∙ ap (λ z. z.path) e.is ∙ path_is some e.end)
 
 pub missing_is_wanted : MissingIsWanted
 missing_is_wanted some all blocks p c root lawful nodes listed = record {
