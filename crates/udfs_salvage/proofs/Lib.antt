@@ -5,4 +5,5 @@ pub mod PastEnds
 pub mod Printed
 pub mod Rereads
 pub mod Runs
+pub mod TreeReports
 pub mod VolumeLaw
