@@ -5,5 +5,6 @@ pub mod PastEnds
 pub mod Printed
 pub mod Rereads
 pub mod Runs
+pub mod TreeReports
 pub mod VolumeLaw
 pub mod Rereading

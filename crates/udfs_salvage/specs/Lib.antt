@@ -2,6 +2,7 @@ pub mod Found
 pub mod Laws
 pub mod VolumeTrees
 pub mod Reports
+pub mod TreeReports
 pub mod Texts
 pub mod NodeTexts
 pub mod Printing
