@@ -71,3 +71,14 @@ pub record IsGoodReread (blocks : Blocks) (last : ℕ) (report : Report) (volume
 
 abbrev pub RereadsSuffice : Blocks → ℕ → Report → Type 0
 RereadsSuffice blocks last report = ForLawful blocks last (IsGoodReread blocks last report)
+
+-- ---- laws of every report
+
+abbrev pub MetIsWhole : Type 0
+MetIsWhole = (blocks : Blocks) (last : ℕ) (report : Report) → IsReport blocks last report → MetIsReported blocks last report
+
+abbrev pub MoreStaysWhole : Type 0
+MoreStaysWhole = (blocks : Blocks) (last : ℕ) (report : Report) → IsReport blocks last report → StaysWhole blocks last report
+
+abbrev pub EachRereadSuffices : Type 0
+EachRereadSuffices = (blocks : Blocks) (last : ℕ) (report : Report) → IsReport blocks last report → RereadsSuffice blocks last report

@@ -6,6 +6,7 @@
 #![tactic(auto)]
 
 mod errors;
+pub mod laws;
 mod lines;
 mod node_lines;
 mod node_printing;
