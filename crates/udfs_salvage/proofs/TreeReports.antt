@@ -9,14 +9,14 @@ use Rattle.udfs_walk.specs.Routes.{HasMoreRoutes}
 use Rattle.udfs_tree.specs.Trees.{TreeFile, InTree}
 use Rattle.udfs_tree.specs.Needs.{Needs, HasKnown, IsMet}
 use Rattle.udfs_tree.specs.Laws.{AreTheTree, IsNodeOf}
-use Rattle.udfs_tree.proofs.CompleteNodes.{complete_nodes}
+use Rattle.udfs_tree.proofs.CompleteNodes.{complete_nodes, one_file}
 use Rattle.udfs_tree.proofs.PartNodes.{partial_nodes}
 use Rattle.udfs_tree.proofs.PartRoutes.{fewer_routes}
 use Rattle.udfs_salvage.specs.Found.{Found}
 use Rattle.udfs_salvage.specs.Laws.{IsVolumeGroup, IsFoundOf, IsToldOf}
 use Rattle.udfs_salvage.specs.Reports.{Report, ReportsNodes, ReportsBy, IsReport, IsOutOfRange, IsPastEnd, HasTooManyPaths, IsLookRefused}
 use Rattle.udfs_salvage.specs.VolumeTrees.{IsInVolume, IsLawful, NeedsOf, for_volume, for_node, IsMetBy}
-use Rattle.udfs_salvage.specs.TreeReports.{IsNodeOfVolume, IsReportOf, TellsTree, IsWholeReportOf, TellsWholeTree, AgreesWithNone, IsOfNoLawful}
+use Rattle.udfs_salvage.specs.TreeReports.{IsNodeOfVolume, IsReportOf, TellsTree, IsWholeReportOf, TellsWholeTree, AgreesWithNone, IsOfNoLawful, OpensOnce, OneFileAt, ReportsTellTree}
 use Rattle.udfs_salvage.specs.declared.errors.SalvageError.{SalvageError}
 use Rattle.udfs_salvage.specs.declared.errors.SalvageError.TheVariants as errors
 use Rattle.udfs_salvage.proofs.Opens.{FoundBy, found_by}
@@ -144,3 +144,19 @@ look_refused M N errors.LastRange h = absurd h
 look_refused M N (errors.PastEnd n) h = absurd h
 look_refused M N errors.TooManyPaths h = too_many M N h
 look_refused M N errors.OutOfMemory h = tt
+
+-- ---- one tree
+pub opens_once : OpensOnce
+opens_once V N l = let r : ReadAs V N l.is_volume.found_is = read_as V N l in (r.opened, r.is_opened, r.only)
+
+pub one_file_at : OneFileAt
+one_file_at V N l path file other t u = one_file (view (complete V N) f.space) r.opened.blocks r.is_whole f.root l.tree path file other (from_volume V N f r path file t) (from_volume V N f r path other u)
+  where
+    f : Found
+    f = l.is_volume.found_is
+
+    r : ReadAs V N f
+    r = read_as V N l
+
+pub reports_tell_tree : ReportsTellTree
+reports_tell_tree M N report x = (tells_tree M N report x, tells_whole_tree M N report x)

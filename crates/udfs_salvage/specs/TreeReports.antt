@@ -2,6 +2,8 @@
 --     TellsTree blocks last report           each node is one of the volume's tree, and what is whole is the tree's
 --     TellsWholeTree blocks last report      where all of the volume is known, the nodes are its tree, all whole
 --     IsOfNoLawful blocks last e             there is no report only where no lawful volume agrees, or for want of memory
+--     OpensOnce, OneFileAt                   the standard opens a lawful volume in one way, and a path leads to one file
+--     ReportsTellTree                        every report of a table tells this
 use Rattle.std.specs.Prelude.{◌≡◌, ◌⊎◌, ⊤, ℕ, List, slice_get, Some}
 use Rattle.udfs_lattice.specs.Volumes.{Blocks, Volume, Agrees, complete}
 use Rattle.udfs_volume.specs.Answers.{Answer, found, holes}
@@ -13,8 +15,8 @@ use Rattle.udfs_tree.specs.Trees.{TreeFile}
 use Rattle.udfs_tree.specs.Cells.{HasCellsAt, HasNoFault, IsWholeAs}
 use Rattle.udfs_tree.specs.Laws.{IsTold}
 use Rattle.udfs_salvage.specs.Found.{Found}
-use Rattle.udfs_salvage.specs.Reports.{Report}
-use Rattle.udfs_salvage.specs.VolumeTrees.{IsInVolume, IsLawful, IsMetBy}
+use Rattle.udfs_salvage.specs.Reports.{Report, IsReport}
+use Rattle.udfs_salvage.specs.VolumeTrees.{Opened, IsOpened, IsInVolume, IsLawful, IsMetBy}
 use Rattle.udfs_salvage.specs.declared.errors.SalvageError.{SalvageError}
 use Rattle.udfs_salvage.specs.declared.errors.SalvageError.TheVariants as errors
 
@@ -76,3 +78,17 @@ IsOfNoLawful blocks last errors.LastRange = AgreesWithNone blocks last
 IsOfNoLawful blocks last (errors.PastEnd n) = AgreesWithNone blocks last
 IsOfNoLawful blocks last errors.TooManyPaths = AgreesWithNone blocks last
 IsOfNoLawful blocks last errors.OutOfMemory = ⊤
+
+-- the standard opens a lawful volume, and in one way only
+abbrev pub OpensOnce : Type 0
+OpensOnce = (volume : Volume) (last : ℕ) → IsLawful volume last
+    → (opened : Opened) × IsOpened volume last opened × ((other : Opened) → IsOpened volume last other → other ≡ opened)
+
+-- and a path leads to one file
+abbrev pub OneFileAt : Type 0
+OneFileAt = (volume : Volume) (last : ℕ) → IsLawful volume last → (path : List (List ℕ)) (file other : TreeFile)
+    → IsInVolume volume last path file → IsInVolume volume last path other → other ≡ file
+
+-- the same for whoever has a report and not the call
+abbrev pub ReportsTellTree : Type 0
+ReportsTellTree = (blocks : Blocks) (last : ℕ) (report : Report) → IsReport blocks last report → TellsTree blocks last report × TellsWholeTree blocks last report

@@ -13,6 +13,7 @@ mod node_printing;
 mod printing;
 mod reports;
 mod running;
+pub mod tree_laws;
 mod volumes;
 
 pub use errors::{RunError, SalvageError};

@@ -13,10 +13,10 @@ use Rattle.udfs_walk.specs.Nodes.{node}
 use Rattle.udfs_walk.specs.Routes.{Walked}
 use Rattle.udfs_tree.specs.Trees.{PartitionBlocks, TreeFile, IsFileAt, InTree}
 use Rattle.udfs_tree.specs.Cells.{HasCells, HasCellsAt, IsByteOf, IsWholeAs}
-use Rattle.udfs_tree.specs.Laws.{IsWholeNode, CompleteNodes}
+use Rattle.udfs_tree.specs.Laws.{IsWholeNode, CompleteNodes, OneFile}
 use Rattle.udfs_tree.proofs.WholeRoutes.{IsRouteTo}
 use Rattle.udfs_tree.proofs.PartNodes.{told_as}
-use Rattle.udfs_tree.proofs.Settings.{Setting, setting, Here, here_all, tree_here}
+use Rattle.udfs_tree.proofs.Settings.{Setting, setting, Here, here_all, tree_here, one_address}
 use Rattle.udfs_tree.proofs.Listed.{path_is, Stands, stands, Placed, placed, once_listed}
 
 -- a complete view is part of itself
@@ -100,3 +100,18 @@ complete_nodes all blocks c root l nodes are = record { in_tree = in_tree; is_li
         same : x.route ≡ y.route
         same = s.routes.one l.distinct x.route y.route x.end y.end x.walks y.walks
             (sym (path_is all x.end) ∙ ap (λ z. z.path) (sym x.is) ∙ e ∙ ap (λ z. z.path) y.is ∙ path_is all y.end)
+
+pub one_file : OneFile
+one_file all blocks c root l path file other t u = h.file.only other (at other u) ∙ sym (h.file.only file (at file t))
+  where
+    s : Setting all all blocks root
+    s = setting all all blocks (part_of_itself all blocks c) c root l
+
+    r : IsRouteTo all root path t.address
+    r = s.routes.is_route path t.address t.leads
+
+    h : Here all all blocks root r.end
+    h = here_all all all blocks root s r.route r.end r.leads
+
+    at : (x : TreeFile) (i : InTree blocks root path x) → IsFileAt blocks r.end.address x
+    at x i = subst (λ z. IsFileAt blocks z x) (one_address all all blocks root s r.end h path i.address r.path_is i.leads) i.is_file

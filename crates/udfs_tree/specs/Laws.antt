@@ -2,6 +2,7 @@
 --     CompleteNodes     over the complete view the nodes are those of the tree, all whole
 --     PartialNodes      over a part each node is one of the tree, and what is whole is the tree's
 --     FewerRoutes       a part has no more routes than the whole
+--     OneFile           a path leads to one file
 use Rattle.std.specs.Prelude.{◌≡◌, ◌⊎◌, ℕ, List, Some, slice_get}
 use Rattle.udfs_tag.specs.declared.layouts.LongAd.{LongAd}
 use Rattle.udfs_space.specs.Places.{View, IsPartOf}
@@ -53,3 +54,8 @@ PartialNodes = (some all : View) (blocks : PartitionBlocks) → IsPartOf some al
 abbrev pub FewerRoutes : Type 0
 FewerRoutes = (some all : View) (blocks : PartitionBlocks) → IsPartOf some all → IsWhole all blocks → (root : LongAd) → IsLawfulTree all root
     → (count : ℕ) → HasMoreRoutes some root count → HasMoreRoutes all root count
+
+-- a path of a lawful tree leads to one file
+abbrev pub OneFile : Type 0
+OneFile = (all : View) (blocks : PartitionBlocks) → IsWhole all blocks → (root : LongAd) → IsLawfulTree all root
+    → (path : List (List ℕ)) (file other : TreeFile) → InTree blocks root path file → InTree blocks root path other → other ≡ file

@@ -1,5 +1,5 @@
 //! Laws of the tree, each the contract of a function that does nothing.
-ghost use Rattle.udfs_tree.specs.Laws.{CompleteNodes, FewerRoutes, PartialNodes};
+ghost use Rattle.udfs_tree.specs.Laws.{CompleteNodes, FewerRoutes, OneFile, PartialNodes};
 
 /// Over a complete view with a lawful tree, the nodes are those of the tree, each once and all whole, with the tree's
 /// bytes.
@@ -17,4 +17,9 @@ pub fn partial_nodes()
 /// A part has no more routes than the whole: where the tree is lawful, there are never too many paths.
 pub fn fewer_routes()
     ensures { FewerRoutes }
+{}
+
+/// A path of a lawful tree leads to one file: its fields and its bytes are determined.
+pub fn one_file()
+    ensures { OneFile }
 {}
