@@ -1,7 +1,10 @@
 pub mod Found
 pub mod Laws
+pub mod VolumeTrees
 pub mod Reports
+pub mod TreeReports
 pub mod Texts
 pub mod NodeTexts
 pub mod Printing
 pub mod Running
+pub mod KnownEnough

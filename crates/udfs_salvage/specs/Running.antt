@@ -12,6 +12,8 @@ use Rattle.udfs_reading.specs.declared.inputs.InputError.{InputError}
 use Rattle.udfs_reading.specs.declared.error.ReadingFault.{ReadingFault}
 use Rattle.udfs_reading.specs.declared.error.ReadingFault.TheVariants as reading
 use Rattle.udfs_salvage.specs.Reports.{Report, IsReport, IsNothingPast, IsOutOfRange, IsPastEnd, HasTooManyPaths, all_whole}
+use Rattle.udfs_salvage.specs.TreeReports.{TellsTree, TellsWholeTree, AgreesWithNone}
+use Rattle.udfs_salvage.specs.KnownEnough.{MetIsReported, RereadsSuffice, StaysWhole}
 use Rattle.udfs_salvage.specs.NodeTexts.{report_text}
 use Rattle.udfs_salvage.specs.Printing.{Prints}
 use Rattle.udfs_salvage.specs.declared.errors.SalvageError.{SalvageError}
@@ -34,10 +36,16 @@ abbrev pub SaysWhole : Result Bool RunError → Report → Type 0
 SaysWhole (Ok whole) report = whole ≡ all_whole report.nodes
 SaysWhole (Err e) report = ⊤
 
--- the text of the table's report was printed, or a beginning of it
+-- the text of the table's report was printed, or a beginning of it; and of every lawful volume that agrees with the
+-- table, the report tells of the tree, what is known enough is whole and stays so, and the list to read again is right
 pub record PrintsOf (last : ℕ) (old new : Option (List ℕ)) (i j : ℕ) (result : Result Bool RunError) (table : Table) : Type 0 where
   pub report : Report
   pub is_report : IsReport (state_of table) last report
+  pub tree : TellsTree (state_of table) last report
+  pub whole_tree : TellsWholeTree (state_of table) last report
+  pub met : MetIsReported (state_of table) last report
+  pub stays : StaysWhole (state_of table) last report
+  pub rereads : RereadsSuffice (state_of table) last report
   pub prints : Prints old new i j (report_text table last report) result
   pub says : SaysWhole result report
 
@@ -46,11 +54,12 @@ pub record PrintsNothing (old new : Option (List ℕ)) (i j : ℕ) : Type 0 wher
   pub given : Appends old new []
   pub kept : j ≡ i
 
--- what a run says of the table of its inputs: its report; or why there is none, and then nothing is out
+-- what a run says of the table of its inputs: its report; or why there is none, and then nothing is out, and no lawful
+-- volume agrees with the table
 abbrev pub AnswersFor : ℕ → Option (List ℕ) → Option (List ℕ) → ℕ → ℕ → Result Bool RunError → Table → Type 0
 AnswersFor last old new i j (Ok x) table = PrintsOf last old new i j (Ok x) table
 AnswersFor last old new i j (Err (Reading e)) table = ⊥
-AnswersFor last old new i j (Err (Salvage e)) table = IsRefusedFor table last e
+AnswersFor last old new i j (Err (Salvage e)) table = IsRefusedFor table last e × AgreesWithNone (state_of table) last
 AnswersFor last old new i j (Err Write) table = PrintsOf last old new i j (Err Write) table
 AnswersFor last old new i j (Err OutOfMemory) table = PrintsNothing old new i j ⊎ PrintsOf last old new i j (Err OutOfMemory) table
 

@@ -6,12 +6,14 @@
 #![tactic(auto)]
 
 mod errors;
+pub mod laws;
 mod lines;
 mod node_lines;
 mod node_printing;
 mod printing;
 mod reports;
 mod running;
+pub mod tree_laws;
 mod volumes;
 
 pub use errors::{RunError, SalvageError};

@@ -7,7 +7,9 @@ ghost use Rattle.udfs_volume.specs.Seen.{IsRising};
 ghost use Rattle.udfs_space.specs.Places.{view};
 ghost use Rattle.udfs_walk.specs.Walks.{AreNodes};
 ghost use Rattle.udfs_salvage.specs.Found.{found_now, volume_now};
+ghost use Rattle.udfs_salvage.specs.KnownEnough.{MetIsReported, RereadsSuffice, StaysWhole};
 ghost use Rattle.udfs_salvage.specs.Laws.{TellsLawful};
+ghost use Rattle.udfs_salvage.specs.TreeReports.{IsOfNoLawful, TellsTree, TellsWholeTree};
 ghost use Rattle.udfs_salvage.specs.Reports.{HasTooManyPaths, IsLookRefused, IsNothingPast, IsOutOfRange, IsPastEnd, IsReport, IsWalkRefused, ReportsBy, all_whole, is_whole, report_now};
 
 use crate::errors::SalvageError;
@@ -160,14 +162,24 @@ fn look<'a>(alloc: Global, table: &'a BlockTable, last: u32) -> Result<Report<'a
 /// and how whole they are, and which blocks are worth reading again.
 ///
 /// Of a lawful volume with which the table agrees, it tells what is found of the volume itself; or it has holes: then all
-/// blocks of some group are among them, of which one is needed and none is known. It never tells a fault.
+/// blocks of some group are among them, of which one is needed and none is known. It never tells a fault. Each node is one
+/// of the tree that the standard reads from the volume's complete bytes, at its path, and none is a fault or a loop. What
+/// is whole has that kind, size, stamp and those bytes, and of each group of blocks that it needs one is known; of a torn
+/// node of known size each byte outside its holes is the volume's. Where the table knows all of the volume, the nodes are
+/// the tree, all whole. The only error of a table that agrees with a lawful volume is want of memory.
+///
+/// A node of the tree is told as whole where of each group of blocks that it needs one is known, and stays whole, with the
+/// same path and bytes, for every table that knows more and disputes nothing that is known. The list to read again is
+/// empty exactly if all of the tree is whole. Each block in it is not known, and is in a needed group of which none is
+/// known, or is an anchor place while no valid anchor is known. Each node of the tree is whole, or the list holds all of
+/// such a group of it: so a pass that reads no listed block makes no further node whole.
 ///
 /// # Errors
 ///
 /// `LastRange` exactly where `last` is not from 513 to 4,194,303; else `PastEnd` exactly where something is known of a
 /// block behind the last, with the least such block; else `TooManyPaths` where more than 65,536 routes lead from the
 /// root to a node; and `OutOfMemory` where memory is refused.
-#[tactic(auto, using(crate::proofs::VolumeLaw::tells_lawful))]
+#[tactic(auto, using(crate::proofs::VolumeLaw::tells_lawful, crate::proofs::TreeReports::tells_tree, crate::proofs::TreeReports::tells_whole_tree, crate::proofs::TreeReports::out_of_range, crate::proofs::TreeReports::past_end, crate::proofs::TreeReports::look_refused))]
 pub fn salvage<'a>(
     alloc: Global,
     table: &'a BlockTable,
@@ -178,6 +190,14 @@ pub fn salvage<'a>(
     ensures too_many { IsErrOf result SalvageError.TooManyPaths → (¬ IsOutOfRange last) × IsNothingPast (state_of table.now) last × HasTooManyPaths (state_of table.now) last }
     ensures report { IfOk result (λ report. IsReport (state_of table.now) last (report_now report)) }
     ensures lawful { IfOk result (λ report. TellsLawful (state_of table.now) last (volume_now report.volume)) }
+    // Of every lawful volume with which the table agrees: each node is the tree's; what is known enough is whole, and stays
+    // so as more is known; and what is listed to be read again is needed, and enough of it.
+    ensures tree { IfOk result (λ report. TellsTree (state_of table.now) last (report_now report)) }
+    ensures whole_tree { IfOk result (λ report. TellsWholeTree (state_of table.now) last (report_now report)) }
+    ensures met { IfOk result (λ report. MetIsReported (state_of table.now) last (report_now report)) }
+    ensures stays { IfOk result (λ report. StaysWhole (state_of table.now) last (report_now report)) }
+    ensures rereads { IfOk result (λ report. RereadsSuffice (state_of table.now) last (report_now report)) }
+    ensures of_no_lawful { IfErr result (IsOfNoLawful (state_of table.now) last) }
     ensures rising { IfOk result (λ report. IsRising report.reread.items) }
     ensures of { IfOk result (λ report. (report.table.now ≡ table.now) × (report.last ≡ last)) }
 {

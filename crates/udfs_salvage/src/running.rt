@@ -49,7 +49,8 @@ fn report_table<W: Sink>(
 /// Joins the inputs, and writes the report of the volume of which `last` is the last block. It answers whether there are
 /// files and all of them are whole.
 ///
-/// The text is the same for every order and repetition of the inputs, and however their records are split over files.
+/// The text is the same for every order and repetition of the inputs, and however their records are split over files. It
+/// tells of every lawful volume with which the join of the inputs agrees, as [`salvage`] says.
 ///
 /// # Errors
 ///

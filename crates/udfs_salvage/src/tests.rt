@@ -1,5 +1,7 @@
 //! Reports that a sink or memory stops half way.
 
+mod every_table;
+
 use crate::{RunError, SalvageError, report_run, salvage, write_report, write_volume};
 use std::alloc::Global;
 use std::io;

@@ -9,6 +9,7 @@ pub mod Pasts
 pub mod PlaceLaw
 pub mod Searching
 pub mod SoundEntries
+pub mod Soundness
 pub mod SpaceLaw
 pub mod Standing
 pub mod Tables

@@ -85,7 +85,7 @@ packet_if : (n : ℕ) → (n ≡ 16) ⊎ (n ≡ 32) → 0 < n
 packet_if n (inl e) = omega (arith, e)
 packet_if n (inr e) = omega (arith, e)
 
-has_packet : (last : ℕ) (m : PartitionMap) → IsBoundedMap last m → 0 < packet_of m
+pub has_packet : (last : ℕ) (m : PartitionMap) → IsBoundedMap last m → 0 < packet_of m
 has_packet last type1 b = omega arith
 has_packet last (sparable packet size tables) b = packet_if packet b.packet_is
 
@@ -95,18 +95,23 @@ span_within T last p s b e = let q : (sp : Spared) × (spared T last p.kind ≡ 
     subst (IsWithin last) (found_same (span_of p q.0) s q.2)
     (record { packet = has_packet last p.kind b.bounded_map; ends = b.ends; spared = spared_fit T last p.kind q.0 q.1 })
 
-spans_within : (T : Blocks) (last : ℕ) (ps : List Partition) (ss : Space) → ((p : Partition) → Includes ps p → IsBoundedPartition last p)
-    → spans T last ps ≡ found ss → (s : Span) → Includes ss s → IsWithin last s
-spans_within T last [] ss b e s i = absurd (subst (λ x. Includes x s) (sym (found_same [] ss e)) i)
-spans_within T last (p ∷ ps) ss b e s i = let q : (x : Span) × (span T last p ≡ found x) × (and_then (spans T last ps) (λ xs. found (x ∷ xs)) ≡ found ss) =
+-- what holds of the partition of each map holds of all
+pub spans_each : (P : Span → Type 0) (T : Blocks) (last : ℕ) (ps : List Partition) (ss : Space) → ((p : Partition) (s : Span) → Includes ps p → span T last p ≡ found s → P s)
+    → spans T last ps ≡ found ss → (s : Span) → Includes ss s → P s
+spans_each P T last [] ss b e s i = absurd (subst (λ x. Includes x s) (sym (found_same [] ss e)) i)
+spans_each P T last (p ∷ ps) ss b e s i = let q : (x : Span) × (span T last p ≡ found x) × (and_then (spans T last ps) (λ xs. found (x ∷ xs)) ≡ found ss) =
     and_then-found (span T last p) (λ x. and_then (spans T last ps) (λ xs. found (x ∷ xs))) ss e in
     let r : (xs : Space) × (spans T last ps ≡ found xs) × (found (q.0 ∷ xs) ≡ found ss) = and_then-found (spans T last ps) (λ xs. found (q.0 ∷ xs)) ss q.2 in
-    go q.0 r.0 (span_within T last p q.0 (b p (inl refl)) q.1) (spans_within T last ps r.0 (λ p i. b p (inr i)) r.1 s)
+    go q.0 r.0 (b p q.0 (inl refl) q.1) (spans_each P T last ps r.0 (λ p x i. b p x (inr i)) r.1 s)
     (subst (λ x. Includes x s) (sym (found_same (q.0 ∷ r.0) ss r.2)) i)
   where
-    go : (x : Span) (xs : Space) → IsWithin last x → (Includes xs s → IsWithin last s) → Includes (x ∷ xs) s → IsWithin last s
-    go x xs h later (inl k) = subst (IsWithin last) k h
+    go : (x : Span) (xs : Space) → P x → (Includes xs s → P s) → Includes (x ∷ xs) s → P s
+    go x xs h later (inl k) = subst P k h
     go x xs h later (inr k) = later k
+
+spans_within : (T : Blocks) (last : ℕ) (ps : List Partition) (ss : Space) → ((p : Partition) → Includes ps p → IsBoundedPartition last p)
+    → spans T last ps ≡ found ss → (s : Span) → Includes ss s → IsWithin last s
+spans_within T last ps ss b e s i = spans_each (IsWithin last) T last ps ss (λ p x k f. span_within T last p x (b p k) f) e s i
 
 -- where a logical block stands
 place_within : (last : ℕ) (s : Span) → IsWithin last s → (b n : ℕ) → place_in s b ≡ Some n → n ≤ last
@@ -125,7 +130,7 @@ place_within last s w b n e = go (nat_lt b s.size) refl e
         (at (omega (arith, l)) (find (λ e. nat_eq e.original (b - b % s.packet)) s.spared) refl)
     go false x q = absurd (let z : ⊥ = cc in z)
 
-included : (ss : Space) (r : ℕ) (s : Span) → slice_get ss r ≡ Some s → Includes ss s
+pub included : (ss : Space) (r : ℕ) (s : Span) → slice_get ss r ≡ Some s → Includes ss s
 included [] r s e = absurd (let z : ⊥ = cc in z)
 included (x ∷ xs) zero s e = inl (let z : x ≡ s = cc in z)
 included (x ∷ xs) (suc r) s e = inr (included xs r s e)

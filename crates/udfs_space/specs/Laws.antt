@@ -4,7 +4,8 @@
 --     SpaceLaw, PlaceLaw                      the places are the volume's, or a group is unread
 --     StandardSpace                           with all known they are those of the first sparing table
 --     PlacingLaw, OldPlaceLaw                 where a block stands, and that nothing is read where it stood
-use Rattle.std.specs.Prelude.{◌≡◌, ◌↔◌, ℕ, ◌+◌, ◌-◌, ◌<◌, List, [], drop, slice_get, true, Some, ⊤}
+--     SoundSpace                              the partitions of a layout are sound, so placing is that relation
+use Rattle.std.specs.Prelude.{◌≡◌, ◌↔◌, ℕ, ◌+◌, ◌-◌, ◌<◌, ◌≤◌, List, [], drop, slice_get, true, Some, ⊤}
 use Rattle.udfs_lattice.specs.Volumes.{Blocks, Includes, Volume, IsVolume, Agrees, complete}
 use Rattle.udfs_tag.specs.Tags.{is_valid}
 use Rattle.udfs_volume.specs.Answers.{found}
@@ -64,3 +65,8 @@ OldPlaceLaw = (space : Space) (blocks other : Blocks) (reference b : ℕ) (span 
     → slice_get space reference ≡ Some span → IsSound span → b < span.size → IsSparedBy span b e
     → blocks (e.mapped + (b - e.original)) ≡ other (e.mapped + (b - e.original))
     → block_at (view blocks space) reference b ≡ block_at (view other space) reference b
+
+-- the partitions of a layout that is found are sound, whichever copies of a table are known
+abbrev pub SoundSpace : Type 0
+SoundSpace = (blocks : Blocks) (last : ℕ) (l : Layout) (s : Space) → last ≤ 4194303 → layout blocks last ≡ found l → space blocks l ≡ found s
+    → (reference : ℕ) (span : Span) → slice_get s reference ≡ Some span → IsSound span

@@ -1,5 +1,5 @@
 //! Laws of sparing tables and places, each the contract of a function that does nothing.
-ghost use Rattle.udfs_space.specs.Laws.{OldPlaceLaw, PlaceLaw, PlacingLaw, SpaceLaw, StandardSpace};
+ghost use Rattle.udfs_space.specs.Laws.{OldPlaceLaw, PlaceLaw, PlacingLaw, SoundSpace, SpaceLaw, StandardSpace};
 
 /// Over a table that agrees with a lawful volume, the places are the volume's and of each block of a
 /// sparing table a copy is known; or there are holes: all copies of some block of which none is known, and
@@ -31,4 +31,10 @@ pub fn placing_is_a_relation()
 /// place alone.
 pub fn old_places_are_not_read()
     ensures { OldPlaceLaw }
+{}
+
+/// The partitions of a layout are sound: not empty, and their spared packets are whole ones, each once. So where a
+/// block stands is told by the relation.
+pub fn space_is_sound()
+    ensures { SoundSpace }
 {}

@@ -1,0 +1,94 @@
+-- What a report says of every lawful volume that agrees with the table.
+--     TellsTree blocks last report           each node is one of the volume's tree, and what is whole is the tree's
+--     TellsWholeTree blocks last report      where all of the volume is known, the nodes are its tree, all whole
+--     IsOfNoLawful blocks last e             there is no report only where no lawful volume agrees, or for want of memory
+--     OpensOnce, OneFileAt                   the standard opens a lawful volume in one way, and a path leads to one file
+--     ReportsTellTree                        every report of a table tells this
+use Rattle.std.specs.Prelude.{◌≡◌, ◌⊎◌, ⊤, ℕ, List, slice_get, Some}
+use Rattle.udfs_lattice.specs.Volumes.{Blocks, Volume, Agrees, complete}
+use Rattle.udfs_volume.specs.Answers.{Answer, found, holes}
+use Rattle.udfs_space.specs.Places.{view}
+use Rattle.udfs_file.specs.declared.cells.Cell.{Cell}
+use Rattle.udfs_walk.specs.NodeFields.{NodeFields}
+use Rattle.udfs_walk.specs.declared.standings.Standing.TheVariants.{Whole}
+use Rattle.udfs_tree.specs.Trees.{TreeFile}
+use Rattle.udfs_tree.specs.Cells.{HasCellsAt, HasNoFault, IsWholeAs}
+use Rattle.udfs_tree.specs.Laws.{IsTold}
+use Rattle.udfs_salvage.specs.Found.{Found}
+use Rattle.udfs_salvage.specs.Reports.{Report, IsReport}
+use Rattle.udfs_salvage.specs.VolumeTrees.{Opened, IsOpened, IsInVolume, IsLawful, IsMetBy}
+use Rattle.udfs_salvage.specs.declared.errors.SalvageError.{SalvageError}
+use Rattle.udfs_salvage.specs.declared.errors.SalvageError.TheVariants as errors
+
+-- the volume opens, or has holes
+abbrev pub OpensOrHasHoles : Answer Found → Type 0
+OpensOrHasHoles told = ((f : Found) × (told ≡ found f)) ⊎ ((listed : List ℕ) × (told ≡ holes listed))
+
+-- these are the cells of the body of the node at this place in the report
+abbrev pub HasReportCells : Blocks → Found → ℕ → List Cell → Type 0
+HasReportCells blocks f index cs = HasCellsAt (view blocks f.space) f.root index cs
+
+-- the node is whole, has the file's kind, size and stamp, and all of its bytes
+abbrev pub IsReportedAs : Blocks → Found → ℕ → NodeFields → TreeFile → Type 0
+IsReportedAs blocks f index n file = (cs : List Cell) × HasReportCells blocks f index cs × IsWholeAs n file cs
+
+-- Of the node at this place in the report of a volume that opens.
+pub record IsNodeOfVolume (blocks : Blocks) (volume : Volume) (last : ℕ) (told : Answer Found) (index : ℕ) (n : NodeFields) : Type 0 where
+  pub opened : Found
+  pub opens : told ≡ found opened
+  -- it is one of the tree at its path
+  pub file : TreeFile
+  pub in_volume : IsInVolume volume last n.path file
+  pub no_fault : HasNoFault n
+  -- it is told as the tree has it, with the tree's bytes outside its holes; or nothing is told of it
+  pub as_far : IsTold (view blocks opened.space) opened.root index n file
+  -- if it is whole, it has all of the tree's bytes, and of each group that it needs a block is known
+  pub whole : n.standing ≡ Whole → IsReportedAs blocks opened index n file × IsMetBy blocks volume last n.path
+
+pub record IsReportOf (blocks : Blocks) (volume : Volume) (last : ℕ) (report : Report) : Type 0 where
+  pub no_fault : OpensOrHasHoles report.volume
+  pub nodes : (index : ℕ) (n : NodeFields) → slice_get report.nodes index ≡ Some n → IsNodeOfVolume blocks volume last report.volume index n
+
+-- for every lawful volume with which the table agrees
+abbrev pub TellsTree : Blocks → ℕ → Report → Type 0
+TellsTree blocks last report = (volume : Volume) → IsLawful volume last → Agrees blocks volume last → IsReportOf blocks volume last report
+
+-- The nodes are those of the volume's tree, each once, and all are whole.
+pub record IsWholeReportOf (blocks : Blocks) (volume : Volume) (last : ℕ) (report : Report) : Type 0 where
+  pub opened : Found
+  pub opens : report.volume ≡ found opened
+  pub in_volume : (index : ℕ) (n : NodeFields) → slice_get report.nodes index ≡ Some n
+      → (file : TreeFile) × IsInVolume volume last n.path file × IsReportedAs blocks opened index n file
+  pub is_listed : (path : List (List ℕ)) (file : TreeFile) → IsInVolume volume last path file
+      → (index : ℕ) × (n : NodeFields) × (slice_get report.nodes index ≡ Some n) × (n.path ≡ path) × IsReportedAs blocks opened index n file
+  pub once : (i j : ℕ) (m n : NodeFields) → slice_get report.nodes i ≡ Some m → slice_get report.nodes j ≡ Some n → m.path ≡ n.path → i ≡ j
+
+-- for every lawful volume of which the table knows all
+abbrev pub TellsWholeTree : Blocks → ℕ → Report → Type 0
+TellsWholeTree blocks last report = (volume : Volume) → IsLawful volume last → ((n : ℕ) → blocks n ≡ complete volume last n)
+    → IsWholeReportOf blocks volume last report
+
+-- no lawful volume agrees with the table
+abbrev pub AgreesWithNone : Blocks → ℕ → Type 0
+AgreesWithNone blocks last = (volume : Volume) → IsLawful volume last → ¬ Agrees blocks volume last
+
+-- any other error than want of memory is told only where no lawful volume agrees with the table
+abbrev pub IsOfNoLawful : Blocks → ℕ → SalvageError → Type 0
+IsOfNoLawful blocks last errors.LastRange = AgreesWithNone blocks last
+IsOfNoLawful blocks last (errors.PastEnd n) = AgreesWithNone blocks last
+IsOfNoLawful blocks last errors.TooManyPaths = AgreesWithNone blocks last
+IsOfNoLawful blocks last errors.OutOfMemory = ⊤
+
+-- the standard opens a lawful volume, and in one way only
+abbrev pub OpensOnce : Type 0
+OpensOnce = (volume : Volume) (last : ℕ) → IsLawful volume last
+    → (opened : Opened) × IsOpened volume last opened × ((other : Opened) → IsOpened volume last other → other ≡ opened)
+
+-- and a path leads to one file
+abbrev pub OneFileAt : Type 0
+OneFileAt = (volume : Volume) (last : ℕ) → IsLawful volume last → (path : List (List ℕ)) (file other : TreeFile)
+    → IsInVolume volume last path file → IsInVolume volume last path other → other ≡ file
+
+-- the same for whoever has a report and not the call
+abbrev pub ReportsTellTree : Type 0
+ReportsTellTree = (blocks : Blocks) (last : ℕ) (report : Report) → IsReport blocks last report → TellsTree blocks last report × TellsWholeTree blocks last report

@@ -1,0 +1,63 @@
+-- What the standard reads of a volume from its complete bytes: the first valid anchor, the main sequence alone, the
+-- first sparing table, the file set, and from its root the tree.
+--     IsOpened volume last opened               what the standard opens
+--     IsInVolume volume last path file          the path leads from the root to this file
+--     IsLawful volume last                      what is asked of a volume
+--     IsNeededIn volume last path group         blocks of which one has to be known for the node of this path
+--     IsMetBy blocks volume last path           one of each is known
+use Rattle.std.specs.Prelude.{◌≡◌, ℕ, List, Some, None}
+use Rattle.udfs_lattice.specs.Volumes.{Blocks, Volume, complete}
+use Rattle.udfs_tag.specs.declared.layouts.LongAd.{LongAd}
+use Rattle.udfs_volume.specs.Answers.{found}
+use Rattle.udfs_volume.specs.Layout.{Layout}
+use Rattle.udfs_volume.specs.Standard.{standard_anchor, standard_layout}
+use Rattle.udfs_space.specs.Places.{StandsIn, view}
+use Rattle.udfs_space.specs.Standard.{standard_space}
+use Rattle.udfs_file.specs.Standard.{IsFileSetAt}
+use Rattle.udfs_tree.specs.Trees.{PartitionBlocks, TreeFile, InTree}
+use Rattle.udfs_tree.specs.Needs.{Needs, HasKnown}
+use Rattle.udfs_tree.specs.Lawful.{IsLawfulTree}
+use Rattle.udfs_salvage.specs.Found.{Found}
+use Rattle.udfs_salvage.specs.Laws.{IsLawfulVolume, IsVolumeGroup}
+
+-- a volume as the standard opens it: its layout, the blocks of its partitions, and the address of the root's ICB
+pub record Opened : Type 0 where
+  pub layout : Layout
+  pub blocks : PartitionBlocks
+  pub root : LongAd
+
+-- the layout of the main sequence behind the first valid anchor; each logical block is the block that holds it by the
+-- first sparing table; and the root is named by the file set
+pub record IsOpened (volume : Volume) (last : ℕ) (opened : Opened) : Type 0 where
+  pub anchor : ℕ
+  pub is_anchor : standard_anchor volume last ≡ Some anchor
+  pub layout_is : standard_layout volume last anchor ≡ found opened.layout
+  pub block : (r b n : ℕ) → StandsIn (standard_space volume opened.layout) r b n → opened.blocks r b ≡ Some (volume n)
+  pub no_block : (r b : ℕ) → ((n : ℕ) → ¬ StandsIn (standard_space volume opened.layout) r b n) → opened.blocks r b ≡ None
+  pub root_is : IsFileSetAt opened.blocks opened.layout.file_set opened.root
+
+-- the path leads from the root of the volume to this file
+abbrev pub IsInVolume : Volume → ℕ → List (List ℕ) → TreeFile → Type 0
+IsInVolume volume last path file = (opened : Opened) × IsOpened volume last opened × InTree opened.blocks opened.root path file
+
+-- Anchors and copies say the same, and over the complete volume nothing has a fault or is a loop, the names of each
+-- directory differ, and there are at most 65,536 nodes.
+pub record IsLawful (volume : Volume) (last : ℕ) : Type 0 where
+  pub is_volume : IsLawfulVolume volume last
+  pub tree : IsLawfulTree (view (complete volume last) is_volume.found_is.space) is_volume.found_is.root
+
+-- the layout, the places and the root of an opened volume
+abbrev pub found_of : Volume → Opened → Found
+found_of volume opened = record { layout = opened.layout; space = standard_space volume opened.layout; root = opened.root }
+
+-- a group of blocks that the node of a path needs: one of the volume, or one of the tree
+pub data NeedsOf (volume : Volume) (last : ℕ) (opened : Opened) (path : List (List ℕ)) (group : List ℕ) : Type 0 where
+  for_volume : IsVolumeGroup volume last (found_of volume opened) group → NeedsOf volume last opened path group
+  for_node : Needs (view (complete volume last) (standard_space volume opened.layout)) opened.blocks opened.root path group → NeedsOf volume last opened path group
+
+abbrev pub IsNeededIn : Volume → ℕ → List (List ℕ) → List ℕ → Type 0
+IsNeededIn volume last path group = (opened : Opened) × IsOpened volume last opened × NeedsOf volume last opened path group
+
+-- of each group that the node of this path needs, a block is known
+abbrev pub IsMetBy : Blocks → Volume → ℕ → List (List ℕ) → Type 0
+IsMetBy blocks volume last path = (group : List ℕ) → IsNeededIn volume last path group → HasKnown blocks group

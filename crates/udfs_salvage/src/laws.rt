@@ -1,0 +1,23 @@
+//! Laws of reports, each the contract of a function that does nothing: what [`crate::salvage`] says of the report that it
+//! answers holds of every report that there is.
+ghost use Rattle.udfs_salvage.specs.KnownEnough.{EachRereadSuffices, MetIsWhole, MoreStaysWhole};
+
+/// For every table and every lawful volume that agrees with it, a node of the volume's tree, of each needed group of which
+/// a block is known, is reported whole, with the tree's kind, size, stamp and bytes.
+pub fn met_is_whole()
+    ensures { MetIsWhole }
+{}
+
+/// So what is whole stays whole, with the same path and bytes, in the report of each table that agrees with the volume,
+/// knows more, and disputes nothing that the first knows.
+pub fn more_stays_whole()
+    ensures { MoreStaysWhole }
+{}
+
+/// The list of blocks to read again is empty exactly if all of the tree is reported whole; none of it is known, and each
+/// block in it is needed, or is an anchor place while no valid anchor is known; and each node of the tree is reported whole,
+/// or the list holds all of a needed group of which no block is known. So a pass that reads no listed block makes no
+/// further node whole.
+pub fn rereads_suffice()
+    ensures { EachRereadSuffices }
+{}

@@ -1,0 +1,17 @@
+//! Laws of reports and trees, each the contract of a function that does nothing.
+ghost use Rattle.udfs_salvage.specs.TreeReports.{OneFileAt, OpensOnce, ReportsTellTree};
+
+/// The standard opens a lawful volume, and in one way only.
+pub fn opens_once()
+    ensures { OpensOnce }
+{}
+
+/// A path of a lawful volume leads to one file: its fields and its bytes are determined.
+pub fn one_file_at()
+    ensures { OneFileAt }
+{}
+
+/// Every report of a table tells of the tree of each lawful volume that agrees with the table.
+pub fn reports_tell_tree()
+    ensures { ReportsTellTree }
+{}

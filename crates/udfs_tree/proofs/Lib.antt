@@ -1,0 +1,17 @@
+pub mod EntryAddresses
+pub mod WholeFiles
+pub mod WholeRoutes
+pub mod PartRoutes
+pub mod Runs
+pub mod MissedBlocks
+pub mod Rising
+pub mod Settled
+pub mod Wanted
+pub mod Settings
+pub mod Cuts
+pub mod Names
+pub mod MetNodes
+pub mod Listed
+pub mod PartNodes
+pub mod CompleteNodes
+pub mod OneReading

@@ -1,0 +1,88 @@
+-- The cells of a node's body, beside the bytes of a file of the tree.
+--     HasCells view w cells            the cells of the body at the end of a route
+--     HasCellsAt view root i cells     the same of the end of route i in their order
+--     IsToldAs n file                  the node is told as the tree has it
+--     IsTornAs n file cells            so it is, and each byte outside its holes is there
+use Rattle.std.specs.Prelude.{◌≡◌, ◌≢◌, ◌↔◌, ⊤, ℕ, ◌+◌, ◌<◌, ◌≤◌, List, [], Some, None, slice_get}
+use Rattle.std.specs.List.{AllZip}
+use Rattle.udfs_lattice.specs.Volumes.{Includes}
+use Rattle.udfs_tag.specs.declared.layouts.LongAd.{LongAd}
+use Rattle.udfs_space.specs.Places.{View}
+use Rattle.udfs_file.specs.Entries.{EntryFields}
+use Rattle.udfs_file.specs.Bodies.{cells, body}
+use Rattle.udfs_file.specs.Laws.{IsMissingAt}
+use Rattle.udfs_file.specs.Standard.{Located}
+use Rattle.udfs_file.specs.declared.cells.Cell.{Cell}
+use Rattle.udfs_file.specs.declared.cells.Cell.TheVariants.{Byte, Gap}
+use Rattle.udfs_file.specs.declared.faults.Kind.TheVariants.{Unread}
+use Rattle.udfs_file.specs.declared.faults.NodeFault.{NodeFault}
+use Rattle.udfs_walk.specs.NodeFields.{NodeFields}
+use Rattle.udfs_walk.specs.Routes.{Walked, IsWalk}
+use Rattle.udfs_walk.specs.Targets.{entry, target}
+use Rattle.udfs_walk.specs.declared.standings.Standing.{Standing}
+use Rattle.udfs_walk.specs.declared.standings.Standing.TheVariants.{Whole, Torn, Loop, Fault}
+use Rattle.udfs_tree.specs.Trees.{TreeFile}
+
+-- the cells of the body of the entry at the end of a route
+pub record HasCells (v : View) (w : Walked) (cs : List Cell) : Type 0 where
+  pub fields : EntryFields
+  pub is_entry : target v w.address ≡ entry fields
+  pub has_body : body v w.address.reference w.address.block fields ≡ cells cs
+
+-- the cells of the node at this place in the list of all nodes
+pub record HasCellsAt (v : View) (root : LongAd) (index : ℕ) (cs : List Cell) : Type 0 where
+  pub walks : List Walked
+  pub walk : IsWalk v root walks
+  pub end : Walked
+  pub at : slice_get walks index ≡ Some end
+  pub has_cells : HasCells v end cs
+
+-- the cell is there, and is this byte
+abbrev pub IsByteOf : Cell → Located → Type 0
+IsByteOf (Byte x holder) located = x ≡ located.0
+IsByteOf (Gap n) located = ⊥
+
+-- the cell is this byte, or missing
+abbrev pub IsByteOrMissing : Cell → Located → Type 0
+IsByteOrMissing (Byte x holder) located = x ≡ located.0
+IsByteOrMissing (Gap n) located = ⊤
+
+-- the node is no loop and has no fault
+abbrev pub HasNoFault : NodeFields → Type 0
+HasNoFault n = (n.standing ≢ Loop) × ((f : NodeFault) → n.standing ≢ Fault f)
+
+-- the node has the kind, the size and the stamp of the file
+pub record IsToldAs (n : NodeFields) (file : TreeFile) : Type 0 where
+  pub kind : n.kind ≡ file.fields.kind
+  pub size : n.size ≡ Some file.fields.size
+  pub stamp : n.stamp ≡ Some file.fields.stamp
+
+-- nothing is told of the node but the one block that is missing
+pub record IsUntold (n : NodeFields) : Type 0 where
+  pub kind : n.kind ≡ Unread
+  pub size : n.size ≡ None
+  pub stamp : n.stamp ≡ None
+
+-- the runs of missing bytes
+abbrev pub holes_of : Standing → List (ℕ × ℕ)
+holes_of Whole = []
+holes_of (Torn torn) = torn.holes
+holes_of Loop = []
+holes_of (Fault f) = []
+
+-- a run, by its offset and length, holds this place
+abbrev pub IsInRuns : List (ℕ × ℕ) → ℕ → Type 0
+IsInRuns runs k = (run : ℕ × ℕ) × Includes runs run × (run.0 ≤ k) × (k < run.0 + run.1)
+
+-- the node is told as the file; each of these cells is the file's byte or missing, and the node's holes are the
+-- places of the missing ones
+pub record IsTornAs (n : NodeFields) (file : TreeFile) (cs : List Cell) : Type 0 where
+  pub told : IsToldAs n file
+  pub bytes : AllZip IsByteOrMissing cs file.body
+  pub holes : (k : ℕ) → IsMissingAt cs k ↔ IsInRuns (holes_of n.standing) k
+
+-- the node is whole and told as the file, and these cells are all the file's bytes
+pub record IsWholeAs (n : NodeFields) (file : TreeFile) (cs : List Cell) : Type 0 where
+  pub standing : n.standing ≡ Whole
+  pub told : IsToldAs n file
+  pub bytes : AllZip IsByteOf cs file.body

@@ -1,0 +1,61 @@
+-- Over a part of a complete view, what is told of nodes is what the tree has.
+--     CompleteNodes     over the complete view the nodes are those of the tree, all whole
+--     PartialNodes      over a part each node is one of the tree, and what is whole is the tree's
+--     FewerRoutes       a part has no more routes than the whole
+--     OneFile           a path leads to one file
+use Rattle.std.specs.Prelude.{◌≡◌, ◌⊎◌, ℕ, List, Some, slice_get}
+use Rattle.udfs_tag.specs.declared.layouts.LongAd.{LongAd}
+use Rattle.udfs_space.specs.Places.{View, IsPartOf}
+use Rattle.udfs_file.specs.Complete.{IsWhole}
+use Rattle.udfs_file.specs.declared.cells.Cell.{Cell}
+use Rattle.udfs_walk.specs.NodeFields.{NodeFields}
+use Rattle.udfs_walk.specs.Routes.{HasMoreRoutes}
+use Rattle.udfs_walk.specs.Walks.{AreNodes}
+use Rattle.udfs_walk.specs.declared.standings.Standing.TheVariants.{Whole}
+use Rattle.udfs_tree.specs.Trees.{PartitionBlocks, TreeFile, InTree}
+use Rattle.udfs_tree.specs.Needs.{IsMet}
+use Rattle.udfs_tree.specs.Lawful.{IsLawfulTree}
+use Rattle.udfs_tree.specs.Cells.{HasCellsAt, HasNoFault, IsUntold, IsTornAs, IsWholeAs}
+
+-- the node at this place in the list is whole, as the tree has it
+abbrev pub IsWholeNode : View → PartitionBlocks → LongAd → ℕ → NodeFields → Type 0
+IsWholeNode v blocks root index n = (file : TreeFile) × (cs : List Cell) × InTree blocks root n.path file
+    × HasCellsAt v root index cs × IsWholeAs n file cs
+
+-- the nodes are those of the tree, each once, all whole
+pub record AreTheTree (all : View) (blocks : PartitionBlocks) (root : LongAd) (nodes : List NodeFields) : Type 0 where
+  pub in_tree : (index : ℕ) (n : NodeFields) → slice_get nodes index ≡ Some n → IsWholeNode all blocks root index n
+  pub is_listed : (path : List (List ℕ)) (file : TreeFile) → InTree blocks root path file
+      → (index : ℕ) × (n : NodeFields) × (cs : List Cell) × (slice_get nodes index ≡ Some n) × (n.path ≡ path)
+      × HasCellsAt all root index cs × IsWholeAs n file cs
+  pub once : (i j : ℕ) (m n : NodeFields) → slice_get nodes i ≡ Some m → slice_get nodes j ≡ Some n → m.path ≡ n.path → i ≡ j
+
+abbrev pub CompleteNodes : Type 0
+CompleteNodes = (all : View) (blocks : PartitionBlocks) → IsWhole all blocks → (root : LongAd) → IsLawfulTree all root
+    → (nodes : List NodeFields) → AreNodes all root nodes → AreTheTree all blocks root nodes
+
+-- nothing is told of the node, or it is told as the file, with the file's bytes outside its holes
+abbrev pub IsTold : View → LongAd → ℕ → NodeFields → TreeFile → Type 0
+IsTold v root index n file = IsUntold n ⊎ ((cs : List Cell) × HasCellsAt v root index cs × IsTornAs n file cs)
+
+-- Of the node at this place in the list: it is one of the tree at its path, with no fault and no loop, told as the tree
+-- has it; and if it is whole, all bytes are the tree's, and each group that it needs has a known block.
+pub record IsNodeOf (some all : View) (blocks : PartitionBlocks) (root : LongAd) (index : ℕ) (n : NodeFields) : Type 0 where
+  pub file : TreeFile
+  pub in_tree : InTree blocks root n.path file
+  pub no_fault : HasNoFault n
+  pub told : IsTold some root index n file
+  pub whole : n.standing ≡ Whole → ((cs : List Cell) × HasCellsAt some root index cs × IsWholeAs n file cs) × IsMet some all blocks root n.path
+
+abbrev pub PartialNodes : Type 0
+PartialNodes = (some all : View) (blocks : PartitionBlocks) → IsPartOf some all → IsWhole all blocks → (root : LongAd) → IsLawfulTree all root
+    → (nodes : List NodeFields) → AreNodes some root nodes → (index : ℕ) (n : NodeFields) → slice_get nodes index ≡ Some n → IsNodeOf some all blocks root index n
+
+abbrev pub FewerRoutes : Type 0
+FewerRoutes = (some all : View) (blocks : PartitionBlocks) → IsPartOf some all → IsWhole all blocks → (root : LongAd) → IsLawfulTree all root
+    → (count : ℕ) → HasMoreRoutes some root count → HasMoreRoutes all root count
+
+-- a path of a lawful tree leads to one file
+abbrev pub OneFile : Type 0
+OneFile = (all : View) (blocks : PartitionBlocks) → IsWhole all blocks → (root : LongAd) → IsLawfulTree all root
+    → (path : List (List ℕ)) (file other : TreeFile) → InTree blocks root path file → InTree blocks root path other → other ≡ file

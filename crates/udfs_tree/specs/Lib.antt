@@ -1,0 +1,6 @@
+pub mod Trees
+pub mod Needs
+pub mod Lawful
+pub mod Cells
+pub mod Laws
+pub mod KnownLaws

@@ -1,0 +1,16 @@
+//! Laws of what is known enough, and of what is missing, each the contract of a function that does nothing.
+
+ghost use Rattle.udfs_tree.specs.KnownLaws.{MetIsWhole, MissingIsWanted};
+
+/// Over a part of a complete view with a lawful tree, a node of the tree is listed whole, with the tree's bytes, where of
+/// each group of blocks that it needs one is known.
+pub fn met_is_whole()
+    ensures { MetIsWhole }
+{}
+
+/// None of the blocks that are missing in the nodes is known, and each is needed for a node of the tree. Each node of the
+/// tree is listed whole, or all of a needed group of which no block is known is among them; so there are none exactly if
+/// all of the tree is listed whole.
+pub fn missing_is_wanted()
+    ensures { MissingIsWanted }
+{}

@@ -1,0 +1,25 @@
+//! Laws of the tree, each the contract of a function that does nothing.
+ghost use Rattle.udfs_tree.specs.Laws.{CompleteNodes, FewerRoutes, OneFile, PartialNodes};
+
+/// Over a complete view with a lawful tree, the nodes are those of the tree, each once and all whole, with the tree's
+/// bytes.
+pub fn complete_nodes()
+    ensures { CompleteNodes }
+{}
+
+/// Over a part of a complete view with a lawful tree, each node is one of the tree at its path, with no fault and no
+/// loop, told as the tree has it, and each byte outside its holes is the tree's. What is whole has all its bytes, and
+/// of each group of blocks that it needs one is known.
+pub fn partial_nodes()
+    ensures { PartialNodes }
+{}
+
+/// A part has no more routes than the whole: where the tree is lawful, there are never too many paths.
+pub fn fewer_routes()
+    ensures { FewerRoutes }
+{}
+
+/// A path of a lawful tree leads to one file: its fields and its bytes are determined.
+pub fn one_file()
+    ensures { OneFile }
+{}
