@@ -7,3 +7,6 @@ pub mod Rereads
 pub mod Runs
 pub mod TreeReports
 pub mod VolumeLaw
+pub mod SampleVolume
+pub mod SampleTree
+pub mod SampleLawful

@@ -4,7 +4,8 @@
 --     IsOfNoLawful blocks last e             there is no report only where no lawful volume agrees, or for want of memory
 --     OpensOnce, OneFileAt                   the standard opens a lawful volume in one way, and a path leads to one file
 --     ReportsTellTree                        every report of a table tells this
-use Rattle.std.specs.Prelude.{◌≡◌, ◌⊎◌, ⊤, ℕ, List, slice_get, Some}
+--     SomeLawful                             there is a lawful volume with a file
+use Rattle.std.specs.Prelude.{◌≡◌, ◌⊎◌, ⊤, ℕ, List, [], ◌∷◌, slice_get, Some}
 use Rattle.udfs_lattice.specs.Volumes.{Blocks, Volume, Agrees, complete}
 use Rattle.udfs_volume.specs.Answers.{Answer, found, holes}
 use Rattle.udfs_space.specs.Places.{view}
@@ -92,3 +93,7 @@ OneFileAt = (volume : Volume) (last : ℕ) → IsLawful volume last → (path : 
 -- the same for whoever has a report and not the call
 abbrev pub ReportsTellTree : Type 0
 ReportsTellTree = (blocks : Blocks) (last : ℕ) (report : Report) → IsReport blocks last report → TellsTree blocks last report × TellsWholeTree blocks last report
+
+-- there is a lawful volume, and a file below its root
+abbrev pub SomeLawful : Type 0
+SomeLawful = (volume : Volume) × (last : ℕ) × IsLawful volume last × ((name : List ℕ) × (file : TreeFile) × IsInVolume volume last (name ∷ []) file)
