@@ -40,6 +40,7 @@ use Rattle.udfs_salvage.proofs.VolumeLaw.{volume_law, tells_lawful}
 abbrev all_of : (V : Volume) (N : ℕ) → IsLawful V N → View
 all_of V N l = view (complete V N) l.is_volume.found_is.space
 
+-- what a table knows of it
 abbrev part_of : (T : Blocks) (V : Volume) (N : ℕ) → IsLawful V N → View
 part_of T V N l = view T l.is_volume.found_is.space
 
@@ -48,26 +49,31 @@ part_is : (T : Blocks) (V : Volume) (N : ℕ) (l : IsLawful V N) → Agrees T V 
 part_is T V N l a = let by : FoundBy (complete V N) N l.is_volume.found_is = found_by (complete V N) N l.is_volume.found_is l.is_volume.finds in
     place_law T V N l.is_volume.found_is.layout l.is_volume.found_is.space l.is_volume.volume_is by.layout_is by.space_is a
 
--- what is in the tree, or needed in it, is so in the volume
+-- the blocks of its partitions
 abbrev blocks_of : (V : Volume) (N : ℕ) → IsLawful V N → PartitionBlocks
 blocks_of V N l = (read_as V N l).opened.blocks
 
+-- what is in the tree is in the volume
 tree_up : (V : Volume) (N : ℕ) (l : IsLawful V N) (path : List (List ℕ)) (file : TreeFile) → InTree (blocks_of V N l) l.is_volume.found_is.root path file → IsInVolume V N path file
 tree_up V N l path file t = let s : ReadAs V N l.is_volume.found_is = read_as V N l in
     (s.opened, s.is_opened, subst (λ z. InTree s.opened.blocks z.root path file) (sym s.is_found) t)
 
+-- and what is in the volume is in its tree
 tree_down : (V : Volume) (N : ℕ) (l : IsLawful V N) (path : List (List ℕ)) (file : TreeFile) → IsInVolume V N path file → InTree (blocks_of V N l) l.is_volume.found_is.root path file
 tree_down V N l path file (o, is, t) = let s : ReadAs V N l.is_volume.found_is = read_as V N l in
     subst (λ z. InTree s.opened.blocks z.root path file) s.is_found (subst (λ z. InTree z.blocks z.root path file) (s.only o is) t)
 
+-- a group of the volume is needed for every path
 volume_up : (V : Volume) (N : ℕ) (l : IsLawful V N) (path : List (List ℕ)) (g : List ℕ) → IsVolumeGroup V N l.is_volume.found_is g → IsNeededIn V N path g
 volume_up V N l path g x = let s : ReadAs V N l.is_volume.found_is = read_as V N l in
     (s.opened, s.is_opened, for_volume (subst (λ z. IsVolumeGroup V N z g) (sym s.is_found) x))
 
+-- a group that a node of the tree needs is needed in the volume
 node_up : (V : Volume) (N : ℕ) (l : IsLawful V N) (path : List (List ℕ)) (g : List ℕ) → Needs (all_of V N l) (blocks_of V N l) l.is_volume.found_is.root path g → IsNeededIn V N path g
 node_up V N l path g x = let s : ReadAs V N l.is_volume.found_is = read_as V N l in
     (s.opened, s.is_opened, for_node (subst (λ z. Needs (view (complete V N) z.space) s.opened.blocks z.root path g) (sym s.is_found) x))
 
+-- there are no other groups
 needs_down : (V : Volume) (N : ℕ) (l : IsLawful V N) (path : List (List ℕ)) (g : List ℕ) → IsNeededIn V N path g
     → IsVolumeGroup V N l.is_volume.found_is g ⊎ Needs (all_of V N l) (blocks_of V N l) l.is_volume.found_is.root path g
 needs_down V N l path g (o, is, n) = go (subst (λ z. NeedsOf V N z path g) (s.only o is) n)
@@ -107,6 +113,7 @@ data IsOpenOrShut (T : Blocks) (V : Volume) (N : ℕ) (f : Found) (report : Repo
   is_shut : (listed : List ℕ) → report.volume ≡ holes listed → report.reread ≡ listed
       → ListsGroup T (valid_anchors V N) (anchor_places N) (IsVolumeGroup V N f) listed → IsOpenOrShut T V N f report
 
+-- one of both it is
 open_or_shut : (T : Blocks) (V : Volume) (N : ℕ) (l : IsLawful V N) → Agrees T V N → (report : Report) → IsReport T N report → IsOpenOrShut T V N l.is_volume.found_is report
 open_or_shut T V N l a report r = go report.volume refl (tells_lawful T N report.volume r.volume_is V l.is_volume a) r.by_volume
   where
@@ -135,6 +142,7 @@ record IsWholeAndMet (T : Blocks) (V : Volume) (N : ℕ) (report : Report) (path
   is_met : IsMetBy T V N path
   alike : (m : NodeFields) (es : List Cell) → IsWholeAs m other es → IsWholeAs m file es
 
+-- what is whole has a known block in each group, since what is whole over a part has
 whole_and_met : (T : Blocks) (V : Volume) (N : ℕ) (l : IsLawful V N) → Agrees T V N → (report : Report) → IsReport T N report → (path : List (List ℕ)) (file : TreeFile)
     → IsReportedWhole T report path file → IsWholeAndMet T V N report path file
 whole_and_met T V N l a report r path file w = go (open_or_shut T V N l a report r)
@@ -231,6 +239,7 @@ shut_list T V N l report listed e again x = record {
     by n (inl (g, is, u, i)) = inl ([], root.0, g, root.1, (volume_up V N l [] g is, u), i)
     by n (inr k) = inr k
 
+-- so the list is right
 right_list : (T : Blocks) (V : Volume) (N : ℕ) (l : IsLawful V N) → Agrees T V N → (report : Report) → IsReport T N report → IsRightList T V N report
 right_list T V N l a report r = go (open_or_shut T V N l a report r)
   where
@@ -239,6 +248,7 @@ right_list T V N l a report r = go (open_or_shut T V N l a report r)
     go (is_shut listed e again x) = shut_list T V N l report listed e again x
 
 -- ---- the laws
+-- where each group has a known block, no group is wanted
 pub met_is_reported : (T : Blocks) (N : ℕ) (report : Report) → IsReport T N report → MetIsReported T N report
 met_is_reported T N report r V l a path file t met = go ((right_list T V N l a report r).whole_or_held path file t)
   where
@@ -246,6 +256,7 @@ met_is_reported T N report r V l a path file t met = go ((right_list T V N l a r
     go (inl w) = w
     go (inr (g, (needs, u), h)) = let k : HasKnown T g = met g needs in known_not_unread T k.0 k.2 (u k.0 k.1)
 
+-- what is known and not disputed is known in a table above
 known_above : (a b : State) (bytes : Bytes) → a ≡ Known bytes → IsBelow a b → b ≢ Conflict → b ≡ Known bytes
 known_above a b bytes e h c = go b (subst (λ x. IsBelow x b) e h) c
   where
@@ -254,6 +265,7 @@ known_above a b bytes e h c = go b (subst (λ x. IsBelow x b) e h) c
     go (Known other) h c = ap Fact.Known (sym h)
     go Conflict h c = absurd (c refl)
 
+-- what is whole has a known block in each group, and so it has in a table above
 pub stays_whole : (T : Blocks) (N : ℕ) (report : Report) → IsReport T N report → StaysWhole T N report
 stays_whole T N report r V l a M other b q k path file w = go (met_is_reported M N other q V l b path x.other x.in_volume more)
   where
@@ -266,11 +278,13 @@ stays_whole T N report r V l a M other b q k path file w = go (met_is_reported M
     go : IsReportedWhole M other path x.other → IsReportedWhole M other path file
     go (f, e, (i, n, cs, get, named, at, is)) = (f, e, (i, n, cs, get, named, at, x.alike n cs is))
 
+-- what neither of two tables knows, their join does not know
 unread_join : (a b : State) → is_known a ≡ false → is_known b ≡ false → is_known (join_of a b) ≡ false
 unread_join Unknown b u v = v
 unread_join (Known x) b u v = absurd (let z : ⊥ = cc in z)
 unread_join Conflict b u v = refl
 
+-- a group that neither the table nor the pass knows a block of has none in the join
 pub rereads_suffice : (T : Blocks) (N : ℕ) (report : Report) → IsReport T N report → RereadsSuffice T N report
 rereads_suffice T N report r V l a = record {
   none = (s.none_if, s.none_only_if);

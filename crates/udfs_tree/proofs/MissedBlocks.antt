@@ -56,6 +56,7 @@ missing_gap (Gap m ∷ cs) n (inl e) = (0, ap (λ z. Some (Gap z)) e)
 missing_gap (Gap m ∷ cs) n (inr i) = let t : (k : ℕ) × IsGapAt cs k n = missing_gap cs n i in (suc t.0, t.1)
 
 -- ---- nodes
+-- the blocks that are missing of what is torn
 torn_missing : (ns : List ℕ) (runs : List (ℕ × ℕ)) → missing_of (torn_or_whole ns runs) ≡ ns
 torn_missing [] runs = refl
 torn_missing (n ∷ ns) runs = refl
@@ -85,12 +86,15 @@ pub record IsMissed (v : View) (root : LongAd) (n : ℕ) : Type 0 where
   pub leads : walked v root route ≡ Some end
   pub misses : Includes (missing_of (node v end).standing) n
 
+-- these are the ends of these routes
 abbrev pub AreEnds : View → LongAd → List Route → List Walked → Type 0
 AreEnds v root routes ws = AllZip (λ route w. walked v root route ≡ Some w) routes ws
 
+-- the blocks that are missing in the nodes at these ends
 abbrev blocks_of : View → List Walked → List ℕ
 blocks_of v ws = flat_map (λ n. missing_of n.standing) (map (node v) ws)
 
+-- a number of two lists is in one of them
 one_of : (xs ys : List ℕ) (n : ℕ) → Includes (xs ++ ys) n → Includes xs n ⊎ Includes ys n
 one_of [] ys n i = inr i
 one_of (x ∷ xs) ys n (inl e) = inl (inl e)
@@ -100,6 +104,7 @@ one_of (x ∷ xs) ys n (inr i) = go (one_of xs ys n i)
     go (inl i) = inl (inr i)
     go (inr i) = inr i
 
+-- each of these blocks is missing at one end
 missed : (v : View) (root : LongAd) (rs : List Route) (ws : List Walked) → AreEnds v root rs ws → (n : ℕ) → Includes (blocks_of v ws) n → IsMissed v root n
 missed v root [] [] z n i = absurd i
 missed v root [] (w ∷ ws) z n i = absurd z
@@ -110,15 +115,18 @@ missed v root (r ∷ rs) (w ∷ ws) z n i = go (missed v root rs ws z.1 n) (one_
     go ih (inl j) = record { route = r; end = w; leads = z.0; misses = j }
     go ih (inr j) = ih j
 
+-- what is in the first of two lists is in both
 in_left : (xs ys : List ℕ) (n : ℕ) → Includes xs n → Includes (xs ++ ys) n
 in_left [] ys n i = absurd i
 in_left (x ∷ xs) ys n (inl e) = inl e
 in_left (x ∷ xs) ys n (inr i) = inr (in_left xs ys n i)
 
+-- and so is what is in the second
 in_right : (xs ys : List ℕ) (n : ℕ) → Includes ys n → Includes (xs ++ ys) n
 in_right [] ys n i = i
 in_right (x ∷ xs) ys n i = inr (in_right xs ys n i)
 
+-- what is missing at an end is among the blocks of all
 misses_in : (v : View) (ws : List Walked) (i : ℕ) (w : Walked) → slice_get ws i ≡ Some w → (n : ℕ) → Includes (missing_of (node v w).standing) n → Includes (blocks_of v ws) n
 misses_in v [] i w e n m = absurd (let z : ⊥ = cc in z)
 misses_in v (x ∷ ws) zero w e n m = in_left (missing_of (node v x).standing) (blocks_of v ws) n
@@ -130,6 +138,7 @@ pub listed_is_missed : (v : View) (root : LongAd) (nodes : List NodeFields) → 
 listed_is_missed v root nodes x n i = missed v root x.walk.routes x.walks x.walk.each n
     ((includes_ascending (blocks_of v x.walks) n).0 (subst (λ z. Includes (reread z) n) x.is i))
 
+-- and all that are missing are among them
 pub missed_is_listed : (v : View) (root : LongAd) (nodes : List NodeFields) → AreNodes v root nodes → (n : ℕ) → IsMissed v root n → Includes (reread nodes) n
 missed_is_listed v root nodes x n m = subst (λ z. Includes (reread z) n) (sym x.is)
     ((includes_ascending (blocks_of v x.walks) n).1 (let at : Placed v root nodes x m.end = placed v root nodes x m.route m.end m.leads in misses_in v x.walks at.index m.end at.at n m.misses))

@@ -15,12 +15,15 @@ use Rattle.udfs_tree.specs.Trees.{TreeFile}
 use Rattle.udfs_tree.specs.Cells.{HasCellsAt, IsByteOf, IsWholeAs}
 use Rattle.udfs_tree.proofs.EntryAddresses.{some_same}
 
+-- equal targets have equal fields
 entry_same : (x y : EntryFields) → entry x ≡ entry y → x ≡ y
 entry_same x y e = cc
 
+-- equal bodies have equal cells
 cells_same : (x y : List Cell) → cells x ≡ cells y → x ≡ y
 cells_same x y e = cc
 
+-- there is one walk, so the end at a place is one, and its cells are
 pub one_reading : (v : View) (root : LongAd) (index : ℕ) (cs ds : List Cell) → HasCellsAt v root index cs → HasCellsAt v root index ds → cs ≡ ds
 one_reading v root index cs ds x y = cells_same cs ds
     (sym x.has_cells.has_body ∙ (λ i. body v (end i).address.reference (end i).address.block (fields i)) ∙ y.has_cells.has_body)

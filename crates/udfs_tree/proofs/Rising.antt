@@ -81,6 +81,7 @@ pub data Risen (some all : View) (blocks : PartitionBlocks) (w : Walked) (names 
   stops : (n : ℕ) → is_known (some.blocks n) ≡ false → Needs all blocks w.address names (n ∷ [])
       → (route : Route) (end : Walked) → walk_from some w route ≡ Some end → Includes (missing_of (node some end).standing) n → Risen some all blocks w names address
 
+-- by the names: at each directory the ICB's block is not known, a cell before the end of the name's descriptor is missing, or the name leads on
 pub rise : (some all : View) (blocks : PartitionBlocks) → IsPartOf some all → IsWhole all blocks → (names : List (List ℕ)) (w : Walked) (address : LongAd)
     → AllWhole all w → Leads blocks w.address names address → Risen some all blocks w names address
 rise some all blocks p c [] w address h e = arrives [] w refl (sym (append-nil w.path)) e

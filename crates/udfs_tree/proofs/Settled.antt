@@ -34,6 +34,7 @@ whole_cells : (cs : List Cell) → missing_blocks cs ≡ [] → cells_standing c
 unfolding cells_standing
 whole_cells cs e = ap (λ z. torn_or_whole z (runs_from 0 cs)) (ap ascending e)
 
+-- by the route that its names rise to, and the cells at its end; or by the block that stops them
 pub settle : (some all : View) (blocks : PartitionBlocks) → IsPartOf some all → IsWhole all blocks → (root : LongAd) → IsLawfulTree all root → (nodes : List NodeFields) → AreNodes some root nodes
     → (path : List (List ℕ)) (file : TreeFile) → InTree blocks root path file → IsListedWhole some root nodes path file ⊎ HoldsWanted some all blocks root path (reread nodes)
 unfolding walked

@@ -29,9 +29,11 @@ needs_one all blocks root path g (for_icb x) = (x.is.0, x.is.2)
 needs_one all blocks root path g (for_way x) = (x.block, x.is)
 needs_one all blocks root path g (for_body x) = (x.block, x.is)
 
+-- no block is both
 pub known_not_unread : {A : Type 0} (T : Blocks) (n : ℕ) → IsKnownAt T n → is_known (T n) ≡ false → A
 known_not_unread T n (bytes, e) u = absurd (let t : true ≡ false = sym (ap is_known e) ∙ u in let z : ⊥ = cc in z)
 
+-- no group that has a known block is wanted
 pub met_is_whole : MetIsWhole
 met_is_whole some all blocks p c root lawful nodes listed path file t met = go (settle some all blocks p c root lawful nodes listed path file t)
   where
@@ -47,6 +49,7 @@ pub record IsMissedFor (some all : View) (blocks : PartitionBlocks) (root : Long
   pub in_tree : InTree blocks root w.path file
   pub needs : Needs all blocks root w.path (n ∷ [])
 
+-- it is the ICB's block, or that of a missing cell
 pub missed_for : (some all : View) (blocks : PartitionBlocks) → IsPartOf some all → IsWhole all blocks → (root : LongAd) → IsLawfulTree all root → (n : ℕ) (m : IsMissed some root n)
     → IsMissedFor some all blocks root m.end n
 missed_for some all blocks p c root lawful n m = by_node (node_part some all blocks s.part s.is_whole w h.at)
@@ -102,6 +105,7 @@ missed_for some all blocks p c root lawful n m = by_node (node_part some all blo
     by_node (node_read t e) = by_cell (misses_gap (node some w).standing part.part e n m.misses)
     by_node (node_unread k placed u is) = by_icb k placed u (one k (subst (λ z. Includes z n) (unread_misses some w k is) m.misses))
 
+-- a list without members is empty
 no_member : (xs : List ℕ) → ((n : ℕ) → ¬ Includes xs n) → xs ≡ []
 no_member [] h = refl
 no_member (x ∷ xs) h = absurd (h x (inl refl))
@@ -122,6 +126,7 @@ not_whole some all blocks p c root lawful nodes listed n m file (i, n', cs, get,
     same = one_end some all blocks root s m.end e.end (here some all blocks root s m.route m.end m.leads) (here some all blocks root s e.route e.end e.walks)
         (sym path ∙ ap (λ z. z.path) e.is ∙ path_is some e.end)
 
+-- what is missing is wanted, and what is wanted is missing
 pub missing_is_wanted : MissingIsWanted
 missing_is_wanted some all blocks p c root lawful nodes listed = record {
   not_known = λ n i. (missed n i).not_known;
