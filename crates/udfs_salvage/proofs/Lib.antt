@@ -1,6 +1,9 @@
+pub mod BodyBytes
 pub mod NumberedNodes
 pub mod Opens
+pub mod Pieces
 pub mod PastEnds
+pub mod Extracting
 pub mod Printed
 pub mod Rereads
 pub mod Runs

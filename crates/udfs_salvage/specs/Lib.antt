@@ -5,3 +5,4 @@ pub mod Texts
 pub mod NodeTexts
 pub mod Printing
 pub mod Running
+pub mod Extraction
