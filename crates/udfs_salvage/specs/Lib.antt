@@ -6,3 +6,4 @@ pub mod NodeTexts
 pub mod Printing
 pub mod Running
 pub mod Extraction
+pub mod RereadTexts

@@ -65,8 +65,8 @@ fn fill_byte(fill: Fill) -> u8
     }
 }
 
-/// Whether the node is to be written.
-fn is_offered(node: &Node, fill: Fill) -> bool
+/// Whether [`extract`] writes this node: where it is whole; and where it is torn, its size is known and `fill` has a byte.
+pub fn is_offered(node: &Node, fill: Fill) -> bool
     ensures { result ≡ is_offered node.now.standing node.now.size fill }
 {
     match node.standing {

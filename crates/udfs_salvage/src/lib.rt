@@ -13,13 +13,16 @@ mod node_lines;
 mod node_printing;
 mod printing;
 mod reports;
+mod reread_printing;
 mod running;
 mod volumes;
 
 pub use errors::{RunError, SalvageError};
-pub use extraction::{ExtractError, Fill, extract};
+pub use extraction::{ExtractError, Fill, extract, is_offered};
+pub use node_lines::push_names;
 pub use printing::{write_report, write_volume};
-pub use reports::{Report, salvage};
+pub use reports::{Report, all_whole, salvage};
+pub use reread_printing::write_reread;
 pub use running::report_run;
 pub use volumes::{OpenVolume, Volume};
 

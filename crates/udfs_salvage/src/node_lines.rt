@@ -92,8 +92,8 @@ fn push_name(text: &mut String, name: &Name) -> Result<(), OutOfMemory>
     name.write_escaped(text)
 }
 
-/// Each name behind a `/`.
-fn push_names(text: &mut String, names: &[Name]) -> Result<(), OutOfMemory>
+/// Appends each name in its escaped form, behind a `/`. Where memory is refused, a part may be appended.
+pub fn push_names(text: &mut String, names: &[Name]) -> Result<(), OutOfMemory>
     ensures { OnOk result (string_bytes text.new ≡ string_bytes text.old ++ names_text names.now) }
 {
     for name in names {

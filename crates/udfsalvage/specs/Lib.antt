@@ -1,2 +1,4 @@
 pub mod Refusing
 pub mod Spelling
+pub mod Extracting
+pub mod Rereading
