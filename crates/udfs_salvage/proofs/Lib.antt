@@ -1,4 +1,7 @@
 pub mod BodyBytes
+pub mod JsonFloats
+pub mod JsonLists
+pub mod JsonVolumes
 pub mod NumberedNodes
 pub mod Opens
 pub mod Pieces

@@ -7,3 +7,5 @@ pub mod Printing
 pub mod Running
 pub mod Extraction
 pub mod RereadTexts
+pub mod JsonNodes
+pub mod JsonReports

@@ -8,6 +8,8 @@
 mod body_bytes;
 mod errors;
 mod extraction;
+mod json_nodes;
+mod json_reports;
 mod lines;
 mod node_lines;
 mod node_printing;
@@ -19,6 +21,7 @@ mod volumes;
 
 pub use errors::{RunError, SalvageError};
 pub use extraction::{ExtractError, Fill, extract, is_offered};
+pub use json_reports::report_json;
 pub use node_lines::push_names;
 pub use printing::{write_report, write_volume};
 pub use reports::{Report, all_whole, salvage};

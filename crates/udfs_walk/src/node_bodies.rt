@@ -32,7 +32,14 @@ pub fn body_at(
 {
     match target_at(table, space, address) {
         Target::Entry(entry) => {
-            match Body::read(alloc, table, space, &entry, address.reference, address.block) {
+            match Body::read(
+                alloc,
+                table,
+                space,
+                &entry,
+                address.reference,
+                address.block,
+            ) {
                 Ok(body) => Ok(Some(body)),
                 Err(WalkError::Fault(_)) => Ok(None),
                 Err(WalkError::OutOfMemory) => Err(AllocError),

@@ -2,3 +2,4 @@ pub mod Refusing
 pub mod Spelling
 pub mod Extracting
 pub mod Rereading
+pub mod JsonRuns

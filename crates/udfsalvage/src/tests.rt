@@ -2,6 +2,7 @@
 
 mod devices;
 mod extracting;
+mod json;
 mod memory;
 mod merging;
 mod refusals;

@@ -21,6 +21,9 @@ pub const TO: &str = "to";
 /// The id of the flag for writing torn files.
 pub const FILL: &str = "fill";
 
+/// The id of the flag for JSON among the matches.
+pub const JSON: &str = "json";
+
 /// The commands and what they take.
 pub fn grammar<'a>(alloc: Global) -> Result<Command<'a>, AllocError> {
     Command::new(alloc, "udfsalvage")
@@ -52,11 +55,16 @@ fn merge<'a>(alloc: Global) -> Result<Command<'a>, AllocError> {
         .arg(inputs(alloc))
 }
 
-/// `report --last N IN...`
+/// `report --last N [--json] IN...`
 fn report<'a>(alloc: Global) -> Result<Command<'a>, AllocError> {
+    let json = Arg::new(alloc, JSON)
+        .long("json")
+        .help("Print it as JSON")
+        .action(ArgAction::SetTrue);
     Command::new(alloc, "report")
         .about("Prints what the inputs tell of the volume, and which blocks to read again")
         .arg(last(alloc))?
+        .arg(json)?
         .arg(inputs(alloc))
 }
 
