@@ -4,8 +4,9 @@
 #   make test       judges the whole repository from nothing, as the gate does
 #   make try        tries the built program on this machine's own files and devices
 #   make install    puts the program and its man page below PREFIX
-#   make bench      measures merge against cp of the same files, report against reading its input in, the CRC against the plain
-#                   byte table in Rust, the table of blocks against an ordered map and plain copying, and places a second
+#   make bench      measures merge against cp and extract against cp -r of the same files, report against reading its input in,
+#                   the CRC against the plain byte table in Rust, the table of blocks against an ordered map and plain copying,
+#                   and places a second
 #   make examples   writes the example readings anew
 
 RT ?= rt
@@ -66,6 +67,7 @@ install: all
 bench: all
 	@bench/merge --program $(PROGRAM) $(BENCH)
 	@bench/report --program $(PROGRAM)
+	@bench/extract --program $(PROGRAM)
 	@bench/crc
 	@bench/table
 	@bench/places

@@ -21,7 +21,7 @@ pub use error::{ReadingError, ReadingFault};
 pub use input::{read_input, read_reading, read_table};
 pub use inputs::{InputError, join_inputs};
 pub use packing::write_table;
-pub use writing::{WriteFault, write_all, write_table_v1};
+pub use writing::{Outgoing, WriteFault, write_all, write_table_v1};
 
 #[cfg(test)]
 mod calls;

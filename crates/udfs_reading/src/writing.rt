@@ -56,6 +56,7 @@ impl Model for Outgoing {
 }
 
 impl Outgoing {
+    /// No bytes yet.
     pub fn new() -> Self
         ensures { result ≡ [] }
     {
@@ -66,6 +67,10 @@ impl Outgoing {
     }
 
     /// Writes all bytes that are held.
+    ///
+    /// # Errors
+    ///
+    /// `WriteFault` exactly where the sink failed. Then a beginning of the bytes is out.
     pub fn flush<W: Sink>(&mut self, sink: &mut W) -> Result<(), WriteFault>
         ensures written { Writes (W.contents sink.old) (W.contents sink.new) (W.faults sink.old) (W.faults sink.new) self.old result }
         ensures empty { OnOk result (self.new ≡ []) }
@@ -85,7 +90,11 @@ impl Outgoing {
         self.len = end;
     }
 
-    /// Takes these bytes to be written, and writes what is held before where there is no room for them.
+    /// Takes these bytes, at most 2048, to be written, and writes what is held before where there is no room for them.
+    ///
+    /// # Errors
+    ///
+    /// `WriteFault` exactly where the sink failed. Then a beginning of what is held is out, and these bytes are not taken.
     pub fn push<W: Sink>(&mut self, sink: &mut W, bytes: &[u8]) -> Result<(), WriteFault>
         requires { length bytes.now ≤ 2048 }
         ensures { Passes (W.contents sink.old) (W.contents sink.new) (W.faults sink.old) (W.faults sink.new) self.old self.new bytes.now result }

@@ -1,7 +1,13 @@
+pub mod BodyBytes
+pub mod JsonFloats
+pub mod JsonLists
+pub mod JsonVolumes
 pub mod NumberedNodes
 pub mod Opens
 pub mod Openings
+pub mod Pieces
 pub mod PastEnds
+pub mod Extracting
 pub mod Printed
 pub mod Rereads
 pub mod Runs

@@ -8,3 +8,7 @@ pub mod NodeTexts
 pub mod Printing
 pub mod Running
 pub mod KnownEnough
+pub mod Extraction
+pub mod RereadTexts
+pub mod JsonNodes
+pub mod JsonReports

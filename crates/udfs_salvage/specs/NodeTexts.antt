@@ -33,20 +33,40 @@ node_fault_number fault.Name = 11
 node_fault_number fault.Cut = 12
 node_fault_number fault.Depth = 13
 
--- ---- fields, a space before each
+-- ---- fields
+
+abbrev pub standing_name : Standing → List ℕ
+standing_name standing.Whole = codes "whole"
+standing_name (standing.Torn torn) = codes "torn"
+standing_name standing.Loop = codes "loop"
+standing_name (standing.Fault f) = codes "fault-" ++ decimal (node_fault_number f)
+
+abbrev pub kind_name : Kind → List ℕ
+kind_name kind.Directory = codes "directory"
+kind_name kind.File = codes "file"
+kind_name kind.Link = codes "link"
+kind_name (kind.Other t) = codes "other-" ++ decimal t
+kind_name kind.Unread = codes "unread"
+
+-- each name behind a `/`
+abbrev pub names_text : List (List ℕ) → List ℕ
+names_text names = flat_map (λ n. codes "/" ++ escaped n) names
+
+-- the root has no name
+abbrev pub path_name : List (List ℕ) → List ℕ
+path_name [] = codes "/"
+path_name (name ∷ names) = names_text (name ∷ names)
+
+-- ---- the same, a space before each
 
 abbrev pub standing_text : Standing → List ℕ
-standing_text standing.Whole = codes " whole"
-standing_text (standing.Torn torn) = codes " torn"
-standing_text standing.Loop = codes " loop"
-standing_text (standing.Fault f) = codes " fault-" ++ decimal (node_fault_number f)
+standing_text s = codes " " ++ standing_name s
 
 abbrev pub kind_text : Kind → List ℕ
-kind_text kind.Directory = codes " directory"
-kind_text kind.File = codes " file"
-kind_text kind.Link = codes " link"
-kind_text (kind.Other t) = codes " other-" ++ decimal t
-kind_text kind.Unread = codes " unread"
+kind_text k = codes " " ++ kind_name k
+
+abbrev pub path_text : List (List ℕ) → List ℕ
+path_text path = codes " " ++ path_name path
 
 abbrev pub size_text : Option ℕ → List ℕ
 size_text None = codes " -"
@@ -59,15 +79,6 @@ time_text (Some stamp) = codes " " ++ stamp_text stamp
 -- what is told of a node and of an entry alike
 unfoldable pub told_text : Standing → Kind → Option ℕ → Option Stamp → List ℕ
 told_text s k size stamp = standing_text s ++ kind_text k ++ size_text size ++ time_text stamp
-
--- each name behind a `/`
-abbrev pub names_text : List (List ℕ) → List ℕ
-names_text names = flat_map (λ n. codes "/" ++ escaped n) names
-
--- the root has no name
-abbrev pub path_text : List (List ℕ) → List ℕ
-path_text [] = codes " /"
-path_text (name ∷ names) = codes " " ++ names_text (name ∷ names)
 
 -- ---- what is missing of a torn node
 

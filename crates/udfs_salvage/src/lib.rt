@@ -1,26 +1,37 @@
 //! What can be salvaged of a UDF volume of which some blocks are not known.
 //!
 //! [`salvage`] looks at a table of blocks and answers a [`Report`]: whether the volume opens, its files and directories
-//! and how whole each of them is, and which blocks are worth reading again. [`write_report`] prints it, and [`report_run`] does all of
-//! this from the readings of a disc.
+//! and how whole each of them is, and which blocks are worth reading again. [`write_report`] prints it, [`extract`] writes the bytes of one
+//! file, and [`report_run`] makes and prints the report from the readings of a disc.
 #![tactic(auto)]
 
+mod body_bytes;
 mod errors;
+mod extraction;
+mod json_nodes;
+mod json_reports;
 pub mod laws;
 mod lines;
 mod node_lines;
 mod node_printing;
 mod printing;
 mod reports;
+mod reread_printing;
 mod running;
 pub mod tree_laws;
 mod volumes;
 
 pub use errors::{RunError, SalvageError};
+pub use extraction::{ExtractError, Fill, extract, is_offered};
+pub use json_reports::report_json;
+pub use node_lines::push_names;
 pub use printing::{write_report, write_volume};
-pub use reports::{Report, salvage};
+pub use reports::{Report, all_whole, salvage};
+pub use reread_printing::write_reread;
 pub use running::report_run;
 pub use volumes::{OpenVolume, Volume};
 
+#[cfg(test)]
+mod extract_tests;
 #[cfg(test)]
 mod tests;

@@ -80,7 +80,7 @@ fn push_blocks(text: &mut String, blocks: &[u32]) -> Result<(), OutOfMemory>
 }
 
 /// The number of a fault.
-fn fault_number(fault: VolumeFault) -> u8
+pub(crate) fn fault_number(fault: VolumeFault) -> u8
     ensures { result ≡ fault_number fault }
 {
     fault as u8
@@ -88,7 +88,7 @@ fn fault_number(fault: VolumeFault) -> u8
 
 /// A revision of UDF, of which there are two.
 #[tactic(auto, unfolding(crate::specs::Texts::revision_text))]
-fn revision_name(revision: u16) -> &'static str
+pub(crate) fn revision_name(revision: u16) -> &'static str
     ensures { result.now ≡ revision_text revision }
 {
     if revision == 0x0150 { "1.50" } else { "2.01" }

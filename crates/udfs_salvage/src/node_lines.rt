@@ -2,7 +2,7 @@
 
 ghost use Rattle.std.specs.Prelude.{◌≡◌, ◌++◌, ◌∷◌, [], ℕ, OnOk, Some};
 ghost use Rattle.std.specs.String.{string_bytes};
-ghost use Rattle.udfs_salvage.specs.NodeTexts.{hole_line, kind_text, missing_line, names_text, node_fault_number, node_line, path_text, place_text, size_text, standing_text, time_text, told_text, unnamed_line};
+ghost use Rattle.udfs_salvage.specs.NodeTexts.{hole_line, kind_name, kind_text, missing_line, names_text, node_fault_number, node_line, path_name, path_text, place_text, size_text, standing_name, standing_text, time_text, told_text, unnamed_line};
 
 use std::fmt::Write;
 use udfs_file::{Kind, NodeFault};
@@ -16,18 +16,39 @@ fn fault_number(fault: NodeFault) -> u8
     fault as u8
 }
 
+/// A standing.
+pub(crate) fn push_standing_name(text: &mut String, standing: &Standing) -> Result<(), OutOfMemory>
+    ensures { OnOk result (string_bytes text.new ≡ string_bytes text.old ++ standing_name standing.now) }
+{
+    match standing {
+        Standing::Whole => text.push_str("whole"),
+        Standing::Torn(_) => text.push_str("torn"),
+        Standing::Loop => text.push_str("loop"),
+        Standing::Fault(fault) => {
+            let number = fault_number(*fault);
+            write!(text, "fault-{number}")
+        }
+    }
+}
+
 /// A standing, a space before it.
 fn push_standing(text: &mut String, standing: &Standing) -> Result<(), OutOfMemory>
     ensures { OnOk result (string_bytes text.new ≡ string_bytes text.old ++ standing_text standing.now) }
 {
-    match standing {
-        Standing::Whole => text.push_str(" whole"),
-        Standing::Torn(_) => text.push_str(" torn"),
-        Standing::Loop => text.push_str(" loop"),
-        Standing::Fault(fault) => {
-            let number = fault_number(*fault);
-            write!(text, " fault-{number}")
-        }
+    text.push(' ')?;
+    push_standing_name(text, standing)
+}
+
+/// A kind.
+pub(crate) fn push_kind_name(text: &mut String, kind: Kind) -> Result<(), OutOfMemory>
+    ensures { OnOk result (string_bytes text.new ≡ string_bytes text.old ++ kind_name kind) }
+{
+    match kind {
+        Kind::Directory => text.push_str("directory"),
+        Kind::File => text.push_str("file"),
+        Kind::Link => text.push_str("link"),
+        Kind::Other(number) => write!(text, "other-{number}"),
+        Kind::Unread => text.push_str("unread"),
     }
 }
 
@@ -35,13 +56,8 @@ fn push_standing(text: &mut String, standing: &Standing) -> Result<(), OutOfMemo
 fn push_kind(text: &mut String, kind: Kind) -> Result<(), OutOfMemory>
     ensures { OnOk result (string_bytes text.new ≡ string_bytes text.old ++ kind_text kind) }
 {
-    match kind {
-        Kind::Directory => text.push_str(" directory"),
-        Kind::File => text.push_str(" file"),
-        Kind::Link => text.push_str(" link"),
-        Kind::Other(number) => write!(text, " other-{number}"),
-        Kind::Unread => text.push_str(" unread"),
-    }
+    text.push(' ')?;
+    push_kind_name(text, kind)
 }
 
 /// A size, a space before it.
@@ -92,8 +108,8 @@ fn push_name(text: &mut String, name: &Name) -> Result<(), OutOfMemory>
     name.write_escaped(text)
 }
 
-/// Each name behind a `/`.
-fn push_names(text: &mut String, names: &[Name]) -> Result<(), OutOfMemory>
+/// Appends each name in its escaped form, behind a `/`. Where memory is refused, a part may be appended.
+pub fn push_names(text: &mut String, names: &[Name]) -> Result<(), OutOfMemory>
     ensures { OnOk result (string_bytes text.new ≡ string_bytes text.old ++ names_text names.now) }
 {
     for name in names {
@@ -102,15 +118,22 @@ fn push_names(text: &mut String, names: &[Name]) -> Result<(), OutOfMemory>
     Ok(())
 }
 
+/// A path: the root has no name.
+pub(crate) fn push_path_name(text: &mut String, path: &[Name]) -> Result<(), OutOfMemory>
+    ensures { OnOk result (string_bytes text.new ≡ string_bytes text.old ++ path_name path.now) }
+{
+    if path.is_empty() {
+        return text.push('/');
+    }
+    push_names(text, path)
+}
+
 /// A path, a space before it.
 fn push_path(text: &mut String, path: &[Name]) -> Result<(), OutOfMemory>
     ensures { OnOk result (string_bytes text.new ≡ string_bytes text.old ++ path_text path.now) }
 {
-    if path.is_empty() {
-        return text.push_str(" /");
-    }
     text.push(' ')?;
-    push_names(text, path)
+    push_path_name(text, path)
 }
 
 /// The line of a node.

@@ -21,7 +21,7 @@ use udfs_reading::{Sink, WriteFault, write_all};
 const PIECE: usize = 65_536;
 
 /// Writes the text that is held.
-fn flush<W: Sink>(text: &mut String, sink: &mut W) -> Result<(), RunError>
+pub(crate) fn flush<W: Sink>(text: &mut String, sink: &mut W) -> Result<(), RunError>
     ensures written { Prints (W.contents sink.old) (W.contents sink.new) (W.faults sink.old) (W.faults sink.new) (string_bytes text.old) result }
     ensures empty { OnOk result (string_bytes text.new ≡ []) }
 {

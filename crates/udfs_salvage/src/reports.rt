@@ -49,7 +49,7 @@ fn is_whole(standing: &Standing) -> bool
 }
 
 /// Whether there are nodes, and all are whole.
-pub(crate) fn all_whole(nodes: &[Node]) -> bool
+pub fn all_whole(nodes: &[Node]) -> bool
     ensures { result ≡ all_whole nodes.now }
 {
     for node in nodes {

@@ -12,3 +12,4 @@ pub mod Laws
 pub mod Rereads
 pub mod UnnamedEntries
 pub mod NamedKeys
+pub mod NodeBodies

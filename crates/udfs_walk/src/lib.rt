@@ -6,6 +6,7 @@ pub mod answers;
 mod ascending;
 mod gaps;
 pub mod laws;
+mod node_bodies;
 mod rereads;
 pub mod standings;
 mod targets;
@@ -14,6 +15,7 @@ mod visits;
 mod walks;
 
 pub use answers::{Node, NodesError, Unnamed};
+pub use node_bodies::body_at;
 pub use rereads::reread;
 pub use standings::{Standing, Torn};
 pub use walks::nodes;

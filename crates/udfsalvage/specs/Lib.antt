@@ -1,2 +1,5 @@
 pub mod Refusing
 pub mod Spelling
+pub mod Extracting
+pub mod Rereading
+pub mod JsonRuns

@@ -6,20 +6,28 @@ ghost use Rattle.std.specs.Io.KnownBytes.{Appends};
 ghost use Rattle.udfs_lattice.specs.Tables.{Table};
 ghost use Rattle.udfs_lattice.specs.Records.{join_all};
 ghost use Rattle.udfs_reading.specs.Several.{TablesAre};
-ghost use Rattle.udfs_salvage.specs.Running.{OfJoin, PrintsOf};
+ghost use Rattle.udfs_salvage.specs.Running.{OfJoin};
+ghost use Rattle.udfs_salvage.specs.declared.extraction.Fill.{Fill};
+ghost use Rattle.udfsalvage.specs.Extracting.{SaysGood};
+ghost use Rattle.udfsalvage.specs.JsonRuns.{PrintsAs};
+ghost use Rattle.udfsalvage.specs.Rereading.{PrintsNumbers};
 ghost use Rattle.udfsalvage.specs.Spelling.{table_file};
 ghost use Rattle.udfsalvage.specs.declared.merge.Version.{Version};
+ghost use Rattle.udfsalvage.specs.declared.report.Form.{Form};
 
+use crate::extract::extract;
 use crate::files::Files;
 use crate::merge::{Version, merge};
 use crate::printing::send;
 use crate::refusal::Refusal;
-use crate::report::report;
-use crate::words::{INPUTS, LAST, OUT, V1, grammar};
+use crate::report::{Form, report_as};
+use crate::reread::reread;
+use crate::words::{FILL, INPUTS, JSON, LAST, OUT, TO, V1, grammar};
 use clap::error::ErrorKind;
 use clap::{ArgMatches, Error};
 use std::alloc::{AllocError, Global};
 use udfs_reading::{DeviceFault, Sink};
+use udfs_salvage::Fill;
 
 /// The line for want of memory, which itself takes none.
 const NO_MEMORY: &[u8] = b"udfsalvage: out of memory\n";
@@ -55,6 +63,8 @@ pub fn run<F: Files, O: Sink, E: Sink>(
             Err(refusal) => Err(refusal),
         },
         Some(("report", words)) => report_words(alloc, words, files, out),
+        Some(("reread", words)) => reread_words(alloc, words, files, out),
+        Some(("extract", words)) => extract_words(alloc, words, files, out),
         // The grammar asks for a command and has no other.
         _ => return 2,
     };
@@ -109,13 +119,69 @@ fn report_words<F: Files, O: Sink>(
     files: &F,
     out: &mut O,
 ) -> Result<bool, Refusal>
-    ensures printed { IfOk result (λ whole. (last : ℕ) × (sources : List F.Input) ×
-        OfJoin F.Input.remaining sources (PrintsOf last (O.contents out.old) (O.contents out.new) (O.faults out.old) (O.faults out.new) (Ok whole))) }
+    ensures printed { IfOk result (λ whole. (form : Form) × (last : ℕ) × (sources : List F.Input) ×
+        OfJoin F.Input.remaining sources (PrintsAs form last (O.contents out.old) (O.contents out.new) (O.faults out.old) (O.faults out.new) whole)) }
 {
     let inputs = words.get_strs(INPUTS).unwrap_or(&[]);
     // The grammar asks for it.
     let last = words.get_one::<u32>(LAST).unwrap_or(0);
-    report(alloc, inputs, last, files, out)
+    report_as(alloc, inputs, last, asked_form(words), files, out)
+}
+
+/// The form of the report that the words after `report` ask for: JSON with `--json`, and else text.
+fn asked_form(words: &ArgMatches<'_>) -> Form
+    ensures unset { one_text (found_of words.now) (codes "json") ≡ None → result ≡ Form.Text }
+    ensures without { one_text (found_of words.now) (codes "json") ≡ Some (codes "false") → result ≡ Form.Text }
+    ensures with { one_text (found_of words.now) (codes "json") ≡ Some (codes "true") → result ≡ Form.Json }
+{
+    if words.get_flag(JSON) {
+        return Form::Json;
+    }
+    Form::Text
+}
+
+/// Does what the words after `reread` ask for.
+fn reread_words<F: Files, O: Sink>(
+    alloc: Global,
+    words: &ArgMatches<'_>,
+    files: &F,
+    out: &mut O,
+) -> Result<bool, Refusal>
+    ensures printed { IfOk result (λ whole. (last : ℕ) × (sources : List F.Input) × OfJoin F.Input.remaining sources
+        (PrintsNumbers last (O.contents out.old) (O.contents out.new) (O.faults out.old) (O.faults out.new) whole)) }
+{
+    let inputs = words.get_strs(INPUTS).unwrap_or(&[]);
+    // The grammar asks for it.
+    let last = words.get_one::<u32>(LAST).unwrap_or(0);
+    reread(alloc, inputs, last, files, out)
+}
+
+/// Does what the words after `extract` ask for.
+fn extract_words<F: Files, O: Sink>(
+    alloc: Global,
+    words: &ArgMatches<'_>,
+    files: &mut F,
+    out: &mut O,
+) -> Result<bool, Refusal>
+    ensures good { IfOk result (λ good. (last : ℕ) × (sources : List F.Input) × OfJoin F.Input.remaining sources (SaysGood last good)) }
+{
+    let inputs = words.get_strs(INPUTS).unwrap_or(&[]);
+    // The grammar asks for both.
+    let last = words.get_one::<u32>(LAST).unwrap_or(0);
+    let folder = words.get_str(TO).unwrap_or("");
+    extract(alloc, inputs, last, asked_fill(words), folder, files, out)
+}
+
+/// What the words after `extract` ask to write of torn files: zeros in the holes with `--fill`, and else nothing.
+fn asked_fill(words: &ArgMatches<'_>) -> Fill
+    ensures unset { one_text (found_of words.now) (codes "fill") ≡ None → result ≡ Fill.Refuse }
+    ensures without { one_text (found_of words.now) (codes "fill") ≡ Some (codes "false") → result ≡ Fill.Refuse }
+    ensures with { one_text (found_of words.now) (codes "fill") ≡ Some (codes "true") → result ≡ Fill.Byte 0 }
+{
+    if words.get_flag(FILL) {
+        return Fill::Byte(0);
+    }
+    Fill::Refuse
 }
 
 /// Says that the words of the command line could not be had, and answers the status.

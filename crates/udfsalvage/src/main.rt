@@ -2,12 +2,15 @@
 #![tactic(auto)]
 
 mod command;
+mod extract;
 mod files;
+mod inputs;
 mod machine;
 mod merge;
 mod printing;
 mod refusal;
 mod report;
+mod reread;
 #[cfg(test)]
 mod tests;
 mod words;

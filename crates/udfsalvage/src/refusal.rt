@@ -1,7 +1,7 @@
 //! Why a command was refused.
 
 ghost use Rattle.std.specs.Prelude.{◌≡◌};
-ghost use Rattle.udfsalvage.specs.Refusing.{refusal_of, run_refusal_of};
+ghost use Rattle.udfsalvage.specs.Refusing.{refusal_of, run_refusal_of, salvage_refusal_of};
 
 use std::alloc::AllocError;
 use thiserror::Error;
@@ -22,6 +22,10 @@ pub enum Refusal {
     /// The output cannot be made, or does not take all bytes.
     #[error("cannot write output")]
     Output,
+
+    /// The new folder cannot be made.
+    #[error("cannot make the folder")]
+    Folder,
 
     /// The last block of a volume is out of range.
     #[error("fault 1 LastRange")]
@@ -52,6 +56,20 @@ impl From<InputError> for Refusal {
     }
 }
 
+/// A table that has no report.
+impl From<SalvageError> for Refusal {
+    ghost from_gives = { λ error refusal. refusal ≡ salvage_refusal_of error };
+
+    fn from(error: SalvageError) -> Refusal {
+        match error {
+            SalvageError::LastRange => Refusal::LastRange,
+            SalvageError::PastEnd(block) => Refusal::PastEnd(block),
+            SalvageError::TooManyPaths => Refusal::TooManyPaths,
+            SalvageError::OutOfMemory => Refusal::Memory(AllocError),
+        }
+    }
+}
+
 /// A report that was not printed, or only begun.
 impl From<RunError> for Refusal {
     ghost from_gives = { λ error refusal. refusal ≡ run_refusal_of error };
@@ -59,13 +77,9 @@ impl From<RunError> for Refusal {
     fn from(error: RunError) -> Refusal {
         match error {
             RunError::Reading(error) => Refusal::from(error),
-            RunError::Salvage(SalvageError::LastRange) => Refusal::LastRange,
-            RunError::Salvage(SalvageError::PastEnd(block)) => Refusal::PastEnd(block),
-            RunError::Salvage(SalvageError::TooManyPaths) => Refusal::TooManyPaths,
+            RunError::Salvage(error) => Refusal::from(error),
             RunError::Write => Refusal::Output,
-            RunError::Salvage(SalvageError::OutOfMemory) | RunError::OutOfMemory => {
-                Refusal::Memory(AllocError)
-            }
+            RunError::OutOfMemory => Refusal::Memory(AllocError),
         }
     }
 }

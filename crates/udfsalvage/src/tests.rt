@@ -1,9 +1,12 @@
 //! The command over files in memory. What is expected comes from the formats' description, byte by byte.
 
 mod devices;
+mod extracting;
+mod json;
 mod memory;
 mod merging;
 mod refusals;
 mod reporting;
+mod rereading;
 mod versions;
 mod words;

@@ -15,6 +15,15 @@ pub const LAST: &str = "last";
 /// The id of the flag for version 1.
 pub const V1: &str = "v1";
 
+/// The new folder's id among the matches.
+pub const TO: &str = "to";
+
+/// The id of the flag for writing torn files.
+pub const FILL: &str = "fill";
+
+/// The id of the flag for JSON among the matches.
+pub const JSON: &str = "json";
+
 /// The commands and what they take.
 pub fn grammar<'a>(alloc: Global) -> Result<Command<'a>, AllocError> {
     Command::new(alloc, "udfsalvage")
@@ -22,7 +31,9 @@ pub fn grammar<'a>(alloc: Global) -> Result<Command<'a>, AllocError> {
         .version("0.1.0")
         .subcommand_required(true)
         .subcommand(merge(alloc)?)?
-        .subcommand(report(alloc)?)
+        .subcommand(report(alloc)?)?
+        .subcommand(reread(alloc)?)?
+        .subcommand(extract(alloc)?)
 }
 
 /// `merge [--v1] --out FILE IN...`
@@ -44,19 +55,56 @@ fn merge<'a>(alloc: Global) -> Result<Command<'a>, AllocError> {
         .arg(inputs(alloc))
 }
 
-/// `report --last N IN...`
+/// `report --last N [--json] IN...`
 fn report<'a>(alloc: Global) -> Result<Command<'a>, AllocError> {
-    let last = Arg::new(alloc, LAST)
+    let json = Arg::new(alloc, JSON)
+        .long("json")
+        .help("Print it as JSON")
+        .action(ArgAction::SetTrue);
+    Command::new(alloc, "report")
+        .about("Prints what the inputs tell of the volume, and which blocks to read again")
+        .arg(last(alloc))?
+        .arg(json)?
+        .arg(inputs(alloc))
+}
+
+/// `reread --last N IN...`
+fn reread<'a>(alloc: Global) -> Result<Command<'a>, AllocError> {
+    Command::new(alloc, "reread")
+        .about("Prints the numbers of the blocks to read again")
+        .arg(last(alloc))?
+        .arg(inputs(alloc))
+}
+
+/// `extract --last N --to DIR [--fill] IN...`
+fn extract<'a>(alloc: Global) -> Result<Command<'a>, AllocError> {
+    let to = Arg::new(alloc, TO)
+        .long("to")
+        .value_name("DIR")
+        .help("The folder to make, which may not be there yet")
+        .required(true)
+        .action(ArgAction::Set);
+    let fill = Arg::new(alloc, FILL)
+        .long("fill")
+        .help("Write torn files too, with zeros for the bytes that are missing")
+        .action(ArgAction::SetTrue);
+    Command::new(alloc, "extract")
+        .about("Writes the files that are whole into a new folder")
+        .arg(last(alloc))?
+        .arg(to)?
+        .arg(fill)?
+        .arg(inputs(alloc))
+}
+
+/// The volume's last block.
+fn last<'a>(alloc: Global) -> Arg<'a> {
+    Arg::new(alloc, LAST)
         .long("last")
         .value_name("N")
         .help("The number of the volume's last block")
         .required(true)
         .value_parser(value_parser!(u32))
-        .action(ArgAction::Set);
-    Command::new(alloc, "report")
-        .about("Prints what the inputs tell of the volume, and which blocks to read again")
-        .arg(last)?
-        .arg(inputs(alloc))
+        .action(ArgAction::Set)
 }
 
 /// The inputs, of which there is at least one.

@@ -7,7 +7,8 @@ use std::cell::RefCell;
 use std::io;
 use std::io::{Read, Write};
 use std::rc::Rc;
-use udfs_reading::{DeviceFault, Reader, Writer};
+use udfs_lattice::BlockTable;
+use udfs_reading::{DeviceFault, Reader, Writer, write_table};
 
 /// A file's bytes, which its path and its opened inputs and outputs share.
 pub type Shared = Rc<RefCell<Vec<u8>>>;
@@ -41,6 +42,7 @@ pub const SOUND: Device = Device {
 pub struct Memory {
     alloc: Global,
     stored: Vec<Stored>,
+    folders: Vec<String>,
     /// What inputs are read from.
     pub inputs: Device,
     /// What outputs are written to.
@@ -104,6 +106,7 @@ impl Memory {
         Memory {
             alloc,
             stored: Vec::new(alloc),
+            folders: Vec::new(alloc),
             inputs: SOUND,
             outputs: SOUND,
         }
@@ -156,6 +159,36 @@ impl Memory {
         }
     }
 
+    /// How many files are stored.
+    pub fn count(&self) -> usize {
+        self.stored.len()
+    }
+
+    /// Stores a folder.
+    pub fn store_folder(&mut self, path: &str) -> Result<(), AllocError> {
+        self.folders.push(String::from_str(self.alloc, path)?)?;
+        Ok(())
+    }
+
+    /// Whether the folder is there.
+    pub fn has_folder(&self, path: &str) -> bool {
+        for folder in &self.folders {
+            if folder.as_str() == path {
+                return true;
+            }
+        }
+        false
+    }
+
+    /// Whether nothing has this path, and it is in a folder that is there. Paths without a `/` are.
+    fn is_free(&self, path: &str) -> bool {
+        let has_parent = match path.rsplit_once('/') {
+            Some((parent, _)) => self.has_folder(parent),
+            None => true,
+        };
+        has_parent && self.find(path).is_none() && !self.has_folder(path)
+    }
+
     fn find(&self, path: &str) -> Option<&Shared> {
         for stored in &self.stored {
             if stored.path.as_str() == path {
@@ -204,15 +237,27 @@ impl Files for Memory {
     }
 
     fn make_new(&mut self, path: &str) -> Result<Writer<Taker>, DeviceFault> {
-        if self.find(path).is_some() {
+        if !self.is_free(path) {
             return Err(DeviceFault);
         }
         self.make(path)
     }
 
-    fn make_folder(&mut self, _path: &str) -> Result<(), DeviceFault> {
-        Err(DeviceFault)
+    fn make_folder(&mut self, path: &str) -> Result<(), DeviceFault> {
+        if !self.is_free(path) {
+            return Err(DeviceFault);
+        }
+        self.store_folder(path).map_err(|_| DeviceFault)
     }
+}
+
+/// Files of which `disc.tab` is the table's file.
+pub fn with_table(alloc: Global, table: &BlockTable) -> Result<Memory, AllocError> {
+    let mut file = Writer::new(Vec::new(alloc));
+    let _ = write_table(table, &mut file);
+    let mut memory = Memory::new(alloc);
+    memory.store("disc.tab", file.into_inner().as_slice())?;
+    Ok(memory)
 }
 
 /// What a run answered and printed.

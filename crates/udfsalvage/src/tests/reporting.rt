@@ -1,18 +1,14 @@
 //! What `report` prints.
 
-use super::memory::{Memory, Outcome, passes, ran, reading};
+use super::memory::{Memory, Outcome, passes, ran, reading, with_table};
 use std::alloc::Global;
 use std::test::Fail;
 use udfs_lattice::BlockTable;
-use udfs_reading::{Writer, write_table};
 use udfs_samples::{Bytes, Disc};
 
 /// Runs `report` over the table's file.
 fn reported(alloc: Global, table: &BlockTable) -> Result<Outcome, Fail> {
-    let mut file = Writer::new(Vec::new(alloc));
-    let _ = write_table(table, &mut file);
-    let mut memory = Memory::new(alloc);
-    memory.store("disc.tab", file.into_inner().as_slice())?;
+    let mut memory = with_table(alloc, table)?;
     Ok(ran(alloc, &mut memory, "report --last 600 disc.tab")?)
 }
 

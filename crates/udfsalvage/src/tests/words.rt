@@ -31,6 +31,16 @@ fn help_and_version_go_to_standard_output(rt: HostRuntime) -> Result<(), Fail> {
             "Prints what the inputs tell of the volume",
             "--last <N>",
         ),
+        (
+            "reread --help",
+            "Prints the numbers of the blocks to read again",
+            "--last <N>",
+        ),
+        (
+            "extract --help",
+            "Writes the files that are whole into a new folder",
+            "--to <DIR>",
+        ),
         ("--version", "udfsalvage 0.1.0\n", "0.1.0"),
         ("-V", "udfsalvage 0.1.0\n", "0.1.0"),
     ] {
@@ -73,8 +83,20 @@ fn a_fault_of_the_words_is_told_and_changes_nothing(rt: HostRuntime) -> Result<(
             "error: the argument '--out <FILE>' cannot be used multiple times",
         ),
         (
-            "reread --last 600 a.rd",
-            "error: unrecognized subcommand 'reread'",
+            "read --last 600 a.rd",
+            "error: unrecognized subcommand 'read'",
+        ),
+        (
+            "reread a.rd",
+            "error: the following required arguments were not provided",
+        ),
+        (
+            "extract --last 600 a.rd",
+            "error: the following required arguments were not provided",
+        ),
+        (
+            "extract --to out a.rd",
+            "error: the following required arguments were not provided",
         ),
         (
             "report a.rd",

@@ -1,0 +1,77 @@
+-- No number of a report is a float.
+use Rattle.std.proofs.Common.{◌≡◌, refl, ℕ, Bool, true, false, List, [], ◌∷◌, Option, Some, None}
+use Rattle.std.specs.Prelude.{◌||◌}
+use Rattle.serde_json.specs.Data.{Data, object, string}
+use Rattle.serde_json.specs.Written.{has_float}
+use Rattle.udfs_lattice.specs.Tables.{Table, state_of}
+use Rattle.udfs_lattice.specs.Volumes.{Blocks}
+use Rattle.udfs_osta.specs.declared.labels.Label.{Label}
+use Rattle.udfs_osta.specs.declared.labels.Label.TheVariants as label
+use Rattle.udfs_osta.specs.declared.stamps.Stamp.{Stamp}
+use Rattle.udfs_volume.specs.Answers.{Answer, found, holes, faulty}
+use Rattle.udfs_volume.specs.Layout.{Partition}
+use Rattle.udfs_walk.specs.NodeFields.{NodeFields}
+use Rattle.udfs_walk.specs.declared.answers.Unnamed.{Unnamed}
+use Rattle.udfs_salvage.specs.Found.{Found}
+use Rattle.udfs_salvage.specs.Reports.{Report}
+use Rattle.udfs_salvage.specs.Texts.{has_two}
+use Rattle.udfs_salvage.specs.JsonNodes.{count, hole_data, holes_of, list_data, missing_of, node_data, size_data, time_data, unnamed_data}
+use Rattle.udfs_salvage.specs.JsonReports.{label_data, label_of, map_name, open_members, packet_of, report_data, reread_data, volume_data, with_maps, with_packet}
+
+none_in : {A : Type 0} (f : A → Data) (xs : List A) → ((x : A) → has_float (f x) ≡ false) → has_float (list_data f xs) ≡ false
+none_in f [] h = refl
+none_in f (x ∷ xs) h = (λ i. h x i || none_in f xs h i)
+
+time_none : (s : Option Stamp) → has_float (time_data s) ≡ false
+time_none None = refl
+time_none (Some s) = refl
+
+size_none : (s : Option ℕ) → has_float (size_data s) ≡ false
+size_none None = refl
+size_none (Some n) = refl
+
+node_none : (n : NodeFields) → has_float (node_data n) ≡ false
+unfolding node_data
+node_none n = rw (none_in hole_data (holes_of n.standing) (λ x. refl), none_in count (missing_of n.standing) (λ x. refl), time_none n.stamp, size_none n.size) refl
+
+unnamed_none : (two : Bool) (u : Unnamed) → has_float (unnamed_data two u) ≡ false
+unfolding unnamed_data
+unnamed_none true u = rw (none_in hole_data (holes_of u.standing) (λ x. refl), none_in count (missing_of u.standing) (λ x. refl)) refl
+unnamed_none false u = rw (none_in hole_data (holes_of u.standing) (λ x. refl), none_in count (missing_of u.standing) (λ x. refl)) refl
+
+reread_none : (b : Blocks) (n : ℕ) → has_float (reread_data b n) ≡ false
+unfolding reread_data
+reread_none b n = refl
+
+open_none : (ps : List Partition) (packet : Option ℕ) (r : ℕ) → has_float (object (with_maps ps (with_packet packet (open_members r)))) ≡ false
+open_none [] None r = refl
+open_none [] (Some n) r = refl
+open_none (p ∷ []) None r = refl
+open_none (p ∷ []) (Some n) r = refl
+open_none (p ∷ q ∷ ps) None r = rw (none_in (λ x. string (map_name x.kind)) (p ∷ q ∷ ps) (λ x. refl)) refl
+open_none (p ∷ q ∷ ps) (Some n) r = rw (none_in (λ x. string (map_name x.kind)) (p ∷ q ∷ ps) (λ x. refl)) refl
+
+volume_none : (a : Answer Found) → has_float (volume_data a) ≡ false
+volume_none (found f) = open_none f.layout.partitions (packet_of f.layout.partitions) f.layout.revision
+volume_none (holes blocks) = rw (none_in count blocks (λ x. refl)) refl
+volume_none (faulty f) = refl
+
+label_none : (l : Label) → has_float (label_data l) ≡ false
+label_none label.Empty = refl
+label_none (label.Name units) = refl
+label_none label.Invalid = refl
+
+label_of_none : (a : Answer Found) → has_float (label_of a) ≡ false
+label_of_none (found f) = label_none f.layout.label
+label_of_none (holes blocks) = refl
+label_of_none (faulty f) = refl
+
+pub report_none : (t : Table) (last : ℕ) (r : Report) → has_float (report_data t last r) ≡ false
+unfolding report_data
+report_none t last r = rw (
+  label_of_none r.volume,
+  none_in node_data r.nodes node_none,
+  none_in (reread_data (state_of t)) r.reread (reread_none (state_of t)),
+  none_in (unnamed_data (has_two r.volume)) r.unnamed (unnamed_none (has_two r.volume)),
+  volume_none r.volume,
+) refl

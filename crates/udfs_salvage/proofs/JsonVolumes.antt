@@ -1,0 +1,28 @@
+-- The members of a volume, by the places of their keys.
+use Rattle.std.proofs.Common.{◌≡◌, refl, sym, ap, ℕ, ◌≤◌, List, [], ◌∷◌, length, map, arith, Option, Some, None}
+use Rattle.std.specs.Prelude.{codes}
+use Rattle.std.proofs.lemmas.Simd.{map-map}
+use Rattle.serde_json.specs.Data.{Members, array, put, string}
+use Rattle.serde_json.specs.View.{items_of}
+use Rattle.udfs_volume.specs.Layout.{Partition}
+use Rattle.udfs_volume.specs.LayoutParts.{partition_now}
+use Rattle.udfs_volume.specs.declared.layouts.Partition as code_partition
+use Rattle.udfs_salvage.specs.JsonNodes.{list_data}
+use Rattle.udfs_salvage.specs.JsonReports.{map_name, open_members, put_maps, put_packet, with_maps, with_packet}
+
+pub volume_members : (ps : List Partition) (packet : Option ℕ) (r : ℕ) → put_maps ps (put_packet packet (open_members r)) ≡ with_maps ps (with_packet packet (open_members r))
+volume_members [] None r = refl
+volume_members [] (Some n) r = refl
+volume_members (p ∷ []) None r = refl
+volume_members (p ∷ []) (Some n) r = refl
+volume_members (p ∷ q ∷ ps) None r = refl
+volume_members (p ∷ q ∷ ps) (Some n) r = refl
+
+-- where there are two, their names are listed
+pub two_maps : (xs : List code_partition.Partition) (ms : Members) → 2 ≤ length xs
+    → put (codes "maps") (list_data (λ p. string (map_name (partition_now p).kind)) xs) ms ≡ put_maps (map partition_now xs) ms
+two_maps [] ms h = absurd (let z : ⊥ = omega (arith, h) in z)
+two_maps (p ∷ []) ms h = absurd (let z : ⊥ = omega (arith, h) in z)
+two_maps (p ∷ q ∷ xs) ms h =
+    let name = λ (x : Partition). string (map_name x.kind) in
+    ap (λ ds. put (codes "maps") (array (items_of (name (partition_now p) ∷ name (partition_now q) ∷ ds))) ms) (sym (map-map name partition_now xs))

@@ -1,0 +1,45 @@
+use Rattle.std.proofs.Common.{◌≡◌, ◌∙◌, sym, ap, subst, true}
+use Rattle.udfs_lattice.specs.Tables.{state_of}
+use Rattle.udfs_space.specs.Places.{view}
+use Rattle.udfs_walk.specs.NodeBodies.{HasCells}
+use Rattle.udfs_salvage.specs.Found.{found_now, volume_now}
+use Rattle.udfs_salvage.specs.Reports.{report_now}
+use Rattle.udfs_salvage.specs.Extraction.{Extracts, fill_byte, filled, is_offered}
+use Rattle.udfs_salvage.proofs.Extracting.{report_cells, not_refused, same_node, same_found, true_false}
+use Rattle.udfs_salvage.proofs.extraction.extract.Goals as goal
+
+pub returns-in-Open-clause-cells : goal.returns-in-Open-clause-cells
+returns-in-Open-clause-cells g c = λ last n is at offered.
+    let W = g.W.Sink in
+    let r = c.args.report.now in
+    let b = state_of r.table.now in
+    let v = view b c.in-Open.opened.space in
+    let k = report_cells b last c.args.index (report_now r) (found_now c.in-Open.opened) n c.args.fill is (ap volume_now c.in-Open.is) at offered in
+    let same = same_node r.nodes.items c.args.index n c.index-node.result.now at c.index-node.ensures in
+    let icb : c.node.inside.icb ≡ n.icb = ap (λ m. m.icb) (c.node.view_is ∙ same) in (
+      k.0,
+      k.1,
+      subst (λ x. Extracts (W.contents c.args.sink.now) (W.contents c.write_at.new.sink) (W.faults c.args.sink.now) (W.faults c.write_at.new.sink) (filled x k.0) c.write_at.result) c.fill_byte-byte.ensures
+          (c.write_at.ensures.cells k.0 (subst (λ a. HasCells v a k.0) (sym icb) k.2)),
+    )
+
+pub returns-in-Open-clause-not_whole : goal.returns-in-Open-clause-not_whole
+returns-in-Open-clause-not_whole g c = λ last n is at.
+    let W = g.W.Sink in
+    let r = c.args.report.now in
+    let same = same_node r.nodes.items c.args.index n c.index-node.result.now at c.index-node.ensures in
+    let offered : is_offered n.standing n.size c.args.fill ≡ true =
+    ap (λ m. is_offered m.standing m.size c.args.fill) (sym same) ∙ sym c.is_offered.ensures ∙ c.if-not-is_offered.false in
+    let written = returns-in-Open-clause-cells g c last n is at offered in
+    (λ e. absurd (not_refused (W.contents c.args.sink.now) (W.contents c.write_at.new.sink) (W.faults c.args.sink.now) (W.faults c.write_at.new.sink) (filled (fill_byte c.args.fill) written.0) c.write_at.result written.2 e), λ e. absurd (true_false (is_offered n.standing n.size c.args.fill) offered e))
+
+pub returns-in-Open-clause-stated : goal.returns-in-Open-clause-stated
+returns-in-Open-clause-stated g c = λ f n cs opens at offered has.
+    let W = g.W.Sink in
+    let r = c.args.report.now in
+    let b = state_of r.table.now in
+    let same = same_node r.nodes.items c.args.index n c.index-node.result.now at c.index-node.ensures in
+    let icb : c.node.inside.icb ≡ n.icb = ap (λ m. m.icb) (c.node.view_is ∙ same) in
+    let opened : found_now c.in-Open.opened ≡ f = same_found _ _ (sym (ap volume_now c.in-Open.is) ∙ opens) in
+    subst (λ x. Extracts (W.contents c.args.sink.now) (W.contents c.write_at.new.sink) (W.faults c.args.sink.now) (W.faults c.write_at.new.sink) (filled x cs) c.write_at.result) c.fill_byte-byte.ensures
+    (c.write_at.ensures.cells cs (subst (λ a. HasCells (view b c.in-Open.opened.space) a cs) (sym icb) (subst (λ h. HasCells (view b h.space) n.icb cs) (sym opened) has)))

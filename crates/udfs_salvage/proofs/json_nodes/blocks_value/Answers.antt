@@ -1,0 +1,13 @@
+use Rattle.std.proofs.Common.{◌∙◌}
+use Rattle.serde_json.proofs.Views.{view-Array}
+use Rattle.udfs_salvage.specs.JsonNodes.{count}
+use Rattle.udfs_salvage.proofs.JsonLists.{listed_all, listed_more}
+use Rattle.udfs_salvage.proofs.json_nodes.blocks_value.Goals as goal
+
+pub loop-block-preserved : goal.loop-block-preserved
+loop-block-preserved c =
+    listed_more count c.args.blocks.now c.loop-block.block-index 0 c.loop-block.items.items c.push.new.self.items c.from.result c.loop-block-test.true c.loop-block.invariant
+    c.from.ensures c.in_ok-push.ensures.items
+
+pub returns : goal.returns
+returns c = view-Array c.loop-block.items ∙ listed_all count c.args.blocks.now c.loop-block.block-index c.loop-block.items.items c.loop-block-test.false c.loop-block.invariant

@@ -1,0 +1,6 @@
+use Rattle.std.proofs.Common.{refl}
+use Rattle.serde_json.proofs.Views.{view-Object}
+use Rattle.udfs_salvage.proofs.json_reports.blocked_value.Goals as goal
+
+pub returns : goal.returns
+returns c = rw (view-Object c.put-2.new.map, c.in_ok-put-2.ensures.ok, c.in_ok-put.ensures.ok, c.new-members.ensures.empty, c.in_ok-blocks.ensures, c.in_ok-state.ensures) refl

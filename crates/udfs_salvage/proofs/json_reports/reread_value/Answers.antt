@@ -1,0 +1,8 @@
+use Rattle.std.proofs.Common.{refl}
+use Rattle.serde_json.proofs.Views.{view-Object}
+use Rattle.udfs_salvage.specs.JsonReports.{reread_data}
+use Rattle.udfs_salvage.proofs.json_reports.reread_value.Goals as goal
+
+pub returns : goal.returns
+unfolding reread_data
+returns c = rw (view-Object c.put-2.new.map, c.in_ok-put-2.ensures.ok, c.in_ok-put.ensures.ok, c.new-members.ensures.empty, c.in_ok-state.ensures, c.from.ensures, c.state_name.ensures) refl

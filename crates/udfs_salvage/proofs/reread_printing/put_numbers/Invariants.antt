@@ -1,0 +1,12 @@
+use Rattle.std.proofs.Common.{take}
+use Rattle.std.specs.String.{string_bytes}
+use Rattle.udfs_reading.specs.Writing.{Passed}
+use Rattle.udfs_salvage.specs.RereadTexts.{number_lines}
+use Rattle.udfs_salvage.proofs.reread_printing.put_numbers.Given as goal
+
+-- the lines of the blocks so far
+abbrev pub invariant-loop-block : goal.invariant-loop-block
+invariant-loop-block g l =
+    let W = g.W.Sink in
+    Passed (W.contents l.fn.sink) (W.contents l.sink) (W.faults l.fn.sink) (W.faults l.sink) (string_bytes l.fn.text) (string_bytes l.text)
+    (number_lines (take l.block-index l.blocks))

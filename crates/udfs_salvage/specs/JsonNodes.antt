@@ -1,0 +1,85 @@
+-- The JSON of nodes, and of entries that no name leads to. Keys stand in byte order.
+--     node_data n              a node
+--     unnamed_data two u       an entry that no name leads to
+use Rattle.std.specs.Prelude.{ℕ, Bool, true, false, List, [], map, codes, Option, Some, None}
+use Rattle.serde_json.specs.Data.{Data, null, boolean, number, unsigned, string, array, object, item, no_items, Members, member, no_members}
+use Rattle.serde_json.specs.View.{items_of}
+use Rattle.udfs_osta.specs.StampTexts.{stamp_text}
+use Rattle.udfs_osta.specs.declared.stamps.Stamp.{Stamp}
+use Rattle.udfs_file.specs.declared.faults.Kind.{Kind}
+use Rattle.udfs_walk.specs.NodeFields.{NodeFields}
+use Rattle.udfs_walk.specs.declared.answers.Unnamed.{Unnamed}
+use Rattle.udfs_walk.specs.declared.standings.Standing.{Standing}
+use Rattle.udfs_walk.specs.declared.standings.Standing.TheVariants as standing
+use Rattle.udfs_salvage.specs.NodeTexts.{kind_name, path_name, standing_name}
+
+abbrev pub count : ℕ → Data
+count n = number (unsigned n)
+
+abbrev pub list_data : {A : Type 0} → (A → Data) → List A → Data
+list_data f xs = array (items_of (map f xs))
+
+abbrev pub size_data : Option ℕ → Data
+size_data None = null
+size_data (Some n) = count n
+
+abbrev pub time_data : Option Stamp → Data
+time_data None = null
+time_data (Some stamp) = string (stamp_text stamp)
+
+-- only what is torn has missing blocks and holes
+abbrev pub missing_of : Standing → List ℕ
+missing_of standing.Whole = []
+missing_of (standing.Torn torn) = torn.missing
+missing_of standing.Loop = []
+missing_of (standing.Fault f) = []
+
+abbrev pub holes_of : Standing → List (ℕ × ℕ)
+holes_of standing.Whole = []
+holes_of (standing.Torn torn) = torn.holes
+holes_of standing.Loop = []
+holes_of (standing.Fault f) = []
+
+-- a run of missing bytes: its offset and its length
+abbrev pub hole_data : ℕ × ℕ → Data
+hole_data run = array (item (count run.0) (item (count run.1) no_items))
+
+-- what is told of a node and of an entry alike
+unfoldable pub told_members : Standing → Kind → Option ℕ → Option Stamp → Members
+told_members s k size stamp =
+    member (codes "holes") (list_data hole_data (holes_of s))
+    (member (codes "kind") (string (kind_name k))
+    (member (codes "missing") (list_data count (missing_of s))
+    (member (codes "modified") (time_data stamp)
+    (member (codes "size") (size_data size)
+    (member (codes "standing") (string (standing_name s))
+    no_members)))))
+
+unfoldable pub node_data : NodeFields → Data
+node_data n = object (
+    member (codes "hidden") (boolean n.hidden)
+    (member (codes "holes") (list_data hole_data (holes_of n.standing))
+    (member (codes "kind") (string (kind_name n.kind))
+    (member (codes "missing") (list_data count (missing_of n.standing))
+    (member (codes "modified") (time_data n.stamp)
+    (member (codes "path") (string (path_name n.path))
+    (member (codes "size") (size_data n.size)
+    (member (codes "standing") (string (standing_name n.standing))
+    no_members))))))))
+
+-- behind the keys before it: the partition reference where there are two partitions
+abbrev pub with_reference : Bool → ℕ → Members → Members
+with_reference true r ms = member (codes "reference") (count r) ms
+with_reference false r ms = ms
+
+unfoldable pub unnamed_data : Bool → Unnamed → Data
+unnamed_data two u = object (
+    member (codes "block") (count u.block)
+    (member (codes "holes") (list_data hole_data (holes_of u.standing))
+    (member (codes "kind") (string (kind_name u.kind))
+    (member (codes "missing") (list_data count (missing_of u.standing))
+    (member (codes "modified") (time_data (Some u.stamp))
+    (with_reference two u.reference
+    (member (codes "size") (count u.size)
+    (member (codes "standing") (string (standing_name u.standing))
+    no_members))))))))

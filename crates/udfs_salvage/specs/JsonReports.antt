@@ -1,0 +1,112 @@
+-- The JSON of a report. Keys stand in byte order.
+--     report_data table last r     all of it
+--     json_text table last r       its compact text
+use Rattle.std.specs.Prelude.{ℕ, List, [], ◌∷◌, codes, Option, Some, None}
+use Rattle.serde_json.specs.Data.{Data, null, string, object, Members, member, no_members, put}
+use Rattle.serde_json.specs.Written.{compact_text}
+use Rattle.udfs_lattice.specs.Tables.{Table, known_count, conflict_count, state_of}
+use Rattle.udfs_lattice.specs.Volumes.{Blocks}
+use Rattle.udfs_lattice.specs.States.{State}
+use Rattle.udfs_lattice.specs.declared.facts.Fact.TheVariants.{Unknown, Known, Conflict}
+use Rattle.udfs_osta.specs.Escapes.{escaped}
+use Rattle.udfs_osta.specs.declared.labels.Label.{Label}
+use Rattle.udfs_osta.specs.declared.labels.Label.TheVariants as label
+use Rattle.udfs_volume.specs.Answers.{Answer, found, holes, faulty}
+use Rattle.udfs_volume.specs.FaultNames.{fault_name}
+use Rattle.udfs_volume.specs.Layout.{Partition, PartitionMap, type1, sparable}
+use Rattle.udfs_salvage.specs.Found.{Found}
+use Rattle.udfs_salvage.specs.Reports.{Report}
+use Rattle.udfs_salvage.specs.Texts.{fault_number, has_two, revision_text}
+use Rattle.udfs_salvage.specs.JsonNodes.{count, list_data, node_data, unnamed_data}
+
+-- ---- the volume
+
+abbrev pub map_name : PartitionMap → List ℕ
+map_name type1 = codes "type1"
+map_name (sparable packet size tables) = codes "sparable"
+
+-- the packet length of the first sparable map
+abbrev pub packet_or : PartitionMap → Option ℕ → Option ℕ
+packet_or type1 later = later
+packet_or (sparable packet size tables) later = Some packet
+
+abbrev pub packet_of : List Partition → Option ℕ
+packet_of [] = None
+packet_of (p ∷ ps) = packet_or p.kind (packet_of ps)
+
+-- one map by its name, and two as a list
+abbrev pub with_maps : List Partition → Members → Members
+with_maps [] ms = ms
+with_maps (p ∷ []) ms = member (codes "map") (string (map_name p.kind)) ms
+with_maps (p ∷ q ∷ ps) ms = member (codes "maps") (list_data (λ x. string (map_name x.kind)) (p ∷ q ∷ ps)) ms
+
+abbrev pub with_packet : Option ℕ → Members → Members
+with_packet None ms = ms
+with_packet (Some packet) ms = member (codes "packet") (count packet) ms
+
+-- the same by the place of the key
+abbrev pub put_packet : Option ℕ → Members → Members
+put_packet None ms = ms
+put_packet (Some packet) ms = put (codes "packet") (count packet) ms
+
+abbrev pub put_maps : List Partition → Members → Members
+put_maps [] ms = ms
+put_maps (p ∷ []) ms = put (codes "map") (string (map_name p.kind)) ms
+put_maps (p ∷ q ∷ ps) ms = put (codes "maps") (list_data (λ x. string (map_name x.kind)) (p ∷ q ∷ ps)) ms
+
+abbrev pub open_members : ℕ → Members
+open_members revision = member (codes "revision") (string (revision_text revision)) (member (codes "state") (string (codes "ok")) no_members)
+
+abbrev pub volume_data : Answer Found → Data
+volume_data (found f) = object (with_maps f.layout.partitions (with_packet (packet_of f.layout.partitions) (open_members f.layout.revision)))
+volume_data (holes blocks) = object (member (codes "blocks") (list_data count blocks) (member (codes "state") (string (codes "holes")) no_members))
+volume_data (faulty f) = object (
+    member (codes "fault") (count (fault_number f))
+    (member (codes "name") (string (fault_name f))
+    (member (codes "state") (string (codes "fault"))
+    no_members)))
+
+abbrev pub state_data : List ℕ → Data
+state_data state = object (member (codes "state") (string state) no_members)
+
+abbrev pub name_data : List ℕ → Data
+name_data units = object (member (codes "state") (string (codes "name")) (member (codes "text") (string (escaped units)) no_members))
+
+abbrev pub label_data : Label → Data
+label_data label.Empty = state_data (codes "empty")
+label_data (label.Name units) = name_data units
+label_data label.Invalid = state_data (codes "invalid")
+
+-- only a volume that is found has a label
+abbrev pub label_of : Answer Found → Data
+label_of (found f) = label_data f.layout.label
+label_of (holes blocks) = null
+label_of (faulty f) = null
+
+-- ---- the blocks to read again
+
+abbrev pub state_name : State → List ℕ
+state_name Unknown = codes "unknown"
+state_name (Known bytes) = codes "unknown"
+state_name Conflict = codes "conflict"
+
+unfoldable pub reread_data : Blocks → ℕ → Data
+reread_data blocks n = object (member (codes "block") (count n) (member (codes "state") (string (state_name (blocks n))) no_members))
+
+-- ---- all of it
+
+unfoldable pub report_data : Table → ℕ → Report → Data
+report_data table last report = object (
+    member (codes "conflict") (count (conflict_count table))
+    (member (codes "known") (count (known_count table))
+    (member (codes "label") (label_of report.volume)
+    (member (codes "last") (count last)
+    (member (codes "nodes") (list_data node_data report.nodes)
+    (member (codes "reread") (list_data (reread_data (state_of table)) report.reread)
+    (member (codes "unnamed") (list_data (unnamed_data (has_two report.volume)) report.unnamed)
+    (member (codes "volume") (volume_data report.volume)
+    no_members))))))))
+
+-- its text
+abbrev pub json_text : Table → ℕ → Report → List ℕ
+json_text table last report = compact_text (report_data table last report)

@@ -1,0 +1,149 @@
+//! The bytes of a node are written.
+
+ghost use Rattle.std.specs.Prelude.{◌≡◌, ◌<◌, ◌↔◌, ℕ, Bool, true, false, List, Some, length, slice_get, IsErrOf, IfErr};
+ghost use Rattle.udfs_lattice.specs.Tables.{state_of};
+ghost use Rattle.udfs_space.specs.Places.{view};
+ghost use Rattle.udfs_file.specs.declared.cells.Cell.{Cell};
+ghost use Rattle.udfs_volume.specs.Answers.{found};
+ghost use Rattle.udfs_walk.specs.NodeBodies.{HasCells};
+ghost use Rattle.udfs_walk.specs.NodeFields.{NodeFields};
+ghost use Rattle.udfs_salvage.specs.Found.{Found, volume_now};
+ghost use Rattle.udfs_salvage.specs.Reports.{IsReport, report_now};
+ghost use Rattle.udfs_salvage.specs.Extraction.{Extracts, HasCellsAt, fill_byte, filled, is_offered};
+
+use crate::body_bytes::write_body;
+use crate::reports::Report;
+use crate::volumes::Volume;
+use std::alloc::{AllocError, Global};
+use std::error::Error;
+use std::fmt;
+use udfs_lattice::BlockTable;
+use udfs_reading::{Sink, WriteFault};
+use udfs_space::Space;
+use udfs_tag::LongAd;
+use udfs_walk::{Node, Standing, body_at};
+
+/// What is written of nodes that are not whole.
+#[derive(Clone, Copy, Debug, PartialEq, Eq)]
+pub enum Fill {
+    /// Nothing: such a node is refused.
+    Refuse,
+    /// A torn node of known size is written, with this byte for each that is missing.
+    Byte(u8),
+}
+
+/// Why a node was not written, or only a beginning of it.
+#[derive(Clone, Copy, Debug, PartialEq, Eq)]
+pub enum ExtractError {
+    /// The node is not whole, and is not torn with a known size and with leave to fill it.
+    NotWhole,
+    /// The sink failed.
+    Write,
+    /// Memory was refused.
+    OutOfMemory,
+}
+
+impl fmt::Display for ExtractError {
+    fn fmt<W: fmt::Write>(&self, f: &mut fmt::Formatter<W>) -> fmt::Result {
+        f.write_str(match self {
+            ExtractError::NotWhole => "the node is not whole",
+            ExtractError::Write => "the bytes could not be written",
+            ExtractError::OutOfMemory => "out of memory",
+        })
+    }
+}
+
+impl Error for ExtractError {}
+
+/// The byte for those that are missing.
+fn fill_byte(fill: Fill) -> u8
+    ensures { result ≡ fill_byte fill }
+{
+    match fill {
+        Fill::Refuse => 0,
+        Fill::Byte(byte) => byte,
+    }
+}
+
+/// Whether [`extract`] writes this node: where it is whole; and where it is torn, its size is known and `fill` has a byte.
+pub fn is_offered(node: &Node, fill: Fill) -> bool
+    ensures { result ≡ is_offered node.now.standing node.now.size fill }
+{
+    match node.standing {
+        Standing::Whole => true,
+        Standing::Torn(_) => node.size.is_some() && fill != Fill::Refuse,
+        _ => false,
+    }
+}
+
+/// Writes the body of the entry at an address, where there is one.
+fn write_at<W: Sink>(
+    alloc: Global,
+    table: &BlockTable,
+    space: &Space,
+    address: LongAd,
+    fill: u8,
+    sink: &mut W,
+) -> Result<(), ExtractError>
+    ensures cells { (cs : List Cell) → HasCells (view (state_of table.now) space.now) address cs →
+        Extracts (W.contents sink.old) (W.contents sink.new) (W.faults sink.old) (W.faults sink.new) (filled fill cs) result }
+    ensures not_whole { IsErrOf result ExtractError.NotWhole → sink.new ≡ sink.old }
+    ensures memory { IsErrOf result ExtractError.OutOfMemory → sink.new ≡ sink.old }
+{
+    match body_at(alloc, table, space, address) {
+        Ok(Some(body)) => match write_body(table, space, &body, fill, sink) {
+            Ok(()) => Ok(()),
+            Err(WriteFault) => Err(ExtractError::Write),
+        },
+        Ok(None) => Err(ExtractError::NotWhole),
+        Err(AllocError) => Err(ExtractError::OutOfMemory),
+    }
+}
+
+/// Writes the bytes of the node at this index, counted from 0 and below the number of nodes, of a report that [`salvage`]
+/// answered: where the node is whole; and where it is torn, its size is known and `fill` has a byte, with this byte in place of those
+/// that are missing.
+///
+/// They are the bytes of the body that stands at the end of the route to that node, whatever other node has the same path. Nothing bounds
+/// their number but the node's size, which can be up to 2^64 - 1.
+///
+/// # Errors
+///
+/// `NotWhole` exactly where the node is not to be written; then nothing is. `Write` exactly where the sink failed; then a beginning
+/// of the bytes is out. `OutOfMemory` where memory is refused; then nothing is written.
+///
+/// [`salvage`]: crate::salvage
+pub fn extract<W: Sink>(
+    alloc: Global,
+    report: &Report<'_>,
+    index: usize,
+    fill: Fill,
+    sink: &mut W,
+) -> Result<(), ExtractError>
+    requires { index < length report.now.nodes.items }
+    // The bytes are those of the cells at the end of the route of this index.
+    ensures cells { (last : ℕ) (n : NodeFields) → IsReport (state_of report.now.table.now) last (report_now report.now) →
+        slice_get report.now.nodes.items index ≡ Some n → is_offered n.standing n.size fill ≡ true →
+        (cs : List Cell) × HasCellsAt (state_of report.now.table.now) last index cs ×
+        Extracts (W.contents sink.old) (W.contents sink.new) (W.faults sink.old) (W.faults sink.new) (filled (fill_byte fill) cs) result }
+    ensures not_whole { (last : ℕ) (n : NodeFields) → IsReport (state_of report.now.table.now) last (report_now report.now) →
+        slice_get report.now.nodes.items index ≡ Some n → (IsErrOf result ExtractError.NotWhole ↔ (is_offered n.standing n.size fill ≡ false)) }
+    // Of a report that was put together otherwise, they are those that its volume and the node's own address give.
+    ensures stated { (f : Found) (n : NodeFields) (cs : List Cell) → volume_now report.now.volume ≡ found f →
+        slice_get report.now.nodes.items index ≡ Some n → is_offered n.standing n.size fill ≡ true → HasCells (view (state_of report.now.table.now) f.space) n.icb cs →
+        Extracts (W.contents sink.old) (W.contents sink.new) (W.faults sink.old) (W.faults sink.new) (filled (fill_byte fill) cs) result }
+    ensures nothing { IsErrOf result ExtractError.NotWhole → sink.new ≡ sink.old }
+    ensures memory { IsErrOf result ExtractError.OutOfMemory → sink.new ≡ sink.old }
+{
+    let node = &report.nodes[index];
+    if !is_offered(node, fill) {
+        return Err(ExtractError::NotWhole);
+    }
+    match &report.volume {
+        Volume::Open(opened) => {
+            let byte = fill_byte(fill);
+            write_at(alloc, report.table, &opened.space, node.icb, byte, sink)
+        }
+        _ => Err(ExtractError::NotWhole),
+    }
+}

@@ -1,0 +1,196 @@
+//! The JSON of nodes, and of entries that no name leads to.
+
+ghost use Rattle.std.specs.Prelude.{◌≡◌, IfOk};
+ghost use Rattle.serde_json.specs.Data.{string};
+ghost use Rattle.serde_json.specs.View.{members_view, view};
+ghost use Rattle.udfs_salvage.specs.NodeTexts.{kind_name, path_name, standing_name};
+ghost use Rattle.udfs_salvage.specs.JsonNodes.{count, hole_data, holes_of, list_data, missing_of, node_data, size_data, time_data, told_members, unnamed_data};
+
+use crate::node_lines::{push_kind_name, push_path_name, push_standing_name};
+use serde_json::{Map, Value, json, put};
+use std::alloc::{AllocError, Global};
+use udfs_file::Kind;
+use udfs_osta::{Name, Stamp};
+use udfs_walk::{Node, Standing, Unnamed};
+
+/// A standing.
+fn standing_value(alloc: Global, standing: &Standing) -> Result<Value, AllocError>
+    ensures { IfOk result (λ v. view v ≡ string (standing_name standing.now)) }
+{
+    let mut text = String::new(alloc);
+    push_standing_name(&mut text, standing)?;
+    Ok(Value::String(text))
+}
+
+/// A kind.
+fn kind_value(alloc: Global, kind: Kind) -> Result<Value, AllocError>
+    ensures { IfOk result (λ v. view v ≡ string (kind_name kind)) }
+{
+    let mut text = String::new(alloc);
+    push_kind_name(&mut text, kind)?;
+    Ok(Value::String(text))
+}
+
+/// A path.
+fn path_value(alloc: Global, path: &[Name]) -> Result<Value, AllocError>
+    ensures { IfOk result (λ v. view v ≡ string (path_name path.now)) }
+{
+    let mut text = String::new(alloc);
+    push_path_name(&mut text, path)?;
+    Ok(Value::String(text))
+}
+
+/// A size, null where the entry is not read.
+fn size_value(size: Option<u64>) -> Value
+    ensures { view result ≡ size_data size }
+{
+    match size {
+        None => Value::Null,
+        Some(size) => Value::from(size),
+    }
+}
+
+/// A time, null where the entry is not read.
+fn time_value(alloc: Global, stamp: Option<Stamp>) -> Result<Value, AllocError>
+    ensures { IfOk result (λ v. view v ≡ time_data stamp) }
+{
+    let Some(stamp) = stamp else {
+        return Ok(Value::Null);
+    };
+    let mut text = String::new(alloc);
+    stamp.write_text(&mut text)?;
+    Ok(Value::String(text))
+}
+
+/// Numbers of blocks.
+pub(crate) fn blocks_value(alloc: Global, blocks: &[u32]) -> Result<Value, AllocError>
+    ensures { IfOk result (λ v. view v ≡ list_data count blocks.now) }
+{
+    let mut items = Vec::new(alloc);
+    for block in blocks {
+        items.push(Value::from(*block))?;
+    }
+    Ok(Value::Array(items))
+}
+
+/// A run of missing bytes.
+fn hole_value(alloc: Global, hole: (u64, u64)) -> Result<Value, AllocError>
+    ensures { IfOk result (λ v. view v ≡ hole_data hole) }
+{
+    let (offset, length) = hole;
+    json!(in alloc; [offset, length])
+}
+
+/// Runs of missing bytes.
+fn holes_value(alloc: Global, holes: &[(u64, u64)]) -> Result<Value, AllocError>
+    ensures { IfOk result (λ v. view v ≡ list_data hole_data holes.now) }
+{
+    let mut items = Vec::new(alloc);
+    for hole in holes {
+        items.push(hole_value(alloc, *hole)?)?;
+    }
+    Ok(Value::Array(items))
+}
+
+/// The missing blocks of what stands so.
+fn missing_in(alloc: Global, standing: &Standing) -> Result<Value, AllocError>
+    ensures { IfOk result (λ v. view v ≡ list_data count (missing_of standing.now)) }
+{
+    match standing {
+        Standing::Torn(torn) => blocks_value(alloc, &torn.missing),
+        _ => blocks_value(alloc, &[]),
+    }
+}
+
+/// The runs of missing bytes of what stands so.
+fn holes_in(alloc: Global, standing: &Standing) -> Result<Value, AllocError>
+    ensures { IfOk result (λ v. view v ≡ list_data hole_data (holes_of standing.now)) }
+{
+    match standing {
+        Standing::Torn(torn) => holes_value(alloc, &torn.holes),
+        _ => holes_value(alloc, &[]),
+    }
+}
+
+/// What is told of a node and of an entry alike.
+fn told_members(
+    alloc: Global,
+    standing: &Standing,
+    kind: Kind,
+    size: Option<u64>,
+    stamp: Option<Stamp>,
+) -> Result<Map<String, Value>, AllocError>
+    ensures { IfOk result (λ members. members_view members.entries ≡ told_members standing.now kind size stamp) }
+{
+    let holes = holes_in(alloc, standing)?;
+    let kind = kind_value(alloc, kind)?;
+    let missing = missing_in(alloc, standing)?;
+    let modified = time_value(alloc, stamp)?;
+    let size = size_value(size);
+    let standing = standing_value(alloc, standing)?;
+    let mut members = Map::new(alloc);
+    put(&mut members, alloc, "holes", holes)?;
+    put(&mut members, alloc, "kind", kind)?;
+    put(&mut members, alloc, "missing", missing)?;
+    put(&mut members, alloc, "modified", modified)?;
+    put(&mut members, alloc, "size", size)?;
+    put(&mut members, alloc, "standing", standing)?;
+    Ok(members)
+}
+
+/// A node.
+fn node_value(alloc: Global, node: &Node) -> Result<Value, AllocError>
+    ensures { IfOk result (λ v. view v ≡ node_data node.now) }
+{
+    let path = path_value(alloc, &node.path)?;
+    let mut members = told_members(alloc, &node.standing, node.kind, node.size, node.stamp)?;
+    put(&mut members, alloc, "hidden", Value::from(node.hidden))?;
+    put(&mut members, alloc, "path", path)?;
+    Ok(Value::Object(members))
+}
+
+/// Nodes.
+pub(crate) fn nodes_value(alloc: Global, nodes: &[Node]) -> Result<Value, AllocError>
+    ensures { IfOk result (λ v. view v ≡ list_data node_data nodes.now) }
+{
+    let mut items = Vec::new(alloc);
+    for node in nodes {
+        items.push(node_value(alloc, node)?)?;
+    }
+    Ok(Value::Array(items))
+}
+
+/// An entry that no name leads to, its partition reference told where there are two partitions.
+fn unnamed_value(alloc: Global, two: bool, entry: &Unnamed) -> Result<Value, AllocError>
+    ensures { IfOk result (λ v. view v ≡ unnamed_data two entry.now) }
+{
+    let size = Some(entry.size);
+    let stamp = Some(entry.stamp);
+    let mut members = told_members(alloc, &entry.standing, entry.kind, size, stamp)?;
+    put(&mut members, alloc, "block", Value::from(entry.block))?;
+    if two {
+        put(
+            &mut members,
+            alloc,
+            "reference",
+            Value::from(entry.reference),
+        )?;
+        return Ok(Value::Object(members));
+    }
+    Ok(Value::Object(members))
+}
+
+/// Entries that no name leads to.
+pub(crate) fn all_unnamed_value(
+    alloc: Global,
+    two: bool,
+    entries: &[Unnamed],
+) -> Result<Value, AllocError>
+    ensures { IfOk result (λ v. view v ≡ list_data (unnamed_data two) entries.now) }
+{
+    let mut items = Vec::new(alloc);
+    for entry in entries {
+        items.push(unnamed_value(alloc, two, entry)?)?;
+    }
+    Ok(Value::Array(items))
+}

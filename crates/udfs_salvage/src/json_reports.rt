@@ -1,0 +1,278 @@
+//! Reports as JSON.
+
+ghost use Rattle.std.specs.Prelude.{◌≡◌, ◌≤◌, IfOk, length, map, string_bytes};
+ghost use Rattle.serde_json.specs.Data.{string};
+ghost use Rattle.serde_json.specs.View.{members_view, view};
+ghost use Rattle.udfs_lattice.specs.Tables.{state_of};
+ghost use Rattle.udfs_volume.specs.Answers.{faulty, found, holes};
+ghost use Rattle.udfs_volume.specs.LayoutParts.{partition_now};
+ghost use Rattle.udfs_volume.specs.Parts.{map_now};
+ghost use Rattle.udfs_salvage.specs.Found.{found_now, volume_now};
+ghost use Rattle.udfs_salvage.specs.Reports.{report_now};
+ghost use Rattle.udfs_salvage.specs.JsonNodes.{list_data};
+ghost use Rattle.udfs_salvage.specs.JsonReports.{json_text, label_data, label_of, map_name, name_data, packet_of, put_maps, put_packet, report_data, reread_data, state_data, state_name, volume_data};
+
+use crate::json_nodes::{all_unnamed_value, blocks_value, nodes_value};
+use crate::lines::{fault_number, has_two, revision_name};
+use crate::reports::Report;
+use crate::volumes::{OpenVolume, Volume};
+use serde_json::{Map, Value, put};
+use std::alloc::{AllocError, Global};
+use std::fmt::Write;
+use udfs_lattice::{BlockTable, Fact};
+use udfs_osta::{Label, Name, OutOfMemory};
+use udfs_volume::{Partition, PartitionMap, VolumeFault};
+
+/// The name of a map.
+fn map_name(kind: &PartitionMap) -> &'static str
+    ensures { result.now ≡ map_name (map_now kind.now) }
+{
+    match kind {
+        PartitionMap::Type1 => "type1",
+        PartitionMap::Sparable(_) => "sparable",
+    }
+}
+
+/// The name of a partition's map.
+fn map_value(alloc: Global, partition: &Partition) -> Result<Value, AllocError>
+    ensures { IfOk result (λ v. view v ≡ string (map_name (partition_now partition.now).kind)) }
+{
+    Value::try_from_str(alloc, map_name(&partition.kind))
+}
+
+/// The names of the partitions' maps.
+fn maps_value(alloc: Global, partitions: &[Partition]) -> Result<Value, AllocError>
+    ensures { IfOk result (λ v. view v ≡ list_data (λ p. string (map_name (partition_now p).kind)) partitions.now) }
+{
+    let mut items = Vec::new(alloc);
+    for partition in partitions {
+        items.push(map_value(alloc, partition)?)?;
+    }
+    Ok(Value::Array(items))
+}
+
+/// The packet length of the first sparable map.
+fn packet_of(partitions: &[Partition]) -> Option<u16>
+    ensures { result ≡ packet_of (map partition_now partitions.now) }
+{
+    for partition in partitions {
+        if let PartitionMap::Sparable(map) = &partition.kind {
+            return Some(map.packet);
+        }
+    }
+    None
+}
+
+/// Adds the packet length, if there is one.
+fn with_packet(
+    alloc: Global,
+    mut members: Map<String, Value>,
+    packet: Option<u16>,
+) -> Result<Map<String, Value>, AllocError>
+    ensures { IfOk result (λ with. members_view with.entries ≡ put_packet packet (members_view members.entries)) }
+{
+    let Some(packet) = packet else {
+        return Ok(members);
+    };
+    put(&mut members, alloc, "packet", Value::from(packet))?;
+    Ok(members)
+}
+
+/// Adds the name of the one map, or of each of two.
+fn with_maps(
+    alloc: Global,
+    mut members: Map<String, Value>,
+    partitions: &[Partition],
+) -> Result<Map<String, Value>, AllocError>
+    ensures { IfOk result (λ with. members_view with.entries ≡ put_maps (map partition_now partitions.now) (members_view members.entries)) }
+{
+    if partitions.len() >= 2 {
+        let maps = maps_value(alloc, partitions)?;
+        put(&mut members, alloc, "maps", maps)?;
+        return Ok(members);
+    }
+    let Some(first) = partitions.first() else {
+        return Ok(members);
+    };
+    let map = map_value(alloc, first)?;
+    put(&mut members, alloc, "map", map)?;
+    Ok(members)
+}
+
+/// A volume that opens.
+fn open_value(alloc: Global, opened: &OpenVolume) -> Result<Value, AllocError>
+    ensures { IfOk result (λ v. view v ≡ volume_data (found (found_now opened.now))) }
+{
+    let revision = Value::try_from_str(alloc, revision_name(opened.parts.revision))?;
+    let state = Value::try_from_str(alloc, "ok")?;
+    let mut members = Map::new(alloc);
+    put(&mut members, alloc, "revision", revision)?;
+    put(&mut members, alloc, "state", state)?;
+    let packet = packet_of(&opened.parts.partitions);
+    let with = with_packet(alloc, members, packet)?;
+    let all = with_maps(alloc, with, &opened.parts.partitions)?;
+    Ok(Value::Object(all))
+}
+
+/// The holes of a volume.
+fn blocked_value(alloc: Global, blocks: &[u32]) -> Result<Value, AllocError>
+    ensures { IfOk result (λ v. view v ≡ volume_data (holes blocks.now)) }
+{
+    let blocks = blocks_value(alloc, blocks)?;
+    let state = Value::try_from_str(alloc, "holes")?;
+    let mut members = Map::new(alloc);
+    put(&mut members, alloc, "blocks", blocks)?;
+    put(&mut members, alloc, "state", state)?;
+    Ok(Value::Object(members))
+}
+
+/// The fault of a volume.
+fn faulty_value(alloc: Global, fault: VolumeFault) -> Result<Value, AllocError>
+    ensures { IfOk result (λ v. view v ≡ volume_data (faulty fault)) }
+{
+    let mut name = String::new(alloc);
+    write!(name, "{fault}")?;
+    let state = Value::try_from_str(alloc, "fault")?;
+    let mut members = Map::new(alloc);
+    put(
+        &mut members,
+        alloc,
+        "fault",
+        Value::from(fault_number(fault)),
+    )?;
+    put(&mut members, alloc, "name", Value::String(name))?;
+    put(&mut members, alloc, "state", state)?;
+    Ok(Value::Object(members))
+}
+
+/// The volume.
+fn volume_value(alloc: Global, volume: &Volume) -> Result<Value, AllocError>
+    ensures { IfOk result (λ v. view v ≡ volume_data (volume_now volume.now)) }
+{
+    match volume {
+        Volume::Open(opened) => open_value(alloc, opened),
+        Volume::Holes(blocks) => blocked_value(alloc, blocks),
+        Volume::Fault(fault) => faulty_value(alloc, *fault),
+    }
+}
+
+/// An object whose one key is its state.
+fn state_value(alloc: Global, state: &str) -> Result<Value, AllocError>
+    ensures { IfOk result (λ v. view v ≡ state_data state.now) }
+{
+    let state = Value::try_from_str(alloc, state)?;
+    let mut members = Map::new(alloc);
+    put(&mut members, alloc, "state", state)?;
+    Ok(Value::Object(members))
+}
+
+/// A label that is a name.
+fn name_value(alloc: Global, name: &Name) -> Result<Value, AllocError>
+    ensures { IfOk result (λ v. view v ≡ name_data name.now) }
+{
+    let mut text = String::new(alloc);
+    name.write_escaped(&mut text)?;
+    let state = Value::try_from_str(alloc, "name")?;
+    let mut members = Map::new(alloc);
+    put(&mut members, alloc, "state", state)?;
+    put(&mut members, alloc, "text", Value::String(text))?;
+    Ok(Value::Object(members))
+}
+
+/// A label.
+fn label_value(alloc: Global, label: &Label) -> Result<Value, AllocError>
+    ensures { IfOk result (λ v. view v ≡ label_data label.now) }
+{
+    match label {
+        Label::Empty => state_value(alloc, "empty"),
+        Label::Name(name) => name_value(alloc, name),
+        Label::Invalid => state_value(alloc, "invalid"),
+    }
+}
+
+/// The label, where the volume opens.
+fn label_in(alloc: Global, volume: &Volume) -> Result<Value, AllocError>
+    ensures { IfOk result (λ v. view v ≡ label_of (volume_now volume.now)) }
+{
+    match volume {
+        Volume::Open(opened) => label_value(alloc, &opened.parts.label),
+        _ => Ok(Value::Null),
+    }
+}
+
+/// What is told of a block that is not known.
+fn state_name(table: &BlockTable, block: u32) -> &'static str
+    ensures { result.now ≡ state_name (state_of table.now block) }
+{
+    match table.state(block) {
+        Fact::Conflict => "conflict",
+        _ => "unknown",
+    }
+}
+
+/// A block to read again.
+fn reread_value(alloc: Global, table: &BlockTable, block: u32) -> Result<Value, AllocError>
+    ensures { IfOk result (λ v. view v ≡ reread_data (state_of table.now) block) }
+{
+    let state = Value::try_from_str(alloc, state_name(table, block))?;
+    let mut members = Map::new(alloc);
+    put(&mut members, alloc, "block", Value::from(block))?;
+    put(&mut members, alloc, "state", state)?;
+    Ok(Value::Object(members))
+}
+
+/// The blocks to read again.
+fn rereads_value(alloc: Global, table: &BlockTable, blocks: &[u32]) -> Result<Value, AllocError>
+    ensures { IfOk result (λ v. view v ≡ list_data (reread_data (state_of table.now)) blocks.now) }
+{
+    let mut items = Vec::new(alloc);
+    for block in blocks {
+        items.push(reread_value(alloc, table, *block)?)?;
+    }
+    Ok(Value::Array(items))
+}
+
+/// A report.
+fn report_value(alloc: Global, report: &Report<'_>) -> Result<Value, AllocError>
+    ensures { IfOk result (λ v. view v ≡ report_data report.now.table.now report.now.last (report_now report.now)) }
+{
+    let label = label_in(alloc, &report.volume)?;
+    let nodes = nodes_value(alloc, &report.nodes)?;
+    let reread = rereads_value(alloc, report.table, &report.reread)?;
+    let two = has_two(&report.volume);
+    let unnamed = all_unnamed_value(alloc, two, &report.unnamed)?;
+    let volume = volume_value(alloc, &report.volume)?;
+    let mut members = Map::new(alloc);
+    put(
+        &mut members,
+        alloc,
+        "conflict",
+        Value::from(report.table.conflicts()),
+    )?;
+    put(
+        &mut members,
+        alloc,
+        "known",
+        Value::from(report.table.known()),
+    )?;
+    put(&mut members, alloc, "label", label)?;
+    put(&mut members, alloc, "last", Value::from(report.last))?;
+    put(&mut members, alloc, "nodes", nodes)?;
+    put(&mut members, alloc, "reread", reread)?;
+    put(&mut members, alloc, "unnamed", unnamed)?;
+    put(&mut members, alloc, "volume", volume)?;
+    Ok(Value::Object(members))
+}
+
+/// The JSON of a report: one object without a space or a line feed, its keys in byte order at every level.
+///
+/// # Errors
+///
+/// `OutOfMemory` where memory is refused. The whole text is held in memory, and a tree of what it says beside it.
+pub fn report_json(alloc: Global, report: &Report<'_>) -> Result<String, OutOfMemory>
+    ensures { IfOk result (λ text. string_bytes text ≡ json_text report.now.table.now report.now.last (report_now report.now)) }
+{
+    let value = report_value(alloc, report)?;
+    let text = value.to_string(alloc)?;
+    Ok(text)
+}

@@ -1,0 +1,50 @@
+//! The body of what stands at an address.
+
+ghost use Rattle.std.specs.Prelude.{IfOk, List, MatchOption};
+ghost use Rattle.udfs_lattice.specs.Tables.{state_of};
+ghost use Rattle.udfs_space.specs.Places.{view};
+ghost use Rattle.udfs_file.specs.Stretches.{cells_of};
+ghost use Rattle.udfs_file.specs.declared.cells.Cell.{Cell};
+ghost use Rattle.udfs_walk.specs.NodeBodies.{HasCells};
+
+use crate::targets::{Target, target_at};
+use std::alloc::{AllocError, Global};
+use udfs_file::{Body, WalkError};
+use udfs_lattice::BlockTable;
+use udfs_space::Space;
+use udfs_tag::LongAd;
+
+/// The body of the entry that an address leads to, if an entry without a fault of its own is known there whose body
+/// has none either. Bytes of it may be missing.
+///
+/// # Errors
+///
+/// `AllocError` where memory is refused.
+pub fn body_at(
+    alloc: Global,
+    table: &BlockTable,
+    space: &Space,
+    address: LongAd,
+) -> Result<Option<Body>, AllocError>
+    ensures { IfOk result (λ found. MatchOption found
+        ((cs : List Cell) → ¬ HasCells (view (state_of table.now) space.now) address cs)
+        (λ body. HasCells (view (state_of table.now) space.now) address (cells_of (view (state_of table.now) space.now) body))) }
+{
+    match target_at(table, space, address) {
+        Target::Entry(entry) => {
+            match Body::read(
+                alloc,
+                table,
+                space,
+                &entry,
+                address.reference,
+                address.block,
+            ) {
+                Ok(body) => Ok(Some(body)),
+                Err(WalkError::Fault(_)) => Ok(None),
+                Err(WalkError::OutOfMemory) => Err(AllocError),
+            }
+        }
+        _ => Ok(None),
+    }
+}
