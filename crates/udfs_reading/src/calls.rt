@@ -88,11 +88,12 @@ enum Call {
 /// The call that a character stands for, whether it is made on an empty table, and whether the two tables change places
 /// behind it.
 fn call_of(character: u8) -> (Call, bool, bool) {
-    let code = if character > b'\\' {
-        character.wrapping_sub(36)
-    } else {
-        character.wrapping_sub(35)
+    let skipped = match character {
+        ..=57 => 35,
+        58..=92 => 45,
+        _ => 46,
     };
+    let code = character.wrapping_sub(skipped);
     let which = code % 19;
     let call = if which == 18 {
         Call::Join
