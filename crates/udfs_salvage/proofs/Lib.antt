@@ -8,3 +8,6 @@ pub mod Runs
 pub mod TreeReports
 pub mod VolumeLaw
 pub mod Rereading
+pub mod SampleVolume
+pub mod SampleTree
+pub mod SampleLawful

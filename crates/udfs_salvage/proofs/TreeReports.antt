@@ -10,7 +10,7 @@ use Rattle.udfs_tree.specs.Trees.{TreeFile, InTree}
 use Rattle.udfs_tree.specs.Needs.{Needs, HasKnown, IsMet}
 use Rattle.udfs_tree.specs.Laws.{AreTheTree, IsNodeOf}
 use Rattle.udfs_tree.proofs.CompleteNodes.{complete_nodes, one_file}
-use Rattle.udfs_tree.proofs.PartNodes.{partial_nodes}
+use Rattle.udfs_tree.proofs.PartNodes.{partial_nodes, once_per_path}
 use Rattle.udfs_tree.proofs.PartRoutes.{fewer_routes}
 use Rattle.udfs_salvage.specs.Found.{Found}
 use Rattle.udfs_salvage.specs.Laws.{IsVolumeGroup, IsFoundOf, IsToldOf}
@@ -82,9 +82,23 @@ report_of : (M : Blocks) (V : Volume) (N : ℕ) (l : IsLawful V N) → Agrees M 
     → IsToldOf V M N l.is_volume.found_is told → IsReportOf M V N report
 report_of M V N l a report (found got) e by is = record {
   no_fault = inl (got, e);
-  nodes = node_in M V N l a is.known report.volume (e ∙ ap found is.same) report (subst (λ z. ReportsNodes M z report) is.same by);
+  nodes = node_in M V N l a is.known report.volume (e ∙ ap found is.same) report x;
+  once = once_per_path (view M f.space) (view (complete V N) f.space) r.opened.blocks (part_of M V N l a) r.is_whole f.root l.tree report.nodes x.nodes_are;
 }
-report_of M V N l a report (holes listed) e by is = record { no_fault = inr (listed, e); nodes = λ index n at. no_nodes report by.no_nodes index n at }
+  where
+    f : Found
+    f = l.is_volume.found_is
+
+    r : ReadAs V N f
+    r = read_as V N l
+
+    x : ReportsNodes M f report
+    x = subst (λ z. ReportsNodes M z report) is.same by
+report_of M V N l a report (holes listed) e by is = record {
+  no_fault = inr (listed, e);
+  nodes = λ index n at. no_nodes report by.no_nodes index n at;
+  once = λ i j m n at other q. no_nodes report by.no_nodes i m at;
+}
 report_of M V N l a report (faulty fault) e by is = absurd is
 
 pub tells_tree : (M : Blocks) (N : ℕ) (report : Report) → IsReport M N report → TellsTree M N report

@@ -4,7 +4,8 @@
 --     IsOfNoLawful blocks last e             there is no report only where no lawful volume agrees, or for want of memory
 --     OpensOnce, OneFileAt                   the standard opens a lawful volume in one way, and a path leads to one file
 --     ReportsTellTree                        every report of a table tells this
-use Rattle.std.specs.Prelude.{◌≡◌, ◌⊎◌, ⊤, ℕ, List, slice_get, Some}
+--     SomeLawful                             there is a lawful volume with a file
+use Rattle.std.specs.Prelude.{◌≡◌, ◌⊎◌, ⊤, ℕ, List, [], ◌∷◌, slice_get, Some}
 use Rattle.udfs_lattice.specs.Volumes.{Blocks, Volume, Agrees, complete}
 use Rattle.udfs_volume.specs.Answers.{Answer, found, holes}
 use Rattle.udfs_space.specs.Places.{view}
@@ -13,7 +14,7 @@ use Rattle.udfs_walk.specs.NodeFields.{NodeFields}
 use Rattle.udfs_walk.specs.declared.standings.Standing.TheVariants.{Whole}
 use Rattle.udfs_tree.specs.Trees.{TreeFile}
 use Rattle.udfs_tree.specs.Cells.{HasCellsAt, HasNoFault, IsWholeAs}
-use Rattle.udfs_tree.specs.Laws.{IsTold}
+use Rattle.udfs_tree.specs.Laws.{HasPathsOnce, IsTold}
 use Rattle.udfs_salvage.specs.Found.{Found}
 use Rattle.udfs_salvage.specs.Reports.{Report, IsReport}
 use Rattle.udfs_salvage.specs.VolumeTrees.{Opened, IsOpened, IsInVolume, IsLawful, IsMetBy}
@@ -48,6 +49,7 @@ pub record IsNodeOfVolume (blocks : Blocks) (volume : Volume) (last : ℕ) (told
 pub record IsReportOf (blocks : Blocks) (volume : Volume) (last : ℕ) (report : Report) : Type 0 where
   pub no_fault : OpensOrHasHoles report.volume
   pub nodes : (index : ℕ) (n : NodeFields) → slice_get report.nodes index ≡ Some n → IsNodeOfVolume blocks volume last report.volume index n
+  pub once : HasPathsOnce report.nodes
 
 -- for every lawful volume with which the table agrees
 abbrev pub TellsTree : Blocks → ℕ → Report → Type 0
@@ -61,7 +63,7 @@ pub record IsWholeReportOf (blocks : Blocks) (volume : Volume) (last : ℕ) (rep
       → (file : TreeFile) × IsInVolume volume last n.path file × IsReportedAs blocks opened index n file
   pub is_listed : (path : List (List ℕ)) (file : TreeFile) → IsInVolume volume last path file
       → (index : ℕ) × (n : NodeFields) × (slice_get report.nodes index ≡ Some n) × (n.path ≡ path) × IsReportedAs blocks opened index n file
-  pub once : (i j : ℕ) (m n : NodeFields) → slice_get report.nodes i ≡ Some m → slice_get report.nodes j ≡ Some n → m.path ≡ n.path → i ≡ j
+  pub once : HasPathsOnce report.nodes
 
 -- for every lawful volume of which the table knows all
 abbrev pub TellsWholeTree : Blocks → ℕ → Report → Type 0
@@ -92,3 +94,7 @@ OneFileAt = (volume : Volume) (last : ℕ) → IsLawful volume last → (path : 
 -- the same for whoever has a report and not the call
 abbrev pub ReportsTellTree : Type 0
 ReportsTellTree = (blocks : Blocks) (last : ℕ) (report : Report) → IsReport blocks last report → TellsTree blocks last report × TellsWholeTree blocks last report
+
+-- there is a lawful volume, and a file below its root
+abbrev pub SomeLawful : Type 0
+SomeLawful = (volume : Volume) × (last : ℕ) × IsLawful volume last × ((name : List ℕ) × (file : TreeFile) × IsInVolume volume last (name ∷ []) file)

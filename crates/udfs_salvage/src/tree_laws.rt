@@ -1,5 +1,5 @@
 //! Laws of reports and trees, each the contract of a function that does nothing.
-ghost use Rattle.udfs_salvage.specs.TreeReports.{OneFileAt, OpensOnce, ReportsTellTree};
+ghost use Rattle.udfs_salvage.specs.TreeReports.{OneFileAt, OpensOnce, ReportsTellTree, SomeLawful};
 
 /// The standard opens a lawful volume, and in one way only.
 pub fn opens_once()
@@ -14,4 +14,9 @@ pub fn one_file_at()
 /// Every report of a table tells of the tree of each lawful volume that agrees with the table.
 pub fn reports_tell_tree()
     ensures { ReportsTellTree }
+{}
+
+/// There is a lawful volume with a file, so what is said of lawful volumes is said of something.
+pub fn some_volume_is_lawful()
+    ensures { SomeLawful }
 {}

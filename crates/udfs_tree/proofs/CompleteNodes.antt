@@ -1,5 +1,5 @@
 -- Over a complete view with a lawful tree, the nodes are those of the tree, each once and all whole.
-use Rattle.std.proofs.Common.{◌≡◌, refl, sym, ◌∙◌, ap, subst, ℕ, List, [], ◌∷◌, length, Some, slice_get}
+use Rattle.std.proofs.Common.{◌≡◌, refl, sym, ◌∙◌, subst, ℕ, List, [], ◌∷◌, length, Some, slice_get}
 use Rattle.std.specs.List.{AllZip}
 use Rattle.udfs_lattice.specs.declared.facts.Fact.TheVariants.{Known}
 use Rattle.udfs_tag.specs.declared.layouts.LongAd.{LongAd}
@@ -15,9 +15,9 @@ use Rattle.udfs_tree.specs.Trees.{PartitionBlocks, TreeFile, IsFileAt, InTree}
 use Rattle.udfs_tree.specs.Cells.{HasCells, HasCellsAt, IsByteOf, IsWholeAs}
 use Rattle.udfs_tree.specs.Laws.{IsWholeNode, CompleteNodes, OneFile}
 use Rattle.udfs_tree.proofs.WholeRoutes.{IsRouteTo}
-use Rattle.udfs_tree.proofs.PartNodes.{told_as}
+use Rattle.udfs_tree.proofs.PartNodes.{told_as, once_per_path}
 use Rattle.udfs_tree.proofs.Settings.{Setting, setting, Here, here_all, tree_here, one_address}
-use Rattle.udfs_tree.proofs.Listed.{path_is, Stands, stands, Placed, placed, once_listed}
+use Rattle.udfs_tree.proofs.Listed.{path_is, Stands, stands, Placed, placed}
 
 -- a complete view is part of itself
 pub part_of_itself : (all : View) (blocks : PartitionBlocks) → IsWhole all blocks → IsPartOf all all
@@ -44,7 +44,7 @@ has_here : (all : View) (blocks : PartitionBlocks) (root : LongAd) (w : Walked) 
 has_here all blocks root w h = record { fields = h.at.fields; is_entry = h.at.is_entry; has_body = h.at.has_body }
 
 pub complete_nodes : CompleteNodes
-complete_nodes all blocks c root l nodes are = record { in_tree = in_tree; is_listed = is_listed; once = once }
+complete_nodes all blocks c root l nodes are = record { in_tree = in_tree; is_listed = is_listed; once = once_per_path all all blocks (part_of_itself all blocks c) c root l nodes are }
   where
     s : Setting all all blocks root
     s = setting all all blocks (part_of_itself all blocks c) c root l
@@ -87,19 +87,6 @@ complete_nodes all blocks c root l nodes are = record { in_tree = in_tree; is_li
 
         same : file ≡ h.file.file
         same = h.file.only file (subst (λ z. IsFileAt blocks z file) (sym u.address_is) t.is_file)
-
-    once : (i j : ℕ) (m n : NodeFields) → slice_get nodes i ≡ Some m → slice_get nodes j ≡ Some n → m.path ≡ n.path → i ≡ j
-    once i j m n p q e = once_listed are.walk.routes i j x.route are.walk.in_order x.routed (y.routed ∙ ap Some (sym same))
-      where
-        x : Stands all root nodes are i m
-        x = stands all root nodes are i m p
-
-        y : Stands all root nodes are j n
-        y = stands all root nodes are j n q
-
-        same : x.route ≡ y.route
-        same = s.routes.one l.distinct x.route y.route x.end y.end x.walks y.walks
-            (sym (path_is all x.end) ∙ ap (λ z. z.path) (sym x.is) ∙ e ∙ ap (λ z. z.path) y.is ∙ path_is all y.end)
 
 pub one_file : OneFile
 one_file all blocks c root l path file other t u = h.file.only other (at other u) ∙ sym (h.file.only file (at file t))

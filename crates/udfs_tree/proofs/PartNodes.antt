@@ -21,12 +21,12 @@ use Rattle.udfs_walk.specs.declared.standings.Standing.TheVariants.{Whole}
 use Rattle.udfs_tree.specs.Trees.{PartitionBlocks, TreeFile, InTree}
 use Rattle.udfs_tree.specs.Needs.{IsMet}
 use Rattle.udfs_tree.specs.Cells.{HasCells, HasCellsAt, IsByteOf, IsByteOrMissing, IsToldAs, IsUntold, holes_of, IsInRuns, IsTornAs, IsWholeAs}
-use Rattle.udfs_tree.specs.Laws.{IsTold, IsNodeOf, PartialNodes}
-use Rattle.udfs_tree.proofs.PartRoutes.{NodePart, node_unread, node_read, node_part, good_node}
+use Rattle.udfs_tree.specs.Laws.{IsTold, IsNodeOf, PartialNodes, OncePerPath}
+use Rattle.udfs_tree.proofs.PartRoutes.{NodePart, node_unread, node_read, node_part, good_node, part_route}
 use Rattle.udfs_tree.proofs.Runs.{none_at, none_missing, holes_are}
 use Rattle.udfs_tree.proofs.Settings.{Setting, setting, Here, here, part_here, tree_here}
 use Rattle.udfs_tree.proofs.MetNodes.{met}
-use Rattle.udfs_tree.proofs.Listed.{path_is, Stands, stands}
+use Rattle.udfs_tree.proofs.Listed.{path_is, Stands, stands, once_listed}
 
 -- ---- cells beside bytes
 bytes_or_missing : (cs : List Cell) (xs : List Located) → AllZip IsCellOf cs (as_cells xs) → AllZip IsByteOrMissing cs xs
@@ -139,3 +139,20 @@ partial_nodes some all blocks p c root l nodes are index n e =
   where
     x : Stands some root nodes are index n
     x = stands some root nodes are index n e
+
+-- no two nodes have one path
+pub once_per_path : OncePerPath
+once_per_path some all blocks p c root l nodes are i j m n at other e = once_listed are.walk.routes i j x.route are.walk.in_order x.routed (y.routed ∙ ap Some (sym same))
+  where
+    s : Setting some all blocks root
+    s = setting some all blocks p c root l
+
+    x : Stands some root nodes are i m
+    x = stands some root nodes are i m at
+
+    y : Stands some root nodes are j n
+    y = stands some root nodes are j n other
+
+    same : x.route ≡ y.route
+    same = s.routes.one l.distinct x.route y.route x.end y.end (part_route some all p root l.nodes x.route x.end x.walks) (part_route some all p root l.nodes y.route y.end y.walks)
+        (sym (path_is some x.end) ∙ ap (λ z. z.path) (sym x.is) ∙ e ∙ ap (λ z. z.path) y.is ∙ path_is some y.end)

@@ -1,6 +1,7 @@
 -- Over a part of a complete view, what is told of nodes is what the tree has.
 --     CompleteNodes     over the complete view the nodes are those of the tree, all whole
 --     PartialNodes      over a part each node is one of the tree, and what is whole is the tree's
+--     OncePerPath       and no two nodes of a part have one path
 --     FewerRoutes       a part has no more routes than the whole
 --     OneFile           a path leads to one file
 use Rattle.std.specs.Prelude.{◌≡◌, ◌⊎◌, ℕ, List, Some, slice_get}
@@ -22,13 +23,17 @@ abbrev pub IsWholeNode : View → PartitionBlocks → LongAd → ℕ → NodeFie
 IsWholeNode v blocks root index n = (file : TreeFile) × (cs : List Cell) × InTree blocks root n.path file
     × HasCellsAt v root index cs × IsWholeAs n file cs
 
+-- no two nodes of the list have one path
+abbrev pub HasPathsOnce : List NodeFields → Type 0
+HasPathsOnce nodes = (i j : ℕ) (m n : NodeFields) → slice_get nodes i ≡ Some m → slice_get nodes j ≡ Some n → m.path ≡ n.path → i ≡ j
+
 -- the nodes are those of the tree, each once, all whole
 pub record AreTheTree (all : View) (blocks : PartitionBlocks) (root : LongAd) (nodes : List NodeFields) : Type 0 where
   pub in_tree : (index : ℕ) (n : NodeFields) → slice_get nodes index ≡ Some n → IsWholeNode all blocks root index n
   pub is_listed : (path : List (List ℕ)) (file : TreeFile) → InTree blocks root path file
       → (index : ℕ) × (n : NodeFields) × (cs : List Cell) × (slice_get nodes index ≡ Some n) × (n.path ≡ path)
       × HasCellsAt all root index cs × IsWholeAs n file cs
-  pub once : (i j : ℕ) (m n : NodeFields) → slice_get nodes i ≡ Some m → slice_get nodes j ≡ Some n → m.path ≡ n.path → i ≡ j
+  pub once : HasPathsOnce nodes
 
 abbrev pub CompleteNodes : Type 0
 CompleteNodes = (all : View) (blocks : PartitionBlocks) → IsWhole all blocks → (root : LongAd) → IsLawfulTree all root
@@ -50,6 +55,10 @@ pub record IsNodeOf (some all : View) (blocks : PartitionBlocks) (root : LongAd)
 abbrev pub PartialNodes : Type 0
 PartialNodes = (some all : View) (blocks : PartitionBlocks) → IsPartOf some all → IsWhole all blocks → (root : LongAd) → IsLawfulTree all root
     → (nodes : List NodeFields) → AreNodes some root nodes → (index : ℕ) (n : NodeFields) → slice_get nodes index ≡ Some n → IsNodeOf some all blocks root index n
+
+abbrev pub OncePerPath : Type 0
+OncePerPath = (some all : View) (blocks : PartitionBlocks) → IsPartOf some all → IsWhole all blocks → (root : LongAd) → IsLawfulTree all root
+    → (nodes : List NodeFields) → AreNodes some root nodes → HasPathsOnce nodes
 
 abbrev pub FewerRoutes : Type 0
 FewerRoutes = (some all : View) (blocks : PartitionBlocks) → IsPartOf some all → IsWhole all blocks → (root : LongAd) → IsLawfulTree all root

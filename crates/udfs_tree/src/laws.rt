@@ -1,5 +1,5 @@
 //! Laws of the tree, each the contract of a function that does nothing.
-ghost use Rattle.udfs_tree.specs.Laws.{CompleteNodes, FewerRoutes, OneFile, PartialNodes};
+ghost use Rattle.udfs_tree.specs.Laws.{CompleteNodes, FewerRoutes, OneFile, OncePerPath, PartialNodes};
 
 /// Over a complete view with a lawful tree, the nodes are those of the tree, each once and all whole, with the tree's
 /// bytes.
@@ -12,6 +12,11 @@ pub fn complete_nodes()
 /// of each group of blocks that it needs one is known.
 pub fn partial_nodes()
     ensures { PartialNodes }
+{}
+
+/// No two nodes of a part of a complete view with a lawful tree have one path.
+pub fn once_per_path()
+    ensures { OncePerPath }
 {}
 
 /// A part has no more routes than the whole: where the tree is lawful, there are never too many paths.
