@@ -17,3 +17,4 @@ pub mod Rereading
 pub mod SampleVolume
 pub mod SampleTree
 pub mod SampleLawful
+pub mod TreeBytes

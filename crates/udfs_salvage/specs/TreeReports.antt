@@ -2,10 +2,11 @@
 --     TellsTree blocks last report           each node is one of the volume's tree, and what is whole is the tree's
 --     TellsWholeTree blocks last report      where all of the volume is known, the nodes are its tree, all whole
 --     IsOfNoLawful blocks last e             there is no report only where no lawful volume agrees, or for want of memory
+--     WritesFile blocks last report i n      what is done with the bytes of a whole node is done with the tree's
 --     OpensOnce, OneFileAt                   the standard opens a lawful volume in one way, and a path leads to one file
 --     ReportsTellTree                        every report of a table tells this
 --     SomeLawful                             there is a lawful volume with a file
-use Rattle.std.specs.Prelude.{◌≡◌, ◌⊎◌, ⊤, ℕ, List, [], ◌∷◌, slice_get, Some}
+use Rattle.std.specs.Prelude.{◌≡◌, ◌⊎◌, ⊤, ℕ, List, [], ◌∷◌, slice_get, Some, map}
 use Rattle.udfs_lattice.specs.Volumes.{Blocks, Volume, Agrees, complete}
 use Rattle.udfs_volume.specs.Answers.{Answer, found, holes}
 use Rattle.udfs_space.specs.Places.{view}
@@ -13,7 +14,7 @@ use Rattle.udfs_file.specs.declared.cells.Cell.{Cell}
 use Rattle.udfs_walk.specs.NodeFields.{NodeFields}
 use Rattle.udfs_walk.specs.declared.standings.Standing.TheVariants.{Whole}
 use Rattle.udfs_tree.specs.Trees.{TreeFile}
-use Rattle.udfs_tree.specs.Cells.{HasCellsAt, HasNoFault, IsWholeAs}
+use Rattle.udfs_tree.specs.Cells.{HasCellsAt, HasNoFault, IsWholeAs, IsToldAs}
 use Rattle.udfs_tree.specs.Laws.{HasPathsOnce, IsTold}
 use Rattle.udfs_salvage.specs.Found.{Found}
 use Rattle.udfs_salvage.specs.Reports.{Report, IsReport}
@@ -98,3 +99,13 @@ ReportsTellTree = (blocks : Blocks) (last : ℕ) (report : Report) → IsReport 
 -- there is a lawful volume, and a file below its root
 abbrev pub SomeLawful : Type 0
 SomeLawful = (volume : Volume) × (last : ℕ) × IsLawful volume last × ((name : List ℕ) × (file : TreeFile) × IsInVolume volume last (name ∷ []) file)
+
+-- ---- the bytes that are written
+abbrev pub file_bytes : TreeFile → List ℕ
+file_bytes file = map (λ x. x.0) file.body
+
+-- of every lawful volume with which the table agrees: this is done with the bytes of the file of its tree that stands at the
+-- node's path and has its kind, size and stamp
+abbrev pub WritesFile : Blocks → ℕ → Report → ℕ → NodeFields → (List ℕ → Type 0) → Type 0
+WritesFile blocks last report index n Writes = (volume : Volume) → IsLawful volume last → Agrees blocks volume last
+    → (file : TreeFile) × IsInVolume volume last n.path file × IsToldAs n file × Writes (file_bytes file)

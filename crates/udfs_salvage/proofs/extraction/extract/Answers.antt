@@ -6,6 +6,7 @@ use Rattle.udfs_salvage.specs.Found.{found_now, volume_now}
 use Rattle.udfs_salvage.specs.Reports.{report_now}
 use Rattle.udfs_salvage.specs.Extraction.{Extracts, fill_byte, filled, is_offered}
 use Rattle.udfs_salvage.proofs.Extracting.{report_cells, not_refused, same_node, same_found, true_false}
+use Rattle.udfs_salvage.proofs.TreeBytes.{writes_file}
 use Rattle.udfs_salvage.proofs.extraction.extract.Goals as goal
 
 pub returns-in-Open-clause-cells : goal.returns-in-Open-clause-cells
@@ -43,3 +44,11 @@ returns-in-Open-clause-stated g c = λ f n cs opens at offered has.
     let opened : found_now c.in-Open.opened ≡ f = same_found _ _ (sym (ap volume_now c.in-Open.is) ∙ opens) in
     subst (λ x. Extracts (W.contents c.args.sink.now) (W.contents c.write_at.new.sink) (W.faults c.args.sink.now) (W.faults c.write_at.new.sink) (filled x cs) c.write_at.result) c.fill_byte-byte.ensures
     (c.write_at.ensures.cells cs (subst (λ a. HasCells (view b c.in-Open.opened.space) a cs) (sym icb) (subst (λ h. HasCells (view b h.space) n.icb cs) (sym opened) has)))
+
+pub returns-in-Open-clause-tree : goal.returns-in-Open-clause-tree
+returns-in-Open-clause-tree g c = λ last n is at whole.
+    let W = g.W.Sink in
+    let r = c.args.report.now in
+    writes_file (state_of r.table.now) last c.args.index (report_now r) (fill_byte c.args.fill)
+    (λ bytes. Extracts (W.contents c.args.sink.now) (W.contents c.write_at.new.sink) (W.faults c.args.sink.now) (W.faults c.write_at.new.sink) bytes c.write_at.result)
+    is n at whole (returns-in-Open-clause-cells g c last n is at (ap (λ s. is_offered s n.size c.args.fill) whole))
