@@ -1,8 +1,8 @@
 -- What is written of a whole node is the bytes of the file of the tree.
-use Rattle.std.proofs.Common.{◌≡◌, refl, sym, ◌∙◌, ap, subst, ℕ, List, [], ◌∷◌, map, Some}
-use Rattle.std.specs.Prelude.{slice_get, true}
+use Rattle.std.proofs.Common.{◌≡◌, refl, sym, ◌∙◌, subst, ℕ, List, [], ◌∷◌, map, Some}
+use Rattle.std.specs.Prelude.{slice_get}
 use Rattle.std.specs.List.{AllZip}
-use Rattle.udfs_lattice.specs.Volumes.{Blocks, Volume, Agrees}
+use Rattle.udfs_lattice.specs.Volumes.{Blocks}
 use Rattle.udfs_volume.specs.Answers.{found}
 use Rattle.udfs_space.specs.Places.{view}
 use Rattle.udfs_file.specs.Standard.{Located}
@@ -10,16 +10,13 @@ use Rattle.udfs_file.specs.declared.cells.Cell.{Cell}
 use Rattle.udfs_file.specs.declared.cells.Cell.TheVariants.{Byte, Gap}
 use Rattle.udfs_walk.specs.NodeFields.{NodeFields}
 use Rattle.udfs_walk.specs.declared.standings.Standing.TheVariants.{Whole}
-use Rattle.udfs_tree.specs.Trees.{TreeFile}
 use Rattle.udfs_tree.specs.Cells.{IsByteOf, IsToldAs}
 use Rattle.udfs_tree.specs.Cells as tree
 use Rattle.udfs_tree.proofs.OneReading.{one_reading}
 use Rattle.udfs_salvage.specs.Found.{Found, volume as volume_of}
 use Rattle.udfs_salvage.specs.Reports.{Report, IsReport}
-use Rattle.udfs_salvage.specs.Extraction.{HasCellsAt, cell_byte, filled, is_offered}
-use Rattle.udfs_salvage.specs.TreeReports.{IsNodeOfVolume, IsReportedAs, WritesFile, file_bytes}
-use Rattle.udfs_salvage.specs.VolumeTrees.{IsLawful, IsInVolume}
-use Rattle.udfs_salvage.specs.declared.extraction.Fill.{Fill}
+use Rattle.udfs_salvage.specs.Extraction.{HasCellsAt, filled}
+use Rattle.udfs_salvage.specs.TreeReports.{IsNodeOfVolume, IsReportedAs, WritesFile}
 use Rattle.udfs_salvage.proofs.Extracting.{same_found}
 use Rattle.udfs_salvage.proofs.TreeReports.{tells_tree}
 
