@@ -34,4 +34,6 @@ pub use volumes::{OpenVolume, Volume};
 #[cfg(test)]
 mod extract_tests;
 #[cfg(test)]
+mod json_tests;
+#[cfg(test)]
 mod tests;

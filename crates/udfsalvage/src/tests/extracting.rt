@@ -284,3 +284,33 @@ fn what_refuses_it(rt: HostRuntime) -> Result<(), Fail> {
     }
     Ok(())
 }
+
+/// With ample memory the files are written. Where one allocation is refused, each file that is told as written has its
+/// bytes, and a refusal is told as what it is. The folder and the files in memory want memory too, and that is told as their failure.
+#[test]
+fn want_of_memory_is_told(rt: HostRuntime) {
+    let is_told = match is_done_or_wants_memory(rt.alloc()) {
+        Ok(is_told) => is_told,
+        Err(AllocError) => true,
+    };
+    assert!(rt; is_told);
+}
+
+fn is_done_or_wants_memory(alloc: Global) -> Result<bool, AllocError> {
+    let a = runs(alloc, &A)?;
+    let Ok(table) = Disc::type1(alloc)?.known_but(alloc, &[]) else {
+        return Err(AllocError);
+    };
+    let mut memory = with_table(alloc, &table)?;
+    let ran = ran(alloc, &mut memory, WORDS)?;
+    let out = ran.out.as_str();
+    let has_a = !out.contains("written /A\n") || memory.has("out/A", a.as_slice());
+    let has_b = !out.contains("written /B\n") || memory.has("out/B", b"Hi");
+    let is_told = match ran.err.as_str() {
+        "" => ran.status < 2,
+        "udfsalvage: out of memory\n" => ran.status == 2,
+        "udfsalvage: cannot make the folder\n" => ran.status == 2,
+        _ => false,
+    };
+    Ok(has_a && has_b && is_told)
+}

@@ -254,7 +254,7 @@ impl Files for Memory {
 /// Files of which `disc.tab` is the table's file.
 pub fn with_table(alloc: Global, table: &BlockTable) -> Result<Memory, AllocError> {
     let mut file = Writer::new(Vec::new(alloc));
-    let _ = write_table(table, &mut file);
+    write_table(table, &mut file).map_err(|_| AllocError)?;
     let mut memory = Memory::new(alloc);
     memory.store("disc.tab", file.into_inner().as_slice())?;
     Ok(memory)
