@@ -1,6 +1,6 @@
 -- What the calls tell of partitions of which a part is known, by what they answer.
 use Rattle.std.proofs.Common.{◌≡◌, refl, sym, ◌∙◌, ap, subst, ℕ, ◌+◌, ◌<◌, Bool, true, false, List, [], ◌∷◌, ◌++◌, length, take, drop, map, cond, ◌||◌, arith, Option, Some, None, nat_lt, slice_get}
-use Rattle.std.specs.Prelude.{zero, suc, Result, Ok, Err}
+use Rattle.std.specs.Prelude.{zero, suc, Result, Ok, Err, ⊤}
 use Rattle.std.specs.List.{AllZip, cons_option}
 use Rattle.std.proofs.lemmas.List.{length-append}
 use Rattle.udfs_tag.specs.declared.layouts.LongAd.{LongAd}
@@ -80,9 +80,20 @@ tells_body some r b entry (Err (walk_error.Fault fault)) g all p whole e =
     let no : ⊥ = cc in no
 tells_body some r b entry (Err walk_error.OutOfMemory) g all p whole e = tt
 
-pub body_clauses : (some : View) (r b : ℕ) (entry : EntryFields) (told : Result (List Stretch) WalkError) → Gives some told (body some r b entry)
-    → record { value : Gives some told (body some r b entry); complete : TellsBody some r b entry told }
-body_clauses some r b entry told g = record { value = g; complete = tells_body some r b entry told g }
+abbrev NoWant : Result (List Stretch) WalkError → Type 0
+NoWant (Ok ss) = ⊤
+NoWant (Err (walk_error.Fault f)) = ⊤
+NoWant (Err walk_error.OutOfMemory) = ⊥
+
+pub body_clauses : (some : View) (r b : ℕ) (entry : EntryFields) (told : Result (List Stretch) WalkError) (Stored : Type 0) → Gives some told (body some r b entry)
+    → (told ≡ Err walk_error.OutOfMemory → Stored)
+    → record { value : Gives some told (body some r b entry); complete : TellsBody some r b entry told; memory : told ≡ Err walk_error.OutOfMemory → Stored }
+body_clauses some r b entry told Stored g m = record { value = g; complete = tells_body some r b entry told g; memory = m }
+
+pub never : (told : Result (List Stretch) WalkError) (Stored : Type 0) → NoWant told → told ≡ Err walk_error.OutOfMemory → Stored
+never (Ok ss) Stored n e = absurd (let z : ⊥ = cc in z)
+never (Err (walk_error.Fault f)) Stored n e = absurd (let z : ⊥ = cc in z)
+never (Err walk_error.OutOfMemory) Stored n e = absurd n
 
 -- ---- a directory: the block that ends it
 found_at : (n : ℕ) (xs : List Cell) (m : ℕ) → first_missing (take n xs) ≡ Some m → (k : ℕ) × (slice_get xs k ≡ Some (Gap m))
@@ -228,5 +239,5 @@ tells_front part front f whole h = record {
     ends e (Wrong fault) q m = absurd (law.no_fault e fault q)
 
 pub front_clauses : (part : List Cell) (front : DirFront) → IsFrontOf front part
-    → record { value : IsFrontOf front part; complete : TellsFront part front }
-front_clauses part front f = record { value = f; complete = tells_front part front f }
+    → record { value : IsFrontOf front part; complete : TellsFront part front; memory : Unit {0} }
+front_clauses part front f = record { value = f; complete = tells_front part front f; memory = tt }

@@ -37,6 +37,7 @@ impl Body {
     ghost use Rattle.udfs_file.specs.Entries.{entry_of};
     ghost use Rattle.udfs_file.specs.Bodies.{body};
     ghost use Rattle.udfs_file.specs.Told.{TellsBody};
+    ghost use Rattle.std.specs.Prelude.{◌⊎◌, ◌<◌, Err};
 
     /// The stretches, in order. Each but the last fills its blocks, so at most 2048 bytes side by side lie in one
     /// block, or in the end of one and the beginning of the next. It takes no memory.
@@ -67,7 +68,7 @@ impl Body {
     /// [`NodeFault::Chain`] where it continues in a block that is no allocation extent descriptor there or has no
     /// room for what it says to hold, or that is the 257th, or where its length passes 2048; [`NodeFault::Odd`] where
     /// it ends before the body does and its length is no multiple of 2048. [`WalkError::OutOfMemory`] where memory
-    /// was refused.
+    /// was refused: never of a body without a byte that is not embedded.
     pub fn read(
         alloc: Global,
         table: &BlockTable,
@@ -79,6 +80,7 @@ impl Body {
         requires { IsStanding (view (state_of table.now) space.now) reference b entry.now }
         ensures value { Gives (view (state_of table.now) space.now) result (body (view (state_of table.now) space.now) reference b (entry_of entry.now)) }
         ensures complete { TellsBody (view (state_of table.now) space.now) reference b (entry_of entry.now) result }
+        ensures memory { result ≡ Err WalkError.OutOfMemory → ((entry_of entry.now).form ≡ 3) ⊎ (0 < (entry_of entry.now).size) }
     {
         if entry.form() != 3 {
             return Body::walk(
@@ -118,8 +120,9 @@ impl Body {
         area: &[u8],
     ) -> Result<Body, WalkError>
         requires { length area.now ≤ 2048 }
-        ensures { Gives (view (state_of table.now) space.now) result
+        ensures value { Gives (view (state_of table.now) space.now) result
             (listed_body (view (state_of table.now) space.now) form reference size area.now) }
+        ensures memory { result ≡ Err WalkError.OutOfMemory → 0 < size }
     {
         let mut stretches = Vec::new(alloc);
         let mut area = area;

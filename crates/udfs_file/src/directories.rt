@@ -1,11 +1,11 @@
 //! Directories: the file identifier descriptors in the cells of a body (ECMA-167 4/14.4).
 
-ghost use Rattle.std.specs.Prelude.{◌≡◌, ◌≤◌, ◌+◌, length, true, Ok, Some, IfOk};
+ghost use Rattle.std.specs.Prelude.{◌≡◌, ◌≤◌, ◌<◌, ◌+◌, length, true, Ok, Some, IfErr, IfOk};
 ghost use Rattle.udfs_lattice.specs.Tables.{state_of};
 ghost use Rattle.udfs_space.specs.Places.{view};
 ghost use Rattle.udfs_tag.specs.Fields.{uint8_at, uint16_at, part};
 ghost use Rattle.udfs_file.specs.Stretches.{cells_of};
-ghost use Rattle.udfs_file.specs.Fronts.{entry_with, is_listed, IsFrontOf};
+ghost use Rattle.udfs_file.specs.Fronts.{entries_of, entry_with, is_listed, IsFrontOf};
 ghost use Rattle.udfs_file.specs.Identifiers.{One};
 ghost use Rattle.udfs_file.specs.Steps.{IsListedIn, bytes_of};
 ghost use Rattle.udfs_file.specs.Told.{TellsFront};
@@ -101,7 +101,8 @@ fn listed_entry(alloc: Global, bytes: &[u8]) -> Result<Option<DirEntry>, AllocEr
 /// The entry in a descriptor, if it is neither deleted nor the parent's.
 fn listed(alloc: Global, view: &Pieces<'_>) -> Result<Option<DirEntry>, AllocError>
     requires { 38 ≤ length (bytes_of view.now) }
-    ensures { IfOk result (IsListedIn (bytes_of view.now)) }
+    ensures entry { IfOk result (IsListedIn (bytes_of view.now)) }
+    ensures memory { IfErr result (λ e. is_listed (bytes_of view.now) ≡ true) }
 {
     if !view.is_listed() {
         return Ok(None);
@@ -135,7 +136,7 @@ impl Dir {
     ///
     /// # Errors
     ///
-    /// Memory was refused.
+    /// Memory was refused: never where the directory lists nothing.
     pub fn front(
         alloc: Global,
         table: &BlockTable,
@@ -144,6 +145,7 @@ impl Dir {
     ) -> Result<DirFront, OutOfMemory>
         ensures value { IfOk result (λ front. IsFrontOf front (cells_of (view (state_of table.now) space.now) body.now)) }
         ensures complete { IfOk result (TellsFront (cells_of (view (state_of table.now) space.now) body.now)) }
+        ensures memory { IfErr result (λ e. 0 < length (entries_of (cells_of (view (state_of table.now) space.now) body.now))) }
     {
         let mut cursor = Cursor::new(table, space, body);
         let mut entries = Vec::new(alloc);

@@ -32,19 +32,19 @@ walk-init c = record {
   lie = subst LieInBlocks (sym c.new-stretches.ensures.items) tt;
 }
 
-pub returns-then-d-eq0 : goal.returns-then-d-eq0
-returns-then-d-eq0 c =
+pub returns-then-d-eq0-clause-value : goal.returns-then-d-eq0-clause-value
+returns-then-d-eq0-clause-value c =
     let here : c.walk.i < descriptor_count c.args.form c.walk.area.now = omega arith in
     walk-zero _ _ _ _ _ _ _ _ _ _ c.walk.invariant.walk c.descriptor-d.result c.walk-test.true here c.descriptor-d.ensures c.if-d-eq0.true
 
-pub returns-in-Broken : goal.returns-in-Broken
-returns-in-Broken c =
+pub returns-in-Broken-clause-value : goal.returns-in-Broken-clause-value
+returns-in-Broken-clause-value c =
     let here : c.walk.i < descriptor_count c.args.form c.walk.area.now = omega arith in
     walk-broken _ _ _ _ _ _ _ _ _ _ c.walk.invariant.walk c.descriptor-d.result c.walk-test.true here c.descriptor-d.ensures c.if-d-eq0.false c.if-d-eq3.true
     c.in-Broken.fault (sym c.in-Broken.ensures.value)
 
-pub returns-in-Unread : goal.returns-in-Unread
-returns-in-Unread c =
+pub returns-in-Unread-clause-value : goal.returns-in-Unread-clause-value
+returns-in-Unread-clause-value c =
     let here : c.walk.i < descriptor_count c.args.form c.walk.area.now = omega arith in
     let e : c.push.new.self.items ≡ c.walk.stretches.items ++ Missing c.in-Unread.n (c.args.size - c.walk.c) ∷ [] =
     pushed c.push.new.self.items c.walk.stretches.items _ (is_ok c.push.result) c.push.ensures.items (c.is_err.ensures.negation ∙ ap not c.if-is_err.false) in
@@ -71,8 +71,8 @@ walk-preserved-in-Area c =
       lie = c.walk.invariant.lie;
     }
 
-pub returns-in-Err : goal.returns-in-Err
-returns-in-Err c =
+pub returns-in-Err-clause-value : goal.returns-in-Err-clause-value
+returns-in-Err-clause-value c =
     let here : c.walk.i < descriptor_count c.args.form c.walk.area.now = omega arith in
     walk-fault _ _ _ _ _ _ _ _ _ _ c.walk.invariant.walk c.descriptor-d.result c.walk-test.true here c.descriptor-d.ensures c.if-d-eq0.false c.if-d-eq3.false
     c.in-Err.fault (c.in-Err.ensures (state_of c.args.table.now))
@@ -105,5 +105,5 @@ walk-preserved c =
       lie = subst LieInBlocks e (lie_more c.walk.stretches.items c.in-Ok.stretch (c.walk.invariant.fill c.walk-test.true) x.last);
     }
 
-pub returns : goal.returns
-returns c = walk-done _ _ _ _ _ _ _ _ _ _ c.walk.invariant.walk (omega arith)
+pub returns-clause-value : goal.returns-clause-value
+returns-clause-value c = walk-done _ _ _ _ _ _ _ _ _ _ c.walk.invariant.walk (omega arith)

@@ -4,7 +4,8 @@ use Rattle.udfs_space.specs.Places.{view}
 use Rattle.udfs_file.specs.Identifiers.{Nothing, Stopped, Wrong}
 use Rattle.udfs_file.specs.Stretches.{cells_of}
 use Rattle.udfs_file.specs.declared.cells.Cell.{Cell}
-use Rattle.udfs_file.proofs.FrontLemmas.{IsFronting, front-start, front_listed, front_unlisted, fewer_left, front_ended}
+use Rattle.udfs_file.proofs.FrontLemmas.{IsFronting, front-start, front_listed, front_unlisted, fewer_left, front_ended, if_err, lists_entry, lists_some}
+use Rattle.udfs_file.specs.Steps.{IsListedIn, bytes_of}
 use Rattle.udfs_file.proofs.Telling.{front_clauses}
 use Rattle.udfs_file.proofs.directories.Dir.front.Goals as goal
 
@@ -18,7 +19,7 @@ steps-smaller-in-Continue-branch-3 c = fewer_left c.steps.cursor c.next.new.self
 
 pub steps-preserved-in-Continue-branch-3 : goal.steps-preserved-in-Continue-branch-3
 steps-preserved-in-Continue-branch-3 c = front_listed (cells_of (view (state_of c.args.table.now) c.args.space.now) c.args.body.now) c.steps.cursor c.steps.entries.items c.push.new.self.items
-    c.next.new.self c.in-Id.view c.next.result c.in-Some.entry c.in_ok-entry-in-Id.field-0 c.steps.invariant c.next.ensures.step c.in-Id.is c.in_ok-entry-in-Id.ensures c.in-Some.is
+    c.next.new.self c.in-Id.view c.next.result c.in-Some.entry c.in_ok-entry-in-Id.field-0 c.steps.invariant c.next.ensures.step c.in-Id.is c.in_ok-entry-in-Id.ensures.entry c.in-Some.is
     c.in_ok-push-in-Some.ensures.items
 
 pub steps-smaller : goal.steps-smaller
@@ -26,7 +27,7 @@ steps-smaller c = fewer_left c.steps.cursor c.next.new.self c.next.result c.in-I
 
 pub steps-preserved : goal.steps-preserved
 steps-preserved c = front_unlisted (cells_of (view (state_of c.args.table.now) c.args.space.now) c.args.body.now) c.steps.cursor c.steps.entries.items
-    c.next.new.self c.in-Id.view c.next.result c.in_ok-entry-in-Id.field-0 c.steps.invariant c.next.ensures.step c.in-Id.is c.in_ok-entry-in-Id.ensures c.in-None.is
+    c.next.new.self c.in-Id.view c.next.result c.in_ok-entry-in-Id.field-0 c.steps.invariant c.next.ensures.step c.in-Id.is c.in_ok-entry-in-Id.ensures.entry c.in-None.is
 
 pub returns-in-Stop : goal.returns-in-Stop
 returns-in-Stop c = front_clauses (cells_of (view (state_of c.args.table.now) c.args.space.now) c.args.body.now) c.ended.result
@@ -42,3 +43,11 @@ pub returns-in-End : goal.returns-in-End
 returns-in-End c = front_clauses (cells_of (view (state_of c.args.table.now) c.args.space.now) c.args.body.now) c.ended-in-End.result
     (front_ended (cells_of (view (state_of c.args.table.now) c.args.space.now) c.args.body.now) c.steps.cursor c.steps.entries.items c.ended-in-End.result Nothing c.steps.invariant c.in-End.ensures.step.is
     (ap (λ es. es.items) c.ended-in-End.ensures.0) c.ended-in-End.ensures.1 c.ended-in-End.ensures.2)
+
+pub returns-in_err-entry-in-Id-clause-memory : goal.returns-in_err-entry-in-Id-clause-memory
+returns-in_err-entry-in-Id-clause-memory c = if_err c.from_residual.result _ (lists_some (cells_of (view (state_of c.args.table.now) c.args.space.now) c.args.body.now) c.steps.cursor c.steps.entries.items c.next.new.self
+    c.in-Id.view c.next.result c.steps.invariant c.next.ensures.step c.in-Id.is c.in_err-entry-in-Id.ensures.memory)
+
+pub returns-in_err-push-in-Some-clause-memory : goal.returns-in_err-push-in-Some-clause-memory
+returns-in_err-push-in-Some-clause-memory c = if_err c.from_residual-in_err-push-in-Some.result _ (lists_entry (cells_of (view (state_of c.args.table.now) c.args.space.now) c.args.body.now) c.steps.cursor c.steps.entries.items c.next.new.self
+    c.in-Id.view c.next.result c.in-Some.entry c.steps.invariant c.next.ensures.step c.in-Id.is (subst (IsListedIn (bytes_of c.in-Id.view)) c.in-Some.is c.in_ok-entry-in-Id.ensures.entry))
