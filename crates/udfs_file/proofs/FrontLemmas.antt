@@ -136,7 +136,7 @@ some_entry cells left listed zero size entry h e p = absurd (omega arith)
 some_entry cells left listed (suc k) size entry h e p = subst (λ es. 0 < length es) (listed_first listed size (Some entry) (read_from k (drop size left)).identifiers
     ∙ sym (ap (λ (t : DirectoryText). listed ++ listed_entries t.identifiers) (text k left (One (record { size = size; listed = Some entry })) e)) ∙ p)
     (let q : length ((listed ++ entry ∷ []) ++ listed_entries (read_from k (drop size left)).identifiers) ≡ length (listed ++ entry ∷ []) + length (listed_entries (read_from k (drop size left)).identifiers)
-        = length-append (listed ++ entry ∷ []) (listed_entries (read_from k (drop size left)).identifiers) in
+    = length-append (listed ++ entry ∷ []) (listed_entries (read_from k (drop size left)).identifiers) in
     let r : length (listed ++ entry ∷ []) ≡ length listed + 1 = length-append listed (entry ∷ []) in omega (arith, q, r))
 
 pub lists_entry : (cells left : List Cell) (listed : List DirEntry) (behind : List Cell) (view : Pieces) (told : cursor.Step) (entry : DirEntry) → IsFronting cells left listed
