@@ -1,12 +1,13 @@
 # The words to type here:
 #   make            proves the program and all that it stands on, builds it, and says where it lies
 #   make demo       the same, and then runs it on the readings of examples/
-#   make test       judges the whole repository from nothing, as the gate does
+#   make test       judges the whole repository from nothing, as the gate does, and then tries what make hostile tries
+#   make hostile    refuses each allocation of many runs in turn, and changes each byte of the sample discs' descriptors
 #   make try        tries the built program on this machine's own files and devices
 #   make install    puts the program and its man page below PREFIX
 #   make bench      measures merge against cp and extract against cp -r of the same files, report against reading its input in,
 #                   the CRC against the plain byte table in Rust, the table of blocks against an ordered map and plain copying,
-#                   and places a second
+#                   places a second, and report of volumes that are made to take time or memory
 #   make examples   writes the example readings anew
 
 RT ?= rt
@@ -17,6 +18,7 @@ DESTDIR ?=
 JOBS ?= $(shell sh tools/jobs)
 
 PROGRAM = crates/udfsalvage/out/udfsalvage
+TRIES = crates/try_samples/out/try_samples
 
 all: have-rt
 	@$(MAKE) -s --no-print-directory -j$(JOBS) $(PROGRAM)
@@ -50,11 +52,22 @@ $(PROGRAM): crates/udfsalvage/out/proved
 	@cd crates/udfsalvage && $(RT) run -- --version > /dev/null 2> out/building.log || { cat out/building.log; exit 1; }
 	@touch $@
 
+$(TRIES): crates/try_samples/out/proved
+	@echo "building try_samples"
+	@cd crates/try_samples && $(RT) run -- salvage type1 > /dev/null 2> out/building.log || { cat out/building.log; exit 1; }
+	@touch $@
+
 demo: all
 	@tools/demo $(PROGRAM) examples out/demo
 
 test: have-rt
 	@$(RT) ci
+	@$(MAKE) -s --no-print-directory hostile
+
+hostile: all
+	@$(MAKE) -s --no-print-directory $(TRIES)
+	@tools/refuse-memory $(TRIES) $(PROGRAM)
+	@tools/mutate $(TRIES)
 
 try: all
 	@tools/try-machine $(PROGRAM) examples
@@ -71,10 +84,11 @@ bench: all
 	@bench/crc
 	@bench/table
 	@bench/places
+	@bench/worst --program $(PROGRAM)
 
 examples:
 	tools/make-examples examples
 	tools/make-disc examples
 	cp examples/a.rd examples/b.rd crates/udfsalvage/data
 
-.PHONY: all have-rt demo test try install bench examples
+.PHONY: all have-rt demo test hostile try install bench examples

@@ -23,3 +23,5 @@ pub mod FileSets
 pub mod BodyLengths
 pub mod Telling
 pub mod BlockLemmas
+pub mod SampleLaw
+pub mod PublicLaws

@@ -3,8 +3,9 @@
 --     FileSetLaw                 the file set names the root that the standard reads
 --     BodyLaw                     a body without a fault is the one that the standard reads
 --     DirectoryLaw                a directory without a fault is the one list that the standard reads
+--     NeverStops                  a directory that is all there is not ended by a missing block
 --     ReadsLaw                    `directory` gives the only reading that there is
-use Rattle.std.specs.Prelude.{◌≡◌, ℕ, List, length, map, Option, Some, None, ◌↔◌}
+use Rattle.std.specs.Prelude.{◌≡◌, ◌≢◌, ℕ, List, length, map, Option, Some, None, ◌↔◌}
 use Rattle.udfs_volume.specs.Sequence.{Bytes}
 use Rattle.udfs_lattice.specs.declared.facts.Fact.TheVariants.{Known}
 use Rattle.udfs_space.specs.Places.{View}
@@ -15,7 +16,7 @@ use Rattle.udfs_file.specs.declared.cells.Cell.TheVariants.{Byte}
 use Rattle.udfs_file.specs.Fronts.{ReadsAs, directory}
 use Rattle.udfs_file.specs.Identifiers.{Identifier}
 use Rattle.udfs_file.specs.Identifiers.{Rest}
-use Rattle.udfs_file.specs.Identifiers.{Nothing}
+use Rattle.udfs_file.specs.Identifiers.{Nothing, Stopped}
 use Rattle.udfs_tag.specs.declared.layouts.LongAd.{LongAd}
 use Rattle.udfs_volume.specs.Answers.{found}
 use Rattle.udfs_file.specs.Addresses.{file_set}
@@ -57,6 +58,10 @@ BodyLaw = (all : View) (blocks : ℕ → ℕ → Option Bytes) → IsWhole all b
 abbrev pub ReadsLaw : Type 0
 ReadsLaw = (cs : List Cell) (ids : List Identifier) (rest : Rest)
     → ReadsAs cs ids rest ↔ (((directory cs).identifiers ≡ ids) × ((directory cs).rest ≡ rest))
+
+-- where all cells are there, no missing block ends a directory
+abbrev pub NeverStops : Type 0
+NeverStops = (whole : List Located) (n : ℕ) → (directory (as_cells whole)).rest ≢ Stopped n
 
 pub record IsReadDirectory (whole : List Located) (ids : List Identifier) : Type 0 where
   pub reads : IsDirectoryBody whole ids

@@ -78,6 +78,11 @@ abbrev pub PartialBodies : Type 0
 PartialBodies = (some all : View) → IsPartOf some all → (r b : ℕ) (entry : EntryFields) (whole : List Cell)
     → body all r b entry ≡ cells whole → IsPartialBody some all r b entry whole
 
+-- the descriptors that the directory in a part of a body lists are a beginning of the whole's
+abbrev pub PartialDescriptors : Type 0
+PartialDescriptors = (part whole : List Cell) → AllZip IsCellOf part whole
+    → IsBeginningOf (directory part).identifiers (directory whole).identifiers
+
 -- a body without a fault has the information length
 abbrev pub BodyLength : Type 0
 BodyLength = (v : View) (r b : ℕ) (entry : EntryFields) (cs : List Cell) → body v r b entry ≡ cells cs → length cs ≡ entry.size

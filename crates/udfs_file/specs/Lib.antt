@@ -12,3 +12,4 @@ pub mod Laws
 pub mod Standard
 pub mod Complete
 pub mod Told
+pub mod Sample

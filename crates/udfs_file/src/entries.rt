@@ -184,7 +184,10 @@ fn area_start(block: &[u8; 2048]) -> u64
 fn is_entry(block: &[u8; 2048], b: u32) -> bool
     ensures { result ≡ is_entry block.now b }
 {
-    Tag::is_valid(block, b, 261) || Tag::is_valid(block, b, 266)
+    match Tag::check(block, b) {
+        Ok(tag) => tag.identifier == 261 || tag.identifier == 266,
+        Err(_) => false,
+    }
 }
 
 fn is_strange_form(form: u16) -> bool

@@ -1,6 +1,7 @@
 //! Laws of bodies and directories, each the contract of a function that does nothing.
-ghost use Rattle.udfs_file.specs.Laws.{BodyLength, PartialBodies, PartialFileSet};
-ghost use Rattle.udfs_file.specs.Complete.{BodyLaw, DirectoryLaw, FileSetLaw, ReadsLaw};
+ghost use Rattle.udfs_file.specs.Laws.{BodyLength, PartialBodies, PartialDescriptors, PartialFileSet};
+ghost use Rattle.udfs_file.specs.Complete.{BodyLaw, DirectoryLaw, FileSetLaw, NeverStops, ReadsLaw};
+ghost use Rattle.udfs_file.specs.Sample.{AreSampleFiles, SampleFileSet};
 
 /// Of partitions of which a part is known, the file set names the root of the whole exactly if its block is
 /// known.
@@ -17,6 +18,16 @@ pub fn file_set_is_read()
 /// block is missing.
 pub fn partial_bodies()
     ensures { PartialBodies }
+{}
+
+/// The descriptors of a directory in a part of a body are a beginning of those in the whole.
+pub fn partial_descriptors()
+    ensures { PartialDescriptors }
+{}
+
+/// No missing block ends a directory whose cells are all there.
+pub fn complete_directory_never_stops()
+    ensures { NeverStops }
 {}
 
 /// A directory reads in one way only.
@@ -37,4 +48,15 @@ pub fn body_is_read()
 /// A body without a fault has as many cells as the information length says.
 pub fn body_has_its_length()
     ensures { BodyLength }
+{}
+
+/// There is a file set that is found: what stands in the partition of the sample volume are blocks, and its file set names
+/// the root.
+pub fn sample_file_set_is_found()
+    ensures { SampleFileSet }
+{}
+
+/// In the sample volume stand a root that lists A and B, and both files: entries and bodies without a fault.
+pub fn sample_files_are_read()
+    ensures { AreSampleFiles }
 {}

@@ -40,7 +40,7 @@ state_of-cons e es q =
     ∙ ap (λ s. join_of s (state_of (table_of_entries es) q)) (state_of-one_entry e.0 e.1 q)
 
 -- nothing below the first
-unknown_below : (low : ℕ) (es : List (ℕ × State)) (q : ℕ) → RisesFrom low es → q < low → state_of (table_of_entries es) q ≡ Unknown
+pub unknown_below : (low : ℕ) (es : List (ℕ × State)) (q : ℕ) → RisesFrom low es → q < low → state_of (table_of_entries es) q ≡ Unknown
 unknown_below low [] q h lt = state_of-empty q
 unknown_below low (e ∷ es) q h lt =
     let first = h.0 in

@@ -12,3 +12,5 @@ pub mod RecordLaws
 pub mod EntryLaws
 pub mod JoinLaws
 pub mod VolumeLaws
+pub mod EntryStates
+pub mod PublicLaws

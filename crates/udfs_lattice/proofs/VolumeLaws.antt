@@ -1,8 +1,9 @@
 -- What agreement gives: a known block has the volume's bytes and is not above the last one.
-use Rattle.std.specs.Prelude.{◌≡◌, ◌⊎◌, ℕ, ◌==◌, Bool, true, false, cond, List, [], ◌∷◌, nat_le, nat_lt, ◌↔◌, refl}
+use Rattle.std.specs.Prelude.{◌≡◌, ◌⊎◌, ℕ, ◌≤◌, ◌==◌, Bool, true, false, cond, List, [], ◌∷◌, nat_le, nat_lt, ◌↔◌, refl}
 use Rattle.std.proofs.Common.{sym, ap, subst, ◌∙◌, inl, inr, ⊎_elim}
-use Rattle.std.proofs.lemmas.Bool.{lt-leb, eqb-true}
+use Rattle.std.proofs.lemmas.Bool.{lt-leb, le-leb, leb-true, eqb-true}
 use Rattle.udfs_lattice.specs.declared.facts.Fact.TheVariants.{Unknown, Known, Conflict}
+use Rattle.udfs_lattice.specs.Laws.{CompleteKnows}
 use Rattle.udfs_lattice.specs.States.{State, IsBelow}
 use Rattle.udfs_lattice.specs.Tables.{Table, state_of, IsTableBelow}
 use Rattle.udfs_lattice.specs.Volumes.{Includes, Volume, complete, Agrees, insert_once, ascending}
@@ -17,6 +18,16 @@ complete_agrees volume last =
       above = λ n h. ap (λ b. cond b (Known (volume n)) Unknown) (lt-leb n last h);
       known = λ n bytes e. complete_known volume n bytes (nat_le n last) e;
     }
+
+complete_has : (volume : Volume) (n last : ℕ) (bytes : List ℕ) (b : Bool) → nat_le n last ≡ b → cond b (Known (volume n)) Unknown ≡ Known bytes → (n ≤ last) × (bytes ≡ volume n)
+complete_has volume n last bytes true h e = (leb-true n last h, complete_known volume n bytes true e)
+complete_has volume n last bytes false h e = absurd cc
+
+pub complete_knows : CompleteKnows
+complete_knows volume last n bytes = (
+  λ e. complete_has volume n last bytes (nat_le n last) refl e,
+  λ h. ap (λ b. cond b (Known (volume n)) Unknown) (le-leb n last h.0) ∙ ap Known (sym h.1),
+)
 
 below_known : (s : State) (bytes : List ℕ) → IsBelow (Known bytes) s → (s ≡ Known bytes) ⊎ (s ≡ Conflict)
 below_known Unknown bytes h = absurd h

@@ -1,6 +1,7 @@
 //! Laws of tables, each the contract of a function that does nothing.
 ghost use Rattle.std.specs.Prelude.{◌≡◌, ◌⊎◌, ◌↔◌, ◌≤◌, ℕ, List, map};
 ghost use Rattle.udfs_lattice.specs.declared.facts.Fact.TheVariants.{Known, Conflict};
+ghost use Rattle.udfs_lattice.specs.Laws.{AscendingIncludes, CompleteAgrees, CompleteKnows, EntriesMakeTable, EntriesRise, EntriesTellStates, EntryAdded, EntryBefore, FewEntries, RecordAdded, RecordsMakeJoin, RisingAreEntries, RisingMakeTable, SetMakesTable, TableAdded, TablesMakeJoin};
 ghost use Rattle.udfs_lattice.specs.Records.{Record, IsTableOf, SameRecords, table_of, table_of_entries, RisesFrom, join_all, IsLeastAbove, SameTables, all_records};
 ghost use Rattle.udfs_lattice.specs.States.{State};
 ghost use Rattle.udfs_lattice.specs.Volumes.{Volume, Agrees, Includes, complete, ascending};
@@ -20,7 +21,7 @@ pub fn table_of_records()
 
 /// Neither the order of the records nor how often each comes is in their table.
 pub fn table_of_set()
-    ensures { (rs ss : List Record) → SameRecords rs ss → table_of rs ≡ table_of ss }
+    ensures { SetMakesTable }
 {}
 
 /// The join is the least table above both.
@@ -36,32 +37,45 @@ pub fn join_is_least()
 /// comes is in it, and the join of the tables of several lists of records is the table of all of them.
 pub fn join_of_all()
     ensures least { (ts : List Table) → IsLeastAbove ts (join_all ts) }
-    ensures same { (ts us : List Table) → SameTables ts us → join_all ts ≡ join_all us }
-    ensures records { (rss : List (List Record)) → join_all (map table_of rss) ≡ table_of (all_records rss) }
+    ensures same { TablesMakeJoin }
+    ensures records { RecordsMakeJoin }
 {}
 
-/// A table is that of its entries, whose block numbers rise; and rising entries are those of their table.
+/// A table is that of its entries, whose block numbers rise; and rising entries are those of their table. They are the
+/// blocks of which the table says something, each with what it says, and no more than there are blocks.
 pub fn entries_make_the_table()
-    ensures rise { (t : Table) → IsTable t → RisesFrom 0 (entries_of t) }
-    ensures table { (t : Table) → IsTable t → table_of_entries (entries_of t) ≡ t }
-    ensures entries { (es : List (ℕ × State)) → RisesFrom 0 es → entries_of (table_of_entries es) ≡ es }
-    ensures is_table { (es : List (ℕ × State)) → RisesFrom 0 es → IsTable (table_of_entries es) }
+    ensures rise { EntriesRise }
+    ensures table { EntriesMakeTable }
+    ensures entries { RisingAreEntries }
+    ensures is_table { RisingMakeTable }
+    ensures few { FewEntries }
+    ensures tell { EntriesTellStates }
 {}
 
-/// A complete volume agrees with the table that knows all of it; and where one table lies below another,
-/// the other knows each block that the one knows with the same bytes, or has it in conflict.
+/// A complete volume agrees with the table that knows all of it, which is each block up to the last one with the volume's
+/// bytes; and where one table lies below another, the other knows each block that the one knows with the same bytes, or
+/// has it in conflict.
 pub fn complete_volume_agrees()
-    ensures complete { (volume : Volume) (last : ℕ) → Agrees (complete volume last) volume last }
+    ensures complete { CompleteAgrees }
+    ensures knows { CompleteKnows }
     ensures above { (t u : Table) (n : ℕ) (bytes : List ℕ) → IsTableBelow t u → state_of t n ≡ Known bytes →
         (state_of u n ≡ Known bytes) ⊎ (state_of u n ≡ Conflict) }
 {}
 
 /// The ascending list of some numbers has these numbers and no other.
 pub fn ascending_has_the_same_numbers()
-    ensures { (ns : List ℕ) (n : ℕ) → Includes (ascending ns) n ↔ Includes ns n }
+    ensures { AscendingIncludes }
 {}
 
 /// The blocks of which a table can say anything are those up to [`LAST_BLOCK`].
 pub fn blocks_end_at_the_last()
     ensures { (n : ℕ) → IsStateAt n Conflict ↔ (n ≤ LAST_BLOCK) }
+{}
+
+/// One record, entry or table more is joined in, behind the others; and an entry before the others too.
+pub fn one_more_is_joined()
+    ensures record { RecordAdded }
+    ensures entry { EntryAdded }
+    ensures table { TableAdded }
+    ensures before { EntryBefore }
 {}

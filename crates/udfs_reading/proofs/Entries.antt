@@ -8,7 +8,7 @@ use Rattle.udfs_lattice.specs.States.{State}
 use Rattle.udfs_lattice.specs.Tables.{Table, one_entry, join_tables, entries_of}
 use Rattle.udfs_lattice.specs.TableLaws.{join_tables-assoc, join_tables-empty_right}
 use Rattle.udfs_lattice.specs.Records.{IsEntry, RisesFrom, table_of_entries}
-use Rattle.udfs_lattice.proofs.EntryLaws.{table_of_entries-push, entries_of-rising, IsTable-rising}
+use Rattle.udfs_lattice.proofs.PublicLaws.{entry_added, rising_are_entries, rising_make_table}
 use Rattle.udfs_reading.specs.Format.{number, header}
 use Rattle.udfs_reading.specs.Outcome.{HeaderIsSound}
 use Rattle.udfs_reading.specs.TableFile.{table_magic, entry_bytes, file_of}
@@ -50,7 +50,7 @@ entries_more {a} {b} {c} {n} {floor} {next} {s} {t} {u} h k =
       given = subst (Consumes a c) (sym (entries_bytes-push h.taken k.taken)) (Consumes-trans a b c _ _ h.given k.given);
       put = k.put ∙ ap (λ (l : Table). join_tables l (one_entry k.taken.0 k.taken.1)) h.put
           ∙ join_tables-assoc s (table_of_entries h.taken) (one_entry k.taken.0 k.taken.1)
-          ∙ ap (join_tables s) (sym (table_of_entries-push h.taken k.taken.0 k.taken.1));
+          ∙ ap (join_tables s) (sym (entry_added h.taken k.taken.0 k.taken.1));
     }
 
 -- the header, by what stands behind the magic
@@ -62,7 +62,7 @@ pub is_table_file : (n : ℕ) (es : List (ℕ × State)) → length es ≡ n →
     → IsTableFile (table_magic ++ ((number 2048 ++ number n) ++ flat_map entry_bytes es)) (table_of_entries es) × (n ≡ length (entries_of (table_of_entries es))) × (entries_front (length es) es ≡ table_magic ++ ((number 2048 ++ number n) ++ flat_map entry_bytes es))
 unfolding file_of
 is_table_file n es many rises =
-    let listed : entries_of (table_of_entries es) ≡ es = entries_of-rising 0 es rises in
+    let listed : entries_of (table_of_entries es) ≡ es = rising_are_entries es rises in
     let spelled : entries_front (length es) es ≡ table_magic ++ ((number 2048 ++ number n) ++ flat_map entry_bytes es) =
     ap (λ (k : ℕ). entries_front k es) many ∙ ap (λ (l : List ℕ). l ++ flat_map entry_bytes es) (whole_table_front n) ∙ append_assoc table_magic (number 2048 ++ number n) (flat_map entry_bytes es) in
-    (record { is_table = IsTable-rising 0 es rises; spelled = sym spelled ∙ ap file_of (sym listed) }, sym many ∙ ap length (sym listed), spelled)
+    (record { is_table = rising_make_table es rises; spelled = sym spelled ∙ ap file_of (sym listed) }, sym many ∙ ap length (sym listed), spelled)

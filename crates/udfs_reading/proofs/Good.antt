@@ -5,8 +5,7 @@ use Rattle.std.specs.Prelude.{IfSome, IfOk, IfErr, MatchResult, ◌⊎◌}
 use Rattle.std.specs.List.{flat_map}
 use Rattle.udfs_lattice.specs.Tables.{Table}
 use Rattle.udfs_lattice.specs.Records.{Record, table_of, join_all, SameTables, SameRecords, all_records}
-use Rattle.udfs_lattice.proofs.RecordLaws.{table_of-same}
-use Rattle.udfs_lattice.proofs.JoinLaws.{join_all-same, join_all-records}
+use Rattle.udfs_lattice.proofs.PublicLaws.{records_make_join, set_makes_table, tables_make_join}
 use Rattle.udfs_reading.specs.declared.error.ReadingFault.{ReadingFault}
 use Rattle.udfs_reading.specs.declared.inputs.InputError.{InputError}
 use Rattle.udfs_reading.specs.Answers.{IsOfFile}
@@ -71,7 +70,7 @@ all_good {R} remaining faults olds news (Err e) ok err ts h = λ of_file.
 pub any_order : {R : Type 0} (remaining : R → Option (List ℕ)) (olds : List R) (r : Result Table InputError)
     → IfOk r (λ table. (ts : List Table) × TablesAre remaining olds ts × (table ≡ join_all ts))
     → (ts us : List Table) → AllTell remaining olds ts → SameTables ts us → IfOk r (λ table. table ≡ join_all us)
-any_order remaining olds (Ok table) ok ts us h same = ok.2 ∙ ap join_all (same_tables remaining olds ts ok.0 h ok.1) ∙ join_all-same ts us same
+any_order remaining olds (Ok table) ok ts us h same = ok.2 ∙ ap join_all (same_tables remaining olds ts ok.0 h ok.1) ∙ tables_make_join ts us same
 any_order remaining olds (Err e) ok ts us h same = tt
 
 -- a reading is an input
@@ -93,7 +92,7 @@ pub any_mixture : {R : Type 0} (remaining : R → Option (List ℕ)) (olds : Lis
     → (rss : List (List Record)) (rs : List Record) → AllTell remaining olds (map table_of rss) → SameRecords (all_records rss) rs → IfOk r (λ table. table ≡ table_of rs)
 any_mixture remaining olds (Ok table) ok rss rs h same =
     ok.2 ∙ ap join_all (same_tables remaining olds (map table_of rss) ok.0 h ok.1)
-    ∙ join_all-records rss ∙ table_of-same (all_records rss) rs same
+    ∙ records_make_join rss ∙ set_makes_table (all_records rss) rs same
 any_mixture remaining olds (Err e) ok rss rs h same = tt
 
 pub any_split : {R : Type 0} (remaining : R → Option (List ℕ)) (olds : List R) (r : Result Table InputError)

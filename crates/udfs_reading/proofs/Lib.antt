@@ -23,3 +23,4 @@ pub mod Whole
 pub mod WritingLemmas
 pub mod SoFar
 pub mod Good
+pub mod PublicLaws

@@ -1,5 +1,5 @@
 -- No bytes have two outcomes: the laws of each kind of file.
-use Rattle.std.proofs.Common.{◌≡◌, ℕ, ◌+◌, ◌≤◌, Bool, true, false, cond, List, ◌++◌, append_assoc, length, take, refl, sym, ap, subst, ◌∙◌, arith, length-append, length-take, Option, Some, None, Result, Ok}
+use Rattle.std.proofs.Common.{◌≡◌, ℕ, ◌≤◌, Bool, true, false, cond, List, ◌++◌, append_assoc, length, take, refl, sym, ap, subst, ◌∙◌, arith, length-append, length-take, Option, Some, None, Result, Ok}
 use Rattle.std.specs.Prelude.{IfSome, MatchResult}
 use Rattle.std.specs.Str.{bytes_eq}
 use Rattle.std.proofs.lemmas.List.{take-append-le}
@@ -9,7 +9,7 @@ use Rattle.std.specs.List.{flat_map}
 use Rattle.udfs_lattice.specs.States.{State}
 use Rattle.udfs_reading.specs.Format.{number}
 use Rattle.udfs_lattice.specs.Records.{table_of, RisesFrom, table_of_entries}
-use Rattle.udfs_lattice.proofs.EntryLaws.{rises-entries_of, table_of_entries-entries_of, few_entries}
+use Rattle.udfs_lattice.proofs.PublicLaws.{entries_make_table, entries_rise, few_entries}
 use Rattle.udfs_reading.specs.declared.error.ReadingFault.{ReadingFault}
 use Rattle.udfs_reading.specs.declared.error.ReadingFault.TheVariants.{Magic, Truncated}
 use Rattle.udfs_reading.specs.Reading.{magic, readings, reading_format}
@@ -41,17 +41,17 @@ readings_laws =
 judge_table : (bytes : List ℕ) (t : Table) → IsTableFile bytes t → entries.judge_bytes bytes ≡ Ok (entries_of t)
 unfolding file_of
 judge_table bytes t h =
-    let rises : RisesFrom 0 (entries_of t) = rises-entries_of t h.is_table in
-    let few : 0 + length (entries_of t) ≤ 4194304 = few_entries 0 (entries_of t) (omega arith) rises in
+    let rises : RisesFrom 0 (entries_of t) = entries_rise t h.is_table in
+    let few : length (entries_of t) ≤ 4194304 = few_entries (entries_of t) rises in
     ap entries.judge_bytes h.spelled ∙ entries.judge_file (entries_of t) rises (omega arith)
 
 pub tables_v1_laws : KindLaws tables_v1
 tables_v1_laws =
     record {
       one_file = λ bytes m n t u h k.
-          sym (table_of_entries-entries_of t h.0.is_table)
+          sym (entries_make_table t h.0.is_table)
           ∙ ap table_of_entries (one_list (entries.judge_bytes bytes) (entries_of t) (entries_of u) (judge_table bytes t h.0) (judge_table bytes u k.0))
-          ∙ table_of_entries-entries_of u k.0.is_table;
+          ∙ entries_make_table u k.0.is_table;
       either = λ bytes n t fault number h k. list_or_fault (entries.judge_bytes bytes) (entries_of t) (fault, number) (judge_table bytes t h.0) (entries.judge_fault bytes fault number k);
       one_fault = λ bytes f g m n h k. one_fault (entries.judge_bytes bytes) f g m n (entries.judge_fault bytes f m h) (entries.judge_fault bytes g n k);
       more = λ got rest fault number whole h. fault_more table_format table_goes_on got rest fault number whole h;

@@ -7,7 +7,7 @@ use Rattle.udfs_lattice.specs.States.{State, join_of, join_of-unknown}
 use Rattle.udfs_lattice.specs.Tables.{Table, state_of, IsStateAt, IsTable}
 use Rattle.udfs_lattice.specs.TableLaws.{state_of-empty}
 use Rattle.udfs_lattice.specs.Records.{table_of_entries, RisesFrom}
-use Rattle.udfs_lattice.proofs.EntryLaws.{state_of-cons}
+use Rattle.udfs_lattice.proofs.PublicLaws.{entry_before}
 use Rattle.udfs_reading.specs.PacketFile.{states_from, says_some}
 use Rattle.udfs_reading.specs.PacketReading.{IsHeld, entry_at, listed}
 
@@ -133,7 +133,7 @@ rises-listed n (Conflict ∷ ss) rest fits held h =
 -- ---- the table of rising entries
 
 pub state-other : (e : ℕ × State) (es : List (ℕ × State)) (q : ℕ) → q ≢ e.0 → state_of (table_of_entries (e ∷ es)) q ≡ state_of (table_of_entries es) q
-state-other e es q h = state_of-cons e es q ∙ ap (λ b. join_of (cond b e.1 Unknown) (state_of (table_of_entries es) q)) (ne_eqb q e.0 h)
+state-other e es q h = entry_before e es q ∙ ap (λ b. join_of (cond b e.1 Unknown) (state_of (table_of_entries es) q)) (ne_eqb q e.0 h)
 
 -- nothing below the first
 pub unknown-below : (low : ℕ) (es : List (ℕ × State)) (q : ℕ) → RisesFrom low es → q < low → state_of (table_of_entries es) q ≡ Unknown
@@ -144,7 +144,7 @@ unknown-below low (e ∷ es) q h lt =
 
 pub state-here : (e : ℕ × State) (es : List (ℕ × State)) → RisesFrom (e.0 + 1) es → state_of (table_of_entries (e ∷ es)) e.0 ≡ e.1
 state-here e es h =
-    state_of-cons e es e.0
+    entry_before e es e.0
     ∙ ap (λ b. join_of (cond b e.1 Unknown) (state_of (table_of_entries es) e.0)) (eq-eqb e.0 e.0 refl)
     ∙ ap (join_of e.1) (unknown-below (e.0 + 1) es e.0 h (omega arith)) ∙ join_of-unknown e.1
 

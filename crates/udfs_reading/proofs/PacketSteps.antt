@@ -12,7 +12,7 @@ use Rattle.udfs_lattice.specs.States.{State, is_known, is_conflict}
 use Rattle.udfs_lattice.specs.Tables.{Table, one_entry, join_tables}
 use Rattle.udfs_lattice.specs.TableLaws.{join_tables-assoc, join_tables-empty_right}
 use Rattle.udfs_lattice.specs.Records.{table_of_entries}
-use Rattle.udfs_lattice.proofs.EntryLaws.{table_of_entries-push}
+use Rattle.udfs_lattice.proofs.PublicLaws.{entry_added}
 use Rattle.udfs_reading.specs.declared.error.ReadingError.{ReadingError}
 use Rattle.udfs_reading.specs.declared.error.ReadingFault.{ReadingFault}
 use Rattle.udfs_reading.specs.declared.error.ReadingFault.TheVariants.{Truncated, Io, OutOfMemory}
@@ -81,8 +81,8 @@ content_size Conflict k held e = let z = size_even k (sym e) in omega arith
 -- the state of one more block
 entry_joined : (es : List (ℕ × State)) (n : ℕ) (s : State) → table_of_entries (es ++ (entry_at n s ++ [])) ≡ join_tables (table_of_entries es) (one_entry n s)
 entry_joined es n Unknown = ap table_of_entries (append-nil es) ∙ sym (join_tables-empty_right (table_of_entries es))
-entry_joined es n (Known bytes) = table_of_entries-push es n (Known bytes)
-entry_joined es n Conflict = table_of_entries-push es n Conflict
+entry_joined es n (Known bytes) = entry_added es n (Known bytes)
+entry_joined es n Conflict = entry_added es n Conflict
 
 -- the states of so many blocks were read and joined; k and c are what is left of the masks
 pub record BlocksSoFar (old new : Option (List ℕ)) (block known conflict k c place : ℕ) (before after : Table) : Type 0 where

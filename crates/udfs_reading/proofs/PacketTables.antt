@@ -8,7 +8,7 @@ use Rattle.udfs_lattice.specs.States.{State}
 use Rattle.udfs_lattice.specs.Tables.{Table, state_of, IsStateAt, IsTable}
 use Rattle.udfs_lattice.specs.TableLaws.{same_table, state_of-empty}
 use Rattle.udfs_lattice.specs.Records.{table_of_entries, RisesFrom}
-use Rattle.udfs_lattice.proofs.EntryLaws.{IsTable-rising}
+use Rattle.udfs_lattice.proofs.PublicLaws.{rising_make_table}
 use Rattle.udfs_reading.specs.PacketFile.{Packet, states_from, says_some, some_packet, packets_below, packets_of}
 use Rattle.udfs_reading.specs.PacketReading.{AreStates, PacketsRise, low_after, listed, packet_entries, table_of_packets}
 use Rattle.udfs_reading.proofs.PacketStates.{states-none, length-states, held-states, states-same, states-tell, states-unknown, listed-unsaid, listed-append, states-append, rises-weaken, rises-listed, unknown-below, state-past, states-listed}
@@ -71,7 +71,7 @@ rises-entries low (q ∷ qs) fits h =
     (rises-listed (32 * q.0) q.1 (flat_map packet_entries qs) (omega arith) h.2.each (subst (λ (k : ℕ). RisesFrom k (flat_map packet_entries qs)) z rest))
 
 pub IsTable-packets : (qs : List Packet) → PacketsRise 0 qs → IsTable (table_of_packets qs)
-IsTable-packets qs h = IsTable-rising 0 (flat_map packet_entries qs) (rises-entries 0 qs (omega arith) h)
+IsTable-packets qs h = rising_make_table (flat_map packet_entries qs) (rises-entries 0 qs (omega arith) h)
 
 rising_packets : (qs : List Packet) (low : ℕ) (t : Table) → low ≤ 131072 → PacketsRise low qs → ((q : ℕ) → 32 * low ≤ q → state_of t q ≡ state_of (table_of_packets qs) q) → packets_of t ≡ packets_below t low ++ qs
 rising_packets [] low t fits h same = no_more t low fits (λ q le. same q le ∙ state_of-empty q) ∙ sym (append-nil (packets_below t low))

@@ -5,7 +5,7 @@ use Rattle.udfs_lattice.specs.States.{State}
 use Rattle.udfs_lattice.specs.Tables.{Table, state_of, entries_of, IsTable}
 use Rattle.udfs_lattice.specs.TableLaws.{state_of-empty}
 use Rattle.udfs_lattice.specs.Records.{table_of_entries, IsEntry, RisesFrom}
-use Rattle.udfs_lattice.proofs.EntryLaws.{rises-entries_of, table_of_entries-entries_of}
+use Rattle.udfs_lattice.proofs.PublicLaws.{entries_make_table, entries_rise}
 use Rattle.udfs_reading.specs.PacketFile.{states_from, says_some, packets_below, packets_of}
 use Rattle.udfs_reading.proofs.PacketStates.{states-some, state-other, state-here, unknown-below}
 use Rattle.udfs_reading.proofs.PacketTables.{packet_at, next_packet, no_more}
@@ -21,9 +21,9 @@ pub walk_none : (t : Table) (left : List (ℕ × State)) → IsTable t → left 
 walk_none t left is e =
     record {
       low = 0;
-      rises = subst (RisesFrom 0) (sym e) (rises-entries_of t is);
+      rises = subst (RisesFrom 0) (sym e) (entries_rise t is);
       within = omega arith;
-      says = λ q le. sym (ap (λ (l : List (ℕ × State)). state_of (table_of_entries l) q) e ∙ ap (λ (u : Table). state_of u q) (table_of_entries-entries_of t is));
+      says = λ q le. sym (ap (λ (l : List (ℕ × State)). state_of (table_of_entries l) q) e ∙ ap (λ (u : Table). state_of u q) (entries_make_table t is));
     }
 
 there : (n : ℕ) (s : State) → IsEntry n s → (n ≤ 4194303) × (s ≢ Unknown)

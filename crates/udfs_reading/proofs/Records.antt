@@ -10,7 +10,7 @@ use Rattle.udfs_lattice.specs.Tables.{Table}
 use Rattle.udfs_lattice.specs.Tables.{one_record, join_tables}
 use Rattle.udfs_lattice.specs.TableLaws.{join_tables-assoc, join_tables-empty_right}
 use Rattle.udfs_lattice.specs.Records.{Record, table_of}
-use Rattle.udfs_lattice.proofs.RecordLaws.{table_of-push}
+use Rattle.udfs_lattice.proofs.PublicLaws.{record_added}
 use Rattle.udfs_reading.specs.Format.{number, header}
 use Rattle.udfs_reading.specs.Reading.{magic, front, record_bytes, IsRecord, AreRecords, IsReading, TakesRecord, TakesRecords}
 
@@ -31,7 +31,7 @@ takes_more {a} {b} {c} {n} {s} {t} {u} h k =
       given = subst (Consumes a c) (sym (bytes-push h.taken k.taken)) (Consumes-trans a b c _ _ h.given k.given);
       put = k.put ∙ ap (λ (l : Table). join_tables l (one_record k.taken.0 k.taken.1)) h.put
           ∙ join_tables-assoc s (table_of h.taken) (one_record k.taken.0 k.taken.1)
-          ∙ ap (join_tables s) (sym (table_of-push h.taken k.taken.0 k.taken.1));
+          ∙ ap (join_tables s) (sym (record_added h.taken k.taken.0 k.taken.1));
     }
 
 all_bytes : (bytes : List ℕ) → ((i : ℕ) → get_or bytes i 0 < 256) → All (λ x. x < 256) bytes

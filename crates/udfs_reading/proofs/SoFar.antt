@@ -5,7 +5,7 @@ use Rattle.std.proofs.Math.ListN.{set}
 use Rattle.std.proofs.lemmas.List.{get_or_at, set_at, map-append}
 use Rattle.udfs_lattice.specs.Tables.{Table, empty_table, join_tables}
 use Rattle.udfs_lattice.specs.Records.{join_all}
-use Rattle.udfs_lattice.proofs.JoinLaws.{join_all-push}
+use Rattle.udfs_lattice.proofs.PublicLaws.{table_added}
 use Rattle.udfs_reading.specs.declared.error.ReadingError.{ReadingError}
 use Rattle.udfs_reading.specs.declared.error.ReadingError.{ReadingError}
 use Rattle.udfs_reading.specs.declared.error.ReadingFault.TheVariants.{Io}
@@ -65,7 +65,7 @@ so_far_more {R} remaining faults olds news n table new d t u h lt has kept joine
       tables = h.tables ++ t ∷ [];
       have_tables = tables-push remaining h.earlier h.tables x t h.have_tables has;
       counts = map-append faults h.earlier_new (new ∷ []) ∙ ap (λ (l : List ℕ). l ++ faults new ∷ []) h.counts ∙ ap (λ (k : ℕ). map faults h.earlier ++ k ∷ []) kept ∙ sym (map-append faults h.earlier (x ∷ []));
-      table_is = joined ∙ ap (λ (l : Table). join_tables l t) h.table_is ∙ sym (join_all-push h.tables t);
+      table_is = joined ∙ ap (λ (l : Table). join_tables l t) h.table_is ∙ sym (table_added h.tables t);
     }
 
 -- the next one fails

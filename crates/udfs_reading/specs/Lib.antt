@@ -12,3 +12,4 @@ pub mod PacketReading
 pub mod Inputs
 pub mod Writing
 pub mod Several
+pub mod Laws

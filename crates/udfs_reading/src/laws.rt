@@ -3,6 +3,7 @@ ghost use Rattle.std.specs.Prelude.{◌≡◌, ℕ, List};
 ghost use Rattle.udfs_lattice.specs.Tables.{Table, IsTable};
 ghost use Rattle.udfs_reading.specs.Inputs.{tables, inputs};
 ghost use Rattle.udfs_reading.specs.Kind.{HasOneOutcome};
+ghost use Rattle.udfs_reading.specs.Laws.{FailedLast, FailedMore, FailedThen, PassedNone, PassedThen};
 ghost use Rattle.udfs_reading.specs.Reading.{readings};
 ghost use Rattle.udfs_reading.specs.PacketFile.{table_bytes};
 ghost use Rattle.udfs_reading.specs.PacketReading.{IsPacketFile};
@@ -24,4 +25,14 @@ pub fn one_spelling()
     ensures spelled_v1 { (t : Table) → IsTable t → IsTableFile (table_bytes_v1 t) t }
     ensures one_v1 { (bytes other : List ℕ) (t : Table) → IsTableFile bytes t → IsTableFile other t → bytes ≡ other }
     ensures tells_it_v1 { (t u : Table) → IsTable t → IsTable u → table_bytes_v1 t ≡ table_bytes_v1 u → t ≡ u }
+{}
+
+/// Bytes that are taken behind others one piece after another are taken as one. Where the sink fails in a piece, it
+/// fails in all of them, whatever was to come; and so where it fails in what is held at the end.
+pub fn pieces_make_one()
+    ensures none { PassedNone }
+    ensures one_more { PassedThen }
+    ensures fails { FailedThen }
+    ensures fails_before_more { FailedMore }
+    ensures fails_last { FailedLast }
 {}

@@ -3,6 +3,9 @@ pub mod JsonFloats
 pub mod JsonLists
 pub mod JsonVolumes
 pub mod NumberedNodes
+pub mod Founds
+pub mod Passing
+pub mod Appending
 pub mod Opens
 pub mod Openings
 pub mod Pieces
@@ -14,7 +17,6 @@ pub mod Runs
 pub mod TreeReports
 pub mod VolumeLaw
 pub mod Rereading
-pub mod SampleVolume
-pub mod SampleTree
 pub mod SampleLawful
 pub mod TreeBytes
+pub mod PathNames

@@ -3,11 +3,11 @@ use Rattle.std.proofs.Common.{◌≡◌, sym, ap, subst, ◌∙◌, ℕ, ◌+◌
 use Rattle.std.specs.Prelude.{Option}
 use Rattle.std.proofs.lemmas.List.{take_more, length-take-le}
 use Rattle.udfs_reading.specs.Writing.{Passed}
-use Rattle.udfs_reading.proofs.WritingLemmas.{passed_none, passed_then}
 use Rattle.udfs_walk.specs.NodeFields.{NodeFields}
 use Rattle.udfs_salvage.specs.NodeTexts.{node_text, nodes_text}
 use Rattle.udfs_salvage.specs.Printing.{Stopped}
 use Rattle.udfs_salvage.specs.declared.errors.RunError.{RunError}
+use Rattle.udfs_salvage.proofs.Passing.{passed_none, passed_then}
 use Rattle.udfs_salvage.proofs.Printed.{stopped_more, stopped_then}
 
 append_texts : (i : ℕ) (xs ys : List NodeFields) → nodes_text i (xs ++ ys) ≡ nodes_text i xs ++ nodes_text (i + length xs) ys

@@ -9,8 +9,8 @@ use Rattle.udfs_file.specs.Stretches.{cells_of, stretch_cells}
 use Rattle.udfs_file.specs.declared.cells.Cell.{Cell}
 use Rattle.udfs_file.specs.declared.stretches.Stretch.{Stretch}
 use Rattle.udfs_reading.specs.Writing.{Passed, FailedPast}
-use Rattle.udfs_reading.proofs.WritingLemmas.{passed_none, passed_then, failed_then, failed_more}
 use Rattle.udfs_salvage.specs.Extraction.{filled}
+use Rattle.udfs_salvage.proofs.Passing.{passed_none, passed_then, failed_then, failed_more}
 use Rattle.udfs_salvage.proofs.BodyBytes.{filled_append}
 
 pub record Taken (old new : Option (List ℕ)) (i j : ℕ) (held still all rest : List ℕ) : Type 0 where

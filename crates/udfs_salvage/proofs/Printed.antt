@@ -7,9 +7,9 @@ use Rattle.std.proofs.lemmas.List.Concat.{flat_map-append}
 use Rattle.std.specs.Io.KnownBytes.{Appends}
 use Rattle.std.proofs.KnownBytes.{Appends-trans}
 use Rattle.udfs_reading.specs.Writing.{Passed}
-use Rattle.udfs_reading.proofs.WritingLemmas.{passed_then}
 use Rattle.udfs_salvage.specs.Printing.{CountsBy, Stopped, PassesOn, Prints}
 use Rattle.udfs_salvage.specs.declared.errors.RunError.{RunError}
+use Rattle.udfs_salvage.proofs.Passing.{passed_then}
 
 -- it stopped in a later text
 pub stopped_then : {a b c : Option (List ℕ)} {i j k : ℕ} {p q x : List ℕ} (y : List ℕ) {e : RunError} → Passed a b i j p q x → Stopped b c j k (q ++ y) e → Stopped a c i k (p ++ (x ++ y)) e

@@ -4,18 +4,15 @@ use Rattle.udfs_lattice.specs.States.{State, IsBelow, is_known, join_of}
 use Rattle.udfs_lattice.specs.Volumes.{Blocks, Includes, Volume, Agrees, complete, IsUnread}
 use Rattle.udfs_lattice.specs.declared.facts.Fact.{Fact}
 use Rattle.udfs_lattice.specs.declared.facts.Fact.TheVariants.{Unknown, Known, Conflict}
-use Rattle.udfs_lattice.proofs.VolumeLaws.{complete_agrees}
-use Rattle.udfs_tag.specs.declared.layouts.LongAd.{LongAd}
+use Rattle.udfs_lattice.proofs.PublicLaws.{complete_agrees}
 use Rattle.udfs_volume.specs.Answers.{Answer, found, holes, faulty}
 use Rattle.udfs_volume.specs.Laws.{IsAnswerOf, the_same, unread as unread_answer, ListsGroup, valid_anchors}
 use Rattle.udfs_volume.specs.Sequence.{Bytes, anchor_places}
-use Rattle.udfs_volume.proofs.Bounds.{found_same}
 use Rattle.udfs_space.specs.Places.{View, view, IsPartOf}
-use Rattle.udfs_space.proofs.PlaceLaw.{place_law}
+use Rattle.udfs_space.proofs.PublicLaws.{places_are_blocks}
 use Rattle.udfs_file.specs.declared.cells.Cell.{Cell}
 use Rattle.udfs_walk.specs.NodeFields.{NodeFields}
 use Rattle.udfs_walk.specs.Rereads.{reread}
-use Rattle.udfs_walk.specs.Routes.{at_root, walked}
 use Rattle.udfs_walk.specs.Walks.{AreNodes}
 use Rattle.udfs_tree.specs.Cells.{IsWholeAs, HasCellsAt}
 use Rattle.udfs_tree.specs.KnownLaws.{IsListedWhole, AreWanted}
@@ -23,15 +20,13 @@ use Rattle.udfs_tree.specs.KnownLaws as known
 use Rattle.udfs_tree.specs.Laws.{IsNodeOf}
 use Rattle.udfs_tree.specs.Needs.{Needs, HasKnown, IsMet}
 use Rattle.udfs_tree.specs.Trees.{PartitionBlocks, TreeFile, InTree}
-use Rattle.udfs_tree.proofs.OneReading.{whole_alike}
-use Rattle.udfs_tree.proofs.PartNodes.{partial_nodes}
-use Rattle.udfs_tree.proofs.Settings as settings
-use Rattle.udfs_tree.proofs.Wanted.{known_not_unread, missing_is_wanted}
+use Rattle.udfs_tree.proofs.PublicLaws.{missing_is_wanted, partial_nodes, root_is_in_tree, whole_alike}
 use Rattle.udfs_salvage.specs.Found.{Found, volume as volume_of}
 use Rattle.udfs_salvage.specs.Laws.{IsVolumeGroup, IsToldOf}
 use Rattle.udfs_salvage.specs.KnownEnough.{IsReportedWhole, MetIsReported, StaysWhole, HoldsWanted, IsWantedBlock, RereadsSuffice}
 use Rattle.udfs_salvage.specs.Reports.{Report, IsReport, ReportsBy}
 use Rattle.udfs_salvage.specs.VolumeTrees.{IsInVolume, IsLawful, NeedsOf, for_volume, for_node, IsNeededIn, IsMetBy}
+use Rattle.udfs_salvage.proofs.Founds.{found_same, known_not_unread}
 use Rattle.udfs_salvage.proofs.Opens.{FoundBy, found_by}
 use Rattle.udfs_salvage.proofs.Openings.{ReadAs, read_as}
 use Rattle.udfs_salvage.proofs.VolumeLaw.{volume_law, tells_lawful}
@@ -47,7 +42,7 @@ part_of T V N l = view T l.is_volume.found_is.space
 -- a table that agrees knows a part of the complete view
 part_is : (T : Blocks) (V : Volume) (N : ℕ) (l : IsLawful V N) → Agrees T V N → IsPartOf (part_of T V N l) (all_of V N l)
 part_is T V N l a = let by : FoundBy (complete V N) N l.is_volume.found_is = found_by (complete V N) N l.is_volume.found_is l.is_volume.finds in
-    place_law T V N l.is_volume.found_is.layout l.is_volume.found_is.space l.is_volume.volume_is by.layout_is by.space_is a
+    places_are_blocks T V N l.is_volume.found_is.layout l.is_volume.found_is.space l.is_volume.volume_is by.layout_is by.space_is a
 
 -- the blocks of its partitions
 abbrev blocks_of : (V : Volume) (N : ℕ) → IsLawful V N → PartitionBlocks
@@ -87,23 +82,9 @@ needs_down V N l path g (o, is, n) = go (subst (λ z. NeedsOf V N z path g) (s.o
 
 -- the root is in the tree
 root_in_tree : (V : Volume) (N : ℕ) → IsLawful V N → (file : TreeFile) × IsInVolume V N [] file
-unfolding walked
-root_in_tree V N l = (h.file.file, tree_up V N l [] h.file.file (settings.tree_here all all blocks root s (at_root root) h))
-  where
-    all : View
-    all = all_of V N l
-
-    blocks : PartitionBlocks
-    blocks = blocks_of V N l
-
-    root : LongAd
-    root = l.is_volume.found_is.root
-
-    s : settings.Setting all all blocks root
-    s = settings.setting all all blocks (part_is (complete V N) V N l (complete_agrees V N)) (read_as V N l).is_whole root l.tree
-
-    h : settings.Here all all blocks root (at_root root)
-    h = settings.here_all all all blocks root s [] (at_root root) refl
+root_in_tree V N l = let h : (file : TreeFile) × InTree (blocks_of V N l) l.is_volume.found_is.root [] file =
+    root_is_in_tree (all_of V N l) (blocks_of V N l) (read_as V N l).is_whole l.is_volume.found_is.root l.tree in
+    (h.0, tree_up V N l [] h.0 h.1)
 
 -- ---- what the report of a lawful volume is
 -- its nodes, where each group of the volume has a known block; or no nodes, and what has to be read before there are any

@@ -12,12 +12,12 @@ use Rattle.udfs_walk.specs.NodeFields.{NodeFields}
 use Rattle.udfs_walk.specs.declared.standings.Standing.TheVariants.{Whole}
 use Rattle.udfs_tree.specs.Cells.{IsByteOf, IsToldAs}
 use Rattle.udfs_tree.specs.Cells as tree
-use Rattle.udfs_tree.proofs.OneReading.{one_reading}
+use Rattle.udfs_tree.proofs.PublicLaws.{one_reading}
 use Rattle.udfs_salvage.specs.Found.{Found, volume as volume_of}
 use Rattle.udfs_salvage.specs.Reports.{Report, IsReport}
 use Rattle.udfs_salvage.specs.Extraction.{HasCellsAt, filled}
 use Rattle.udfs_salvage.specs.TreeReports.{IsNodeOfVolume, IsReportedAs, WritesFile}
-use Rattle.udfs_salvage.proofs.Extracting.{same_found}
+use Rattle.udfs_salvage.proofs.Founds.{found_same}
 use Rattle.udfs_salvage.proofs.TreeReports.{tells_tree}
 
 -- cells that are all there are filled by their own bytes
@@ -31,7 +31,7 @@ all_there x (Gap n ∷ cs) (l ∷ ls) z = absurd z.0
 
 -- the cells at a place of a report, as the tree's laws say it
 as_tree : (M : Blocks) (N index : ℕ) (cs : List Cell) (f : Found) → volume_of M N ≡ found f → HasCellsAt M N index cs → tree.HasCellsAt (view M f.space) f.root index cs
-as_tree M N index cs f e h = subst (λ (g : Found). tree.HasCellsAt (view M g.space) g.root index cs) (same_found h.opened f (sym h.opens ∙ e)) (record {
+as_tree M N index cs f e h = subst (λ (g : Found). tree.HasCellsAt (view M g.space) g.root index cs) (found_same h.opened f (sym h.opens ∙ e)) (record {
   walks = h.walks;
   walk = h.walk;
   end = h.end;

@@ -3,15 +3,13 @@ use Rattle.std.proofs.Common.{◌≡◌, refl, sym, ◌∙◌, ap, subst, inl, i
 use Rattle.udfs_lattice.specs.Volumes.{Blocks, Volume, Agrees, complete}
 use Rattle.udfs_volume.specs.Answers.{Answer, found, holes, faulty}
 use Rattle.udfs_space.specs.Places.{view, IsPartOf}
-use Rattle.udfs_space.proofs.PlaceLaw.{place_law}
+use Rattle.udfs_space.proofs.PublicLaws.{places_are_blocks}
 use Rattle.udfs_walk.specs.NodeFields.{NodeFields}
 use Rattle.udfs_walk.specs.Routes.{HasMoreRoutes}
 use Rattle.udfs_tree.specs.Trees.{TreeFile, InTree}
 use Rattle.udfs_tree.specs.Needs.{Needs, HasKnown, IsMet}
 use Rattle.udfs_tree.specs.Laws.{AreTheTree, IsNodeOf}
-use Rattle.udfs_tree.proofs.CompleteNodes.{complete_nodes, one_file}
-use Rattle.udfs_tree.proofs.PartNodes.{partial_nodes, once_per_path}
-use Rattle.udfs_tree.proofs.PartRoutes.{fewer_routes}
+use Rattle.udfs_tree.proofs.PublicLaws.{complete_nodes, fewer_routes, once_per_path, one_file, partial_nodes}
 use Rattle.udfs_salvage.specs.Found.{Found}
 use Rattle.udfs_salvage.specs.Laws.{IsVolumeGroup, IsFoundOf, IsToldOf}
 use Rattle.udfs_salvage.specs.Reports.{Report, ReportsNodes, ReportsBy, IsReport, IsOutOfRange, IsPastEnd, HasTooManyPaths, IsLookRefused}
@@ -25,7 +23,7 @@ use Rattle.udfs_salvage.proofs.VolumeLaw.{tells_lawful}
 
 -- what is known of the partitions is part of the complete ones
 pub part_of : (M : Blocks) (V : Volume) (N : ℕ) (l : IsLawful V N) → Agrees M V N → IsPartOf (view M l.is_volume.found_is.space) (view (complete V N) l.is_volume.found_is.space)
-part_of M V N l a = place_law M V N f.layout f.space l.is_volume.volume_is by.layout_is by.space_is a
+part_of M V N l a = places_are_blocks M V N f.layout f.space l.is_volume.volume_is by.layout_is by.space_is a
   where
     f : Found
     f = l.is_volume.found_is
@@ -149,8 +147,11 @@ too_many M N (got, e, more) V l a = go (tells_lawful M N (found got) (sym e) V l
     f : Found
     f = l.is_volume.found_is
 
+    r : ReadAs V N f
+    r = read_as V N l
+
     go : IsFoundOf V M N f got → ⊥
-    go is = l.tree.limit (fewer_routes (view M f.space) (view (complete V N) f.space) (part_of M V N l a) f.root l.tree.nodes 65536
+    go is = l.tree.limit (fewer_routes (view M f.space) (view (complete V N) f.space) r.opened.blocks (part_of M V N l a) r.is_whole f.root l.tree 65536
         (subst (λ z. HasMoreRoutes (view M z.space) z.root 65536) is.same more))
 
 pub look_refused : (M : Blocks) (N : ℕ) (e : SalvageError) → IsLookRefused M N e → IsOfNoLawful M N e

@@ -1,10 +1,7 @@
 -- Over a table that agrees with a lawful volume, what is found is the volume's, or a group of blocks is unread.
-use Rattle.std.proofs.Common.{◌≡◌, refl, sym, ◌∙◌, ap, subst, inl, inr, ◌⊎◌, ℕ, false, List, [], ◌∷◌, Option, Some, None}
-use Rattle.std.specs.Prelude.{option_map}
-use Rattle.udfs_lattice.specs.States.{State, is_known}
+use Rattle.std.proofs.Common.{◌≡◌, refl, sym, ◌∙◌, ap, subst, inl, inr, ◌⊎◌, ℕ, false, List, [], ◌∷◌, Some}
+use Rattle.udfs_lattice.specs.States.{is_known}
 use Rattle.udfs_lattice.specs.Volumes.{Blocks, Includes, Volume, complete, IsKnownAt, IsUnread}
-use Rattle.udfs_lattice.specs.declared.facts.Fact.TheVariants.{Unknown, Known, Conflict}
-use Rattle.udfs_lattice.proofs.VolumeLaws.{complete_agrees}
 use Rattle.udfs_tag.specs.declared.layouts.LongAd.{LongAd}
 use Rattle.udfs_volume.specs.Answers.{Answer, found, holes, faulty, and_then}
 use Rattle.udfs_volume.specs.declared.faults.VolumeFault.{VolumeFault}
@@ -12,18 +9,17 @@ use Rattle.udfs_volume.specs.Sequence.{anchor_places}
 use Rattle.udfs_volume.specs.Layout.{Layout, layout}
 use Rattle.udfs_volume.specs.Laws.{valid_anchors, IsSequenceGroup, ListsGroup, IsAnswerOf, the_same}
 use Rattle.udfs_volume.specs.Laws.IsAnswerOf.{unread as unread_answer}
-use Rattle.udfs_volume.proofs.Bounds.{found_same}
-use Rattle.udfs_volume.proofs.Known.{known_is}
-use Rattle.udfs_volume.proofs.LayoutLaw.{layout_law}
-use Rattle.udfs_space.specs.Sparing.{Space, space}
-use Rattle.udfs_space.specs.Places.{View, view, place, block_at}
+use Rattle.udfs_volume.proofs.PublicLaws.{layout_of_lawful}
+use Rattle.udfs_space.specs.Sparing.{space}
+use Rattle.udfs_space.specs.Places.{place, view}
 use Rattle.udfs_space.specs.Laws.{IsSparingGroup}
-use Rattle.udfs_space.proofs.SpaceLaw.{space_law}
-use Rattle.udfs_file.specs.Addresses.{address_fault, file_set_in, file_set_at, file_set}
-use Rattle.udfs_file.specs.declared.faults.NodeFault.{NodeFault}
+use Rattle.udfs_space.proofs.PublicLaws.{places_are_blocks, space_of_lawful}
+use Rattle.udfs_file.specs.Laws.{IsPartialFileSet, known, unread}
+use Rattle.udfs_file.proofs.PublicLaws.{partial_file_set}
 use Rattle.udfs_salvage.specs.Found.{Found, placed, rooted, volume as volume_of}
 use Rattle.udfs_salvage.specs.Laws.{IsFoundOf, IsVolumeGroup, TellsLawful, VolumeLaw}
-use Rattle.udfs_salvage.proofs.Opens.{FoundBy, found_by, ReadsRoot, reads_root}
+use Rattle.udfs_salvage.proofs.Founds.{found_same, known_at}
+use Rattle.udfs_salvage.proofs.Opens.{FoundBy, found_by}
 
 abbrev IsHere : Blocks → List ℕ → Type 0
 IsHere M group = (n : ℕ) × Includes group n × IsKnownAt M n
@@ -43,25 +39,9 @@ no_places M av ps G listed x = record { group = x.group; is_group = x.is_group; 
     go n (inl w) = inl w
     go n (inr w) = absurd w.0
 
--- the address of a file set that is found is good
-good_root : (v : View) (a root : LongAd) → file_set v a ≡ found root → address_fault v a ≡ None
-unfolding file_set
-good_root v a root e = go (address_fault v a) refl e
-  where
-    go : (f : Option NodeFault) → address_fault v a ≡ f → file_set_at a f (block_at v a.reference a.block) ≡ found root → address_fault v a ≡ None
-    go None p q = p
-    go (Some f) p q = absurd (let z : ⊥ = cc in z)
-
--- a file set whose address is good and has a place
-file_set_by : (T : Blocks) (s : Space) (a : LongAd) (n : ℕ) (x : State) → address_fault (view T s) a ≡ None → place s a.reference a.block ≡ Some n → T n ≡ x
-    → file_set (view T s) a ≡ file_set_in a n x
-unfolding file_set
-file_set_by T s a n x good placed e = ap (λ f. file_set_at a f (block_at (view T s) a.reference a.block)) good
-    ∙ ap (λ o. file_set_at a None (option_map (λ n. (n, T n)) o)) placed ∙ ap (file_set_in a n) e
-
 pub volume_law : VolumeLaw
 unfolding volume_of
-volume_law M V N lawful a = by_layout (layout_law M V N lawful.volume_is lawful.layout a)
+volume_law M V N lawful a = by_layout (layout_of_lawful M V N lawful.volume_is lawful.layout a)
   where
     C : Blocks
     C = complete V N
@@ -75,20 +55,18 @@ volume_law M V N lawful a = by_layout (layout_law M V N lawful.volume_is lawful.
     l : Layout
     l = f.layout
 
-    reads : ReadsRoot (view C f.space) l.file_set f.root
-    reads = reads_root (view C f.space) l.file_set f.root by.root_is
+    -- what the file set says of which a part is known
+    set : (n : ℕ) × (place f.space l.file_set.reference l.file_set.block ≡ Some n) × IsPartialFileSet (view M f.space) n l.file_set f.root
+    set = partial_file_set (view M f.space) (view C f.space) (places_are_blocks M V N l f.space lawful.volume_is by.layout_is by.space_is a) l.file_set f.root by.root_is
 
     n : ℕ
-    n = reads.block
+    n = set.0
 
     G : List ℕ → Type 0
     G = IsVolumeGroup V N f
 
     Result : Type 0
     Result = IsAnswerOf M (valid_anchors V N) (anchor_places N) G (volume_of M N) (volume_of C N)
-
-    good : address_fault (view M f.space) l.file_set ≡ None
-    good = good_root (view C f.space) l.file_set f.root by.root_is
 
     from_layout : layout M N ≡ layout C N → volume_of M N ≡ placed M l
     from_layout q = ap (λ x. and_then x (placed M)) (q ∙ by.layout_is)
@@ -99,14 +77,8 @@ volume_law M V N lawful a = by_layout (layout_law M V N lawful.volume_is lawful.
     with_root : Answer LongAd → Answer Found
     with_root x = and_then x (λ root. found (record { layout = l; space = f.space; root = root }))
 
-    root_by : (x : State) → M n ≡ x → rooted M l f.space ≡ with_root (file_set_in l.file_set n x)
-    root_by x e = ap with_root (file_set_by M f.space l.file_set n x good reads.placed e)
-
-    whole : volume_of C N ≡ with_root (file_set (view C f.space) l.file_set)
-    whole = ap (λ x. and_then x (λ l. and_then (space C l) (rooted C l))) by.layout_is ∙ ap (λ x. and_then x (rooted C l)) by.space_is
-
     single : (g : List ℕ) → (m : ℕ) × (place f.space l.file_set.reference l.file_set.block ≡ Some m) × (g ≡ m ∷ []) → IsKnownAt M n → IsHere M g
-    single g (m, p, q) k = subst (IsHere M) (sym q) (m, inl refl, subst (IsKnownAt M) (some_same n m (sym reads.placed ∙ p)) k)
+    single g (m, p, q) k = subst (IsHere M) (sym q) (m, inl refl, subst (IsKnownAt M) (some_same n m (sym set.1 ∙ p)) k)
       where
         some_same : (x y : ℕ) → Some x ≡ Some y → x ≡ y
         some_same x y e = cc
@@ -127,30 +99,24 @@ volume_law M V N lawful a = by_layout (layout_law M V N lawful.volume_is lawful.
     })
       where
         is_root : G (n ∷ [])
-        is_root = inr (inr (n, reads.placed, refl))
+        is_root = inr (inr (n, set.1, refl))
 
         none : IsUnread M (n ∷ [])
         none m (inl p) = subst (λ x. is_known (M x) ≡ false) p u
         none m (inr x) = absurd x
 
     by_root : layout M N ≡ layout C N → space M l ≡ space C l → ((g : List ℕ) → IsSequenceGroup V N g → IsHere M g) → ((g : List ℕ) → IsSparingGroup l.partitions g → IsHere M g)
-        → (x : State) → M n ≡ x → Result
-    by_root q r hl hs Unknown e = unread_root (ap is_known e) (from_space q r ∙ root_by Unknown e)
-    by_root q r hl hs (Known bytes) e = the_same
-        (from_space q r ∙ root_by (Known bytes) e ∙ sym (whole ∙ ap with_root (file_set_by C f.space l.file_set n (Known bytes) good reads.placed same)))
-        (groups hl hs (bytes, e))
-      where
-        same : C n ≡ Known bytes
-        same = known_is C V N (complete_agrees V N) n reads.bytes reads.known ∙ sym (known_is M V N a n bytes e) ∙ e
-    by_root q r hl hs Conflict e = unread_root (ap is_known e) (from_space q r ∙ root_by Conflict e)
+        → IsPartialFileSet (view M f.space) n l.file_set f.root → Result
+    by_root q r hl hs (known e k) = the_same (from_space q r ∙ ap with_root e ∙ sym lawful.finds) (groups hl hs (known_at M n k))
+    by_root q r hl hs (unread e u) = unread_root u (from_space q r ∙ ap with_root e)
 
     by_space : layout M N ≡ layout C N → ((g : List ℕ) → IsSequenceGroup V N g → IsHere M g) → IsAnswerOf M [] [] (IsSparingGroup l.partitions) (space M l) (space C l) → Result
-    by_space q hl (the_same r hs) = by_root q r hl hs (M n) refl
+    by_space q hl (the_same r hs) = by_root q r hl hs set.2
     by_space q hl (unread_answer listed r x) = unread_answer listed (from_layout q ∙ ap (λ y. and_then y (rooted M l)) r)
         (no_places M (valid_anchors V N) (anchor_places N) G listed (more_groups M [] [] (IsSparingGroup l.partitions) G listed (λ g h. inr (inl h)) x))
 
     by_layout : IsAnswerOf M (valid_anchors V N) (anchor_places N) (IsSequenceGroup V N) (layout M N) (layout C N) → Result
-    by_layout (the_same q hl) = by_space q hl (space_law M V N l lawful.volume_is by.layout_is lawful.sparing a)
+    by_layout (the_same q hl) = by_space q hl (space_of_lawful M V N l lawful.volume_is by.layout_is lawful.sparing a)
     by_layout (unread_answer listed q x) = unread_answer listed (ap (λ y. and_then y (placed M)) q)
         (more_groups M (valid_anchors V N) (anchor_places N) (IsSequenceGroup V N) G listed (λ g h. inl h) x)
 
@@ -158,18 +124,18 @@ volume_law M V N lawful a = by_layout (layout_law M V N lawful.volume_is lawful.
 
 found_of : (M : Blocks) (V : Volume) (N : ℕ) (all got : Found) → volume_of M N ≡ found got → volume_of (complete V N) N ≡ found all
     → IsAnswerOf M (valid_anchors V N) (anchor_places N) (IsVolumeGroup V N all) (volume_of M N) (volume_of (complete V N) N) → IsFoundOf V M N all got
-found_of M V N all got e f (the_same q known) = record { same = found_same got all (sym e ∙ q ∙ f); known = known }
+found_of M V N all got e f (the_same q k) = record { same = found_same got all (sym e ∙ q ∙ f); known = k }
 found_of M V N all got e f (unread_answer listed q x) = absurd (let no : ⊥ = cc in no)
 
 holes_of : (M : Blocks) (V : Volume) (N : ℕ) (all : Found) (ns : List ℕ) → volume_of M N ≡ holes ns → volume_of (complete V N) N ≡ found all
     → IsAnswerOf M (valid_anchors V N) (anchor_places N) (IsVolumeGroup V N all) (volume_of M N) (volume_of (complete V N) N)
     → ListsGroup M (valid_anchors V N) (anchor_places N) (IsVolumeGroup V N all) ns
-holes_of M V N all ns e f (the_same q known) = absurd (let no : ⊥ = cc in no)
+holes_of M V N all ns e f (the_same q k) = absurd (let no : ⊥ = cc in no)
 holes_of M V N all ns e f (unread_answer listed q x) = let same : listed ≡ ns = cc in subst (ListsGroup M (valid_anchors V N) (anchor_places N) (IsVolumeGroup V N all)) same x
 
 no_fault_of : (M : Blocks) (V : Volume) (N : ℕ) (all : Found) (fault : VolumeFault) → volume_of M N ≡ faulty fault → volume_of (complete V N) N ≡ found all
     → IsAnswerOf M (valid_anchors V N) (anchor_places N) (IsVolumeGroup V N all) (volume_of M N) (volume_of (complete V N) N) → ⊥
-no_fault_of M V N all fault e f (the_same q known) = cc
+no_fault_of M V N all fault e f (the_same q k) = cc
 no_fault_of M V N all fault e f (unread_answer listed q x) = cc
 
 pub tells_lawful : (M : Blocks) (N : ℕ) (told : Answer Found) → told ≡ volume_of M N → TellsLawful M N told

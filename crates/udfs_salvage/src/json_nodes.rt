@@ -10,8 +10,8 @@ use crate::node_lines::{push_kind_name, push_path_name, push_standing_name};
 use serde_json::{Map, Value, json, put};
 use std::alloc::{AllocError, Global};
 use udfs_file::Kind;
-use udfs_osta::{Name, Stamp};
-use udfs_walk::{Node, Standing, Unnamed};
+use udfs_osta::Stamp;
+use udfs_walk::{Node, Path, Standing, Unnamed};
 
 /// A standing.
 fn standing_value(alloc: Global, standing: &Standing) -> Result<Value, AllocError>
@@ -32,7 +32,7 @@ fn kind_value(alloc: Global, kind: Kind) -> Result<Value, AllocError>
 }
 
 /// A path.
-fn path_value(alloc: Global, path: &[Name]) -> Result<Value, AllocError>
+fn path_value(alloc: Global, path: &Path) -> Result<Value, AllocError>
     ensures { IfOk result (λ v. view v ≡ string (path_name path.now)) }
 {
     let mut text = String::new(alloc);

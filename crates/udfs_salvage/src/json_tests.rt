@@ -21,6 +21,20 @@ fn the_json_of_nothing(rt: HostRuntime) -> Result<(), Fail> {
     Ok(())
 }
 
+/// The JSON of the sample volume, of which every block is known.
+const ALL: &str =
+    "{\"conflict\":0,\"known\":601,\"label\":{\"state\":\"name\",\"text\":\"TEST\"},\"last\":600,\"nodes\":[{\"hidden\":false,\"holes\":[],\"kind\":\"directory\",\"missing\":[],\"modified\":\"2001-07-04T09:30:00.000000Z\",\"path\":\"/\",\"size\":120,\"standing\":\"whole\"},{\"hidden\":false,\"holes\":[],\"kind\":\"file\",\"missing\":[],\"modified\":\"2001-07-04T09:30:00.000000Z\",\"path\":\"/A\",\"size\":5000,\"standing\":\"whole\"},{\"hidden\":false,\"holes\":[],\"kind\":\"file\",\"missing\":[],\"modified\":\"2001-07-04T09:30:00.000000Z\",\"path\":\"/B\",\"size\":2,\"standing\":\"whole\"}],\"reread\":[],\"unnamed\":[],\"volume\":{\"map\":\"type1\",\"revision\":\"1.50\",\"state\":\"ok\"}}";
+
+#[test]
+fn the_json_of_all(rt: HostRuntime) -> Result<(), Fail> {
+    let alloc = rt.alloc();
+    let table = Disc::type1(alloc)?.known_but(alloc, &[])?;
+    let report = salvage(alloc, &table, LAST)?;
+    let text = report_json(alloc, &report)?;
+    assert_eq!(rt; text.as_str(), ALL);
+    Ok(())
+}
+
 #[test]
 fn the_json_of_a_torn_file(rt: HostRuntime) -> Result<(), Fail> {
     let alloc = rt.alloc();

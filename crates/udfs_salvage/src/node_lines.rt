@@ -7,7 +7,7 @@ ghost use Rattle.udfs_salvage.specs.NodeTexts.{hole_line, kind_name, kind_text, 
 use std::fmt::Write;
 use udfs_file::{Kind, NodeFault};
 use udfs_osta::{Name, OutOfMemory, Stamp};
-use udfs_walk::{Node, Standing, Unnamed};
+use udfs_walk::{Node, Path, Standing, Unnamed};
 
 /// The number of a fault.
 fn fault_number(fault: NodeFault) -> u8
@@ -108,18 +108,20 @@ fn push_name(text: &mut String, name: &Name) -> Result<(), OutOfMemory>
     name.write_escaped(text)
 }
 
-/// Appends each name in its escaped form, behind a `/`. Where memory is refused, a part may be appended.
-pub fn push_names(text: &mut String, names: &[Name]) -> Result<(), OutOfMemory>
-    ensures { OnOk result (string_bytes text.new ≡ string_bytes text.old ++ names_text names.now) }
+/// Appends each name of a path in its escaped form, behind a `/`. Where memory is refused, a part may be appended.
+pub fn push_names(text: &mut String, path: &Path) -> Result<(), OutOfMemory>
+    ensures { OnOk result (string_bytes text.new ≡ string_bytes text.old ++ names_text path.now) }
 {
-    for name in names {
-        push_name(text, name)?;
+    for index in 0..path.len() {
+        if let Some(name) = path.get(index) {
+            push_name(text, name)?;
+        }
     }
     Ok(())
 }
 
 /// A path: the root has no name.
-pub(crate) fn push_path_name(text: &mut String, path: &[Name]) -> Result<(), OutOfMemory>
+pub(crate) fn push_path_name(text: &mut String, path: &Path) -> Result<(), OutOfMemory>
     ensures { OnOk result (string_bytes text.new ≡ string_bytes text.old ++ path_name path.now) }
 {
     if path.is_empty() {
@@ -129,7 +131,7 @@ pub(crate) fn push_path_name(text: &mut String, path: &[Name]) -> Result<(), Out
 }
 
 /// A path, a space before it.
-fn push_path(text: &mut String, path: &[Name]) -> Result<(), OutOfMemory>
+fn push_path(text: &mut String, path: &Path) -> Result<(), OutOfMemory>
     ensures { OnOk result (string_bytes text.new ≡ string_bytes text.old ++ path_text path.now) }
 {
     text.push(' ')?;

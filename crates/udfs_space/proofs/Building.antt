@@ -6,7 +6,7 @@ use Rattle.udfs_lattice.specs.Volumes.{Blocks, Includes}
 use Rattle.udfs_volume.specs.declared.faults.VolumeFault.{VolumeFault}
 use Rattle.udfs_volume.specs.Answers.{Answer, found, holes, faulty, and_then}
 use Rattle.udfs_volume.specs.Layout.{Layout, Partition}
-use Rattle.udfs_volume.proofs.Bounds.{and_then-found, found_same}
+use Rattle.udfs_space.proofs.Facts.{and_then-found, found_same}
 use Rattle.udfs_space.specs.Sparing.{Space, Span, space, span, spans}
 
 -- with spans that stand before

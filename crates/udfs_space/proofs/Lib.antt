@@ -14,3 +14,7 @@ pub mod SpaceLaw
 pub mod Standing
 pub mod Tables
 pub mod Telling
+pub mod Facts
+pub mod StandardBlocks
+pub mod SampleLaw
+pub mod PublicLaws

@@ -2,7 +2,7 @@
 use Rattle.std.proofs.Common.{◌≡◌, refl, sym, ◌∙◌, ap, ℕ, ◌+◌, ◌<◌, ◌≤◌, ◌⊎◌, inl, inr, Bool, true, false, ◌||◌, arith, nat_lt, Some}
 use Rattle.std.specs.Prelude.{zero, suc, is_none}
 use Rattle.std.specs.List.{range_with_len, list_any}
-use Rattle.udfs_volume.proofs.Known.{le_or_lt}
+use Rattle.udfs_space.proofs.Facts.{le_or_lt}
 use Rattle.udfs_space.specs.Places.{is_past, length_of, place}
 use Rattle.udfs_space.specs.Sparing.{Space}
 use Rattle.udfs_space.proofs.Standing.{absent, present}

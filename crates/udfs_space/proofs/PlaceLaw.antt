@@ -13,8 +13,8 @@ use Rattle.udfs_volume.specs.declared.faults.VolumeFault.{VolumeFault}
 use Rattle.udfs_volume.specs.declared.faults.VolumeFault.TheVariants.{SparingTag, SparingShape, SparingOrder, MappedRange}
 use Rattle.udfs_volume.specs.Layout.{Layout, Partition, PartitionMap, type1, sparable, blocks_in, layout}
 use Rattle.udfs_volume.specs.Laws.{IsBounded, IsBoundedMap, IsBoundedPartition}
-use Rattle.udfs_volume.proofs.Known.{complete-known, known_is}
-use Rattle.udfs_volume.proofs.Bounds.{and_then-found, found_same, unless_fault-found, layout_is_bounded}
+use Rattle.udfs_volume.proofs.PublicLaws.{layout_is_bounded}
+use Rattle.udfs_space.proofs.Facts.{and_then-found, complete-known, found_same, known_is, unless_fault-found}
 use Rattle.udfs_space.specs.Laws.{PlaceLaw}
 use Rattle.udfs_space.specs.declared.entries.SparingEntry.{SparingEntry}
 use Rattle.udfs_space.specs.Sparing.{Span, Space, Spared, spared, spared_unless, spared_by, spared_in, unread, is_used, is_sparing_table, is_misshapen, passes_end, is_out_of_order, entries, copies, place_of, sparing_fault, packet_of, span_of, span, spans, space, table_bytes}

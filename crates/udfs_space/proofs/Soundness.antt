@@ -10,7 +10,8 @@ use Rattle.udfs_volume.specs.Layout.{Partition, PartitionMap, type1, sparable, b
 use Rattle.udfs_volume.specs.Laws.{IsBounded, IsBoundedPartition}
 use Rattle.udfs_volume.specs.declared.faults.VolumeFault.{VolumeFault}
 use Rattle.udfs_volume.specs.declared.faults.VolumeFault.TheVariants.{SparingTag, SparingShape}
-use Rattle.udfs_volume.proofs.Bounds.{and_then-found, found_same, unless_fault-found, layout_is_bounded}
+use Rattle.udfs_volume.proofs.PublicLaws.{layout_is_bounded}
+use Rattle.udfs_space.proofs.Facts.{and_then-found, found_same, unless_fault-found}
 use Rattle.udfs_space.specs.Laws.{SoundSpace}
 use Rattle.udfs_space.specs.Parts.{AreSound, IsSoundEntry, IsSound}
 use Rattle.udfs_space.specs.Sparing.{Span, Spared, spared, spared_unless, spared_by, spared_in, unread, is_bad_original, is_sparing_table, entries, entry_count, copies, place_of, sparing_fault, packet_of, span_of, span, spans, space, table_bytes}

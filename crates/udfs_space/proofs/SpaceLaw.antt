@@ -15,9 +15,9 @@ use Rattle.udfs_volume.specs.Answers.{Answer, found, holes, and_then}
 use Rattle.udfs_volume.specs.Layout.{Partition, PartitionMap, type1, sparable, blocks_in}
 use Rattle.udfs_volume.specs.Laws.{AreBounded, IsBoundedMap, IsBounded, ListsGroup, IsAnswerOf, the_same}
 use Rattle.udfs_volume.specs.Laws.IsAnswerOf.{unread as unread_answer}
-use Rattle.udfs_volume.proofs.Known.{complete-known, known_is, true_false, Includes-from_filter}
-use Rattle.udfs_lattice.proofs.VolumeLaws.{complete_agrees, includes_ascending}
-use Rattle.udfs_volume.proofs.Bounds.{and_then-found, found_same, unless_fault-found, layout_is_bounded, Includes-map}
+use Rattle.udfs_lattice.proofs.PublicLaws.{ascending_includes, complete_agrees}
+use Rattle.udfs_volume.proofs.PublicLaws.{layout_is_bounded}
+use Rattle.udfs_space.proofs.Facts.{and_then-found, complete-known, found_same, known_is, true_false, unless_fault-found, Includes-from_filter, Includes-map}
 use Rattle.udfs_space.specs.Sparing.{Span, Space, Spared, copies, unread, piece, place_of, table_bytes, spared_by, spared_from, spared_in, sparing_fault, spared_unless, spared, span_of, span, spans, space}
 use Rattle.udfs_space.specs.Standard.{table_at, first_table}
 use Rattle.udfs_space.specs.Laws.{StandardSpace, AreTheSameTables, SparingAgrees, IsTableGroup, IsSparingGroup, SpaceLaw}
@@ -264,7 +264,7 @@ sparable_law M V N last packet size tables hv b same a = go (unread M tables (bl
           group = copies tables k;
           is_group = (k, (open_in k (inl refl)).0, refl);
           unread = (open_in k (inl refl)).1;
-          holds = λ n i. (includes_ascending (flat_map (copies tables) (k ∷ ks)) n).1 (to_flat tables k ks n i);
+          holds = λ n i. (ascending_includes (flat_map (copies tables) (k ∷ ks)) n).1 (to_flat tables k ks n i);
           not_known = λ n i. let w : (j : ℕ) × Includes (k ∷ ks) j × Includes (copies tables j) n = listed n i in (open_in w.0 w.1).1 n w.2;
           each = λ n i. let w : (j : ℕ) × Includes (k ∷ ks) j × Includes (copies tables j) n = listed n i in
               inl (copies tables w.0, (w.0, (open_in w.0 w.1).0, refl), (open_in w.0 w.1).1, w.2);
@@ -276,7 +276,7 @@ sparable_law M V N last packet size tables hv b same a = go (unread M tables (bl
             (omega (arith, r.1), unread_at j w.1 (first_copy M V N a tables j))
 
         listed : (n : ℕ) → Includes (ascending (flat_map (copies tables) (k ∷ ks))) n → (j : ℕ) × Includes (k ∷ ks) j × Includes (copies tables j) n
-        listed n i = from_flat tables (k ∷ ks) n ((includes_ascending (flat_map (copies tables) (k ∷ ks)) n).0 i)
+        listed n i = from_flat tables (k ∷ ks) n ((ascending_includes (flat_map (copies tables) (k ∷ ks)) n).0 i)
 
 map_law : (M : Blocks) (V : Volume) (N last : ℕ) (m : PartitionMap) → IsVolume V N → IsBoundedMap N m → SparingAgrees V m → Agrees M V N
     → IsAnswerOf M [] [] (IsTableGroup m) (spared M last m) (spared (complete V N) last m)

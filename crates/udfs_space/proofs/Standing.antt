@@ -4,7 +4,7 @@ use Rattle.std.specs.Prelude.{suc, find, option_map, IsSome, IfSome}
 use Rattle.std.proofs.Math.Nat.{div-add-mod, mul_comm}
 use Rattle.std.proofs.lemmas.Nat.{mod_below, mod-mul-add}
 use Rattle.udfs_lattice.specs.Volumes.{Includes}
-use Rattle.udfs_volume.proofs.Known.{le_or_lt, true_false}
+use Rattle.udfs_space.proofs.Facts.{le_or_lt, true_false}
 use Rattle.udfs_space.specs.declared.entries.SparingEntry.{SparingEntry}
 use Rattle.udfs_space.specs.Laws.{OldPlaceLaw, PlacingLaw}
 use Rattle.udfs_space.specs.Parts.{IsSound, IsSoundEntry, Rises}

@@ -8,12 +8,12 @@ use Rattle.udfs_volume.specs.declared.seen.Seen.TheVariants.{Got, Holes, Fault, 
 use Rattle.udfs_volume.specs.Answers.{Answer, found, holes, faulty, and_then, unless_fault}
 use Rattle.udfs_volume.specs.Layout.{Layout, Partition, PartitionMap, type1, sparable, blocks_in, layout}
 use Rattle.udfs_volume.specs.Laws.{IsBounded, ListsGroup, IsAnswerOf, the_same, unread}
-use Rattle.udfs_volume.specs.Seen.{Sees, HolesRise, IfGot}
-use Rattle.udfs_volume.proofs.Bounds.{found_same}
-use Rattle.udfs_volume.proofs.Rising.{Rises, holes_rise, rising_ascending}
+use Rattle.udfs_volume.specs.Seen.{Sees, HolesRise, IfGot, IsRising}
+use Rattle.udfs_volume.proofs.PublicLaws.{ascending_rises}
+use Rattle.udfs_space.proofs.Facts.{found_same}
 use Rattle.udfs_space.specs.declared.spaces.Space as code_space
 use Rattle.udfs_space.specs.Laws.{IsLawfulSparing, IsSparingGroup}
-use Rattle.std.specs.Prelude.{flat_map}
+use Rattle.std.specs.Prelude.{flat_map, ⊤}
 use Rattle.udfs_space.specs.Sparing.{Space, Spared, copies, place_of, table_bytes, space, span, spans, spared, spared_by, spared_from, spared_unless, sparing_fault, span_of, spared_in}
 use Rattle.udfs_space.specs.Sparing.{unread as unread_in}
 use Rattle.udfs_space.specs.Standard.{standard_space}
@@ -46,6 +46,18 @@ tells_lawful T l (Fault fault) s V N hv hl lw a = no_fault_of T V N l fault lw s
 tells_lawful T l OutOfMemory s V N hv hl lw a = tt
 
 -- ---- holes rise
+-- the answer's holes rise
+abbrev Rises : {A : Type 0} → Answer A → Type 0
+Rises (found x) = ⊤
+Rises (holes blocks) = IsRising blocks
+Rises (faulty fault) = ⊤
+
+holes_rise : {A B : Type 0} (view : A → B) (seen : Seen A) (answer : Answer B) → Sees view seen answer → Rises answer → HolesRise seen
+holes_rise view (Got x) answer s r = tt
+holes_rise view (Holes blocks) answer s r = subst Rises s r
+holes_rise view (Fault fault) answer s r = tt
+holes_rise view OutOfMemory answer s r = tt
+
 then_rises : {A B : Type 0} (a : Answer A) (f : A → Answer B) → Rises a → ((x : A) → Rises (f x)) → Rises (and_then a f)
 then_rises (found x) f r g = g x
 then_rises (holes ns) f r g = r
@@ -60,7 +72,7 @@ from_rises last packet size valid content = go (sparing_fault last packet size v
 
 unless_rises : (tables ks : List ℕ) (a : Answer Spared) → Rises a → Rises (spared_unless tables ks a)
 unless_rises tables [] a r = r
-unless_rises tables (k ∷ ks) a r = rising_ascending (flat_map (copies tables) (k ∷ ks))
+unless_rises tables (k ∷ ks) a r = ascending_rises (flat_map (copies tables) (k ∷ ks))
 
 spared_rises : (T : Blocks) (last : ℕ) (m : PartitionMap) → Rises (spared T last m)
 unfolding spared

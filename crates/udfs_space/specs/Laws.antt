@@ -5,17 +5,19 @@
 --     StandardSpace                           with all known they are those of the first sparing table
 --     PlacingLaw, OldPlaceLaw                 where a block stands, and that nothing is read where it stood
 --     SoundSpace                              the partitions of a layout are sound, so placing is that relation
-use Rattle.std.specs.Prelude.{◌≡◌, ◌↔◌, ℕ, ◌+◌, ◌-◌, ◌<◌, ◌≤◌, List, [], drop, slice_get, true, Some, ⊤}
+--     StandardBlocks                          with all known, the standard reads the blocks by their places, and in one way
+use Rattle.std.specs.Prelude.{◌≡◌, ◌↔◌, ℕ, ◌+◌, ◌-◌, ◌<◌, ◌≤◌, List, [], drop, slice_get, true, Option, Some, None, option_map, ⊤}
 use Rattle.udfs_lattice.specs.Volumes.{Blocks, Includes, Volume, IsVolume, Agrees, complete}
 use Rattle.udfs_tag.specs.Tags.{is_valid}
 use Rattle.udfs_volume.specs.Answers.{found}
 use Rattle.udfs_volume.specs.Layout.{Layout, Partition, PartitionMap, type1, sparable, blocks_in, layout}
 use Rattle.udfs_volume.specs.Laws.{IsAnswerOf}
+use Rattle.udfs_volume.specs.Sequence.{Bytes}
 use Rattle.udfs_space.specs.declared.entries.SparingEntry.{SparingEntry}
 use Rattle.udfs_space.specs.Parts.{IsSound}
 use Rattle.udfs_space.specs.Sparing.{Space, Span, copies, space}
 use Rattle.udfs_space.specs.Standard.{table_at, standard_space}
-use Rattle.udfs_space.specs.Places.{IsPartOf, IsSparedBy, StandsAt, block_at, place_in, view}
+use Rattle.udfs_space.specs.Places.{IsPartOf, IsSparedBy, StandsAt, StandsIn, block_at, place, place_in, view}
 
 pub record AreTheSameTables (volume : Volume) (size : ℕ) (tables : List ℕ) : Type 0 where
   pub tags : (place : ℕ) → Includes tables place → is_valid (table_at volume size place) place 0 ≡ true
@@ -70,3 +72,24 @@ OldPlaceLaw = (space : Space) (blocks other : Blocks) (reference b : ℕ) (span 
 abbrev pub SoundSpace : Type 0
 SoundSpace = (blocks : Blocks) (last : ℕ) (l : Layout) (s : Space) → last ≤ 4194303 → layout blocks last ≡ found l → space blocks l ≡ found s
     → (reference : ℕ) (span : Span) → slice_get s reference ≡ Some span → IsSound span
+
+-- the blocks of a volume's partitions by their places, each with its bytes
+abbrev pub blocks_by : Volume → Space → ℕ → ℕ → Option Bytes
+blocks_by volume s reference b = option_map volume (place s reference b)
+
+-- each logical block is the block that holds it, and there is none where no block does
+pub record AreBlocksOf (volume : Volume) (s : Space) (blocks : ℕ → ℕ → Option Bytes) : Type 0 where
+  pub block : (r b n : ℕ) → StandsIn s r b n → blocks r b ≡ Some (volume n)
+  pub no_block : (r b : ℕ) → ((n : ℕ) → ¬ StandsIn s r b n) → blocks r b ≡ None
+
+-- The places that are found are the standard's; by these each logical block is a block of the volume, or there is none;
+-- and nothing else is.
+pub record HasStandardBlocks (volume : Volume) (last : ℕ) (l : Layout) (s : Space) : Type 0 where
+  pub space_is : standard_space volume l ≡ s
+  pub reads : AreBlocksOf volume (standard_space volume l) (blocks_by volume s)
+  pub only : (other : ℕ → ℕ → Option Bytes) → AreBlocksOf volume (standard_space volume l) other → other ≡ blocks_by volume s
+  pub inside : (r b n : ℕ) → place s r b ≡ Some n → n ≤ last
+
+abbrev pub StandardBlocks : Type 0
+StandardBlocks = (volume : Volume) (last : ℕ) (l : Layout) (s : Space) → IsVolume volume last → layout (complete volume last) last ≡ found l
+    → IsLawfulSparing volume last l → space (complete volume last) l ≡ found s → HasStandardBlocks volume last l s

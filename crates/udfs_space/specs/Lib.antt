@@ -4,3 +4,4 @@ pub mod Parts
 pub mod Standard
 pub mod Laws
 pub mod Told
+pub mod Sample

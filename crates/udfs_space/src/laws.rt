@@ -1,5 +1,6 @@
 //! Laws of sparing tables and places, each the contract of a function that does nothing.
-ghost use Rattle.udfs_space.specs.Laws.{OldPlaceLaw, PlaceLaw, PlacingLaw, SoundSpace, SpaceLaw, StandardSpace};
+ghost use Rattle.udfs_space.specs.Laws.{OldPlaceLaw, PlaceLaw, PlacingLaw, SoundSpace, SpaceLaw, StandardBlocks, StandardSpace};
+ghost use Rattle.udfs_space.specs.Sample.{SampleSpace};
 
 /// Over a table that agrees with a lawful volume, the places are the volume's and of each block of a
 /// sparing table a copy is known; or there are holes: all copies of some block of which none is known, and
@@ -37,4 +38,15 @@ pub fn old_places_are_not_read()
 /// block stands is told by the relation.
 pub fn space_is_sound()
     ensures { SoundSpace }
+{}
+
+/// With all blocks of a lawful volume known, the places that are found give the blocks of the partitions as the standard
+/// reads them, each of them a block of the volume; and there is no other way to read them.
+pub fn blocks_of_standard()
+    ensures { StandardBlocks }
+{}
+
+/// There are lawful places: those of the sample layout, whatever the volume.
+pub fn sample_places_are_lawful()
+    ensures { SampleSpace }
 {}

@@ -10,17 +10,18 @@ use Rattle.udfs_file.specs.Standard.{Located}
 use Rattle.udfs_file.specs.declared.cells.Cell.{Cell}
 use Rattle.udfs_walk.specs.NodeFields.{NodeFields}
 use Rattle.udfs_walk.specs.Nodes.{node}
-use Rattle.udfs_walk.specs.Routes.{Walked}
+use Rattle.udfs_walk.specs.Routes.{Route, Walked, at_root, walked}
 use Rattle.udfs_tree.specs.Trees.{PartitionBlocks, TreeFile, IsFileAt, InTree}
 use Rattle.udfs_tree.specs.Cells.{HasCells, HasCellsAt, IsByteOf, IsWholeAs}
-use Rattle.udfs_tree.specs.Laws.{IsWholeNode, CompleteNodes, OneFile}
+use Rattle.udfs_tree.specs.Lawful.{IsLawfulTree}
+use Rattle.udfs_tree.specs.Laws.{IsWholeNode, CompleteNodes, OneFile, RootInTree}
 use Rattle.udfs_tree.proofs.WholeRoutes.{IsRouteTo}
 use Rattle.udfs_tree.proofs.PartNodes.{told_as, once_per_path}
 use Rattle.udfs_tree.proofs.Settings.{Setting, setting, Here, here_all, tree_here, one_address}
 use Rattle.udfs_tree.proofs.Listed.{path_is, Stands, stands, Placed, placed}
 
 -- a complete view is part of itself
-pub part_of_itself : (all : View) (blocks : PartitionBlocks) → IsWhole all blocks → IsPartOf all all
+part_of_itself : (all : View) (blocks : PartitionBlocks) → IsWhole all blocks → IsPartOf all all
 part_of_itself all blocks c = record {
   partitions = refl;
   places = λ r b. refl;
@@ -42,6 +43,21 @@ whole_here all blocks root s w h = record {
 
 has_here : (all : View) (blocks : PartitionBlocks) (root : LongAd) (w : Walked) (h : Here all all blocks root w) → HasCells all w h.at.cs
 has_here all blocks root w h = record { fields = h.at.fields; is_entry = h.at.is_entry; has_body = h.at.has_body }
+
+-- the file at the end of a route is one of the tree
+pub route_in_tree : (all : View) (blocks : PartitionBlocks) → IsWhole all blocks → (root : LongAd) → IsLawfulTree all root → (route : Route) (w : Walked) → walked all root route ≡ Some w
+    → (file : TreeFile) × InTree blocks root w.path file
+route_in_tree all blocks c root l route w walks = (h.file.file, tree_here all all blocks root s w h)
+  where
+    s : Setting all all blocks root
+    s = setting all all blocks (part_of_itself all blocks c) c root l
+
+    h : Here all all blocks root w
+    h = here_all all all blocks root s route w walks
+
+pub root_in_tree : RootInTree
+unfolding walked
+root_in_tree all blocks c root l = route_in_tree all blocks c root l [] (at_root root) refl
 
 pub complete_nodes : CompleteNodes
 complete_nodes all blocks c root l nodes are = record { in_tree = in_tree; is_listed = is_listed; once = once_per_path all all blocks (part_of_itself all blocks c) c root l nodes are }

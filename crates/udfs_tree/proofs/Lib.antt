@@ -15,3 +15,5 @@ pub mod Listed
 pub mod PartNodes
 pub mod CompleteNodes
 pub mod OneReading
+pub mod SampleLaw
+pub mod PublicLaws

@@ -2,16 +2,14 @@
 use Rattle.std.proofs.Common.{◌≡◌, refl, sym, ◌∙◌, ap, subst, ℕ, List, [], ◌∷◌, map, Option, Some, None, slice_get}
 use Rattle.std.specs.Prelude.{zero, suc, IsSome}
 use Rattle.std.specs.List.{AllZip}
-use Rattle.udfs_lattice.specs.Volumes.{Includes}
 use Rattle.udfs_tag.specs.declared.layouts.LongAd.{LongAd}
 use Rattle.udfs_space.specs.Places.{View}
 use Rattle.udfs_walk.specs.NodeFields.{NodeFields}
 use Rattle.udfs_walk.specs.Nodes.{node_at, node}
-use Rattle.udfs_walk.specs.Routes.{Route, Walked, walked, IsInOrder}
+use Rattle.udfs_walk.specs.Routes.{Route, Walked, walked}
 use Rattle.udfs_walk.specs.Targets.{Target, bad, unread, entry, target}
 use Rattle.udfs_walk.specs.Walks.{AreNodes}
-use Rattle.udfs_walk.proofs.RouteOrder.{AreOrdered, ordered, before_none}
-use Rattle.udfs_tree.proofs.WholeRoutes.{includes_get, get_includes}
+use Rattle.udfs_tree.proofs.WholeRoutes.{includes_get}
 
 pub map_get : {A B : Type 0} (f : A → B) (xs : List A) (k : ℕ) (y : B) → slice_get (map f xs) k ≡ Some y → (x : A) × (slice_get xs k ≡ Some x) × (y ≡ f x)
 map_get f [] k y e = absurd (let z : ⊥ = cc in z)
@@ -86,14 +84,3 @@ placed v root nodes all route end e = record { index = i.0; at = at; listed = ap
 
     at : slice_get all.walks i.0 ≡ Some end
     at = x.1 ∙ sym x.2 ∙ e
-
--- a route stands in the list once
-once_from : (rs : List Route) (i j : ℕ) (r : Route) → AreOrdered rs → slice_get rs i ≡ Some r → slice_get rs j ≡ Some r → i ≡ j
-once_from [] i j r o p q = absurd (let z : ⊥ = cc in z)
-once_from (s ∷ rs) zero zero r o p q = refl
-once_from (s ∷ rs) zero (suc j) r o p q = absurd (before_none s (o.0 s (subst (Includes rs) (let e : r ≡ s = cc in e) (get_includes rs j r q))))
-once_from (s ∷ rs) (suc i) zero r o p q = absurd (before_none s (o.0 s (subst (Includes rs) (let e : r ≡ s = cc in e) (get_includes rs i r p))))
-once_from (s ∷ rs) (suc i) (suc j) r o p q = ap suc (once_from rs i j r o.1 p q)
-
-pub once_listed : (rs : List Route) (i j : ℕ) (r : Route) → IsInOrder rs → slice_get rs i ≡ Some r → slice_get rs j ≡ Some r → i ≡ j
-once_listed rs i j r o p q = once_from rs i j r (ordered rs o) p q

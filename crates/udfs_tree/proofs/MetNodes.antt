@@ -15,7 +15,7 @@ use Rattle.udfs_file.specs.declared.directories.DirEntry.{DirEntry}
 use Rattle.udfs_file.specs.Identifiers.{Identifier}
 use Rattle.udfs_file.specs.declared.faults.Kind.{Kind}
 use Rattle.udfs_file.specs.declared.faults.Kind.TheVariants.{Directory, File, Link, Other, Unread}
-use Rattle.udfs_file.proofs.PartFronts.{part_ids}
+use Rattle.udfs_file.proofs.PublicLaws.{partial_descriptors}
 use Rattle.udfs_walk.specs.Targets.{entry, target}
 use Rattle.udfs_walk.specs.Routes.{Route, Walked, at_root, is_loop, is_deep, entries_in, kind_entries, target_entries, entries_below, walked}
 use Rattle.udfs_tree.specs.Trees.{PartitionBlocks, TreeFile, IsFileAt, IsDirectoryAt}
@@ -125,7 +125,7 @@ clear_before some all blocks root s w h name on ids is_dir end ends = subst (IsC
     x = split_at (directory part.part).identifiers on.entry goes.inside
 
     more : IsBeginningOf (directory part.part).identifiers (directory h.at.cs).identifiers
-    more = part_ids part.part h.at.cs part.each
+    more = partial_descriptors part.part h.at.cs part.each
 
     whole_is : (directory h.at.cs).identifiers ≡ x.front ++ x.id ∷ (x.back ++ more.0)
     whole_is = more.1 ∙ ap (λ z. z ++ more.0) x.splits ∙ append_assoc x.front (x.id ∷ x.back) more.0

@@ -3,7 +3,7 @@ use Rattle.std.proofs.Common.{◌≡◌, refl, sym, ◌∙◌, ap, subst, inl, i
 use Rattle.std.specs.Prelude.{zero, suc, flat_map}
 use Rattle.std.specs.List.{AllZip}
 use Rattle.udfs_lattice.specs.Volumes.{Includes, ascending}
-use Rattle.udfs_lattice.proofs.VolumeLaws.{includes_ascending}
+use Rattle.udfs_lattice.proofs.PublicLaws.{ascending_includes}
 use Rattle.udfs_tag.specs.declared.layouts.LongAd.{LongAd}
 use Rattle.udfs_space.specs.Places.{View}
 use Rattle.udfs_file.specs.Laws.{IsClearTo}
@@ -67,11 +67,11 @@ missing_is cs = torn_missing (ascending (missing_blocks cs)) (runs_from 0 cs)
 
 -- a missing cell's block is missing where the cells say how whole a node is
 pub gap_misses : (s : Standing) (cs : List Cell) → s ≡ cells_standing cs → (k n : ℕ) → IsGapAt cs k n → Includes (missing_of s) n
-gap_misses s cs e k n at = subst (λ z. Includes z n) (sym (ap missing_of e ∙ missing_is cs)) ((includes_ascending (missing_blocks cs) n).1 (gap_missing cs k n at))
+gap_misses s cs e k n at = subst (λ z. Includes z n) (sym (ap missing_of e ∙ missing_is cs)) ((ascending_includes (missing_blocks cs) n).1 (gap_missing cs k n at))
 
 -- and a block that is missing there is that of a missing cell
 pub misses_gap : (s : Standing) (cs : List Cell) → s ≡ cells_standing cs → (n : ℕ) → Includes (missing_of s) n → (k : ℕ) × IsGapAt cs k n
-misses_gap s cs e n i = missing_gap cs n ((includes_ascending (missing_blocks cs) n).0 (subst (λ z. Includes z n) (ap missing_of e ∙ missing_is cs) i))
+misses_gap s cs e n i = missing_gap cs n ((ascending_includes (missing_blocks cs) n).0 (subst (λ z. Includes z n) (ap missing_of e ∙ missing_is cs) i))
 
 -- an ICB that is not known is all that is missing
 pub unread_misses : (v : View) (w : Walked) (n : ℕ) → target v w.address ≡ unread n → missing_of (node v w).standing ≡ n ∷ []
@@ -136,9 +136,9 @@ misses_in v (x ∷ ws) (suc i) w e n m = in_right (missing_of (node v x).standin
 -- the blocks to read again are those that are missing in nodes
 pub listed_is_missed : (v : View) (root : LongAd) (nodes : List NodeFields) → AreNodes v root nodes → (n : ℕ) → Includes (reread nodes) n → IsMissed v root n
 listed_is_missed v root nodes x n i = missed v root x.walk.routes x.walks x.walk.each n
-    ((includes_ascending (blocks_of v x.walks) n).0 (subst (λ z. Includes (reread z) n) x.is i))
+    ((ascending_includes (blocks_of v x.walks) n).0 (subst (λ z. Includes (reread z) n) x.is i))
 
 -- and all that are missing are among them
 pub missed_is_listed : (v : View) (root : LongAd) (nodes : List NodeFields) → AreNodes v root nodes → (n : ℕ) → IsMissed v root n → Includes (reread nodes) n
 missed_is_listed v root nodes x n m = subst (λ z. Includes (reread z) n) (sym x.is)
-    ((includes_ascending (blocks_of v x.walks) n).1 (let at : Placed v root nodes x m.end = placed v root nodes x m.route m.end m.leads in misses_in v x.walks at.index m.end at.at n m.misses))
+    ((ascending_includes (blocks_of v x.walks) n).1 (let at : Placed v root nodes x m.end = placed v root nodes x m.route m.end m.leads in misses_in v x.walks at.index m.end at.at n m.misses))

@@ -1,18 +1,15 @@
 -- A node has one list of cells, so a file that has its bytes has those of each file that it is whole as.
-use Rattle.std.proofs.Common.{◌≡◌, sym, ◌∙◌, ap, subst, ℕ, List, [], ◌∷◌, slice_get}
+use Rattle.std.proofs.Common.{◌≡◌, sym, ◌∙◌, ap, subst, List, [], ◌∷◌, slice_get}
 use Rattle.std.specs.List.{AllZip}
-use Rattle.udfs_tag.specs.declared.layouts.LongAd.{LongAd}
-use Rattle.udfs_space.specs.Places.{View}
 use Rattle.udfs_file.specs.Bodies.{cells, body}
 use Rattle.udfs_file.specs.Entries.{EntryFields}
 use Rattle.udfs_file.specs.Standard.{Located}
 use Rattle.udfs_file.specs.declared.cells.Cell.{Cell}
 use Rattle.udfs_file.specs.declared.cells.Cell.TheVariants.{Byte, Gap}
-use Rattle.udfs_walk.proofs.Trees.{only_walk}
-use Rattle.udfs_walk.specs.NodeFields.{NodeFields}
+use Rattle.udfs_walk.proofs.PublicLaws.{only_walk}
 use Rattle.udfs_walk.specs.Targets.{entry, target}
-use Rattle.udfs_tree.specs.Trees.{TreeFile}
-use Rattle.udfs_tree.specs.Cells.{HasCellsAt, IsByteOf, IsWholeAs}
+use Rattle.udfs_tree.specs.Cells.{IsByteOf}
+use Rattle.udfs_tree.specs.Laws.{OneReading, WholeAlike}
 use Rattle.udfs_tree.proofs.EntryAddresses.{some_same}
 
 -- equal targets have equal fields
@@ -24,7 +21,7 @@ cells_same : (x y : List Cell) → cells x ≡ cells y → x ≡ y
 cells_same x y e = cc
 
 -- there is one walk, so the end at a place is one, and its cells are
-pub one_reading : (v : View) (root : LongAd) (index : ℕ) (cs ds : List Cell) → HasCellsAt v root index cs → HasCellsAt v root index ds → cs ≡ ds
+pub one_reading : OneReading
 one_reading v root index cs ds x y = cells_same cs ds
     (sym x.has_cells.has_body ∙ (λ i. body v (end i).address.reference (end i).address.block (fields i)) ∙ y.has_cells.has_body)
   where
@@ -51,9 +48,7 @@ same_bytes (c ∷ cs) (x ∷ xs) (y ∷ ys) (d ∷ ds) h k l = (go c d h.0 k.0 l
     go (Gap n) d u v w = absurd u
 
 -- what is whole as a file is whole as each file of which one node is whole as both
-pub whole_alike : (v : View) (root : LongAd) (index : ℕ) (n : NodeFields) (file other : TreeFile) (cs ds : List Cell)
-    → HasCellsAt v root index cs → HasCellsAt v root index ds → IsWholeAs n file cs → IsWholeAs n other ds
-    → (m : NodeFields) (es : List Cell) → IsWholeAs m other es → IsWholeAs m file es
+pub whole_alike : WholeAlike
 whole_alike v root index n file other cs ds x y f o m es w = record {
   standing = w.standing;
   told = record {

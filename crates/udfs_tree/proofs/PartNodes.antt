@@ -18,6 +18,7 @@ use Rattle.udfs_walk.specs.Standings.{missing_blocks, cells_standing}
 use Rattle.udfs_walk.specs.Targets.{unread, entry, target}
 use Rattle.udfs_walk.specs.Walks.{AreNodes}
 use Rattle.udfs_walk.specs.declared.standings.Standing.TheVariants.{Whole}
+use Rattle.udfs_walk.proofs.PublicLaws.{routes_stand_once}
 use Rattle.udfs_tree.specs.Trees.{PartitionBlocks, TreeFile, InTree}
 use Rattle.udfs_tree.specs.Needs.{IsMet}
 use Rattle.udfs_tree.specs.Cells.{HasCells, HasCellsAt, IsByteOf, IsByteOrMissing, IsToldAs, IsUntold, holes_of, IsInRuns, IsTornAs, IsWholeAs}
@@ -26,7 +27,7 @@ use Rattle.udfs_tree.proofs.PartRoutes.{NodePart, node_unread, node_read, node_p
 use Rattle.udfs_tree.proofs.Runs.{none_at, none_missing, holes_are}
 use Rattle.udfs_tree.proofs.Settings.{Setting, setting, Here, here, part_here, tree_here}
 use Rattle.udfs_tree.proofs.MetNodes.{met}
-use Rattle.udfs_tree.proofs.Listed.{path_is, Stands, stands, once_listed}
+use Rattle.udfs_tree.proofs.Listed.{path_is, Stands, stands}
 
 -- ---- cells beside bytes
 bytes_or_missing : (cs : List Cell) (xs : List Located) → AllZip IsCellOf cs (as_cells xs) → AllZip IsByteOrMissing cs xs
@@ -142,7 +143,7 @@ partial_nodes some all blocks p c root l nodes are index n e =
 
 -- no two nodes have one path
 pub once_per_path : OncePerPath
-once_per_path some all blocks p c root l nodes are i j m n at other e = once_listed are.walk.routes i j x.route are.walk.in_order x.routed (y.routed ∙ ap Some (sym same))
+once_per_path some all blocks p c root l nodes are i j m n at other e = routes_stand_once are.walk.routes i j x.route are.walk.in_order x.routed (y.routed ∙ ap Some (sym same))
   where
     s : Setting some all blocks root
     s = setting some all blocks p c root l

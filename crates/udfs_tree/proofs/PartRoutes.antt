@@ -18,7 +18,7 @@ use Rattle.udfs_file.specs.Identifiers.{Nothing, Stopped, Wrong}
 use Rattle.udfs_file.specs.declared.faults.Kind.{Kind}
 use Rattle.udfs_file.specs.declared.faults.Kind.TheVariants.{Directory, File, Link, Other, Unread}
 use Rattle.udfs_file.specs.declared.faults.NodeFault.{NodeFault}
-use Rattle.udfs_file.proofs.PartialBodies.{partial_bodies}
+use Rattle.udfs_file.proofs.PublicLaws.{partial_bodies}
 use Rattle.udfs_walk.specs.Targets.{Target, unread, entry, target_in, target_at, target}
 use Rattle.udfs_walk.specs.Routes.{Route, Walked, at_root, below, is_loop, is_deep, entries_in, kind_entries, target_entries, entries_below, walk_from, walked, HasMoreRoutes}
 use Rattle.udfs_walk.specs.Nodes.{entry_standing, node_at, node}

@@ -6,7 +6,7 @@ use Rattle.udfs_lattice.specs.Volumes.{Includes, ascending}
 use Rattle.udfs_file.specs.Laws.{IsMissingAt}
 use Rattle.udfs_file.specs.declared.cells.Cell.{Cell}
 use Rattle.udfs_file.specs.declared.cells.Cell.TheVariants.{Byte, Gap}
-use Rattle.udfs_lattice.proofs.VolumeLaws.{includes_ascending}
+use Rattle.udfs_lattice.proofs.PublicLaws.{ascending_includes}
 use Rattle.udfs_walk.specs.Standings.{missing_blocks, with_hole, runs_from, torn_or_whole, cells_standing}
 use Rattle.udfs_walk.specs.declared.standings.Standing.TheVariants.{Whole}
 use Rattle.udfs_tree.specs.Cells.{holes_of, IsInRuns}
@@ -111,7 +111,7 @@ none_at (Gap m ∷ cs) k e (n, q) = let z : ⊥ = cc in z
 
 none_ascending : (xs : List ℕ) → ascending xs ≡ [] → xs ≡ []
 none_ascending [] e = refl
-none_ascending (x ∷ xs) e = absurd (subst (λ z. Includes z x) e ((includes_ascending (x ∷ xs) x).1 (inl refl)))
+none_ascending (x ∷ xs) e = absurd (subst (λ z. Includes z x) e ((ascending_includes (x ∷ xs) x).1 (inl refl)))
 
 none_torn : (ns : List ℕ) (runs : List (ℕ × ℕ)) → torn_or_whole ns runs ≡ Whole → ns ≡ []
 none_torn [] runs e = refl

@@ -11,8 +11,7 @@ use Rattle.udfs_file.specs.declared.cells.Cell.{Cell}
 use Rattle.udfs_file.specs.Identifiers.{Identifier}
 use Rattle.udfs_file.specs.Identifiers.{Nothing}
 use Rattle.udfs_file.specs.declared.faults.Kind.TheVariants.{Directory}
-use Rattle.udfs_file.proofs.WholeBodies.{body_law}
-use Rattle.udfs_file.proofs.Readings.{directory_law}
+use Rattle.udfs_file.proofs.PublicLaws.{body_is_read, directory_is_read}
 use Rattle.udfs_walk.specs.Targets.{entry, target}
 use Rattle.udfs_tree.specs.Trees.{PartitionBlocks, TreeFile, IsFileAt, IsDirectoryAt}
 use Rattle.udfs_tree.proofs.EntryAddresses.{some_same, TargetIs, target_is}
@@ -39,7 +38,7 @@ entry_law all blocks w a e cs t k = record {
     x = target_is all blocks w a e t
 
     b : IsReadBody blocks a.reference a.block e cs
-    b = body_law all blocks w a.reference a.block e cs k
+    b = body_is_read all blocks w a.reference a.block e cs k
 
     file : TreeFile
     file = record { fields = e; body = b.whole }
@@ -70,7 +69,7 @@ directory_at_law all blocks w a e cs t k is_dir ends = record {
     f = entry_law all blocks w a e cs t k
 
     d : IsReadDirectory f.file.body (directory (as_cells f.file.body)).identifiers
-    d = directory_law f.file.body (ap (λ z. (directory z).rest) (sym f.body) ∙ ends)
+    d = directory_is_read f.file.body (ap (λ z. (directory z).rest) (sym f.body) ∙ ends)
 
     ids : (directory cs).identifiers ≡ (directory (as_cells f.file.body)).identifiers
     ids = ap (λ z. (directory z).identifiers) f.body

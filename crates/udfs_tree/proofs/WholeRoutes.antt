@@ -15,8 +15,7 @@ use Rattle.udfs_file.specs.Identifiers.{Rest}
 use Rattle.udfs_file.specs.Identifiers.{Nothing, Stopped, Wrong}
 use Rattle.udfs_file.specs.declared.faults.Kind.{Kind}
 use Rattle.udfs_file.specs.declared.faults.Kind.TheVariants.{Directory, File, Link, Other, Unread}
-use Rattle.udfs_file.proofs.BodyFrom.{le_or_lt}
-use Rattle.udfs_file.proofs.Readings.{never_stops}
+use Rattle.udfs_file.proofs.PublicLaws.{complete_directory_never_stops}
 use Rattle.udfs_walk.specs.Targets.{Target, bad, unread, entry, target}
 use Rattle.udfs_walk.specs.Routes.{Route, Walked, at_root, below, is_loop, is_deep, entries_in, kind_entries, target_entries, entries_below, walk_from, walked}
 use Rattle.udfs_walk.specs.Nodes.{node_at, node}
@@ -79,7 +78,7 @@ open_at all blocks h w x k = record { ends = ends (directory x.cs).rest refl; ro
 
     ends : (r : Rest) → (directory x.cs).rest ≡ r → (directory x.cs).rest ≡ Nothing
     ends Nothing e = e
-    ends (Stopped n) e = absurd (never_stops f.file.body n (ap (λ z. (directory z).rest) (sym f.body) ∙ e))
+    ends (Stopped n) e = absurd (complete_directory_never_stops f.file.body n (ap (λ z. (directory z).rest) (sym f.body) ∙ e))
     ends (Wrong y) e = absurd (let t : Fault y ≡ Whole = sym (ap (λ r. unless_fault (fault_in r) inner) e) ∙ stands in let z : ⊥ = cc in z)
 
     depth : inner ≡ Whole
@@ -239,6 +238,9 @@ pub at_index : (xs : List DirEntry) (j : ℕ) (d x : DirEntry) → slice_get xs 
 at_index [] j d x e = absurd (let z : ⊥ = cc in z)
 at_index (y ∷ ys) zero d x e = (omega arith, cc)
 at_index (y ∷ ys) (suc j) d x e = let r : (j < length ys) × (slice_index_or ys j d ≡ x) = at_index ys j d x e in ((let h : j < length ys = r.0 in omega arith), r.1)
+
+le_or_lt : (a b : ℕ) → (a ≤ b) ⊎ (b < a)
+le_or_lt a b = grind arith
 
 pub same_place : (xs : List DirEntry) (j k : ℕ) (d e : DirEntry) → AllPairs (λ d e. d.name ≢ e.name) xs → slice_get xs j ≡ Some d → slice_get xs k ≡ Some e → d.name ≡ e.name → j ≡ k
 same_place xs j k d e h p q n = go (le_or_lt j k)

@@ -4,7 +4,10 @@
 --     OncePerPath       and no two nodes of a part have one path
 --     FewerRoutes       a part has no more routes than the whole
 --     OneFile           a path leads to one file
-use Rattle.std.specs.Prelude.{◌≡◌, ◌⊎◌, ℕ, List, Some, slice_get}
+--     RootInTree        the root is a file of the tree
+--     OneReading        the cells of a node are one list
+--     WholeAlike        where a node is whole as two files, what is whole as the one is whole as the other
+use Rattle.std.specs.Prelude.{◌≡◌, ◌⊎◌, ℕ, List, [], Some, slice_get}
 use Rattle.udfs_tag.specs.declared.layouts.LongAd.{LongAd}
 use Rattle.udfs_space.specs.Places.{View, IsPartOf}
 use Rattle.udfs_file.specs.Complete.{IsWhole}
@@ -68,3 +71,18 @@ FewerRoutes = (some all : View) (blocks : PartitionBlocks) → IsPartOf some all
 abbrev pub OneFile : Type 0
 OneFile = (all : View) (blocks : PartitionBlocks) → IsWhole all blocks → (root : LongAd) → IsLawfulTree all root
     → (path : List (List ℕ)) (file other : TreeFile) → InTree blocks root path file → InTree blocks root path other → other ≡ file
+
+-- the root of a lawful tree is a file of it
+abbrev pub RootInTree : Type 0
+RootInTree = (all : View) (blocks : PartitionBlocks) → IsWhole all blocks → (root : LongAd) → IsLawfulTree all root
+    → (file : TreeFile) × InTree blocks root [] file
+
+-- the cells of the node at a place of the list are one list
+abbrev pub OneReading : Type 0
+OneReading = (v : View) (root : LongAd) (index : ℕ) (cs ds : List Cell) → HasCellsAt v root index cs → HasCellsAt v root index ds → cs ≡ ds
+
+-- where a node is whole as two files, whatever is whole as the one is whole as the other
+abbrev pub WholeAlike : Type 0
+WholeAlike = (v : View) (root : LongAd) (index : ℕ) (n : NodeFields) (file other : TreeFile) (cs ds : List Cell)
+    → HasCellsAt v root index cs → HasCellsAt v root index ds → IsWholeAs n file cs → IsWholeAs n other ds
+    → (m : NodeFields) (es : List Cell) → IsWholeAs m other es → IsWholeAs m file es

@@ -4,3 +4,4 @@ pub mod Lawful
 pub mod Cells
 pub mod Laws
 pub mod KnownLaws
+pub mod Sample

@@ -1,5 +1,6 @@
 //! Laws of the tree, each the contract of a function that does nothing.
-ghost use Rattle.udfs_tree.specs.Laws.{CompleteNodes, FewerRoutes, OneFile, OncePerPath, PartialNodes};
+ghost use Rattle.udfs_tree.specs.Laws.{CompleteNodes, FewerRoutes, OneFile, OncePerPath, OneReading, PartialNodes, RootInTree, WholeAlike};
+ghost use Rattle.udfs_tree.specs.Sample.{SampleTree};
 
 /// Over a complete view with a lawful tree, the nodes are those of the tree, each once and all whole, with the tree's
 /// bytes.
@@ -27,4 +28,25 @@ pub fn fewer_routes()
 /// A path of a lawful tree leads to one file: its fields and its bytes are determined.
 pub fn one_file()
     ensures { OneFile }
+{}
+
+/// The root of a lawful tree is a file of it, so the tree is not empty.
+pub fn root_is_in_tree()
+    ensures { RootInTree }
+{}
+
+/// The cells of a node are determined by the view and the node's place in the list.
+pub fn one_reading()
+    ensures { OneReading }
+{}
+
+/// Where a node is whole as two files, they have the same kind, size, stamp and bytes: whatever is whole as the one is whole
+/// as the other.
+pub fn whole_alike()
+    ensures { WholeAlike }
+{}
+
+/// There is a lawful tree with a file below its root: that of the sample volume.
+pub fn sample_tree_is_lawful()
+    ensures { SampleTree }
 {}

@@ -14,7 +14,7 @@ use Rattle.udfs_volume.specs.Answers.{found, holes, faulty, and_then}
 use Rattle.udfs_volume.specs.declared.faults.VolumeFault.TheVariants.{Extents}
 use Rattle.udfs_volume.specs.Layout.{Layout, layout, layout_of}
 use Rattle.udfs_volume.specs.Laws.{LayoutLaw, IsLawfulLayout, IsThroughEnd, IsPair, IsSequenceGroup, valid_anchors, IsAnswerOf, the_same}
-use Rattle.udfs_lattice.proofs.VolumeLaws.{complete_agrees, includes_ascending}
+use Rattle.udfs_lattice.proofs.PublicLaws.{ascending_includes, complete_agrees}
 use Rattle.udfs_volume.proofs.Known.{complete-known, true_false, both, some_in, Includes-filter, Includes-from_filter, FirstAnchor, one_known, none_known, first_anchor_lem}
 use Rattle.udfs_volume.proofs.Positions.{PositionIs, same, neither, position_lem, before, read-on, read-stop}
 use Rattle.udfs_volume.specs.Laws.IsAnswerOf.{unread as unread_answer}
@@ -247,9 +247,9 @@ answer_with M V N lw e q r b here (one_unread i t eq u) = unread_answer (ascendi
       group = pair e i;
       is_group = inr a_pair;
       unread = unread_pair M e i u;
-      holds = λ n h. (includes_ascending (pair e i) n).1 h;
-      not_known = λ n h. unread_pair M e i u n ((includes_ascending (pair e i) n).0 h);
-      each = λ n h. inl (pair e i, inr a_pair, unread_pair M e i u, (includes_ascending (pair e i) n).0 h);
+      holds = λ n h. (ascending_includes (pair e i) n).1 h;
+      not_known = λ n h. unread_pair M e i u n ((ascending_includes (pair e i) n).0 h);
+      each = λ n h. inl (pair e i, inr a_pair, unread_pair M e i u, (ascending_includes (pair e i) n).0 h);
     })
   where
     a_pair : IsPair V N (pair e i)

@@ -2,14 +2,16 @@
 --     IsLawfulLayout volume last      anchors and copies of the sequence that say the same, and no fault
 --     IsSequenceGroup                 blocks of which one has to be known: the valid anchors, and each pair
 --     LayoutLaw                       the layout is the volume's, or a group is unread
---     LayoutBounds                    a layout that is found lies within the volume
+--     LayoutBounds, FoundBounds       a layout that is found lies within the volume
 --     StandardLayout                  with all known it is that of the first anchor and the main sequence
+--     AscendingRises                  what is listed ascending rises
 use Rattle.std.specs.Prelude.{◌≡◌, ◌≢◌, ℕ, ◌+◌, ◌/◌, ◌<◌, ◌≤◌, true, false, List, [], ◌∷◌, filter, map, length, drop, ◌⊎◌, ⊤, Some}
-use Rattle.udfs_lattice.specs.Volumes.{Blocks, Includes, Volume, IsVolume, Agrees, complete, IsUnread, IsKnownAt}
+use Rattle.udfs_lattice.specs.Volumes.{Blocks, Includes, Volume, IsVolume, Agrees, ascending, complete, IsUnread, IsKnownAt}
 use Rattle.udfs_tag.specs.Fields.{part}
 use Rattle.udfs_tag.specs.Tags.{is_valid, is_sound, identifier}
 use Rattle.udfs_volume.specs.Answers.{Answer, found, holes}
 use Rattle.udfs_volume.specs.declared.anchors.AnchorExtents.{AnchorExtents}
+use Rattle.udfs_volume.specs.Seen.{IsRising}
 use Rattle.udfs_volume.specs.Sequence.{Descriptor, anchor, anchor_places, position, goes_on}
 use Rattle.udfs_volume.specs.Standard.{standard_anchor, standard_layout}
 use Rattle.udfs_volume.specs.Layout.{Layout, Partition, PartitionMap, type1, sparable, repeats_kind, blocks_in, layout, layout_of}
@@ -98,7 +100,15 @@ pub record IsBounded (last : ℕ) (l : Layout) : Type 0 where
 abbrev pub LayoutBounds : Type 0
 LayoutBounds = (last : ℕ) (ds : List Descriptor) (l : Layout) → layout_of last ds ≡ found l → IsBounded last l
 
+-- and so does the layout of a table
+abbrev pub FoundBounds : Type 0
+FoundBounds = (blocks : Blocks) (last : ℕ) (l : Layout) → layout blocks last ≡ found l → IsBounded last l
+
 -- with all known, the layout is that of the first anchor and the main sequence
 abbrev pub StandardLayout : Type 0
 StandardLayout = (volume : Volume) (last : ℕ) → IsVolume volume last → IsLawfulLayout volume last
     → (n : ℕ) × (standard_anchor volume last ≡ Some n) × (standard_layout volume last n ≡ layout (complete volume last) last)
+
+-- the ascending list of some numbers rises strictly
+abbrev pub AscendingRises : Type 0
+AscendingRises = (ns : List ℕ) → IsRising (ascending ns)

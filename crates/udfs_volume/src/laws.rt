@@ -1,12 +1,11 @@
 //! Laws of layouts, each the contract of a function that does nothing.
-ghost use Rattle.std.specs.Prelude.{◌≡◌, ℕ, List};
+ghost use Rattle.std.specs.Prelude.{◌≡◌, ℕ};
 ghost use Rattle.udfs_lattice.specs.declared.facts.Fact.TheVariants.{Unknown};
-ghost use Rattle.udfs_lattice.specs.Volumes.{ascending};
 ghost use Rattle.udfs_volume.specs.Answers.{holes};
 ghost use Rattle.udfs_volume.specs.Layout.{layout};
 ghost use Rattle.udfs_volume.specs.Sequence.{anchor_places};
-ghost use Rattle.udfs_volume.specs.Laws.{LayoutLaw, LayoutBounds, StandardLayout};
-ghost use Rattle.udfs_volume.specs.Seen.{IsRising};
+ghost use Rattle.udfs_volume.specs.Laws.{AscendingRises, FoundBounds, LayoutLaw, LayoutBounds, StandardLayout};
+ghost use Rattle.udfs_volume.specs.Sample.{SampleLayout};
 
 /// Over a table that agrees with a lawful volume, the layout is the volume's and each group of blocks of
 /// which one is needed has a known block; or there are holes, which hold a whole group of which no block
@@ -17,7 +16,8 @@ pub fn layout_of_lawful()
 
 /// A layout that is found lies within the volume.
 pub fn layout_is_bounded()
-    ensures { LayoutBounds }
+    ensures of_descriptors { LayoutBounds }
+    ensures of_table { FoundBounds }
 {}
 
 /// With all blocks of a lawful volume known, the layout is that of the first valid anchor and the main
@@ -33,5 +33,10 @@ pub fn layout_of_nothing()
 
 /// What `ascending` makes of a list of numbers rises strictly.
 pub fn ascending_rises()
-    ensures { (ns : List ℕ) → IsRising (ascending ns) }
+    ensures { AscendingRises }
+{}
+
+/// There is a lawful layout: the sample volume has it, whatever stands in its partition.
+pub fn sample_layout_is_lawful()
+    ensures { SampleLayout }
 {}

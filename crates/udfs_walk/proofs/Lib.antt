@@ -1,3 +1,7 @@
+pub mod PublicLaws
+pub mod RoutesOnce
+pub mod NodeCells
+pub mod SampleLaw
 pub mod Rising
 pub mod RunLemmas
 pub mod RouteOrder

@@ -1,17 +1,16 @@
 -- What a walk still owes: all that stands below the entries that are left.
 --     IsWalking v root nodes frames      the nodes so far, and what the directories still owe, are all
-use Rattle.std.proofs.Common.{◌≡◌, refl, sym, ◌∙◌, ap, subst, ℕ, ◌+◌, ◌<◌, ◌≤◌, false, List, [], ◌∷◌, ◌++◌, length, map, arith, append_assoc, length-append, drop, drop-cons, get_or}
+use Rattle.std.proofs.Common.{◌≡◌, refl, sym, ◌∙◌, ap, subst, ℕ, ◌+◌, ◌<◌, ◌≤◌, false, List, [], ◌∷◌, ◌++◌, Option, None, Some, length, map, arith, append_assoc, length-append}
 use Rattle.std.specs.Prelude.{suc, flat_map}
 use Rattle.std.proofs.lemmas.List.{append-nil, length-map}
 use Rattle.udfs_tag.specs.declared.layouts.LongAd.{LongAd}
 use Rattle.udfs_space.specs.Places.{View}
-use Rattle.udfs_file.specs.declared.directories.DirEntry.{DirEntry}
 use Rattle.udfs_walk.specs.NodeFields.{NodeFields}
 use Rattle.udfs_walk.specs.Targets.{Icb}
 use Rattle.udfs_walk.specs.Routes.{Walked, at_root, inside, HasMoreRoutes}
 use Rattle.udfs_walk.specs.Nodes.{node}
 use Rattle.udfs_walk.specs.Visits.{end_at}
-use Rattle.udfs_walk.specs.Frames.{FrameFields, frame_at, IsNextTaken}
+use Rattle.udfs_walk.specs.Frames.{FrameFields, IsFrameOf, frame_at, IsNextTaken, kept}
 use Rattle.udfs_walk.specs.Walks.{AreNodes}
 use Rattle.udfs_walk.proofs.Trees.{tree, tree-is, tree_walk, tree_more}
 
@@ -36,12 +35,18 @@ owed_last v (g ∷ fs) f = ap (λ x. x ++ owed_frame v g) (owed_last v fs f) ∙
 tree_frame : (v : View) (w : Walked) → tree v w ≡ w ∷ owed_frame v (frame_at v w)
 tree_frame v w = tree-is v w
 
-pub walk_start : (v : View) (root : LongAd) (n : NodeFields) (f : FrameFields) (path : List (List ℕ)) (above : List Icb) (nodes : List NodeFields) (frames : List FrameFields)
-    → path ≡ [] → above ≡ [] → n ≡ node v (end_at root path above false) → f ≡ frame_at v (end_at root path above false) → nodes ≡ n ∷ [] → frames ≡ f ∷ [] → IsWalking v root nodes frames
+-- a directory that need not be kept owes nothing
+kept_owed : (v : View) (fs : List FrameFields) (o : Option FrameFields) (f : FrameFields) → IsFrameOf o f → owed_frame v f ++ owed v fs ≡ owed v (kept fs o)
+kept_owed v fs None f e = ap (λ es. flat_map (λ e. tree v (inside f.path f.above e)) es ++ owed v fs) e
+kept_owed v fs (Some g) f e = ap (λ x. owed_frame v x ++ owed v fs) (sym e) ∙ sym (owed_last v fs g)
+
+pub walk_start : (v : View) (root : LongAd) (n : NodeFields) (f : Option FrameFields) (path : List (List ℕ)) (above : List Icb) (nodes : List NodeFields) (frames : List FrameFields)
+    → path ≡ [] → above ≡ [] → n ≡ node v (end_at root path above false) → IsFrameOf f (frame_at v (end_at root path above false)) → nodes ≡ n ∷ [] → frames ≡ kept [] f → IsWalking v root nodes frames
 walk_start v root n f path above nodes frames p a en ef ns fs = record {
   all = ap (map (node v)) (tree_frame v (at_root root))
       ∙ (λ i. node v (end_at root (sym p i) (sym a i) false) ∷ map (node v) (owed_frame v (frame_at v (end_at root (sym p i) (sym a i) false))))
-      ∙ (λ i. sym en i ∷ map (node v) (owed_frame v (sym ef i)))
+      ∙ (λ i. sym en i ∷ map (node v) (sym (append-nil (owed_frame v (frame_at v (end_at root path above false)))) i))
+      ∙ ap (λ x. n ∷ map (node v) x) (kept_owed v [] f (frame_at v (end_at root path above false)) ef)
       ∙ (λ i. sym ns i ++ map (node v) (owed v (sym fs i)));
   few = subst (λ l. length l ≤ 65536) (sym ns) (omega arith);
 }
@@ -55,21 +60,21 @@ walk_none v root nodes frames rest f w e l = record {
 }
 
 -- where an entry is left, the last directory owes it and what is below it
-taken_owed : (v : View) (frames rest : List FrameFields) (f g : FrameFields) (n : NodeFields) (b : FrameFields) → frames ≡ rest ++ f ∷ []
-    → (t : IsNextTaken v f g n b) → owed v frames ≡ inside f.path f.above t.entry ∷ owed v ((rest ++ g ∷ []) ++ b ∷ [])
+taken_owed : (v : View) (frames rest : List FrameFields) (f g : FrameFields) (n : NodeFields) (b : Option FrameFields) → frames ≡ rest ++ f ∷ []
+    → (t : IsNextTaken v f g n b) → owed v frames ≡ inside f.path f.above t.entry ∷ owed v (kept (rest ++ g ∷ []) b)
 taken_owed v frames rest f g n b e t =
     ap (owed v) e ∙ owed_last v rest f
     ∙ ap (λ es. flat_map (λ e. tree v (inside f.path f.above e)) es ++ owed v rest) t.first
     ∙ ap (λ x. (x ++ flat_map (λ e. tree v (inside f.path f.above e)) g.left) ++ owed v rest) (tree_frame v (inside f.path f.above t.entry))
     ∙ ap (λ x. inside f.path f.above t.entry ∷ x) (
     append_assoc (owed_frame v (frame_at v (inside f.path f.above t.entry))) (flat_map (λ e. tree v (inside f.path f.above e)) g.left) (owed v rest)
-    ∙ (λ i. owed_frame v (sym t.frame i) ++ (flat_map (λ e. tree v (inside (sym t.path i) (sym t.above i) e)) g.left ++ owed v rest))
-    ∙ ap (λ x. owed_frame v b ++ x) (sym (owed_last v rest g))
-    ∙ sym (owed_last v (rest ++ g ∷ []) b))
+    ∙ (λ i. owed_frame v (frame_at v (inside f.path f.above t.entry)) ++ (flat_map (λ e. tree v (inside (sym t.path i) (sym t.above i) e)) g.left ++ owed v rest))
+    ∙ ap (λ x. owed_frame v (frame_at v (inside f.path f.above t.entry)) ++ x) (sym (owed_last v rest g))
+    ∙ kept_owed v (rest ++ g ∷ []) b (frame_at v (inside f.path f.above t.entry)) t.frame)
 
-pub walk_some : (v : View) (root : LongAd) (nodes more : List NodeFields) (frames rest next : List FrameFields) (f g : FrameFields) (n : NodeFields) (b : FrameFields)
+pub walk_some : (v : View) (root : LongAd) (nodes more : List NodeFields) (frames rest next : List FrameFields) (f g : FrameFields) (n : NodeFields) (b : Option FrameFields)
     → IsWalking v root nodes frames → frames ≡ rest ++ f ∷ [] → IsNextTaken v f g n b → length nodes < 65536
-    → more ≡ nodes ++ n ∷ [] → next ≡ (rest ++ g ∷ []) ++ b ∷ [] → IsWalking v root more next
+    → more ≡ nodes ++ n ∷ [] → next ≡ kept (rest ++ g ∷ []) b → IsWalking v root more next
 walk_some v root nodes more frames rest next f g n b w e t h em en = record {
   all = w.all ∙ ap (λ x. nodes ++ map (node v) x) (taken_owed v frames rest f g n b e t)
       ∙ (λ i. nodes ++ (sym t.node i ∷ map (node v) (owed v (sym en i))))
@@ -78,13 +83,13 @@ walk_some v root nodes more frames rest next f g n b w e t h em en = record {
   few = let l : length more ≡ length nodes + 1 = ap length em ∙ length-append nodes (n ∷ []) in omega (arith, h, l);
 }
 
-pub walk_many : (v : View) (root : LongAd) (nodes : List NodeFields) (frames rest : List FrameFields) (f g : FrameFields) (n : NodeFields) (b : FrameFields)
+pub walk_many : (v : View) (root : LongAd) (nodes : List NodeFields) (frames rest : List FrameFields) (f g : FrameFields) (n : NodeFields) (b : Option FrameFields)
     → IsWalking v root nodes frames → frames ≡ rest ++ f ∷ [] → IsNextTaken v f g n b → 65536 ≤ length nodes → HasMoreRoutes v root 65536
 walk_many v root nodes frames rest f g n b w e t h = tree_more v root 65536 (
     let all : length (map (node v) (tree v (at_root root))) ≡ length (tree v (at_root root)) = length-map (tree v (at_root root)) (node v) in
-    let sum : length (map (node v) (tree v (at_root root))) ≡ length nodes + suc (length (map (node v) (owed v ((rest ++ g ∷ []) ++ b ∷ []))))
+    let sum : length (map (node v) (tree v (at_root root))) ≡ length nodes + suc (length (map (node v) (owed v (kept (rest ++ g ∷ []) b))))
     = ap length (w.all ∙ ap (λ x. nodes ++ map (node v) x) (taken_owed v frames rest f g n b e t))
-    ∙ length-append nodes (node v (inside f.path f.above t.entry) ∷ map (node v) (owed v ((rest ++ g ∷ []) ++ b ∷ []))) in
+    ∙ length-append nodes (node v (inside f.path f.above t.entry) ∷ map (node v) (owed v (kept (rest ++ g ∷ []) b))) in
     omega (arith, all, sum, h))
 
 none_left : (xs : List FrameFields) → length xs ≡ 0 → xs ≡ []
@@ -101,10 +106,3 @@ walk_done v root nodes frames w n =
       few = let l : length (tree v (at_root root)) ≡ length nodes = sym (length-map (tree v (at_root root)) (node v)) ∙ ap length is in let h = w.few in omega (arith, l, h);
       is = sym is;
     }
-
--- the next entry stands in front of those that are left
-pub next_left : (xs ys : List DirEntry) (n : ℕ) (e : DirEntry) → ys ≡ xs → n < length ys → e ≡ get_or ys n e → drop n xs ≡ e ∷ drop (n + 1) xs
-next_left xs ys n e q h g = ap (drop n) (sym q) ∙ drop-cons ys n e h ∙ (λ i. sym g i ∷ drop (p i) (q i))
-  where
-    p : suc n ≡ n + 1
-    p = omega arith

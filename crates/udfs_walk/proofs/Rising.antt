@@ -3,9 +3,9 @@ use Rattle.std.proofs.Common.{◌≡◌, refl, sym, ◌∙◌, ap, subst, inl, i
 use Rattle.std.specs.Prelude.{zero, suc, slice_index, Contains}
 use Rattle.std.specs.List.Sorted.{IsStrictlyIncreasing}
 use Rattle.udfs_lattice.specs.Volumes.{Includes, ascending}
-use Rattle.udfs_lattice.proofs.VolumeLaws.{includes_ascending}
+use Rattle.udfs_lattice.proofs.PublicLaws.{ascending_includes}
 use Rattle.udfs_volume.specs.Seen.{IsRising}
-use Rattle.udfs_volume.proofs.Rising.{rising_ascending}
+use Rattle.udfs_volume.proofs.PublicLaws.{ascending_rises}
 
 -- ---- a rising list is told by its numbers
 rest_in : (x : ℕ) (xs ys : List ℕ) → IsRising (x ∷ xs) → ((n : ℕ) → Includes (x ∷ xs) n → Includes (x ∷ ys) n) → (n : ℕ) → Includes xs n → Includes ys n
@@ -62,6 +62,6 @@ increasing_rises (x ∷ y ∷ ys) h =
 
 -- a strictly increasing list of the same numbers
 pub increasing_is : (xs ys : List ℕ) → IsStrictlyIncreasing ys → ((n : ℕ) → Contains xs n → Contains ys n) → ((n : ℕ) → Contains ys n → Contains xs n) → ys ≡ ascending xs
-increasing_is xs ys up f g = rising_same ys (ascending xs) (increasing_rises ys up) (rising_ascending xs)
-    (λ n i. (includes_ascending xs n).1 (Contains-includes xs n (g n (includes-Contains ys n i))))
-    (λ n i. Contains-includes ys n (f n (includes-Contains xs n ((includes_ascending xs n).0 i))))
+increasing_is xs ys up f g = rising_same ys (ascending xs) (increasing_rises ys up) (ascending_rises xs)
+    (λ n i. (ascending_includes xs n).1 (Contains-includes xs n (g n (includes-Contains ys n i))))
+    (λ n i. Contains-includes ys n (f n (includes-Contains xs n ((ascending_includes xs n).0 i))))

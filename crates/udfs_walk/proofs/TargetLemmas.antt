@@ -10,7 +10,7 @@ use Rattle.udfs_file.specs.declared.faults.NodeFault.{NodeFault}
 use Rattle.udfs_file.specs.declared.faults.NodeFault.TheVariants.{Range}
 use Rattle.udfs_walk.specs.Nodes.{node, node_at}
 use Rattle.udfs_walk.specs.Routes.{Walked}
-use Rattle.udfs_walk.specs.Targets.{Target, bad, entry, entry_unless, target_in, target_at, target}
+use Rattle.udfs_walk.specs.Targets.{Target, bad, unread, entry, entry_unless, target_in, target_at, target}
 
 target_is : (v : View) (a : LongAd) (f : Option NodeFault) (o : Option (ℕ × State)) → address_fault v a ≡ f → block_at v a.reference a.block ≡ o → target v a ≡ target_at f a.block o
 unfolding target
@@ -36,3 +36,13 @@ fault_target v a b n bytes fault e h q f = ap (λ o. entry_unless o (entry_of by
 pub node_is : (v : View) (w : Walked) (t : Target) → t ≡ target v w.address → node_at v w t ≡ node v w
 unfolding node
 node_is v w t e = ap (node_at v w) e
+
+-- a node stands at the end of its route
+pub node_path : (v : View) (w : Walked) → (node v w).path ≡ w.path
+unfolding node
+node_path v w = go (target v w.address)
+  where
+    go : (t : Target) → (node_at v w t).path ≡ w.path
+    go (bad f) = refl
+    go (unread n) = refl
+    go (entry e) = refl

@@ -1,5 +1,7 @@
 -- The directories on the way that code keeps.
 --     frame_at view w            the directory at the end of a route, none of whose entries was gone into
+--     IsFrameOf frame f          the directory, which need not be kept where no entry is left
+--     kept frames frame          these directories and one more, if there is one
 --     IsTaken view old taken new     the next entry was gone into
 use Rattle.std.specs.Prelude.{◌≡◌, ℕ, List, [], ◌∷◌, ◌++◌, Option, Some, None}
 use Rattle.udfs_space.specs.Places.{View}
@@ -18,15 +20,24 @@ pub record FrameFields : Type 0 where
 abbrev pub frame_at : View → Walked → FrameFields
 frame_at view w = record { path = w.path; above = w.above ++ icb_of w.address ∷ []; left = entries_below view w }
 
+-- a directory without entries need not be kept
+abbrev pub IsFrameOf : Option FrameFields → FrameFields → Type 0
+IsFrameOf None f = f.left ≡ []
+IsFrameOf (Some kept) f = kept ≡ f
+
+abbrev pub kept : List FrameFields → Option FrameFields → List FrameFields
+kept frames None = frames
+kept frames (Some frame) = frames ++ frame ∷ []
+
 -- of the entries that are left the first
-pub record IsNextTaken (view : View) (old new : FrameFields) (n : NodeFields) (below : FrameFields) : Type 0 where
+pub record IsNextTaken (view : View) (old new : FrameFields) (n : NodeFields) (below : Option FrameFields) : Type 0 where
   pub entry : DirEntry
   pub first : old.left ≡ entry ∷ new.left
   pub path : new.path ≡ old.path
   pub above : new.above ≡ old.above
   pub node : n ≡ node view (inside old.path old.above entry)
-  pub frame : below ≡ frame_at view (inside old.path old.above entry)
+  pub frame : IsFrameOf below (frame_at view (inside old.path old.above entry))
 
-abbrev pub IsTaken : View → FrameFields → Option (NodeFields × FrameFields) → FrameFields → Type 0
+abbrev pub IsTaken : View → FrameFields → Option (NodeFields × Option FrameFields) → FrameFields → Type 0
 IsTaken view old None new = old.left ≡ []
 IsTaken view old (Some taken) new = IsNextTaken view old new taken.0 taken.1

@@ -1,8 +1,17 @@
--- What holds of every walk.
-use Rattle.std.specs.Prelude.{◌≡◌, ℕ, ◌≤◌, List, length}
+-- What holds of every walk, and of the nodes at its ends.
+--     SomeWalk, OnlyWalk, NoMoreRoutes     every volume has a walk, only one, and no more routes than it has ends
+--     RoutesStandOnce                      routes in order stand there once each
+--     NodeCells                            a node with a body has the cells that stand at the end of its route
+use Rattle.std.specs.Prelude.{◌≡◌, ◌≤◌, ⊤, ℕ, List, length, Option, Some, None, slice_get}
 use Rattle.udfs_tag.specs.declared.layouts.LongAd.{LongAd}
 use Rattle.udfs_space.specs.Places.{View}
-use Rattle.udfs_walk.specs.Routes.{Walked, IsWalk, HasMoreRoutes}
+use Rattle.udfs_file.specs.declared.cells.Cell.{Cell}
+use Rattle.udfs_walk.specs.NodeBodies.{HasCells}
+use Rattle.udfs_walk.specs.NodeFields.{NodeFields}
+use Rattle.udfs_walk.specs.Routes.{Route, Walked, IsInOrder, IsWalk, HasMoreRoutes}
+use Rattle.udfs_walk.specs.Walks.{AreNodes}
+use Rattle.udfs_walk.specs.declared.standings.Standing.{Standing}
+use Rattle.udfs_walk.specs.declared.standings.Standing.TheVariants.{Whole, Torn, Loop, Fault}
 
 -- every volume has a walk
 abbrev pub SomeWalk : Type 0
@@ -15,3 +24,21 @@ OnlyWalk = (view : View) (root : LongAd) (walks others : List Walked) → IsWalk
 -- where a walk has at most so many ends, no more routes lead anywhere
 abbrev pub NoMoreRoutes : Type 0
 NoMoreRoutes = (view : View) (root : LongAd) (walks : List Walked) (count : ℕ) → IsWalk view root walks → length walks ≤ count → ¬ HasMoreRoutes view root count
+
+-- a route stands once among routes that are in order
+abbrev pub RoutesStandOnce : Type 0
+RoutesStandOnce = (routes : List Route) (i j : ℕ) (route : Route) → IsInOrder routes → slice_get routes i ≡ Some route → slice_get routes j ≡ Some route → i ≡ j
+
+-- the node is whole, or torn and of known size: its entry is read, and its body has no fault
+abbrev pub HasBody : Standing → Option ℕ → Type 0
+HasBody Whole size = ⊤
+HasBody (Torn torn) None = ⊥
+HasBody (Torn torn) (Some size) = ⊤
+HasBody Loop size = ⊥
+HasBody (Fault f) size = ⊥
+
+-- the node at a place of the list stands at the end of the route there; if it has a body, that has cells
+abbrev pub NodeCells : Type 0
+NodeCells = (view : View) (root : LongAd) (nodes : List NodeFields) (are : AreNodes view root nodes) (index : ℕ) (n : NodeFields)
+    → slice_get nodes index ≡ Some n → HasBody n.standing n.size
+    → (end : Walked) × (slice_get are.walks index ≡ Some end) × (n.icb ≡ end.address) × ((cs : List Cell) × HasCells view end.address cs)

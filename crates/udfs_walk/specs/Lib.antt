@@ -1,7 +1,9 @@
+pub mod Sample
 pub mod TornFields
 pub mod Standings
 pub mod Gaps
 pub mod NodeFields
+pub mod Paths
 pub mod Targets
 pub mod Routes
 pub mod Nodes

@@ -1,12 +1,13 @@
 //! What is told of nodes, and of entries that no name leads to.
 
+use crate::paths::Path;
 use crate::standings::Standing;
 use std::alloc::AllocError;
 use std::error::Error;
 use std::fmt;
 use std::marker::Model;
 use udfs_file::Kind;
-use udfs_osta::{Name, Stamp};
+use udfs_osta::Stamp;
 use udfs_tag::LongAd;
 
 /// What is told of a node: of what stands at the end of one route from the root. Two equal names in a directory are
@@ -14,7 +15,7 @@ use udfs_tag::LongAd;
 #[derive(Debug, Drop)]
 pub struct Node {
     /// The names on the way from the root, whose own path is empty.
-    pub path: Vec<Name>,
+    pub path: Path,
     /// Where its information control block is said to stand.
     pub icb: LongAd,
     /// Its kind.
@@ -35,7 +36,7 @@ impl Model for Node {
     ghost Value = { NodeFields };
 
     ghost view = { λ n. record {
-      path = n.path.items;
+      path = n.path;
       icb = n.icb;
       kind = n.kind;
       size = n.size;

@@ -1,5 +1,6 @@
 //! Laws of the walk over all routes, each the contract of a function that does nothing.
-ghost use Rattle.udfs_walk.specs.Laws.{NoMoreRoutes, OnlyWalk, SomeWalk};
+ghost use Rattle.udfs_walk.specs.Laws.{NoMoreRoutes, NodeCells, OnlyWalk, RoutesStandOnce, SomeWalk};
+ghost use Rattle.udfs_walk.specs.Sample.{AreSampleNodes};
 
 /// Every volume has a walk: at most 64 names lead anywhere.
 pub fn some_walk()
@@ -15,4 +16,20 @@ pub fn only_walk()
 /// exactly where there are more.
 pub fn no_more_routes()
     ensures { NoMoreRoutes }
+{}
+
+/// Routes in the order of words stand there once each, so a place in the list of nodes is one route.
+pub fn routes_stand_once()
+    ensures { RoutesStandOnce }
+{}
+
+/// The node at a place of the list stands at the end of the route there, and has its address. Where it is whole, or torn and
+/// of known size, an entry without a fault is known there, whose body has cells.
+pub fn node_has_cells()
+    ensures { NodeCells }
+{}
+
+/// In the sample volume the root and the files A and B are whole nodes, and nothing else is reached.
+pub fn sample_nodes_are_whole()
+    ensures { AreSampleNodes }
 {}

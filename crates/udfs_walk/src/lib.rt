@@ -7,6 +7,7 @@ mod ascending;
 mod gaps;
 pub mod laws;
 mod node_bodies;
+pub mod paths;
 mod rereads;
 pub mod standings;
 mod targets;
@@ -16,6 +17,7 @@ mod walks;
 
 pub use answers::{Node, NodesError, Unnamed};
 pub use node_bodies::body_at;
+pub use paths::Path;
 pub use rereads::reread;
 pub use standings::{Standing, Torn};
 pub use walks::nodes;

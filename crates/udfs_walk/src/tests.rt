@@ -2,5 +2,6 @@
 
 mod deep;
 mod memory;
+mod paths;
 mod rows;
 mod told;

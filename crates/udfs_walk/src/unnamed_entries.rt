@@ -1,6 +1,6 @@
 //! Entries that no name leads to.
 
-ghost use Rattle.std.specs.Prelude.{◌≡◌, ◌++◌, ◌<◌, IfOk, IsSorted, List, nat_eq, filter_map, length};
+ghost use Rattle.std.specs.Prelude.{true, ◌≡◌, ◌++◌, ◌<◌, IfOk, IsSorted, List, nat_eq, filter_map, length};
 ghost use Rattle.std.specs.List.{list_any};
 ghost use Rattle.std.specs.Ordering.{nat_cmp};
 ghost use Rattle.udfs_lattice.specs.Tables.{state_of};
@@ -55,12 +55,36 @@ fn is_among(keys: &[u64], key: u64) -> bool
     }
 }
 
-/// The entry at a logical block, if one stands there and no name leads to it.
+/// Whether a number stands at this place of these.
+fn is_at(keys: &[u64], at: usize, key: u64) -> bool
+    ensures { result ≡ true → list_any (nat_eq key) keys.now ≡ true }
+{
+    match keys.get(at) {
+        Some(found) => *found == key,
+        None => false,
+    }
+}
+
+/// The first place, from this one on, of a number that is not below another; or that behind the last.
+fn place_from(keys: &[u64], at: usize, key: u64) -> usize {
+    let mut at = at;
+    'passed: while let Some(passed) = keys.get(at) {
+        if *passed >= key {
+            return at;
+        }
+        at += 1;
+    }
+    at
+}
+
+/// The entry at a logical block, if one stands there and no name leads to it. Its number may stand among the keys at
+/// this place: then the block is not read, and else the number is looked up once an entry is found.
 fn unnamed_at(
     alloc: Global,
     table: &BlockTable,
     space: &Space,
     keys: &[u64],
+    at: usize,
     reference: u16,
     block: u32,
 ) -> Result<Option<Unnamed>, AllocError>
@@ -68,6 +92,10 @@ fn unnamed_at(
     ensures { IfOk result (λ found. (nodes : List NodeFields) → AreNamed (view (state_of table.now) space.now) nodes keys.now
         → found ≡ unnamed_at (view (state_of table.now) space.now) nodes (reference, block)) }
 {
+    let key = key(reference, block);
+    if is_at(keys, at, key) {
+        return Ok(None);
+    }
     let address = LongAd {
         kind: 0,
         length: 2048,
@@ -78,7 +106,7 @@ fn unnamed_at(
         Target::Fault(_) => Ok(None),
         Target::Unread(_) => Ok(None),
         Target::Entry(entry) => {
-            if is_among(keys, key(reference, block)) {
+            if is_among(keys, key) {
                 return Ok(None);
             }
             let told = entry_told(alloc, table, space, &entry, address, false, false)?;
@@ -108,8 +136,10 @@ fn push_unnamed(
     ensures { IfOk result (λ done. (nodes : List NodeFields) → AreNamed (view (state_of table.now) space.now) nodes keys.now
         → found.new.items ≡ found.old.items ++ filter_map (unnamed_at (view (state_of table.now) space.now) nodes) (icbs_in space.now reference)) }
 {
+    let mut at = 0;
     for block in 0..space.length(reference) {
-        match unnamed_at(alloc, table, space, keys, reference, block)? {
+        at = place_from(keys, at, key(reference, block));
+        match unnamed_at(alloc, table, space, keys, at, reference, block)? {
             Some(entry) => found.push(entry)?,
             None => {}
         }

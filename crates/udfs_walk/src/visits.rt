@@ -17,13 +17,13 @@ ghost use Rattle.udfs_walk.specs.Visits.{end_at};
 
 use crate::answers::Node;
 use crate::gaps::cells_standing;
+use crate::paths::Path;
 use crate::standings::{Standing, Torn};
 use crate::targets::{Target, target_at};
 use std::alloc::{AllocError, Global};
 use udfs_file::directories::DirFront;
 use udfs_file::{Body, Dir, DirEntry, Entry, Kind, NodeFault, WalkError};
 use udfs_lattice::BlockTable;
-use udfs_osta::Name;
 use udfs_space::Space;
 use udfs_tag::LongAd;
 
@@ -138,8 +138,8 @@ pub(crate) struct Visit {
 }
 
 /// A node whose entry is not read.
-fn unread(address: LongAd, path: Vec<Name>, hidden: bool, standing: Standing) -> Node
-    ensures { (above : List Icb) → result ≡ untold (end_at address path.items above hidden) standing }
+fn unread(address: LongAd, path: Path, hidden: bool, standing: Standing) -> Node
+    ensures { (above : List Icb) → result ≡ untold (end_at address path above hidden) standing }
 {
     Node {
         path,
@@ -153,14 +153,8 @@ fn unread(address: LongAd, path: Vec<Name>, hidden: bool, standing: Standing) ->
 }
 
 /// A node whose entry is read.
-fn read(
-    entry: &Entry<'_>,
-    address: LongAd,
-    path: Vec<Name>,
-    hidden: bool,
-    standing: Standing,
-) -> Node
-    ensures { (above : List Icb) → result ≡ told (end_at address path.items above hidden) (entry_of entry.now) standing }
+fn read(entry: &Entry<'_>, address: LongAd, path: Path, hidden: bool, standing: Standing) -> Node
+    ensures { (above : List Icb) → result ≡ told (end_at address path above hidden) (entry_of entry.now) standing }
 {
     Node {
         path,
@@ -180,12 +174,12 @@ pub(crate) fn visited(
     table: &BlockTable,
     space: &Space,
     address: LongAd,
-    path: Vec<Name>,
+    path: Path,
     above: &[(u16, u32)],
     hidden: bool,
 ) -> Result<Visit, AllocError>
-    ensures node { IfOk result (λ visit. visit.node ≡ node (view (state_of table.now) space.now) (end_at address path.items above.now hidden)) }
-    ensures entries { IfOk result (λ visit. visit.entries.items ≡ entries_below (view (state_of table.now) space.now) (end_at address path.items above.now hidden)) }
+    ensures node { IfOk result (λ visit. visit.node ≡ node (view (state_of table.now) space.now) (end_at address path above.now hidden)) }
+    ensures entries { IfOk result (λ visit. visit.entries.items ≡ entries_below (view (state_of table.now) space.now) (end_at address path above.now hidden)) }
 {
     match target_at(table, space, address) {
         Target::Fault(fault) => Ok(Visit {

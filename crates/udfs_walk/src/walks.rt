@@ -1,6 +1,6 @@
 //! The walk over all routes, in the order of words.
 
-ghost use Rattle.std.specs.Prelude.{◌≡◌, ◌∷◌, [], ◌++◌, IfOk, MatchOption, MatchResult};
+ghost use Rattle.std.specs.Prelude.{◌≡◌, ◌+◌, ◌≤◌, ◌∷◌, [], ◌++◌, IfOk, MatchOption, MatchResult, length};
 ghost use Rattle.udfs_lattice.specs.Tables.{state_of};
 ghost use Rattle.udfs_space.specs.Places.{view};
 ghost use Rattle.udfs_walk.specs.Nodes.{node};
@@ -8,16 +8,17 @@ ghost use Rattle.udfs_walk.specs.Visits.{end_at};
 ghost use Rattle.udfs_walk.specs.Walks.{AreNodes, IsNodesRefused};
 ghost use Rattle.udfs_walk.specs.Routes.{HasMoreRoutes};
 ghost use Rattle.udfs_walk.specs.Targets.{icb_of};
-ghost use Rattle.udfs_walk.specs.Frames.{IsTaken, frame_at};
+ghost use Rattle.udfs_walk.specs.Frames.{IsFrameOf, IsTaken, frame_at, kept};
 
 use crate::answers::{Node, NodesError};
+use crate::paths::{Names, Path};
 use crate::visits::{Visit, visited};
 use bitflags::Flags;
 use std::alloc::{AllocError, Global};
 use std::marker::Model;
+use std::vec::IntoIter;
 use udfs_file::{DirEntry, Marks};
 use udfs_lattice::BlockTable;
-use udfs_osta::Name;
 use udfs_space::Space;
 use udfs_tag::LongAd;
 
@@ -25,41 +26,21 @@ use udfs_tag::LongAd;
 #[derive(Drop)]
 struct Frame {
     /// The names that lead to it.
-    path: Vec<Name>,
+    names: Names,
     /// The ICBs of the directories on the way, its own among them.
     above: Vec<(u16, u32)>,
-    entries: Vec<DirEntry>,
-    /// How many entries were gone into.
-    next: usize,
+    /// The entries that were not gone into.
+    entries: IntoIter<DirEntry>,
 }
 
 impl Model for Frame {
+    ghost use Rattle.std.specs.Vec.Iter.{into_iter_items};
     ghost use Rattle.udfs_walk.specs.Frames.{FrameFields};
-    ghost use Rattle.std.specs.Prelude.{drop};
+    ghost use Rattle.udfs_walk.specs.Paths.{shared};
 
     ghost Value = { FrameFields };
 
-    ghost view = { λ f. record { path = f.path.items; above = f.above.items; left = drop f.next f.entries.items } };
-}
-
-/// A path that goes one name further.
-fn longer(alloc: Global, path: &[Name], name: &Name) -> Result<Vec<Name>, AllocError>
-    ensures { IfOk result (λ longer. longer.items ≡ path.now ++ name.now ∷ []) }
-{
-    let mut longer = copied(alloc, path)?;
-    longer.push(name.clone()?)?;
-    Ok(longer)
-}
-
-/// The same names.
-fn copied(alloc: Global, path: &[Name]) -> Result<Vec<Name>, AllocError>
-    ensures { IfOk result (λ copied. copied.items ≡ path.now) }
-{
-    let mut copied = Vec::with_capacity(alloc, path.len())?;
-    for name in path {
-        copied.push(name.clone()?)?;
-    }
-    Ok(copied)
+    ghost view = { λ f. record { path = shared f.names.value.items; above = f.above.items; left = into_iter_items f.entries } };
 }
 
 /// The ICBs above a directory, and its own.
@@ -70,35 +51,36 @@ fn with_icb(
 ) -> Result<Vec<(u16, u32)>, AllocError>
     ensures { IfOk result (λ icbs. icbs.items ≡ above.now ++ icb_of address ∷ []) }
 {
-    let mut icbs = Vec::from_slice(alloc, above)?;
+    let mut icbs = Vec::with_capacity(alloc, above.len() + 1)?;
+    icbs.extend_from_slice(above)?;
     icbs.push((address.reference, address.block))?;
     Ok(icbs)
 }
 
 impl Frame {
-    /// Goes to what stands at the end of a route: its node, and itself as a directory.
+    /// Goes to what stands at the end of a route: its node, and itself as a directory, where a route goes on.
     fn enter(
         alloc: Global,
         table: &BlockTable,
         space: &Space,
         address: LongAd,
-        path: Vec<Name>,
+        path: Path,
         above: &[(u16, u32)],
         hidden: bool,
-    ) -> Result<(Node, Frame), AllocError>
-        ensures node { IfOk result (λ entered. entered.0 ≡ node (view (state_of table.now) space.now) (end_at address path.items above.now hidden)) }
-        ensures frame { IfOk result (λ entered. entered.1 ≡ frame_at (view (state_of table.now) space.now) (end_at address path.items above.now hidden)) }
+    ) -> Result<(Node, Option<Frame>), AllocError>
+        ensures node { IfOk result (λ entered. entered.0 ≡ node (view (state_of table.now) space.now) (end_at address path above.now hidden)) }
+        ensures frame { IfOk result (λ entered. IsFrameOf entered.1 (frame_at (view (state_of table.now) space.now) (end_at address path above.now hidden))) }
     {
-        let names = copied(alloc, &path)?;
-        let icbs = with_icb(alloc, above, address)?;
         let Visit { node, entries } = visited(alloc, table, space, address, path, above, hidden)?;
+        if entries.is_empty() {
+            return Ok((node, None));
+        }
         let frame = Frame {
-            path: names,
-            above: icbs,
-            entries,
-            next: 0,
+            names: node.path.names(alloc)?,
+            above: with_icb(alloc, above, address)?,
+            entries: entries.into_iter(),
         };
-        Ok((node, frame))
+        Ok((node, Some(frame)))
     }
 
     /// Goes into the next entry, if one is left.
@@ -107,19 +89,29 @@ impl Frame {
         alloc: Global,
         table: &BlockTable,
         space: &Space,
-    ) -> Result<Option<(Node, Frame)>, AllocError>
+    ) -> Result<Option<(Node, Option<Frame>)>, AllocError>
         ensures { IfOk result (λ taken. IsTaken (view (state_of table.now) space.now) self.old taken self.new) }
     {
-        let Some(entry) = self.entries.get(self.next) else {
+        let Some(entry) = self.entries.next() else {
             return Ok(None);
         };
-        let path = longer(alloc, &self.path, &entry.name)?;
-        let icb = entry.icb;
-        let hidden = entry.marks.contains(Marks::HIDDEN);
+        let DirEntry { name, icb, marks } = entry;
+        let path = Path::inside(alloc, &self.names, name)?;
+        let hidden = marks.contains(Marks::HIDDEN);
         let entered = Frame::enter(alloc, table, space, icb, path, &self.above, hidden)?;
-        self.next += 1;
         Ok(Some(entered))
     }
+}
+
+/// Puts a directory, if there is one, behind the others.
+fn keep(frames: &mut Vec<Frame>, frame: Option<Frame>) -> Result<(), AllocError>
+    ensures kept { IfOk result (λ done. frames.new.items ≡ kept frames.old.items frame) }
+    ensures most { IfOk result (λ done. length frames.new.items ≤ length frames.old.items + 1) }
+{
+    if let Some(frame) = frame {
+        frames.push(frame)?;
+    }
+    Ok(())
 }
 
 /// The nodes, unless there are more than the limit.
@@ -132,23 +124,23 @@ fn walk(
     ensures { IfOk result (λ listed. MatchOption listed (HasMoreRoutes (view (state_of table.now) space.now) root 65536)
         (λ found. AreNodes (view (state_of table.now) space.now) root found.items)) }
 {
-    let (node, frame) = Frame::enter(alloc, table, space, root, Vec::new(alloc), &[], false)?;
+    let path = Path::root(alloc)?;
+    let (node, frame) = Frame::enter(alloc, table, space, root, path, &[], false)?;
     let mut nodes = Vec::new(alloc);
     nodes.push(node)?;
     let mut frames = Vec::new(alloc);
-    frames.push(frame)?;
+    keep(&mut frames, frame)?;
     'walk: while let Some(mut frame) = frames.pop() {
-        match frame.step(alloc, table, space)? {
-            None => {}
-            Some((node, below)) => {
-                if nodes.len() >= 65536 {
-                    return Ok(None);
-                }
-                nodes.push(node)?;
-                frames.push(frame)?;
-                frames.push(below)?;
-            }
+        let (node, below) = match frame.step(alloc, table, space)? {
+            None => continue,
+            Some(taken) => taken,
+        };
+        if nodes.len() >= 65536 {
+            return Ok(None);
         }
+        nodes.push(node)?;
+        frames.push(frame)?;
+        keep(&mut frames, below)?;
     }
     Ok(Some(nodes))
 }

@@ -3,3 +3,4 @@ pub mod Spelling
 pub mod Extracting
 pub mod Rereading
 pub mod JsonRuns
+pub mod Asking

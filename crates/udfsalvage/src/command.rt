@@ -8,6 +8,7 @@ ghost use Rattle.udfs_lattice.specs.Records.{join_all};
 ghost use Rattle.udfs_reading.specs.Several.{TablesAre};
 ghost use Rattle.udfs_salvage.specs.Running.{OfJoin};
 ghost use Rattle.udfs_salvage.specs.declared.extraction.Fill.{Fill};
+ghost use Rattle.udfsalvage.specs.Asking.{IsPicked};
 ghost use Rattle.udfsalvage.specs.Extracting.{SaysGood};
 ghost use Rattle.udfsalvage.specs.JsonRuns.{PrintsAs};
 ghost use Rattle.udfsalvage.specs.Rereading.{PrintsNumbers};
@@ -92,6 +93,7 @@ fn merge_words<F: Files>(
     files: &mut F,
 ) -> Result<F::Output, Refusal>
     ensures written { IfOk result (λ output. (sources : List F.Input) × (before : F.Output) × (version : Version) × (tables : List Table) ×
+        IsPicked (found_of words.now) (codes "v1") Version.One Version.Two version ×
         TablesAre F.Input.remaining sources tables × Appends (F.Output.contents before) (F.Output.contents output) (table_file version (join_all tables))) }
     ensures untouched { IfErr result (λ refusal. refusal ≢ Refusal.Output → files.new ≡ files.old) }
 {
@@ -120,6 +122,7 @@ fn report_words<F: Files, O: Sink>(
     out: &mut O,
 ) -> Result<bool, Refusal>
     ensures printed { IfOk result (λ whole. (form : Form) × (last : ℕ) × (sources : List F.Input) ×
+        IsPicked (found_of words.now) (codes "json") Form.Json Form.Text form ×
         OfJoin F.Input.remaining sources (PrintsAs form last (O.contents out.old) (O.contents out.new) (O.faults out.old) (O.faults out.new) whole)) }
 {
     let inputs = words.get_strs(INPUTS).unwrap_or(&[]);

@@ -19,13 +19,12 @@ use crate::printing::send;
 use crate::refusal::Refusal;
 use std::alloc::{AllocError, Global};
 use udfs_file::Kind;
-use udfs_osta::Name;
 use udfs_reading::{DeviceFault, Sink};
 use udfs_salvage::{
     ExtractError, Fill, Report, Volume, all_whole, extract as write_bytes, is_offered, push_names,
     salvage, write_volume,
 };
-use udfs_walk::{Node, Standing};
+use udfs_walk::{Node, Path, Standing};
 
 /// What is done with a node.
 #[derive(Clone, Copy, PartialEq, Eq)]
@@ -61,14 +60,14 @@ fn deed_for(node: &Node, fill: Fill) -> Deed
 
 /// The path of a node in a folder: the folder's, and each name in its escaped form behind a `/`. An escaped name has no
 /// `/` and is neither `.` nor `..`, so the path leads nowhere but below the folder.
-fn path_in(alloc: Global, folder: &str, names: &[Name]) -> Result<String, AllocError> {
+fn path_in(alloc: Global, folder: &str, names: &Path) -> Result<String, AllocError> {
     let mut path = String::from_str(alloc, folder)?;
     push_names(&mut path, names)?;
     Ok(path)
 }
 
 /// Prints what became of a node: the word, its path and a line feed.
-fn tell<O: Sink>(alloc: Global, word: &str, names: &[Name], out: &mut O) -> Result<(), Refusal> {
+fn tell<O: Sink>(alloc: Global, word: &str, names: &Path, out: &mut O) -> Result<(), Refusal> {
     let mut line = String::from_str(alloc, word)?;
     line.push(' ')?;
     push_names(&mut line, names)?;

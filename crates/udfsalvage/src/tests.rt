@@ -2,6 +2,7 @@
 
 mod devices;
 mod extracting;
+mod hostile;
 mod json;
 mod memory;
 mod merging;

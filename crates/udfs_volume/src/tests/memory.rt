@@ -1,4 +1,4 @@
-//! Want of memory: `tools/refuse-memory udfs_volume TEST` refuses one allocation of a test after the other.
+//! Want of memory: `rt try --test --fail-alloc N` refuses the allocation with this number in each test.
 
 use crate::layouts::layout;
 use crate::seen::Seen;

@@ -79,6 +79,12 @@ fn count(rt: &HostRuntime, more: usize) -> Result<Option<usize>, Fail> {
 }
 
 #[test]
+fn nodes_65535_are_told(rt: HostRuntime) -> Result<(), Fail> {
+    assert_eq!(rt; count(&rt, 0)?, Some(65535));
+    Ok(())
+}
+
+#[test]
 fn nodes_65536_are_told(rt: HostRuntime) -> Result<(), Fail> {
     assert_eq!(rt; count(&rt, 1)?, Some(65536));
     Ok(())

@@ -103,9 +103,11 @@ pub fn told(alloc: Global, table: &BlockTable) -> Result<String, Fail> {
         standing(alloc, &mut text, &node.standing)?;
         kind(alloc, &mut text, node.kind, node.size, node.stamp)?;
         text.push(' ')?;
-        for name in &node.path {
-            text.push('/')?;
-            name.write_escaped(&mut text)?;
+        for index in 0..node.path.len() {
+            if let Some(name) = node.path.get(index) {
+                text.push('/')?;
+                name.write_escaped(&mut text)?;
+            }
         }
         if node.hidden {
             text.push_str(" hidden")?;

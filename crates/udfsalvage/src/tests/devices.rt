@@ -1,8 +1,9 @@
 //! Devices that fail or are slow, and want of memory.
 
-use super::memory::{Memory, ran, reading, table};
+use super::memory::{Memory, ran, reading, table, with_table};
 use std::alloc::{AllocError, Global};
 use std::test::Fail;
+use udfs_samples::Disc;
 
 const WORDS: &str = "merge --v1 --out t.tab two.rd";
 
@@ -67,6 +68,45 @@ fn a_byte_a_call_changes_nothing(rt: HostRuntime) -> Result<(), Fail> {
     assert!(rt; ran.is_silent(), "{ran:?}");
     let whole = table(alloc, &[(300, 0x61), (301, 0x62)])?;
     assert!(rt; memory.has("t.tab", whole.as_slice()));
+    Ok(())
+}
+
+/// What is known of a disc whose file `A` lacks block 278.
+const KNOWN: [u32; 11] = [32, 33, 34, 256, 272, 273, 274, 275, 276, 277, 279];
+
+/// What the commands print of it.
+const PRINTED: [(&str, &str); 4] = [
+    (
+        "report --last 600 disc.tab",
+        "UDFREPORT1 last 600\nknown 11 conflict 0\nvolume ok revision 1.50 map type1\nlabel name TEST\nnode 0 whole directory 120 2001-07-04T09:30:00.000000Z /\nnode 1 torn file 5000 2001-07-04T09:30:00.000000Z /A\nmissing 278\nhole 2048 2048\nnode 2 whole file 2 2001-07-04T09:30:00.000000Z /B\nreread 278 unknown\nend\n",
+    ),
+    (
+        "report --last 600 --json disc.tab",
+        "{\"conflict\":0,\"known\":11,\"label\":{\"state\":\"name\",\"text\":\"TEST\"},\"last\":600,\"nodes\":[{\"hidden\":false,\"holes\":[],\"kind\":\"directory\",\"missing\":[],\"modified\":\"2001-07-04T09:30:00.000000Z\",\"path\":\"/\",\"size\":120,\"standing\":\"whole\"},{\"hidden\":false,\"holes\":[[2048,2048]],\"kind\":\"file\",\"missing\":[278],\"modified\":\"2001-07-04T09:30:00.000000Z\",\"path\":\"/A\",\"size\":5000,\"standing\":\"torn\"},{\"hidden\":false,\"holes\":[],\"kind\":\"file\",\"missing\":[],\"modified\":\"2001-07-04T09:30:00.000000Z\",\"path\":\"/B\",\"size\":2,\"standing\":\"whole\"}],\"reread\":[{\"block\":278,\"state\":\"unknown\"}],\"unnamed\":[],\"volume\":{\"map\":\"type1\",\"revision\":\"1.50\",\"state\":\"ok\"}}\n",
+    ),
+    ("reread --last 600 disc.tab", "278\n"),
+    (
+        "extract --last 600 --to out disc.tab",
+        "skipped /A\nwritten /B\n",
+    ),
+];
+
+/// Of what is printed a beginning is out, and the status says that it is not all.
+#[test]
+fn a_standard_output_that_fails_after_any_count_is_told(rt: HostRuntime) -> Result<(), Fail> {
+    let alloc = rt.alloc();
+    let table = Disc::type1(alloc)?.known_at(alloc, &KNOWN)?;
+    for (words, text) in PRINTED {
+        for good in 0..text.len() {
+            let mut memory = with_table(alloc, &table)?;
+            memory.terminal.good = good;
+            memory.terminal.takes_none = good % 2 == 1;
+            let ran = ran(alloc, &mut memory, words)?;
+            assert_eq!(rt; ran.status, 2);
+            assert_eq!(rt; ran.err.as_str(), "udfsalvage: cannot write output\n");
+            assert_eq!(rt; ran.out.as_bytes(), &text.as_bytes()[..good]);
+        }
+    }
     Ok(())
 }
 

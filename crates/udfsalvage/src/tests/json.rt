@@ -41,6 +41,21 @@ const VOLUME: &str = "{\"map\":\"type1\",\"revision\":\"1.50\",\"state\":\"ok\"}
 const LABEL: &str = "{\"state\":\"name\",\"text\":\"TEST\"}";
 
 #[test]
+fn all_of_the_sample_volume(rt: HostRuntime) -> Result<(), Fail> {
+    let alloc = rt.alloc();
+    let table = Disc::type1(alloc)?.known_but(alloc, &[])?;
+    let (status, out) = printed(alloc, &table)?;
+    assert_eq!(rt; status, 0);
+    let a =
+        "{\"hidden\":false,\"holes\":[],\"kind\":\"file\",\"missing\":[],\"modified\":\"2001-07-04T09:30:00.000000Z\",\"path\":\"/A\",\"size\":5000,\"standing\":\"whole\"}";
+    let text = format!(in alloc;
+        "{{\"conflict\":0,\"known\":601,\"label\":{LABEL},\"last\":600,\"nodes\":[{ROOT},{a},{B}],\"reread\":[],\"unnamed\":[],\"volume\":{VOLUME}}}\n"
+    )?;
+    assert_eq!(rt; out.as_str(), text.as_str());
+    Ok(())
+}
+
+#[test]
 fn an_entry_that_is_not_read(rt: HostRuntime) -> Result<(), Fail> {
     let alloc = rt.alloc();
     let table = Disc::type1(alloc)?.known_at(alloc, &[256, 32, 33, 34, 272, 273, 274, 276])?;

@@ -47,6 +47,8 @@ pub struct Memory {
     pub inputs: Device,
     /// What outputs are written to.
     pub outputs: Device,
+    /// What standard output is.
+    pub terminal: Device,
 }
 
 /// An opened input.
@@ -109,6 +111,7 @@ impl Memory {
             folders: Vec::new(alloc),
             inputs: SOUND,
             outputs: SOUND,
+            terminal: SOUND,
         }
     }
 
@@ -289,12 +292,13 @@ pub fn ran(alloc: Global, memory: &mut Memory, words: &str) -> Result<Outcome, A
     }
     let out = Rc::new(alloc, RefCell::new(Vec::with_capacity(alloc, 4096)?))?;
     let err = Rc::new(alloc, RefCell::new(Vec::with_capacity(alloc, 4096)?))?;
+    let terminal = memory.terminal;
     let status = run(
         alloc,
         list.as_slice(),
         memory,
-        &mut sink(&out)?,
-        &mut sink(&err)?,
+        &mut sink(&out, terminal)?,
+        &mut sink(&err, SOUND)?,
     );
     Ok(Outcome {
         status,
@@ -303,9 +307,8 @@ pub fn ran(alloc: Global, memory: &mut Memory, words: &str) -> Result<Outcome, A
     })
 }
 
-fn sink(bytes: &Shared) -> Result<Writer<Taker>, AllocError> {
+fn sink(bytes: &Shared, device: Device) -> Result<Writer<Taker>, AllocError> {
     let bytes = bytes.clone()?;
-    let device = SOUND;
     Ok(Writer::new(Taker { bytes, device }))
 }
 

@@ -1,5 +1,5 @@
-use Rattle.udfs_lattice.proofs.EntryLaws.{rises-entries_of, table_of_entries-entries_of, entries_of-rising, IsTable-rising}
+use Rattle.udfs_lattice.proofs.PublicLaws.{entries_rise, entries_make_table, rising_are_entries, rising_make_table, few_entries, entries_tell_states}
 use Rattle.udfs_lattice.proofs.laws.entries_make_the_table.Goals as goal
 
 pub returns : goal.returns
-returns c = record { rise = rises-entries_of; table = table_of_entries-entries_of; entries = entries_of-rising 0; is_table = IsTable-rising 0 }
+returns c = record { rise = entries_rise; table = entries_make_table; entries = rising_are_entries; is_table = rising_make_table; few = few_entries; tell = entries_tell_states }

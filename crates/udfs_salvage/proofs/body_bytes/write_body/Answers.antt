@@ -1,6 +1,6 @@
 use Rattle.std.proofs.Common.{sym}
 use Rattle.std.proofs.lemmas.Result.{err_from_is_err_and}
-use Rattle.udfs_reading.proofs.WritingLemmas.{failed_last}
+use Rattle.udfs_salvage.proofs.Passing.{failed_last}
 use Rattle.udfs_salvage.proofs.body_bytes.write_body.Goals as goal
 
 pub returns-in_err-flush : goal.returns-in_err-flush

@@ -5,7 +5,8 @@ use Rattle.udfs_walk.specs.NodeBodies.{HasCells}
 use Rattle.udfs_salvage.specs.Found.{found_now, volume_now}
 use Rattle.udfs_salvage.specs.Reports.{report_now}
 use Rattle.udfs_salvage.specs.Extraction.{Extracts, fill_byte, filled, is_offered}
-use Rattle.udfs_salvage.proofs.Extracting.{report_cells, not_refused, same_node, same_found, true_false}
+use Rattle.udfs_salvage.proofs.Extracting.{report_cells, not_refused, same_node, true_false}
+use Rattle.udfs_salvage.proofs.Founds.{found_same}
 use Rattle.udfs_salvage.proofs.TreeBytes.{writes_file}
 use Rattle.udfs_salvage.proofs.extraction.extract.Goals as goal
 
@@ -41,7 +42,7 @@ returns-in-Open-clause-stated g c = λ f n cs opens at offered has.
     let b = state_of r.table.now in
     let same = same_node r.nodes.items c.args.index n c.index-node.result.now at c.index-node.ensures in
     let icb : c.node.inside.icb ≡ n.icb = ap (λ m. m.icb) (c.node.view_is ∙ same) in
-    let opened : found_now c.in-Open.opened ≡ f = same_found _ _ (sym (ap volume_now c.in-Open.is) ∙ opens) in
+    let opened : found_now c.in-Open.opened ≡ f = found_same _ _ (sym (ap volume_now c.in-Open.is) ∙ opens) in
     subst (λ x. Extracts (W.contents c.args.sink.now) (W.contents c.write_at.new.sink) (W.faults c.args.sink.now) (W.faults c.write_at.new.sink) (filled x cs) c.write_at.result) c.fill_byte-byte.ensures
     (c.write_at.ensures.cells cs (subst (λ a. HasCells (view b c.in-Open.opened.space) a cs) (sym icb) (subst (λ h. HasCells (view b h.space) n.icb cs) (sym opened) has)))
 

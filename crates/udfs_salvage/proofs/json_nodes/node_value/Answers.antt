@@ -5,4 +5,4 @@ use Rattle.udfs_salvage.proofs.json_nodes.node_value.Goals as goal
 
 pub returns : goal.returns
 unfolding node_data told_members
-returns c = rw (view-Object c.put-2.new.map, c.in_ok-put-2.ensures.ok, c.in_ok-put.ensures.ok, c.in_ok-members.ensures, c.in_ok-path.ensures, c.deref.ensures.value, c.from.ensures, sym c.node.view_is) refl
+returns c = rw (view-Object c.put-2.new.map, c.in_ok-put-2.ensures.ok, c.in_ok-put.ensures.ok, c.in_ok-members.ensures, c.in_ok-path.ensures, c.from.ensures, sym c.node.view_is) refl

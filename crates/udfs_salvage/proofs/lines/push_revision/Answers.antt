@@ -1,8 +1,8 @@
 use Rattle.std.proofs.Common.{refl, ap, ◌∙◌, ◌++◌, append_assoc}
 use Rattle.std.specs.Prelude.{codes}
 use Rattle.std.specs.String.{string_bytes}
-use Rattle.udfs_osta.proofs.Appending.{pushed_all}
 use Rattle.udfs_salvage.specs.Texts.{open_text, revision_text}
+use Rattle.udfs_salvage.proofs.Appending.{pushed_all}
 use Rattle.udfs_salvage.proofs.lines.push_revision.Goals as goal
 
 pub returns : goal.returns

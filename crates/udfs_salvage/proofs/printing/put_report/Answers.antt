@@ -3,11 +3,11 @@ use Rattle.std.specs.String.{string_bytes}
 use Rattle.std.proofs.lemmas.Result.{err_from_is_err_and}
 use Rattle.udfs_lattice.specs.Tables.{state_of}
 use Rattle.udfs_reading.specs.Writing.{Passed}
-use Rattle.udfs_reading.proofs.WritingLemmas.{passed_then}
 use Rattle.udfs_salvage.specs.Printing.{Stopped}
 use Rattle.udfs_salvage.specs.Found.{volume_now}
 use Rattle.udfs_salvage.specs.Texts.{end_line, has_two, head_text, reread_lines}
 use Rattle.udfs_salvage.specs.NodeTexts.{nodes_text, report_text, unnamed_texts}
+use Rattle.udfs_salvage.proofs.Passing.{passed_then}
 use Rattle.udfs_salvage.proofs.Printed.{passes_then, stopped_before, stopped_then}
 use Rattle.udfs_salvage.proofs.printing.put_report.Goals as goal
 

@@ -1,5 +1,5 @@
-use Rattle.udfs_tree.proofs.Wanted.{missing_is_wanted as law}
+use Rattle.udfs_tree.proofs.PublicLaws.{missing_is_wanted as law}
 use Rattle.udfs_tree.proofs.known_laws.missing_is_wanted.Goals as goal
 
 pub returns : goal.returns
-returns f = law
+returns c = law

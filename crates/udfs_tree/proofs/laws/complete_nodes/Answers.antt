@@ -1,4 +1,4 @@
-use Rattle.udfs_tree.proofs.CompleteNodes.{complete_nodes as law}
+use Rattle.udfs_tree.proofs.PublicLaws.{complete_nodes as law}
 use Rattle.udfs_tree.proofs.laws.complete_nodes.Goals as goal
 
 pub returns : goal.returns

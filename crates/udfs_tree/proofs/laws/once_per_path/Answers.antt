@@ -1,4 +1,4 @@
-use Rattle.udfs_tree.proofs.PartNodes.{once_per_path as law}
+use Rattle.udfs_tree.proofs.PublicLaws.{once_per_path as law}
 use Rattle.udfs_tree.proofs.laws.once_per_path.Goals as goal
 
 pub returns : goal.returns

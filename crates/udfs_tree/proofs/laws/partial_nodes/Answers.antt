@@ -1,4 +1,4 @@
-use Rattle.udfs_tree.proofs.PartNodes.{partial_nodes as law}
+use Rattle.udfs_tree.proofs.PublicLaws.{partial_nodes as law}
 use Rattle.udfs_tree.proofs.laws.partial_nodes.Goals as goal
 
 pub returns : goal.returns

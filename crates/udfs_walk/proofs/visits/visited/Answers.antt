@@ -1,4 +1,4 @@
-use Rattle.std.proofs.Common.{◌≡◌, ◌∙◌, ap, cond, nat_le, length, arith}
+use Rattle.std.proofs.Common.{◌∙◌, ap, cond, nat_le}
 use Rattle.udfs_lattice.specs.Tables.{state_of}
 use Rattle.udfs_space.specs.Places.{view}
 use Rattle.udfs_file.specs.Bodies.{body}
@@ -13,12 +13,12 @@ use Rattle.udfs_walk.proofs.visits.visited.Goals as goal
 
 pub returns-in-Fault-clause-node : goal.returns-in-Fault-clause-node
 returns-in-Fault-clause-node c =
-    let w = end_at c.args.address c.args.path.items c.args.above.now c.args.hidden in
+    let w = end_at c.args.address c.args.path c.args.above.now c.args.hidden in
     c.unread.ensures c.args.above.now ∙ node_is (view (state_of c.args.table.now) c.args.space.now) w (bad c.in-Fault.fault) c.in-Fault.ensures.value
 
 pub returns-in_ok-missing-in-Unread-clause-node : goal.returns-in_ok-missing-in-Unread-clause-node
 returns-in_ok-missing-in-Unread-clause-node c =
-    let w = end_at c.args.address c.args.path.items c.args.above.now c.args.hidden in
+    let w = end_at c.args.address c.args.path c.args.above.now c.args.hidden in
     c.unread-in-Unread.ensures c.args.above.now
     ∙ (λ i. untold w (Torn (record { missing = c.in_ok-missing-in-Unread.ensures.items i; holes = c.new-holes.ensures.items i })))
     ∙ node_is (view (state_of c.args.table.now) c.args.space.now) w (unread c.in-Unread.n) c.in-Unread.ensures.value
@@ -26,9 +26,9 @@ returns-in_ok-missing-in-Unread-clause-node c =
 pub returns-in_ok-told-in-Entry-clause-node : goal.returns-in_ok-told-in-Entry-clause-node
 returns-in_ok-told-in-Entry-clause-node c =
     let v = view (state_of c.args.table.now) c.args.space.now in
-    let w = end_at c.args.address c.args.path.items c.args.above.now c.args.hidden in
+    let w = end_at c.args.address c.args.path c.args.above.now c.args.hidden in
     let e = entry_of c.in-Entry.entry in
-    let n : c.len-is_deep.result ≡ length c.args.path.items = omega (arith, c.args.path.ok.0) in
+    let n = c.len-is_deep.ensures in
     c.read.ensures c.args.above.now ∙ ap (told w e) c.in_ok-told-in-Entry.ensures.standing
     ∙ (λ i. told w e (cond (c.is_loop-is_loop.ensures i) Loop (body_standing e.kind (nat_le 64 (n i)) (body v c.args.address.reference c.args.address.block e))))
     ∙ node_is v w (entry e) c.in-Entry.ensures.value

@@ -1,18 +1,18 @@
 use Rattle.std.proofs.Common.{◌∙◌, ap, subst, ◌++◌, ◌∷◌, [], refl, arith}
 use Rattle.udfs_lattice.specs.Tables.{state_of}
 use Rattle.udfs_space.specs.Places.{view}
-use Rattle.udfs_walk.specs.Frames.{IsTaken}
+use Rattle.udfs_walk.specs.Frames.{IsTaken, kept}
 use Rattle.udfs_walk.proofs.Owed.{walk_start, walk_none, walk_some, walk_many, walk_done}
 use Rattle.udfs_walk.proofs.walks.walk.Goals as goal
 
 pub walk-init : goal.walk-init
-walk-init c = walk_start (view (state_of c.args.table.now) c.args.space.now) c.args.root c.in_ok-node.node c.in_ok-node.frame c.new.result.items _ _ _
-    c.new.ensures.items refl c.in_ok-node.ensures.node c.in_ok-node.ensures.frame
+walk-init c = walk_start (view (state_of c.args.table.now) c.args.space.now) c.args.root c.in_ok-node.node c.in_ok-node.frame _ _ _ _
+    c.in_ok-path.ensures refl c.in_ok-node.ensures.node c.in_ok-node.ensures.frame
     (c.in_ok-push.ensures.items ∙ ap (λ x. x ++ c.in_ok-node.node ∷ []) c.new-nodes.ensures.items)
-    (c.in_ok-push-2.ensures.items ∙ ap (λ x. x ++ c.in_ok-node.frame ∷ []) c.new-frames.ensures.items)
+    (c.in_ok-keep.ensures.kept ∙ ap (λ x. kept x c.in_ok-node.frame) c.new-frames.ensures.items)
 
-pub walk-preserved-in-None-1 : goal.walk-preserved-in-None-1
-walk-preserved-in-None-1 c =
+pub walk-preserved-in-None : goal.walk-preserved-in-None
+walk-preserved-in-None c =
     let v = view (state_of c.args.table.now) c.args.space.now in
     walk_none v c.args.root c.walk.nodes.items c.walk.frames.items c.pop.new.self.items c.in-Some.frame c.walk.invariant c.in-Some.ensures.items
     (subst (λ o. IsTaken v c.in-Some.frame o c.step.new.self) c.in-None.is c.in_ok-step.ensures)
@@ -28,8 +28,8 @@ walk-preserved c =
     let v = view (state_of c.args.table.now) c.args.space.now in
     walk_some v c.args.root c.walk.nodes.items _ c.walk.frames.items c.pop.new.self.items _ c.in-Some.frame c.step.new.self _ _ c.walk.invariant c.in-Some.ensures.items
     (subst (λ o. IsTaken v c.in-Some.frame o c.step.new.self) c.in-Some-2.is c.in_ok-step.ensures)
-    (omega (arith, c.if-len-ge65536.false, c.walk.nodes.ok.0)) c.in_ok-push-in-Some-2.ensures.items
-    (c.in_ok-push-in-Some-2-3.ensures.items ∙ ap (λ x. x ++ c.in-Some-2.below ∷ []) c.in_ok-push-in-Some-2-2.ensures.items)
+    (omega (arith, c.if-len-ge65536.false, c.walk.nodes.ok.0)) c.in_ok-push-2.ensures.items
+    (c.in_ok-keep-2.ensures.kept ∙ ap (λ x. kept x c.in-Some-2.taken.1) c.in_ok-push-3.ensures.items)
 
 pub returns : goal.returns
 returns c = walk_done (view (state_of c.args.table.now) c.args.space.now) c.args.root _ _ c.walk.invariant (omega (arith, c.in_default.ensures.cases.0, c.walk.frames.ok.0))

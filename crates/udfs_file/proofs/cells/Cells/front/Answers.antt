@@ -26,7 +26,7 @@ returns-in-Gap-first_piece c = gap_second (take c.args.want (cells_left c.args.s
     c.requires.lies c.requires.some c.requires.block c.requires.there c.in-Bytes.ensures.size c.if-first-want.false c.in-Bytes.ensures.cells c.in-Gap-first_piece.ensures.cells.1)
 
 pub returns-in-Bytes-first_piece : goal.returns-in-Bytes-first_piece
-returns-in-Bytes-first_piece c = let w = two_pieces (take c.args.want (cells_left c.args.self.now)) c.in-Bytes.holder c.in-Bytes-first_piece.field-1 c.in-Bytes.first.now c.in-Bytes-first_piece.second.now
+returns-in-Bytes-first_piece c = let w = two_pieces (take c.args.want (cells_left c.args.self.now)) c.in-Bytes.holder _ c.in-Bytes.first.now c.in-Bytes-first_piece.second.now
     (first_bytes c.args.self.now c.settled-ahead.result c.args.want (length c.in-Bytes.first.now) c.settled-ahead.ensures.cells c.settled-ahead.ensures.settled c.requires.some c.requires.there c.in-Bytes.ensures.size)
     (joined_front c.args.self.now c.settled-ahead.result c.behind.result c.settled-behind.result c.args.want c.in-Bytes.holder c.in-Bytes.first.now _
     c.settled-ahead.ensures.cells c.settled-ahead.ensures.settled c.settled-ahead.ensures.lies

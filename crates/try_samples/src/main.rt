@@ -1,0 +1,69 @@
+//! Runs over the sample discs, for `tools/refuse-memory`, which refuses one of a run's allocations, and for
+//! `tools/mutate`: `try_samples RUN DISC [UNREAD]`, where UNREAD is a block that no pass has read.
+//!
+//! Standard output has what the run tells, and the status says how it ended (`Ending`).
+#![tactic(auto)]
+
+mod discs;
+mod mutations;
+mod runs;
+mod tables;
+
+use discs::table_file;
+use mutations::mutate;
+use runs::{extract_a, json, read_inputs, report, run_report};
+use std::alloc::Global;
+use std::process::ExitCode;
+use std::{env, io};
+use tables::join_twice;
+use udfs_reading::{Sink, Writer};
+
+/// How a run ended.
+#[derive(Clone, Copy, Debug, PartialEq, Eq)]
+pub enum Ending {
+    /// It answered.
+    Done = 0,
+    /// What it answered is wrong.
+    Wrong = 1,
+    /// It answered want of memory.
+    Refused = 3,
+    /// Want of memory came before it began.
+    Unready = 4,
+}
+
+/// The run with this name.
+fn run<W: Sink>(alloc: Global, words: &[String], out: &mut W) -> Ending {
+    let (Some(name), Some(disc)) = (words.get(1), words.get(2)) else {
+        return Ending::Wrong;
+    };
+    let unread: u32 = match words.get(3) {
+        Some(word) => word.parse().unwrap_or(u32::MAX),
+        None => u32::MAX,
+    };
+    match name.as_str() {
+        "file" => table_file(alloc, disc, unread, out),
+        "join" => join_twice(alloc, disc, unread),
+        "inputs" => read_inputs(alloc, out),
+        "salvage" => report(alloc, disc, unread, out),
+        "run" => run_report(alloc, disc, unread, out),
+        "json" => json(alloc, disc, unread, out),
+        "extract" => extract_a(alloc, disc, unread, out),
+        "mutate" => mutate(alloc, disc, out),
+        _ => Ending::Wrong,
+    }
+}
+
+/// The words of the command line. It fails where one of them is not text.
+fn words_of(rt: &HostRuntime, alloc: Global) -> io::Result<Vec<String>> {
+    Ok(env::args(rt)?.collect(alloc)?)
+}
+
+fn main(rt: HostRuntime) -> ExitCode {
+    let alloc = rt.alloc();
+    let mut out = Writer::new(rt.stdout());
+    let ending = match words_of(&rt, alloc) {
+        Ok(words) => run(alloc, words.as_slice(), &mut out),
+        Err(_) => Ending::Unready,
+    };
+    ExitCode::from(ending as u8)
+}

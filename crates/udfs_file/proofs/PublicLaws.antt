@@ -1,0 +1,41 @@
+-- The laws of this crate that proofs above it use. Each has the statement that the function of its name in src/laws.rt ensures.
+use Rattle.udfs_file.specs.Complete.{BodyLaw, DirectoryLaw, FileSetLaw, NeverStops}
+use Rattle.udfs_file.specs.Laws.{BodyLength, PartialBodies, PartialDescriptors, PartialFileSet}
+use Rattle.udfs_file.specs.Sample.{AreSampleFiles, SampleFileSet}
+use Rattle.udfs_file.proofs.BodyLengths as lengths
+use Rattle.udfs_file.proofs.FileSets as sets
+use Rattle.udfs_file.proofs.PartFronts as fronts
+use Rattle.udfs_file.proofs.PartialBodies as parts
+use Rattle.udfs_file.proofs.Readings as readings
+use Rattle.udfs_file.proofs.WholeBodies as bodies
+use Rattle.udfs_file.proofs.SampleLaw as sample
+
+pub partial_file_set : PartialFileSet
+partial_file_set = sets.partial_file_set
+
+pub file_set_is_read : FileSetLaw
+file_set_is_read = sets.file_set_law
+
+pub partial_bodies : PartialBodies
+partial_bodies = parts.partial_bodies
+
+pub partial_descriptors : PartialDescriptors
+partial_descriptors = fronts.part_ids
+
+pub body_is_read : BodyLaw
+body_is_read = bodies.body_law
+
+pub body_has_its_length : BodyLength
+body_has_its_length = lengths.body_length
+
+pub directory_is_read : DirectoryLaw
+directory_is_read = readings.directory_law
+
+pub complete_directory_never_stops : NeverStops
+complete_directory_never_stops = readings.never_stops
+
+pub sample_file_set_is_found : SampleFileSet
+sample_file_set_is_found = sample.sample_file_set_law
+
+pub sample_files_are_read : AreSampleFiles
+sample_files_are_read = sample.sample_files

@@ -1,0 +1,25 @@
+-- The nodes of the sample volume: the root, and the files A and B below it.
+--     at_a, at_b         the ends of the routes to them
+--     AreSampleNodes     all three are whole, the root goes on to A and B, and these go on to nothing
+use Rattle.std.specs.Prelude.{◌≡◌, [], ◌∷◌}
+use Rattle.udfs_file.specs.Sample.{named, sample_root, sample_view}
+use Rattle.udfs_walk.specs.Nodes.{node}
+use Rattle.udfs_walk.specs.Routes.{Walked, at_root, below, entries_below}
+use Rattle.udfs_walk.specs.declared.standings.Standing.TheVariants.{Whole}
+
+abbrev pub top : Walked
+top = at_root sample_root
+
+abbrev pub at_a : Walked
+at_a = below top (named 0x41 3)
+
+abbrev pub at_b : Walked
+at_b = below top (named 0x42 4)
+
+pub record AreSampleNodes : Type 0 where
+  pub whole_root : (node sample_view top).standing ≡ Whole
+  pub below_root : entries_below sample_view top ≡ named 0x41 3 ∷ named 0x42 4 ∷ []
+  pub whole_a : (node sample_view at_a).standing ≡ Whole
+  pub below_a : entries_below sample_view at_a ≡ []
+  pub whole_b : (node sample_view at_b).standing ≡ Whole
+  pub below_b : entries_below sample_view at_b ≡ []
