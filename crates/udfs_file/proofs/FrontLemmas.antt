@@ -1,6 +1,7 @@
 -- A directory from the middle on: what was listed, before what the rest lists, is all of it.
 use Rattle.std.proofs.Common.{◌≡◌, refl, sym, ◌∙◌, ap, subst, ℕ, ◌+◌, ◌-◌, ◌<◌, ◌≤◌, List, [], ◌∷◌, ◌++◌, length, drop, arith, Option, Some, None, append_assoc, append-nil, nat_eq, true, false, cond, length-append}
-use Rattle.std.specs.Prelude.{zero, suc, Result, Ok, Err, IfErr}
+use Rattle.std.specs.Prelude.{zero, suc, Result, Ok, Err, IfErr, IsErrAnd}
+use Rattle.std.proofs.lemmas.Result.{err_from_is_err_and}
 use Rattle.udfs_tag.specs.Fields.{part, uint8_at, uint16_at, long_ad_at}
 use Rattle.udfs_osta.specs.Names.{units_of}
 use Rattle.udfs_osta.specs.declared.names.NameFault.{NameFault}
@@ -12,11 +13,13 @@ use Rattle.udfs_file.specs.Identifiers.{Rest}
 use Rattle.udfs_file.specs.Identifiers.{Step}
 use Rattle.udfs_file.specs.Identifiers.{AtRest, One}
 use Rattle.udfs_file.specs.declared.directories.DirFront.{DirFront}
-use Rattle.udfs_file.specs.Fronts.{step, read_on, read_from, directory, listed_entries, entries_of, DirectoryText, missing_in, fault_in, IsFrontOf, is_listed, identifier_in, entry_with, marks_of}
+use Rattle.udfs_file.specs.Fronts.{step, read_on, read_from, directory, listed_entries, entries_of, DirectoryText, missing_in, fault_in, IsFrontOf, IsFrontRefused, is_listed, identifier_in, entry_with, marks_of}
 use Rattle.udfs_file.specs.Steps.{IsDescriptor, IsListedIn, IsStep, bytes_of}
 use Rattle.udfs_file.specs.declared.cursors.Step as cursor
 use Rattle.udfs_file.specs.declared.cursors.Step.TheVariants.{Id}
 use Rattle.udfs_file.specs.declared.pieces.Pieces.{Pieces}
+use Rattle.udfs_file.specs.declared.faults.FrontError.{FrontError}
+use Rattle.udfs_file.specs.declared.faults.FrontError.TheVariants.{OutOfMemory}
 use Rattle.udfs_file.proofs.Readings.{StepOne, step_one}
 
 pub record IsFronting (cells left : List Cell) (listed : List DirEntry) : Type 0 where
@@ -129,25 +132,25 @@ front_ended cells left listed front rest f e i m q = let r = front-rest cells le
   fault = q ∙ ap fault_in r.1;
 }
 
--- ---- a listed descriptor is one of the directory's entries
+-- ---- a listed descriptor is one of the directory's entries, behind those before it
 some_entry : (cells left : List Cell) (listed : List DirEntry) (fuel size : ℕ) (entry : DirEntry) → length left < fuel → step left ≡ One (record { size = size; listed = Some entry })
-    → listed ++ listed_entries (read_from fuel left).identifiers ≡ entries_of cells → 0 < length (entries_of cells)
+    → listed ++ listed_entries (read_from fuel left).identifiers ≡ entries_of cells → length listed < length (entries_of cells)
 some_entry cells left listed zero size entry h e p = absurd (omega arith)
-some_entry cells left listed (suc k) size entry h e p = subst (λ es. 0 < length es) (listed_first listed size (Some entry) (read_from k (drop size left)).identifiers
+some_entry cells left listed (suc k) size entry h e p = subst (λ es. length listed < length es) (listed_first listed size (Some entry) (read_from k (drop size left)).identifiers
     ∙ sym (ap (λ (t : DirectoryText). listed ++ listed_entries t.identifiers) (text k left (One (record { size = size; listed = Some entry })) e)) ∙ p)
     (let q : length ((listed ++ entry ∷ []) ++ listed_entries (read_from k (drop size left)).identifiers) ≡ length (listed ++ entry ∷ []) + length (listed_entries (read_from k (drop size left)).identifiers)
     = length-append (listed ++ entry ∷ []) (listed_entries (read_from k (drop size left)).identifiers) in
     let r : length (listed ++ entry ∷ []) ≡ length listed + 1 = length-append listed (entry ∷ []) in omega (arith, q, r))
 
 pub lists_entry : (cells left : List Cell) (listed : List DirEntry) (behind : List Cell) (view : Pieces) (told : cursor.Step) (entry : DirEntry) → IsFronting cells left listed
-    → IsStep left told behind → told ≡ Id view → IsListedIn (bytes_of view) (Some entry) → 0 < length (entries_of cells)
+    → IsStep left told behind → told ≡ Id view → IsListedIn (bytes_of view) (Some entry) → length listed < length (entries_of cells)
 lists_entry cells left listed behind view told entry f s t l = go (subst (λ (x : cursor.Step). IsStep left x behind) t s)
   where
-    go : IsStep left (Id view) behind → 0 < length (entries_of cells)
+    go : IsStep left (Id view) behind → length listed < length (entries_of cells)
     go i = some_entry cells left listed f.fuel i.is.0.size entry f.enough (i.is.2 ∙ ap (λ o. One (record { size = i.is.0.size; listed = o })) (l i.is.0 i.is.1.is)) f.entries
 
 -- a descriptor that is good and listed has an entry
-listed_in : (bytes : List ℕ) (id : Identifier) → is_listed bytes ≡ true → identifier_in (length bytes) bytes ≡ One id → (entry : DirEntry) × (id.listed ≡ Some entry)
+pub listed_in : (bytes : List ℕ) (id : Identifier) → is_listed bytes ≡ true → identifier_in (length bytes) bytes ≡ One id → (entry : DirEntry) × (id.listed ≡ Some entry)
 listed_in bytes id e q = by (units_of (part bytes (38 + uint16_at bytes 36) (uint8_at bytes 19)))
     (sym (ap (λ b. cond b (entry_with (length bytes) bytes (units_of (part bytes (38 + uint16_at bytes 36) (uint8_at bytes 19)))) (One (record { size = length bytes; listed = None }))) e) ∙ q)
   where
@@ -156,14 +159,14 @@ listed_in bytes id e q = by (units_of (part bytes (38 + uint16_at bytes 36) (uin
     by (Err fault) w = absurd (let z : ⊥ = cc in z)
 
 pub lists_some : (cells left : List Cell) (listed : List DirEntry) (behind : List Cell) (view : Pieces) (told : cursor.Step) → IsFronting cells left listed
-    → IsStep left told behind → told ≡ Id view → is_listed (bytes_of view) ≡ true → 0 < length (entries_of cells)
+    → IsStep left told behind → told ≡ Id view → is_listed (bytes_of view) ≡ true → length listed < length (entries_of cells)
 lists_some cells left listed behind view told f s t l = go (subst (λ (x : cursor.Step). IsStep left x behind) t s)
   where
-    go : IsStep left (Id view) behind → 0 < length (entries_of cells)
+    go : IsStep left (Id view) behind → length listed < length (entries_of cells)
     go i = let w = listed_in (bytes_of view) i.is.0 l i.is.1.is in
         some_entry cells left listed f.fuel i.is.0.size w.0 f.enough (i.is.2 ∙ ap (λ o. One (record { size = i.is.0.size; listed = o })) w.1) f.entries
 
--- what holds anyhow holds where there is an error
-pub if_err : {A E : Type 0} (r : Result A E) (P : Type 0) → P → IfErr r (λ e. P)
-if_err (Ok x) P p = tt
-if_err (Err e) P p = p
+-- where memory is refused, there is an entry
+pub no_memory : {A : Type 0} (r : Result A FrontError) (most : ℕ) (cells : List Cell) (n : ℕ) → IsErrAnd r (λ e. e ≡ OutOfMemory) → n < length (entries_of cells) → IfErr r (IsFrontRefused most cells)
+no_memory r most cells n h l = let p = err_from_is_err_and r h in
+    subst (λ x. IfErr x (IsFrontRefused most cells)) (sym (p.1 ∙ ap Err p.2)) (let z : 0 < length (entries_of cells) = omega (arith, l) in z)

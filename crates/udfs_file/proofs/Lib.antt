@@ -3,6 +3,7 @@ pub mod BodyFrom
 pub mod WalkLemmas
 pub mod EmbeddedLemmas
 pub mod FrontLemmas
+pub mod Ends
 pub mod CellLemmas
 pub mod FrontPieces
 pub mod PieceCells

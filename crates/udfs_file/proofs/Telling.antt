@@ -1,5 +1,5 @@
 -- What the calls tell of partitions of which a part is known, by what they answer.
-use Rattle.std.proofs.Common.{◌≡◌, refl, sym, ◌∙◌, ap, subst, ℕ, ◌+◌, ◌<◌, Bool, true, false, List, [], ◌∷◌, ◌++◌, length, take, drop, map, cond, ◌||◌, arith, Option, Some, None, nat_lt, slice_get}
+use Rattle.std.proofs.Common.{◌≡◌, refl, sym, ◌∙◌, ap, subst, ℕ, ◌+◌, ◌<◌, ◌≤◌, Bool, true, false, List, [], ◌∷◌, ◌++◌, length, take, drop, map, cond, ◌||◌, arith, Option, Some, None, nat_lt, slice_get}
 use Rattle.std.specs.Prelude.{zero, suc, Result, Ok, Err, ⊤}
 use Rattle.std.specs.List.{AllZip, cons_option}
 use Rattle.std.proofs.lemmas.List.{length-append}
@@ -238,6 +238,6 @@ tells_front part front f whole h = record {
     ends e (Stopped n) q m = absurd (let x : ⊥ = cc in x)
     ends e (Wrong fault) q m = absurd (law.no_fault e fault q)
 
-pub front_clauses : (part : List Cell) (front : DirFront) → IsFrontOf front part
-    → record { value : IsFrontOf front part; complete : TellsFront part front; memory : Unit {0} }
-front_clauses part front f = record { value = f; complete = tells_front part front f; memory = tt }
+pub front_clauses : (part : List Cell) (front : DirFront) (most : ℕ) → IsFrontOf front part → length front.entries.items ≤ most
+    → record { value : IsFrontOf front part; complete : TellsFront part front; few : length front.entries.items ≤ most; refused : Unit {0} }
+front_clauses part front most f h = record { value = f; complete = tells_front part front f; few = h; refused = tt }

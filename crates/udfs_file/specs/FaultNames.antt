@@ -2,6 +2,8 @@
 use Rattle.std.specs.Prelude.{ℕ, List, codes}
 use Rattle.udfs_file.specs.declared.faults.NodeFault.{NodeFault}
 use Rattle.udfs_file.specs.declared.faults.NodeFault.TheVariants as fault
+use Rattle.udfs_file.specs.declared.faults.FrontError.{FrontError}
+use Rattle.udfs_file.specs.declared.faults.FrontError.TheVariants as front_error
 use Rattle.udfs_file.specs.declared.faults.WalkError.{WalkError}
 use Rattle.udfs_file.specs.declared.faults.WalkError.TheVariants as walk_error
 
@@ -23,3 +25,7 @@ fault_name fault.Depth = codes "Depth"
 abbrev pub walk_error_text : WalkError → List ℕ
 walk_error_text (walk_error.Fault fault) = fault_name fault
 walk_error_text walk_error.OutOfMemory = codes "out of memory"
+
+abbrev pub front_error_text : FrontError → List ℕ
+front_error_text front_error.TooMany = codes "too many entries"
+front_error_text front_error.OutOfMemory = codes "out of memory"

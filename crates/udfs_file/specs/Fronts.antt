@@ -1,8 +1,8 @@
 -- Directories (ECMA-167 4/14.4): a list of file identifier descriptors, one after the other, then a rest.
 --     ReadsAs cells ids rest      the cells are these descriptors, and then the rest
 --     directory cells             the descriptors and the rest
---     front cells                 the entries that are neither deleted nor the parent
-use Rattle.std.specs.Prelude.{◌≡◌, ℕ, zero, suc, ◌+◌, ◌*◌, ◌/◌, ◌%◌, Bool, List, [], ◌∷◌, length, take, drop, map, cond, ◌==◌, nat_lt, ◌||◌, Option, Some, None, filter_map, Result, Ok, Err}
+--     entries_of cells            the entries that are neither deleted nor the parent
+use Rattle.std.specs.Prelude.{◌≡◌, ◌<◌, ℕ, zero, suc, ◌+◌, ◌*◌, ◌/◌, ◌%◌, Bool, List, [], ◌∷◌, length, take, drop, map, cond, ◌==◌, nat_lt, ◌||◌, Option, Some, None, filter_map, Result, Ok, Err}
 use Rattle.udfs_tag.specs.Fields.{uint16_at}
 use Rattle.udfs_tag.specs.Fields.{uint8_at, long_ad_at, part}
 use Rattle.udfs_tag.specs.Tags.{is_valid}
@@ -10,6 +10,7 @@ use Rattle.udfs_osta.specs.Names.{units_of}
 use Rattle.udfs_osta.specs.declared.names.NameFault.{NameFault}
 use Rattle.udfs_file.specs.declared.cells.Cell.{Cell}
 use Rattle.udfs_file.specs.declared.cells.Cell.TheVariants.{Byte, Gap}
+use Rattle.udfs_file.specs.declared.directories.DirEnd.{DirEnd}
 use Rattle.udfs_file.specs.declared.directories.DirEntry.{DirEntry}
 use Rattle.udfs_file.specs.declared.directories.DirFront.{DirFront}
 use Rattle.udfs_file.specs.Identifiers.{Identifier}
@@ -17,6 +18,8 @@ use Rattle.udfs_file.specs.Identifiers.{Rest}
 use Rattle.udfs_file.specs.Identifiers.{Nothing, Stopped, Wrong}
 use Rattle.udfs_file.specs.Identifiers.{Step}
 use Rattle.udfs_file.specs.Identifiers.{AtRest, One}
+use Rattle.udfs_file.specs.declared.faults.FrontError.{FrontError}
+use Rattle.udfs_file.specs.declared.faults.FrontError.TheVariants as front_error
 use Rattle.udfs_file.specs.declared.faults.NodeFault.{NodeFault}
 use Rattle.udfs_file.specs.declared.marks.Marks.{Marks}
 use Rattle.udfs_file.specs.declared.faults.NodeFault.TheVariants.{IdentifierTag, Name, Cut}
@@ -126,3 +129,14 @@ pub record IsFrontOf (front : DirFront) (cells : List Cell) : Type 0 where
   pub entries : front.entries.items ≡ entries_of cells
   pub missing : front.missing ≡ missing_in (directory cells).rest
   pub fault : front.fault ≡ fault_in (directory cells).rest
+
+-- the end is what the definition says of these cells
+pub record IsEndOf (end : DirEnd) (cells : List Cell) : Type 0 where
+  pub lists : end.lists ≡ nat_lt 0 (length (entries_of cells))
+  pub missing : end.missing ≡ missing_in (directory cells).rest
+  pub fault : end.fault ≡ fault_in (directory cells).rest
+
+-- too many entries are told only where there are more than so many, and memory is refused only where there is one
+abbrev pub IsFrontRefused : ℕ → List Cell → FrontError → Type 0
+IsFrontRefused most cells front_error.TooMany = most < length (entries_of cells)
+IsFrontRefused most cells front_error.OutOfMemory = 0 < length (entries_of cells)

@@ -1,18 +1,18 @@
 //! Directories: the file identifier descriptors in the cells of a body (ECMA-167 4/14.4).
 
-ghost use Rattle.std.specs.Prelude.{◌≡◌, ◌≤◌, ◌<◌, ◌+◌, length, true, Ok, Some, IfErr, IfOk};
+ghost use Rattle.std.specs.Prelude.{◌≡◌, ◌≤◌, ◌<◌, ◌+◌, ◌++◌, ◌∷◌, [], length, true, Ok, Some, IfErr, IfOk};
 ghost use Rattle.udfs_lattice.specs.Tables.{state_of};
 ghost use Rattle.udfs_space.specs.Places.{view};
 ghost use Rattle.udfs_tag.specs.Fields.{uint8_at, uint16_at, part};
 ghost use Rattle.udfs_file.specs.Stretches.{cells_of};
-ghost use Rattle.udfs_file.specs.Fronts.{entries_of, entry_with, is_listed, IsFrontOf};
+ghost use Rattle.udfs_file.specs.Fronts.{entries_of, entry_with, is_listed, IsEndOf, IsFrontOf, IsFrontRefused};
 ghost use Rattle.udfs_file.specs.Identifiers.{One};
 ghost use Rattle.udfs_file.specs.Steps.{IsListedIn, bytes_of};
 ghost use Rattle.udfs_file.specs.Told.{TellsFront};
 
 use crate::bodies::Body;
 use crate::cursors::{Cursor, Step};
-use crate::faults::NodeFault;
+use crate::faults::{FrontError, NodeFault};
 use crate::marks::Marks;
 use crate::pieces::Pieces;
 use byteorder::{ByteOrder, LittleEndian};
@@ -44,6 +44,17 @@ pub struct DirFront {
     pub fault: Option<NodeFault>,
 }
 
+/// What ends a directory as far as it can be told, and whether it lists anything before that.
+#[derive(Clone, Copy, Debug)]
+pub struct DirEnd {
+    /// Whether an entry that is neither deleted nor the directory's parent stands before the end.
+    pub lists: bool,
+    /// The block that is not known, where one ended the directory.
+    pub missing: Option<u32>,
+    /// The fault that ended it, if one did.
+    pub fault: Option<NodeFault>,
+}
+
 /// The bytes of the name.
 fn name_bytes(bytes: &[u8]) -> &[u8]
     requires { 38 ≤ length bytes.now }
@@ -68,6 +79,17 @@ fn ended(entries: Vec<DirEntry>, missing: Option<u32>, fault: Option<NodeFault>)
 {
     DirFront {
         entries,
+        missing,
+        fault,
+    }
+}
+
+/// An end of a directory.
+fn end_at(lists: bool, missing: Option<u32>, fault: Option<NodeFault>) -> DirEnd
+    ensures { (result.lists ≡ lists) × (result.missing ≡ missing) × (result.fault ≡ fault) }
+{
+    DirEnd {
+        lists,
         missing,
         fault,
     }
@@ -117,6 +139,14 @@ fn listed(alloc: Global, view: &Pieces<'_>) -> Result<Option<DirEntry>, AllocErr
     Ok(entry)
 }
 
+/// Puts an entry behind the others.
+fn put(entries: &mut Vec<DirEntry>, entry: DirEntry) -> Result<(), AllocError>
+    ensures { IfOk result (λ done. entries.new.items ≡ entries.old.items ++ entry ∷ []) }
+{
+    entries.push(entry)?;
+    Ok(())
+}
+
 /// The directories of a volume.
 pub enum Dir {}
 
@@ -147,17 +177,67 @@ impl Dir {
         ensures complete { IfOk result (TellsFront (cells_of (view (state_of table.now) space.now) body.now)) }
         ensures memory { IfErr result (λ e. 0 < length (entries_of (cells_of (view (state_of table.now) space.now) body.now))) }
     {
+        match Dir::front_within(alloc, table, space, body, usize::MAX) {
+            Ok(front) => Ok(front),
+            Err(_) => Err(AllocError),
+        }
+    }
+
+    /// The same as [`Dir::front`], of a directory that lists at most so many entries: no more than these are kept.
+    ///
+    /// # Errors
+    ///
+    /// [`FrontError::TooMany`] where the directory lists more entries, as far as they can be told, and
+    /// [`FrontError::OutOfMemory`] where memory was refused: never where the directory lists nothing.
+    pub fn front_within(
+        alloc: Global,
+        table: &BlockTable,
+        space: &Space,
+        body: &Body,
+        most: usize,
+    ) -> Result<DirFront, FrontError>
+        ensures value { IfOk result (λ front. IsFrontOf front (cells_of (view (state_of table.now) space.now) body.now)) }
+        ensures complete { IfOk result (TellsFront (cells_of (view (state_of table.now) space.now) body.now)) }
+        ensures few { IfOk result (λ front. length front.entries.items ≤ most) }
+        ensures refused { IfErr result (IsFrontRefused most (cells_of (view (state_of table.now) space.now) body.now)) }
+    {
         let mut cursor = Cursor::new(table, space, body);
         let mut entries = Vec::new(alloc);
         'steps: loop {
             match cursor.next() {
                 Step::Id(view) => match listed(alloc, &view)? {
-                    Some(entry) => entries.push(entry)?,
+                    Some(entry) => {
+                        if entries.len() >= most {
+                            return Err(FrontError::TooMany);
+                        }
+                        put(&mut entries, entry)?;
+                    }
                     None => {}
                 },
                 Step::Stop(n) => return Ok(ended(entries, Some(n), None)),
                 Step::Fault(fault) => return Ok(ended(entries, None, Some(fault))),
                 Step::End => return Ok(ended(entries, None, None)),
+            }
+        }
+    }
+
+    /// What ends the directory that has this body, as [`Dir::front`] tells it, and whether it lists anything before that. It takes
+    /// no memory.
+    pub fn end(table: &BlockTable, space: &Space, body: &Body) -> DirEnd
+        ensures { IsEndOf result (cells_of (view (state_of table.now) space.now) body.now) }
+    {
+        let mut cursor = Cursor::new(table, space, body);
+        let mut lists = false;
+        'steps: loop {
+            match cursor.next() {
+                Step::Id(view) => {
+                    if view.is_listed() {
+                        lists = true;
+                    }
+                }
+                Step::Stop(n) => return end_at(lists, Some(n), None),
+                Step::Fault(fault) => return end_at(lists, None, Some(fault)),
+                Step::End => return end_at(lists, None, None),
             }
         }
     }

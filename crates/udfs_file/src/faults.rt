@@ -1,7 +1,8 @@
 //! What is wrong with a node, and its kind.
 
 ghost use Rattle.std.specs.Prelude.{◌≡◌, Some};
-ghost use Rattle.udfs_file.specs.FaultNames.{fault_name, walk_error_text};
+ghost use Rattle.udfs_file.specs.FaultNames.{fault_name, front_error_text, walk_error_text};
+ghost use Rattle.udfs_file.specs.declared.faults.FrontError.TheVariants as front_error;
 ghost use Rattle.udfs_file.specs.declared.faults.WalkError.TheVariants as walk_error;
 
 use std::alloc::AllocError;
@@ -120,3 +121,33 @@ impl fmt::Display for WalkError {
 }
 
 impl Error for WalkError {}
+
+/// Why the entries of a directory are not told.
+#[derive(Clone, Copy, Debug, PartialEq, Eq)]
+pub enum FrontError {
+    /// The directory lists more entries than were asked for.
+    TooMany,
+    /// Memory was refused.
+    OutOfMemory,
+}
+
+impl From<AllocError> for FrontError {
+    ghost from_gives = { λ _ e. e ≡ front_error.OutOfMemory };
+
+    fn from(_error: AllocError) -> FrontError {
+        FrontError::OutOfMemory
+    }
+}
+
+impl fmt::Display for FrontError {
+    ghost output = { λ e. Some (front_error_text e) };
+
+    fn fmt<W: fmt::Write>(&self, f: &mut fmt::Formatter<W>) -> fmt::Result {
+        f.write_str(match self {
+            FrontError::TooMany => "too many entries",
+            FrontError::OutOfMemory => "out of memory",
+        })
+    }
+}
+
+impl Error for FrontError {}

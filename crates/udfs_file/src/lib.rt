@@ -21,9 +21,9 @@ pub mod stretches;
 
 pub use bodies::Body;
 pub use cursors::{Cursor, Step};
-pub use directories::{Dir, DirEntry, DirFront};
+pub use directories::{Dir, DirEnd, DirEntry, DirFront};
 pub use entries::Entry;
-pub use faults::{Kind, NodeFault, WalkError};
+pub use faults::{FrontError, Kind, NodeFault, WalkError};
 pub use file_sets::file_set;
 pub use marks::Marks;
 pub use pieces::Pieces;

@@ -1,6 +1,6 @@
 //! Directories.
 
-use super::told::{front, steps};
+use super::told::{end, front, steps, within};
 use crate::pieces::Pieces;
 use std::alloc::{AllocError, Global};
 use std::test::Fail;
@@ -163,6 +163,65 @@ fn identifiers_in_two_blocks(rt: HostRuntime) -> Result<(), Fail> {
         broken.as_str(),
         format!(in alloc; "{expected} fault 10 IdentifierTag")?.as_str()
     );
+    Ok(())
+}
+
+/// A front of at most so many entries: of 52 these all, then one fewer; and of none where the directory lists nothing.
+#[test]
+fn fronts_within(rt: HostRuntime) -> Result<(), Fail> {
+    let alloc = rt.alloc();
+    let mut expected = format!(in alloc; "front")?;
+    for _ in 0..51 {
+        expected.push_str(" A 0:3")?;
+    }
+    let disc = two_blocks(alloc, &TAGS[0])?;
+    let table = disc.known_but(alloc, &[])?;
+    let whole = within(alloc, &table, 1, 52)?;
+    assert_eq!(rt;
+        whole.as_str(),
+        format!(in alloc; "{expected} B 0:4")?.as_str()
+    );
+    assert_eq!(rt; within(alloc, &table, 1, 51)?.as_str(), "too many entries");
+    assert_eq!(rt; within(alloc, &table, 1, 0)?.as_str(), "too many entries");
+    let unread = disc.known_but(alloc, &[275])?;
+    let stopped = within(alloc, &unread, 1, 51)?;
+    assert_eq!(rt;
+        stopped.as_str(),
+        format!(in alloc; "{expected} missing 275")?.as_str()
+    );
+    assert_eq!(rt; within(alloc, &unread, 1, 50)?.as_str(), "too many entries");
+    let first = disc.known_but(alloc, &[274])?;
+    assert_eq!(rt; within(alloc, &first, 1, 0)?.as_str(), "front missing 274");
+    Ok(())
+}
+
+/// Whether a directory lists anything, and how it ends: with a file, without one, wrong and not known.
+#[test]
+fn ends(rt: HostRuntime) -> Result<(), Fail> {
+    let alloc = rt.alloc();
+    let mut disc = Disc::type1(alloc)?;
+    let table = disc.known_but(alloc, &[])?;
+    assert_eq!(rt; end(alloc, &table, 1)?.as_str(), "some");
+    assert_eq!(rt; end(alloc, &table, 4)?.as_str(), "none fault 12 Cut");
+    let unread = disc.known_but(alloc, &[274])?;
+    assert_eq!(rt; end(alloc, &unread, 1)?.as_str(), "none missing 274");
+    // The first entry is deleted, and then the second too.
+    disc.write(&[(274, 58, &[4])])?;
+    assert_eq!(rt;
+        end(alloc, &disc.known_but(alloc, &[])?, 1)?.as_str(),
+        "some"
+    );
+    disc.write(&[(274, 98, &[4])])?;
+    assert_eq!(rt;
+        end(alloc, &disc.known_but(alloc, &[])?, 1)?.as_str(),
+        "none"
+    );
+    let two = two_blocks(alloc, &TAGS[0])?;
+    let stopped = two.known_but(alloc, &[275])?;
+    assert_eq!(rt; end(alloc, &stopped, 1)?.as_str(), "some missing 275");
+    let broken = two_blocks(alloc, &TAGS[1])?.known_but(alloc, &[])?;
+    let fault = "some fault 10 IdentifierTag";
+    assert_eq!(rt; end(alloc, &broken, 1)?.as_str(), fault);
     Ok(())
 }
 

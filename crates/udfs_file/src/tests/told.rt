@@ -3,7 +3,7 @@
 use crate::bodies::Body;
 use crate::cells::Cell;
 use crate::cursors::{Cursor, Step};
-use crate::directories::Dir;
+use crate::directories::{Dir, DirFront};
 use crate::entries::Entry;
 use crate::faults::{Kind, NodeFault, WalkError};
 use crate::file_sets::file_set;
@@ -240,7 +240,41 @@ pub fn front(alloc: Global, table: &BlockTable, reference: u16, b: u32) -> Resul
         Ok(body) => body,
         Err(text) => return Ok(text),
     };
-    let front = Dir::front(alloc, table, &space, &body)?;
+    front_text(alloc, &Dir::front(alloc, table, &space, &body)?)
+}
+
+/// The same, where the directory lists at most so many entries, or why it is not told.
+pub fn within(alloc: Global, table: &BlockTable, b: u32, most: usize) -> Result<String, Fail> {
+    let Some((space, _)) = laid_out(alloc, table) else {
+        return Ok(format!(in alloc; "no layout")?);
+    };
+    let body = match body_of(alloc, table, &space, 0, b)? {
+        Ok(body) => body,
+        Err(text) => return Ok(text),
+    };
+    match Dir::front_within(alloc, table, &space, &body, most) {
+        Ok(front) => front_text(alloc, &front),
+        Err(error) => Ok(format!(in alloc; "{error}")?),
+    }
+}
+
+/// Whether a directory lists anything, and what ends it.
+pub fn end(alloc: Global, table: &BlockTable, b: u32) -> Result<String, Fail> {
+    let Some((space, _)) = laid_out(alloc, table) else {
+        return Ok(format!(in alloc; "no layout")?);
+    };
+    let body = match body_of(alloc, table, &space, 0, b)? {
+        Ok(body) => body,
+        Err(text) => return Ok(text),
+    };
+    let end = Dir::end(table, &space, &body);
+    let mut text = format!(in alloc; "{}", if end.lists { "some" } else { "none" })?;
+    push_end(alloc, &mut text, end.missing, end.fault)?;
+    Ok(text)
+}
+
+/// The entries of a front, and what ends them.
+fn front_text(alloc: Global, front: &DirFront) -> Result<String, Fail> {
     let mut text = format!(in alloc; "front")?;
     for entry in &front.entries {
         text.push(' ')?;
@@ -249,16 +283,27 @@ pub fn front(alloc: Global, table: &BlockTable, reference: u16, b: u32) -> Resul
         let icb = format!(in alloc; " {reference}:{block}")?;
         text.push_str(icb.as_str())?;
     }
-    if let Some(n) = front.missing {
+    push_end(alloc, &mut text, front.missing, front.fault)?;
+    Ok(text)
+}
+
+/// What ends a directory.
+fn push_end(
+    alloc: Global,
+    text: &mut String,
+    missing: Option<u32>,
+    fault: Option<NodeFault>,
+) -> Result<(), Fail> {
+    if let Some(n) = missing {
         let missing = format!(in alloc; " missing {n}")?;
         text.push_str(missing.as_str())?;
     }
-    if let Some(fault) = front.fault {
+    if let Some(fault) = fault {
         text.push(' ')?;
         let fault = fault_text(alloc, fault)?;
         text.push_str(fault.as_str())?;
     }
-    Ok(text)
+    Ok(())
 }
 
 /// So many steps of a cursor through a directory: of a descriptor the sizes of its pieces, else what ends them.
