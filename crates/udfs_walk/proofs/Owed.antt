@@ -1,17 +1,21 @@
 -- What a walk still owes: all that stands below the entries that are left.
 --     IsWalking v root nodes frames      the nodes so far, and what the directories still owe, are all
 use Rattle.std.proofs.Common.{◌≡◌, refl, sym, ◌∙◌, ap, subst, ℕ, ◌+◌, ◌<◌, ◌≤◌, false, List, [], ◌∷◌, ◌++◌, Option, None, Some, length, map, arith, append_assoc, length-append}
-use Rattle.std.specs.Prelude.{suc, flat_map}
+use Rattle.std.specs.Prelude.{suc, flat_map, Result, Err, IsErrAnd, MatchResult}
+use Rattle.std.proofs.lemmas.Result.{err_from_is_err_and}
 use Rattle.std.proofs.lemmas.List.{append-nil, length-map}
 use Rattle.udfs_tag.specs.declared.layouts.LongAd.{LongAd}
 use Rattle.udfs_space.specs.Places.{View}
+use Rattle.udfs_file.specs.declared.directories.DirEntry.{DirEntry}
 use Rattle.udfs_walk.specs.NodeFields.{NodeFields}
-use Rattle.udfs_walk.specs.Targets.{Icb}
-use Rattle.udfs_walk.specs.Routes.{Walked, at_root, inside, HasMoreRoutes}
+use Rattle.udfs_walk.specs.Targets.{Icb, icb_of}
+use Rattle.udfs_walk.specs.Routes.{Walked, at_root, inside, entries_below, HasMoreRoutes}
 use Rattle.udfs_walk.specs.Nodes.{node}
-use Rattle.udfs_walk.specs.Visits.{end_at}
-use Rattle.udfs_walk.specs.Frames.{FrameFields, IsFrameOf, frame_at, IsNextTaken, kept}
-use Rattle.udfs_walk.specs.Walks.{AreNodes}
+use Rattle.udfs_walk.specs.Visits.{AreRefused, end_at}
+use Rattle.udfs_walk.specs.Frames.{FrameFields, HasManyBelow, IsFrameOf, IsStepRefused, frame_at, IsNextTaken, kept}
+use Rattle.udfs_walk.specs.Walks.{AreNodes, IsNodesRefused}
+use Rattle.udfs_walk.specs.declared.answers.NodesError.{NodesError}
+use Rattle.udfs_walk.specs.declared.answers.NodesError.TheVariants.{TooManyPaths, OutOfMemory}
 use Rattle.udfs_walk.proofs.Trees.{tree, tree-is, tree_walk, tree_more}
 
 -- what one directory owes
@@ -91,6 +95,64 @@ walk_many v root nodes frames rest f g n b w e t h = tree_more v root 65536 (
     = ap length (w.all ∙ ap (λ x. nodes ++ map (node v) x) (taken_owed v frames rest f g n b e t))
     ∙ length-append nodes (node v (inside f.path f.above t.entry) ∷ map (node v) (owed v (kept (rest ++ g ∷ []) b))) in
     omega (arith, all, sum, h))
+
+-- ---- a directory with many entries
+-- below entries stand at least as many
+at_least : (v : View) (path : List (List ℕ)) (above : List Icb) (es : List DirEntry) → length es ≤ length (flat_map (λ e. tree v (inside path above e)) es)
+at_least v path above [] = omega arith
+at_least v path above (e ∷ es) =
+    let one : length (tree v (inside path above e)) ≡ suc (length (owed_frame v (frame_at v (inside path above e)))) = ap length (tree_frame v (inside path above e)) in
+    let sum : length (tree v (inside path above e) ++ flat_map (λ e. tree v (inside path above e)) es) ≡ length (tree v (inside path above e)) + length (flat_map (λ e. tree v (inside path above e)) es)
+    = length-append (tree v (inside path above e)) (flat_map (λ e. tree v (inside path above e)) es) in
+    let more : length es ≤ length (flat_map (λ e. tree v (inside path above e)) es) = at_least v path above es in
+    omega (arith, one, sum, more)
+
+-- at a place and below it stand more than it has entries
+tree_least : (v : View) (w : Walked) → length (entries_below v w) < length (tree v w)
+tree_least v w =
+    let e : length (tree v w) ≡ suc (length (owed_frame v (frame_at v w))) = ap length (tree_frame v w) in
+    let m : length (entries_below v w) ≤ length (owed_frame v (frame_at v w)) = at_least v w.path (w.above ++ icb_of w.address ∷ []) (entries_below v w) in
+    omega (arith, e, m)
+
+pub start_many : (v : View) (root : LongAd) (path : List (List ℕ)) (above : List Icb) → path ≡ [] → above ≡ []
+    → 65536 < length (entries_below v (end_at root path above false)) → HasMoreRoutes v root 65536
+start_many v root path above p a h = tree_more v root 65536 (
+    let same : length (entries_below v (end_at root path above false)) ≡ length (entries_below v (at_root root)) = (λ i. length (entries_below v (end_at root (p i) (a i) false))) in
+    let more : length (entries_below v (at_root root)) < length (tree v (at_root root)) = tree_least v (at_root root) in
+    omega (arith, h, same, more))
+
+pub walk_below : (v : View) (root : LongAd) (nodes : List NodeFields) (frames rest : List FrameFields) (f : FrameFields) → IsWalking v root nodes frames
+    → frames ≡ rest ++ f ∷ [] → HasManyBelow v f → HasMoreRoutes v root 65536
+walk_below v root nodes frames rest f w e b = tree_more v root 65536 (
+    let all : length (map (node v) (tree v (at_root root))) ≡ length (tree v (at_root root)) = length-map (tree v (at_root root)) (node v) in
+    let sum : length (map (node v) (tree v (at_root root))) ≡ length nodes + length (map (node v) (owed v frames)) = ap length w.all ∙ length-append nodes (map (node v) (owed v frames)) in
+    let left : length (map (node v) (owed v frames)) ≡ length (owed v frames) = length-map (owed v frames) (node v) in
+    let first : length (owed v frames) ≡ length (owed_below b.entry ++ flat_map owed_below b.rest) + length (owed v rest)
+    = ap length (ap (owed v) e ∙ owed_last v rest f ∙ ap (λ es. flat_map owed_below es ++ owed v rest) b.first) ∙ length-append (owed_below b.entry ++ flat_map owed_below b.rest) (owed v rest) in
+    let one : length (owed_below b.entry ++ flat_map owed_below b.rest) ≡ length (owed_below b.entry) + length (flat_map owed_below b.rest) = length-append (owed_below b.entry) (flat_map owed_below b.rest) in
+    let more : length (entries_below v (inside f.path f.above b.entry)) < length (owed_below b.entry) = tree_least v (inside f.path f.above b.entry) in
+    let many : 65536 < length (entries_below v (inside f.path f.above b.entry)) = b.many in
+    omega (arith, all, sum, left, first, one, more, many))
+  where
+    owed_below : DirEntry → List Walked
+    owed_below d = tree v (inside f.path f.above d)
+
+-- ---- an error that is handed up
+pub start_refused : {A : Type 0} (v : View) (root : LongAd) (path : List (List ℕ)) (above : List Icb) (P : A → Type 0) (r : Result A NodesError) (error : NodesError) → IsErrAnd r (λ e. e ≡ error)
+    → AreRefused (entries_below v (end_at root path above false)) error → path ≡ [] → above ≡ [] → MatchResult r P (IsNodesRefused v root)
+start_refused v root path above P r error h a p q = let x = err_from_is_err_and r h in subst (λ r. MatchResult r P (IsNodesRefused v root)) (sym (x.1 ∙ ap Err x.2)) (go error a)
+  where
+    go : (e : NodesError) → AreRefused (entries_below v (end_at root path above false)) e → IsNodesRefused v root e
+    go TooManyPaths m = start_many v root path above p q m
+    go OutOfMemory m = tt
+
+pub walk_refused : {A : Type 0} (v : View) (root : LongAd) (nodes : List NodeFields) (frames rest : List FrameFields) (f : FrameFields) (P : A → Type 0) (r : Result A NodesError) (error : NodesError)
+    → IsErrAnd r (λ e. e ≡ error) → IsWalking v root nodes frames → frames ≡ rest ++ f ∷ [] → IsStepRefused v f error → MatchResult r P (IsNodesRefused v root)
+walk_refused v root nodes frames rest f P r error h w e s = let x = err_from_is_err_and r h in subst (λ r. MatchResult r P (IsNodesRefused v root)) (sym (x.1 ∙ ap Err x.2)) (go error s)
+  where
+    go : (d : NodesError) → IsStepRefused v f d → IsNodesRefused v root d
+    go TooManyPaths m = walk_below v root nodes frames rest f w e m
+    go OutOfMemory m = tt
 
 none_left : (xs : List FrameFields) → length xs ≡ 0 → xs ≡ []
 none_left [] h = refl

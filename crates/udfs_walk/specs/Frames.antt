@@ -3,13 +3,16 @@
 --     IsFrameOf frame f          the directory, which need not be kept where no entry is left
 --     kept frames frame          these directories and one more, if there is one
 --     IsTaken view old taken new     the next entry was gone into
-use Rattle.std.specs.Prelude.{◌≡◌, ℕ, List, [], ◌∷◌, ◌++◌, Option, Some, None}
+--     IsStepRefused view old error   why it was not
+use Rattle.std.specs.Prelude.{◌≡◌, ◌<◌, ℕ, ⊤, List, [], ◌∷◌, ◌++◌, length, Option, Some, None}
 use Rattle.udfs_space.specs.Places.{View}
 use Rattle.udfs_file.specs.declared.directories.DirEntry.{DirEntry}
 use Rattle.udfs_walk.specs.NodeFields.{NodeFields}
 use Rattle.udfs_walk.specs.Targets.{Icb, icb_of}
 use Rattle.udfs_walk.specs.Routes.{Walked, inside, entries_below}
 use Rattle.udfs_walk.specs.Nodes.{node}
+use Rattle.udfs_walk.specs.declared.answers.NodesError.{NodesError}
+use Rattle.udfs_walk.specs.declared.answers.NodesError.TheVariants.{TooManyPaths, OutOfMemory}
 
 -- a directory: its path, the ICBs down to its own, and the entries that are left
 pub record FrameFields : Type 0 where
@@ -41,3 +44,15 @@ pub record IsNextTaken (view : View) (old new : FrameFields) (n : NodeFields) (b
 abbrev pub IsTaken : View → FrameFields → Option (NodeFields × Option FrameFields) → FrameFields → Type 0
 IsTaken view old None new = old.left ≡ []
 IsTaken view old (Some taken) new = IsNextTaken view old new taken.0 taken.1
+
+-- an entry is left, and more than 65,536 entries stand below the first
+pub record HasManyBelow (view : View) (f : FrameFields) : Type 0 where
+  pub entry : DirEntry
+  pub rest : List DirEntry
+  pub first : f.left ≡ entry ∷ rest
+  pub many : 65536 < length (entries_below view (inside f.path f.above entry))
+
+-- too many paths are told only where they stand below the next entry; of memory nothing is said
+abbrev pub IsStepRefused : View → FrameFields → NodesError → Type 0
+IsStepRefused view old TooManyPaths = HasManyBelow view old
+IsStepRefused view old OutOfMemory = ⊤

@@ -1,7 +1,8 @@
 -- The end of a route as code has it.
 --     end_at address path above hidden       the same, put together
 --     open_entries view w target             the entries to which a route goes on from this target
-use Rattle.std.specs.Prelude.{ℕ, Bool, List, [], cond, ◌||◌, ⊤}
+--     AreRefused entries error               why entries are not told
+use Rattle.std.specs.Prelude.{ℕ, ◌<◌, Bool, List, [], length, cond, ◌||◌, ⊤}
 use Rattle.udfs_tag.specs.declared.layouts.LongAd.{LongAd}
 use Rattle.udfs_space.specs.Places.{View}
 use Rattle.udfs_file.specs.Entries.{entry_of}
@@ -10,6 +11,8 @@ use Rattle.udfs_file.specs.declared.directories.DirEntry.{DirEntry}
 use Rattle.udfs_walk.specs.Targets as targets
 use Rattle.udfs_walk.specs.Targets.{Icb}
 use Rattle.udfs_walk.specs.Routes.{Walked, is_loop, is_deep, target_entries}
+use Rattle.udfs_walk.specs.declared.answers.NodesError.{NodesError}
+use Rattle.udfs_walk.specs.declared.answers.NodesError.TheVariants.{TooManyPaths, OutOfMemory}
 use Rattle.udfs_walk.specs.declared.targets.Target.{Target}
 use Rattle.udfs_walk.specs.declared.targets.Target.TheVariants.{Fault, Unread, Entry}
 
@@ -29,3 +32,8 @@ abbrev pub Stands : View → LongAd → Target → Type 0
 Stands view a (Fault f) = ⊤
 Stands view a (Unread n) = ⊤
 Stands view a (Entry bytes) = IsStanding view a.reference a.block bytes
+
+-- too many paths are told only where a route goes on to more than 65,536 entries; of memory nothing is said
+abbrev pub AreRefused : List DirEntry → NodesError → Type 0
+AreRefused entries TooManyPaths = 65536 < length entries
+AreRefused entries OutOfMemory = ⊤

@@ -12,7 +12,7 @@ ghost use Rattle.udfs_walk.specs.NamedKeys.{AreNamed, key_of};
 
 use crate::answers::{Node, Unnamed};
 use crate::targets::{Target, target_at};
-use crate::visits::entry_told;
+use crate::visits::standing_told;
 use std::alloc::{AllocError, Global};
 use udfs_file::file_sets::address_fault;
 use udfs_lattice::BlockTable;
@@ -109,14 +109,14 @@ fn unnamed_at(
             if is_among(keys, key) {
                 return Ok(None);
             }
-            let told = entry_told(alloc, table, space, &entry, address, false, false)?;
+            let standing = standing_told(alloc, table, space, &entry, address, false, false)?;
             Ok(Some(Unnamed {
                 reference,
                 block,
                 kind: entry.kind(),
                 size: entry.size(),
                 stamp: entry.stamp(),
-                standing: told.standing,
+                standing,
             }))
         }
     }

@@ -1,28 +1,28 @@
 //! One node: what stands at the end of a route.
 
-ghost use Rattle.std.specs.Prelude.{◌≡◌, ◌∷◌, [], ◌<◌, ◌^◌, ◌||◌, IfOk, List, cond, length};
+ghost use Rattle.std.specs.Prelude.{◌≡◌, ◌∷◌, [], ◌<◌, ◌^◌, ◌||◌, IfErr, IfOk, List, cond, false, length};
 ghost use Rattle.std.specs.List.{list_any};
 ghost use Rattle.udfs_lattice.specs.Tables.{state_of};
 ghost use Rattle.udfs_space.specs.Places.{view};
 ghost use Rattle.udfs_file.specs.Stretches.{IsStanding, cells_of};
 ghost use Rattle.udfs_file.specs.Entries.{entry_of};
 ghost use Rattle.udfs_file.specs.Bodies.{body, cells};
-ghost use Rattle.udfs_file.specs.Fronts.{IsFrontOf, directory, entries_of, fault_in};
+ghost use Rattle.udfs_file.specs.Fronts.{IsEndOf, IsFrontOf, directory, entries_of, fault_in};
 ghost use Rattle.udfs_file.specs.declared.cells.Cell.{Cell};
 ghost use Rattle.udfs_walk.specs.Standings.{body_standing, depth_or, kind_standing, unless_fault};
 ghost use Rattle.udfs_walk.specs.Targets.{Icb, icb_of, is_icb};
 ghost use Rattle.udfs_walk.specs.Routes.{kind_entries, entries_below};
 ghost use Rattle.udfs_walk.specs.Nodes.{node, told, untold};
-ghost use Rattle.udfs_walk.specs.Visits.{end_at};
+ghost use Rattle.udfs_walk.specs.Visits.{AreRefused, end_at};
 
-use crate::answers::Node;
+use crate::answers::{Node, NodesError};
 use crate::gaps::cells_standing;
 use crate::paths::Path;
 use crate::standings::{Standing, Torn};
 use crate::targets::{Target, target_at};
 use std::alloc::{AllocError, Global};
-use udfs_file::directories::DirFront;
-use udfs_file::{Body, Dir, DirEntry, Entry, Kind, NodeFault, WalkError};
+use udfs_file::directories::{DirEnd, DirFront};
+use udfs_file::{Body, Dir, DirEntry, Entry, FrontError, Kind, NodeFault, WalkError};
 use udfs_lattice::BlockTable;
 use udfs_space::Space;
 use udfs_tag::LongAd;
@@ -46,55 +46,44 @@ fn is_loop(address: LongAd, above: &[(u16, u32)]) -> bool
     false
 }
 
-/// What a directory's front tells, where its cells alone would have this standing.
-fn listed(alloc: Global, front: DirFront, is_deep: bool, standing: Standing) -> Told
-    ensures standing { (cs : List Cell) → IsFrontOf front cs
-        → result.standing ≡ unless_fault (fault_in (directory cs).rest) (depth_or is_deep (entries_of cs) standing) }
-    ensures entries { (cs : List Cell) → IsFrontOf front cs → result.entries.items ≡ cond is_deep [] (entries_of cs) }
+/// The standing of a directory that ends so, where its cells alone would have this one.
+fn ended(end: DirEnd, is_deep: bool, standing: Standing) -> Standing
+    ensures { (cs : List Cell) → IsEndOf end cs
+        → result ≡ unless_fault (fault_in (directory cs).rest) (depth_or is_deep (entries_of cs) standing) }
 {
-    let DirFront { entries, fault, .. } = front;
-    let standing = match fault {
+    match end.fault {
         Some(fault) => Standing::Fault(fault),
         None => {
-            if is_deep && !entries.is_empty() {
+            if is_deep && end.lists {
                 Standing::Fault(NodeFault::Depth)
             } else {
                 standing
             }
         }
-    };
-    let entries = if is_deep { Vec::new(alloc) } else { entries };
-    Told { standing, entries }
+    }
 }
 
-/// What a body tells of an entry of this kind.
-fn body_told(
+/// The standing of an entry of this kind that has this body.
+fn kind_standing(
     alloc: Global,
     table: &BlockTable,
     space: &Space,
     kind: Kind,
     is_deep: bool,
     body: &Body,
-) -> Result<Told, AllocError>
+) -> Result<Standing, AllocError>
     requires { length (cells_of (view (state_of table.now) space.now) body.now) < 2 ^ 64 }
-    ensures standing { IfOk result (λ told. told.standing ≡ kind_standing kind is_deep (cells_of (view (state_of table.now) space.now) body.now)) }
-    ensures entries { IfOk result (λ told. told.entries.items ≡ cond is_deep [] (kind_entries kind (cells (cells_of (view (state_of table.now) space.now) body.now)))) }
+    ensures { IfOk result (λ standing. standing ≡ kind_standing kind is_deep (cells_of (view (state_of table.now) space.now) body.now)) }
 {
-    let standing = cells_standing(alloc, table, space, body)?;
+    let alone = cells_standing(alloc, table, space, body)?;
     match kind {
-        Kind::Directory => {
-            let front = Dir::front(alloc, table, space, body)?;
-            Ok(listed(alloc, front, is_deep, standing))
-        }
-        _ => Ok(Told {
-            standing,
-            entries: Vec::new(alloc),
-        }),
+        Kind::Directory => Ok(ended(Dir::end(table, space, body), is_deep, alone)),
+        _ => Ok(alone),
     }
 }
 
-/// What an entry tells that stands at an address.
-pub(crate) fn entry_told(
+/// The standing of an entry that stands at an address. No entry of a directory is kept.
+pub(crate) fn standing_told(
     alloc: Global,
     table: &BlockTable,
     space: &Space,
@@ -102,21 +91,84 @@ pub(crate) fn entry_told(
     address: LongAd,
     is_loop: bool,
     is_deep: bool,
-) -> Result<Told, AllocError>
+) -> Result<Standing, AllocError>
     requires { IsStanding (view (state_of table.now) space.now) address.reference address.block entry.now }
-    ensures standing { IfOk result (λ told. told.standing ≡ cond is_loop Standing.Loop (body_standing (entry_of entry.now).kind is_deep
-        (body (view (state_of table.now) space.now) address.reference address.block (entry_of entry.now)))) }
-    ensures entries { IfOk result (λ told. told.entries.items ≡ cond (is_loop || is_deep) [] (kind_entries (entry_of entry.now).kind
+    ensures { IfOk result (λ standing. standing ≡ cond is_loop Standing.Loop (body_standing (entry_of entry.now).kind is_deep
         (body (view (state_of table.now) space.now) address.reference address.block (entry_of entry.now)))) }
 {
     if is_loop {
-        return Ok(Told {
-            standing: Standing::Loop,
-            entries: Vec::new(alloc),
-        });
+        return Ok(Standing::Loop);
     }
     match Body::read(alloc, table, space, entry, address.reference, address.block) {
         Err(WalkError::OutOfMemory) => Err(AllocError),
+        Err(WalkError::Fault(fault)) => Ok(Standing::Fault(fault)),
+        Ok(body) => {
+            // The body has as many cells as this number of 64 bits says.
+            let _size = entry.size();
+            let standing = kind_standing(alloc, table, space, entry.kind(), is_deep, &body)?;
+            Ok(standing)
+        }
+    }
+}
+
+/// What a directory's front tells, where its cells alone would have this standing.
+fn listed(front: DirFront, standing: Standing) -> Told
+    ensures standing { (cs : List Cell) → IsFrontOf front cs → result.standing ≡ unless_fault (fault_in (directory cs).rest) standing }
+    ensures entries { (cs : List Cell) → IsFrontOf front cs → result.entries.items ≡ entries_of cs }
+{
+    let DirFront { entries, fault, .. } = front;
+    let standing = match fault {
+        Some(fault) => Standing::Fault(fault),
+        None => standing,
+    };
+    Told { standing, entries }
+}
+
+/// What a body tells of an entry of this kind, where a route goes on.
+fn body_told(
+    alloc: Global,
+    table: &BlockTable,
+    space: &Space,
+    kind: Kind,
+    body: &Body,
+) -> Result<Told, NodesError>
+    requires { length (cells_of (view (state_of table.now) space.now) body.now) < 2 ^ 64 }
+    ensures standing { IfOk result (λ told. told.standing ≡ kind_standing kind false (cells_of (view (state_of table.now) space.now) body.now)) }
+    ensures entries { IfOk result (λ told. told.entries.items ≡ kind_entries kind (cells (cells_of (view (state_of table.now) space.now) body.now))) }
+    ensures refused { IfErr result (AreRefused (kind_entries kind (cells (cells_of (view (state_of table.now) space.now) body.now)))) }
+{
+    let standing = cells_standing(alloc, table, space, body)?;
+    match kind {
+        Kind::Directory => match Dir::front_within(alloc, table, space, body, 65536) {
+            Ok(front) => Ok(listed(front, standing)),
+            Err(FrontError::TooMany) => Err(NodesError::TooManyPaths),
+            Err(FrontError::OutOfMemory) => Err(NodesError::OutOfMemory),
+        },
+        _ => Ok(Told {
+            standing,
+            entries: Vec::new(alloc),
+        }),
+    }
+}
+
+/// What an entry tells that stands at an address from which a route goes on.
+fn open_told(
+    alloc: Global,
+    table: &BlockTable,
+    space: &Space,
+    entry: &Entry<'_>,
+    address: LongAd,
+) -> Result<Told, NodesError>
+    requires { IsStanding (view (state_of table.now) space.now) address.reference address.block entry.now }
+    ensures standing { IfOk result (λ told. told.standing ≡ body_standing (entry_of entry.now).kind false
+        (body (view (state_of table.now) space.now) address.reference address.block (entry_of entry.now))) }
+    ensures entries { IfOk result (λ told. told.entries.items ≡ kind_entries (entry_of entry.now).kind
+        (body (view (state_of table.now) space.now) address.reference address.block (entry_of entry.now))) }
+    ensures refused { IfErr result (AreRefused (kind_entries (entry_of entry.now).kind
+        (body (view (state_of table.now) space.now) address.reference address.block (entry_of entry.now)))) }
+{
+    match Body::read(alloc, table, space, entry, address.reference, address.block) {
+        Err(WalkError::OutOfMemory) => Err(NodesError::OutOfMemory),
         Err(WalkError::Fault(fault)) => Ok(Told {
             standing: Standing::Fault(fault),
             entries: Vec::new(alloc),
@@ -124,10 +176,37 @@ pub(crate) fn entry_told(
         Ok(body) => {
             // The body has as many cells as this number of 64 bits says.
             let _size = entry.size();
-            let told = body_told(alloc, table, space, entry.kind(), is_deep, &body)?;
+            let told = body_told(alloc, table, space, entry.kind(), &body)?;
             Ok(told)
         }
     }
+}
+
+/// What an entry tells that stands at an address. Of a loop, and below 64 names, no entry is kept.
+fn entry_told(
+    alloc: Global,
+    table: &BlockTable,
+    space: &Space,
+    entry: &Entry<'_>,
+    address: LongAd,
+    is_loop: bool,
+    is_deep: bool,
+) -> Result<Told, NodesError>
+    requires { IsStanding (view (state_of table.now) space.now) address.reference address.block entry.now }
+    ensures standing { IfOk result (λ told. told.standing ≡ cond is_loop Standing.Loop (body_standing (entry_of entry.now).kind is_deep
+        (body (view (state_of table.now) space.now) address.reference address.block (entry_of entry.now)))) }
+    ensures entries { IfOk result (λ told. told.entries.items ≡ cond (is_loop || is_deep) [] (kind_entries (entry_of entry.now).kind
+        (body (view (state_of table.now) space.now) address.reference address.block (entry_of entry.now)))) }
+    ensures refused { IfErr result (AreRefused (cond (is_loop || is_deep) [] (kind_entries (entry_of entry.now).kind
+        (body (view (state_of table.now) space.now) address.reference address.block (entry_of entry.now))))) }
+{
+    if is_loop || is_deep {
+        let standing = standing_told(alloc, table, space, entry, address, is_loop, is_deep)?;
+        let entries = Vec::new(alloc);
+        return Ok(Told { standing, entries });
+    }
+    let told = open_told(alloc, table, space, entry, address)?;
+    Ok(told)
 }
 
 /// What stands at the end of a route: its node, and the entries to which a route goes on.
@@ -135,6 +214,15 @@ pub(crate) fn entry_told(
 pub(crate) struct Visit {
     pub(crate) node: Node,
     pub(crate) entries: Vec<DirEntry>,
+}
+
+/// The standing of a node whose entry stands in a block that is not known.
+fn not_known(alloc: Global, n: u32) -> Result<Standing, AllocError>
+    ensures { IfOk result (λ standing. standing ≡ Standing.Torn (record { missing = n ∷ []; holes = [] })) }
+{
+    let missing = vec![in alloc; n]?;
+    let holes = Vec::new(alloc);
+    Ok(Standing::Torn(Torn { missing, holes }))
 }
 
 /// A node whose entry is not read.
@@ -177,9 +265,10 @@ pub(crate) fn visited(
     path: Path,
     above: &[(u16, u32)],
     hidden: bool,
-) -> Result<Visit, AllocError>
+) -> Result<Visit, NodesError>
     ensures node { IfOk result (λ visit. visit.node ≡ node (view (state_of table.now) space.now) (end_at address path above.now hidden)) }
     ensures entries { IfOk result (λ visit. visit.entries.items ≡ entries_below (view (state_of table.now) space.now) (end_at address path above.now hidden)) }
+    ensures refused { IfErr result (AreRefused (entries_below (view (state_of table.now) space.now) (end_at address path above.now hidden))) }
 {
     match target_at(table, space, address) {
         Target::Fault(fault) => Ok(Visit {
@@ -187,15 +276,9 @@ pub(crate) fn visited(
             entries: Vec::new(alloc),
         }),
         Target::Unread(n) => {
-            let missing = vec![in alloc; n]?;
-            let holes = Vec::new(alloc);
+            let standing = not_known(alloc, n)?;
             Ok(Visit {
-                node: unread(
-                    address,
-                    path,
-                    hidden,
-                    Standing::Torn(Torn { missing, holes }),
-                ),
+                node: unread(address, path, hidden, standing),
                 entries: Vec::new(alloc),
             })
         }

@@ -1,14 +1,14 @@
 //! The walk over all routes, in the order of words.
 
-ghost use Rattle.std.specs.Prelude.{◌≡◌, ◌+◌, ◌≤◌, ◌∷◌, [], ◌++◌, IfOk, MatchOption, MatchResult, length};
+ghost use Rattle.std.specs.Prelude.{◌≡◌, ◌+◌, ◌≤◌, ◌∷◌, [], ◌++◌, IfErr, IfOk, MatchResult, length};
 ghost use Rattle.udfs_lattice.specs.Tables.{state_of};
 ghost use Rattle.udfs_space.specs.Places.{view};
 ghost use Rattle.udfs_walk.specs.Nodes.{node};
-ghost use Rattle.udfs_walk.specs.Visits.{end_at};
+ghost use Rattle.udfs_walk.specs.Visits.{AreRefused, end_at};
 ghost use Rattle.udfs_walk.specs.Walks.{AreNodes, IsNodesRefused};
-ghost use Rattle.udfs_walk.specs.Routes.{HasMoreRoutes};
+ghost use Rattle.udfs_walk.specs.Routes.{entries_below};
 ghost use Rattle.udfs_walk.specs.Targets.{icb_of};
-ghost use Rattle.udfs_walk.specs.Frames.{IsFrameOf, IsTaken, frame_at, kept};
+ghost use Rattle.udfs_walk.specs.Frames.{IsFrameOf, IsStepRefused, IsTaken, frame_at, kept};
 
 use crate::answers::{Node, NodesError};
 use crate::paths::{Names, Path};
@@ -67,9 +67,10 @@ impl Frame {
         path: Path,
         above: &[(u16, u32)],
         hidden: bool,
-    ) -> Result<(Node, Option<Frame>), AllocError>
+    ) -> Result<(Node, Option<Frame>), NodesError>
         ensures node { IfOk result (λ entered. entered.0 ≡ node (view (state_of table.now) space.now) (end_at address path above.now hidden)) }
         ensures frame { IfOk result (λ entered. IsFrameOf entered.1 (frame_at (view (state_of table.now) space.now) (end_at address path above.now hidden))) }
+        ensures refused { IfErr result (AreRefused (entries_below (view (state_of table.now) space.now) (end_at address path above.now hidden))) }
     {
         let Visit { node, entries } = visited(alloc, table, space, address, path, above, hidden)?;
         if entries.is_empty() {
@@ -89,8 +90,9 @@ impl Frame {
         alloc: Global,
         table: &BlockTable,
         space: &Space,
-    ) -> Result<Option<(Node, Option<Frame>)>, AllocError>
-        ensures { IfOk result (λ taken. IsTaken (view (state_of table.now) space.now) self.old taken self.new) }
+    ) -> Result<Option<(Node, Option<Frame>)>, NodesError>
+        ensures taken { IfOk result (λ taken. IsTaken (view (state_of table.now) space.now) self.old taken self.new) }
+        ensures refused { IfErr result (IsStepRefused (view (state_of table.now) space.now) self.old) }
     {
         let Some(entry) = self.entries.next() else {
             return Ok(None);
@@ -114,35 +116,12 @@ fn keep(frames: &mut Vec<Frame>, frame: Option<Frame>) -> Result<(), AllocError>
     Ok(())
 }
 
-/// The nodes, unless there are more than the limit.
-fn walk(
-    alloc: Global,
-    table: &BlockTable,
-    space: &Space,
-    root: LongAd,
-) -> Result<Option<Vec<Node>>, AllocError>
-    ensures { IfOk result (λ listed. MatchOption listed (HasMoreRoutes (view (state_of table.now) space.now) root 65536)
-        (λ found. AreNodes (view (state_of table.now) space.now) root found.items)) }
+/// Puts a node behind the others.
+fn put(nodes: &mut Vec<Node>, node: Node) -> Result<(), AllocError>
+    ensures { IfOk result (λ done. nodes.new.items ≡ nodes.old.items ++ node ∷ []) }
 {
-    let path = Path::root(alloc)?;
-    let (node, frame) = Frame::enter(alloc, table, space, root, path, &[], false)?;
-    let mut nodes = Vec::new(alloc);
     nodes.push(node)?;
-    let mut frames = Vec::new(alloc);
-    keep(&mut frames, frame)?;
-    'walk: while let Some(mut frame) = frames.pop() {
-        let (node, below) = match frame.step(alloc, table, space)? {
-            None => continue,
-            Some(taken) => taken,
-        };
-        if nodes.len() >= 65536 {
-            return Ok(None);
-        }
-        nodes.push(node)?;
-        frames.push(frame)?;
-        keep(&mut frames, below)?;
-    }
-    Ok(Some(nodes))
+    Ok(())
 }
 
 /// The nodes of a volume, in the order of words: the root, and behind each directory its entries in their order,
@@ -164,9 +143,23 @@ pub fn nodes(
     ensures { MatchResult result (λ found. AreNodes (view (state_of table.now) space.now) root found.items)
         (IsNodesRefused (view (state_of table.now) space.now) root) }
 {
-    match walk(alloc, table, space, root) {
-        Ok(Some(nodes)) => Ok(nodes),
-        Ok(None) => Err(NodesError::TooManyPaths),
-        Err(_) => Err(NodesError::OutOfMemory),
+    let path = Path::root(alloc)?;
+    let (node, frame) = Frame::enter(alloc, table, space, root, path, &[], false)?;
+    let mut nodes = Vec::new(alloc);
+    put(&mut nodes, node)?;
+    let mut frames = Vec::new(alloc);
+    keep(&mut frames, frame)?;
+    'walk: while let Some(mut frame) = frames.pop() {
+        let (node, below) = match frame.step(alloc, table, space)? {
+            None => continue,
+            Some(taken) => taken,
+        };
+        if nodes.len() >= 65536 {
+            return Err(NodesError::TooManyPaths);
+        }
+        put(&mut nodes, node)?;
+        keep(&mut frames, Some(frame))?;
+        keep(&mut frames, below)?;
     }
+    Ok(nodes)
 }

@@ -20,8 +20,8 @@ returns-in-Fault c = λ nodes a. no_entry (view (state_of c.args.table.now) c.ar
 pub returns-in-Unread : goal.returns-in-Unread
 returns-in-Unread c = λ nodes a. no_entry (view (state_of c.args.table.now) c.args.space.now) nodes (c.args.reference, c.args.block) (unread c.in-Unread.field-0) c.in-Unread.ensures.value refl
 
-pub returns-in_ok-told-in-Entry : goal.returns-in_ok-told-in-Entry
-returns-in_ok-told-in-Entry c = λ nodes a. is_unnamed (view (state_of c.args.table.now) c.args.space.now) nodes c.args.keys.now c.args.reference c.args.block c.key-key.result c.is_among.result
+pub returns-in_ok-standing-in-Entry : goal.returns-in_ok-standing-in-Entry
+returns-in_ok-standing-in-Entry c = λ nodes a. is_unnamed (view (state_of c.args.table.now) c.args.space.now) nodes c.args.keys.now c.args.reference c.args.block c.key-key.result c.is_among.result
     (entry_of c.in-Entry.entry) _ a c.key-key.ensures.block c.key-key.ensures.value c.is_among.ensures c.if-is_among.false c.in-Entry.ensures.value
     (λ i. record {
       reference = c.args.reference;
@@ -29,5 +29,5 @@ returns-in_ok-told-in-Entry c = λ nodes a. is_unnamed (view (state_of c.args.ta
       kind = c.kind.ensures i;
       size = c.size.ensures i;
       stamp = c.stamp.ensures i;
-      standing = c.in_ok-told-in-Entry.ensures.standing i;
+      standing = c.in_ok-standing-in-Entry.ensures i;
     })

@@ -4,7 +4,7 @@ use Rattle.udfs_space.specs.Places.{view}
 use Rattle.udfs_file.specs.Entries.{entry_of}
 use Rattle.udfs_file.specs.Stretches.{cells_of}
 use Rattle.udfs_file.proofs.PublicLaws.{body_has_its_length}
-use Rattle.udfs_walk.proofs.visits.entry_told.Goals as goal
+use Rattle.udfs_walk.proofs.visits.open_told.Goals as goal
 
 pub body_told-requires : goal.body_told-requires
 body_told-requires c =

@@ -7,7 +7,7 @@ use Rattle.udfs_walk.specs.Standings.{body_standing}
 use Rattle.udfs_walk.specs.Nodes.{told, untold}
 use Rattle.udfs_walk.specs.Targets.{bad, entry, unread}
 use Rattle.udfs_walk.specs.Visits.{end_at}
-use Rattle.udfs_walk.specs.declared.standings.Standing.TheVariants.{Torn, Loop}
+use Rattle.udfs_walk.specs.declared.standings.Standing.TheVariants.{Loop}
 use Rattle.udfs_walk.proofs.TargetLemmas.{node_is}
 use Rattle.udfs_walk.proofs.visits.visited.Goals as goal
 
@@ -16,11 +16,10 @@ returns-in-Fault-clause-node c =
     let w = end_at c.args.address c.args.path c.args.above.now c.args.hidden in
     c.unread.ensures c.args.above.now ∙ node_is (view (state_of c.args.table.now) c.args.space.now) w (bad c.in-Fault.fault) c.in-Fault.ensures.value
 
-pub returns-in_ok-missing-in-Unread-clause-node : goal.returns-in_ok-missing-in-Unread-clause-node
-returns-in_ok-missing-in-Unread-clause-node c =
+pub returns-in_ok-standing-in-Unread-clause-node : goal.returns-in_ok-standing-in-Unread-clause-node
+returns-in_ok-standing-in-Unread-clause-node c =
     let w = end_at c.args.address c.args.path c.args.above.now c.args.hidden in
-    c.unread-in-Unread.ensures c.args.above.now
-    ∙ (λ i. untold w (Torn (record { missing = c.in_ok-missing-in-Unread.ensures.items i; holes = c.new-holes.ensures.items i })))
+    c.unread-in-Unread.ensures c.args.above.now ∙ ap (untold w) c.in_ok-standing-in-Unread.ensures
     ∙ node_is (view (state_of c.args.table.now) c.args.space.now) w (unread c.in-Unread.n) c.in-Unread.ensures.value
 
 pub returns-in_ok-told-in-Entry-clause-node : goal.returns-in_ok-told-in-Entry-clause-node

@@ -2,7 +2,7 @@ use Rattle.std.proofs.Common.{◌+◌, ◌-◌, ◌*◌, length}
 use Rattle.udfs_lattice.specs.Tables.{state_of}
 use Rattle.udfs_space.specs.Places.{view}
 use Rattle.udfs_walk.proofs.Owed.{IsWalking}
-use Rattle.udfs_walk.proofs.walks.walk.Given as goal
+use Rattle.udfs_walk.proofs.walks.nodes.Given as goal
 
 abbrev pub invariant-walk : goal.invariant-walk
 invariant-walk l = IsWalking (view (state_of l.table) l.space) l.fn.root l.nodes.items l.frames.items

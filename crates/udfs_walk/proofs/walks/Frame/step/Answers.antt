@@ -6,8 +6,8 @@ use Rattle.udfs_walk.specs.Visits.{end_at}
 use Rattle.udfs_walk.specs.Frames.{IsFrameOf, frame_at}
 use Rattle.udfs_walk.proofs.walks.Frame.step.Goals as goal
 
-pub returns : goal.returns
-returns c =
+pub returns-clause-taken : goal.returns-clause-taken
+returns-clause-taken c =
     let v = view (state_of c.args.table.now) c.args.space.now in
     let e = c.in-Some.entry in
     let path = c.in_ok-path.ensures ∙ ap (λ f. f.path ++ e.name ∷ []) c.self.view_is in
