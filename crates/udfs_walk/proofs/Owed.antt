@@ -1,5 +1,5 @@
 -- What a walk still owes: all that stands below the entries that are left.
---     IsWalking v root nodes frames      the nodes so far, and what the directories still owe, are all
+--     IsWalking v root nodes frames room     the nodes so far, and what the directories still owe, are all
 use Rattle.std.proofs.Common.{◌≡◌, refl, sym, ◌∙◌, ap, subst, ℕ, ◌+◌, ◌<◌, ◌≤◌, false, List, [], ◌∷◌, ◌++◌, Option, None, Some, length, map, arith, append_assoc, length-append}
 use Rattle.std.specs.Prelude.{suc, flat_map, Result, Err, IsErrAnd, MatchResult}
 use Rattle.std.proofs.lemmas.Result.{err_from_is_err_and}
@@ -12,7 +12,7 @@ use Rattle.udfs_walk.specs.Targets.{Icb, icb_of}
 use Rattle.udfs_walk.specs.Routes.{Walked, at_root, inside, entries_below, HasMoreRoutes}
 use Rattle.udfs_walk.specs.Nodes.{node}
 use Rattle.udfs_walk.specs.Visits.{AreRefused, end_at}
-use Rattle.udfs_walk.specs.Frames.{FrameFields, HasManyBelow, IsFrameOf, IsStepRefused, frame_at, IsNextTaken, kept}
+use Rattle.udfs_walk.specs.Frames.{FrameFields, HasManyBelow, IsFrameOf, IsStepRefused, count_left, frame_at, IsNextTaken, kept}
 use Rattle.udfs_walk.specs.Walks.{AreNodes, IsNodesRefused}
 use Rattle.udfs_walk.specs.declared.answers.NodesError.{NodesError}
 use Rattle.udfs_walk.specs.declared.answers.NodesError.TheVariants.{TooManyPaths, OutOfMemory}
@@ -27,9 +27,15 @@ abbrev pub owed : View → List FrameFields → List Walked
 owed v [] = []
 owed v (f ∷ fs) = owed v fs ++ owed_frame v f
 
-pub record IsWalking (v : View) (root : LongAd) (nodes : List NodeFields) (frames : List FrameFields) : Type 0 where
+-- how many entries are left in all
+abbrev pub left_in : List FrameFields → ℕ
+left_in [] = 0
+left_in (f ∷ fs) = left_in fs + length f.left
+
+-- and there is room for so many nodes more
+pub record IsWalking (v : View) (root : LongAd) (nodes : List NodeFields) (frames : List FrameFields) (room : ℕ) : Type 0 where
   pub all : map (node v) (tree v (at_root root)) ≡ nodes ++ map (node v) (owed v frames)
-  pub few : length nodes ≤ 65536
+  pub few : length nodes + left_in frames + room ≡ 65536
 
 owed_last : (v : View) (fs : List FrameFields) (f : FrameFields) → owed v (fs ++ f ∷ []) ≡ owed_frame v f ++ owed v fs
 owed_last v [] f = sym (append-nil (owed_frame v f))
@@ -44,23 +50,32 @@ kept_owed : (v : View) (fs : List FrameFields) (o : Option FrameFields) (f : Fra
 kept_owed v fs None f e = ap (λ es. flat_map (λ e. tree v (inside f.path f.above e)) es ++ owed v fs) e
 kept_owed v fs (Some g) f e = ap (λ x. owed_frame v x ++ owed v fs) (sym e) ∙ sym (owed_last v fs g)
 
-pub walk_start : (v : View) (root : LongAd) (n : NodeFields) (f : Option FrameFields) (path : List (List ℕ)) (above : List Icb) (nodes : List NodeFields) (frames : List FrameFields)
-    → path ≡ [] → above ≡ [] → n ≡ node v (end_at root path above false) → IsFrameOf f (frame_at v (end_at root path above false)) → nodes ≡ n ∷ [] → frames ≡ kept [] f → IsWalking v root nodes frames
-walk_start v root n f path above nodes frames p a en ef ns fs = record {
+left_last : (fs : List FrameFields) (f : FrameFields) → left_in (fs ++ f ∷ []) ≡ left_in fs + length f.left
+left_last [] f = refl
+left_last (g ∷ fs) f = let e : left_in (fs ++ f ∷ []) ≡ left_in fs + length f.left = left_last fs f in omega (arith, e)
+
+left_kept : (fs : List FrameFields) (o : Option FrameFields) → left_in (kept fs o) ≡ left_in fs + count_left o
+left_kept fs None = omega arith
+left_kept fs (Some f) = left_last fs f
+
+pub walk_start : (v : View) (root : LongAd) (n : NodeFields) (f : Option FrameFields) (path : List (List ℕ)) (above : List Icb) (nodes : List NodeFields) (frames : List FrameFields) (room : ℕ)
+    → path ≡ [] → above ≡ [] → n ≡ node v (end_at root path above false) → IsFrameOf f (frame_at v (end_at root path above false)) → nodes ≡ n ∷ [] → frames ≡ kept [] f
+    → count_left f + room ≡ 65535 → IsWalking v root nodes frames room
+walk_start v root n f path above nodes frames room p a en ef ns fs h = record {
   all = ap (map (node v)) (tree_frame v (at_root root))
       ∙ (λ i. node v (end_at root (sym p i) (sym a i) false) ∷ map (node v) (owed_frame v (frame_at v (end_at root (sym p i) (sym a i) false))))
       ∙ (λ i. sym en i ∷ map (node v) (sym (append-nil (owed_frame v (frame_at v (end_at root path above false)))) i))
       ∙ ap (λ x. n ∷ map (node v) x) (kept_owed v [] f (frame_at v (end_at root path above false)) ef)
       ∙ (λ i. sym ns i ++ map (node v) (owed v (sym fs i)));
-  few = subst (λ l. length l ≤ 65536) (sym ns) (omega arith);
+  few = let l : left_in frames ≡ 0 + count_left f = ap left_in fs ∙ left_kept [] f in let one : length nodes ≡ 1 = ap length ns in omega (arith, h, l, one);
 }
 
-pub walk_none : (v : View) (root : LongAd) (nodes : List NodeFields) (frames rest : List FrameFields) (f : FrameFields) → IsWalking v root nodes frames
-    → frames ≡ rest ++ f ∷ [] → f.left ≡ [] → IsWalking v root nodes rest
-walk_none v root nodes frames rest f w e l = record {
+pub walk_none : (v : View) (root : LongAd) (nodes : List NodeFields) (frames rest : List FrameFields) (f : FrameFields) (room : ℕ) → IsWalking v root nodes frames room
+    → frames ≡ rest ++ f ∷ [] → f.left ≡ [] → IsWalking v root nodes rest room
+walk_none v root nodes frames rest f room w e l = record {
   all = w.all ∙ ap (λ x. nodes ++ map (node v) x)
       (ap (owed v) e ∙ owed_last v rest f ∙ ap (λ es. flat_map (λ e. tree v (inside f.path f.above e)) es ++ owed v rest) l);
-  few = w.few;
+  few = let a : left_in frames ≡ left_in rest + length f.left = ap left_in e ∙ left_last rest f in let z : length f.left ≡ 0 = ap length l in let h = w.few in omega (arith, a, z, h);
 }
 
 -- where an entry is left, the last directory owes it and what is below it
@@ -76,25 +91,36 @@ taken_owed v frames rest f g n b e t =
     ∙ ap (λ x. owed_frame v (frame_at v (inside f.path f.above t.entry)) ++ x) (sym (owed_last v rest g))
     ∙ kept_owed v (rest ++ g ∷ []) b (frame_at v (inside f.path f.above t.entry)) t.frame)
 
-pub walk_some : (v : View) (root : LongAd) (nodes more : List NodeFields) (frames rest next : List FrameFields) (f g : FrameFields) (n : NodeFields) (b : Option FrameFields)
-    → IsWalking v root nodes frames → frames ≡ rest ++ f ∷ [] → IsNextTaken v f g n b → length nodes < 65536
-    → more ≡ nodes ++ n ∷ [] → next ≡ kept (rest ++ g ∷ []) b → IsWalking v root more next
-walk_some v root nodes more frames rest next f g n b w e t h em en = record {
+-- and one entry fewer is left in it
+taken_left : (v : View) (frames rest : List FrameFields) (f g : FrameFields) (n : NodeFields) (b : Option FrameFields) → frames ≡ rest ++ f ∷ []
+    → IsNextTaken v f g n b → left_in frames ≡ left_in rest + length g.left + 1
+taken_left v frames rest f g n b e t =
+    let a : left_in frames ≡ left_in rest + length f.left = ap left_in e ∙ left_last rest f in
+    let l : length f.left ≡ suc (length g.left) = ap length t.first in
+    omega (arith, a, l)
+
+-- so there are fewer nodes than the limit
+pub walk_short : (v : View) (root : LongAd) (nodes : List NodeFields) (frames rest : List FrameFields) (f g : FrameFields) (n : NodeFields) (b : Option FrameFields) (room : ℕ)
+    → IsWalking v root nodes frames room → frames ≡ rest ++ f ∷ [] → IsNextTaken v f g n b → length nodes < 65536
+walk_short v root nodes frames rest f g n b room w e t =
+    let l : left_in frames ≡ left_in rest + length g.left + 1 = taken_left v frames rest f g n b e t in let h = w.few in omega (arith, l, h)
+
+pub walk_some : (v : View) (root : LongAd) (nodes more : List NodeFields) (frames rest next : List FrameFields) (f g : FrameFields) (n : NodeFields) (b : Option FrameFields) (room less : ℕ)
+    → IsWalking v root nodes frames room → frames ≡ rest ++ f ∷ [] → IsNextTaken v f g n b
+    → more ≡ nodes ++ n ∷ [] → next ≡ kept (rest ++ g ∷ []) b → count_left b + less ≡ room → IsWalking v root more next less
+walk_some v root nodes more frames rest next f g n b room less w e t em en h = record {
   all = w.all ∙ ap (λ x. nodes ++ map (node v) x) (taken_owed v frames rest f g n b e t)
       ∙ (λ i. nodes ++ (sym t.node i ∷ map (node v) (owed v (sym en i))))
       ∙ sym (append_assoc nodes (n ∷ []) (map (node v) (owed v next)))
       ∙ ap (λ x. x ++ map (node v) (owed v next)) (sym em);
-  few = let l : length more ≡ length nodes + 1 = ap length em ∙ length-append nodes (n ∷ []) in omega (arith, h, l);
+  few =
+      let l : length more ≡ length nodes + 1 = ap length em ∙ length-append nodes (n ∷ []) in
+      let a : left_in frames ≡ left_in rest + length g.left + 1 = taken_left v frames rest f g n b e t in
+      let k : left_in next ≡ left_in (rest ++ g ∷ []) + count_left b = ap left_in en ∙ left_kept (rest ++ g ∷ []) b in
+      let r : left_in (rest ++ g ∷ []) ≡ left_in rest + length g.left = left_last rest g in
+      let q = w.few in
+      omega (arith, l, a, k, r, q, h);
 }
-
-pub walk_many : (v : View) (root : LongAd) (nodes : List NodeFields) (frames rest : List FrameFields) (f g : FrameFields) (n : NodeFields) (b : Option FrameFields)
-    → IsWalking v root nodes frames → frames ≡ rest ++ f ∷ [] → IsNextTaken v f g n b → 65536 ≤ length nodes → HasMoreRoutes v root 65536
-walk_many v root nodes frames rest f g n b w e t h = tree_more v root 65536 (
-    let all : length (map (node v) (tree v (at_root root))) ≡ length (tree v (at_root root)) = length-map (tree v (at_root root)) (node v) in
-    let sum : length (map (node v) (tree v (at_root root))) ≡ length nodes + suc (length (map (node v) (owed v (kept (rest ++ g ∷ []) b))))
-    = ap length (w.all ∙ ap (λ x. nodes ++ map (node v) x) (taken_owed v frames rest f g n b e t))
-    ∙ length-append nodes (node v (inside f.path f.above t.entry) ∷ map (node v) (owed v (kept (rest ++ g ∷ []) b))) in
-    omega (arith, all, sum, h))
 
 -- ---- a directory with many entries
 -- below entries stand at least as many
@@ -114,16 +140,25 @@ tree_least v w =
     let m : length (entries_below v w) ≤ length (owed_frame v (frame_at v w)) = at_least v w.path (w.above ++ icb_of w.address ∷ []) (entries_below v w) in
     omega (arith, e, m)
 
+-- of each entry that is left stands at least one
+owed_least : (v : View) (fs : List FrameFields) → left_in fs ≤ length (owed v fs)
+owed_least v [] = omega arith
+owed_least v (f ∷ fs) =
+    let rest : left_in fs ≤ length (owed v fs) = owed_least v fs in
+    let own : length f.left ≤ length (owed_frame v f) = at_least v f.path f.above f.left in
+    let sum : length (owed v fs ++ owed_frame v f) ≡ length (owed v fs) + length (owed_frame v f) = length-append (owed v fs) (owed_frame v f) in
+    omega (arith, rest, own, sum)
+
 pub start_many : (v : View) (root : LongAd) (path : List (List ℕ)) (above : List Icb) → path ≡ [] → above ≡ []
-    → 65536 < length (entries_below v (end_at root path above false)) → HasMoreRoutes v root 65536
+    → 65535 < length (entries_below v (end_at root path above false)) → HasMoreRoutes v root 65536
 start_many v root path above p a h = tree_more v root 65536 (
     let same : length (entries_below v (end_at root path above false)) ≡ length (entries_below v (at_root root)) = (λ i. length (entries_below v (end_at root (p i) (a i) false))) in
     let more : length (entries_below v (at_root root)) < length (tree v (at_root root)) = tree_least v (at_root root) in
     omega (arith, h, same, more))
 
-pub walk_below : (v : View) (root : LongAd) (nodes : List NodeFields) (frames rest : List FrameFields) (f : FrameFields) → IsWalking v root nodes frames
-    → frames ≡ rest ++ f ∷ [] → HasManyBelow v f → HasMoreRoutes v root 65536
-walk_below v root nodes frames rest f w e b = tree_more v root 65536 (
+pub walk_below : (v : View) (root : LongAd) (nodes : List NodeFields) (frames rest : List FrameFields) (f : FrameFields) (room : ℕ) → IsWalking v root nodes frames room
+    → frames ≡ rest ++ f ∷ [] → HasManyBelow v room f → HasMoreRoutes v root 65536
+walk_below v root nodes frames rest f room w e b = tree_more v root 65536 (
     let all : length (map (node v) (tree v (at_root root))) ≡ length (tree v (at_root root)) = length-map (tree v (at_root root)) (node v) in
     let sum : length (map (node v) (tree v (at_root root))) ≡ length nodes + length (map (node v) (owed v frames)) = ap length w.all ∙ length-append nodes (map (node v) (owed v frames)) in
     let left : length (map (node v) (owed v frames)) ≡ length (owed v frames) = length-map (owed v frames) (node v) in
@@ -131,35 +166,40 @@ walk_below v root nodes frames rest f w e b = tree_more v root 65536 (
     = ap length (ap (owed v) e ∙ owed_last v rest f ∙ ap (λ es. flat_map owed_below es ++ owed v rest) b.first) ∙ length-append (owed_below b.entry ++ flat_map owed_below b.rest) (owed v rest) in
     let one : length (owed_below b.entry ++ flat_map owed_below b.rest) ≡ length (owed_below b.entry) + length (flat_map owed_below b.rest) = length-append (owed_below b.entry) (flat_map owed_below b.rest) in
     let more : length (entries_below v (inside f.path f.above b.entry)) < length (owed_below b.entry) = tree_least v (inside f.path f.above b.entry) in
-    let many : 65536 < length (entries_below v (inside f.path f.above b.entry)) = b.many in
-    omega (arith, all, sum, left, first, one, more, many))
+    let many : room < length (entries_below v (inside f.path f.above b.entry)) = b.many in
+    let beside : length b.rest ≤ length (flat_map owed_below b.rest) = at_least v f.path f.above b.rest in
+    let behind : left_in rest ≤ length (owed v rest) = owed_least v rest in
+    let all_left : left_in frames ≡ left_in rest + length f.left = ap left_in e ∙ left_last rest f in
+    let own_left : length f.left ≡ suc (length b.rest) = ap length b.first in
+    let few = w.few in
+    omega (arith, all, sum, left, first, one, more, many, beside, behind, all_left, own_left, few))
   where
     owed_below : DirEntry → List Walked
     owed_below d = tree v (inside f.path f.above d)
 
 -- ---- an error that is handed up
 pub start_refused : {A : Type 0} (v : View) (root : LongAd) (path : List (List ℕ)) (above : List Icb) (P : A → Type 0) (r : Result A NodesError) (error : NodesError) → IsErrAnd r (λ e. e ≡ error)
-    → AreRefused (entries_below v (end_at root path above false)) error → path ≡ [] → above ≡ [] → MatchResult r P (IsNodesRefused v root)
+    → AreRefused 65535 (entries_below v (end_at root path above false)) error → path ≡ [] → above ≡ [] → MatchResult r P (IsNodesRefused v root)
 start_refused v root path above P r error h a p q = let x = err_from_is_err_and r h in subst (λ r. MatchResult r P (IsNodesRefused v root)) (sym (x.1 ∙ ap Err x.2)) (go error a)
   where
-    go : (e : NodesError) → AreRefused (entries_below v (end_at root path above false)) e → IsNodesRefused v root e
+    go : (e : NodesError) → AreRefused 65535 (entries_below v (end_at root path above false)) e → IsNodesRefused v root e
     go TooManyPaths m = start_many v root path above p q m
     go OutOfMemory m = tt
 
-pub walk_refused : {A : Type 0} (v : View) (root : LongAd) (nodes : List NodeFields) (frames rest : List FrameFields) (f : FrameFields) (P : A → Type 0) (r : Result A NodesError) (error : NodesError)
-    → IsErrAnd r (λ e. e ≡ error) → IsWalking v root nodes frames → frames ≡ rest ++ f ∷ [] → IsStepRefused v f error → MatchResult r P (IsNodesRefused v root)
-walk_refused v root nodes frames rest f P r error h w e s = let x = err_from_is_err_and r h in subst (λ r. MatchResult r P (IsNodesRefused v root)) (sym (x.1 ∙ ap Err x.2)) (go error s)
+pub walk_refused : {A : Type 0} (v : View) (root : LongAd) (nodes : List NodeFields) (frames rest : List FrameFields) (f : FrameFields) (room : ℕ) (P : A → Type 0) (r : Result A NodesError) (error : NodesError)
+    → IsErrAnd r (λ e. e ≡ error) → IsWalking v root nodes frames room → frames ≡ rest ++ f ∷ [] → IsStepRefused v room f error → MatchResult r P (IsNodesRefused v root)
+walk_refused v root nodes frames rest f room P r error h w e s = let x = err_from_is_err_and r h in subst (λ r. MatchResult r P (IsNodesRefused v root)) (sym (x.1 ∙ ap Err x.2)) (go error s)
   where
-    go : (d : NodesError) → IsStepRefused v f d → IsNodesRefused v root d
-    go TooManyPaths m = walk_below v root nodes frames rest f w e m
+    go : (d : NodesError) → IsStepRefused v room f d → IsNodesRefused v root d
+    go TooManyPaths m = walk_below v root nodes frames rest f room w e m
     go OutOfMemory m = tt
 
 none_left : (xs : List FrameFields) → length xs ≡ 0 → xs ≡ []
 none_left [] h = refl
 none_left (x ∷ xs) h = absurd (let z : ⊥ = omega (arith, h) in z)
 
-pub walk_done : (v : View) (root : LongAd) (nodes : List NodeFields) (frames : List FrameFields) → IsWalking v root nodes frames → length frames ≡ 0 → AreNodes v root nodes
-walk_done v root nodes frames w n =
+pub walk_done : (v : View) (root : LongAd) (nodes : List NodeFields) (frames : List FrameFields) (room : ℕ) → IsWalking v root nodes frames room → length frames ≡ 0 → AreNodes v root nodes
+walk_done v root nodes frames room w n =
     let e : frames ≡ [] = none_left frames n in
     let is : map (node v) (tree v (at_root root)) ≡ nodes = w.all ∙ ap (λ fs. nodes ++ map (node v) (owed v fs)) e ∙ append-nil nodes in
     record {

@@ -3,7 +3,8 @@
 --     IsFrameOf frame f          the directory, which need not be kept where no entry is left
 --     kept frames frame          these directories and one more, if there is one
 --     IsTaken view old taken new     the next entry was gone into
---     IsStepRefused view old error   why it was not
+--     IsStepRefused view most old error   why it was not
+--     count_left frame           how many entries are left in it
 use Rattle.std.specs.Prelude.{◌≡◌, ◌<◌, ℕ, ⊤, List, [], ◌∷◌, ◌++◌, length, Option, Some, None}
 use Rattle.udfs_space.specs.Places.{View}
 use Rattle.udfs_file.specs.declared.directories.DirEntry.{DirEntry}
@@ -45,14 +46,19 @@ abbrev pub IsTaken : View → FrameFields → Option (NodeFields × Option Frame
 IsTaken view old None new = old.left ≡ []
 IsTaken view old (Some taken) new = IsNextTaken view old new taken.0 taken.1
 
--- an entry is left, and more than 65,536 entries stand below the first
-pub record HasManyBelow (view : View) (f : FrameFields) : Type 0 where
+-- an entry is left, and more than so many entries stand below the first
+pub record HasManyBelow (view : View) (most : ℕ) (f : FrameFields) : Type 0 where
   pub entry : DirEntry
   pub rest : List DirEntry
   pub first : f.left ≡ entry ∷ rest
-  pub many : 65536 < length (entries_below view (inside f.path f.above entry))
+  pub many : most < length (entries_below view (inside f.path f.above entry))
 
 -- too many paths are told only where they stand below the next entry; of memory nothing is said
-abbrev pub IsStepRefused : View → FrameFields → NodesError → Type 0
-IsStepRefused view old TooManyPaths = HasManyBelow view old
-IsStepRefused view old OutOfMemory = ⊤
+abbrev pub IsStepRefused : View → ℕ → FrameFields → NodesError → Type 0
+IsStepRefused view most old TooManyPaths = HasManyBelow view most old
+IsStepRefused view most old OutOfMemory = ⊤
+
+-- how many entries are left in a directory, if there is one
+abbrev pub count_left : Option FrameFields → ℕ
+count_left None = 0
+count_left (Some f) = length f.left

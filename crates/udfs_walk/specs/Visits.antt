@@ -33,7 +33,7 @@ Stands view a (Fault f) = ⊤
 Stands view a (Unread n) = ⊤
 Stands view a (Entry bytes) = IsStanding view a.reference a.block bytes
 
--- too many paths are told only where a route goes on to more than 65,536 entries; of memory nothing is said
-abbrev pub AreRefused : List DirEntry → NodesError → Type 0
-AreRefused entries TooManyPaths = 65536 < length entries
-AreRefused entries OutOfMemory = ⊤
+-- too many paths are told only where a route goes on to more than so many entries; of memory nothing is said
+abbrev pub AreRefused : ℕ → List DirEntry → NodesError → Type 0
+AreRefused most entries TooManyPaths = most < length entries
+AreRefused most entries OutOfMemory = ⊤

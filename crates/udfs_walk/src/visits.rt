@@ -1,6 +1,6 @@
 //! One node: what stands at the end of a route.
 
-ghost use Rattle.std.specs.Prelude.{◌≡◌, ◌∷◌, [], ◌<◌, ◌^◌, ◌||◌, IfErr, IfOk, List, cond, false, length};
+ghost use Rattle.std.specs.Prelude.{◌≤◌, ◌≡◌, ◌∷◌, [], ◌<◌, ◌^◌, ◌||◌, IfErr, IfOk, List, cond, false, length};
 ghost use Rattle.std.specs.List.{list_any};
 ghost use Rattle.udfs_lattice.specs.Tables.{state_of};
 ghost use Rattle.udfs_space.specs.Places.{view};
@@ -131,15 +131,17 @@ fn body_told(
     space: &Space,
     kind: Kind,
     body: &Body,
+    most: usize,
 ) -> Result<Told, NodesError>
     requires { length (cells_of (view (state_of table.now) space.now) body.now) < 2 ^ 64 }
     ensures standing { IfOk result (λ told. told.standing ≡ kind_standing kind false (cells_of (view (state_of table.now) space.now) body.now)) }
     ensures entries { IfOk result (λ told. told.entries.items ≡ kind_entries kind (cells (cells_of (view (state_of table.now) space.now) body.now))) }
-    ensures refused { IfErr result (AreRefused (kind_entries kind (cells (cells_of (view (state_of table.now) space.now) body.now)))) }
+    ensures few { IfOk result (λ told. length told.entries.items ≤ most) }
+    ensures refused { IfErr result (AreRefused most (kind_entries kind (cells (cells_of (view (state_of table.now) space.now) body.now)))) }
 {
     let standing = cells_standing(alloc, table, space, body)?;
     match kind {
-        Kind::Directory => match Dir::front_within(alloc, table, space, body, 65536) {
+        Kind::Directory => match Dir::front_within(alloc, table, space, body, most) {
             Ok(front) => Ok(listed(front, standing)),
             Err(FrontError::TooMany) => Err(NodesError::TooManyPaths),
             Err(FrontError::OutOfMemory) => Err(NodesError::OutOfMemory),
@@ -158,13 +160,15 @@ fn open_told(
     space: &Space,
     entry: &Entry<'_>,
     address: LongAd,
+    most: usize,
 ) -> Result<Told, NodesError>
     requires { IsStanding (view (state_of table.now) space.now) address.reference address.block entry.now }
     ensures standing { IfOk result (λ told. told.standing ≡ body_standing (entry_of entry.now).kind false
         (body (view (state_of table.now) space.now) address.reference address.block (entry_of entry.now))) }
     ensures entries { IfOk result (λ told. told.entries.items ≡ kind_entries (entry_of entry.now).kind
         (body (view (state_of table.now) space.now) address.reference address.block (entry_of entry.now))) }
-    ensures refused { IfErr result (AreRefused (kind_entries (entry_of entry.now).kind
+    ensures few { IfOk result (λ told. length told.entries.items ≤ most) }
+    ensures refused { IfErr result (AreRefused most (kind_entries (entry_of entry.now).kind
         (body (view (state_of table.now) space.now) address.reference address.block (entry_of entry.now)))) }
 {
     match Body::read(alloc, table, space, entry, address.reference, address.block) {
@@ -176,7 +180,7 @@ fn open_told(
         Ok(body) => {
             // The body has as many cells as this number of 64 bits says.
             let _size = entry.size();
-            let told = body_told(alloc, table, space, entry.kind(), &body)?;
+            let told = body_told(alloc, table, space, entry.kind(), &body, most)?;
             Ok(told)
         }
     }
@@ -191,13 +195,15 @@ fn entry_told(
     address: LongAd,
     is_loop: bool,
     is_deep: bool,
+    most: usize,
 ) -> Result<Told, NodesError>
     requires { IsStanding (view (state_of table.now) space.now) address.reference address.block entry.now }
     ensures standing { IfOk result (λ told. told.standing ≡ cond is_loop Standing.Loop (body_standing (entry_of entry.now).kind is_deep
         (body (view (state_of table.now) space.now) address.reference address.block (entry_of entry.now)))) }
     ensures entries { IfOk result (λ told. told.entries.items ≡ cond (is_loop || is_deep) [] (kind_entries (entry_of entry.now).kind
         (body (view (state_of table.now) space.now) address.reference address.block (entry_of entry.now)))) }
-    ensures refused { IfErr result (AreRefused (cond (is_loop || is_deep) [] (kind_entries (entry_of entry.now).kind
+    ensures few { IfOk result (λ told. length told.entries.items ≤ most) }
+    ensures refused { IfErr result (AreRefused most (cond (is_loop || is_deep) [] (kind_entries (entry_of entry.now).kind
         (body (view (state_of table.now) space.now) address.reference address.block (entry_of entry.now))))) }
 {
     if is_loop || is_deep {
@@ -205,7 +211,7 @@ fn entry_told(
         let entries = Vec::new(alloc);
         return Ok(Told { standing, entries });
     }
-    let told = open_told(alloc, table, space, entry, address)?;
+    let told = open_told(alloc, table, space, entry, address, most)?;
     Ok(told)
 }
 
@@ -265,10 +271,12 @@ pub(crate) fn visited(
     path: Path,
     above: &[(u16, u32)],
     hidden: bool,
+    most: usize,
 ) -> Result<Visit, NodesError>
     ensures node { IfOk result (λ visit. visit.node ≡ node (view (state_of table.now) space.now) (end_at address path above.now hidden)) }
     ensures entries { IfOk result (λ visit. visit.entries.items ≡ entries_below (view (state_of table.now) space.now) (end_at address path above.now hidden)) }
-    ensures refused { IfErr result (AreRefused (entries_below (view (state_of table.now) space.now) (end_at address path above.now hidden))) }
+    ensures few { IfOk result (λ visit. length visit.entries.items ≤ most) }
+    ensures refused { IfErr result (AreRefused most (entries_below (view (state_of table.now) space.now) (end_at address path above.now hidden))) }
 {
     match target_at(table, space, address) {
         Target::Fault(fault) => Ok(Visit {
@@ -285,7 +293,7 @@ pub(crate) fn visited(
         Target::Entry(entry) => {
             let is_loop = is_loop(address, above);
             let is_deep = path.len() >= 64;
-            let told = entry_told(alloc, table, space, &entry, address, is_loop, is_deep)?;
+            let told = entry_told(alloc, table, space, &entry, address, is_loop, is_deep, most)?;
             let Told { standing, entries } = told;
             Ok(Visit {
                 node: read(&entry, address, path, hidden, standing),

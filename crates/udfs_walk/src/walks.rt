@@ -1,6 +1,6 @@
 //! The walk over all routes, in the order of words.
 
-ghost use Rattle.std.specs.Prelude.{◌≡◌, ◌+◌, ◌≤◌, ◌∷◌, [], ◌++◌, IfErr, IfOk, MatchResult, length};
+ghost use Rattle.std.specs.Prelude.{◌≡◌, ◌+◌, ◌≤◌, ◌∷◌, [], ◌++◌, IfErr, IfOk, MatchOption, MatchResult, length};
 ghost use Rattle.udfs_lattice.specs.Tables.{state_of};
 ghost use Rattle.udfs_space.specs.Places.{view};
 ghost use Rattle.udfs_walk.specs.Nodes.{node};
@@ -8,7 +8,7 @@ ghost use Rattle.udfs_walk.specs.Visits.{AreRefused, end_at};
 ghost use Rattle.udfs_walk.specs.Walks.{AreNodes, IsNodesRefused};
 ghost use Rattle.udfs_walk.specs.Routes.{entries_below};
 ghost use Rattle.udfs_walk.specs.Targets.{icb_of};
-ghost use Rattle.udfs_walk.specs.Frames.{IsFrameOf, IsStepRefused, IsTaken, frame_at, kept};
+ghost use Rattle.udfs_walk.specs.Frames.{IsFrameOf, IsStepRefused, IsTaken, count_left, frame_at, kept};
 
 use crate::answers::{Node, NodesError};
 use crate::paths::{Names, Path};
@@ -67,12 +67,16 @@ impl Frame {
         path: Path,
         above: &[(u16, u32)],
         hidden: bool,
+        most: usize,
     ) -> Result<(Node, Option<Frame>), NodesError>
         ensures node { IfOk result (λ entered. entered.0 ≡ node (view (state_of table.now) space.now) (end_at address path above.now hidden)) }
         ensures frame { IfOk result (λ entered. IsFrameOf entered.1 (frame_at (view (state_of table.now) space.now) (end_at address path above.now hidden))) }
-        ensures refused { IfErr result (AreRefused (entries_below (view (state_of table.now) space.now) (end_at address path above.now hidden))) }
+        ensures few { IfOk result (λ entered. count_left entered.1 ≤ most) }
+        ensures refused { IfErr result (AreRefused most (entries_below (view (state_of table.now) space.now) (end_at address path above.now hidden))) }
     {
-        let Visit { node, entries } = visited(alloc, table, space, address, path, above, hidden)?;
+        let Visit { node, entries } = visited(
+            alloc, table, space, address, path, above, hidden, most,
+        )?;
         if entries.is_empty() {
             return Ok((node, None));
         }
@@ -90,9 +94,11 @@ impl Frame {
         alloc: Global,
         table: &BlockTable,
         space: &Space,
+        most: usize,
     ) -> Result<Option<(Node, Option<Frame>)>, NodesError>
         ensures taken { IfOk result (λ taken. IsTaken (view (state_of table.now) space.now) self.old taken self.new) }
-        ensures refused { IfErr result (IsStepRefused (view (state_of table.now) space.now) self.old) }
+        ensures few { IfOk result (λ taken. MatchOption taken (Unit {0}) (λ entered. count_left entered.1 ≤ most)) }
+        ensures refused { IfErr result (IsStepRefused (view (state_of table.now) space.now) most self.old) }
     {
         let Some(entry) = self.entries.next() else {
             return Ok(None);
@@ -100,7 +106,7 @@ impl Frame {
         let DirEntry { name, icb, marks } = entry;
         let path = Path::inside(alloc, &self.names, name)?;
         let hidden = marks.contains(Marks::HIDDEN);
-        let entered = Frame::enter(alloc, table, space, icb, path, &self.above, hidden)?;
+        let entered = Frame::enter(alloc, table, space, icb, path, &self.above, hidden, most)?;
         Ok(Some(entered))
     }
 }
@@ -114,6 +120,16 @@ fn keep(frames: &mut Vec<Frame>, frame: Option<Frame>) -> Result<(), AllocError>
         frames.push(frame)?;
     }
     Ok(())
+}
+
+/// How many entries are left in a directory, if there is one.
+fn count_left(frame: &Option<Frame>) -> usize
+    ensures { result ≡ count_left frame.now }
+{
+    match frame {
+        Some(frame) => frame.entries.len(),
+        None => 0,
+    }
 }
 
 /// Puts a node behind the others.
@@ -144,19 +160,20 @@ pub fn nodes(
         (IsNodesRefused (view (state_of table.now) space.now) root) }
 {
     let path = Path::root(alloc)?;
-    let (node, frame) = Frame::enter(alloc, table, space, root, path, &[], false)?;
+    // So many nodes may still be found behind those that were, and behind the entries that are left.
+    let mut room: usize = 65535;
+    let (node, frame) = Frame::enter(alloc, table, space, root, path, &[], false, room)?;
+    room -= count_left(&frame);
     let mut nodes = Vec::new(alloc);
     put(&mut nodes, node)?;
     let mut frames = Vec::new(alloc);
     keep(&mut frames, frame)?;
     'walk: while let Some(mut frame) = frames.pop() {
-        let (node, below) = match frame.step(alloc, table, space)? {
+        let (node, below) = match frame.step(alloc, table, space, room)? {
             None => continue,
             Some(taken) => taken,
         };
-        if nodes.len() >= 65536 {
-            return Err(NodesError::TooManyPaths);
-        }
+        room -= count_left(&below);
         put(&mut nodes, node)?;
         keep(&mut frames, Some(frame))?;
         keep(&mut frames, below)?;

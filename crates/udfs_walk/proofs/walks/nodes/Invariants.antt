@@ -5,7 +5,7 @@ use Rattle.udfs_walk.proofs.Owed.{IsWalking}
 use Rattle.udfs_walk.proofs.walks.nodes.Given as goal
 
 abbrev pub invariant-walk : goal.invariant-walk
-invariant-walk l = IsWalking (view (state_of l.table) l.space) l.fn.root l.nodes.items l.frames.items
+invariant-walk l = IsWalking (view (state_of l.table) l.space) l.fn.root l.nodes.items l.frames.items l.room
 
 abbrev pub decreases-walk : goal.decreases-walk
 decreases-walk l = 2 * (65536 - length l.nodes.items) + length l.frames.items
