@@ -58,7 +58,10 @@ $(TRIES): crates/try_samples/out/proved
 	@touch $@
 
 demo: all
-	@tools/demo $(PROGRAM) examples out/demo
+	@mkdir -p out
+	@tools/demo $(PROGRAM) examples out/demo > out/demo.txt || { cat out/demo.txt; exit 1; }
+	@cat out/demo.txt
+	@tools/check-readme README.md out/demo.txt
 
 test: have-rt
 	@$(RT) ci

@@ -2,9 +2,9 @@
 use Rattle.std.proofs.Common.{◌≡◌, refl, sym, ◌∙◌, ap, subst, inl, inr, ℕ, ◌+◌, ◌-◌, ◌%◌, ◌<◌, ◌≤◌, min, List, [], ◌∷◌, ◌++◌, length, take, drop, map, arith, Option, Some, None, append-nil}
 use Rattle.std.specs.Prelude.{zero, suc}
 use Rattle.std.proofs.lemmas.List.{length-drop, map-append}
-use Rattle.udfs_space.specs.Places.{View, view}
+use Rattle.udfs_space.specs.Places.{View}
+use Rattle.udfs_space.specs.Views.{view_now}
 use Rattle.udfs_file.specs.CellsLeft.{IsInFirst, IsSettled, cells_left, room, room_of}
-use Rattle.udfs_lattice.specs.Tables.{state_of}
 use Rattle.udfs_file.specs.declared.cells.Cells.{Cells}
 use Rattle.udfs_file.specs.Fronts.{first_missing, holder_of, value}
 use Rattle.udfs_file.specs.Pieces.{BeginsBlock, Starts, byte_cells, rest_in_block}
@@ -149,7 +149,7 @@ pub left_behind : (want k : ℕ) (C CA CB CS : List Cell) → CA ≡ C → CB �
 left_behind want k C CA CB CS a b s h = let e : length CS ≡ length C - k = ap length (s ∙ b) ∙ length-drop k CA ∙ ap (λ z. length z - k) a in omega (arith, e, h)
 
 first_some : (A : Cells) (want k : ℕ) → IsSettled A → 1 ≤ want → want ≤ length (cells_left A) → k ≡ min want (room A) → 1 ≤ k
-first_some A want k i o h e = let q : 1 ≤ room A = room_some (view (state_of A.table.now) A.space.now) A.stretches.now A.passed want i o h in omega (arith, q, o, e)
+first_some A want k i o h e = let q : 1 ≤ room A = room_some (view_now A.view) A.stretches.now A.passed want i o h in omega (arith, q, o, e)
 
 pub first_bytes : (C A : Cells) (want k : ℕ) → cells_left A ≡ cells_left C → IsSettled A → 1 ≤ want → want ≤ length (cells_left C) → k ≡ min want (room A) → 1 ≤ k
 first_bytes C A want k a i o h e = first_some A want k i o (subst (λ z. want ≤ length z) (sym a) h) e
@@ -163,5 +163,5 @@ pub joined_front : (C A B S : Cells) (want : ℕ) (o : Option ℕ) (first : List
     → take (min (want - length first) (room S)) (cells_left S) ≡ second → take want (cells_left C) ≡ byte_cells o first ++ second
 joined_front C A B S want o first second ac ai al bc bs bl sc si ss sl l w m h e short f q =
     cut want (room A) (room S) (cells_left C) (cells_left A) (cells_left B) (cells_left S) second o first ac bc sc e short f
-    (second_enough (view (state_of S.table.now) S.space.now) A.stretches.now B.stretches.now S.stretches.now A.passed B.passed S.passed (length first) want ai e short
+    (second_enough (view_now S.view) A.stretches.now B.stretches.now S.stretches.now A.passed B.passed S.passed (length first) want ai e short
     (first_bytes C A want (length first) ac ai w h e) m bs ss si (sl (bl (al l))) (left_behind want (length first) (cells_left C) (cells_left A) (cells_left B) (cells_left S) ac bc sc h)) q

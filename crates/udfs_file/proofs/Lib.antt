@@ -25,4 +25,8 @@ pub mod BodyLengths
 pub mod Telling
 pub mod BlockLemmas
 pub mod SampleLaw
+pub mod EntryNames
+pub mod StandardBodies
+pub mod StandardDirectories
 pub mod PublicLaws
+pub mod PortionCells

@@ -108,7 +108,7 @@ from-done v size behind c (d ∷ ds) h = ap (λ x. cond x (cells []) (cond (nat_
     (body_unless (extent_fault v size (c, d)) (onto (extent_cells v size (c, d)) (from v size behind (c + covers d) ds))) (faulty_body Short))) (is_le size c h)
 
 -- where cells are left, a descriptor is taken
-from-on : (v : View) (size : ℕ) (behind : Next) (c : ℕ) (d : LongAd) (ds : List LongAd) → c < size
+pub from-on : (v : View) (size : ℕ) (behind : Next) (c : ℕ) (d : LongAd) (ds : List LongAd) → c < size
     → from v size behind c (d ∷ ds) ≡ cond (nat_lt 0 d.length) (body_unless (extent_fault v size (c, d)) (onto (extent_cells v size (c, d)) (from v size behind (c + covers d) ds))) (faulty_body Short)
 from-on v size behind c d ds h = ap (λ x. cond x (cells []) (cond (nat_lt 0 d.length)
     (body_unless (extent_fault v size (c, d)) (onto (extent_cells v size (c, d)) (from v size behind (c + covers d) ds))) (faulty_body Short))) (not_le size c h)

@@ -1,14 +1,17 @@
 -- The laws of this crate that proofs above it use. Each has the statement that the function of its name in src/laws.rt ensures.
-use Rattle.udfs_file.specs.Complete.{BodyLaw, DirectoryLaw, FileSetLaw, NeverStops}
-use Rattle.udfs_file.specs.Laws.{BodyLength, PartialBodies, PartialDescriptors, PartialFileSet}
+use Rattle.udfs_file.specs.Complete.{BodyLaw, DescriptorsAreShort, DirectoryLaw, FileSetLaw, NeverStops, StandardBodies, StandardDirectories}
+use Rattle.udfs_file.specs.Laws.{BodyLength, NamesAreParts, PartialBodies, PartialDescriptors, PartialFileSet}
 use Rattle.udfs_file.specs.Sample.{AreSampleFiles, SampleFileSet}
 use Rattle.udfs_file.proofs.BodyLengths as lengths
+use Rattle.udfs_file.proofs.EntryNames as names
 use Rattle.udfs_file.proofs.FileSets as sets
 use Rattle.udfs_file.proofs.PartFronts as fronts
 use Rattle.udfs_file.proofs.PartialBodies as parts
 use Rattle.udfs_file.proofs.Readings as readings
 use Rattle.udfs_file.proofs.WholeBodies as bodies
 use Rattle.udfs_file.proofs.SampleLaw as sample
+use Rattle.udfs_file.proofs.StandardBodies as standard
+use Rattle.udfs_file.proofs.StandardDirectories as listed
 
 pub partial_file_set : PartialFileSet
 partial_file_set = sets.partial_file_set
@@ -39,3 +42,15 @@ sample_file_set_is_found = sample.sample_file_set_law
 
 pub sample_files_are_read : AreSampleFiles
 sample_files_are_read = sample.sample_files
+
+pub names_are_parts : NamesAreParts
+names_are_parts = names.names_are_parts
+
+pub standard_bodies_are_read : StandardBodies
+standard_bodies_are_read = standard.standard_bodies
+
+pub standard_directories_are_read : StandardDirectories
+standard_directories_are_read = listed.standard_directories
+
+pub descriptors_are_short : DescriptorsAreShort
+descriptors_are_short = listed.descriptors_are_short

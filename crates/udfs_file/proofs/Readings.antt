@@ -189,20 +189,20 @@ size-front xs = λ i. 4 * ((short i + long i + 41) / 4)
     long : uint16_at (take 38 xs) 36 ≡ uint16_at xs 36
     long = ap (λ z. uint16_at z 0) (drop-take 36 2 xs) ∙ (λ i. get_or-take 2 ys 0 0 (omega arith) i + 256 * (get_or-take 2 ys 1 0 (omega arith) i + 256 * 0))
 
-abbrev bytes_of : List Located → Bytes
+abbrev pub bytes_of : List Located → Bytes
 bytes_of xs = map (λ x. x.0) xs
 
-values : (n : ℕ) (xs : List Located) → map value (take n (as_cells xs)) ≡ bytes_of (take n xs)
+pub values : (n : ℕ) (xs : List Located) → map value (take n (as_cells xs)) ≡ bytes_of (take n xs)
 values zero xs = refl
 values (suc n) [] = refl
 values (suc n) (x ∷ xs) = ap (λ z. x.0 ∷ z) (values n xs)
 
-drop-cells : (n : ℕ) (xs : List Located) → as_cells (drop n xs) ≡ drop n (as_cells xs)
+pub drop-cells : (n : ℕ) (xs : List Located) → as_cells (drop n xs) ≡ drop n (as_cells xs)
 drop-cells zero xs = refl
 drop-cells (suc n) [] = refl
 drop-cells (suc n) (x ∷ xs) = drop-cells n xs
 
-piece_size : (n : ℕ) (whole : List Located) → 38 ≤ n → identifier_size (bytes_of (take n whole)) ≡ identifier_size (map value (take 38 (as_cells whole)))
+pub piece_size : (n : ℕ) (whole : List Located) → 38 ≤ n → identifier_size (bytes_of (take n whole)) ≡ identifier_size (map value (take 38 (as_cells whole)))
 piece_size n whole h = sym (size-front (bytes_of (take n whole)))
     ∙ ap identifier_size (take-map (λ x. x.0) 38 (take n whole) ∙ ap bytes_of (take-take 38 n whole h) ∙ sym (values 38 whole))
 

@@ -27,14 +27,14 @@ use Rattle.udfs_file.proofs.WholeExtents.{ExtentIs, extent_is}
 use Rattle.udfs_file.proofs.Joins.{only_body}
 
 -- the standard's joined extents, of these descriptors in place of an area's
-abbrev IsJoinedBy : (ℕ → ℕ → Option Bytes) → ℕ → ℕ → List LongAd → List Bytes → List LongAd → Type 0
+abbrev pub IsJoinedBy : (ℕ → ℕ → Option Bytes) → ℕ → ℕ → List LongAd → List Bytes → List LongAd → Type 0
 IsJoinedBy blocks form r ds [] xs = xs ≡ take_while is_other ds
 IsJoinedBy blocks form r ds (bytes ∷ more) xs = (d : LongAd) × (later : List LongAd)
     × (next_descriptor ds ≡ Some d) × IsOneBlock d × (blocks d.reference d.block ≡ Some bytes) × IsExtentAt form d.block bytes
     × IsJoined blocks form r (part bytes 24 (uint32_at bytes 20)) more later
     × (xs ≡ take_while is_other ds ++ later)
 
-joined_by : (blocks : ℕ → ℕ → Option Bytes) (form r : ℕ) (area : Bytes) (f : List Bytes) (xs : List LongAd) → IsJoinedBy blocks form r (descriptors_in form r area) f xs
+pub joined_by : (blocks : ℕ → ℕ → Option Bytes) (form r : ℕ) (area : Bytes) (f : List Bytes) (xs : List LongAd) → IsJoinedBy blocks form r (descriptors_in form r area) f xs
     → IsJoined blocks form r area f xs
 joined_by blocks form r area [] xs h = h
 joined_by blocks form r area (b ∷ f) xs h = h
@@ -54,7 +54,7 @@ joined_more blocks form r d ds (b ∷ f) xs e (a, later, n, o, k, v, j, x) = (
   ap (λ z. d ∷ z) x ∙ ap (λ z. z ++ later) (sym (take_while-cons is_other d ds ∙ ap (λ b. cond b (d ∷ take_while is_other ds) []) e)),
 )
 
-abbrev bytes_of : (ℕ → ℕ → Option Bytes) → List LongAd → List Located
+abbrev pub bytes_of : (ℕ → ℕ → Option Bytes) → List LongAd → List Located
 bytes_of blocks xs = flat_map (extent_bytes blocks) (up_to_end xs)
 
 -- The standard's reading from cell c on, with at most so many continuations.
@@ -201,18 +201,18 @@ meet l s E B h k b = go (le_or_lt l s)
       enough = omega (arith, a, long);
     }
 
-is_three : (b : Bool) → not b ≡ false → b ≡ true
+pub is_three : (b : Bool) → not b ≡ false → b ≡ true
 is_three true e = refl
 is_three false e = absurd (let x : ⊥ = cc in x)
 
-not_three : (b : Bool) → not b ≡ true → b ≡ false
+pub not_three : (b : Bool) → not b ≡ true → b ≡ false
 not_three true e = absurd (let x : ⊥ = cc in x)
 not_three false e = refl
 
-abbrev area_chain : View → ℕ → Bool → (Bytes → Descriptors) → List LongAd → Descriptors
+abbrev pub area_chain : View → ℕ → Bool → (Bytes → Descriptors) → List LongAd → Descriptors
 area_chain v form is_last later ds = joined (up_to_next ds) (next_of v form is_last (next_descriptor ds)) later
 
-area-cons : (v : View) (form : ℕ) (is_last : Bool) (later : Bytes → Descriptors) (d : LongAd) (ds : List LongAd) (b : Bool) → is_other d ≡ b
+pub area-cons : (v : View) (form : ℕ) (is_last : Bool) (later : Bytes → Descriptors) (d : LongAd) (ds : List LongAd) (b : Bool) → is_other d ≡ b
     → area_chain v form is_last later (d ∷ ds) ≡ cond b (onto d (area_chain v form is_last later ds)) (joined (d ∷ []) (next_of v form is_last (Some d)) later)
 area-cons v form is_last later d ds b e = (λ i. joined (up-cons d ds i) (next_of v form is_last (next-cons d ds i)) later) ∙ (λ i. by (e i)) ∙ go b
   where

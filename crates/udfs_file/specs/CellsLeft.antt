@@ -2,8 +2,7 @@
 --     cells_left cells      those that are left
 --     room cells            how many of the first lie in one block
 use Rattle.std.specs.Prelude.{◌<◌, ℕ, List, [], ◌∷◌, drop, ⊤}
-use Rattle.udfs_lattice.specs.Tables.{state_of}
-use Rattle.udfs_space.specs.Places.{view}
+use Rattle.udfs_space.specs.Views.{view_now}
 use Rattle.udfs_file.specs.Stretches.{cells_of, stretch_count}
 use Rattle.udfs_file.specs.Pieces.{rest_in_block}
 use Rattle.udfs_file.specs.declared.cells.Cell.{Cell}
@@ -11,7 +10,7 @@ use Rattle.udfs_file.specs.declared.cells.Cells.{Cells}
 use Rattle.udfs_file.specs.declared.stretches.Stretch.{Stretch}
 
 abbrev pub cells_left : Cells → List Cell
-cells_left c = drop c.passed (cells_of (view (state_of c.table.now) c.space.now) c.stretches.now)
+cells_left c = drop c.passed (cells_of (view_now c.view) c.stretches.now)
 
 -- the next cell is one of the first stretch, if there is a stretch, and it is not the 2^64th
 abbrev pub IsInFirst : ℕ → List Stretch → Type 0

@@ -5,8 +5,10 @@
 --     DirectoryLaw                a directory without a fault is the one list that the standard reads
 --     NeverStops                  a directory that is all there is not ended by a missing block
 --     ReadsLaw                    `directory` gives the only reading that there is
-use Rattle.std.specs.Prelude.{◌≡◌, ◌≢◌, ℕ, List, length, map, Option, Some, None, ◌↔◌}
+--     StandardBodies, StandardDirectories     back: what the standard reads has no fault
+use Rattle.std.specs.Prelude.{◌≡◌, ◌≢◌, ◌<◌, ◌≤◌, ℕ, List, length, map, Option, Some, None, ◌↔◌}
 use Rattle.udfs_volume.specs.Sequence.{Bytes}
+use Rattle.udfs_lattice.specs.Volumes.{Includes}
 use Rattle.udfs_lattice.specs.declared.facts.Fact.TheVariants.{Known}
 use Rattle.udfs_space.specs.Places.{View}
 use Rattle.udfs_file.specs.Entries.{EntryFields}
@@ -70,3 +72,25 @@ pub record IsReadDirectory (whole : List Located) (ids : List Identifier) : Type
 abbrev pub DirectoryLaw : Type 0
 DirectoryLaw = (whole : List Located) → (directory (as_cells whole)).rest ≡ Nothing
     → IsReadDirectory whole (directory (as_cells whole)).identifiers
+
+-- what has a place is in a partition that there is
+abbrev pub HasPartitions : View → Type 0
+HasPartitions all = (r b n : ℕ) → all.place r b ≡ Some n → r < all.partitions
+
+-- back: a body that the standard reads has no fault, and is the one by the definition
+abbrev pub StandardBodies : Type 0
+StandardBodies = (all : View) (blocks : ℕ → ℕ → Option Bytes) → IsWhole all blocks → HasPartitions all → (r b : ℕ) (entry : EntryFields)
+    (whole : List Located) → IsBodyOf blocks r b entry whole → body all r b entry ≡ cells (as_cells whole)
+
+-- no descriptor is longer than a block (own choice)
+abbrev pub AreShort : List Identifier → Type 0
+AreShort ids = (id : Identifier) → Includes ids id → id.size ≤ 2048
+
+-- every descriptor that is read is that short
+abbrev pub DescriptorsAreShort : Type 0
+DescriptorsAreShort = (cs : List Cell) → AreShort (directory cs).identifiers
+
+-- and a directory whose body is a list of descriptors has no fault, and lists these
+abbrev pub StandardDirectories : Type 0
+StandardDirectories = (whole : List Located) (ids : List Identifier) → IsDirectoryBody whole ids → AreShort ids
+    → ((directory (as_cells whole)).identifiers ≡ ids) × ((directory (as_cells whole)).rest ≡ Nothing)

@@ -2,6 +2,9 @@
 use Rattle.std.specs.Prelude.{◌≡◌, ℕ, ◌<◌, List, [], ◌∷◌, ◌++◌, length, slice_get, Some, ◌↔◌, ◌≢◌, ◌+◌, ⊤}
 use Rattle.std.specs.List.{AllZip}
 use Rattle.udfs_lattice.specs.States.{is_known}
+use Rattle.udfs_lattice.specs.Volumes.{Includes}
+use Rattle.udfs_osta.specs.Escapes.{escaped}
+use Rattle.udfs_osta.specs.Parts.{IsPathPart}
 use Rattle.std.specs.Prelude.{true, false}
 use Rattle.udfs_space.specs.Places.{View, IsPartOf}
 use Rattle.udfs_tag.specs.declared.layouts.LongAd.{LongAd}
@@ -14,6 +17,7 @@ use Rattle.udfs_file.specs.declared.cells.Cell.TheVariants.{Byte, Gap}
 use Rattle.udfs_file.specs.Fronts.{directory, entries_of}
 use Rattle.udfs_file.specs.Identifiers.{Nothing, Wrong}
 use Rattle.udfs_file.specs.Identifiers.{Identifier}
+use Rattle.udfs_file.specs.declared.directories.DirEntry.{DirEntry}
 use Rattle.udfs_file.specs.declared.faults.NodeFault.{NodeFault}
 
 -- the first is the second, or missing
@@ -86,3 +90,7 @@ PartialDescriptors = (part whole : List Cell) → AllZip IsCellOf part whole
 -- a body without a fault has the information length
 abbrev pub BodyLength : Type 0
 BodyLength = (v : View) (r b : ℕ) (entry : EntryFields) (cs : List Cell) → body v r b entry ≡ cells cs → length cs ≡ entry.size
+
+-- the escaped name of each entry of a directory can stand in a path
+abbrev pub NamesAreParts : Type 0
+NamesAreParts = (cs : List Cell) (e : DirEntry) → Includes (entries_of cs) e → IsPathPart (escaped e.name)

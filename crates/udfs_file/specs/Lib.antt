@@ -13,3 +13,4 @@ pub mod Standard
 pub mod Complete
 pub mod Told
 pub mod Sample
+pub mod Portions

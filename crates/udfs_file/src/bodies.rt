@@ -3,6 +3,7 @@
 ghost use Rattle.std.specs.Prelude.{◌≡◌, ◌≤◌, length};
 ghost use Rattle.udfs_lattice.specs.Tables.{state_of};
 ghost use Rattle.udfs_space.specs.Places.{view};
+ghost use Rattle.udfs_space.specs.Views.{view_now};
 
 use crate::entries::Entry;
 use crate::extents::{descriptor, descriptor_count, extent, follow};
@@ -11,7 +12,8 @@ use crate::stretches::{Follow, Run, Stretch};
 use std::alloc::Global;
 use std::marker::Model;
 use udfs_lattice::BlockTable;
-use udfs_space::Space;
+use udfs_space::{Space, View};
+use udfs_tag::extent_types;
 
 /// The body of an entry: as many bytes as its information length says, each of them known, zero or missing.
 /// In contracts a body is its stretches; `cells_of` makes cells of them.
@@ -85,8 +87,7 @@ impl Body {
         if entry.form() != 3 {
             return Body::walk(
                 alloc,
-                table,
-                space,
+                View { table, space },
                 entry.form(),
                 reference,
                 entry.size(),
@@ -112,16 +113,15 @@ impl Body {
     /// Follows the descriptors in this area, and at most 256 continuations.
     fn walk(
         alloc: Global,
-        table: &BlockTable,
-        space: &Space,
+        view: View<'_>,
         form: u16,
         reference: u16,
         size: u64,
         area: &[u8],
     ) -> Result<Body, WalkError>
         requires { length area.now ≤ 2048 }
-        ensures value { Gives (view (state_of table.now) space.now) result
-            (listed_body (view (state_of table.now) space.now) form reference size area.now) }
+        ensures value { Gives (view_now view.entry) result
+            (listed_body (view_now view.entry) form reference size area.now) }
         ensures memory { result ≡ Err WalkError.OutOfMemory → 0 < size }
     {
         let mut stretches = Vec::new(alloc);
@@ -137,8 +137,8 @@ impl Body {
             if d.length == 0 {
                 return Err(WalkError::Fault(NodeFault::Short));
             }
-            if d.kind == 3 {
-                match follow(table, space, form, left == 0, d) {
+            if d.kind == extent_types::NEXT_EXTENT {
+                match follow(view, form, left == 0, d) {
                     Follow::Broken(fault) => return Err(WalkError::Fault(fault)),
                     Follow::Unread(n) => {
                         if stretches.push(Stretch::Missing(n, size - c)).is_err() {
@@ -153,7 +153,7 @@ impl Body {
                     }
                 }
             } else {
-                match extent(space, size, c, d) {
+                match extent(view.space, size, c, d) {
                     Err(fault) => return Err(WalkError::Fault(fault)),
                     Ok(stretch) => {
                         if stretches.push(stretch).is_err() {

@@ -1,15 +1,14 @@
 //! The cells of a body, as borrowed pieces.
 
 ghost use Rattle.std.specs.Prelude.{◌≡◌, ℕ, ◌≤◌, ◌<◌, ◌+◌, drop, length, min, nat_le, take};
-ghost use Rattle.udfs_space.specs.Places.{View};
+ghost use Rattle.udfs_space.specs.Places as places;
 ghost use Rattle.udfs_file.specs.Stretches.{LieInBlocks, cells_of};
 ghost use Rattle.udfs_file.specs.CellsLeft.{cells_left, IsSettled, room};
 ghost use Rattle.udfs_file.specs.Pieces.{FitsPiece, IsPieceOf, IsTaken, Starts};
 
 use crate::pieces::{Front, Piece, Pieces, stretch_piece};
 use crate::stretches::Stretch;
-use udfs_lattice::BlockTable;
-use udfs_space::Space;
+use udfs_space::View;
 
 /// One cell of a body.
 #[derive(Clone, Copy, Debug, PartialEq, Eq)]
@@ -23,8 +22,7 @@ pub enum Cell {
 /// The cells of stretches behind a first few.
 #[derive(Clone, Copy)]
 pub(crate) struct Cells<'a> {
-    pub(crate) table: &'a BlockTable,
-    pub(crate) space: &'a Space,
+    pub(crate) view: View<'a>,
     pub(crate) stretches: &'a [Stretch],
     /// How many cells from the first stretch on are left out.
     pub(crate) passed: u64,
@@ -32,7 +30,7 @@ pub(crate) struct Cells<'a> {
 
 /// Whether stretches have at least so many cells.
 fn hold(stretches: &[Stretch], count: u64) -> bool
-    ensures { (v : View) → result ≡ nat_le count (length (cells_of v stretches.now)) }
+    ensures { (v : places.View) → result ≡ nat_le count (length (cells_of v stretches.now)) }
 {
     let mut left = count;
     for stretch in stretches {
@@ -46,7 +44,7 @@ fn hold(stretches: &[Stretch], count: u64) -> bool
 
 impl<'a> Cells<'a> {
     /// The same cells, with some of the first stretch among them if there are any.
-    fn settled(&self) -> Cells<'a>
+    pub(crate) fn settled(&self) -> Cells<'a>
         ensures cells { cells_left result ≡ cells_left self.now }
         ensures settled { IsSettled result }
         ensures starts { (k : ℕ) → Starts (self.now.passed + k) self.now.stretches.now → Starts (result.passed + k) result.stretches.now }
@@ -62,8 +60,7 @@ impl<'a> Cells<'a> {
             stretches = rest;
         }
         Cells {
-            table: self.table,
-            space: self.space,
+            view: self.view,
             stretches,
             passed,
         }
@@ -93,7 +90,7 @@ impl<'a> Cells<'a> {
         ensures size { FitsPiece result (min want (room self.now)) }
     {
         match self.stretches.split_first() {
-            Some((first, _)) => stretch_piece(self.table, self.space, *first, self.passed, want),
+            Some((first, _)) => stretch_piece(self.view, *first, self.passed, want),
             None => Piece::Bytes(&[], None),
         }
     }
@@ -144,15 +141,13 @@ impl<'a> Cells<'a> {
         let count = count as u64;
         if count <= here {
             return Cells {
-                table: ahead.table,
-                space: ahead.space,
+                view: ahead.view,
                 stretches: ahead.stretches,
                 passed: ahead.passed + count,
             };
         }
         Cells {
-            table: ahead.table,
-            space: ahead.space,
+            view: ahead.view,
             stretches: rest,
             passed: count - here,
         }

@@ -19,8 +19,8 @@ use byteorder::{ByteOrder, LittleEndian};
 use std::marker::Model;
 use udfs_lattice::BlockTable;
 use udfs_osta::Name;
-use udfs_space::Space;
-use udfs_tag::Tag;
+use udfs_space::{Space, View};
+use udfs_tag::{Tag, identifiers};
 
 /// What stands next in a directory.
 #[derive(Clone, Copy, Debug)]
@@ -108,7 +108,7 @@ fn is_identifier(view: &Pieces<'_>, b: u32) -> bool
     ensures { result ≡ is_valid (bytes_of view.now) b 257 }
 {
     match Tag::check2(view.first, view.second, b) {
-        Ok(tag) => tag.identifier == 257,
+        Ok(tag) => tag.identifier == identifiers::FILE_IDENTIFIER,
         Err(_) => false,
     }
 }
@@ -210,8 +210,7 @@ impl<'a> Cursor<'a> {
     {
         Cursor {
             cells: Cells {
-                table,
-                space,
+                view: View { table, space },
                 stretches: body.stretches(),
                 passed: 0,
             },

@@ -7,7 +7,7 @@ use crate::faults::{Kind, NodeFault};
 use byteorder::{ByteOrder, LittleEndian};
 use std::marker::Model;
 use udfs_osta::Stamp;
-use udfs_tag::Tag;
+use udfs_tag::{Tag, identifiers};
 
 /// A file entry or extended file entry without a fault of its own. In contracts it is the bytes of its block.
 #[derive(Drop)]
@@ -185,7 +185,8 @@ fn is_entry(block: &[u8; 2048], b: u32) -> bool
     ensures { result ≡ is_entry block.now b }
 {
     match Tag::check(block, b) {
-        Ok(tag) => tag.identifier == 261 || tag.identifier == 266,
+        Ok(tag) => tag.identifier == identifiers::FILE_ENTRY
+            || tag.identifier == identifiers::EXTENDED_FILE_ENTRY,
         Err(_) => false,
     }
 }

@@ -2,9 +2,9 @@
 
 ghost use Rattle.std.specs.Prelude.{◌≡◌, ◌≢◌, ℕ, ◌≤◌, ◌<◌, ◌/◌, ◌&&◌, min, length, Bool, true, false, IsNone, is_none};
 ghost use Rattle.udfs_lattice.specs.Volumes.{Blocks};
-ghost use Rattle.udfs_lattice.specs.Tables.{state_of};
 ghost use Rattle.udfs_lattice.specs.States.{fact_now};
-ghost use Rattle.udfs_space.specs.Places.{view, place, block_now};
+ghost use Rattle.udfs_space.specs.Places.{view as seen, place, block_now};
+ghost use Rattle.udfs_space.specs.Views.{view_now};
 ghost use Rattle.udfs_file.specs.Bodies.{descriptor_at, descriptor_count, continuation_fault, is_misreferred, is_misplaced, is_odd, cells_in, is_extent, next_area, next_if, next_by};
 ghost use Rattle.udfs_tag.specs.Fields.{uint32_at};
 ghost use Rattle.udfs_tag.specs.Fields.{part};
@@ -14,9 +14,9 @@ use crate::entries::descriptor_size;
 use crate::faults::NodeFault;
 use crate::stretches::{Follow, Run, Stretch};
 use byteorder::{ByteOrder, LittleEndian};
-use udfs_lattice::{BlockTable, Fact};
-use udfs_space::Space;
-use udfs_tag::{LongAd, ShortAd, Tag};
+use udfs_lattice::Fact;
+use udfs_space::{Space, View};
+use udfs_tag::{LongAd, ShortAd, Tag, extent_types, identifiers};
 
 /// How many descriptors an area has.
 pub(crate) fn descriptor_count(form: u16, area: &[u8]) -> usize
@@ -47,30 +47,31 @@ pub(crate) fn descriptor(form: u16, reference: u16, area: &[u8], i: usize) -> Lo
 }
 
 fn is_misreferred(space: &Space, d: LongAd) -> bool
-    ensures { (blocks : Blocks) → result ≡ is_misreferred (view blocks space.now) d }
+    ensures { (blocks : Blocks) → result ≡ is_misreferred (seen blocks space.now) d }
 {
-    d.kind == 0 && d.reference >= space.maps()
+    d.kind == extent_types::RECORDED && d.reference >= space.maps()
 }
 
 fn is_misplaced(space: &Space, d: LongAd, count: u64) -> bool
     requires { count < 4294967296 }
-    ensures { (blocks : Blocks) → result ≡ is_misplaced (view blocks space.now) d count }
+    ensures { (blocks : Blocks) → result ≡ is_misplaced (seen blocks space.now) d count }
 {
-    d.kind == 0 && space.is_past(d.reference, d.block, ((count + 2047) / 2048) as u32)
+    d.kind == extent_types::RECORDED
+        && space.is_past(d.reference, d.block, ((count + 2047) / 2048) as u32)
 }
 
 fn is_odd(size: u64, c: u64, d: LongAd) -> bool
     requires { c ≤ size }
     ensures { result ≡ is_odd size c d }
 {
-    d.kind != 3 && u64::from(d.length) < size - c && d.length % 2048 != 0
+    d.kind != extent_types::NEXT_EXTENT && u64::from(d.length) < size - c && d.length % 2048 != 0
 }
 
 /// The stretch of a taken extent.
 pub(crate) fn extent(space: &Space, size: u64, c: u64, d: LongAd) -> Result<Stretch, NodeFault>
     requires left { c < size }
     requires is_extent { d.kind ≢ 3 }
-    ensures { (blocks : Blocks) → IsExtentRead result (view blocks space.now) size c d }
+    ensures { (blocks : Blocks) → IsExtentRead result (seen blocks space.now) size c d }
 {
     let count = u64::from(d.length).min(size - c);
     if is_misreferred(space, d) {
@@ -82,7 +83,7 @@ pub(crate) fn extent(space: &Space, size: u64, c: u64, d: LongAd) -> Result<Stre
     if is_odd(size, c, d) {
         return Err(NodeFault::Odd);
     }
-    if d.kind == 0 {
+    if d.kind == extent_types::RECORDED {
         let run = Run {
             reference: d.reference,
             block: d.block,
@@ -100,7 +101,9 @@ fn is_extent(form: u16, b: u32, bytes: &[u8; 2048]) -> bool
     ensures fits { result ≡ true → uint32_at bytes.now 20 ≤ 2024 }
 {
     let count = LittleEndian::read_u32(&bytes[20..]);
-    Tag::is_valid(bytes, b, 258) && count <= 2024 && count % descriptor_size(form) == 0
+    Tag::is_valid(bytes, b, identifiers::ALLOCATION_EXTENT)
+        && count <= 2024
+        && count % descriptor_size(form) == 0
 }
 
 /// The descriptors in it.
@@ -123,7 +126,7 @@ pub(crate) fn is_unplaced(space: &Space, d: LongAd) -> bool
 
 /// What is wrong with a continuation before its block is looked at.
 fn continuation_fault(space: &Space, is_last: bool, d: LongAd) -> Option<NodeFault>
-    ensures value { (blocks : Blocks) → result ≡ continuation_fault (view blocks space.now) is_last d }
+    ensures value { (blocks : Blocks) → result ≡ continuation_fault (seen blocks space.now) is_last d }
     ensures allowed { IsNone result → is_last ≡ false }
 {
     if d.reference >= space.maps() {
@@ -168,22 +171,16 @@ fn area_at<'a>(form: u16, b: u32, block: Option<(u32, Fact<&'a [u8; 2048]>)>) ->
 }
 
 /// What follows the area that ends in this descriptor.
-pub(crate) fn follow<'a>(
-    table: &'a BlockTable,
-    space: &Space,
-    form: u16,
-    is_last: bool,
-    d: LongAd,
-) -> Follow<'a>
-    ensures value { next_now result ≡ next_by (view (state_of table.now) space.now) form is_last d }
+pub(crate) fn follow<'a>(view: View<'a>, form: u16, is_last: bool, d: LongAd) -> Follow<'a>
+    ensures value { next_now result ≡ next_by (view_now view.entry) form is_last d }
     ensures allowed { IsFollowed result is_last }
 {
-    match continuation_fault(space, is_last, d) {
+    match continuation_fault(view.space, is_last, d) {
         Some(fault) => Follow::Broken(fault),
         None => area_at(
             form,
             d.block,
-            space.block_at(table, d.reference, u64::from(d.block)),
+            view.block_at(d.reference, u64::from(d.block)),
         ),
     }
 }

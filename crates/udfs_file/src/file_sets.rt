@@ -16,14 +16,14 @@ use crate::faults::NodeFault;
 use std::alloc::Global;
 use udfs_lattice::{BlockTable, Fact};
 use udfs_space::Space;
-use udfs_tag::{LongAd, Tag};
+use udfs_tag::{LongAd, Tag, extent_types, identifiers};
 use udfs_volume::{Seen, VolumeFault};
 
 /// Whether an address is no recorded extent, is empty, or is of no partition.
 fn is_no_reference(space: &Space, a: LongAd) -> bool
     ensures { (blocks : Blocks) → result ≡ is_no_reference (view blocks space.now) a }
 {
-    a.kind != 0 || a.length == 0 || a.reference >= space.maps()
+    a.kind != extent_types::RECORDED || a.length == 0 || a.reference >= space.maps()
 }
 
 /// What is wrong with the address of a single block (long_ad, ECMA-167 4/14.14.2): [`NodeFault::Reference`]
@@ -53,7 +53,7 @@ fn file_set_in(alloc: Global, address: LongAd, n: u32, fact: Fact<&[u8; 2048]>) 
             Err(_) => Seen::OutOfMemory,
         };
     };
-    if Tag::is_valid(bytes, address.block, 256) {
+    if Tag::is_valid(bytes, address.block, identifiers::FILE_SET) {
         Seen::Got(LongAd::read(behind(bytes, 400)))
     } else {
         Seen::Fault(VolumeFault::FileSet)

@@ -1,6 +1,6 @@
 //! Laws of bodies and directories, each the contract of a function that does nothing.
-ghost use Rattle.udfs_file.specs.Laws.{BodyLength, PartialBodies, PartialDescriptors, PartialFileSet};
-ghost use Rattle.udfs_file.specs.Complete.{BodyLaw, DirectoryLaw, FileSetLaw, NeverStops, ReadsLaw};
+ghost use Rattle.udfs_file.specs.Laws.{BodyLength, NamesAreParts, PartialBodies, PartialDescriptors, PartialFileSet};
+ghost use Rattle.udfs_file.specs.Complete.{BodyLaw, DescriptorsAreShort, DirectoryLaw, FileSetLaw, NeverStops, ReadsLaw, StandardBodies, StandardDirectories};
 ghost use Rattle.udfs_file.specs.Sample.{AreSampleFiles, SampleFileSet};
 
 /// Of partitions of which a part is known, the file set names the root of the whole exactly if its block is
@@ -43,6 +43,26 @@ pub fn directory_is_read()
 /// Over complete partitions a body without a fault is the one that the standard reads.
 pub fn body_is_read()
     ensures { BodyLaw }
+{}
+
+/// Back: over complete partitions a body that the standard reads has no fault, and is the body by the definition.
+pub fn standard_bodies_are_read()
+    ensures { StandardBodies }
+{}
+
+/// Back: a directory whose body is a list of descriptors of at most 2048 bytes each has no fault, and lists these.
+pub fn standard_directories_are_read()
+    ensures { StandardDirectories }
+{}
+
+/// Each descriptor of a directory has at most 2048 bytes.
+pub fn descriptors_are_short()
+    ensures { DescriptorsAreShort }
+{}
+
+/// The escaped name of each entry of a directory can stand in a path: it is not empty, not `.` or `..`, and has no `/` and no control.
+pub fn names_are_parts()
+    ensures { NamesAreParts }
 {}
 
 /// A body without a fault has as many cells as the information length says.

@@ -17,6 +17,7 @@ pub mod file_sets;
 pub mod laws;
 pub mod marks;
 mod pieces;
+pub mod portions;
 pub mod stretches;
 
 pub use bodies::Body;
@@ -27,6 +28,7 @@ pub use faults::{FrontError, Kind, NodeFault, WalkError};
 pub use file_sets::file_set;
 pub use marks::Marks;
 pub use pieces::Pieces;
+pub use portions::{Portion, Portions, Unread};
 pub use stretches::{Run, Stretch};
 
 #[cfg(test)]

@@ -2,15 +2,14 @@
 
 ghost use Rattle.std.specs.Prelude.{◌≡◌, ◌≤◌, ◌<◌, ◌+◌, ◌%◌, ◌^◌, length, map, min, replicate, take, drop};
 ghost use Rattle.std.specs.List.{range_with_len};
-ghost use Rattle.udfs_lattice.specs.Tables.{state_of};
-ghost use Rattle.udfs_space.specs.Places.{view};
+ghost use Rattle.udfs_space.specs.Views.{view_now};
 ghost use Rattle.udfs_file.specs.Bodies.{recorded_cell};
 ghost use Rattle.udfs_file.specs.Pieces.{IsPieceOf, rest_in_block};
 ghost use Rattle.udfs_file.specs.Stretches.{stretch_cells, stretch_count};
 
 use crate::stretches::{Run, Stretch};
-use udfs_lattice::{BlockTable, Fact};
-use udfs_space::Space;
+use udfs_lattice::Fact;
+use udfs_space::View;
 
 /// A block of zeros, for those that are not recorded.
 static ZEROS: [u8; 2048] = [0; 2048];
@@ -54,7 +53,7 @@ pub(crate) fn zeros(count: usize) -> &'static [u8]
 }
 
 /// So many bytes of a block from one on.
-fn bytes_at(block: &[u8; 2048], at: usize, count: usize) -> &[u8]
+pub(crate) fn bytes_at(block: &[u8; 2048], at: usize, count: usize) -> &[u8]
     requires { at + count ≤ 2048 }
     ensures value { result.now ≡ take count (drop at block.now) }
     ensures size { length block.now ≡ 2048 }
@@ -65,20 +64,14 @@ fn bytes_at(block: &[u8; 2048], at: usize, count: usize) -> &[u8]
 }
 
 /// So many recorded cells in one block, from this place behind the run's block on.
-pub(crate) fn recorded_piece<'a>(
-    table: &'a BlockTable,
-    space: &Space,
-    run: Run,
-    at: u64,
-    count: usize,
-) -> Piece<'a>
+pub(crate) fn recorded_piece<'a>(view: View<'a>, run: Run, at: u64, count: usize) -> Piece<'a>
     requires inside { at % 2048 + count ≤ 2048 }
     requires some { 1 ≤ count }
     requires near { at < 2 ^ 33 }
-    ensures { IsPieceOf result (map (recorded_cell (view (state_of table.now) space.now) run.reference run.block) (range_with_len at count)) }
+    ensures { IsPieceOf result (map (recorded_cell (view_now view.entry) run.reference run.block) (range_with_len at count)) }
 {
     let b = u64::from(run.block) + at / 2048;
-    match space.block_at(table, run.reference, b) {
+    match view.block_at(run.reference, b) {
         None => Piece::Bytes(zeros(count), None),
         Some((_, Fact::Known(bytes))) => {
             Piece::Bytes(bytes_at(bytes, (at % 2048) as usize, count), Some(b as u32))
@@ -90,8 +83,7 @@ pub(crate) fn recorded_piece<'a>(
 
 /// The cells of a stretch behind some that are passed, as far as they lie in one block, and at most so many.
 pub(crate) fn stretch_piece<'a>(
-    table: &'a BlockTable,
-    space: &Space,
+    view: View<'a>,
     stretch: Stretch,
     passed: u64,
     want: usize,
@@ -99,13 +91,13 @@ pub(crate) fn stretch_piece<'a>(
     requires left { passed < stretch_count stretch }
     requires some { 1 ≤ want }
     requires block { want ≤ 2048 }
-    ensures { IsPieceOf result (take (min want (rest_in_block stretch passed)) (drop passed (stretch_cells (view (state_of table.now) space.now) stretch))) }
+    ensures { IsPieceOf result (take (min want (rest_in_block stretch passed)) (drop passed (stretch_cells (view_now view.entry) stretch))) }
 {
     match stretch {
         Stretch::Recorded(run, count) => {
             let at = u64::from(run.offset) + passed;
             let here = (2048 - at % 2048).min(u64::from(count) - passed);
-            recorded_piece(table, space, run, at, here.min(want as u64) as usize)
+            recorded_piece(view, run, at, here.min(want as u64) as usize)
         }
         Stretch::Zeros(count) => {
             let here = (u64::from(count) - passed).min(want as u64);

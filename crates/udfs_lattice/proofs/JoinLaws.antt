@@ -1,10 +1,13 @@
 -- The join of several tables depends on the set of them alone.
-use Rattle.std.specs.Prelude.{◌≡◌, ◌⊎◌, List, [], ◌∷◌, ◌++◌, map, Contains, refl}
+use Rattle.std.specs.Prelude.{◌≡◌, ◌⊎◌, ℕ, ◌==◌, Bool, true, false, cond, List, [], ◌∷◌, ◌++◌, map, Contains, refl}
 use Rattle.std.proofs.Common.{sym, ap, subst, ◌∙◌, inl, inr, ⊎_elim, arith}
+use Rattle.std.proofs.lemmas.Bool.{eqb-true}
+use Rattle.udfs_lattice.specs.declared.facts.Fact.TheVariants.{Unknown}
+use Rattle.udfs_lattice.specs.Laws.{ForgettingCommutes}
 use Rattle.std.proofs.lemmas.List.Elements.{Contains-append_cases, Contains-append_left, Contains-append_right, Contains-push, Contains-push_cases}
-use Rattle.udfs_lattice.specs.States.{State, IsBelow, IsBelow-trans}
+use Rattle.udfs_lattice.specs.States.{State, IsBelow, IsBelow-trans, join_of}
 use Rattle.udfs_lattice.specs.Tables.{Table, state_of, empty_table, join_tables, IsTableBelow}
-use Rattle.udfs_lattice.specs.TableLaws.{state_of-empty, join_tables-assoc, join_tables-comm, IsTableBelow-join_tables, IsTableBelow-second, join_tables-least, IsTableBelow-antisym}
+use Rattle.udfs_lattice.specs.TableLaws.{state_of-empty, state_of-join_tables, same_table, join_tables-assoc, join_tables-comm, IsTableBelow-join_tables, IsTableBelow-second, join_tables-least, IsTableBelow-antisym}
 use Rattle.udfs_lattice.specs.Records.{Record, table_of, join_all, IsLeastAbove, SameTables, all_records}
 use Rattle.udfs_lattice.proofs.RecordLaws.{table_of-append}
 
@@ -54,3 +57,12 @@ join_all-push (u ∷ ts) t = ap (join_tables u) (join_all-push ts t) ∙ sym (jo
 pub join_all-records : (rss : List (List Record)) → join_all (map table_of rss) ≡ table_of (all_records rss)
 join_all-records [] = refl
 join_all-records (rs ∷ rss) = ap (join_tables (table_of rs)) (join_all-records rss) ∙ sym (table_of-append rs (all_records rss))
+
+-- ---- a block is forgotten
+forgotten_joined : (t u v w : Table) (n q : ℕ) (b : Bool) → (q == n) ≡ b → state_of u q ≡ cond b Unknown (state_of t q) → state_of v n ≡ Unknown → state_of w q ≡ cond b Unknown (state_of (join_tables t v) q)
+    → state_of w q ≡ join_of (state_of u q) (state_of v q)
+forgotten_joined t u v w n q true is old none new = new ∙ sym (ap (state_of v) (eqb-true q n is) ∙ none) ∙ ap (λ s. join_of s (state_of v q)) (sym old)
+forgotten_joined t u v w n q false is old none new = new ∙ state_of-join_tables t v q ∙ ap (λ s. join_of s (state_of v q)) (sym old)
+
+pub forgetting_commutes : ForgettingCommutes
+forgetting_commutes t u v w n old none new = same_table w (join_tables u v) (λ q. forgotten_joined t u v w n q (q == n) refl (old q) none (new q) ∙ sym (state_of-join_tables u v q))

@@ -9,9 +9,9 @@ use Rattle.std.proofs.lemmas.Bool.{eqb-true, eqb-false, ltb-true, ltb-false, cas
 use Rattle.std.proofs.lemmas.Bool.Decides.{nat_tests}
 use Rattle.udfs_lattice.specs.declared.facts.Fact.TheVariants.{Unknown, Known, Conflict}
 use Rattle.udfs_lattice.specs.States.{State, IsBelow, IsBelow-refl, join_of, join_of-unknown, IsBelow-join_of}
-use Rattle.udfs_lattice.specs.Tables.{Table, fact_found, state_of, empty_table, one_entry, join_tables, IsTable, IsStateAt, IsTableBelow}
+use Rattle.udfs_lattice.specs.Tables.{Table, fact_found, state_of, empty_table, one_entry, join_tables, IsTable, IsStateAt, IsTableBelow, IsForgotten}
 use Rattle.udfs_lattice.specs.TableLaws.{same_table, state_of-empty, state_of-join_tables, state_of-one_entry, join_tables-empty, IsTableBelow-join_tables}
-use Rattle.udfs_lattice.specs.Packets.{IsPlace, IsPacketTable}
+use Rattle.udfs_lattice.specs.Packets.{IsPlace, IsPacketTable, IsSetTo}
 use Rattle.udfs_lattice.specs.PacketTables.{found_packet, packet_at, held_in, table_packets, held_in_one, one_packet, IsPacketFound, ArePackets, IsPacketMap, IsUnknownPacket}
 use Rattle.udfs_lattice.proofs.PacketStates.{state_of-table_below, IsPacketTable-join, IsPacketTable-empty, IsPacketTable-one}
 
@@ -284,3 +284,39 @@ pub one_below : (m : BTreeMap ℕ Table) (k : ℕ) (v t : Table) → IsPacketMap
 one_below m k v t h view found = subst (IsTableBelow (one_packet k v)) view (λ q.
     subst (λ s. IsBelow s (state_of (table_packets m.entries) q)) (sym (state_of-one_packet k v q ((found_is_packet m k v h.each found).0)))
     (one_below_at m.entries k v q (q / 32 == k) h.each (packet_found m k v found) refl))
+
+-- ---- a block is forgotten
+place_unknown : (i : ℕ) (s : State) (b : Bool) → IsPlace i s → IsPlace i (cond b Unknown s)
+place_unknown i s true h = tt
+place_unknown i s false h = h
+
+pub forgotten_packet : (had u : Table) (i : ℕ) → IsPacketTable had → IsSetTo had i Unknown u → IsPacketTable u
+forgotten_packet had u i h set q = subst (IsPlace q) (sym (set q)) (place_unknown q (state_of had q) (q == i) (h q))
+
+same_place : (q n : ℕ) → q / 32 ≡ n / 32 → (q % 32 == n % 32) ≡ (q == n)
+same_place q n e = grind (arith, nat_tests)
+
+other_block : (q n : ℕ) → (q / 32 == n / 32) ≡ false → (q == n) ≡ false
+other_block q n e = grind (arith, nat_tests)
+
+forgotten_at : (old : BTreeMap ℕ Table) (n q : ℕ) (had u : Table) (b : Bool) → ArePackets old.entries → Some had ≡ get nat_cmp old (n / 32) → IsSetTo had (n % 32) Unknown u → (q / 32 == n / 32) ≡ b
+    → cond b (state_of u (q % 32)) (state_of (table_packets old.entries) q) ≡ cond (q == n) Unknown (state_of (table_packets old.entries) q)
+forgotten_at old n q had u true h found set is =
+    let k = eqb-true (q / 32) (n / 32) is in
+    set (q % 32) ∙ ap (λ e. cond e Unknown (state_of had (q % 32))) (same_place q n k)
+    ∙ ap (λ s. cond (q == n) Unknown s) (sym (state_of-in old.entries (n / 32) q h k ∙ ap (λ t. state_of t (q % 32)) (packet_found old (n / 32) had found)))
+forgotten_at old n q had u false h found set is = sym (ap (λ e. cond e Unknown (state_of (table_packets old.entries) q)) (other_block q n is))
+
+pub forgotten : (old new : BTreeMap ℕ Table) (n : ℕ) (had u t : Table) → IsWritten old new (n / 32) u → Some had ≡ get nat_cmp old (n / 32) → table_packets old.entries ≡ t → IsSetTo had (n % 32) Unknown u → IsForgotten t n (table_packets new.entries)
+forgotten old new n had u t w found view set q =
+    state_of-updates old new (n / 32) u q w.was w.each w.updates
+    ∙ forgotten_at old n q had u (q / 32 == n / 32) w.was found set refl
+    ∙ ap (λ x. cond (q == n) Unknown (state_of x q)) view
+
+nothing_at : (t : Table) (n q : ℕ) (b : Bool) → (q == n) ≡ b → state_of t n ≡ Unknown → state_of t q ≡ cond b Unknown (state_of t q)
+nothing_at t n q true is none = ap (state_of t) (eqb-true q n is) ∙ none
+nothing_at t n q false is none = refl
+
+-- there was no packet of the block
+pub nothing_forgotten : (t : Table) (n : ℕ) → state_of t n ≡ Unknown → IsForgotten t n t
+nothing_forgotten t n none q = nothing_at t n q (q == n) refl none

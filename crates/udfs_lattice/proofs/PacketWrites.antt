@@ -178,6 +178,20 @@ marks k c bs t b p view small not_known =
     (λ j near ne. ap (λ x. cond (bit_at k j == 1) (Some (Some (slice_index_or bs (rank k j) []))) (cond (x == 1) (Some None) None)) (bit_at_set_other w32 c b small j ne))
     (says_conflict (bit_at k b == 1) (bit_at (bit_or c (1 * 2 ^ b % 2 ^ 32)) b == 1) (slice_index_or bs (rank k b) []) test (set_bit (bit_or c (1 * 2 ^ b % 2 ^ 32)) b (bit_at_set_same w32 c b small)))
 
+-- ---- a block taken out of conflict
+pub unmarks : (k c : ℕ) (bs : List (List ℕ)) (t : Table) (b : ℕ) → IsPacket k c bs → table_packet k c bs ≡ t → b < 32 → is_known (state_of t b) ≡ false → Writes k (bit_and c (bit_not w32 (1 * 2 ^ b % 2 ^ 32))) bs t b Unknown
+unmarks k c bs t b p view small not_known =
+    let test = is_known-bit k c bs t b view small ∙ not_known in
+    let clear = zero_bit k b test in
+    let packet : IsPacket k (bit_and c (bit_not w32 (1 * 2 ^ b % 2 ^ 32))) bs = record {
+      apart = λ i near set. bit_at_clear_other w32 c b small i near (λ is. absurd (zero_one (bit_at k i) (ap (bit_at k) is ∙ clear) set)) ∙ p.apart i near set;
+      stored = p.stored;
+      whole = p.whole;
+    } in
+    written k c bs k (bit_and c (bit_not w32 (1 * 2 ^ b % 2 ^ 32))) bs t b Unknown view small packet
+    (λ j near ne. ap (λ x. cond (bit_at k j == 1) (Some (Some (slice_index_or bs (rank k j) []))) (cond (x == 1) (Some None) None)) (bit_at_clear_other w32 c b small j near ne))
+    (says_unknown (bit_at k b == 1) (bit_at (bit_and c (bit_not w32 (1 * 2 ^ b % 2 ^ 32))) b == 1) (slice_index_or bs (rank k b) []) test (clear_bit (bit_and c (bit_not w32 (1 * 2 ^ b % 2 ^ 32))) b (bit_at_clear_same w32 c b small)))
+
 -- ---- the boxes
 box_values-insert : (boxes : List (Box (List ℕ))) (at : ℕ) (b : Box (List ℕ)) → box_values (insert boxes at b) ≡ insert (box_values boxes) at b.value
 box_values-insert boxes at b =

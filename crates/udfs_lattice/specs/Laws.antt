@@ -12,11 +12,12 @@
 --     SetMakesTable        the table of records depends on their set alone
 --     TablesMakeJoin       the join of tables on the set of them
 --     RecordsMakeJoin      and of the tables of lists of records it is the table of all the records
+--     ForgettingCommutes   to forget a block commutes with joining a table that says nothing of it
 --     RecordAdded, EntryAdded, TableAdded, EntryBefore       one more is joined in
 use Rattle.std.specs.Prelude.{◌≡◌, ◌≢◌, ◌↔◌, ◌≤◌, ◌==◌, ℕ, List, [], ◌∷◌, ◌++◌, cond, length, map}
 use Rattle.udfs_lattice.specs.declared.facts.Fact.TheVariants.{Unknown, Known}
 use Rattle.udfs_lattice.specs.States.{State, join_of}
-use Rattle.udfs_lattice.specs.Tables.{Table, state_of, entries_of, join_tables, one_entry, one_record, IsTable}
+use Rattle.udfs_lattice.specs.Tables.{Table, state_of, entries_of, join_tables, one_entry, one_record, IsTable, IsForgotten}
 use Rattle.udfs_lattice.specs.Records.{Record, SameRecords, SameTables, all_records, join_all, table_of, table_of_entries, RisesFrom}
 use Rattle.udfs_lattice.specs.Volumes.{Includes, Volume, Agrees, ascending, complete}
 
@@ -88,3 +89,7 @@ TableAdded = (ts : List Table) (t : Table) → join_all (ts ++ t ∷ []) ≡ joi
 abbrev pub EntryBefore : Type 0
 EntryBefore = (e : ℕ × State) (es : List (ℕ × State)) (q : ℕ)
     → state_of (table_of_entries (e ∷ es)) q ≡ join_of (cond (q == e.0) e.1 Unknown) (state_of (table_of_entries es) q)
+
+-- what a table that says nothing of a block adds is added before or after the block is forgotten
+abbrev pub ForgettingCommutes : Type 0
+ForgettingCommutes = (t u v w : Table) (n : ℕ) → IsForgotten t n u → state_of v n ≡ Unknown → IsForgotten (join_tables t v) n w → w ≡ join_tables u v

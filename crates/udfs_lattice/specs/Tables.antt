@@ -109,3 +109,7 @@ IsTable-added t n s u sound fits added q = subst (IsStateAt q) (sym (added q)) (
 -- where the join of tables is the join of one record
 pub IsAdded-same : (t u v : Table) (n : ℕ) (s : State) → IsAdded t n s u → IsAdded t n s v → (q : ℕ) → state_of u q ≡ state_of v q
 IsAdded-same t u v n s a b q = a q ∙ sym (b q)
+
+-- u is t without what is known of block n
+abbrev pub IsForgotten : Table → ℕ → Table → Type 0
+IsForgotten t n u = (q : ℕ) → state_of u q ≡ cond (q == n) Unknown (state_of t q)

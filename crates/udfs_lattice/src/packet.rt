@@ -132,6 +132,27 @@ impl Packet {
         self.mark(i);
     }
 
+    /// Takes a block that is not known out of conflict; it is unknown then.
+    fn unmark(&mut self, i: u32)
+        requires place { i < 32 }
+        requires not_known { is_known (state_of self.old i) ≡ false }
+        ensures { IsSetTo self.old i Unknown self.new }
+    {
+        self.conflict &= !(1 << i);
+    }
+
+    /// Makes the block at place `i`, which is below 32, unknown, whatever it is. It takes no memory.
+    pub fn forget(&mut self, i: u32)
+        requires { i < 32 }
+        ensures { IsSetTo self.old i Unknown self.new }
+    {
+        if is_set(self.known, i) {
+            self.give_up(i);
+        } else {
+            self.unmark(i);
+        }
+    }
+
     fn add_bytes(&mut self, i: u32, bytes: &[u8; 2048]) -> Result<(), AllocError>
         requires { i < 32 }
         ensures ok { OnOk result (IsAdded self.old i (Fact.Known bytes.now) self.new) }

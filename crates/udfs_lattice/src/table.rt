@@ -3,7 +3,7 @@ ghost use Rattle.std.specs.Prelude.{◌≡◌, ◌≢◌, ◌≤◌, ◌<◌, �
 ghost use Rattle.std.specs.BTreeMap.{values};
 ghost use Rattle.std.specs.Iterator.{YieldsFirstBy, item_count};
 ghost use Rattle.udfs_lattice.specs.States.{fact_now, entry_now};
-ghost use Rattle.udfs_lattice.specs.Tables.{state_of, entries_of, known_count, conflict_count, empty_table, one_record, one_entry, join_tables, IsStateAt, IsTable, IsTableBelow};
+ghost use Rattle.udfs_lattice.specs.Tables.{state_of, entries_of, known_count, conflict_count, empty_table, one_record, one_entry, join_tables, IsStateAt, IsTable, IsTableBelow, IsForgotten};
 ghost use Rattle.udfs_lattice.specs.TableLaws.{join_tables-comm, join_tables-assoc, join_tables-idem, IsTableBelow-join_tables, join_tables-least};
 ghost use Rattle.udfs_lattice.specs.Packets.{IsPacketTable};
 ghost use Rattle.udfs_lattice.specs.PacketTables.{one_packet, IsUnknownPacket, IsFound, packet_entries};
@@ -157,6 +157,17 @@ impl BlockTable {
         }
         self.enter(n, Fact::Known(bytes))?;
         Ok(())
+    }
+
+    /// Makes block `n` unknown, whatever it is, and leaves all others as they are. It takes no memory. A number above
+    /// [`LAST_BLOCK`] changes nothing.
+    pub fn forget(&mut self, n: u32)
+        ensures { IsForgotten self.old n self.new }
+    {
+        let Some(packet) = self.packets.get_mut(&(n / 32)) else {
+            return;
+        };
+        packet.forget(n % 32);
     }
 
     /// How many blocks are known. It takes no memory.
@@ -392,6 +403,30 @@ mod tests {
         }
         assert_eq!(rt; whole.conflicts(), 3);
         assert_eq!(rt; whole.known(), 10);
+        Ok(())
+    }
+
+    #[test]
+    fn forgets_one_block(rt: HostRuntime) -> Result<(), Fail> {
+        let mut table = BlockTable::new(rt.alloc());
+        table.put(62, &[0x61; 2048])?;
+        table.put(63, &[0x62; 2048])?;
+        table.put(64, &[0x63; 2048])?;
+        table.add(61, Fact::Conflict)?;
+        table.add(60, Fact::Conflict)?;
+        table.forget(63);
+        table.forget(61);
+        table.forget(5000);
+        table.forget(u32::MAX);
+        assert_eq!(rt; table.known(), 2);
+        assert_eq!(rt; table.conflicts(), 1);
+        assert!(rt; matches!(table.state(63), Fact::Unknown));
+        assert!(rt; matches!(table.state(61), Fact::Unknown));
+        assert!(rt; matches!(table.state(60), Fact::Conflict));
+        assert!(rt; matches!(table.state(62), Fact::Known(bytes) if bytes[0] == 0x61));
+        assert!(rt; matches!(table.state(64), Fact::Known(bytes) if bytes[0] == 0x63));
+        table.put(61, &[0x64; 2048])?;
+        assert!(rt; matches!(table.state(61), Fact::Known(_)));
         Ok(())
     }
 

@@ -9,3 +9,4 @@ pub mod PathParts
 pub mod Showing
 pub mod Telling
 pub mod Times
+pub mod PublicLaws

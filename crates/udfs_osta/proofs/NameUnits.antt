@@ -54,3 +54,23 @@ from_units_of (kind ∷ rest) units h e =
 
 pub IsName-units_of : (bytes units : List ℕ) → All (λ b. b < 2 ^ 8) bytes → units_of bytes ≡ Ok units → IsName units
 IsName-units_of bytes units h e = from_units_of bytes units (recursion_from_All (λ b. b < 2 ^ 8) bytes h) e
+
+-- ---- of any bytes
+abbrev AreSomeIfOk : List ℕ → Result (List ℕ) NameFault → Type 0
+AreSomeIfOk units r = r ≡ Ok units → 0 < length units
+
+some_after : (kind : ℕ) (bs units : List ℕ) → AreSomeIfOk units (units_after kind bs)
+some_after kind [] units e = cc
+some_after kind (b ∷ bs) units e =
+    chosen (AreSomeIfOk units) (kind == 8) _ _
+    (λ t f. let same : b ∷ bs ≡ units = cc in subst (λ z. 0 < length z) same (omega arith))
+    (λ t. chosen (AreSomeIfOk units) (length (b ∷ bs) % 2 == 1) _ _
+    (λ o f. cc)
+    (λ o f. let same : pair_units (b ∷ bs) ≡ units = cc in
+    let even : length (b ∷ bs) % 2 ≡ 0 = grind (arith, nat_tests) in
+    subst (λ z. 0 < length z) same (some_pairs (b ∷ bs) (omega arith) even))) e
+
+-- the units of a name are some
+pub some_units : (bytes units : List ℕ) → units_of bytes ≡ Ok units → 0 < length units
+some_units [] units e = cc
+some_units (kind ∷ rest) units e = chosen (AreSomeIfOk units) (kind == 8 || kind == 16) _ _ (λ t. some_after kind rest units) (λ t f. cc) e

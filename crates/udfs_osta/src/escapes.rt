@@ -1,6 +1,6 @@
 //! The escaped form of a name.
 
-ghost use Rattle.std.specs.Prelude.{◌≡◌, ℕ, ◌<◌, ◌≤◌, ◌++◌, List, length, slice_index, true, false, OnOk, OnErr, IfOk};
+ghost use Rattle.std.specs.Prelude.{◌≡◌, ℕ, ◌<◌, ◌≤◌, ◌++◌, List, length, slice_index, true, false, Ok, OnOk, OnErr, IfOk};
 ghost use Rattle.std.specs.String.{string_bytes};
 ghost use Rattle.std.specs.Str.{IsAscii, encode_utf8_all};
 ghost use Rattle.std.specs.Char.Utf16.{surrogate_pair_char};
@@ -8,7 +8,7 @@ ghost use Rattle.std.specs.List.{flat_map};
 ghost use Rattle.std.specs.Option.{SomeIff};
 ghost use Rattle.udfs_osta.specs.Parts.{IsPathPart};
 ghost use Rattle.udfs_osta.specs.Texts.{AppendsPart};
-ghost use Rattle.udfs_osta.specs.Names.{AreUnits};
+ghost use Rattle.udfs_osta.specs.Names.{AreUnits, units_of};
 ghost use Rattle.udfs_osta.specs.Escapes.{hex_digit, escape, must_escape, shown_unit, shown, is_dots, escaped};
 ghost use Rattle.udfs_osta.specs.Fronts.{begins_with_pair, front_len, front_chars};
 
@@ -135,6 +135,12 @@ pub(crate) fn write_escapes(units: &[u16], text: &mut String) -> Result<(), OutO
     }
     Ok(())
 }
+
+/// The escaped form of every name that bytes give can stand in a path, whatever the bytes are. This is a law about the form; the
+/// call does nothing.
+pub fn escaped_name_is_path_part()
+    ensures { (bytes units : List ℕ) → units_of bytes ≡ Ok units → IsPathPart (escaped units) }
+{}
 
 /// The escaped form of a name can stand in a path: it is not empty, not `.` or `..`, and has no `/`, no byte below 20
 /// hexadecimal and so no zero byte. This is a law about the form; the call does nothing.

@@ -12,6 +12,7 @@ pub mod Pieces
 pub mod PastEnds
 pub mod Extracting
 pub mod Printed
+pub mod Headlines
 pub mod Rereads
 pub mod Runs
 pub mod TreeReports

@@ -1,22 +1,26 @@
 -- What the standard opens of a lawful volume: what is found with all blocks known, in one way only.
-use Rattle.std.proofs.Common.{◌≡◌, sym, ◌∙◌, ap, subst, ℕ, ◌≤◌, refl, Some}
-use Rattle.std.specs.Prelude.{option_map}
+use Rattle.std.proofs.Common.{◌≡◌, sym, ◌∙◌, ap, subst, arith, ℕ, ◌+◌, ◌<◌, ◌≤◌, refl, List, [], ◌∷◌, length, Some, slice_get}
+use Rattle.std.specs.Prelude.{◌↔◌, zero, suc, option_map}
 use Rattle.udfs_lattice.specs.Volumes.{Blocks, Volume, complete}
 use Rattle.udfs_lattice.proofs.PublicLaws.{complete_knows}
 use Rattle.udfs_volume.specs.Layout.{layout as layout_of_blocks}
 use Rattle.udfs_volume.specs.Standard.{standard_anchor, standard_layout}
 use Rattle.udfs_volume.proofs.PublicLaws.{layout_of_standard}
 use Rattle.udfs_space.specs.Laws.{AreBlocksOf, HasStandardBlocks, blocks_by}
-use Rattle.udfs_space.specs.Places.{view}
+use Rattle.udfs_space.specs.Places.{place, place_by, view}
+use Rattle.udfs_space.specs.Sparing.{Space, Span}
 use Rattle.udfs_space.specs.Standard.{standard_space}
 use Rattle.udfs_space.proofs.PublicLaws.{blocks_of_standard}
-use Rattle.udfs_file.specs.Complete.{IsWhole, IsReadFileSet}
+use Rattle.udfs_file.specs.Complete.{HasPartitions, IsWhole, IsReadFileSet}
 use Rattle.udfs_file.specs.Standard.{IsFileSetAt}
 use Rattle.udfs_file.proofs.PublicLaws.{file_set_is_read}
+use Rattle.udfs_tree.specs.Lawful.{IsLawfulTree}
+use Rattle.udfs_tree.specs.Sound.{IsSoundTree}
 use Rattle.udfs_tree.specs.Trees.{PartitionBlocks}
+use Rattle.udfs_tree.proofs.PublicLaws.{sound_is_lawful}
 use Rattle.udfs_salvage.specs.Found.{Found}
 use Rattle.udfs_salvage.specs.Laws.{IsLawfulVolume}
-use Rattle.udfs_salvage.specs.VolumeTrees.{Opened, IsOpened, IsLawful, found_of}
+use Rattle.udfs_salvage.specs.VolumeTrees.{AllIsWhole, LawfulIsWhole, Opened, IsOpened, IsLawful, found_of}
 use Rattle.udfs_salvage.proofs.Founds.{found_same}
 use Rattle.udfs_salvage.proofs.Opens.{FoundBy, found_by}
 
@@ -29,8 +33,8 @@ pub record ReadAs (V : Volume) (N : ℕ) (f : Found) : Type 0 where
   pub is_whole : IsWhole (view (complete V N) f.space) opened.blocks
   pub only : (other : Opened) → IsOpened V N other → other ≡ opened
 
-pub read_as : (V : Volume) (N : ℕ) (l : IsLawful V N) → ReadAs V N l.is_volume.found_is
-read_as V N l = record {
+pub open_as : (V : Volume) (N : ℕ) (lawful : IsLawfulVolume V N) → ReadAs V N lawful.found_is
+open_as V N lawful = record {
   opened = opened;
   is_opened = record { anchor = std.0; is_anchor = std.1; layout_is = std.2 ∙ by.layout_is; block = there.reads.block; no_block = there.reads.no_block; root_is = set.reads };
   is_found = λ i. record { layout = f.layout; space = there.space_is i; root = f.root };
@@ -38,9 +42,6 @@ read_as V N l = record {
   only = only;
 }
   where
-    lawful : IsLawfulVolume V N
-    lawful = l.is_volume
-
     C : Blocks
     C = complete V N
 
@@ -92,3 +93,40 @@ read_as V N l = record {
 
         root : other.root ≡ f.root
         root = set.only other.root set_is
+
+pub read_as : (V : Volume) (N : ℕ) (l : IsLawful V N) → ReadAs V N l.is_volume.found_is
+read_as V N l = open_as V N l.is_volume
+
+-- ---- the tree of what is opened
+-- a place is in a partition that there is
+within : (xs : List Span) (r b n : ℕ) → place_by (slice_get xs r) b ≡ Some n → r < length xs
+within [] r b n e = absurd (let z : ⊥ = cc in z)
+within (x ∷ xs) zero b n e = omega arith
+within (x ∷ xs) (suc r) b n e = let h : r < length xs = within xs r b n e in omega (arith, h)
+
+has_partitions : (M : Blocks) (s : Space) → HasPartitions (view M s)
+unfolding place
+has_partitions M s r b n e = within s r b n e
+
+-- the tree is sound exactly if all that is found with all known is whole
+trees_are_one : (V : Volume) (N : ℕ) (lawful : IsLawfulVolume V N) → IsSoundTree (open_as V N lawful).opened.blocks (open_as V N lawful).opened.root ↔ IsLawfulTree (view (complete V N) lawful.found_is.space) lawful.found_is.root
+trees_are_one V N lawful = subst (λ root. IsSoundTree r.opened.blocks root ↔ IsLawfulTree (view (complete V N) f.space) f.root) (sym (ap (λ z. z.root) r.is_found))
+    (sound_is_lawful (view (complete V N) f.space) r.opened.blocks r.is_whole (has_partitions (complete V N) f.space) f.root)
+  where
+    f : Found
+    f = lawful.found_is
+
+    r : ReadAs V N f
+    r = open_as V N lawful
+
+pub lawful_tree : (V : Volume) (N : ℕ) (l : IsLawful V N) → IsLawfulTree (view (complete V N) l.is_volume.found_is.space) l.is_volume.found_is.root
+lawful_tree V N l = (trees_are_one V N l.is_volume).0 (subst (λ o. IsSoundTree o.blocks o.root) ((open_as V N l.is_volume).only l.opened l.is_opened) l.tree)
+
+pub lawful_by : (V : Volume) (N : ℕ) → AllIsWhole V N → IsLawful V N
+lawful_by V N w = record { is_volume = w.is_volume; opened = r.opened; is_opened = r.is_opened; tree = (trees_are_one V N w.is_volume).1 w.tree }
+  where
+    r : ReadAs V N w.is_volume.found_is
+    r = open_as V N w.is_volume
+
+pub lawful_is_whole : LawfulIsWhole
+lawful_is_whole V N = (λ l. record { is_volume = l.is_volume; tree = lawful_tree V N l }, lawful_by V N)

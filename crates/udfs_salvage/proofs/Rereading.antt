@@ -28,7 +28,7 @@ use Rattle.udfs_salvage.specs.Reports.{Report, IsReport, ReportsBy}
 use Rattle.udfs_salvage.specs.VolumeTrees.{IsInVolume, IsLawful, NeedsOf, for_volume, for_node, IsNeededIn, IsMetBy}
 use Rattle.udfs_salvage.proofs.Founds.{found_same, known_not_unread}
 use Rattle.udfs_salvage.proofs.Opens.{FoundBy, found_by}
-use Rattle.udfs_salvage.proofs.Openings.{ReadAs, read_as}
+use Rattle.udfs_salvage.proofs.Openings.{ReadAs, lawful_tree, read_as}
 use Rattle.udfs_salvage.proofs.VolumeLaw.{volume_law, tells_lawful}
 
 -- ---- the volume, and its complete view
@@ -83,7 +83,7 @@ needs_down V N l path g (o, is, n) = go (subst (λ z. NeedsOf V N z path g) (s.o
 -- the root is in the tree
 root_in_tree : (V : Volume) (N : ℕ) → IsLawful V N → (file : TreeFile) × IsInVolume V N [] file
 root_in_tree V N l = let h : (file : TreeFile) × InTree (blocks_of V N l) l.is_volume.found_is.root [] file =
-    root_is_in_tree (all_of V N l) (blocks_of V N l) (read_as V N l).is_whole l.is_volume.found_is.root l.tree in
+    root_is_in_tree (all_of V N l) (blocks_of V N l) (read_as V N l).is_whole l.is_volume.found_is.root (lawful_tree V N l) in
     (h.0, tree_up V N l [] h.0 h.1)
 
 -- ---- what the report of a lawful volume is
@@ -148,7 +148,7 @@ whole_and_met T V N l a report r path file w = go (open_or_shut T V N l a report
     }
       where
         o : IsNodeOf (part_of T V N l) (all_of V N l) (blocks_of V N l) f.root i n
-        o = partial_nodes (part_of T V N l) (all_of V N l) (blocks_of V N l) (part_is T V N l a) (read_as V N l).is_whole f.root l.tree report.nodes are i n get
+        o = partial_nodes (part_of T V N l) (all_of V N l) (blocks_of V N l) (part_is T V N l a) (read_as V N l).is_whole f.root (lawful_tree V N l) report.nodes are i n get
 
         whole : ((ds : List Cell) × HasCellsAt (part_of T V N l) f.root i ds × IsWholeAs n o.file ds) × IsMet (part_of T V N l) (all_of V N l) (blocks_of V N l) f.root n.path
         whole = o.whole is.standing
@@ -189,7 +189,7 @@ open_list T V N l a report e are again = record {
     f = l.is_volume.found_is
 
     w : AreWanted (part_of T V N l) (all_of V N l) (blocks_of V N l) f.root report.nodes (reread report.nodes)
-    w = missing_is_wanted (part_of T V N l) (all_of V N l) (blocks_of V N l) (part_is T V N l a) (read_as V N l).is_whole f.root l.tree report.nodes are
+    w = missing_is_wanted (part_of T V N l) (all_of V N l) (blocks_of V N l) (part_is T V N l a) (read_as V N l).is_whole f.root (lawful_tree V N l) report.nodes are
 
     by_block : (n : ℕ) → (path : List (List ℕ)) × (file : TreeFile) × (group : List ℕ) × InTree (blocks_of V N l) f.root path file
         × known.IsWanted (part_of T V N l) (all_of V N l) (blocks_of V N l) f.root path group × Includes group n → IsWantedBlock T V N n

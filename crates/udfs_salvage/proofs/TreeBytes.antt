@@ -1,22 +1,27 @@
--- What is written of a whole node is the bytes of the file of the tree.
-use Rattle.std.proofs.Common.{◌≡◌, refl, sym, ◌∙◌, subst, ℕ, List, [], ◌∷◌, map, Some}
-use Rattle.std.specs.Prelude.{slice_get}
+-- What is written of a node is the bytes of the file of the tree, with its holes filled.
+use Rattle.std.proofs.Common.{◌≡◌, refl, sym, ◌∙◌, ap, subst, inl, inr, ℕ, true, false, List, [], ◌∷◌, length, map, Some, None}
+use Rattle.std.proofs.lemmas.Option.{slice_get-map}
+use Rattle.std.specs.Prelude.{zero, suc, slice_get, option_map}
 use Rattle.std.specs.List.{AllZip}
 use Rattle.udfs_lattice.specs.Volumes.{Blocks}
 use Rattle.udfs_volume.specs.Answers.{found}
 use Rattle.udfs_space.specs.Places.{view}
+use Rattle.udfs_file.specs.Laws.{IsMissingAt}
 use Rattle.udfs_file.specs.Standard.{Located}
 use Rattle.udfs_file.specs.declared.cells.Cell.{Cell}
 use Rattle.udfs_file.specs.declared.cells.Cell.TheVariants.{Byte, Gap}
 use Rattle.udfs_walk.specs.NodeFields.{NodeFields}
-use Rattle.udfs_walk.specs.declared.standings.Standing.TheVariants.{Whole}
-use Rattle.udfs_tree.specs.Cells.{IsByteOf, IsToldAs}
+use Rattle.udfs_walk.specs.declared.standings.Standing.{Standing}
+use Rattle.udfs_walk.specs.declared.standings.Standing.TheVariants.{Whole, Torn, Loop, Fault}
+use Rattle.udfs_tree.specs.Cells.{IsByteOf, IsByteOrMissing, IsToldAs, IsTornAs, IsUntold, holes_of}
+use Rattle.udfs_tree.specs.Laws.{IsTold}
 use Rattle.udfs_tree.specs.Cells as tree
 use Rattle.udfs_tree.proofs.PublicLaws.{one_reading}
 use Rattle.udfs_salvage.specs.Found.{Found, volume as volume_of}
 use Rattle.udfs_salvage.specs.Reports.{Report, IsReport}
-use Rattle.udfs_salvage.specs.Extraction.{HasCellsAt, filled}
-use Rattle.udfs_salvage.specs.TreeReports.{IsNodeOfVolume, IsReportedAs, WritesFile}
+use Rattle.udfs_salvage.specs.Extraction.{HasCellsAt, cell_byte, filled, is_offered}
+use Rattle.udfs_salvage.specs.TreeReports.{AreFilled, FillsFile, IsNodeOfVolume, IsReportedAs, WritesFile, file_bytes}
+use Rattle.udfs_salvage.specs.declared.extraction.Fill.{Fill}
 use Rattle.udfs_salvage.proofs.Founds.{found_same}
 use Rattle.udfs_salvage.proofs.TreeReports.{tells_tree}
 
@@ -58,3 +63,64 @@ writes_file M N index report fill Writes is n at whole w V lawful agrees = (y.fi
 
     bytes : AllZip IsByteOf cs y.file.body
     bytes = subst (λ z. AllZip IsByteOf z y.file.body) same told.2.bytes
+
+-- ---- bytes of a node that is filled
+-- a cell that is there is written as the file's byte
+there_at : (x : ℕ) (cs : List Cell) (body : List Located) → AllZip IsByteOrMissing cs body → (k : ℕ) → ¬ IsMissingAt cs k → slice_get (filled x cs) k ≡ slice_get (map (λ l. l.0) body) k
+unfolding filled
+there_at x [] [] z k there = refl
+there_at x [] (l ∷ ls) z k there = absurd z
+there_at x (c ∷ cs) [] z k there = absurd z
+there_at x (Byte b o ∷ cs) (l ∷ ls) z zero there = ap Some z.0
+there_at x (Gap n ∷ cs) (l ∷ ls) z zero there = absurd (there (n, refl))
+there_at x (c ∷ cs) (l ∷ ls) z (suc k) there = there_at x cs ls z.1 k there
+
+-- one that is missing, as the byte that fills
+filled_at : (x : ℕ) (cs : List Cell) (k : ℕ) → IsMissingAt cs k → slice_get (filled x cs) k ≡ Some x
+unfolding filled
+filled_at x cs k (n, e) = slice_get-map (cell_byte x) cs k ∙ ap (option_map (cell_byte x)) e
+
+as_long : (x : ℕ) (cs : List Cell) (body : List Located) → AllZip IsByteOrMissing cs body → length (filled x cs) ≡ length (map (λ l. l.0) body)
+unfolding filled
+as_long x [] [] z = refl
+as_long x [] (l ∷ ls) z = absurd z
+as_long x (c ∷ cs) [] z = absurd z
+as_long x (c ∷ cs) (l ∷ ls) z = ap suc (as_long x cs ls z.1)
+
+-- what holds of the cells that are written holds of the file's bytes, with the node's holes filled
+pub fills_file : (M : Blocks) (N index : ℕ) (report : Report) (fill : ℕ) (given : Fill) (Writes : List ℕ → Type 0) → IsReport M N report → (n : NodeFields) → slice_get report.nodes index ≡ Some n
+    → is_offered n.standing n.size given ≡ true → ((cs : List Cell) × HasCellsAt M N index cs × Writes (filled fill cs)) → FillsFile M N n fill Writes
+fills_file M N index report fill given Writes is n at offered w V lawful agrees = (y.file, y.in_volume, told.2.told, (filled fill cs, bytes, w.2))
+  where
+    y : IsNodeOfVolume M V N report.volume index n
+    y = (tells_tree M N report is V lawful agrees).nodes index n at
+
+    -- of a node that is written something is told
+    known : IsUntold n → (s : Standing) → n.standing ≡ s → ⊥
+    known u Whole e = let t : n.size ≡ Some y.file.fields.size = ((y.whole e).0).2.told.size in let z : None ≡ Some y.file.fields.size = sym u.size ∙ t in let q : ⊥ = cc in q
+    known u (Torn torn) e = let z : false ≡ true = sym (ap (λ o. is_offered (Torn torn) o given) u.size) ∙ sym (ap (λ s. is_offered s n.size given) e) ∙ offered in let q : ⊥ = cc in q
+    known u Loop e = let z : false ≡ true = sym (ap (λ s. is_offered s n.size given) e) ∙ offered in let q : ⊥ = cc in q
+    known u (Fault f) e = let z : false ≡ true = sym (ap (λ s. is_offered s n.size given) e) ∙ offered in let q : ⊥ = cc in q
+
+    told_by : IsTold (view M y.opened.space) y.opened.root index n y.file → (ds : List Cell) × tree.HasCellsAt (view M y.opened.space) y.opened.root index ds × IsTornAs n y.file ds
+    told_by (inl u) = absurd (known u n.standing refl)
+    told_by (inr t) = t
+
+    told : (ds : List Cell) × tree.HasCellsAt (view M y.opened.space) y.opened.root index ds × IsTornAs n y.file ds
+    told = told_by y.as_far
+
+    cs : List Cell
+    cs = w.0
+
+    same : told.0 ≡ cs
+    same = one_reading (view M y.opened.space) y.opened.root index told.0 cs told.1 (as_tree M N index cs y.opened (sym is.volume_is ∙ y.opens) w.1)
+
+    torn : IsTornAs n y.file cs
+    torn = subst (λ z. IsTornAs n y.file z) same told.2
+
+    bytes : AreFilled (holes_of n.standing) fill (file_bytes y.file) (filled fill cs)
+    bytes = record {
+      size = as_long fill cs y.file.body torn.bytes;
+      outside = λ k not_in. there_at fill cs y.file.body torn.bytes k (λ m. not_in ((torn.holes k).0 m));
+      inside = λ k in_runs. filled_at fill cs k ((torn.holes k).1 in_runs);
+    }

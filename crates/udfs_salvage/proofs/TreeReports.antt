@@ -18,7 +18,7 @@ use Rattle.udfs_salvage.specs.TreeReports.{IsNodeOfVolume, IsReportOf, TellsTree
 use Rattle.udfs_salvage.specs.declared.errors.SalvageError.{SalvageError}
 use Rattle.udfs_salvage.specs.declared.errors.SalvageError.TheVariants as errors
 use Rattle.udfs_salvage.proofs.Opens.{FoundBy, found_by}
-use Rattle.udfs_salvage.proofs.Openings.{ReadAs, read_as}
+use Rattle.udfs_salvage.proofs.Openings.{ReadAs, lawful_tree, read_as}
 use Rattle.udfs_salvage.proofs.VolumeLaw.{tells_lawful}
 
 -- what is known of the partitions is part of the complete ones
@@ -71,7 +71,7 @@ node_in M V N l a known told e report x index n at = record {
     r = read_as V N l
 
     y : IsNodeOf (view M f.space) (view (complete V N) f.space) r.opened.blocks f.root index n
-    y = partial_nodes (view M f.space) (view (complete V N) f.space) r.opened.blocks (part_of M V N l a) r.is_whole f.root l.tree report.nodes x.nodes_are index n at
+    y = partial_nodes (view M f.space) (view (complete V N) f.space) r.opened.blocks (part_of M V N l a) r.is_whole f.root (lawful_tree V N l) report.nodes x.nodes_are index n at
 
 no_nodes : {A : Type 0} (report : Report) → report.nodes ≡ [] → (index : ℕ) (n : NodeFields) → slice_get report.nodes index ≡ Some n → A
 no_nodes report none index n at = absurd (let t : None ≡ Some n = ap (λ z. slice_get z index) (sym none) ∙ at in let z : ⊥ = cc in z)
@@ -81,7 +81,7 @@ report_of : (M : Blocks) (V : Volume) (N : ℕ) (l : IsLawful V N) → Agrees M 
 report_of M V N l a report (found got) e by is = record {
   no_fault = inl (got, e);
   nodes = node_in M V N l a is.known report.volume (e ∙ ap found is.same) report x;
-  once = once_per_path (view M f.space) (view (complete V N) f.space) r.opened.blocks (part_of M V N l a) r.is_whole f.root l.tree report.nodes x.nodes_are;
+  once = once_per_path (view M f.space) (view (complete V N) f.space) r.opened.blocks (part_of M V N l a) r.is_whole f.root (lawful_tree V N l) report.nodes x.nodes_are;
 }
   where
     f : Found
@@ -125,7 +125,7 @@ whole_report V N l report x = record {
     by = subst (λ z. ReportsBy (complete V N) z report) opens x.by_volume
 
     t : AreTheTree (view (complete V N) f.space) r.opened.blocks f.root report.nodes
-    t = complete_nodes (view (complete V N) f.space) r.opened.blocks r.is_whole f.root l.tree report.nodes by.nodes_are
+    t = complete_nodes (view (complete V N) f.space) r.opened.blocks r.is_whole f.root (lawful_tree V N l) report.nodes by.nodes_are
 
 pub tells_whole_tree : (M : Blocks) (N : ℕ) (report : Report) → IsReport M N report → TellsWholeTree M N report
 tells_whole_tree M N report x V l h = subst (λ z. IsWholeReportOf z V N report) (sym same) (whole_report V N l report (subst (λ z. IsReport z N report) same x))
@@ -151,7 +151,7 @@ too_many M N (got, e, more) V l a = go (tells_lawful M N (found got) (sym e) V l
     r = read_as V N l
 
     go : IsFoundOf V M N f got → ⊥
-    go is = l.tree.limit (fewer_routes (view M f.space) (view (complete V N) f.space) r.opened.blocks (part_of M V N l a) r.is_whole f.root l.tree 65536
+    go is = (lawful_tree V N l).limit (fewer_routes (view M f.space) (view (complete V N) f.space) r.opened.blocks (part_of M V N l a) r.is_whole f.root (lawful_tree V N l) 65536
         (subst (λ z. HasMoreRoutes (view M z.space) z.root 65536) is.same more))
 
 pub look_refused : (M : Blocks) (N : ℕ) (e : SalvageError) → IsLookRefused M N e → IsOfNoLawful M N e
@@ -165,7 +165,7 @@ pub opens_once : OpensOnce
 opens_once V N l = let r : ReadAs V N l.is_volume.found_is = read_as V N l in (r.opened, r.is_opened, r.only)
 
 pub one_file_at : OneFileAt
-one_file_at V N l path file other t u = one_file (view (complete V N) f.space) r.opened.blocks r.is_whole f.root l.tree path file other (from_volume V N f r path file t) (from_volume V N f r path other u)
+one_file_at V N l path file other t u = one_file (view (complete V N) f.space) r.opened.blocks r.is_whole f.root (lawful_tree V N l) path file other (from_volume V N f r path file t) (from_volume V N f r path other u)
   where
     f : Found
     f = l.is_volume.found_is

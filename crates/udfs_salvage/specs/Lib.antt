@@ -6,8 +6,9 @@ pub mod TreeReports
 pub mod Texts
 pub mod NodeTexts
 pub mod Printing
-pub mod Running
 pub mod KnownEnough
+pub mod Headline
+pub mod Running
 pub mod Extraction
 pub mod RereadTexts
 pub mod JsonNodes

@@ -7,6 +7,8 @@ use Rattle.std.specs.List.{list_all}
 use Rattle.udfs_lattice.specs.Volumes.{Blocks}
 use Rattle.udfs_lattice.specs.declared.facts.Fact.TheVariants.{Unknown}
 use Rattle.udfs_volume.specs.Answers.{Answer, found, holes, faulty}
+use Rattle.udfs_volume.specs.Layout.{layout}
+use Rattle.udfs_volume.specs.declared.faults.VolumeFault.TheVariants.{NoAnchor, Extents}
 use Rattle.udfs_space.specs.Places.{view}
 use Rattle.udfs_walk.specs.NodeFields.{NodeFields}
 use Rattle.udfs_walk.specs.Walks.{AreNodes}
@@ -44,10 +46,6 @@ ReportsBy blocks (found f) report = ReportsNodes blocks f report
 ReportsBy blocks (holes listed) report = ReportsNone listed report
 ReportsBy blocks (faulty fault) report = ReportsNone [] report
 
-pub record IsReport (blocks : Blocks) (last : ℕ) (report : Report) : Type 0 where
-  pub volume_is : report.volume ≡ volume blocks last
-  pub by_volume : ReportsBy blocks report.volume report
-
 -- nothing is known behind the last block
 abbrev pub IsNothingPast : Blocks → ℕ → Type 0
 IsNothingPast blocks last = (n : ℕ) → last < n → blocks n ≡ Unknown
@@ -55,6 +53,14 @@ IsNothingPast blocks last = (n : ℕ) → last < n → blocks n ≡ Unknown
 -- the last block of a volume is none of these
 abbrev pub IsOutOfRange : ℕ → Type 0
 IsOutOfRange last = (last < 513) ⊎ (4194303 < last)
+
+-- There is a report only of a last block in range, behind which nothing is known: it says what is found of the volume, and
+-- of a volume that opens its nodes, of which there are at most 65,536.
+pub record IsReport (blocks : Blocks) (last : ℕ) (report : Report) : Type 0 where
+  pub in_range : ¬ IsOutOfRange last
+  pub nothing_past : IsNothingPast blocks last
+  pub volume_is : report.volume ≡ volume blocks last
+  pub by_volume : ReportsBy blocks report.volume report
 
 pub record IsPastEnd (blocks : Blocks) (last n : ℕ) : Type 0 where
   pub past : last < n
@@ -86,8 +92,12 @@ IsWalkRefused blocks f (errors.PastEnd n) = ⊥
 IsWalkRefused blocks f errors.TooManyPaths = HasMoreRoutes (view blocks f.space) f.root 65536
 IsWalkRefused blocks f errors.OutOfMemory = ⊤
 
+-- a volume without an anchor, or with wrong extents, is reported whatever memory there is
+abbrev pub MayWantMemory : Blocks → ℕ → Type 0
+MayWantMemory blocks last = (layout blocks last ≢ faulty NoAnchor) × (layout blocks last ≢ faulty Extents)
+
 abbrev pub IsLookRefused : Blocks → ℕ → SalvageError → Type 0
 IsLookRefused blocks last errors.LastRange = ⊥
 IsLookRefused blocks last (errors.PastEnd n) = ⊥
 IsLookRefused blocks last errors.TooManyPaths = HasTooManyPaths blocks last
-IsLookRefused blocks last errors.OutOfMemory = ⊤
+IsLookRefused blocks last errors.OutOfMemory = MayWantMemory blocks last

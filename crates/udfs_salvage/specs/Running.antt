@@ -11,9 +11,9 @@ use Rattle.udfs_reading.specs.Several.{TablesAre}
 use Rattle.udfs_reading.specs.declared.inputs.InputError.{InputError}
 use Rattle.udfs_reading.specs.declared.error.ReadingFault.{ReadingFault}
 use Rattle.udfs_reading.specs.declared.error.ReadingFault.TheVariants as reading
-use Rattle.udfs_salvage.specs.Reports.{Report, IsReport, IsNothingPast, IsOutOfRange, IsPastEnd, HasTooManyPaths, all_whole}
-use Rattle.udfs_salvage.specs.TreeReports.{TellsTree, TellsWholeTree, AgreesWithNone}
-use Rattle.udfs_salvage.specs.KnownEnough.{MetIsReported, RereadsSuffice, StaysWhole}
+use Rattle.udfs_salvage.specs.Headline.{Headline}
+use Rattle.udfs_salvage.specs.Reports.{Report, IsNothingPast, IsOutOfRange, IsPastEnd, HasTooManyPaths, all_whole}
+use Rattle.udfs_salvage.specs.TreeReports.{AgreesWithNone}
 use Rattle.udfs_salvage.specs.NodeTexts.{report_text}
 use Rattle.udfs_salvage.specs.Printing.{Prints}
 use Rattle.udfs_salvage.specs.declared.errors.SalvageError.{SalvageError}
@@ -36,16 +36,10 @@ abbrev pub SaysWhole : Result Bool RunError → Report → Type 0
 SaysWhole (Ok whole) report = whole ≡ all_whole report.nodes
 SaysWhole (Err e) report = ⊤
 
--- the text of the table's report was printed, or a beginning of it; and of every lawful volume that agrees with the
--- table, the report tells of the tree, what is known enough is whole and stays so, and the list to read again is right
+-- the text of the table's report was printed, or a beginning of it; and of that report all holds that is promised of reports
 pub record PrintsOf (last : ℕ) (old new : Option (List ℕ)) (i j : ℕ) (result : Result Bool RunError) (table : Table) : Type 0 where
   pub report : Report
-  pub is_report : IsReport (state_of table) last report
-  pub tree : TellsTree (state_of table) last report
-  pub whole_tree : TellsWholeTree (state_of table) last report
-  pub met : MetIsReported (state_of table) last report
-  pub stays : StaysWhole (state_of table) last report
-  pub rereads : RereadsSuffice (state_of table) last report
+  pub headline : Headline (state_of table) last report
   pub prints : Prints old new i j (report_text table last report) result
   pub says : SaysWhole result report
 
@@ -71,6 +65,21 @@ IfRead (Err (Salvage e)) Holds = Holds
 IfRead (Err Write) Holds = Holds
 IfRead (Err OutOfMemory) Holds = ⊤
 
+-- no input was to blame
+abbrev pub IfNoInput : Result Bool RunError → Type 0 → Type 0
+IfNoInput (Ok x) Holds = Holds
+IfNoInput (Err (Reading e)) Holds = ⊤
+IfNoInput (Err (Salvage e)) Holds = Holds
+IfNoInput (Err Write) Holds = Holds
+IfNoInput (Err OutOfMemory) Holds = Holds
+
+-- the table has no report for this reason: it is told, or want of memory may have come before
+abbrev pub RefusesWith : SalvageError → RunError → Type 0
+RefusesWith why (Reading e) = ⊤
+RefusesWith why (Salvage e) = e ≡ why
+RefusesWith why Write = ⊥
+RefusesWith why OutOfMemory = ⊤
+
 -- it ended before anything was written
 abbrev pub EndsEarly : Result Bool RunError → Type 0
 EndsEarly (Ok x) = ⊥
@@ -93,3 +102,8 @@ by_fault e fault = Reading e
 
 abbrev pub run_error_of : InputError → RunError
 run_error_of e = by_fault e e.error.fault
+
+-- and none of the table
+abbrev pub run_refusal_of : SalvageError → RunError
+run_refusal_of salvage.OutOfMemory = OutOfMemory
+run_refusal_of e = Salvage e

@@ -3,10 +3,11 @@
 --     TellsWholeTree blocks last report      where all of the volume is known, the nodes are its tree, all whole
 --     IsOfNoLawful blocks last e             there is no report only where no lawful volume agrees, or for want of memory
 --     WritesFile blocks last report i n      what is done with the bytes of a whole node is done with the tree's
+--     FillsFile blocks last n fill           what is done with the bytes of a node that is filled is done with the tree's, its holes filled
 --     OpensOnce, OneFileAt                   the standard opens a lawful volume in one way, and a path leads to one file
 --     ReportsTellTree                        every report of a table tells this
 --     SomeLawful                             there is a lawful volume with a file
-use Rattle.std.specs.Prelude.{◌≡◌, ◌⊎◌, ⊤, ℕ, List, [], ◌∷◌, slice_get, Some, map}
+use Rattle.std.specs.Prelude.{◌≡◌, ◌⊎◌, ⊤, ℕ, List, [], ◌∷◌, length, slice_get, Some, map}
 use Rattle.udfs_lattice.specs.Volumes.{Blocks, Volume, Agrees, complete}
 use Rattle.udfs_volume.specs.Answers.{Answer, found, holes}
 use Rattle.udfs_space.specs.Places.{view}
@@ -14,7 +15,7 @@ use Rattle.udfs_file.specs.declared.cells.Cell.{Cell}
 use Rattle.udfs_walk.specs.NodeFields.{NodeFields}
 use Rattle.udfs_walk.specs.declared.standings.Standing.TheVariants.{Whole}
 use Rattle.udfs_tree.specs.Trees.{TreeFile}
-use Rattle.udfs_tree.specs.Cells.{HasCellsAt, HasNoFault, IsWholeAs, IsToldAs}
+use Rattle.udfs_tree.specs.Cells.{HasCellsAt, HasNoFault, IsInRuns, IsWholeAs, IsToldAs, holes_of}
 use Rattle.udfs_tree.specs.Laws.{HasPathsOnce, IsTold}
 use Rattle.udfs_salvage.specs.Found.{Found}
 use Rattle.udfs_salvage.specs.Reports.{Report, IsReport}
@@ -109,3 +110,15 @@ file_bytes file = map (λ x. x.0) file.body
 abbrev pub WritesFile : Blocks → ℕ → Report → ℕ → NodeFields → (List ℕ → Type 0) → Type 0
 WritesFile blocks last report index n Writes = (volume : Volume) → IsLawful volume last → Agrees blocks volume last
     → (file : TreeFile) × IsInVolume volume last n.path file × IsToldAs n file × Writes (file_bytes file)
+
+-- These bytes are the file's outside the runs, and this byte in them.
+pub record AreFilled (runs : List (ℕ × ℕ)) (fill : ℕ) (file out : List ℕ) : Type 0 where
+  pub size : length out ≡ length file
+  pub outside : (k : ℕ) → ¬ IsInRuns runs k → slice_get out k ≡ slice_get file k
+  pub inside : (k : ℕ) → IsInRuns runs k → slice_get out k ≡ Some fill
+
+-- of every lawful volume with which the table agrees: this is done with the bytes of the file of its tree that stands at the
+-- node's path and has its kind, size and stamp, where in the node's holes the byte stands that fills them
+abbrev pub FillsFile : Blocks → ℕ → NodeFields → ℕ → (List ℕ → Type 0) → Type 0
+FillsFile blocks last n fill Writes = (volume : Volume) → IsLawful volume last → Agrees blocks volume last
+    → (file : TreeFile) × IsInVolume volume last n.path file × IsToldAs n file × ((bytes : List ℕ) × AreFilled (holes_of n.standing) fill (file_bytes file) bytes × Writes bytes)

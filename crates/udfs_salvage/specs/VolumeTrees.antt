@@ -2,10 +2,11 @@
 -- first sparing table, the file set, and from its root the tree.
 --     IsOpened volume last opened               what the standard opens
 --     IsInVolume volume last path file          the path leads from the root to this file
---     IsLawful volume last                      what is asked of a volume
+--     IsLawful volume last                      what is asked of a volume, in the standard's words
+--     LawfulIsWhole                             it is asked exactly that all nodes of the complete volume are whole
 --     IsNeededIn volume last path group         blocks of which one has to be known for the node of this path
 --     IsMetBy blocks volume last path           one of each is known
-use Rattle.std.specs.Prelude.{◌≡◌, ℕ, List, Some, None}
+use Rattle.std.specs.Prelude.{◌≡◌, ◌↔◌, ℕ, List, Some, None}
 use Rattle.udfs_lattice.specs.Volumes.{Blocks, Volume, complete}
 use Rattle.udfs_tag.specs.declared.layouts.LongAd.{LongAd}
 use Rattle.udfs_volume.specs.Answers.{found}
@@ -17,6 +18,7 @@ use Rattle.udfs_file.specs.Standard.{IsFileSetAt}
 use Rattle.udfs_tree.specs.Trees.{PartitionBlocks, TreeFile, InTree}
 use Rattle.udfs_tree.specs.Needs.{Needs, HasKnown}
 use Rattle.udfs_tree.specs.Lawful.{IsLawfulTree}
+use Rattle.udfs_tree.specs.Sound.{IsSoundTree}
 use Rattle.udfs_salvage.specs.Found.{Found}
 use Rattle.udfs_salvage.specs.Laws.{IsLawfulVolume, IsVolumeGroup}
 
@@ -40,11 +42,22 @@ pub record IsOpened (volume : Volume) (last : ℕ) (opened : Opened) : Type 0 wh
 abbrev pub IsInVolume : Volume → ℕ → List (List ℕ) → TreeFile → Type 0
 IsInVolume volume last path file = (opened : Opened) × IsOpened volume last opened × InTree opened.blocks opened.root path file
 
--- Anchors and copies say the same, and over the complete volume nothing has a fault or is a loop, the names of each
--- directory differ, and there are at most 65,536 nodes.
+-- Anchors and copies say the same; and the tree of what the standard opens is sound: each path leads to a file, each directory is a list
+-- of descriptors, none lies in itself, the names of each differ, and there are at most 65,536 paths of at most 64 names.
 pub record IsLawful (volume : Volume) (last : ℕ) : Type 0 where
   pub is_volume : IsLawfulVolume volume last
+  pub opened : Opened
+  pub is_opened : IsOpened volume last opened
+  pub tree : IsSoundTree opened.blocks opened.root
+
+-- The same by what is told of the complete volume: each of its nodes is whole.
+pub record AllIsWhole (volume : Volume) (last : ℕ) : Type 0 where
+  pub is_volume : IsLawfulVolume volume last
   pub tree : IsLawfulTree (view (complete volume last) is_volume.found_is.space) is_volume.found_is.root
+
+-- a volume is lawful exactly if, with all of it known, every node is whole
+abbrev pub LawfulIsWhole : Type 0
+LawfulIsWhole = (volume : Volume) (last : ℕ) → IsLawful volume last ↔ AllIsWhole volume last
 
 -- the layout, the places and the root of an opened volume
 abbrev pub found_of : Volume → Opened → Found

@@ -9,7 +9,7 @@ ghost use Rattle.udfs_walk.specs.NodeBodies.{HasCells};
 ghost use Rattle.udfs_walk.specs.NodeFields.{NodeFields};
 ghost use Rattle.udfs_salvage.specs.Found.{Found, volume_now};
 ghost use Rattle.udfs_salvage.specs.Reports.{IsReport, report_now};
-ghost use Rattle.udfs_salvage.specs.TreeReports.{WritesFile};
+ghost use Rattle.udfs_salvage.specs.TreeReports.{FillsFile, WritesFile};
 ghost use Rattle.udfs_salvage.specs.Extraction.{Extracts, HasCellsAt, fill_byte, filled, is_offered};
 
 use crate::body_bytes::write_body;
@@ -106,7 +106,8 @@ fn write_at<W: Sink>(
 /// that are missing.
 ///
 /// They are the bytes of the body that stands at the end of the route to that node, whatever other node has the same path; of a whole
-/// node they are those of the file at its path in every lawful volume with which the table agrees. Nothing bounds
+/// node they are those of the file at its path in every lawful volume with which the table agrees, and of a torn one those
+/// outside its holes are. Nothing bounds
 /// their number but the node's size, which can be up to 2^64 - 1.
 ///
 /// # Errors
@@ -134,6 +135,11 @@ pub fn extract<W: Sink>(
     ensures tree { (last : ℕ) (n : NodeFields) → IsReport (state_of report.now.table.now) last (report_now report.now) →
         slice_get report.now.nodes.items index ≡ Some n → n.standing ≡ Standing.Whole →
         WritesFile (state_of report.now.table.now) last (report_now report.now) index n
+        (λ bytes. Extracts (W.contents sink.old) (W.contents sink.new) (W.faults sink.old) (W.faults sink.new) bytes result) }
+    // Of any node that is written, a torn one too, they are that file's bytes outside the node's holes, and in them the byte that fills.
+    ensures filled { (last : ℕ) (n : NodeFields) → IsReport (state_of report.now.table.now) last (report_now report.now) →
+        slice_get report.now.nodes.items index ≡ Some n → is_offered n.standing n.size fill ≡ true →
+        FillsFile (state_of report.now.table.now) last n (fill_byte fill)
         (λ bytes. Extracts (W.contents sink.old) (W.contents sink.new) (W.faults sink.old) (W.faults sink.new) bytes result) }
     // Of a report that was put together otherwise, they are those that its volume and the node's own address give.
     ensures stated { (f : Found) (n : NodeFields) (cs : List Cell) → volume_now report.now.volume ≡ found f →

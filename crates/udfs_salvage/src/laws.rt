@@ -1,6 +1,27 @@
 //! Laws of reports, each the contract of a function that does nothing: what [`crate::salvage`] says of the report that it
 //! answers holds of every report that there is.
+ghost use Rattle.udfs_salvage.specs.Headline.{OneReport, OneText, ReportsKeepIt, SomeReport};
 ghost use Rattle.udfs_salvage.specs.KnownEnough.{EachRereadSuffices, MetIsWhole, MoreStaysWhole};
+
+/// A table has at most one report: what is found, the nodes, the entries that no name leads to, and the list to read again.
+pub fn one_report()
+    ensures { OneReport }
+{}
+
+/// A table that agrees with a lawful volume has a report.
+pub fn some_report()
+    ensures { SomeReport }
+{}
+
+/// And the text of a table's report is one.
+pub fn one_text()
+    ensures { OneText }
+{}
+
+/// All that is promised of reports holds of every report that there is, however it was come by.
+pub fn reports_keep_it()
+    ensures { ReportsKeepIt }
+{}
 
 /// For every table and every lawful volume that agrees with it, a node of the volume's tree, of each needed group of which
 /// a block is known, is reported whole, with the tree's kind, size, stamp and bytes.

@@ -7,10 +7,9 @@ ghost use Rattle.udfs_volume.specs.Seen.{IsRising};
 ghost use Rattle.udfs_space.specs.Places.{view};
 ghost use Rattle.udfs_walk.specs.Walks.{AreNodes};
 ghost use Rattle.udfs_salvage.specs.Found.{found_now, volume_now};
-ghost use Rattle.udfs_salvage.specs.KnownEnough.{MetIsReported, RereadsSuffice, StaysWhole};
-ghost use Rattle.udfs_salvage.specs.Laws.{TellsLawful};
-ghost use Rattle.udfs_salvage.specs.TreeReports.{IsOfNoLawful, TellsTree, TellsWholeTree};
-ghost use Rattle.udfs_salvage.specs.Reports.{HasTooManyPaths, IsLookRefused, IsNothingPast, IsOutOfRange, IsPastEnd, IsReport, IsWalkRefused, ReportsBy, all_whole, is_whole, report_now};
+ghost use Rattle.udfs_salvage.specs.Headline.{Headline};
+ghost use Rattle.udfs_salvage.specs.TreeReports.{IsOfNoLawful};
+ghost use Rattle.udfs_salvage.specs.Reports.{HasTooManyPaths, IsLookRefused, IsNothingPast, IsOutOfRange, IsPastEnd, IsReport, IsWalkRefused, MayWantMemory, ReportsBy, all_whole, is_whole, report_now};
 
 use crate::errors::SalvageError;
 use crate::volumes::{OpenVolume, Volume, open};
@@ -132,10 +131,11 @@ fn report_closed<'a>(
     }
 }
 
-/// The report of a volume, by what is found of it.
+/// The report of a volume, by what is found of it, where nothing is known behind its last block.
 fn look<'a>(alloc: Global, table: &'a BlockTable, last: u32) -> Result<Report<'a>, SalvageError>
     requires from { 513 ≤ last }
     requires to { last ≤ 4194303 }
+    requires nothing_past { IsNothingPast (state_of table.now) last }
     ensures report { IfOk result (λ report. IsReport (state_of table.now) last (report_now report)) }
     ensures of { IfOk result (λ report. (report.table.now ≡ table.now) × (report.last ≡ last)) }
     ensures rising { IfOk result (λ report. IsRising report.reread.items) }
@@ -178,8 +178,9 @@ fn look<'a>(alloc: Global, table: &'a BlockTable, last: u32) -> Result<Report<'a
 ///
 /// `LastRange` exactly where `last` is not from 513 to 4,194,303; else `PastEnd` exactly where something is known of a
 /// block behind the last, with the least such block; else `TooManyPaths` where more than 65,536 routes lead from the
-/// root to a node; and `OutOfMemory` where memory is refused.
-#[tactic(auto, using(crate::proofs::VolumeLaw::tells_lawful, crate::proofs::TreeReports::tells_tree, crate::proofs::TreeReports::tells_whole_tree, crate::proofs::TreeReports::out_of_range, crate::proofs::TreeReports::past_end, crate::proofs::TreeReports::look_refused))]
+/// root to a node; and `OutOfMemory` where memory is refused, but never where one of the first two is due, nor for a volume without
+/// an anchor or with wrong extents.
+#[tactic(auto, using(crate::proofs::TreeReports::out_of_range, crate::proofs::TreeReports::past_end, crate::proofs::TreeReports::look_refused))]
 pub fn salvage<'a>(
     alloc: Global,
     table: &'a BlockTable,
@@ -189,14 +190,10 @@ pub fn salvage<'a>(
     ensures past { (n : ℕ) → (IsErrOf result (SalvageError.PastEnd n) ↔ ((¬ IsOutOfRange last) × IsPastEnd (state_of table.now) last n)) }
     ensures too_many { IsErrOf result SalvageError.TooManyPaths → (¬ IsOutOfRange last) × IsNothingPast (state_of table.now) last × HasTooManyPaths (state_of table.now) last }
     ensures report { IfOk result (λ report. IsReport (state_of table.now) last (report_now report)) }
-    ensures lawful { IfOk result (λ report. TellsLawful (state_of table.now) last (volume_now report.volume)) }
-    // Of every lawful volume with which the table agrees: each node is the tree's; what is known enough is whole, and stays
-    // so as more is known; and what is listed to be read again is needed, and enough of it.
-    ensures tree { IfOk result (λ report. TellsTree (state_of table.now) last (report_now report)) }
-    ensures whole_tree { IfOk result (λ report. TellsWholeTree (state_of table.now) last (report_now report)) }
-    ensures met { IfOk result (λ report. MetIsReported (state_of table.now) last (report_now report)) }
-    ensures stays { IfOk result (λ report. StaysWhole (state_of table.now) last (report_now report)) }
-    ensures rereads { IfOk result (λ report. RereadsSuffice (state_of table.now) last (report_now report)) }
+    // All that is promised of it: it is the only report of the table; and of every lawful volume with which the table agrees, each node is the
+    // tree's; what is known enough is whole, and stays so as more is known; and what is listed to be read again is needed, and enough of it.
+    ensures headline { IfOk result (λ report. Headline (state_of table.now) last (report_now report)) }
+    ensures memory { IsErrOf result SalvageError.OutOfMemory → (¬ IsOutOfRange last) × IsNothingPast (state_of table.now) last × MayWantMemory (state_of table.now) last }
     ensures of_no_lawful { IfErr result (IsOfNoLawful (state_of table.now) last) }
     ensures rising { IfOk result (λ report. IsRising report.reread.items) }
     ensures of { IfOk result (λ report. (report.table.now ≡ table.now) × (report.last ≡ last)) }

@@ -2,12 +2,13 @@
 
 ghost use Rattle.std.specs.Prelude.{◌≡◌, ◌≢◌, ◌⊎◌, ℕ, List, Err, MatchResult, map};
 ghost use Rattle.udfs_lattice.specs.Tables.{Table};
-ghost use Rattle.udfs_lattice.specs.Records.{Record, SameRecords, all_records, table_of};
+ghost use Rattle.udfs_lattice.specs.Records.{Record, SameRecords, all_records, join_all, table_of};
 ghost use Rattle.udfs_reading.specs.Answers.{IsOfFile};
 ghost use Rattle.udfs_reading.specs.Several.{AllTell, InputFails, IsFirstFaulty};
 ghost use Rattle.udfs_reading.specs.declared.inputs.InputError.{InputError};
 ghost use Rattle.udfs_reading.specs.declared.error.ReadingFault.{ReadingFault};
-ghost use Rattle.udfs_salvage.specs.Running.{AnswersFor, EndsEarly, IfRead, Names, OfJoin, run_error_of};
+ghost use Rattle.udfs_salvage.specs.Running.{AnswersFor, EndsEarly, IfNoInput, IfRead, IsRefusedFor, Names, OfJoin, RefusesWith, run_error_of, run_refusal_of};
+ghost use Rattle.udfs_salvage.specs.declared.errors.SalvageError.{SalvageError};
 
 use crate::errors::{RunError, SalvageError};
 use crate::printing::write_report;
@@ -26,6 +27,16 @@ fn run_error(error: InputError) -> RunError
     }
 }
 
+/// Why a table has no report as a run tells it.
+fn run_refusal(error: SalvageError) -> RunError
+    ensures { result ≡ run_refusal_of error }
+{
+    match error {
+        SalvageError::OutOfMemory => RunError::OutOfMemory,
+        _ => RunError::Salvage(error),
+    }
+}
+
 /// The report of a table, printed.
 fn report_table<W: Sink>(
     alloc: Global,
@@ -41,8 +52,7 @@ fn report_table<W: Sink>(
             Ok(()) => Ok(all_whole(&report.nodes)),
             Err(error) => Err(error),
         },
-        Err(SalvageError::OutOfMemory) => Err(RunError::OutOfMemory),
-        Err(error) => Err(RunError::Salvage(error)),
+        Err(error) => Err(run_refusal(error)),
     }
 }
 
@@ -69,7 +79,11 @@ pub fn report_run<R: Source, W: Sink>(
     ensures memory { result ≡ Err RunError.OutOfMemory → (sink.new ≡ sink.old) ⊎ OfJoin R.remaining inputs.old
         (AnswersFor last (W.contents sink.old) (W.contents sink.new) (W.faults sink.old) (W.faults sink.new) result) }
     ensures untouched { EndsEarly result → sink.new ≡ sink.old }
-    ensures counts { IfRead result (map R.faults inputs.new ≡ map R.faults inputs.old) }
+    // Where the join of the inputs' tables has no report, nothing but the reason is told, unless an input or memory was to blame before.
+    ensures refuses { (ts : List Table) (why : SalvageError) → AllTell R.remaining inputs.old ts → IsRefusedFor (join_all ts) last why →
+        MatchResult result (λ _. ⊥) (RefusesWith why) }
+    // No device failed, unless an input is to blame: never where want of memory is told.
+    ensures counts { IfNoInput result (map R.faults inputs.new ≡ map R.faults inputs.old) }
     // It is the same however the records are ordered, repeated and split over readings and table files.
     ensures any_mixture { (rss : List (List Record)) (rs : List Record) → AllTell R.remaining inputs.old (map table_of rss) →
         SameRecords (all_records rss) rs → IfRead result

@@ -1,5 +1,6 @@
 //! Laws of reports and trees, each the contract of a function that does nothing.
 ghost use Rattle.udfs_salvage.specs.TreeReports.{OneFileAt, OpensOnce, ReportsTellTree, SomeLawful};
+ghost use Rattle.udfs_salvage.specs.VolumeTrees.{LawfulIsWhole};
 
 /// The standard opens a lawful volume, and in one way only.
 pub fn opens_once()
@@ -19,4 +20,9 @@ pub fn reports_tell_tree()
 /// There is a lawful volume with a file, so what is said of lawful volumes is said of something.
 pub fn some_volume_is_lawful()
     ensures { SomeLawful }
+{}
+
+/// A volume is lawful, which is said in the words of the standard's reading alone, exactly if with all of it known every node is whole.
+pub fn lawful_is_whole()
+    ensures { LawfulIsWhole }
 {}

@@ -1,4 +1,4 @@
-//! A sparable map (UDF 2.2.9) and its sparing tables (UDF 2.2.12).
+//! A sparable map (UDF 2.2.9) and its sparing tables (UDF 2.2.11).
 
 use crate::discs::Bytes;
 

@@ -5,3 +5,4 @@ pub mod Standard
 pub mod Laws
 pub mod Told
 pub mod Sample
+pub mod Views

@@ -1,4 +1,4 @@
--- The sparing table of a partition (UDF 2.2.12), put together from its copies.
+-- The sparing table of a partition (UDF 2.2.11), put together from its copies.
 --     Space                       where the logical blocks of each partition stand
 --     space blocks layout         the partitions with their spared packets
 use Rattle.std.specs.Prelude.{ℕ, ◌+◌, ◌*◌, ◌%◌, Bool, false, not, List, [], ◌∷◌, take, drop, map, filter, flat_map, nat_eq, nat_lt, ◌&&◌, ◌||◌, Option, Some, None, codes, is_none}
@@ -51,7 +51,7 @@ abbrev pub table_bytes : Blocks → ℕ → List ℕ → Bytes
 table_bytes blocks size tables =
     take size (flat_map (λ k. piece (first_known blocks (copies tables k))) (range_with_len 0 (blocks_in size)))
 
--- the number of entries (2.2.12: reallocation table length)
+-- the number of entries (2.2.11: reallocation table length)
 abbrev pub entry_count : Bytes → ℕ
 entry_count content = uint16_at content (bp 48)
 

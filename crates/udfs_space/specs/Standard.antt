@@ -1,4 +1,4 @@
--- What the standard reads of the places of a volume from complete bytes (UDF 2.2.12): the first sparing table alone.
+-- What the standard reads of the places of a volume from complete bytes (UDF 2.2.11): the first sparing table alone.
 --     standard_space volume layout       the partitions with the packets that it maps
 use Rattle.std.specs.Prelude.{ℕ, [], ◌∷◌, take, drop, map, flat_map}
 use Rattle.std.specs.List.{range_with_len}

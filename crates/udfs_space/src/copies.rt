@@ -1,4 +1,4 @@
-//! The copies of a sparing table (UDF 2.2.12).
+//! The copies of a sparing table (UDF 2.2.11).
 
 ghost use Rattle.std.specs.Prelude.{◌≡◌, ◌≢◌, ◌≤◌, ◌<◌, ◌+◌, ◌++◌, [], All, IfOk, IfSome, MatchOption, flat_map, length};
 ghost use Rattle.udfs_lattice.specs.Tables.{state_of};

@@ -1,4 +1,4 @@
-//! The entries of a sparing table (UDF 2.2.12).
+//! The entries of a sparing table (UDF 2.2.11).
 
 ghost use Rattle.std.specs.Prelude.{◌≡◌, ◌≤◌, ◌+◌, ◌*◌, IfOk, drop, length, map};
 ghost use Rattle.std.specs.List.{list_any, range_with_len};
@@ -10,10 +10,10 @@ ghost use Rattle.udfs_space.specs.Sparing.{breaks_order, entry_of, is_bad_origin
 
 use byteorder::{ByteOrder, LittleEndian};
 use std::alloc::{AllocError, Global};
-use udfs_tag::{RegId, Tag};
+use udfs_tag::{RegId, Tag, identifiers};
 use udfs_volume::{Seen, VolumeFault};
 
-/// An entry of a sparing table: a packet, and where it stands now (UDF 2.2.12).
+/// An entry of a sparing table: a packet, and where it stands now (UDF 2.2.11).
 #[derive(Clone, Copy, Debug, PartialEq, Eq)]
 pub struct SparingEntry {
     /// The first logical block of the packet. 0xFFFF_FFF0 marks blocks to which nothing may be mapped, and
@@ -82,7 +82,7 @@ fn is_sparing_table(bytes: &[u8], place: u32) -> bool
     requires { 56 ≤ length bytes.now }
     ensures { result ≡ is_sparing_table (is_valid bytes.now place 0) (drop 16 bytes.now) }
 {
-    Tag::is_valid(bytes, place, 0)
+    Tag::is_valid(bytes, place, identifiers::SPARING_TABLE)
         && RegId::read(behind(bytes, 16)).name == *b"*UDF Sparing Table\0\0\0\0\0"
 }
 

@@ -7,9 +7,11 @@ pub mod entries;
 pub mod laws;
 pub mod spaces;
 mod spans;
+pub mod views;
 
 pub use entries::SparingEntry;
 pub use spaces::Space;
+pub use views::View;
 
 #[cfg(test)]
 mod tests;

@@ -17,7 +17,7 @@ use std::marker::Model;
 use udfs_lattice::{BlockTable, Fact};
 use udfs_volume::{Partition, Seen, VolumeParts};
 
-/// Where the logical blocks of each partition stand (UDF 2.2.12, ECMA-167 3/10.5.8).
+/// Where the logical blocks of each partition stand (UDF 2.2.11, ECMA-167 3/10.5.8).
 ///
 /// A logical block is named by a partition reference, which is the number of a partition map, and its
 /// number in the partition.
@@ -63,7 +63,7 @@ fn spans(
 impl Space {
     /// Where the blocks of the partitions of a layout stand: those of a type 1 map one after the other
     /// (ECMA-167 3/10.7.2), those of a sparable map but for the packets that its sparing table maps
-    /// elsewhere (UDF 2.2.9, 2.2.12).
+    /// elsewhere (UDF 2.2.9, 2.2.11).
     ///
     /// Of each block of a sparing table the first known copy is read. Where some blocks have no known copy,
     /// all copies of all these blocks are holes. Faults are, in this order: `SparingTag`, the tag is not

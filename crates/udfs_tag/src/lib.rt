@@ -6,6 +6,8 @@
 #![tactic(auto)]
 
 mod checksum;
+pub mod extent_types;
+pub mod identifiers;
 mod layouts;
 mod tables;
 mod tags;

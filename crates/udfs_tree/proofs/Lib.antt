@@ -13,6 +13,8 @@ pub mod Names
 pub mod MetNodes
 pub mod Listed
 pub mod PartNodes
+pub mod SoundTrees
+pub mod LawfulTrees
 pub mod CompleteNodes
 pub mod OneReading
 pub mod SampleLaw

@@ -3,6 +3,9 @@
 use Rattle.udfs_tree.specs.KnownLaws.{MissingIsWanted}
 use Rattle.udfs_tree.specs.Laws.{CompleteNodes, PartialNodes, OncePerPath, FewerRoutes, OneFile, RootInTree, OneReading, WholeAlike}
 use Rattle.udfs_tree.specs.Sample.{SampleTree}
+use Rattle.udfs_tree.specs.Sound.{SoundIsLawful}
+use Rattle.udfs_tree.proofs.LawfulTrees as lawful
+use Rattle.udfs_tree.proofs.SoundTrees as sound
 use Rattle.udfs_tree.proofs.CompleteNodes as complete
 use Rattle.udfs_tree.proofs.OneReading as readings
 use Rattle.udfs_tree.proofs.PartNodes as parts
@@ -39,3 +42,6 @@ missing_is_wanted = wanted.missing_is_wanted
 
 pub sample_tree_is_lawful : SampleTree
 sample_tree_is_lawful = sample.sample_tree_law
+
+pub sound_is_lawful : SoundIsLawful
+sound_is_lawful all blocks c has root = (sound.sound_is_lawful all blocks c has root, lawful.lawful_is_sound all blocks c root)

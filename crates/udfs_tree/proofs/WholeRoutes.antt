@@ -109,11 +109,11 @@ entries_are all w x b k eb ek = (λ i. cond (x.no_loop i || eb i) [] (target_ent
     by Unread = refl
 
 -- An entry to which a route goes on.
-record Goes (all : View) (w : Walked) (x : WholeAt all w) (j : ℕ) (d : DirEntry) : Type 0 where
-  kind : x.fields.kind ≡ Directory
-  is : slice_get (entries_of x.cs) j ≡ Some d
+pub record Goes (all : View) (w : Walked) (x : WholeAt all w) (j : ℕ) (d : DirEntry) : Type 0 where
+  pub kind : x.fields.kind ≡ Directory
+  pub is : slice_get (entries_of x.cs) j ≡ Some d
 
-goes : (all : View) (w : Walked) (x : WholeAt all w) (j : ℕ) (d : DirEntry) → slice_get (entries_below all w) j ≡ Some d → Goes all w x j d
+pub goes : (all : View) (w : Walked) (x : WholeAt all w) (j : ℕ) (d : DirEntry) → slice_get (entries_below all w) j ≡ Some d → Goes all w x j d
 goes all w x j d e = go (is_deep w) refl x.fields.kind refl
   where
     at : (b : Bool) (k : Kind) → is_deep w ≡ b → x.fields.kind ≡ k → slice_get (cond b [] (entries_by k x.cs)) j ≡ Some d
@@ -182,14 +182,14 @@ down all blocks c (j ∷ js) w end h e = go (step_inv all w j js end e) (whole_a
         }
 
 -- a route for names
-record Up (all : View) (w : Walked) (names : List (List ℕ)) (address : LongAd) : Type 0 where
-  route : Route
-  end : Walked
-  walks : walk_from all w route ≡ Some end
-  path : end.path ≡ w.path ++ names
-  at : end.address ≡ address
+pub record Up (all : View) (w : Walked) (names : List (List ℕ)) (address : LongAd) : Type 0 where
+  pub route : Route
+  pub end : Walked
+  pub walks : walk_from all w route ≡ Some end
+  pub path : end.path ≡ w.path ++ names
+  pub at : end.address ≡ address
 
-up : (all : View) (blocks : PartitionBlocks) → IsWhole all blocks → (names : List (List ℕ)) (w : Walked) (address : LongAd) → AllWhole all w → Leads blocks w.address names address → Up all w names address
+pub up : (all : View) (blocks : PartitionBlocks) → IsWhole all blocks → (names : List (List ℕ)) (w : Walked) (address : LongAd) → AllWhole all w → Leads blocks w.address names address → Up all w names address
 up all blocks c [] w address h e = record { route = []; end = w; walks = refl; path = sym (append-nil w.path); at = e }
 up all blocks c (name ∷ names) w address h (ids, d, is_dir, i, named, leads) = go (whole_at all w (h [] w refl)) (λ below_whole. up all blocks c names (below w d) address below_whole leads)
   where

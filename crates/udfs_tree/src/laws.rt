@@ -1,6 +1,7 @@
 //! Laws of the tree, each the contract of a function that does nothing.
 ghost use Rattle.udfs_tree.specs.Laws.{CompleteNodes, FewerRoutes, OneFile, OncePerPath, OneReading, PartialNodes, RootInTree, WholeAlike};
 ghost use Rattle.udfs_tree.specs.Sample.{SampleTree};
+ghost use Rattle.udfs_tree.specs.Sound.{SoundIsLawful};
 
 /// Over a complete view with a lawful tree, the nodes are those of the tree, each once and all whole, with the tree's
 /// bytes.
@@ -49,4 +50,11 @@ pub fn whole_alike()
 /// There is a lawful tree with a file below its root: that of the sample volume.
 pub fn sample_tree_is_lawful()
     ensures { SampleTree }
+{}
+
+/// Over a complete view whose places are in its partitions, a tree is sound exactly if it is lawful. Sound is said in the words of the
+/// standard's reading alone: each path leads to a file, the body of each directory is a list of descriptors, no directory lies in
+/// itself, names in a directory differ, and there are at most 64 names in a path and 65,536 paths. Lawful is that all nodes are whole.
+pub fn sound_is_lawful()
+    ensures { SoundIsLawful }
 {}

@@ -8,11 +8,11 @@ use Rattle.udfs_volume.specs.declared.faults.VolumeFault.TheVariants.{NoAnchor, 
 use Rattle.udfs_volume.specs.declared.seen.Seen.{Seen}
 use Rattle.udfs_volume.specs.declared.seen.Seen.TheVariants.{Got, Holes, Fault, OutOfMemory}
 use Rattle.udfs_volume.specs.Answers.{Answer, found, holes, faulty, and_then, IsHoles}
-use Rattle.udfs_volume.specs.Seen.{Sees, HolesRise, Tells}
+use Rattle.udfs_volume.specs.Seen.{Sees, HolesRise, Tells, GoesOn}
 use Rattle.udfs_volume.specs.Sequence.{Descriptor, Position, unread, invalid, descriptor, descriptors, goes_on, ended_by, read_positions, positions, are_extents, anchor, sequence_at, sequence}
 use Rattle.udfs_volume.specs.Sequences.{sequence_now}
 use Rattle.udfs_volume.specs.declared.descriptors.Sequence as code_sequence
-use Rattle.udfs_volume.proofs.Walking.{fit}
+use Rattle.udfs_volume.proofs.Walking.{fit, sequence-holes, sequence_faulty, sequence-found}
 use Rattle.udfs_volume.proofs.Rising.{holes_rise, sequence_rises}
 
 abbrev pub is_early : VolumeFault → Bool
@@ -77,18 +77,37 @@ pub no_fault_of_holes : (T : Blocks) (last : ℕ) (f : VolumeFault) → IsHoles 
 unfolding sequence
 no_fault_of_holes T last f h e = sees_holes (anchor T last) (sequence_at T last) f h e
 
--- what `sequence` promises, by what it saw
+-- what `sequence` promises
+abbrev pub SequenceClauses : Blocks → ℕ → Seen code_sequence.Sequence → Type 0
+SequenceClauses T last seen = record {
+  value : Sees sequence_now seen (sequence T last);
+  rising : HolesRise seen;
+  no_anchor : Tells NoAnchor seen (sequence T last);
+  extents : Tells Extents seen (sequence T last);
+}
+
+-- the same, by what it saw
 pub sequence_clauses : (T : Blocks) (last : ℕ) (seen : Seen code_sequence.Sequence) → 513 ≤ last → Sees sequence_now seen (sequence T last)
     → ((f : VolumeFault) → is_early f ≡ true → seen ≡ OutOfMemory → sequence T last ≡ faulty f → ⊥)
-    → record {
-      value : Sees sequence_now seen (sequence T last);
-      rising : HolesRise seen;
-      no_anchor : Tells NoAnchor seen (sequence T last);
-      extents : Tells Extents seen (sequence T last);
-    }
+    → SequenceClauses T last seen
 sequence_clauses T last seen from value memory = record {
   value = value;
   rising = holes_rise sequence_now seen (sequence T last) value (sequence_rises T last from);
   no_anchor = told_by sequence_now seen (sequence T last) NoAnchor value (memory NoAnchor refl);
   extents = told_by sequence_now seen (sequence T last) Extents value (memory Extents refl);
 }
+
+-- the same, by what was seen of the anchor
+pub sequence_from : (T : Blocks) (last : ℕ) (a : Seen AnchorExtents) (seen : Seen code_sequence.Sequence) (Next : AnchorExtents → Seen code_sequence.Sequence → Type 0) → 513 ≤ last
+    → Sees (λ extents. extents) a (anchor T last) → (a ≡ OutOfMemory → IsHoles (anchor T last)) → GoesOn a Next seen
+    → ((e : AnchorExtents) → Next e seen → Sees sequence_now seen (sequence_at T last e) × (seen ≡ OutOfMemory → are_extents last e ≡ true))
+    → SequenceClauses T last seen
+sequence_from T last (Got e) seen Next from is none goes next = let found = sequence-found T last e is in
+    sequence_clauses T last seen from (subst (Sees sequence_now seen) (sym found) (next e goes).0)
+    (λ f early no eq. no_early_in T last e f early ((next e goes).1 no) (sym found ∙ eq))
+sequence_from T last (Holes blocks) seen Next from is none goes next = subst (SequenceClauses T last) (sym goes)
+    (sequence_clauses T last (Holes blocks) from (sequence-holes T last blocks.items is) (λ f early no eq. let z : ⊥ = cc in z))
+sequence_from T last (Fault fault) seen Next from is none goes next = subst (SequenceClauses T last) (sym goes)
+    (sequence_clauses T last (Fault fault) from (sequence_faulty T last fault is) (λ f early no eq. let z : ⊥ = cc in z))
+sequence_from T last OutOfMemory seen Next from is none goes next = subst (SequenceClauses T last) (sym goes)
+    (sequence_clauses T last OutOfMemory from tt (λ f early no eq. no_fault_of_holes T last f (none refl) eq))

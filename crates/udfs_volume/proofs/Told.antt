@@ -8,12 +8,15 @@ use Rattle.udfs_volume.specs.declared.layouts.VolumeParts.{VolumeParts}
 use Rattle.udfs_volume.specs.declared.seen.Seen.{Seen}
 use Rattle.udfs_volume.specs.declared.seen.Seen.TheVariants.{Got, Holes, Fault, OutOfMemory}
 use Rattle.udfs_volume.specs.Answers.{Answer, found, holes, faulty, and_then, unless_fault}
-use Rattle.udfs_volume.specs.Seen.{Sees, HolesRise, IfGot, Tells}
+use Rattle.udfs_volume.specs.Seen.{Sees, HolesRise, IfGot, Tells, GoesOn}
 use Rattle.udfs_volume.specs.Sequence.{Descriptor, anchor_places, sequence}
 use Rattle.udfs_volume.specs.Layout.{Layout, NumberedMap, Described, has_contents, partition_of, is_in_range, laid_out, with_maps, with_volume, the_maps, volume_fault, described, logical_volume, layout_of, layout}
 use Rattle.udfs_volume.specs.LayoutParts.{parts_now}
+use Rattle.udfs_volume.specs.Sequences.{sequence_now}
+use Rattle.udfs_volume.specs.declared.descriptors.Sequence as code_sequence
 use Rattle.udfs_volume.specs.Laws.{IsLawfulLayout, IsSequenceGroup, ListsGroup, IsAnswerOf, the_same, unread, IsBounded, valid_anchors}
 use Rattle.udfs_volume.specs.Told.{IsLayoutOf, TellsLawful}
+use Rattle.udfs_volume.proofs.LayoutSteps.{layout-holes, layout_faulty, layout-read}
 use Rattle.udfs_volume.proofs.LayoutLaw.{layout_law}
 use Rattle.udfs_volume.proofs.StandardLaw.{standard_layout_law}
 use Rattle.udfs_volume.proofs.Bounds.{layout_bounds}
@@ -127,17 +130,21 @@ pub early_of_layout : (T : Blocks) (N : ℕ) (f : VolumeFault) → is_early f �
 unfolding layout
 early_of_layout T N f early e = early_from N f early (sequence T N) e
 
--- what `layout` promises, by what it saw
+-- what `layout` promises
+abbrev pub LayoutClauses : Blocks → ℕ → Seen VolumeParts → Type 0
+LayoutClauses T last seen = record {
+  value : Sees parts_now seen (layout T last);
+  lawful : TellsLawful T last seen;
+  bounded : IfGot seen (λ parts. IsBounded last (parts_now parts));
+  rising : HolesRise seen;
+  no_anchor : Tells NoAnchor seen (layout T last);
+  extents : Tells Extents seen (layout T last);
+}
+
+-- the same, by what it saw
 pub layout_clauses : (T : Blocks) (last : ℕ) (seen : Seen VolumeParts) → 513 ≤ last → Sees parts_now seen (layout T last)
     → (seen ≡ OutOfMemory → sequence T last ≡ faulty NoAnchor → ⊥) → (seen ≡ OutOfMemory → sequence T last ≡ faulty Extents → ⊥)
-    → record {
-      value : Sees parts_now seen (layout T last);
-      lawful : TellsLawful T last seen;
-      bounded : IfGot seen (λ parts. IsBounded last (parts_now parts));
-      rising : HolesRise seen;
-      no_anchor : Tells NoAnchor seen (layout T last);
-      extents : Tells Extents seen (layout T last);
-    }
+    → LayoutClauses T last seen
 layout_clauses T last seen from value anchored fits = record {
   value = value;
   lawful = tells_lawful T last seen value;
@@ -146,3 +153,17 @@ layout_clauses T last seen from value anchored fits = record {
   no_anchor = told_by parts_now seen (layout T last) NoAnchor value (λ none e. anchored none (early_of_layout T last NoAnchor refl e));
   extents = told_by parts_now seen (layout T last) Extents value (λ none e. fits none (early_of_layout T last Extents refl e));
 }
+
+-- the same, by what was seen of the sequence
+pub layout_from : (T : Blocks) (last : ℕ) (a : Seen code_sequence.Sequence) (seen : Seen VolumeParts) (Next : code_sequence.Sequence → Seen VolumeParts → Type 0) → 513 ≤ last
+    → Sees sequence_now a (sequence T last) → Tells NoAnchor a (sequence T last) → Tells Extents a (sequence T last) → GoesOn a Next seen
+    → ((s : code_sequence.Sequence) → Next s seen → Sees parts_now seen (layout_of last (sequence_now s))) → LayoutClauses T last seen
+layout_from T last (Got s) seen Next from is none fits goes next =
+    layout_clauses T last seen from (subst (Sees parts_now seen) (sym (layout-read T last (sequence_now s) is)) (next s goes))
+    (λ no e. let z : ⊥ = cc in z) (λ no e. let z : ⊥ = cc in z)
+layout_from T last (Holes blocks) seen Next from is none fits goes next = subst (LayoutClauses T last) (sym goes)
+    (layout_clauses T last (Holes blocks) from (layout-holes T last blocks.items is) (λ no e. let z : ⊥ = cc in z) (λ no e. let z : ⊥ = cc in z))
+layout_from T last (Fault fault) seen Next from is none fits goes next = subst (LayoutClauses T last) (sym goes)
+    (layout_clauses T last (Fault fault) from (layout_faulty T last fault is) (λ no e. let z : ⊥ = cc in z) (λ no e. let z : ⊥ = cc in z))
+layout_from T last OutOfMemory seen Next from is none fits goes next = subst (LayoutClauses T last) (sym goes)
+    (layout_clauses T last OutOfMemory from tt (λ no e. let told = none e in let z : ⊥ = cc in z) (λ no e. let told = fits e in let z : ⊥ = cc in z))

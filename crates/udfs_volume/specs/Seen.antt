@@ -2,6 +2,8 @@
 --     Sees view seen answer     the call saw that answer, or memory was refused
 --     HolesRise seen            the holes that it saw are ascending, each once
 --     IfGot seen Property       what it got, if it got something, has the property
+--     ForGot seen Property     the same, as what a call needs
+--     GoesOn seen Next result  what was got led to the result, and else the result is the same
 --     Tells fault seen answer   it told that fault, if that is the answer, whatever memory there was
 use Rattle.std.specs.Prelude.{◌≡◌, ⊤, ℕ, ◌<◌, List, [], ◌∷◌}
 use Rattle.udfs_lattice.specs.Volumes.{Includes}
@@ -35,3 +37,17 @@ IfGot OutOfMemory Property = ⊤
 
 abbrev pub Tells : {A B : Type 0} → VolumeFault → Seen A → Answer B → Type 0
 Tells fault seen answer = answer ≡ faulty fault → seen ≡ Fault fault
+
+-- what a call needs of what was got
+abbrev pub ForGot : {A : Type 0} → Seen A → (A → Type 0) → Type 0
+ForGot (Got x) Property = Property x
+ForGot (Holes blocks) Property = ⊤
+ForGot (Fault fault) Property = ⊤
+ForGot OutOfMemory Property = ⊤
+
+-- what was got led to the result, and else the result is the same
+abbrev pub GoesOn : {A B : Type 0} → Seen A → (A → Seen B → Type 0) → Seen B → Type 0
+GoesOn (Got x) Next result = Next x result
+GoesOn (Holes blocks) Next result = result ≡ Holes blocks
+GoesOn (Fault fault) Next result = result ≡ Fault fault
+GoesOn OutOfMemory Next result = result ≡ OutOfMemory

@@ -12,7 +12,7 @@ use crate::faults::VolumeFault;
 use crate::seen::Seen;
 use std::alloc::{AllocError, Global};
 use udfs_lattice::{BlockTable, Fact};
-use udfs_tag::{ExtentAd, Tag};
+use udfs_tag::{ExtentAd, Tag, identifiers};
 
 /// Where an anchor says that the two copies of the volume descriptor sequence stand.
 #[derive(Clone, Copy, Debug, PartialEq, Eq)]
@@ -42,7 +42,7 @@ fn anchor_at(table: &BlockTable, place: u32) -> Option<AnchorExtents>
 {
     match table.state(place) {
         Fact::Known(block) => {
-            if Tag::is_valid(block, place, 2) {
+            if Tag::is_valid(block, place, identifiers::ANCHOR) {
                 Some(AnchorExtents::read(block))
             } else {
                 None

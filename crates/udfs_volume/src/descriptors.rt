@@ -8,7 +8,7 @@ ghost use Rattle.udfs_volume.specs.Prevailing.{best_of, later_of};
 ghost use Rattle.udfs_volume.specs.Sequences.{descriptor_now, sequence_now};
 
 use byteorder::{ByteOrder, LittleEndian};
-use udfs_tag::RegId;
+use udfs_tag::{RegId, identifiers};
 
 /// A descriptor of a sequence, sound at the place of the copy that was read.
 #[derive(Clone, Copy, Debug)]
@@ -30,14 +30,23 @@ impl<'a> Descriptor<'a> {
         content
     }
 
+    /// The bytes from a byte position of the descriptor on, which is behind its tag.
+    pub(crate) fn from(&self, position: usize) -> &'a [u8]
+        requires from { 16 ≤ position }
+        requires to { position ≤ 2048 }
+        ensures value { result.now ≡ drop (bp position) (descriptor_now self.now).content }
+        ensures size { length result.now + position ≡ 2048 }
+    {
+        behind(self.content(), position - 16)
+    }
+
     /// The number of two bytes at a byte position of the descriptor, behind its tag.
     pub(crate) fn uint16(&self, position: usize) -> u16
         requires from { 16 ≤ position }
         requires to { position + 2 ≤ 2048 }
         ensures { result ≡ uint16_at (descriptor_now self.now).content (bp position) }
     {
-        let content = self.content();
-        LittleEndian::read_u16(&content[position - 16..])
+        LittleEndian::read_u16(self.from(position))
     }
 
     /// The number of four bytes at a byte position of the descriptor, behind its tag.
@@ -46,8 +55,7 @@ impl<'a> Descriptor<'a> {
         requires to { position + 4 ≤ 2048 }
         ensures { result ≡ uint32_at (descriptor_now self.now).content (bp position) }
     {
-        let content = self.content();
-        LittleEndian::read_u32(&content[position - 16..])
+        LittleEndian::read_u32(self.from(position))
     }
 
     /// The volume descriptor sequence number (ECMA-167 3/10.5.2, 3/10.6.2).
@@ -95,7 +103,7 @@ impl<'a> Sequence<'a> {
     {
         let mut best = None;
         for descriptor in &self.descriptors {
-            if descriptor.identifier == 6 {
+            if descriptor.identifier == identifiers::LOGICAL_VOLUME {
                 best = Some(later(best, *descriptor));
             }
         }
@@ -109,7 +117,9 @@ impl<'a> Sequence<'a> {
     {
         let mut best = None;
         for descriptor in &self.descriptors {
-            if descriptor.identifier == 5 && descriptor.partition_number() == number {
+            if descriptor.identifier == identifiers::PARTITION
+                && descriptor.partition_number() == number
+            {
                 best = Some(later(best, *descriptor));
             }
         }

@@ -33,13 +33,13 @@ pub enum VolumeFault {
     Contents = 10,
     /// A partition is empty, or passes the last block (ECMA-167 3/10.5.8, 3/10.5.9).
     PartitionRange = 11,
-    /// A sparing table's tag or name is not right (UDF 2.2.12).
+    /// A sparing table's tag or name is not right (UDF 2.2.11).
     SparingTag = 12,
-    /// A sparing table passes its size, or an original block number is none (UDF 2.2.12).
+    /// A sparing table passes its size, or an original block number is none (UDF 2.2.11).
     SparingShape = 13,
-    /// The original block numbers of a sparing table do not rise (UDF 2.2.12).
+    /// The original block numbers of a sparing table do not rise (UDF 2.2.11).
     SparingOrder = 14,
-    /// A spared packet is mapped past the last block (UDF 2.2.12).
+    /// A spared packet is mapped past the last block (UDF 2.2.11).
     MappedRange = 15,
     /// The file set descriptor is not where the logical volume says (ECMA-167 4/8.3.1).
     FileSet = 16,

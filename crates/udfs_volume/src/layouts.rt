@@ -14,7 +14,7 @@ ghost use Rattle.udfs_volume.specs.Told.{TellsLawful};
 ghost use Rattle.udfs_volume.specs.Parts.{numbered_now};
 ghost use Rattle.udfs_volume.specs.Sequences.{descriptor_now, sequence_now};
 
-use crate::descriptors::{Descriptor, Sequence, behind, is_named};
+use crate::descriptors::{Descriptor, Sequence, is_named};
 use crate::faults::VolumeFault;
 use crate::maps::{NumberedMap, PartitionMap, read_maps};
 use crate::seen::Seen;
@@ -61,10 +61,7 @@ struct Described<'a> {
 fn has_domain(volume: &Descriptor<'_>) -> bool
     ensures { result ≡ has_domain (descriptor_now volume.now) }
 {
-    is_named(
-        behind(volume.content(), 200),
-        b"*OSTA UDF Compliant\0\0\0\0",
-    )
+    is_named(volume.from(216), b"*OSTA UDF Compliant\0\0\0\0")
 }
 
 /// Whether the domain's revision is 1.50 or 2.01 (UDF 2.2.4.3).
@@ -131,7 +128,7 @@ fn have_contents(all: &[Described<'_>]) -> bool
 fn has_contents(partition: &Descriptor<'_>) -> bool
     ensures { result ≡ has_contents_of (descriptor_now partition.now) }
 {
-    let name = behind(partition.content(), 8);
+    let name = partition.from(24);
     is_named(name, b"+NSR02\0\0\0\0\0\0\0\0\0\0\0\0\0\0\0\0\0")
         || is_named(name, b"+NSR03\0\0\0\0\0\0\0\0\0\0\0\0\0\0\0\0\0")
 }
@@ -178,9 +175,9 @@ fn partitions(alloc: Global, all: Vec<Described<'_>>) -> Result<Vec<Partition>, 
 fn read_label(alloc: Global, volume: &Descriptor<'_>) -> Result<Label, AllocError>
     ensures { IfOk result (λ label. label ≡ label_of (part (descriptor_now volume.now).content (bp 84) 128)) }
 {
-    let content = volume.content();
     let mut field = [0; 128];
-    field.copy_from_slice(&content[68..196]);
+    let (characters, _) = volume.from(84).split_at(128);
+    field.copy_from_slice(characters);
     Label::read(alloc, &field)
 }
 
@@ -207,7 +204,7 @@ fn lay_out(
     let label = read_label(alloc, volume)?;
     let partitions = partitions(alloc, all)?;
     let revision = volume.uint16(240);
-    let file_set = LongAd::read(behind(volume.content(), 232));
+    let file_set = LongAd::read(volume.from(248));
     Ok(Seen::Got(VolumeParts {
         last,
         revision,
@@ -237,6 +234,16 @@ fn layout_of(
     lay_out(alloc, last, &volume, sequence, maps)
 }
 
+/// The layout by the descriptors of a sequence, if memory is not refused.
+fn see_layout(alloc: Global, last: u32, sequence: Sequence<'_>) -> Seen<VolumeParts>
+    ensures { Sees parts_now result (layout_of last (sequence_now sequence.entry)) }
+{
+    match layout_of(alloc, last, &sequence) {
+        Ok(seen) => seen,
+        Err(_) => Seen::OutOfMemory,
+    }
+}
+
 /// The layout of a volume: the revision, the label, the partitions and the file set's address, by the
 /// logical volume descriptor and the partition descriptors that prevail in the volume descriptor
 /// sequence. Of several faults the one with the least number is told.
@@ -257,14 +264,5 @@ pub fn layout(alloc: Global, table: &BlockTable, last: u32) -> Seen<VolumeParts>
     ensures no_anchor { Tells VolumeFault.NoAnchor result (layout (state_of table.now) last) }
     ensures extents { Tells VolumeFault.Extents result (layout (state_of table.now) last) }
 {
-    let found = match sequence(alloc, table, last) {
-        Seen::Got(found) => found,
-        Seen::Holes(blocks) => return Seen::Holes(blocks),
-        Seen::Fault(fault) => return Seen::Fault(fault),
-        Seen::OutOfMemory => return Seen::OutOfMemory,
-    };
-    match layout_of(alloc, last, &found) {
-        Ok(seen) => seen,
-        Err(_) => Seen::OutOfMemory,
-    }
+    sequence(alloc, table, last).and_then(|found| see_layout(alloc, last, found))
 }

@@ -10,6 +10,15 @@ use crate::descriptors::{Descriptor, behind, is_named};
 use byteorder::{ByteOrder, LittleEndian};
 use std::alloc::{AllocError, Global};
 
+/// The bytes of a map of type 1 (ECMA-167 3/10.7.2).
+const TYPE1_LENGTH: u32 = 6;
+
+/// The bytes of a sparable map (UDF 2.2.9).
+const SPARABLE_LENGTH: u32 = 64;
+
+/// The bytes of the longest sparing table that is read.
+const LONGEST_TABLE: u32 = 65_536;
+
 /// A sparable partition map (UDF 2.2.9).
 #[derive(Debug, Drop)]
 pub struct SparableMap {
@@ -65,7 +74,7 @@ fn is_whole_type1(left: u32, bytes: &[u8]) -> bool
     requires { 64 ≤ length bytes.now }
     ensures { result ≡ (is_type1 bytes.now && nat_le 6 left) }
 {
-    is_type1(bytes) && left >= 6
+    is_type1(bytes) && left >= TYPE1_LENGTH
 }
 
 /// Whether a map of the form of a sparable one stands in what is left of the map table.
@@ -73,7 +82,7 @@ fn is_whole_sparable(left: u32, bytes: &[u8]) -> bool
     requires { 64 ≤ length bytes.now }
     ensures { result ≡ (is_sparable bytes.now && nat_le 64 left) }
 {
-    is_sparable(bytes) && left >= 64
+    is_sparable(bytes) && left >= SPARABLE_LENGTH
 }
 
 /// Whether a packet has 16 or 32 blocks.
@@ -90,7 +99,7 @@ fn has_numbers(bytes: &[u8]) -> bool
 {
     let packet = LittleEndian::read_u16(behind(bytes, 40));
     let size = LittleEndian::read_u32(behind(bytes, 44));
-    (1..=4).contains(&bytes[42]) && is_packet(packet) && (56..=65_536).contains(&size)
+    (1..=4).contains(&bytes[42]) && is_packet(packet) && (56..=LONGEST_TABLE).contains(&size)
 }
 
 /// Where the tables of a sparable map stand.
@@ -174,8 +183,8 @@ fn size_of(kind: &PartitionMap) -> u32
     ensures most { result ≤ 64 }
 {
     match kind {
-        PartitionMap::Type1 => 6,
-        PartitionMap::Sparable(_) => 64,
+        PartitionMap::Type1 => TYPE1_LENGTH,
+        PartitionMap::Sparable(_) => SPARABLE_LENGTH,
     }
 }
 
@@ -199,8 +208,7 @@ pub(crate) fn read_maps(
     requires { (map_count (descriptor_now volume.now) ≡ 1) ⊎ (map_count (descriptor_now volume.now) ≡ 2) }
     ensures { IfOk result (λ read. option_map (λ maps. map numbered_now maps.items) read ≡ the_maps last (descriptor_now volume.now)) }
 {
-    let content = volume.content();
-    let table = behind(content, 424);
+    let table = volume.from(440);
     let left = volume.uint32(264);
     let Some(first) = read_map(alloc, last, left, table)? else {
         return Ok(None);

@@ -1,5 +1,8 @@
 //! What is seen of a volume.
 
+ghost use Rattle.std.specs.Prelude.{◌≡◌};
+ghost use Rattle.udfs_volume.specs.Seen.{ForGot, GoesOn};
+
 use crate::faults::VolumeFault;
 
 /// What the blocks that are known tell of a volume.
@@ -13,4 +16,19 @@ pub enum Seen<T> {
     Fault(VolumeFault),
     /// Memory was refused.
     OutOfMemory,
+}
+
+impl<T> Seen<T> {
+    /// What is seen next of what was got; and else the same, whatever it is.
+    pub fn and_then<U, F: FnOnce(T) -> Seen<U>>(self, next: F) -> Seen<U>
+        requires { ForGot self (F.pre next) }
+        ensures { GoesOn self (F.post next) result }
+    {
+        match self {
+            Seen::Got(x) => next(x),
+            Seen::Holes(blocks) => Seen::Holes(blocks),
+            Seen::Fault(fault) => Seen::Fault(fault),
+            Seen::OutOfMemory => Seen::OutOfMemory,
+        }
+    }
 }

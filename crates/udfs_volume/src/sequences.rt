@@ -13,7 +13,7 @@ use crate::faults::VolumeFault;
 use crate::seen::Seen;
 use std::alloc::{AllocError, Global};
 use udfs_lattice::{BlockTable, Fact};
-use udfs_tag::{ExtentAd, Tag};
+use udfs_tag::{ExtentAd, Tag, identifiers};
 
 /// What stands at a position of a sequence, of which there are two copies.
 #[derive(Clone, Copy)]
@@ -104,10 +104,10 @@ fn read_positions<'a>(
             Position::Unread => return Ok(Seen::Holes(ascending(alloc, main, reserve)?)),
             Position::Invalid => return Ok(Seen::Got(Sequence { descriptors })),
             Position::Descriptor(descriptor) => {
-                if descriptor.identifier == 3 {
+                if descriptor.identifier == identifiers::VOLUME_DESCRIPTOR_POINTER {
                     return Ok(Seen::Fault(VolumeFault::Pointer));
                 }
-                if descriptor.identifier == 8 {
+                if descriptor.identifier == identifiers::TERMINATING {
                     return Ok(Seen::Got(Sequence { descriptors }));
                 }
                 descriptors.push(descriptor)?;
@@ -152,10 +152,5 @@ pub fn sequence<'a>(alloc: Global, table: &'a BlockTable, last: u32) -> Seen<Seq
     ensures no_anchor { Tells VolumeFault.NoAnchor result (sequence (state_of table.now) last) }
     ensures extents { Tells VolumeFault.Extents result (sequence (state_of table.now) last) }
 {
-    match anchor(alloc, table, last) {
-        Seen::Got(extents) => sequence_at(alloc, table, last, extents),
-        Seen::Holes(blocks) => Seen::Holes(blocks),
-        Seen::Fault(fault) => Seen::Fault(fault),
-        Seen::OutOfMemory => Seen::OutOfMemory,
-    }
+    anchor(alloc, table, last).and_then(|extents| sequence_at(alloc, table, last, extents))
 }

@@ -1,3 +1,4 @@
+pub mod PathParts
 pub mod PublicLaws
 pub mod RoutesOnce
 pub mod NodeCells
@@ -6,7 +7,8 @@ pub mod Rising
 pub mod RunLemmas
 pub mod RouteOrder
 pub mod Trees
-pub mod BlockCells
 pub mod TargetLemmas
 pub mod Owed
 pub mod NamedLemmas
+pub mod PortionGaps
+pub mod BlockOrder

@@ -172,11 +172,6 @@ unfolding Leaves
 leaves_all all g whole later p = p
 
 -- ---- by any number of cells that is not 0
-pub some_missing : (n : ℕ) (cs : List Cell) (old new : GapFields) (k : ℕ) → AreGapsOf n cs → length cs ≡ k → 0 < k → new.missing ≡ old.missing ++ n ∷ []
-    → new.holes ≡ old.holes → new.start ≡ old.start → new.grown ≡ old.grown + k → Leaves cs [] old new
-some_missing n cs old new k h l p m r s o = let e : k ≡ suc (k - 1) = omega (arith, p) in
-    missing_passes n cs old new (k - 1) h (l ∙ e) m r s (o ∙ ap (λ z. old.grown + z) e)
-
 pub some_known : (cs : List Cell) (old new : GapFields) (k : ℕ) → AreBytes cs → length cs ≡ k → 0 < k → new.missing ≡ old.missing
     → new.holes ≡ old.holes ++ closed old.start old.grown [] → new.start ≡ old.start + old.grown + k → new.grown ≡ 0 → Leaves cs [] old new
 some_known cs old new k h l p m r s o = let e : k ≡ suc (k - 1) = omega (arith, p) in

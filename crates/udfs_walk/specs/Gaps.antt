@@ -1,9 +1,7 @@
 -- What code keeps of the cells that it has gone through.
 --     IsPassed whole rest gaps          of these cells the rest is left
 --     Leaves cells rest old new         of these cells the rest is left
-use Rattle.std.specs.Prelude.{◌≡◌, ℕ, zero, suc, List, [], ◌∷◌, ◌++◌, replicate, Option, Some, None, ⊤}
-use Rattle.udfs_lattice.specs.States.{State}
-use Rattle.udfs_lattice.specs.declared.facts.Fact.TheVariants.{Unknown, Known, Conflict}
+use Rattle.std.specs.Prelude.{◌≡◌, ℕ, zero, suc, List, [], ◌∷◌, ◌++◌, replicate, ⊤}
 use Rattle.udfs_lattice.specs.Volumes.{ascending}
 use Rattle.udfs_file.specs.declared.cells.Cell.{Cell}
 use Rattle.udfs_file.specs.declared.cells.Cell.TheVariants.{Byte, Gap}
@@ -50,13 +48,3 @@ AreBytes (c ∷ cs) = IsByte c × AreBytes cs
 abbrev pub AreGapsOf : ℕ → List Cell → Type 0
 AreGapsOf n [] = ⊤
 AreGapsOf n (c ∷ cs) = IsGapOf n c × AreGapsOf n cs
-
--- the block that is missing at a logical address, if one is
-abbrev pub missing_in : ℕ → State → Option ℕ
-missing_in n Unknown = Some n
-missing_in n (Known bytes) = None
-missing_in n Conflict = Some n
-
-abbrev pub missing_at : Option (ℕ × State) → Option ℕ
-missing_at None = None
-missing_at (Some block) = missing_in block.0 block.1

@@ -1,8 +1,13 @@
 -- What holds of every walk, and of the nodes at its ends.
---     SomeWalk, OnlyWalk, NoMoreRoutes     every volume has a walk, only one, and no more routes than it has ends
+--     SomeWalk, OnlyWalk                   every volume has a walk, and only one
+--     NoMoreRoutes, MoreRoutes             it has as many routes as the walk has ends
 --     RoutesStandOnce                      routes in order stand there once each
+--     PathsHaveParts                       what stands between two `/` of a node's path
 --     NodeCells                            a node with a body has the cells that stand at the end of its route
-use Rattle.std.specs.Prelude.{◌≡◌, ◌≤◌, ⊤, ℕ, List, length, Option, Some, None, slice_get}
+use Rattle.std.specs.Prelude.{◌≡◌, ◌<◌, ◌≤◌, ⊤, ℕ, List, length, Option, Some, None, slice_get}
+use Rattle.udfs_lattice.specs.Volumes.{Includes}
+use Rattle.udfs_osta.specs.Escapes.{escaped}
+use Rattle.udfs_osta.specs.Parts.{IsPathPart}
 use Rattle.udfs_tag.specs.declared.layouts.LongAd.{LongAd}
 use Rattle.udfs_space.specs.Places.{View}
 use Rattle.udfs_file.specs.declared.cells.Cell.{Cell}
@@ -25,6 +30,10 @@ OnlyWalk = (view : View) (root : LongAd) (walks others : List Walked) → IsWalk
 abbrev pub NoMoreRoutes : Type 0
 NoMoreRoutes = (view : View) (root : LongAd) (walks : List Walked) (count : ℕ) → IsWalk view root walks → length walks ≤ count → ¬ HasMoreRoutes view root count
 
+-- and where it has more ends, more routes do
+abbrev pub MoreRoutes : Type 0
+MoreRoutes = (view : View) (root : LongAd) (walks : List Walked) (count : ℕ) → IsWalk view root walks → count < length walks → HasMoreRoutes view root count
+
 -- a route stands once among routes that are in order
 abbrev pub RoutesStandOnce : Type 0
 RoutesStandOnce = (routes : List Route) (i j : ℕ) (route : Route) → IsInOrder routes → slice_get routes i ≡ Some route → slice_get routes j ≡ Some route → i ≡ j
@@ -42,3 +51,8 @@ abbrev pub NodeCells : Type 0
 NodeCells = (view : View) (root : LongAd) (nodes : List NodeFields) (are : AreNodes view root nodes) (index : ℕ) (n : NodeFields)
     → slice_get nodes index ≡ Some n → HasBody n.standing n.size
     → (end : Walked) × (slice_get are.walks index ≡ Some end) × (n.icb ≡ end.address) × ((cs : List Cell) × HasCells view end.address cs)
+
+-- each part of the path of a node, in its escaped form, can stand in a path
+abbrev pub PathsHaveParts : Type 0
+PathsHaveParts = (view : View) (root : LongAd) (nodes : List NodeFields) → AreNodes view root nodes → (n : NodeFields) → Includes nodes n
+    → (part : List ℕ) → Includes n.path part → IsPathPart (escaped part)

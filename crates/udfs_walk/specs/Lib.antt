@@ -1,4 +1,5 @@
 pub mod Sample
+pub mod BlockRuns
 pub mod TornFields
 pub mod Standings
 pub mod Gaps

@@ -1,8 +1,7 @@
 -- The end of a route as code has it.
 --     end_at address path above hidden       the same, put together
---     open_entries view w target             the entries to which a route goes on from this target
 --     AreRefused entries error               why entries are not told
-use Rattle.std.specs.Prelude.{ℕ, ◌<◌, Bool, List, [], length, cond, ◌||◌, ⊤}
+use Rattle.std.specs.Prelude.{ℕ, ◌<◌, Bool, List, length, ⊤}
 use Rattle.udfs_tag.specs.declared.layouts.LongAd.{LongAd}
 use Rattle.udfs_space.specs.Places.{View}
 use Rattle.udfs_file.specs.Entries.{entry_of}
@@ -10,7 +9,7 @@ use Rattle.udfs_file.specs.Stretches.{IsStanding}
 use Rattle.udfs_file.specs.declared.directories.DirEntry.{DirEntry}
 use Rattle.udfs_walk.specs.Targets as targets
 use Rattle.udfs_walk.specs.Targets.{Icb}
-use Rattle.udfs_walk.specs.Routes.{Walked, is_loop, is_deep, target_entries}
+use Rattle.udfs_walk.specs.Routes.{Walked}
 use Rattle.udfs_walk.specs.declared.answers.NodesError.{NodesError}
 use Rattle.udfs_walk.specs.declared.answers.NodesError.TheVariants.{TooManyPaths, OutOfMemory}
 use Rattle.udfs_walk.specs.declared.targets.Target.{Target}
@@ -18,9 +17,6 @@ use Rattle.udfs_walk.specs.declared.targets.Target.TheVariants.{Fault, Unread, E
 
 abbrev pub end_at : LongAd → List (List ℕ) → List Icb → Bool → Walked
 end_at address path above hidden = record { address = address; path = path; above = above; hidden = hidden }
-
-abbrev pub open_entries : View → Walked → targets.Target → List DirEntry
-open_entries view w target = cond (is_loop w || is_deep w) [] (target_entries view w.address target)
 
 abbrev pub target_now : Target → targets.Target
 target_now (Fault f) = targets.bad f

@@ -1,5 +1,5 @@
 //! Laws of the walk over all routes, each the contract of a function that does nothing.
-ghost use Rattle.udfs_walk.specs.Laws.{NoMoreRoutes, NodeCells, OnlyWalk, RoutesStandOnce, SomeWalk};
+ghost use Rattle.udfs_walk.specs.Laws.{MoreRoutes, NoMoreRoutes, NodeCells, OnlyWalk, PathsHaveParts, RoutesStandOnce, SomeWalk};
 ghost use Rattle.udfs_walk.specs.Sample.{AreSampleNodes};
 
 /// Every volume has a walk: at most 64 names lead anywhere.
@@ -18,9 +18,20 @@ pub fn no_more_routes()
     ensures { NoMoreRoutes }
 {}
 
+/// Where the walk has more ends than so many, more routes than that lead anywhere.
+pub fn more_routes()
+    ensures { MoreRoutes }
+{}
+
 /// Routes in the order of words stand there once each, so a place in the list of nodes is one route.
 pub fn routes_stand_once()
     ensures { RoutesStandOnce }
+{}
+
+/// Each part of a node's path, in its escaped form, can stand in a path: it is not empty, not `.` or `..`, and has no `/` and no
+/// control.
+pub fn paths_have_parts()
+    ensures { PathsHaveParts }
 {}
 
 /// The node at a place of the list stands at the end of the route there, and has its address. Where it is whole, or torn and

@@ -4,6 +4,7 @@
 
 pub mod answers;
 mod ascending;
+mod block_runs;
 mod gaps;
 pub mod laws;
 mod node_bodies;

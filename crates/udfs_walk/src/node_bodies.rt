@@ -11,7 +11,7 @@ use crate::targets::{Target, target_at};
 use std::alloc::{AllocError, Global};
 use udfs_file::{Body, WalkError};
 use udfs_lattice::BlockTable;
-use udfs_space::Space;
+use udfs_space::{Space, View};
 use udfs_tag::LongAd;
 
 /// The body of the entry that an address leads to, if an entry without a fault of its own is known there whose body
@@ -30,7 +30,7 @@ pub fn body_at(
         ((cs : List Cell) → ¬ HasCells (view (state_of table.now) space.now) address cs)
         (λ body. HasCells (view (state_of table.now) space.now) address (cells_of (view (state_of table.now) space.now) body))) }
 {
-    match target_at(table, space, address) {
+    match target_at(View { table, space }, address) {
         Target::Entry(entry) => {
             match Body::read(
                 alloc,

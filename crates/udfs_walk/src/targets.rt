@@ -1,15 +1,14 @@
 //! What the address of an information control block leads to.
 
 ghost use Rattle.std.specs.Prelude.{◌≡◌};
-ghost use Rattle.udfs_lattice.specs.Tables.{state_of};
-ghost use Rattle.udfs_space.specs.Places.{view};
+ghost use Rattle.udfs_space.specs.Views.{view_now};
 ghost use Rattle.udfs_walk.specs.Targets.{target};
 ghost use Rattle.udfs_walk.specs.Visits.{Stands, target_now};
 
 use udfs_file::file_sets::address_fault;
 use udfs_file::{Entry, NodeFault};
-use udfs_lattice::{BlockTable, Fact};
-use udfs_space::Space;
+use udfs_lattice::Fact;
+use udfs_space::View;
 use udfs_tag::LongAd;
 
 /// What an address leads to.
@@ -24,13 +23,13 @@ pub(crate) enum Target<'a> {
 }
 
 /// What stands at an address. It takes no memory.
-pub(crate) fn target_at<'a>(table: &'a BlockTable, space: &Space, address: LongAd) -> Target<'a>
-    ensures value { target_now result ≡ target (view (state_of table.now) space.now) address }
-    ensures stands { Stands (view (state_of table.now) space.now) address result }
+pub(crate) fn target_at<'a>(view: View<'a>, address: LongAd) -> Target<'a>
+    ensures value { target_now result ≡ target (view_now view.entry) address }
+    ensures stands { Stands (view_now view.entry) address result }
 {
-    match address_fault(space, address) {
+    match address_fault(view.space, address) {
         Some(fault) => Target::Fault(fault),
-        None => match space.block_at(table, address.reference, u64::from(address.block)) {
+        None => match view.block_at(address.reference, u64::from(address.block)) {
             None => Target::Fault(NodeFault::Range),
             Some((n, fact)) => match fact {
                 Fact::Unknown => Target::Unread(n),

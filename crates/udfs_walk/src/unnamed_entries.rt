@@ -6,6 +6,7 @@ ghost use Rattle.std.specs.Ordering.{nat_cmp};
 ghost use Rattle.udfs_lattice.specs.Tables.{state_of};
 ghost use Rattle.udfs_lattice.specs.Volumes.{Blocks};
 ghost use Rattle.udfs_space.specs.Places.{view};
+ghost use Rattle.udfs_space.specs.Views.{view_now};
 ghost use Rattle.udfs_walk.specs.UnnamedEntries.{icbs_in, unnamed, unnamed_at};
 ghost use Rattle.udfs_walk.specs.NodeFields.{NodeFields};
 ghost use Rattle.udfs_walk.specs.NamedKeys.{AreNamed, key_of};
@@ -17,7 +18,7 @@ use std::alloc::{AllocError, Global};
 use udfs_file::file_sets::address_fault;
 use udfs_lattice::BlockTable;
 use udfs_osta::OutOfMemory;
-use udfs_space::Space;
+use udfs_space::{Space, View};
 use udfs_tag::LongAd;
 
 /// An ICB as one number.
@@ -81,16 +82,15 @@ fn place_from(keys: &[u64], at: usize, key: u64) -> usize {
 /// this place: then the block is not read, and else the number is looked up once an entry is found.
 fn unnamed_at(
     alloc: Global,
-    table: &BlockTable,
-    space: &Space,
+    view: View<'_>,
     keys: &[u64],
     at: usize,
     reference: u16,
     block: u32,
 ) -> Result<Option<Unnamed>, AllocError>
     requires { IsSorted nat_cmp keys.now }
-    ensures { IfOk result (λ found. (nodes : List NodeFields) → AreNamed (view (state_of table.now) space.now) nodes keys.now
-        → found ≡ unnamed_at (view (state_of table.now) space.now) nodes (reference, block)) }
+    ensures { IfOk result (λ found. (nodes : List NodeFields) → AreNamed (view_now view.entry) nodes keys.now
+        → found ≡ unnamed_at (view_now view.entry) nodes (reference, block)) }
 {
     let key = key(reference, block);
     if is_at(keys, at, key) {
@@ -102,14 +102,14 @@ fn unnamed_at(
         block,
         reference,
     };
-    match target_at(table, space, address) {
+    match target_at(view, address) {
         Target::Fault(_) => Ok(None),
         Target::Unread(_) => Ok(None),
         Target::Entry(entry) => {
             if is_among(keys, key) {
                 return Ok(None);
             }
-            let standing = standing_told(alloc, table, space, &entry, address, false, false)?;
+            let standing = standing_told(alloc, view, &entry, address, false, false)?;
             Ok(Some(Unnamed {
                 reference,
                 block,
@@ -125,21 +125,20 @@ fn unnamed_at(
 /// Those in a partition, put behind the others.
 fn push_unnamed(
     alloc: Global,
-    table: &BlockTable,
-    space: &Space,
+    view: View<'_>,
     keys: &[u64],
     reference: u16,
     found: &mut Vec<Unnamed>,
 ) -> Result<(), AllocError>
     requires sorted { IsSorted nat_cmp keys.now }
-    requires reference { reference < length space.now }
-    ensures { IfOk result (λ done. (nodes : List NodeFields) → AreNamed (view (state_of table.now) space.now) nodes keys.now
-        → found.new.items ≡ found.old.items ++ filter_map (unnamed_at (view (state_of table.now) space.now) nodes) (icbs_in space.now reference)) }
+    requires reference { reference < length view.space.now }
+    ensures { IfOk result (λ done. (nodes : List NodeFields) → AreNamed (view_now view.entry) nodes keys.now
+        → found.new.items ≡ found.old.items ++ filter_map (unnamed_at (view_now view.entry) nodes) (icbs_in view.entry.space.now reference)) }
 {
     let mut at = 0;
-    for block in 0..space.length(reference) {
+    for block in 0..view.space.length(reference) {
         at = place_from(keys, at, key(reference, block));
-        match unnamed_at(alloc, table, space, keys, at, reference, block)? {
+        match unnamed_at(alloc, view, keys, at, reference, block)? {
             Some(entry) => found.push(entry)?,
             None => {}
         }
@@ -162,10 +161,11 @@ pub fn unnamed(
 ) -> Result<Vec<Unnamed>, OutOfMemory>
     ensures { IfOk result (λ found. found.items ≡ unnamed (view (state_of table.now) space.now) space.now nodes.now) }
 {
+    let view = View { table, space };
     let keys = named(alloc, space, nodes)?;
     let mut found = Vec::new(alloc);
     for reference in 0..space.maps() {
-        push_unnamed(alloc, table, space, &keys, reference, &mut found)?;
+        push_unnamed(alloc, view, &keys, reference, &mut found)?;
     }
     Ok(found)
 }

@@ -2,8 +2,7 @@
 
 ghost use Rattle.std.specs.Prelude.{◌≤◌, ◌≡◌, ◌∷◌, [], ◌<◌, ◌^◌, ◌||◌, IfErr, IfOk, List, cond, false, length};
 ghost use Rattle.std.specs.List.{list_any};
-ghost use Rattle.udfs_lattice.specs.Tables.{state_of};
-ghost use Rattle.udfs_space.specs.Places.{view};
+ghost use Rattle.udfs_space.specs.Views.{view_now};
 ghost use Rattle.udfs_file.specs.Stretches.{IsStanding, cells_of};
 ghost use Rattle.udfs_file.specs.Entries.{entry_of};
 ghost use Rattle.udfs_file.specs.Bodies.{body, cells};
@@ -23,9 +22,11 @@ use crate::targets::{Target, target_at};
 use std::alloc::{AllocError, Global};
 use udfs_file::directories::{DirEnd, DirFront};
 use udfs_file::{Body, Dir, DirEntry, Entry, FrontError, Kind, NodeFault, WalkError};
-use udfs_lattice::BlockTable;
-use udfs_space::Space;
+use udfs_space::View;
 use udfs_tag::LongAd;
+
+/// A directory with so many names in its path is not entered.
+const MOST_NAMES: usize = 64;
 
 /// What an entry's body tells: its standing, and the entries to which a route goes on.
 #[derive(Drop)]
@@ -66,18 +67,17 @@ fn ended(end: DirEnd, is_deep: bool, standing: Standing) -> Standing
 /// The standing of an entry of this kind that has this body.
 fn kind_standing(
     alloc: Global,
-    table: &BlockTable,
-    space: &Space,
+    view: View<'_>,
     kind: Kind,
     is_deep: bool,
     body: &Body,
 ) -> Result<Standing, AllocError>
-    requires { length (cells_of (view (state_of table.now) space.now) body.now) < 2 ^ 64 }
-    ensures { IfOk result (λ standing. standing ≡ kind_standing kind is_deep (cells_of (view (state_of table.now) space.now) body.now)) }
+    requires { length (cells_of (view_now view) body.now) < 2 ^ 64 }
+    ensures { IfOk result (λ standing. standing ≡ kind_standing kind is_deep (cells_of (view_now view.entry) body.now)) }
 {
-    let alone = cells_standing(alloc, table, space, body)?;
+    let alone = cells_standing(alloc, view, body)?;
     match kind {
-        Kind::Directory => Ok(ended(Dir::end(table, space, body), is_deep, alone)),
+        Kind::Directory => Ok(ended(Dir::end(view.table, view.space, body), is_deep, alone)),
         _ => Ok(alone),
     }
 }
@@ -85,27 +85,33 @@ fn kind_standing(
 /// The standing of an entry that stands at an address. No entry of a directory is kept.
 pub(crate) fn standing_told(
     alloc: Global,
-    table: &BlockTable,
-    space: &Space,
+    view: View<'_>,
     entry: &Entry<'_>,
     address: LongAd,
     is_loop: bool,
     is_deep: bool,
 ) -> Result<Standing, AllocError>
-    requires { IsStanding (view (state_of table.now) space.now) address.reference address.block entry.now }
+    requires { IsStanding (view_now view) address.reference address.block entry.now }
     ensures { IfOk result (λ standing. standing ≡ cond is_loop Standing.Loop (body_standing (entry_of entry.now).kind is_deep
-        (body (view (state_of table.now) space.now) address.reference address.block (entry_of entry.now)))) }
+        (body (view_now view.entry) address.reference address.block (entry_of entry.now)))) }
 {
     if is_loop {
         return Ok(Standing::Loop);
     }
-    match Body::read(alloc, table, space, entry, address.reference, address.block) {
+    match Body::read(
+        alloc,
+        view.table,
+        view.space,
+        entry,
+        address.reference,
+        address.block,
+    ) {
         Err(WalkError::OutOfMemory) => Err(AllocError),
         Err(WalkError::Fault(fault)) => Ok(Standing::Fault(fault)),
         Ok(body) => {
             // The body has as many cells as this number of 64 bits says.
             let _size = entry.size();
-            let standing = kind_standing(alloc, table, space, entry.kind(), is_deep, &body)?;
+            let standing = kind_standing(alloc, view, entry.kind(), is_deep, &body)?;
             Ok(standing)
         }
     }
@@ -127,21 +133,20 @@ fn listed(front: DirFront, standing: Standing) -> Told
 /// What a body tells of an entry of this kind, where a route goes on.
 fn body_told(
     alloc: Global,
-    table: &BlockTable,
-    space: &Space,
+    view: View<'_>,
     kind: Kind,
     body: &Body,
     most: usize,
 ) -> Result<Told, NodesError>
-    requires { length (cells_of (view (state_of table.now) space.now) body.now) < 2 ^ 64 }
-    ensures standing { IfOk result (λ told. told.standing ≡ kind_standing kind false (cells_of (view (state_of table.now) space.now) body.now)) }
-    ensures entries { IfOk result (λ told. told.entries.items ≡ kind_entries kind (cells (cells_of (view (state_of table.now) space.now) body.now))) }
+    requires { length (cells_of (view_now view) body.now) < 2 ^ 64 }
+    ensures standing { IfOk result (λ told. told.standing ≡ kind_standing kind false (cells_of (view_now view.entry) body.now)) }
+    ensures entries { IfOk result (λ told. told.entries.items ≡ kind_entries kind (cells (cells_of (view_now view.entry) body.now))) }
     ensures few { IfOk result (λ told. length told.entries.items ≤ most) }
-    ensures refused { IfErr result (AreRefused most (kind_entries kind (cells (cells_of (view (state_of table.now) space.now) body.now)))) }
+    ensures refused { IfErr result (AreRefused most (kind_entries kind (cells (cells_of (view_now view.entry) body.now)))) }
 {
-    let standing = cells_standing(alloc, table, space, body)?;
+    let standing = cells_standing(alloc, view, body)?;
     match kind {
-        Kind::Directory => match Dir::front_within(alloc, table, space, body, most) {
+        Kind::Directory => match Dir::front_within(alloc, view.table, view.space, body, most) {
             Ok(front) => Ok(listed(front, standing)),
             Err(FrontError::TooMany) => Err(NodesError::TooManyPaths),
             Err(FrontError::OutOfMemory) => Err(NodesError::OutOfMemory),
@@ -156,22 +161,28 @@ fn body_told(
 /// What an entry tells that stands at an address from which a route goes on.
 fn open_told(
     alloc: Global,
-    table: &BlockTable,
-    space: &Space,
+    view: View<'_>,
     entry: &Entry<'_>,
     address: LongAd,
     most: usize,
 ) -> Result<Told, NodesError>
-    requires { IsStanding (view (state_of table.now) space.now) address.reference address.block entry.now }
+    requires { IsStanding (view_now view) address.reference address.block entry.now }
     ensures standing { IfOk result (λ told. told.standing ≡ body_standing (entry_of entry.now).kind false
-        (body (view (state_of table.now) space.now) address.reference address.block (entry_of entry.now))) }
+        (body (view_now view.entry) address.reference address.block (entry_of entry.now))) }
     ensures entries { IfOk result (λ told. told.entries.items ≡ kind_entries (entry_of entry.now).kind
-        (body (view (state_of table.now) space.now) address.reference address.block (entry_of entry.now))) }
+        (body (view_now view.entry) address.reference address.block (entry_of entry.now))) }
     ensures few { IfOk result (λ told. length told.entries.items ≤ most) }
     ensures refused { IfErr result (AreRefused most (kind_entries (entry_of entry.now).kind
-        (body (view (state_of table.now) space.now) address.reference address.block (entry_of entry.now)))) }
+        (body (view_now view.entry) address.reference address.block (entry_of entry.now)))) }
 {
-    match Body::read(alloc, table, space, entry, address.reference, address.block) {
+    match Body::read(
+        alloc,
+        view.table,
+        view.space,
+        entry,
+        address.reference,
+        address.block,
+    ) {
         Err(WalkError::OutOfMemory) => Err(NodesError::OutOfMemory),
         Err(WalkError::Fault(fault)) => Ok(Told {
             standing: Standing::Fault(fault),
@@ -180,7 +191,7 @@ fn open_told(
         Ok(body) => {
             // The body has as many cells as this number of 64 bits says.
             let _size = entry.size();
-            let told = body_told(alloc, table, space, entry.kind(), &body, most)?;
+            let told = body_told(alloc, view, entry.kind(), &body, most)?;
             Ok(told)
         }
     }
@@ -189,29 +200,28 @@ fn open_told(
 /// What an entry tells that stands at an address. Of a loop, and below 64 names, no entry is kept.
 fn entry_told(
     alloc: Global,
-    table: &BlockTable,
-    space: &Space,
+    view: View<'_>,
     entry: &Entry<'_>,
     address: LongAd,
     is_loop: bool,
     is_deep: bool,
     most: usize,
 ) -> Result<Told, NodesError>
-    requires { IsStanding (view (state_of table.now) space.now) address.reference address.block entry.now }
+    requires { IsStanding (view_now view) address.reference address.block entry.now }
     ensures standing { IfOk result (λ told. told.standing ≡ cond is_loop Standing.Loop (body_standing (entry_of entry.now).kind is_deep
-        (body (view (state_of table.now) space.now) address.reference address.block (entry_of entry.now)))) }
+        (body (view_now view.entry) address.reference address.block (entry_of entry.now)))) }
     ensures entries { IfOk result (λ told. told.entries.items ≡ cond (is_loop || is_deep) [] (kind_entries (entry_of entry.now).kind
-        (body (view (state_of table.now) space.now) address.reference address.block (entry_of entry.now)))) }
+        (body (view_now view.entry) address.reference address.block (entry_of entry.now)))) }
     ensures few { IfOk result (λ told. length told.entries.items ≤ most) }
     ensures refused { IfErr result (AreRefused most (cond (is_loop || is_deep) [] (kind_entries (entry_of entry.now).kind
-        (body (view (state_of table.now) space.now) address.reference address.block (entry_of entry.now))))) }
+        (body (view_now view.entry) address.reference address.block (entry_of entry.now))))) }
 {
     if is_loop || is_deep {
-        let standing = standing_told(alloc, table, space, entry, address, is_loop, is_deep)?;
+        let standing = standing_told(alloc, view, entry, address, is_loop, is_deep)?;
         let entries = Vec::new(alloc);
         return Ok(Told { standing, entries });
     }
-    let told = open_told(alloc, table, space, entry, address, most)?;
+    let told = open_told(alloc, view, entry, address, most)?;
     Ok(told)
 }
 
@@ -265,20 +275,19 @@ fn read(entry: &Entry<'_>, address: LongAd, path: Path, hidden: bool, standing: 
 #[tactic(auto, unfolding(crate::specs::Nodes::node, crate::specs::Routes::entries_below))]
 pub(crate) fn visited(
     alloc: Global,
-    table: &BlockTable,
-    space: &Space,
+    view: View<'_>,
     address: LongAd,
     path: Path,
     above: &[(u16, u32)],
     hidden: bool,
     most: usize,
 ) -> Result<Visit, NodesError>
-    ensures node { IfOk result (λ visit. visit.node ≡ node (view (state_of table.now) space.now) (end_at address path above.now hidden)) }
-    ensures entries { IfOk result (λ visit. visit.entries.items ≡ entries_below (view (state_of table.now) space.now) (end_at address path above.now hidden)) }
+    ensures node { IfOk result (λ visit. visit.node ≡ node (view_now view.entry) (end_at address path above.now hidden)) }
+    ensures entries { IfOk result (λ visit. visit.entries.items ≡ entries_below (view_now view.entry) (end_at address path above.now hidden)) }
     ensures few { IfOk result (λ visit. length visit.entries.items ≤ most) }
-    ensures refused { IfErr result (AreRefused most (entries_below (view (state_of table.now) space.now) (end_at address path above.now hidden))) }
+    ensures refused { IfErr result (AreRefused most (entries_below (view_now view.entry) (end_at address path above.now hidden))) }
 {
-    match target_at(table, space, address) {
+    match target_at(view, address) {
         Target::Fault(fault) => Ok(Visit {
             node: unread(address, path, hidden, Standing::Fault(fault)),
             entries: Vec::new(alloc),
@@ -292,8 +301,8 @@ pub(crate) fn visited(
         }
         Target::Entry(entry) => {
             let is_loop = is_loop(address, above);
-            let is_deep = path.len() >= 64;
-            let told = entry_told(alloc, table, space, &entry, address, is_loop, is_deep, most)?;
+            let is_deep = path.len() >= MOST_NAMES;
+            let told = entry_told(alloc, view, &entry, address, is_loop, is_deep, most)?;
             let Told { standing, entries } = told;
             Ok(Visit {
                 node: read(&entry, address, path, hidden, standing),

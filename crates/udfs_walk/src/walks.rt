@@ -3,6 +3,7 @@
 ghost use Rattle.std.specs.Prelude.{◌≡◌, ◌+◌, ◌≤◌, ◌∷◌, [], ◌++◌, IfErr, IfOk, MatchOption, MatchResult, length};
 ghost use Rattle.udfs_lattice.specs.Tables.{state_of};
 ghost use Rattle.udfs_space.specs.Places.{view};
+ghost use Rattle.udfs_space.specs.Views.{view_now};
 ghost use Rattle.udfs_walk.specs.Nodes.{node};
 ghost use Rattle.udfs_walk.specs.Visits.{AreRefused, end_at};
 ghost use Rattle.udfs_walk.specs.Walks.{AreNodes, IsNodesRefused};
@@ -19,8 +20,11 @@ use std::marker::Model;
 use std::vec::IntoIter;
 use udfs_file::{DirEntry, Marks};
 use udfs_lattice::BlockTable;
-use udfs_space::Space;
+use udfs_space::{Space, View};
 use udfs_tag::LongAd;
+
+/// The nodes that a volume may have.
+const MOST_NODES: usize = 65_536;
 
 /// A directory of which some entries may be left.
 #[derive(Drop)]
@@ -61,22 +65,19 @@ impl Frame {
     /// Goes to what stands at the end of a route: its node, and itself as a directory, where a route goes on.
     fn enter(
         alloc: Global,
-        table: &BlockTable,
-        space: &Space,
+        view: View<'_>,
         address: LongAd,
         path: Path,
         above: &[(u16, u32)],
         hidden: bool,
         most: usize,
     ) -> Result<(Node, Option<Frame>), NodesError>
-        ensures node { IfOk result (λ entered. entered.0 ≡ node (view (state_of table.now) space.now) (end_at address path above.now hidden)) }
-        ensures frame { IfOk result (λ entered. IsFrameOf entered.1 (frame_at (view (state_of table.now) space.now) (end_at address path above.now hidden))) }
+        ensures node { IfOk result (λ entered. entered.0 ≡ node (view_now view.entry) (end_at address path above.now hidden)) }
+        ensures frame { IfOk result (λ entered. IsFrameOf entered.1 (frame_at (view_now view.entry) (end_at address path above.now hidden))) }
         ensures few { IfOk result (λ entered. count_left entered.1 ≤ most) }
-        ensures refused { IfErr result (AreRefused most (entries_below (view (state_of table.now) space.now) (end_at address path above.now hidden))) }
+        ensures refused { IfErr result (AreRefused most (entries_below (view_now view.entry) (end_at address path above.now hidden))) }
     {
-        let Visit { node, entries } = visited(
-            alloc, table, space, address, path, above, hidden, most,
-        )?;
+        let Visit { node, entries } = visited(alloc, view, address, path, above, hidden, most)?;
         if entries.is_empty() {
             return Ok((node, None));
         }
@@ -92,13 +93,12 @@ impl Frame {
     fn step(
         &mut self,
         alloc: Global,
-        table: &BlockTable,
-        space: &Space,
+        view: View<'_>,
         most: usize,
     ) -> Result<Option<(Node, Option<Frame>)>, NodesError>
-        ensures taken { IfOk result (λ taken. IsTaken (view (state_of table.now) space.now) self.old taken self.new) }
+        ensures taken { IfOk result (λ taken. IsTaken (view_now view.entry) self.old taken self.new) }
         ensures few { IfOk result (λ taken. MatchOption taken (Unit {0}) (λ entered. count_left entered.1 ≤ most)) }
-        ensures refused { IfErr result (IsStepRefused (view (state_of table.now) space.now) most self.old) }
+        ensures refused { IfErr result (IsStepRefused (view_now view.entry) most self.old) }
     {
         let Some(entry) = self.entries.next() else {
             return Ok(None);
@@ -106,7 +106,7 @@ impl Frame {
         let DirEntry { name, icb, marks } = entry;
         let path = Path::inside(alloc, &self.names, name)?;
         let hidden = marks.contains(Marks::HIDDEN);
-        let entered = Frame::enter(alloc, table, space, icb, path, &self.above, hidden, most)?;
+        let entered = Frame::enter(alloc, view, icb, path, &self.above, hidden, most)?;
         Ok(Some(entered))
     }
 }
@@ -159,17 +159,18 @@ pub fn nodes(
     ensures { MatchResult result (λ found. AreNodes (view (state_of table.now) space.now) root found.items)
         (IsNodesRefused (view (state_of table.now) space.now) root) }
 {
+    let view = View { table, space };
     let path = Path::root(alloc)?;
     // So many nodes may still be found behind those that were, and behind the entries that are left.
-    let mut room: usize = 65535;
-    let (node, frame) = Frame::enter(alloc, table, space, root, path, &[], false, room)?;
+    let mut room: usize = MOST_NODES - 1;
+    let (node, frame) = Frame::enter(alloc, view, root, path, &[], false, room)?;
     room -= count_left(&frame);
     let mut nodes = Vec::new(alloc);
     put(&mut nodes, node)?;
     let mut frames = Vec::new(alloc);
     keep(&mut frames, frame)?;
     'walk: while let Some(mut frame) = frames.pop() {
-        let (node, below) = match frame.step(alloc, table, space, room)? {
+        let (node, below) = match frame.step(alloc, view, room)? {
             None => continue,
             Some(taken) => taken,
         };

@@ -1,7 +1,9 @@
--- What a flag among the words of a command asks for.
+-- What the words of a command ask for.
 --     IsPicked words flag given absent picked     the one thing with the flag, and the other without it
-use Rattle.std.specs.Prelude.{◌≡◌, ℕ, List, Some, None, codes}
-use Rattle.clap.specs.Matches.{one_text}
+--     input_texts words                           the paths of the inputs, in order
+--     out_text words                              the path of the output
+use Rattle.std.specs.Prelude.{◌≡◌, ℕ, List, [], Some, None, codes, option_map, unwrap_or}
+use Rattle.clap.specs.Matches.{matched_of, first_value, one_text, raw_values}
 use Rattle.clap.specs.declared.parser.matches.Found.{Found}
 
 -- clap reads a flag as `true` or `false`, and a flag that it does not know as nothing
@@ -9,3 +11,11 @@ pub record IsPicked {A : Type 0} (words : Found) (flag : List ℕ) (given absent
   pub with_flag : one_text words flag ≡ Some (codes "true") → picked ≡ given
   pub without_flag : one_text words flag ≡ Some (codes "false") → picked ≡ absent
   pub unknown_flag : one_text words flag ≡ None → picked ≡ absent
+
+-- all that was given as an input, each a path
+abbrev pub input_texts : Found → List (List ℕ)
+input_texts words = unwrap_or (option_map raw_values (matched_of words (codes "input"))) []
+
+-- what was given as the output, a path
+abbrev pub out_text : Found → List ℕ
+out_text words = unwrap_or (first_value words (codes "out")) []

@@ -4,3 +4,4 @@ pub mod Extracting
 pub mod Rereading
 pub mod JsonRuns
 pub mod Asking
+pub mod Keeping

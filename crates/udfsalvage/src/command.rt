@@ -1,16 +1,16 @@
 //! The program as a function: words and files in, a status out.
 
-ghost use Rattle.std.specs.Prelude.{◌≡◌, ◌≢◌, ◌⊎◌, ℕ, Bool, List, Some, None, Ok, IfOk, IfErr, OnErr, codes, cond};
+ghost use Rattle.std.specs.Prelude.{◌≡◌, ◌≢◌, ◌⊎◌, ℕ, Bool, List, Some, None, Ok, IfOk, IfErr, OnOk, OnErr, codes, cond, length, map};
 ghost use Rattle.clap.specs.Matches.{found_of, one_text};
-ghost use Rattle.std.specs.Io.KnownBytes.{Appends};
 ghost use Rattle.udfs_lattice.specs.Tables.{Table};
 ghost use Rattle.udfs_lattice.specs.Records.{join_all};
-ghost use Rattle.udfs_reading.specs.Several.{TablesAre};
 ghost use Rattle.udfs_salvage.specs.Running.{OfJoin};
 ghost use Rattle.udfs_salvage.specs.declared.extraction.Fill.{Fill};
-ghost use Rattle.udfsalvage.specs.Asking.{IsPicked};
+ghost use Rattle.udfsalvage.specs.Asking.{IsPicked, input_texts, out_text};
 ghost use Rattle.udfsalvage.specs.Extracting.{SaysGood};
 ghost use Rattle.udfsalvage.specs.JsonRuns.{PrintsAs};
+ghost use Rattle.udfsalvage.specs.Keeping.{IsKept, IsTaken, Joined};
+ghost use Rattle.std.specs.Borrow.{Bor};
 ghost use Rattle.udfsalvage.specs.Rereading.{PrintsNumbers};
 ghost use Rattle.udfsalvage.specs.Spelling.{table_file};
 ghost use Rattle.udfsalvage.specs.declared.merge.Version.{Version};
@@ -60,7 +60,7 @@ pub fn run<F: Files, O: Sink, E: Sink>(
     };
     let outcome = match matches.subcommand() {
         Some(("merge", words)) => match merge_words(alloc, words, files) {
-            Ok(_) => Ok(true),
+            Ok(()) => Ok(true),
             Err(refusal) => Err(refusal),
         },
         Some(("report", words)) => report_words(alloc, words, files, out),
@@ -91,15 +91,25 @@ fn merge_words<F: Files>(
     alloc: Global,
     words: &ArgMatches<'_>,
     files: &mut F,
-) -> Result<F::Output, Refusal>
-    ensures written { IfOk result (λ output. (sources : List F.Input) × (before : F.Output) × (version : Version) × (tables : List Table) ×
-        IsPicked (found_of words.now) (codes "v1") Version.One Version.Two version ×
-        TablesAre F.Input.remaining sources tables × Appends (F.Output.contents before) (F.Output.contents output) (table_file version (join_all tables))) }
-    ensures untouched { IfErr result (λ refusal. refusal ≢ Refusal.Output → files.new ≡ files.old) }
+) -> Result<(), Refusal>
+    ensures written { OnOk result ((version : Version) × (inputs : List (Bor (List ℕ))) × (tables : List Table) × IsPicked (found_of words.now) (codes "v1") Version.One Version.Two version ×
+        (map (λ path. path.now) inputs ≡ input_texts (found_of words.now)) × Joined (λ path. F.holds files.old (F.real files.old path)) F.Input.remaining inputs tables ×
+        ((F.tells → IsKept (F.holds files.new) (F.may_leave files.new) (F.real files.old (out_text (found_of words.now))) (table_file version (join_all tables)))
+        ⊎ (F.in_place files.old (out_text (found_of words.now)) × IsTaken F.Output.contents (table_file version (join_all tables))))) }
+    ensures untouched { IfErr result (λ refusal. refusal ≢ Refusal.Output → refusal ≢ Refusal.Unkept → files.new ≡ files.old) }
 {
     let inputs = words.get_strs(INPUTS).unwrap_or(&[]);
-    let out = words.get_str(OUT).unwrap_or("");
-    merge(alloc, inputs, out, asked_version(words), files)
+    match merge(alloc, inputs, asked_out(words), asked_version(words), files) {
+        Ok(()) => Ok(()),
+        Err(refusal) => Err(refusal),
+    }
+}
+
+/// The path of the output among the words after `merge`. The grammar asks for it.
+fn asked_out<'a>(words: &ArgMatches<'a>) -> &'a str
+    ensures { result.now ≡ out_text (found_of words.now) }
+{
+    words.get_str(OUT).unwrap_or("")
 }
 
 /// The version of the table file that the words after `merge` ask for: 1 with `--v1`, and else 2.
@@ -121,7 +131,7 @@ fn report_words<F: Files, O: Sink>(
     files: &F,
     out: &mut O,
 ) -> Result<bool, Refusal>
-    ensures printed { IfOk result (λ whole. (form : Form) × (last : ℕ) × (sources : List F.Input) ×
+    ensures printed { IfOk result (λ whole. (form : Form) × (last : ℕ) × (sources : List F.Input) × (length sources ≡ length (input_texts (found_of words.now))) ×
         IsPicked (found_of words.now) (codes "json") Form.Json Form.Text form ×
         OfJoin F.Input.remaining sources (PrintsAs form last (O.contents out.old) (O.contents out.new) (O.faults out.old) (O.faults out.new) whole)) }
 {
@@ -150,7 +160,7 @@ fn reread_words<F: Files, O: Sink>(
     files: &F,
     out: &mut O,
 ) -> Result<bool, Refusal>
-    ensures printed { IfOk result (λ whole. (last : ℕ) × (sources : List F.Input) × OfJoin F.Input.remaining sources
+    ensures printed { IfOk result (λ whole. (last : ℕ) × (sources : List F.Input) × (length sources ≡ length (input_texts (found_of words.now))) × OfJoin F.Input.remaining sources
         (PrintsNumbers last (O.contents out.old) (O.contents out.new) (O.faults out.old) (O.faults out.new) whole)) }
 {
     let inputs = words.get_strs(INPUTS).unwrap_or(&[]);
@@ -166,7 +176,7 @@ fn extract_words<F: Files, O: Sink>(
     files: &mut F,
     out: &mut O,
 ) -> Result<bool, Refusal>
-    ensures good { IfOk result (λ good. (last : ℕ) × (sources : List F.Input) × OfJoin F.Input.remaining sources (SaysGood last good)) }
+    ensures good { IfOk result (λ good. (last : ℕ) × (sources : List F.Input) × (length sources ≡ length (input_texts (found_of words.now))) × OfJoin F.Input.remaining sources (SaysGood last good)) }
 {
     let inputs = words.get_strs(INPUTS).unwrap_or(&[]);
     // The grammar asks for both.

@@ -1,6 +1,6 @@
 //! The table of the inputs.
 
-ghost use Rattle.std.specs.Prelude.{◌≡◌, List, IfOk};
+ghost use Rattle.std.specs.Prelude.{◌≡◌, List, IfOk, length};
 ghost use Rattle.udfs_salvage.specs.Running.{OfJoin};
 
 use crate::files::Files;
@@ -10,9 +10,9 @@ use std::alloc::Global;
 use udfs_lattice::BlockTable;
 use udfs_reading::join_inputs;
 
-/// The join of the inputs' tables. All inputs are opened in order before one is read, and closed again.
+/// The join of the inputs' tables, one source an input. All inputs are opened in order before one is read, and closed again.
 pub fn joined<F: Files>(alloc: Global, inputs: &[&str], files: &F) -> Result<BlockTable, Refusal>
-    ensures { IfOk result (λ table. (sources : List F.Input) × OfJoin F.Input.remaining sources (λ t. table ≡ t)) }
+    ensures { IfOk result (λ table. (sources : List F.Input) × (length sources ≡ length inputs.now) × OfJoin F.Input.remaining sources (λ t. table ≡ t)) }
 {
     let mut sources = open_all(alloc, inputs, files)?;
     let table = join_inputs(alloc, sources.as_mut_slice())?;

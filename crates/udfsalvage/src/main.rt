@@ -5,7 +5,6 @@ mod command;
 mod extract;
 mod files;
 mod inputs;
-mod machine;
 mod merge;
 mod printing;
 mod refusal;
@@ -15,10 +14,10 @@ mod reread;
 mod tests;
 mod words;
 
-use machine::Machine;
 use std::alloc::Global;
 use std::process::ExitCode;
 use std::{env, io};
+use udfs_files::Machine;
 use udfs_reading::Writer;
 
 /// The words of the command line, the program's name first. It fails where one of them is not text.

@@ -23,6 +23,10 @@ pub enum Refusal {
     #[error("cannot write output")]
     Output,
 
+    /// The output is in its place, whole, but its folder could not be synced: a power cut may bring the old one back.
+    #[error("cannot write output\n  the new file is in its place, whole, but a power cut may bring the old one back")]
+    Unkept,
+
     /// The new folder cannot be made.
     #[error("cannot make the folder")]
     Folder,

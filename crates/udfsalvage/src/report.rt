@@ -29,7 +29,7 @@ pub fn report_as<F: Files, O: Sink>(
     files: &F,
     out: &mut O,
 ) -> Result<bool, Refusal>
-    ensures printed { IfOk result (λ whole. (sources : List F.Input) ×
+    ensures printed { IfOk result (λ whole. (sources : List F.Input) × (length sources ≡ length inputs.now) ×
         OfJoin F.Input.remaining sources (PrintsAs form last (O.contents out.old) (O.contents out.new) (O.faults out.old) (O.faults out.new) whole)) }
 {
     match form {
@@ -46,7 +46,7 @@ fn report_in_json<F: Files, O: Sink>(
     files: &F,
     out: &mut O,
 ) -> Result<bool, Refusal>
-    ensures printed { IfOk result (λ whole. (sources : List F.Input) ×
+    ensures printed { IfOk result (λ whole. (sources : List F.Input) × (length sources ≡ length inputs.now) ×
         OfJoin F.Input.remaining sources (PrintsJson last (O.contents out.old) (O.contents out.new) (O.faults out.old) (O.faults out.new) whole)) }
 {
     let table = joined(alloc, inputs, files)?;

@@ -1,6 +1,6 @@
 //! The command `reread`: readings in, the numbers of the blocks to read again out.
 
-ghost use Rattle.std.specs.Prelude.{◌≡◌, List, IfOk};
+ghost use Rattle.std.specs.Prelude.{◌≡◌, List, IfOk, length};
 ghost use Rattle.udfs_salvage.specs.Running.{OfJoin};
 ghost use Rattle.udfsalvage.specs.Rereading.{PrintsNumbers};
 
@@ -20,7 +20,7 @@ pub fn reread<F: Files, O: Sink>(
     files: &F,
     out: &mut O,
 ) -> Result<bool, Refusal>
-    ensures printed { IfOk result (λ whole. (sources : List F.Input) × OfJoin F.Input.remaining sources
+    ensures printed { IfOk result (λ whole. (sources : List F.Input) × (length sources ≡ length inputs.now) × OfJoin F.Input.remaining sources
         (PrintsNumbers last (O.contents out.old) (O.contents out.new) (O.faults out.old) (O.faults out.new) whole)) }
 {
     let table = joined(alloc, inputs, files)?;

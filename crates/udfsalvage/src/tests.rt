@@ -4,6 +4,7 @@ mod devices;
 mod extracting;
 mod hostile;
 mod json;
+mod keeping;
 mod memory;
 mod merging;
 mod refusals;

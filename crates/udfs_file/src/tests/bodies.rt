@@ -1,6 +1,6 @@
 //! Bodies.
 
-use super::told::{cells, stretches};
+use super::told::{cells, portions, stretches};
 use std::test::Fail;
 use udfs_samples::{Bytes, Disc};
 
@@ -54,6 +54,49 @@ fn missing_blocks(rt: HostRuntime) -> Result<(), Fail> {
     assert_eq!(rt;
         cells(alloc, &ends, 0, 3)?.as_str(),
         "cells ?277*2048 62*2048 ?279*904"
+    );
+    Ok(())
+}
+
+#[test]
+fn portions_of_a_body(rt: HostRuntime) -> Result<(), Fail> {
+    let alloc = rt.alloc();
+    let mut disc = Disc::type1(alloc)?;
+    let whole = disc.known_but(alloc, &[])?;
+    assert_eq!(rt;
+        portions(alloc, &whole, 0, 3)?.as_str(),
+        "portions bytes 2048 bytes 2048 bytes 904"
+    );
+    let middle = disc.known_but(alloc, &[278])?;
+    assert_eq!(rt;
+        portions(alloc, &middle, 0, 3)?.as_str(),
+        "portions bytes 2048 missing 278 to 278 2048 bytes 904"
+    );
+    // Blocks that follow one another are one run.
+    let two = disc.known_but(alloc, &[278, 279])?;
+    assert_eq!(rt;
+        portions(alloc, &two, 0, 3)?.as_str(),
+        "portions bytes 2048 missing 278 to 279 2952"
+    );
+    let all = disc.known_but(alloc, &[277, 278, 279])?;
+    assert_eq!(rt;
+        portions(alloc, &all, 0, 3)?.as_str(),
+        "portions missing 277 to 279 5000"
+    );
+    // An extent of 4096 bytes that is allocated and not recorded.
+    disc.write(&[
+        (275, 56, &[0, 0x10]),
+        (275, 176, &[0, 0x10, 0, 0x40, 0, 0, 0, 0]),
+    ])?;
+    let unrecorded = disc.known_but(alloc, &[])?;
+    assert_eq!(rt;
+        portions(alloc, &unrecorded, 0, 3)?.as_str(),
+        "portions zeros 4096"
+    );
+    let ahead = Disc::continued(alloc)?.known_but(alloc, &[278])?;
+    assert_eq!(rt;
+        portions(alloc, &ahead, 0, 3)?.as_str(),
+        "portions bytes 2048 missing 278 to 278 2048"
     );
     Ok(())
 }

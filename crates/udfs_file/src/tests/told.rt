@@ -7,12 +7,13 @@ use crate::directories::{Dir, DirFront};
 use crate::entries::Entry;
 use crate::faults::{Kind, NodeFault, WalkError};
 use crate::file_sets::file_set;
+use crate::portions::Portion;
 use crate::stretches::{Run, Stretch};
 use std::alloc::{AllocError, Global};
 use std::test::Fail;
 use udfs_lattice::{BlockTable, Fact};
 use udfs_samples::LAST;
-use udfs_space::Space;
+use udfs_space::{Space, View};
 use udfs_tag::LongAd;
 use udfs_volume::Seen;
 use udfs_volume::layouts::layout;
@@ -143,6 +144,37 @@ pub fn stretches(
             }
             Stretch::Zeros(count) => format!(in alloc; " zeros {count}")?,
             Stretch::Missing(n, count) => format!(in alloc; " missing {n} {count}")?,
+        };
+        text.push_str(one.as_str())?;
+    }
+    Ok(text)
+}
+
+/// The portions of a body, or its fault.
+pub fn portions(alloc: Global, table: &BlockTable, reference: u16, b: u32) -> Result<String, Fail> {
+    let Some((space, _)) = laid_out(alloc, table) else {
+        return Ok(format!(in alloc; "no layout")?);
+    };
+    let body = match body_of(alloc, table, &space, reference, b)? {
+        Ok(body) => body,
+        Err(text) => return Ok(text),
+    };
+    let mut text = format!(in alloc; "portions")?;
+    let view = View {
+        table,
+        space: &space,
+    };
+    for portion in body.portions(view) {
+        let one = match portion {
+            Portion::Bytes(bytes) => {
+                let count = bytes.len();
+                format!(in alloc; " bytes {count}")?
+            }
+            Portion::Zeros(count) => format!(in alloc; " zeros {count}")?,
+            Portion::Missing(run) => {
+                let (first, last, count) = (run.first, run.last, run.count);
+                format!(in alloc; " missing {first} to {last} {count}")?
+            }
         };
         text.push_str(one.as_str())?;
     }

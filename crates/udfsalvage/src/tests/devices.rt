@@ -36,7 +36,7 @@ fn an_input_that_fails_after_any_count_is_told(rt: HostRuntime) -> Result<(), Fa
     Ok(())
 }
 
-/// The output has 4122 bytes, and what is out is a beginning of them.
+/// The output has 4122 bytes. A write that fails leaves the old file, and no other.
 #[test]
 fn an_output_that_fails_after_any_count_is_told(rt: HostRuntime) -> Result<(), Fail> {
     let alloc = rt.alloc();
@@ -51,8 +51,9 @@ fn an_output_that_fails_after_any_count_is_told(rt: HostRuntime) -> Result<(), F
             ran.is_refused("udfsalvage: cannot write output\n"),
             "after {good}: {ran:?}"
         );
-        let begun = whole.as_slice().get(..good).unwrap_or(&[]);
-        assert!(rt; memory.has("t.tab", begun), "after {good}");
+        assert!(rt; memory.has("t.tab", &[0x77; 5000]), "after {good}");
+        assert!(rt; memory.survives("t.tab", &[0x77; 5000]), "after {good}");
+        assert_eq!(rt; memory.count(), 2);
     }
     Ok(())
 }
@@ -122,6 +123,9 @@ fn is_done_or_wants_memory(alloc: Global) -> Result<bool, AllocError> {
     let whole = table(alloc, &[(300, 0x61), (301, 0x62)])?;
     let mut memory = prepared(alloc)?;
     let ran = ran(alloc, &mut memory, WORDS)?;
+    if memory.wanted_memory() {
+        return Err(AllocError);
+    }
     if ran.status == 0 {
         return Ok(ran.is_silent() && memory.has("t.tab", whole.as_slice()));
     }

@@ -240,8 +240,8 @@ fn a_device_that_fails(rt: HostRuntime) -> Result<(), Fail> {
     memory.outputs.good = 3000;
     let ran = ran(alloc, &mut memory, WORDS)?;
     assert!(rt; is_done(&ran, 1, "failed /A\nwritten /B\n"), "{ran:?}");
-    let begun = runs(alloc, &[(0x61, 2048), (0x62, 952)])?;
-    assert!(rt; memory.has("out/A", begun.as_slice()));
+    assert!(rt; memory.is_absent("out/A"));
+    assert!(rt; memory.survives("out/B", b"Hi"));
     Ok(())
 }
 
@@ -303,6 +303,9 @@ fn is_done_or_wants_memory(alloc: Global) -> Result<bool, AllocError> {
     };
     let mut memory = with_table(alloc, &table)?;
     let ran = ran(alloc, &mut memory, WORDS)?;
+    if memory.wanted_memory() {
+        return Err(AllocError);
+    }
     let out = ran.out.as_str();
     let has_a = !out.contains("written /A\n") || memory.has("out/A", a.as_slice());
     let has_b = !out.contains("written /B\n") || memory.has("out/B", b"Hi");

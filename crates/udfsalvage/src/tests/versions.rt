@@ -80,10 +80,10 @@ fn the_sample_volume_is_nineteen_packets(rt: HostRuntime) -> Result<(), Fail> {
     assert!(rt; ran(alloc, &mut memory, "merge --v1 --out s1.tab s.rd")?.is_silent());
     assert_eq!(rt; memory.len("s.tab"), 1_231_092);
     assert_eq!(rt; memory.len("s1.tab"), 1_233_869);
-    assert!(rt; memory.holds("s.tab", 12, &[19, 0, 0, 0]));
+    assert!(rt; memory.has_at("s.tab", 12, &[19, 0, 0, 0]));
     // The last packet has the blocks 576 to 600.
     assert!(rt;
-        memory.holds(
+        memory.has_at(
             "s.tab",
             16 + 18 * (12 + 32 * 2048),
             &[18, 0, 0, 0, 0xFF, 0xFF, 0xFF, 1, 0, 0, 0, 0]

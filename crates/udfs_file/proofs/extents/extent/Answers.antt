@@ -21,16 +21,16 @@ returns-then-is_odd c = λ blocks.
     (sym (c.is_misreferred.ensures blocks) ∙ c.if-is_misreferred.false) (sym (c.is_misplaced.ensures blocks) ∙ c.if-is_misplaced.false)
     (sym c.is_odd.ensures ∙ c.if-is_odd.true)
 
-pub returns-then-d-eq0 : goal.returns-then-d-eq0
-returns-then-d-eq0 c = λ blocks.
+pub returns-then-d-eq-RECORDED : goal.returns-then-d-eq-RECORDED
+returns-then-d-eq-RECORDED c = λ blocks.
     let e : c.min-count.result ≡ cells_in c.args.size (c.args.c, c.args.d) = cc (count_is c.args.size c.args.c c.args.d c.requires.is_extent) in
     recorded (view blocks c.args.space.now) c.args.size c.args.c c.min-count.result c.args.d e
     (sym (c.is_misreferred.ensures blocks) ∙ c.if-is_misreferred.false) (sym (c.is_misplaced.ensures blocks) ∙ c.if-is_misplaced.false)
-    (sym c.is_odd.ensures ∙ c.if-is_odd.false) c.requires.is_extent c.if-d-eq0.true
+    (sym c.is_odd.ensures ∙ c.if-is_odd.false) c.requires.is_extent c.if-d-eq-RECORDED.true
 
-pub returns-else-d-eq0 : goal.returns-else-d-eq0
-returns-else-d-eq0 c = λ blocks.
+pub returns-else-d-eq-RECORDED : goal.returns-else-d-eq-RECORDED
+returns-else-d-eq-RECORDED c = λ blocks.
     let e : c.min-count.result ≡ cells_in c.args.size (c.args.c, c.args.d) = cc (count_is c.args.size c.args.c c.args.d c.requires.is_extent) in
     zeros (view blocks c.args.space.now) c.args.size c.args.c c.min-count.result c.args.d e
     (sym (c.is_misreferred.ensures blocks) ∙ c.if-is_misreferred.false) (sym (c.is_misplaced.ensures blocks) ∙ c.if-is_misplaced.false)
-    (sym c.is_odd.ensures ∙ c.if-is_odd.false) c.requires.is_extent c.if-d-eq0.false
+    (sym c.is_odd.ensures ∙ c.if-is_odd.false) c.requires.is_extent c.if-d-eq-RECORDED.false

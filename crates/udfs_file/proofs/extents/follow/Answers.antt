@@ -1,20 +1,21 @@
 use Rattle.std.proofs.Common.{◌∙◌, ap, Option, None, ℕ}
 use Rattle.udfs_lattice.specs.States.{State}
 use Rattle.udfs_lattice.specs.Tables.{state_of}
-use Rattle.udfs_space.specs.Places.{view, block_at}
+use Rattle.udfs_space.specs.Views.{view_now}
+use Rattle.udfs_space.specs.Places.{block_at}
 use Rattle.udfs_file.specs.Bodies.{next_if}
 use Rattle.udfs_file.specs.declared.faults.NodeFault.{NodeFault}
 use Rattle.udfs_file.proofs.extents.follow.Goals as goal
 
 pub returns-in-Some-clause-value : goal.returns-in-Some-clause-value
 returns-in-Some-clause-value c =
-    ap (λ (o : Option NodeFault). next_if c.args.form c.args.d.block o (block_at (view (state_of c.args.table.now) c.args.space.now) c.args.d.reference c.args.d.block))
-    (c.in-Some.ensures.value (state_of c.args.table.now))
+    ap (λ (o : Option NodeFault). next_if c.args.form c.args.d.block o (block_at (view_now c.args.view) c.args.d.reference c.args.d.block))
+    (c.in-Some.ensures.value (state_of c.args.view.table.now))
 
 pub returns-in-None-clause-value : goal.returns-in-None-clause-value
 returns-in-None-clause-value c =
     c.area_at.ensures.value
     ∙ ap (λ (b : Option (ℕ × State)). next_if c.args.form c.args.d.block None b) c.block_at.ensures.value
-    ∙ ap (λ n. next_if c.args.form c.args.d.block None (block_at (view (state_of c.args.table.now) c.args.space.now) c.args.d.reference n)) c.from.ensures
-    ∙ ap (λ (o : Option NodeFault). next_if c.args.form c.args.d.block o (block_at (view (state_of c.args.table.now) c.args.space.now) c.args.d.reference c.args.d.block))
-    (c.in-None.ensures.value (state_of c.args.table.now))
+    ∙ ap (λ n. next_if c.args.form c.args.d.block None (block_at (view_now c.args.view) c.args.d.reference n)) c.from.ensures
+    ∙ ap (λ (o : Option NodeFault). next_if c.args.form c.args.d.block o (block_at (view_now c.args.view) c.args.d.reference c.args.d.block))
+    (c.in-None.ensures.value (state_of c.args.view.table.now))

@@ -7,7 +7,7 @@ use Rattle.udfs_salvage.specs.Reports.{report_now}
 use Rattle.udfs_salvage.specs.Extraction.{Extracts, fill_byte, filled, is_offered}
 use Rattle.udfs_salvage.proofs.Extracting.{report_cells, not_refused, same_node, true_false}
 use Rattle.udfs_salvage.proofs.Founds.{found_same}
-use Rattle.udfs_salvage.proofs.TreeBytes.{writes_file}
+use Rattle.udfs_salvage.proofs.TreeBytes.{fills_file, writes_file}
 use Rattle.udfs_salvage.proofs.extraction.extract.Goals as goal
 
 pub returns-in-Open-clause-cells : goal.returns-in-Open-clause-cells
@@ -53,3 +53,11 @@ returns-in-Open-clause-tree g c = λ last n is at whole.
     writes_file (state_of r.table.now) last c.args.index (report_now r) (fill_byte c.args.fill)
     (λ bytes. Extracts (W.contents c.args.sink.now) (W.contents c.write_at.new.sink) (W.faults c.args.sink.now) (W.faults c.write_at.new.sink) bytes c.write_at.result)
     is n at whole (returns-in-Open-clause-cells g c last n is at (ap (λ s. is_offered s n.size c.args.fill) whole))
+
+pub returns-in-Open-clause-filled : goal.returns-in-Open-clause-filled
+returns-in-Open-clause-filled g c = λ last n is at offered.
+    let W = g.W.Sink in
+    let r = c.args.report.now in
+    fills_file (state_of r.table.now) last c.args.index (report_now r) (fill_byte c.args.fill) c.args.fill
+    (λ bytes. Extracts (W.contents c.args.sink.now) (W.contents c.write_at.new.sink) (W.faults c.args.sink.now) (W.faults c.write_at.new.sink) bytes c.write_at.result)
+    is n at offered (returns-in-Open-clause-cells g c last n is at offered)

@@ -1,4 +1,4 @@
-use Rattle.std.proofs.Common.{◌≡◌, sym, ◌∙◌, ap, map, drop, Some}
+use Rattle.std.proofs.Common.{◌≡◌, sym, ◌∙◌, ap, map, Some}
 use Rattle.std.specs.Prelude.{option_map}
 use Rattle.std.specs.List.{list_all}
 use Rattle.udfs_tag.specs.Fields.{long_ad_of}
@@ -26,7 +26,7 @@ returns c =
     let is : described (sequence_now c.args.sequence.now) (map numbered_now c.args.maps.items) ≡ Some ps = sym c.in_ok-all.ensures ∙ ap (option_map (λ all. map described_now all.items)) c.in-Some.is in
     let contents = ap (λ xs. list_all has_contents (map described_now xs)) (sym c.deref.ensures.value) ∙ sym c.have_contents.ensures ∙ c.if-not-have_contents.false in
     let range = ap (λ xs. list_all (λ p. is_in_range c.args.last (partition_of p)) (map described_now xs)) (sym c.deref-2.ensures.value) ∙ sym c.are_in_range.ensures ∙ c.if-not-are_in_range.false in
-    let file_set = c.read-file_set.ensures.value ∙ ap long_ad_of (c.behind.ensures.value ∙ ap (drop 232) c.content.ensures.content) in
+    let file_set = c.read-file_set.ensures.value ∙ ap long_ad_of c.from.ensures.value in
     ap (laid_out c.args.last lv) is ∙ laid_out-found c.args.last lv ps contents range
     ∙ (λ i. found (record {
       last = c.args.last;

@@ -10,7 +10,7 @@ pub returns-in_default : goal.returns-in_default
 returns-in_default c =
     let lv = descriptor_now c.args.volume.now in
     let last = c.args.last in
-    let table = c.behind-table.ensures.value ∙ ap (drop 424) c.content-content.ensures.content in
+    let table = c.from-table.ensures.value in
     let first : option_map numbered_now c.in_ok-first.field-0 ≡ first_of last lv = c.in_ok-first.ensures ∙ (λ i. read_map last (c.uint32-left.ensures i) (table i)) in
     maps-none last lv c.requires (sym first ∙ ap (option_map numbered_now) c.in_default.is)
 
@@ -18,7 +18,7 @@ pub returns-then-uint32-eq1 : goal.returns-then-uint32-eq1
 returns-then-uint32-eq1 c =
     let lv = descriptor_now c.args.volume.now in
     let last = c.args.last in
-    let table = c.behind-table.ensures.value ∙ ap (drop 424) c.content-content.ensures.content in
+    let table = c.from-table.ensures.value in
     let first : option_map numbered_now c.in_ok-first.field-0 ≡ first_of last lv = c.in_ok-first.ensures ∙ (λ i. read_map last (c.uint32-left.ensures i) (table i)) in
     let some : Some (numbered_now c.in-Some.first) ≡ first_of last lv = ap (option_map numbered_now) (sym c.in-Some.is) ∙ first in
     ap (λ ms. Some (map numbered_now ms)) c.in_ok-vec.ensures.items
@@ -28,7 +28,7 @@ pub returns-in_default-2 : goal.returns-in_default-2
 returns-in_default-2 c =
     let lv = descriptor_now c.args.volume.now in
     let last = c.args.last in
-    let table = c.behind-table.ensures.value ∙ ap (drop 424) c.content-content.ensures.content in
+    let table = c.from-table.ensures.value in
     let first : option_map numbered_now c.in_ok-first.field-0 ≡ first_of last lv = c.in_ok-first.ensures ∙ (λ i. read_map last (c.uint32-left.ensures i) (table i)) in
     let some : Some (numbered_now c.in-Some.first) ≡ first_of last lv = ap (option_map numbered_now) (sym c.in-Some.is) ∙ first in
     let count = two_if (map_count lv) c.requires (λ e. c.if-uint32-eq1.false (c.uint32.ensures ∙ e)) in
@@ -40,7 +40,7 @@ pub returns-then-is_kind_of : goal.returns-then-is_kind_of
 returns-then-is_kind_of c =
     let lv = descriptor_now c.args.volume.now in
     let last = c.args.last in
-    let table = c.behind-table.ensures.value ∙ ap (drop 424) c.content-content.ensures.content in
+    let table = c.from-table.ensures.value in
     let first : option_map numbered_now c.in_ok-first.field-0 ≡ first_of last lv = c.in_ok-first.ensures ∙ (λ i. read_map last (c.uint32-left.ensures i) (table i)) in
     let some : Some (numbered_now c.in-Some.first) ≡ first_of last lv = ap (option_map numbered_now) (sym c.in-Some.is) ∙ first in
     let count = two_if (map_count lv) c.requires (λ e. c.if-uint32-eq1.false (c.uint32.ensures ∙ e)) in
@@ -53,7 +53,7 @@ pub returns : goal.returns
 returns c =
     let lv = descriptor_now c.args.volume.now in
     let last = c.args.last in
-    let table = c.behind-table.ensures.value ∙ ap (drop 424) c.content-content.ensures.content in
+    let table = c.from-table.ensures.value in
     let first : option_map numbered_now c.in_ok-first.field-0 ≡ first_of last lv = c.in_ok-first.ensures ∙ (λ i. read_map last (c.uint32-left.ensures i) (table i)) in
     let some : Some (numbered_now c.in-Some.first) ≡ first_of last lv = ap (option_map numbered_now) (sym c.in-Some.is) ∙ first in
     let count = two_if (map_count lv) c.requires (λ e. c.if-uint32-eq1.false (c.uint32.ensures ∙ e)) in

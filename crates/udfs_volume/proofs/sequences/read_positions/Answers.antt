@@ -22,17 +22,17 @@ returns-in-Invalid c =
     let e = c.args.extents in
     stops-invalid (row t e) c.loop-i.i (e.main.length / 2048) (map descriptor_now c.loop-i.descriptors.items) (read_positions (positions t e)) c.loop-i-test.true c.in-Invalid.ensures c.loop-i.invariant
 
-pub returns-then-descriptor-eq3 : goal.returns-then-descriptor-eq3
-returns-then-descriptor-eq3 c =
+pub returns-then-descriptor-eq-VOLUME_DESCRIPTOR_POINTER : goal.returns-then-descriptor-eq-VOLUME_DESCRIPTOR_POINTER
+returns-then-descriptor-eq-VOLUME_DESCRIPTOR_POINTER c =
     let t = state_of c.args.table.now in
     let e = c.args.extents in
-    stops-pointer (row t e) c.loop-i.i (e.main.length / 2048) (map descriptor_now c.loop-i.descriptors.items) (read_positions (positions t e)) (descriptor_now c.in-Descriptor.descriptor) c.loop-i-test.true c.in-Descriptor.ensures c.if-descriptor-eq3.true c.loop-i.invariant
+    stops-pointer (row t e) c.loop-i.i (e.main.length / 2048) (map descriptor_now c.loop-i.descriptors.items) (read_positions (positions t e)) (descriptor_now c.in-Descriptor.descriptor) c.loop-i-test.true c.in-Descriptor.ensures c.if-descriptor-eq-VOLUME_DESCRIPTOR_POINTER.true c.loop-i.invariant
 
-pub returns-then-descriptor-eq8 : goal.returns-then-descriptor-eq8
-returns-then-descriptor-eq8 c =
+pub returns-then-descriptor-eq-TERMINATING : goal.returns-then-descriptor-eq-TERMINATING
+returns-then-descriptor-eq-TERMINATING c =
     let t = state_of c.args.table.now in
     let e = c.args.extents in
-    stops-end (row t e) c.loop-i.i (e.main.length / 2048) (map descriptor_now c.loop-i.descriptors.items) (read_positions (positions t e)) (descriptor_now c.in-Descriptor.descriptor) c.loop-i-test.true c.in-Descriptor.ensures c.if-descriptor-eq8.true c.loop-i.invariant
+    stops-end (row t e) c.loop-i.i (e.main.length / 2048) (map descriptor_now c.loop-i.descriptors.items) (read_positions (positions t e)) (descriptor_now c.in-Descriptor.descriptor) c.loop-i-test.true c.in-Descriptor.ensures c.if-descriptor-eq-TERMINATING.true c.loop-i.invariant
 
 pub loop-i-preserved : goal.loop-i-preserved
 loop-i-preserved c =
@@ -43,4 +43,4 @@ loop-i-preserved c =
     let rest = read_positions (map (row t e) (range_with_len (c.loop-i.i + 1) (e.main.length / 2048 - (c.loop-i.i + 1)))) in
     ap (λ ds. after (map descriptor_now ds) rest) c.in_ok-push-in-Descriptor.ensures.items
     ∙ ap (λ ds. after ds rest) (map-append descriptor_now old (d ∷ []))
-    ∙ goes-on (row t e) c.loop-i.i (e.main.length / 2048) (map descriptor_now old) (read_positions (positions t e)) (descriptor_now d) c.loop-i-test.true c.in-Descriptor.ensures (ne_eqb d.identifier 3 c.if-descriptor-eq3.false) (ne_eqb d.identifier 8 c.if-descriptor-eq8.false) c.loop-i.invariant
+    ∙ goes-on (row t e) c.loop-i.i (e.main.length / 2048) (map descriptor_now old) (read_positions (positions t e)) (descriptor_now d) c.loop-i-test.true c.in-Descriptor.ensures (ne_eqb d.identifier 3 c.if-descriptor-eq-VOLUME_DESCRIPTOR_POINTER.false) (ne_eqb d.identifier 8 c.if-descriptor-eq-TERMINATING.false) c.loop-i.invariant

@@ -1,6 +1,5 @@
 use Rattle.std.proofs.Common.{◌∙◌, sym, ap}
-use Rattle.udfs_lattice.specs.Tables.{state_of}
-use Rattle.udfs_space.specs.Places.{view}
+use Rattle.udfs_space.specs.Views.{view_now}
 use Rattle.udfs_walk.specs.UnnamedEntries.{unnamed_at}
 use Rattle.udfs_walk.proofs.NamedLemmas.{push_some, push_none}
 use Rattle.udfs_walk.proofs.unnamed_entries.push_unnamed.Goals as goal
@@ -8,7 +7,7 @@ use Rattle.udfs_walk.proofs.unnamed_entries.push_unnamed.Goals.{in-Some+in_ok-pu
 
 pub loop-block-preserved : goal.loop-block-preserved
 loop-block-preserved c = λ nodes a.
-    let f = unnamed_at (view (state_of c.args.table.now) c.args.space.now) nodes in
+    let f = unnamed_at (view_now c.args.view) nodes in
     elim c.match-branch-2.branch [
       | in-Some+in_ok-push-in-Some w ↦ push_some f c.args.reference c.loop-block.block c.args.found.now.items c.loop-block.found.items c.match-branch-2.found.items w.in-Some.entry
           (c.loop-block.invariant nodes a) (sym w.in-Some.is ∙ c.in_ok-entry.ensures nodes a) (ap (λ x. x.items) w.found-is ∙ w.in_ok-push-in-Some.ensures.items)

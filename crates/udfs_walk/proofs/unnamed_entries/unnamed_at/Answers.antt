@@ -1,27 +1,26 @@
 use Rattle.std.proofs.Common.{refl, sym, true}
-use Rattle.udfs_lattice.specs.Tables.{state_of}
-use Rattle.udfs_space.specs.Places.{view}
+use Rattle.udfs_space.specs.Views.{view_now}
 use Rattle.udfs_file.specs.Entries.{entry_of}
 use Rattle.udfs_walk.specs.Targets.{bad, unread}
 use Rattle.udfs_walk.proofs.NamedLemmas.{no_entry, is_named, is_unnamed}
 use Rattle.udfs_walk.proofs.unnamed_entries.unnamed_at.Goals as goal
 
 pub returns-then-is_at : goal.returns-then-is_at
-returns-then-is_at c = λ nodes a. is_named (view (state_of c.args.table.now) c.args.space.now) nodes c.args.keys.now c.args.reference c.args.block c.key-key.result true
+returns-then-is_at c = λ nodes a. is_named (view_now c.args.view) nodes c.args.keys.now c.args.reference c.args.block c.key-key.result true
     a c.key-key.ensures.block c.key-key.ensures.value (sym (c.is_at.ensures c.if-is_at.true)) refl
 
 pub returns-then-is_among : goal.returns-then-is_among
-returns-then-is_among c = λ nodes a. is_named (view (state_of c.args.table.now) c.args.space.now) nodes c.args.keys.now c.args.reference c.args.block c.key-key.result c.is_among.result
+returns-then-is_among c = λ nodes a. is_named (view_now c.args.view) nodes c.args.keys.now c.args.reference c.args.block c.key-key.result c.is_among.result
     a c.key-key.ensures.block c.key-key.ensures.value c.is_among.ensures c.if-is_among.true
 
 pub returns-in-Fault : goal.returns-in-Fault
-returns-in-Fault c = λ nodes a. no_entry (view (state_of c.args.table.now) c.args.space.now) nodes (c.args.reference, c.args.block) (bad c.in-Fault.field-0) c.in-Fault.ensures.value refl
+returns-in-Fault c = λ nodes a. no_entry (view_now c.args.view) nodes (c.args.reference, c.args.block) (bad c.in-Fault.field-0) c.in-Fault.ensures.value refl
 
 pub returns-in-Unread : goal.returns-in-Unread
-returns-in-Unread c = λ nodes a. no_entry (view (state_of c.args.table.now) c.args.space.now) nodes (c.args.reference, c.args.block) (unread c.in-Unread.field-0) c.in-Unread.ensures.value refl
+returns-in-Unread c = λ nodes a. no_entry (view_now c.args.view) nodes (c.args.reference, c.args.block) (unread c.in-Unread.field-0) c.in-Unread.ensures.value refl
 
 pub returns-in_ok-standing-in-Entry : goal.returns-in_ok-standing-in-Entry
-returns-in_ok-standing-in-Entry c = λ nodes a. is_unnamed (view (state_of c.args.table.now) c.args.space.now) nodes c.args.keys.now c.args.reference c.args.block c.key-key.result c.is_among.result
+returns-in_ok-standing-in-Entry c = λ nodes a. is_unnamed (view_now c.args.view) nodes c.args.keys.now c.args.reference c.args.block c.key-key.result c.is_among.result
     (entry_of c.in-Entry.entry) _ a c.key-key.ensures.block c.key-key.ensures.value c.is_among.ensures c.if-is_among.false c.in-Entry.ensures.value
     (λ i. record {
       reference = c.args.reference;

@@ -1,6 +1,5 @@
 use Rattle.std.proofs.Common.{arith}
-use Rattle.udfs_lattice.specs.Tables.{state_of}
-use Rattle.udfs_space.specs.Places.{view}
+use Rattle.udfs_space.specs.Views.{view_now}
 use Rattle.udfs_file.specs.Entries.{entry_of}
 use Rattle.udfs_file.specs.Stretches.{cells_of}
 use Rattle.udfs_file.proofs.PublicLaws.{body_has_its_length}
@@ -8,6 +7,6 @@ use Rattle.udfs_walk.proofs.visits.standing_told.Goals as goal
 
 pub kind_standing-requires : goal.kind_standing-requires
 kind_standing-requires c =
-    let n = body_has_its_length (view (state_of c.args.table.now) c.args.space.now) c.args.address.reference c.args.address.block (entry_of c.args.entry.now)
-    (cells_of (view (state_of c.args.table.now) c.args.space.now) c.in-Ok.body) c.in-Ok.ensures.value in
+    let n = body_has_its_length (view_now c.args.view) c.args.address.reference c.args.address.block (entry_of c.args.entry.now)
+    (cells_of (view_now c.args.view) c.in-Ok.body) c.in-Ok.ensures.value in
     omega (arith, n, c.size-size.ensures, c.size-size.type_inv)

@@ -1,6 +1,5 @@
 use Rattle.std.proofs.Common.{◌∙◌, ap, cond, nat_le}
-use Rattle.udfs_lattice.specs.Tables.{state_of}
-use Rattle.udfs_space.specs.Places.{view}
+use Rattle.udfs_space.specs.Views.{view_now}
 use Rattle.udfs_file.specs.Bodies.{body}
 use Rattle.udfs_file.specs.Entries.{entry_of}
 use Rattle.udfs_walk.specs.Standings.{body_standing}
@@ -14,17 +13,17 @@ use Rattle.udfs_walk.proofs.visits.visited.Goals as goal
 pub returns-in-Fault-clause-node : goal.returns-in-Fault-clause-node
 returns-in-Fault-clause-node c =
     let w = end_at c.args.address c.args.path c.args.above.now c.args.hidden in
-    c.unread.ensures c.args.above.now ∙ node_is (view (state_of c.args.table.now) c.args.space.now) w (bad c.in-Fault.fault) c.in-Fault.ensures.value
+    c.unread.ensures c.args.above.now ∙ node_is (view_now c.args.view) w (bad c.in-Fault.fault) c.in-Fault.ensures.value
 
 pub returns-in_ok-standing-in-Unread-clause-node : goal.returns-in_ok-standing-in-Unread-clause-node
 returns-in_ok-standing-in-Unread-clause-node c =
     let w = end_at c.args.address c.args.path c.args.above.now c.args.hidden in
     c.unread-in-Unread.ensures c.args.above.now ∙ ap (untold w) c.in_ok-standing-in-Unread.ensures
-    ∙ node_is (view (state_of c.args.table.now) c.args.space.now) w (unread c.in-Unread.n) c.in-Unread.ensures.value
+    ∙ node_is (view_now c.args.view) w (unread c.in-Unread.n) c.in-Unread.ensures.value
 
 pub returns-in_ok-told-in-Entry-clause-node : goal.returns-in_ok-told-in-Entry-clause-node
 returns-in_ok-told-in-Entry-clause-node c =
-    let v = view (state_of c.args.table.now) c.args.space.now in
+    let v = view_now c.args.view in
     let w = end_at c.args.address c.args.path c.args.above.now c.args.hidden in
     let e = entry_of c.in-Entry.entry in
     let n = c.len-is_deep.ensures in

@@ -1,6 +1,5 @@
 use Rattle.std.proofs.Common.{◌+◌, ◌-◌, ◌*◌, ◌<◌, ◌≤◌, length}
-use Rattle.udfs_lattice.specs.Tables.{state_of}
-use Rattle.udfs_space.specs.Places.{view}
+use Rattle.udfs_space.specs.Views.{view_now}
 use Rattle.udfs_file.specs.Stretches.{LieInBlocks, listed_body}
 use Rattle.udfs_file.proofs.BlockLemmas.{AllFill}
 use Rattle.udfs_file.proofs.WalkLemmas.{IsWalk}
@@ -8,8 +7,8 @@ use Rattle.udfs_file.proofs.bodies.Body.walk.Given as goal
 
 abbrev pub invariant-walk : goal.invariant-walk
 invariant-walk l = record {
-  walk : IsWalk (view (state_of l.table) l.space) l.size l.form l.reference
-      (listed_body (view (state_of l.table) l.space) l.form l.reference l.size l.fn.area)
+  walk : IsWalk (view_now l.view) l.size l.form l.reference
+      (listed_body (view_now l.view) l.form l.reference l.size l.fn.area)
       l.left l.c l.area l.i l.stretches.items;
   area_fits : length l.area ≤ 2048;
   within : l.c ≤ l.size;

@@ -1,15 +1,14 @@
 use Rattle.std.proofs.Common.{◌<◌, ◌-◌, ◌∙◌, ap, subst, drop}
-use Rattle.udfs_lattice.specs.Tables.{state_of}
-use Rattle.udfs_space.specs.Places.{view}
+use Rattle.udfs_space.specs.Views.{view_now}
 use Rattle.udfs_file.proofs.CellLemmas.{behind_in, behind_none, in_first, starts_in, starts_none}
 use Rattle.udfs_file.proofs.cells.Cells.behind.Goals as goal
 
 pub returns-in_default-clause-cells : goal.returns-in_default-clause-cells
-returns-in_default-clause-cells c = behind_none (view (state_of c.settled-ahead.result.table.now) c.settled-ahead.result.space.now) c.settled-ahead.result.stretches.now c.settled-ahead.result.passed c.args.count
+returns-in_default-clause-cells c = behind_none (view_now c.settled-ahead.result.view) c.settled-ahead.result.stretches.now c.settled-ahead.result.passed c.args.count
     c.in_default.ensures.cases ∙ ap (drop c.args.count) c.settled-ahead.ensures.cells
 
 pub returns-clause-cells : goal.returns-clause-cells
-returns-clause-cells c = behind_in (view (state_of c.settled-ahead.result.table.now) c.settled-ahead.result.space.now) c.settled-ahead.result.stretches.now c.in-Some.first.now c.in-Some.rest.now
+returns-clause-cells c = behind_in (view_now c.settled-ahead.result.view) c.settled-ahead.result.stretches.now c.in-Some.first.now c.in-Some.rest.now
     c.settled-ahead.result.passed c.args.count _ c.in-Some.ensures.cases.0
     (in_first c.settled-ahead.result.stretches.now c.in-Some.first.now c.in-Some.rest.now c.settled-ahead.result.passed c.in-Some.ensures.cases.0 c.settled-ahead.ensures.settled)
     (subst (λ n. n - c.settled-ahead.result.passed < c.args.count) c.count.ensures c.if-count-here.false)

@@ -1,25 +1,24 @@
 use Rattle.std.proofs.Common.{◌<◌, ◌≤◌, ◌-◌, ◌∙◌, ap, subst, length, nat_le}
-use Rattle.udfs_lattice.specs.Tables.{state_of}
-use Rattle.udfs_space.specs.Places.{view}
+use Rattle.udfs_space.specs.Views.{view_now}
 use Rattle.udfs_file.specs.Stretches.{cells_of}
 use Rattle.udfs_file.proofs.CellLemmas.{held_in, held_behind, held_nowhere, in_first}
 use Rattle.udfs_file.proofs.cells.Cells.holds.Goals as goal
 
 pub returns-in_default : goal.returns-in_default
-returns-in_default c = held_nowhere (view (state_of c.settled-ahead.result.table.now) c.settled-ahead.result.space.now) c.settled-ahead.result.stretches.now c.settled-ahead.result.passed c.args.count
+returns-in_default c = held_nowhere (view_now c.settled-ahead.result.view) c.settled-ahead.result.stretches.now c.settled-ahead.result.passed c.args.count
     c.in_default.ensures.cases ∙ ap (λ cs. nat_le c.args.count (length cs)) c.settled-ahead.ensures.cells
 
 pub returns-then-count-here : goal.returns-then-count-here
-returns-then-count-here c = held_in (view (state_of c.settled-ahead.result.table.now) c.settled-ahead.result.space.now) c.settled-ahead.result.stretches.now c.in-Some.first.now c.in-Some.rest.now
+returns-then-count-here c = held_in (view_now c.settled-ahead.result.view) c.settled-ahead.result.stretches.now c.in-Some.first.now c.in-Some.rest.now
     c.settled-ahead.result.passed c.args.count c.in-Some.ensures.cases.0
     (in_first c.settled-ahead.result.stretches.now c.in-Some.first.now c.in-Some.rest.now c.settled-ahead.result.passed c.in-Some.ensures.cases.0 c.settled-ahead.ensures.settled)
     (subst (λ n. c.args.count ≤ n - c.settled-ahead.result.passed) c.count.ensures c.if-count-here.true)
     ∙ ap (λ cs. nat_le c.args.count (length cs)) c.settled-ahead.ensures.cells
 
 pub returns : goal.returns
-returns c = c.hold.ensures (view (state_of c.settled-ahead.result.table.now) c.settled-ahead.result.space.now)
-    ∙ ap (λ n. nat_le (c.args.count - (n - c.settled-ahead.result.passed)) (length (cells_of (view (state_of c.settled-ahead.result.table.now) c.settled-ahead.result.space.now) c.in-Some.rest.now))) c.count.ensures
-    ∙ held_behind (view (state_of c.settled-ahead.result.table.now) c.settled-ahead.result.space.now) c.settled-ahead.result.stretches.now c.in-Some.first.now c.in-Some.rest.now
+returns c = c.hold.ensures (view_now c.settled-ahead.result.view)
+    ∙ ap (λ n. nat_le (c.args.count - (n - c.settled-ahead.result.passed)) (length (cells_of (view_now c.settled-ahead.result.view) c.in-Some.rest.now))) c.count.ensures
+    ∙ held_behind (view_now c.settled-ahead.result.view) c.settled-ahead.result.stretches.now c.in-Some.first.now c.in-Some.rest.now
     c.settled-ahead.result.passed c.args.count c.in-Some.ensures.cases.0
     (in_first c.settled-ahead.result.stretches.now c.in-Some.first.now c.in-Some.rest.now c.settled-ahead.result.passed c.in-Some.ensures.cases.0 c.settled-ahead.ensures.settled)
     (subst (λ n. n - c.settled-ahead.result.passed < c.args.count) c.count.ensures c.if-count-here.false)

@@ -1,9 +1,8 @@
 use Rattle.std.proofs.Common.{◌≤◌, ◌-◌, ap, subst, arith}
-use Rattle.udfs_lattice.specs.Tables.{state_of}
-use Rattle.udfs_space.specs.Places.{view}
+use Rattle.udfs_space.specs.Views.{view_now}
 use Rattle.udfs_file.proofs.CellLemmas.{settle_on}
 use Rattle.udfs_file.proofs.cells.Cells.settled.Goals as goal
 
 pub stretches-preserved : goal.stretches-preserved
-stretches-preserved c = settle_on (view (state_of c.args.self.now.table.now) c.args.self.now.space.now) c.args.self.now.passed c.args.self.now.stretches.now c.stretches.passed c.stretches.stretches.now
+stretches-preserved c = settle_on (view_now c.args.self.now.view) c.args.self.now.passed c.args.self.now.stretches.now c.stretches.passed c.stretches.stretches.now
     c.in-Some.first.now c.in-Some.rest.now _ c.stretches.invariant c.in-Some.ensures.cases.0 (subst (λ n. n ≤ c.stretches.passed) c.count.ensures (omega arith)) (ap (λ n. c.stretches.passed - n) c.count-passed.ensures)

@@ -1,15 +1,12 @@
-use Rattle.std.proofs.Common.{◌∙◌, sym}
-use Rattle.udfs_lattice.specs.Tables.{state_of}
-use Rattle.udfs_space.specs.Places.{view}
-use Rattle.udfs_walk.proofs.BlockCells.{zero_stretch, gap_stretch, length-stretch}
+use Rattle.std.proofs.Common.{◌∙◌, ap}
+use Rattle.udfs_file.specs.Portions.{portion_count}
+use Rattle.udfs_walk.proofs.PortionGaps.{portion_bytes, portion_zeros}
 use Rattle.udfs_walk.proofs.gaps.Gaps.pass.Goals as goal
 
-pub returns-in_ok-pass_known-in-Zeros-clause-passes : goal.returns-in_ok-pass_known-in-Zeros-clause-passes
-returns-in_ok-pass_known-in-Zeros-clause-passes c = let v = view (state_of c.args.table.now) c.args.space.now in
-    c.in_ok-pass_known-in-Zeros.ensures.passes _ (zero_stretch v c.args.stretch c.in-Zeros.count c.in-Zeros.is)
-    (length-stretch v c.args.stretch _ c.in-Zeros.is ∙ sym c.from.ensures)
+pub returns-in_ok-pass_known-in-Bytes-clause-passes : goal.returns-in_ok-pass_known-in-Bytes-clause-passes
+returns-in_ok-pass_known-in-Bytes-clause-passes c = λ cs i l. c.in_ok-pass_known-in-Bytes.ensures.passes cs
+    (portion_bytes c.args.portion c.in-Bytes.bytes cs c.in-Bytes.is i) (l ∙ ap portion_count c.in-Bytes.is)
 
-pub returns-in_ok-pass_missing-in-Missing-clause-passes : goal.returns-in_ok-pass_missing-in-Missing-clause-passes
-returns-in_ok-pass_missing-in-Missing-clause-passes c = let v = view (state_of c.args.table.now) c.args.space.now in
-    c.in_ok-pass_missing-in-Missing.ensures.passes _ (gap_stretch v c.args.stretch c.in-Missing.n c.in-Missing.count c.in-Missing.is)
-    (length-stretch v c.args.stretch _ c.in-Missing.is)
+pub returns-in_ok-pass_known-in-Zeros-clause-passes : goal.returns-in_ok-pass_known-in-Zeros-clause-passes
+returns-in_ok-pass_known-in-Zeros-clause-passes c = λ cs i l. c.in_ok-pass_known-in-Zeros.ensures.passes cs
+    (portion_zeros c.args.portion c.in-Zeros.count cs c.in-Zeros.is i) (l ∙ ap portion_count c.in-Zeros.is)

@@ -1,13 +1,12 @@
 use Rattle.std.proofs.Common.{◌∙◌, ap}
-use Rattle.udfs_lattice.specs.Tables.{state_of}
-use Rattle.udfs_space.specs.Places.{view}
+use Rattle.udfs_space.specs.Views.{view_now}
 use Rattle.udfs_walk.specs.Visits.{end_at}
 use Rattle.udfs_walk.proofs.TargetLemmas.{node_path}
 use Rattle.udfs_walk.proofs.walks.Frame.enter.Goals as goal
 
 pub returns-clause-frame : goal.returns-clause-frame
 returns-clause-frame c =
-    let v = view (state_of c.args.table.now) c.args.space.now in
+    let v = view_now c.args.view in
     let w = end_at c.args.address c.args.path c.args.above.now c.args.hidden in
     let path = c.in_ok-names.ensures ∙ ap (λ n. n.path) (c.node.view_is ∙ c.in_ok-node.ensures.node) ∙ node_path v w in
     let left = c.into_iter.ensures.rest ∙ c.in_ok-node.ensures.entries in

@@ -1,6 +1,5 @@
 use Rattle.std.proofs.Common.{◌∙◌, ap, subst, sym, ◌++◌, ◌∷◌, []}
-use Rattle.udfs_lattice.specs.Tables.{state_of}
-use Rattle.udfs_space.specs.Places.{view}
+use Rattle.udfs_space.specs.Views.{view_now}
 use Rattle.udfs_walk.specs.Nodes.{node}
 use Rattle.udfs_walk.specs.Visits.{end_at}
 use Rattle.udfs_walk.specs.Frames.{IsFrameOf, frame_at}
@@ -8,7 +7,7 @@ use Rattle.udfs_walk.proofs.walks.Frame.step.Goals as goal
 
 pub returns-clause-taken : goal.returns-clause-taken
 returns-clause-taken c =
-    let v = view (state_of c.args.table.now) c.args.space.now in
+    let v = view_now c.args.view in
     let e = c.in-Some.entry in
     let path = c.in_ok-path.ensures ∙ ap (λ f. f.path ++ e.name ∷ []) c.self.view_is in
     let above = c.deref.ensures.value ∙ ap (λ f. f.above) c.self.view_is in

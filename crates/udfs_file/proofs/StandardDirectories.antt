@@ -1,0 +1,140 @@
+-- A directory whose body is a list of descriptors lists these, and has no fault.
+use Rattle.std.proofs.Common.{◌≡◌, refl, sym, ◌∙◌, ap, subst, ℕ, ◌+◌, ◌<◌, ◌≤◌, inl, inr, Bool, true, false, List, [], ◌∷◌, ◌++◌, length, take, drop, map, cond, ◌||◌, arith, Option, Some, None, nat_lt}
+use Rattle.std.specs.Prelude.{zero, suc, Result, Ok, Err}
+use Rattle.std.proofs.lemmas.List.{length-append, length-map}
+use Rattle.std.proofs.Math.Seq.{take-append_seam, drop-append_seam}
+use Rattle.udfs_osta.specs.Names.{units_of}
+use Rattle.udfs_osta.specs.declared.names.NameFault.{NameFault}
+use Rattle.udfs_tag.specs.Fields.{uint8_at, uint16_at, part}
+use Rattle.udfs_tag.specs.Tags.{is_valid}
+use Rattle.udfs_file.specs.Complete.{AreShort, DescriptorsAreShort, StandardDirectories, as_cell, as_cells}
+use Rattle.udfs_file.specs.Fronts.{checked_identifier, directory, entry_with, first_missing, holder_of, identifier_in, identifier_size, is_listed, or_stop, sized_identifier, some_step, step, value, ReadsAs}
+use Rattle.udfs_file.specs.Identifiers.{Identifier, Rest, Nothing, Wrong, Step, AtRest, One}
+use Rattle.udfs_file.specs.Standard.{Located, IsDirectoryBody, IsIdentifierIn}
+use Rattle.udfs_file.specs.declared.cells.Cell.{Cell}
+use Rattle.udfs_file.specs.declared.faults.NodeFault.TheVariants.{Cut, IdentifierTag}
+use Rattle.udfs_file.proofs.BodyFrom.{not_lt}
+use Rattle.udfs_file.proofs.Readings.{bytes_of, directory_reads, drop-cells, piece_size, reads_law, step_one, values}
+
+-- the size of a descriptor is that of its bytes
+size_with : (size : ℕ) (bytes : List ℕ) (r : Result (List ℕ) NameFault) (id : Identifier) → entry_with size bytes r ≡ One id → size ≡ id.size
+size_with size bytes (Ok units) id e = cc
+size_with size bytes (Err f) id e = absurd (let z : ⊥ = cc in z)
+
+size_in : (size : ℕ) (bytes : List ℕ) (id : Identifier) → identifier_in size bytes ≡ One id → size ≡ id.size
+size_in size bytes id = go (is_listed bytes)
+  where
+    name : List ℕ
+    name = part bytes (38 + uint16_at bytes 36) (uint8_at bytes 19)
+
+    go : (b : Bool) → cond b (entry_with size bytes (units_of name)) (One (record { size = size; listed = None })) ≡ One id → size ≡ id.size
+    go true e = size_with size bytes (units_of name) id e
+    go false e = cc
+
+-- nothing is missing
+none_missing : (n : ℕ) (xs : List Located) → first_missing (take n (as_cells xs)) ≡ None
+none_missing zero xs = refl
+none_missing (suc n) [] = refl
+none_missing (suc n) (x ∷ xs) = none_missing n xs
+
+cells_long : (xs : List Located) → length (as_cells xs) ≡ length xs
+cells_long xs = length-map xs as_cell
+
+-- the descriptor at the front is read
+step_back : (x : Located) (xs piece rest : List Located) (id : Identifier) → x ∷ xs ≡ piece ++ rest → IsIdentifierIn piece id → id.size ≤ 2048 → step (as_cells (x ∷ xs)) ≡ One id
+unfolding step
+step_back x xs piece rest id w i small = (λ k. cond (a1 k) (AtRest (Wrong Cut)) (or_stop (a2 k) (sized_identifier all (a3 k))))
+    ∙ (λ k. cond (b1 k) (AtRest (Wrong Cut)) (or_stop (b2 k) (checked_identifier (b3 k) (b4 k))))
+    ∙ (λ k. cond (i.valid k) (identifier_in (length i.bytes) i.bytes) (AtRest (Wrong IdentifierTag)))
+    ∙ ap (λ k. identifier_in k i.bytes) bytes_long ∙ i.is
+  where
+    all : List Cell
+    all = as_cells (x ∷ xs)
+
+    n : ℕ
+    n = length piece
+
+    whole : length all ≡ length piece + length rest
+    whole = cells_long (x ∷ xs) ∙ ap length w ∙ length-append piece rest
+
+    front : take n (x ∷ xs) ≡ piece
+    front = ap (take n) w ∙ take-append_seam piece rest
+
+    bytes_long : length i.bytes ≡ n
+    bytes_long = ap length i.bytes_are ∙ length-map piece (λ z. z.0)
+
+    a1 : nat_lt (length all) 38 ≡ false
+    a1 = not_lt (length all) 38 (let long : 38 ≤ length piece = i.long_enough in omega (arith, whole, long))
+
+    a2 : first_missing (take 38 all) ≡ None
+    a2 = none_missing 38 (x ∷ xs)
+
+    a3 : identifier_size (map value (take 38 all)) ≡ n
+    a3 = sym (piece_size n (x ∷ xs) i.long_enough) ∙ ap (λ z. identifier_size (bytes_of z)) front ∙ ap identifier_size (sym i.bytes_are) ∙ sym i.size
+
+    short : n ≤ 2048
+    short = let e : n ≡ id.size = size_in n i.bytes id i.is in omega (arith, e, small)
+
+    b1 : (nat_lt 2048 n || nat_lt (length all) n) ≡ false
+    b1 = λ k. not_lt 2048 n short k || not_lt (length all) n (omega (arith, whole)) k
+
+    b2 : first_missing (take n all) ≡ None
+    b2 = none_missing n (x ∷ xs)
+
+    b3 : holder_of all ≡ Some i.block
+    b3 = let first : x ∷ xs ≡ (i.first.1, Some i.block) ∷ i.first.0 ++ rest = w ∙ ap (λ z. z ++ rest) i.first.2 in ap (λ z. holder_of (as_cells z)) first
+
+    b4 : map value (take n all) ≡ i.bytes
+    b4 = values n (x ∷ xs) ∙ ap bytes_of front ∙ sym i.bytes_are
+
+-- and so are all
+reads_back : (ids : List Identifier) (whole : List Located) → IsDirectoryBody whole ids → AreShort ids → ReadsAs (as_cells whole) ids Nothing
+unfolding step
+reads_back [] whole e h = ap (λ z. step (as_cells z)) e
+reads_back (id ∷ ids) [] (piece, rest, w, i, d) h = absurd (let long : 38 ≤ length piece = i.long_enough in let none : 0 ≡ length piece + length rest = ap length w ∙ length-append piece rest in
+    let z : ⊥ = omega (arith, long, none) in z)
+reads_back (id ∷ ids) (x ∷ xs) (piece, rest, w, i, d) h = (
+  step_back x xs piece rest id w i (h id (inl refl)),
+  subst (λ z. ReadsAs z ids Nothing) (sym behind) (reads_back ids rest d (λ j k. h j (inr k))),
+)
+  where
+    behind : drop id.size (as_cells (x ∷ xs)) ≡ as_cells rest
+    behind = sym (drop-cells id.size (x ∷ xs)) ∙ ap as_cells (ap (λ n. drop n (x ∷ xs)) (sym (size_in (length piece) i.bytes id i.is)) ∙ ap (drop (length piece)) w ∙ drop-append_seam piece rest)
+
+pub standard_directories : StandardDirectories
+standard_directories whole ids d h = (reads_law (as_cells whole) ids Nothing).0 (reads_back ids whole d h)
+
+-- ---- a descriptor that is read has at most 2048 bytes
+not_long : (n : ℕ) (y : Bool) → (nat_lt 2048 n || y) ≡ false → n ≤ 2048
+not_long n y e = go (nat_lt 2048 n) refl e
+  where
+    go : (b : Bool) → nat_lt 2048 n ≡ b → (b || y) ≡ false → n ≤ 2048
+    go true q z = absurd (let x : ⊥ = cc in x)
+    go false q z = grind arith
+
+second_false : (b c : Bool) (o : Option ℕ) (y : Step) (id : Identifier) → cond b (AtRest (Wrong Cut)) (or_stop o (cond c (AtRest (Wrong Cut)) y)) ≡ One id → c ≡ false
+second_false true c o y id e = absurd (let z : ⊥ = cc in z)
+second_false false c (Some n) y id e = absurd (let z : ⊥ = cc in z)
+second_false false true None y id e = absurd (let z : ⊥ = cc in z)
+second_false false false None y id e = refl
+
+short_step : (cs : List Cell) (id : Identifier) → step cs ≡ One id → id.size ≤ 2048
+unfolding step
+short_step [] id e = absurd (let z : ⊥ = cc in z)
+short_step (c ∷ cs) id e = subst (λ n. n ≤ 2048) (step_one (c ∷ cs) id e).size_is (not_long size (nat_lt (length all) size)
+    (second_false (nat_lt (length all) 38) (nat_lt 2048 size || nat_lt (length all) size) (first_missing (take 38 all))
+    (or_stop (first_missing (take size all)) (checked_identifier (holder_of all) (map value (take size all)))) id e))
+  where
+    all : List Cell
+    all = c ∷ cs
+
+    size : ℕ
+    size = identifier_size (map value (take 38 all))
+
+short_reading : (ids : List Identifier) (rest : Rest) (cs : List Cell) → ReadsAs cs ids rest → AreShort ids
+short_reading [] rest cs r id i = absurd i
+short_reading (x ∷ xs) rest cs (e, r) id (inl same) = subst (λ z. z.size ≤ 2048) same (short_step cs x e)
+short_reading (x ∷ xs) rest cs (e, r) id (inr i) = short_reading xs rest (drop x.size cs) r id i
+
+pub descriptors_are_short : DescriptorsAreShort
+descriptors_are_short cs = short_reading (directory cs).identifiers (directory cs).rest cs (directory_reads cs)

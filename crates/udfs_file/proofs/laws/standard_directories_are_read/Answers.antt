@@ -1,0 +1,5 @@
+use Rattle.udfs_file.proofs.PublicLaws.{standard_directories_are_read as law}
+use Rattle.udfs_file.proofs.laws.standard_directories_are_read.Goals as goal
+
+pub returns : goal.returns
+returns c = law

@@ -1,0 +1,47 @@
+-- The cells of a body, run by run.
+--     portion_count p          how many cells a portion has
+--     AreUnread n k cells      all are missing: some with block n, then some with block n + 1, and so on for k blocks
+--     IsPortion p cells        these cells are the portion
+--     GivesPortion s r t       of the cells s the portion r was taken from the front, and t is left
+use Rattle.std.specs.Prelude.{◌≡◌, ⊤, ℕ, zero, suc, ◌+◌, ◌-◌, ◌≤◌, List, [], ◌++◌, length, take, drop, replicate, Option, Some, None, MatchOption}
+use Rattle.udfs_lattice.specs.States.{State}
+use Rattle.udfs_lattice.specs.declared.facts.Fact.TheVariants.{Unknown, Known, Conflict}
+use Rattle.udfs_file.specs.declared.cells.Cell.{Cell}
+use Rattle.udfs_file.specs.declared.cells.Cell.TheVariants.{Byte, Gap}
+use Rattle.udfs_file.specs.declared.portions.Portion.{Portion}
+use Rattle.udfs_file.specs.declared.portions.Portion.TheVariants.{Bytes, Zeros, Missing}
+use Rattle.udfs_file.specs.Pieces.{byte_cells}
+
+-- a block stands there, with this number, and is not known
+abbrev pub IsUnread : State → Type 0
+IsUnread Unknown = ⊤
+IsUnread (Known bytes) = ⊥
+IsUnread Conflict = ⊤
+
+abbrev pub IsUnreadAt : Option (ℕ × State) → ℕ → Type 0
+IsUnreadAt None n = ⊥
+IsUnreadAt (Some block) n = (block.0 ≡ n) × IsUnread block.1
+
+abbrev pub portion_count : Portion → ℕ
+portion_count (Bytes bytes) = length bytes.now
+portion_count (Zeros count) = count
+portion_count (Missing run) = run.count
+
+abbrev pub AreUnread : ℕ → ℕ → List Cell → Type 0
+AreUnread n zero cs = cs ≡ []
+AreUnread n (suc k) cs = (more : ℕ) × (rest : List Cell) × (cs ≡ replicate (suc more) (Gap n) ++ rest) × AreUnread (n + 1) k rest
+
+abbrev pub IsPortion : Portion → List Cell → Type 0
+IsPortion (Bytes bytes) cs = (holder : Option ℕ) × (cs ≡ byte_cells holder bytes.now)
+IsPortion (Zeros count) cs = cs ≡ replicate count (Byte 0 None)
+IsPortion (Missing run) cs = AreUnread run.first (run.last + 1 - run.first) cs
+
+-- a portion at the front of some cells, and what is left behind it
+pub record IsFirst (p : Portion) (s t : List Cell) : Type 0 where
+  pub some : 1 ≤ portion_count p
+  pub there : portion_count p ≤ length s
+  pub portion : IsPortion p (take (portion_count p) s)
+  pub rest : t ≡ drop (portion_count p) s
+
+abbrev pub GivesPortion : List Cell → Option Portion → List Cell → Type 0
+GivesPortion s r t = MatchOption r ((s ≡ []) × (t ≡ [])) (λ p. IsFirst p s t)

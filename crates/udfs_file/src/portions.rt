@@ -1,0 +1,204 @@
+//! The bytes of a body, run by run.
+
+ghost use Rattle.std.specs.Prelude.{◌≡◌, ℕ, ◌≤◌, ◌<◌, ◌+◌, ◌/◌, ◌^◌, true, drop, length, map, take};
+ghost use Rattle.std.specs.Iterator.{at_most};
+ghost use Rattle.std.specs.List.{range_with_len};
+ghost use Rattle.udfs_space.specs.Places.{block_at};
+ghost use Rattle.udfs_space.specs.Views.{view_now};
+ghost use Rattle.udfs_file.specs.Bodies.{recorded_cell};
+ghost use Rattle.udfs_file.specs.Stretches.{cells_of, stretch_cells, stretch_count};
+ghost use Rattle.udfs_file.specs.Portions.{GivesPortion, IsPortion, IsUnreadAt, portion_count};
+
+use crate::bodies::Body;
+use crate::cells::Cells;
+use crate::pieces::bytes_at;
+use crate::stretches::{Run, Stretch};
+use std::marker::Model;
+use udfs_lattice::Fact;
+use udfs_space::View;
+
+/// Bytes of a body that lie side by side, at least one.
+#[derive(Clone, Copy, Debug)]
+pub enum Portion<'a> {
+    /// Known bytes, all in one block.
+    Bytes(&'a [u8]),
+    /// So many zeros that are not recorded.
+    Zeros(u64),
+    /// Missing bytes.
+    Missing(Unread),
+}
+
+/// Missing bytes that lie side by side, in consecutive blocks of the volume, each of which holds some of them.
+#[derive(Clone, Copy, Debug, PartialEq, Eq)]
+pub struct Unread {
+    /// The first of the blocks.
+    pub first: u32,
+    /// The last of them.
+    pub last: u32,
+    /// How many bytes.
+    pub count: u64,
+}
+
+impl<'a> Portion<'a> {
+    /// The number of bytes.
+    pub fn count(&self) -> u64
+        ensures { result ≡ portion_count self.now }
+    {
+        match self {
+            Portion::Bytes(bytes) => bytes.len() as u64,
+            Portion::Zeros(count) => *count,
+            Portion::Missing(run) => run.count,
+        }
+    }
+}
+
+/// Whether the block at a logical address is not known and has this number.
+fn is_unread(view: View<'_>, reference: u16, block: u64, n: u64) -> bool
+    ensures { result ≡ true → IsUnreadAt (block_at (view_now view.entry) reference block) n }
+{
+    match view.block_at(reference, block) {
+        Some((found, Fact::Unknown)) => u64::from(found) == n,
+        Some((found, Fact::Conflict)) => u64::from(found) == n,
+        _ => false,
+    }
+}
+
+/// How many consecutive logical blocks from one on are not known and stand one behind the other from this block of
+/// the volume on: at most so many.
+fn unread_run(view: View<'_>, reference: u16, block: u64, n: u64, most: u64) -> u64
+    requires near { block + most < 2 ^ 64 }
+    requires low { n + most < 2 ^ 64 }
+    ensures most { result ≤ most }
+    ensures unread { (j : ℕ) → j < result → IsUnreadAt (block_at (view_now view.entry) reference (block + j)) (n + j) }
+{
+    let mut count = 0;
+    'blocks: while count < most {
+        if !is_unread(view, reference, block + count, n + count) {
+            break 'blocks;
+        }
+        count += 1;
+    }
+    count
+}
+
+/// The missing bytes from a place behind a run's block on, of which the first is in block `n`: at most so many.
+fn unread_portion<'a>(view: View<'a>, run: Run, at: u64, n: u32, left: u64) -> Portion<'a>
+    requires some { 1 ≤ left }
+    requires far { left < 2 ^ 32 }
+    requires near { at < 2 ^ 33 }
+    requires low { n ≤ 4194303 }
+    requires unread { IsUnreadAt (block_at (view_now view) run.reference (run.block + at / 2048)) n }
+    ensures cells { IsPortion result (map (recorded_cell (view_now view.entry) run.reference run.block) (range_with_len at (portion_count result))) }
+    ensures some { 1 ≤ portion_count result }
+    ensures most { portion_count result ≤ left }
+{
+    let more = (at % 2048 + left - 1) / 2048;
+    let behind = unread_run(
+        view,
+        run.reference,
+        u64::from(run.block) + at / 2048 + 1,
+        u64::from(n) + 1,
+        more,
+    );
+    let count = left.min(2048 * (behind + 1) - at % 2048);
+    Portion::Missing(Unread {
+        first: n,
+        last: n + behind as u32,
+        count,
+    })
+}
+
+/// The recorded bytes from a place behind a run's block on, as far as one portion goes: at most so many.
+fn recorded_portion<'a>(view: View<'a>, run: Run, at: u64, left: u64) -> Portion<'a>
+    requires some { 1 ≤ left }
+    requires far { left < 2 ^ 32 }
+    requires near { at < 2 ^ 33 }
+    ensures cells { IsPortion result (map (recorded_cell (view_now view.entry) run.reference run.block) (range_with_len at (portion_count result))) }
+    ensures some { 1 ≤ portion_count result }
+    ensures most { portion_count result ≤ left }
+{
+    let here = left.min(2048 - at % 2048);
+    match view.block_at(run.reference, u64::from(run.block) + at / 2048) {
+        None => Portion::Zeros(here),
+        Some((_, Fact::Known(bytes))) => {
+            Portion::Bytes(bytes_at(bytes, (at % 2048) as usize, here as usize))
+        }
+        Some((n, Fact::Unknown)) => unread_portion(view, run, at, n, left),
+        Some((n, Fact::Conflict)) => unread_portion(view, run, at, n, left),
+    }
+}
+
+/// The portion of a stretch behind some bytes that are passed.
+fn stretch_portion<'a>(view: View<'a>, stretch: Stretch, passed: u64) -> Portion<'a>
+    requires { passed < stretch_count stretch }
+    ensures cells { IsPortion result (take (portion_count result) (drop passed (stretch_cells (view_now view.entry) stretch))) }
+    ensures some { 1 ≤ portion_count result }
+    ensures most { passed + portion_count result ≤ stretch_count stretch }
+{
+    match stretch {
+        Stretch::Recorded(run, count) => recorded_portion(
+            view,
+            run,
+            u64::from(run.offset) + passed,
+            u64::from(count) - passed,
+        ),
+        Stretch::Zeros(count) => Portion::Zeros(u64::from(count) - passed),
+        Stretch::Missing(n, count) => Portion::Missing(Unread {
+            first: n,
+            last: n,
+            count: count - passed,
+        }),
+    }
+}
+
+/// The bytes of a body that are left, run by run. It borrows the table's blocks, and takes no memory.
+/// In contracts it is the cells that are left.
+#[derive(Drop)]
+pub struct Portions<'a> {
+    cells: Cells<'a>,
+}
+
+impl<'a> Model for Portions<'a> {
+    ghost use Rattle.std.specs.Prelude.{List};
+    ghost use Rattle.udfs_file.specs.CellsLeft.{cells_left};
+    ghost use Rattle.udfs_file.specs.declared.cells.Cell.{Cell};
+
+    ghost Value = { List Cell };
+
+    ghost view = { λ p. cells_left p.cells };
+}
+
+impl<'a> Iterator for Portions<'a> {
+    type Item = Portion<'a>;
+
+    ghost next_gives = { GivesPortion };
+
+    ghost remaining = { λ cells. at_most (length cells) };
+
+    fn next(&mut self) -> Option<Portion<'a>> {
+        let ahead = self.cells.settled();
+        let Some((first, _)) = ahead.stretches.split_first() else {
+            return None;
+        };
+        let portion = stretch_portion(ahead.view, *first, ahead.passed);
+        self.cells = ahead.behind(portion.count() as usize);
+        Some(portion)
+    }
+}
+
+impl Body {
+    ghost use Rattle.udfs_space.specs.Views.{view_now};
+
+    /// The bytes, run by run, each run of missing blocks once. It takes no memory.
+    pub fn portions<'a>(&'a self, view: View<'a>) -> Portions<'a>
+        ensures { result ≡ cells_of (view_now view.entry) self.now }
+    {
+        Portions {
+            cells: Cells {
+                view,
+                stretches: self.stretches(),
+                passed: 0,
+            },
+        }
+    }
+}

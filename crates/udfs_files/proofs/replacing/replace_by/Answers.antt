@@ -1,0 +1,37 @@
+use Rattle.std.proofs.Common.{refl, sym, ◌∙◌, ⊎_elim}
+use Rattle.udfs_files.proofs.Going.{agree, not_made, not_tried, not_written, written, then_removed, then_named}
+use Rattle.udfs_files.proofs.replacing.replace_by.Goals as goal
+
+pub returns-in-Err-NotMade-clause-any_moment : goal.returns-in-Err-NotMade-clause-any_moment
+returns-in-Err-NotMade-clause-any_moment g c tells =
+    not_made c.args.own.now c.args.path.now _ c.requires.own c.requires.apart _ _ _ c.args.files.now c.write_new.new.files c.write_new.ensures.crash
+
+pub returns-in-Err-NotMade-clause-not_tried : goal.returns-in-Err-NotMade-clause-not_tried
+returns-in-Err-NotMade-clause-not_tried g c is =
+    not_tried c.args.own.now c.args.path.now (g.C.Content.bytes c.args.content.now) c.requires.own c.requires.apart _ _ _ c.args.files.now c.write_new.new.files c.write_new.ensures.crash
+
+pub returns-in-Err-clause-any_moment : goal.returns-in-Err-clause-any_moment
+returns-in-Err-clause-any_moment g c tells =
+    not_written c.args.own.now c.args.path.now _ c.requires.own c.requires.apart _ _ _ c.args.files.now c.write_new.new.files c.give_up.new.files c.write_new.ensures.crash c.give_up.ensures.crash
+
+pub returns-in-Err-rename-clause-any_moment : goal.returns-in-Err-rename-clause-any_moment
+returns-in-Err-rename-clause-any_moment g c tells =
+    then_removed c.args.own.now c.args.path.now _ c.requires.own c.requires.apart _ _ _ c.args.files.now c.rename.new.self c.give_up-in-Err-rename.new.files
+    (written c.args.own.now c.args.path.now _ c.requires.own c.requires.apart _ _ _ c.args.files.now c.write_new.new.files c.rename.new.self _ (c.in-Ok.ensures.durable tells) c.write_new.ensures.crash c.rename.ensures.crash)
+    c.give_up-in-Err-rename.ensures.crash
+
+pub returns-in-Ok-sync_folder-clause-any_moment : goal.returns-in-Ok-sync_folder-clause-any_moment
+returns-in-Ok-sync_folder-clause-any_moment g c tells =
+    then_named c.args.own.now c.args.path.now _ c.requires.own c.requires.apart _ _ _ c.args.files.now c.rename.new.self c.sync_folder.new.self
+    (written c.args.own.now c.args.path.now _ c.requires.own c.requires.apart _ _ _ c.args.files.now c.write_new.new.files c.rename.new.self _ (c.in-Ok.ensures.durable tells) c.write_new.ensures.crash c.rename.ensures.crash)
+    c.sync_folder.ensures.crash
+
+pub returns-in-Err-sync_folder-clause-any_moment : goal.returns-in-Err-sync_folder-clause-any_moment
+returns-in-Err-sync_folder-clause-any_moment g c tells =
+    then_named c.args.own.now c.args.path.now _ c.requires.own c.requires.apart _ _ _ c.args.files.now c.rename.new.self c.sync_folder.new.self
+    (written c.args.own.now c.args.path.now _ c.requires.own c.requires.apart _ _ _ c.args.files.now c.write_new.new.files c.rename.new.self _ (c.in-Ok.ensures.durable tells) c.write_new.ensures.crash c.rename.ensures.crash)
+    c.sync_folder.ensures.crash
+
+pub returns-in-Ok-sync_folder-clause-durable : goal.returns-in-Ok-sync_folder-clause-durable
+returns-in-Ok-sync_folder-clause-durable g c tells d left =
+    c.in-Ok.ensures.durable tells _ (c.in-Ok-rename.ensures.durable _ (c.in-Ok-sync_folder.ensures.durable d c.args.path.now left refl))

@@ -1,0 +1,227 @@
+//! The files that a command reaches: what their paths hold, and what a crash may leave of them.
+
+ghost use Rattle.std.specs.Prelude.{◌≡◌, ◌≢◌, ℕ, ◌≤◌, ◌<◌, List, Option, length, IfOk, IfSome, OnOk, OnErr, Some, None, [], string_bytes};
+ghost use Rattle.std.specs.Io.KnownBytes.{WriteAppends};
+ghost use Rattle.udfs_files.specs.Disk.{Disk, Same, SameBut, Moved, Goes, folder_of};
+ghost use Rattle.udfs_files.specs.declared.files.Kind.{Kind};
+ghost use Rattle.udfs_reading.specs.Device.{CountsFault};
+
+use std::alloc::{AllocError, Global};
+use udfs_reading::{DeviceFault, Sink, Source};
+
+/// An output while it is written.
+pub trait Handle: Sink {
+    /// The path at which it was made, where it tells that.
+    ghost place: { Self → List ℕ };
+
+    /// As [`Sink::write`], and the output is still the same.
+    ///
+    /// # Errors
+    ///
+    /// As of [`Sink::write`].
+    fn put(&mut self, buf: &[u8]) -> Result<usize, DeviceFault>
+        ensures bound { IfOk result (λ n. n ≤ length buf.now) }
+        ensures some { IfOk result (λ n. 0 < length buf.now → 0 < n) }
+        ensures bytes { WriteAppends (Self.contents self.old) (Self.contents self.new) result buf.now }
+        ensures count { CountsFault (Self.faults self.old) (Self.faults self.new) result }
+        ensures place { place self.new ≡ place self.old };
+}
+
+/// What is at a path.
+#[derive(Clone, Copy, Debug, PartialEq, Eq)]
+pub enum Kind {
+    /// Nothing.
+    Absent,
+    /// A file whose bytes are kept.
+    Regular,
+    /// A folder, a device, a pipe, or what the system says of them.
+    Other,
+}
+
+/// Where a path leads, every link followed.
+#[derive(Debug, Drop)]
+pub struct Target {
+    /// The path without links.
+    pub path: String,
+    /// What is there.
+    pub kind: Kind,
+}
+
+/// Opens, makes, moves and removes files by their paths. The machine's are [`Machine`](crate::Machine).
+///
+/// Where it is not said otherwise, a path is what a file is called without links: two paths are two files. What is told of a crash is told of the
+/// end of the process at any moment, and of a power cut.
+pub trait Files {
+    /// An opened input.
+    type Input: Source + Drop;
+
+    /// An output that was made.
+    type Output: Handle + Drop;
+
+    /// Whether these files tell what they hold. The machine's do not: what the system keeps is its word.
+    ghost tells: { Type 0 };
+
+    /// What a path holds, where that is told: some bytes, or no file. Files that tell tell all but a file that is being written.
+    ghost holds: { Self → List ℕ → Option (Option (List ℕ)) };
+
+    /// Where a path leads, every link followed.
+    ghost real: { Self → List ℕ → List ℕ };
+
+    /// At this path may be something that is no file: bytes that are written there are not held.
+    ghost in_place: { Self → List ℕ → Type 0 };
+
+    /// This path may fail to open: there is no file, or the device fails.
+    ghost shut: { Self → List ℕ → Type 0 };
+
+    /// What a crash may leave of what is at a path now, were the names in its folder on the disk.
+    ghost kept: { Self → List ℕ → Option (List ℕ) → Type 0 };
+
+    /// What a crash at this moment may leave at all paths.
+    ghost may_leave: { Self → Disk → Type 0 };
+
+    /// The moment, as a number that does not fall.
+    ghost moment: { Self → ℕ };
+
+    /// What a crash at some moment from that one on might have left, during a call or between two.
+    ghost left_since: { Self → ℕ → Disk → Type 0 };
+
+    /// How many of the calls that change files failed, modulo 2 ^ 64.
+    ghost faults: { Self → ℕ };
+
+    /// Opens a file to be read from its beginning, which changes none. Links are followed.
+    ///
+    /// # Errors
+    ///
+    /// `DeviceFault`, only of a path that may fail to open.
+    fn open(&self, path: &str) -> Result<Self::Input, DeviceFault>
+        ensures bytes { IfOk result (λ input. IfSome (holds self.now (real self.now path.now)) (λ held. Self.Input.remaining input ≡ held)) }
+        ensures there { OnOk result (holds self.now (real self.now path.now) ≢ Some None) }
+        ensures shut { OnErr result (shut self.now path.now) };
+
+    /// Says where a path leads, every link followed, and what is there. A path that leads through a device is one.
+    ///
+    /// # Errors
+    ///
+    /// `AllocError` for want of memory. `DeviceFault` inside where the path leads nowhere that can be told, as to a folder that is not there.
+    fn resolve(&self, alloc: Global, path: &str) -> Result<Result<Target, DeviceFault>, AllocError>
+        ensures leads { IfOk result (λ found. IfOk found (λ target. tells → string_bytes target.path ≡ real self.now path.now)) }
+        ensures other { IfOk result (λ found. IfOk found (λ target. target.kind ≡ Kind.Other → in_place self.now path.now)) }
+        ensures fails { IfOk result (λ found. OnErr found (shut self.now path.now)) };
+
+    /// Makes a file to be written, at a path that nothing has. Until it is handed to `sync`, a crash may leave anything there.
+    ///
+    /// # Errors
+    ///
+    /// `DeviceFault`, exactly where the count of faults goes up by one: also where something has the path. No path holds anything else then.
+    fn make_new(&mut self, path: &str) -> Result<Self::Output, DeviceFault>
+        ensures handle { IfOk result (λ output. tells → Self.Output.place output ≡ path.now) }
+        ensures empty { IfOk result (λ output. tells → Self.Output.contents output ≡ Some []) }
+        ensures absent { OnOk result (tells → holds self.old path.now ≡ Some None) }
+        ensures written { OnOk result (holds self.new path.now ≡ None) }
+        ensures failed { OnErr result ((q : List ℕ) → holds self.new q ≡ holds self.old q) }
+        ensures others { (q : List ℕ) → q ≢ path.now → holds self.new q ≡ holds self.old q }
+        ensures kept { (q : List ℕ) (c : Option (List ℕ)) → q ≢ path.now → kept self.new q c → kept self.old q c }
+        ensures real { real self.new ≡ real self.old }
+        ensures count { CountsFault (faults self.old) (faults self.new) result }
+        ensures crash { Goes moment may_leave left_since self.old self.new (SameBut path.now) };
+
+    /// Makes what is to be written at a path, links followed. What an old file of this path held is gone. It is for what is no file: a
+    /// device or a pipe.
+    ///
+    /// # Errors
+    ///
+    /// `DeviceFault`, exactly where the count of faults goes up by one. No path holds anything else then.
+    fn make(&mut self, path: &str) -> Result<Self::Output, DeviceFault>
+        ensures handle { IfOk result (λ output. tells → Self.Output.place output ≡ path.now) }
+        ensures empty { IfOk result (λ output. tells → Self.Output.contents output ≡ Some []) }
+        ensures written { OnOk result (holds self.new path.now ≡ None) }
+        ensures failed { OnErr result ((q : List ℕ) → holds self.new q ≡ holds self.old q) }
+        ensures others { (q : List ℕ) → q ≢ path.now → holds self.new q ≡ holds self.old q }
+        ensures kept { (q : List ℕ) (c : Option (List ℕ)) → q ≢ path.now → kept self.new q c → kept self.old q c }
+        ensures real { real self.new ≡ real self.old }
+        ensures count { CountsFault (faults self.old) (faults self.new) result }
+        ensures crash { Goes moment may_leave left_since self.old self.new (SameBut path.now) };
+
+    /// The bytes that were written to the file of this path are on the disk, and it is closed. Its name may not be there yet.
+    ///
+    /// # Errors
+    ///
+    /// `DeviceFault`, exactly where the count of faults goes up by one. What the path holds then is not told.
+    fn sync(&mut self, path: &str, output: Self::Output) -> Result<(), DeviceFault>
+        requires place { tells → Self.Output.place output ≡ path.now }
+        requires open { holds self.old path.now ≡ None }
+        ensures holds { OnOk result ((bytes : List ℕ) → tells → Self.Output.contents output ≡ Some bytes → holds self.new path.now ≡ Some (Some bytes)) }
+        ensures durable { OnOk result ((bytes : List ℕ) (c : Option (List ℕ)) → tells → Self.Output.contents output ≡ Some bytes → kept self.new path.now c → c ≡ Some bytes) }
+        ensures others { (q : List ℕ) → q ≢ path.now → holds self.new q ≡ holds self.old q }
+        ensures kept { (q : List ℕ) (c : Option (List ℕ)) → q ≢ path.now → kept self.new q c → kept self.old q c }
+        ensures real { real self.new ≡ real self.old }
+        ensures count { CountsFault (faults self.old) (faults self.new) result }
+        ensures crash { Goes moment may_leave left_since self.old self.new (SameBut path.now) };
+
+    /// Moves a file over another path of its folder. A crash may leave what was there until the folder is synced, and never less than one of the two.
+    ///
+    /// # Errors
+    ///
+    /// `DeviceFault`, exactly where the count of faults goes up by one. No path holds anything else then; a crash may still show the file moved.
+    fn rename(&mut self, from: &str, to: &str) -> Result<(), DeviceFault>
+        requires { from.now ≢ to.now }
+        ensures moved { OnOk result (holds self.new to.now ≡ holds self.old from.now) }
+        ensures gone { OnOk result (tells → holds self.new from.now ≡ Some None) }
+        ensures failed { OnErr result ((q : List ℕ) → holds self.new q ≡ holds self.old q) }
+        ensures others { (q : List ℕ) → q ≢ from.now → q ≢ to.now → holds self.new q ≡ holds self.old q }
+        ensures durable { OnOk result ((c : Option (List ℕ)) → kept self.new to.now c → kept self.old from.now c) }
+        ensures kept { (q : List ℕ) (c : Option (List ℕ)) → q ≢ from.now → q ≢ to.now → kept self.new q c → kept self.old q c }
+        ensures real { real self.new ≡ real self.old }
+        ensures count { CountsFault (faults self.old) (faults self.new) result }
+        ensures crash { Goes moment may_leave left_since self.old self.new (Moved from.now to.now (kept self.old from.now)) };
+
+    /// All names in the folder that has this path are on the disk.
+    ///
+    /// # Errors
+    ///
+    /// `DeviceFault`, exactly where the count of faults goes up by one.
+    fn sync_folder(&mut self, path: &str) -> Result<(), DeviceFault>
+        ensures durable { OnOk result ((c : Disk) (q : List ℕ) → may_leave self.new c → folder_of q ≡ folder_of path.now → kept self.old q (c q)) }
+        ensures others { (q : List ℕ) → holds self.new q ≡ holds self.old q }
+        ensures kept { (q : List ℕ) (c : Option (List ℕ)) → kept self.new q c → kept self.old q c }
+        ensures real { real self.new ≡ real self.old }
+        ensures count { CountsFault (faults self.old) (faults self.new) result }
+        ensures crash { Goes moment may_leave left_since self.old self.new Same };
+
+    /// Removes a file.
+    ///
+    /// # Errors
+    ///
+    /// `DeviceFault`, exactly where the count of faults goes up by one.
+    fn remove(&mut self, path: &str) -> Result<(), DeviceFault>
+        ensures gone { OnOk result (tells → holds self.new path.now ≡ Some None) }
+        ensures others { (q : List ℕ) → q ≢ path.now → holds self.new q ≡ holds self.old q }
+        ensures kept { (q : List ℕ) (c : Option (List ℕ)) → q ≢ path.now → kept self.new q c → kept self.old q c }
+        ensures real { real self.new ≡ real self.old }
+        ensures count { CountsFault (faults self.old) (faults self.new) result }
+        ensures crash { Goes moment may_leave left_since self.old self.new (SameBut path.now) };
+
+    /// Gives a new file the permissions of an old one, where both are there and the system can. It changes no byte.
+    fn copy_permissions(&self, from: &str, to: &str);
+
+    /// Makes a folder, at a path that nothing has. It changes no file.
+    ///
+    /// # Errors
+    ///
+    /// `DeviceFault`, exactly where the count of faults goes up by one: also where something has the path.
+    fn make_folder(&mut self, path: &str) -> Result<(), DeviceFault>
+        ensures others { (q : List ℕ) → holds self.new q ≡ holds self.old q }
+        ensures kept { (q : List ℕ) (c : Option (List ℕ)) → kept self.new q c → kept self.old q c }
+        ensures real { real self.new ≡ real self.old }
+        ensures count { CountsFault (faults self.old) (faults self.new) result }
+        ensures crash { Goes moment may_leave left_since self.old self.new Same };
+
+    /// A crash leaves something.
+    ghost some_crash: { (files : Self) → (c : Disk) × may_leave files c };
+
+    /// This moment is one of those since an earlier one.
+    ghost counts_now: { (files : Self) (t : ℕ) (c : Disk) → t ≤ moment files → may_leave files c → left_since files t c };
+
+    /// Since this moment there is no other.
+    ghost only_now: { (files : Self) (c : Disk) → left_since files (moment files) c → may_leave files c };
+}

@@ -1,0 +1,129 @@
+//! A content is written to an output by code that knows only sinks, and the output stays the same.
+
+ghost use Rattle.std.specs.Prelude.{◌≡◌, ℕ, List, Option, IfOk, OnOk, OnErr};
+ghost use Rattle.std.specs.Io.KnownBytes.{Appends};
+ghost use Rattle.udfs_files.specs.Disk.{Fails};
+ghost use Rattle.udfs_reading.specs.Writing.{Writes};
+
+use crate::Handle;
+use std::marker::{Brand, PhantomData};
+use udfs_reading::{DeviceFault, Sink, WriteFault};
+
+/// What can be written to a sink.
+pub trait Content {
+    /// All its bytes.
+    ghost bytes: { Self → List ℕ };
+
+    /// Writes all of them.
+    ///
+    /// # Errors
+    ///
+    /// `WriteFault` exactly where the sink failed. Then a beginning of the bytes is out.
+    fn write_to<W: Sink>(&self, sink: &mut W) -> Result<(), WriteFault>
+        ensures { Writes (W.contents sink.old) (W.contents sink.new) (W.faults sink.old) (W.faults sink.new) (bytes self.now) result };
+}
+
+/// The path of a handle.
+trait Place {
+    ghost path: { List ℕ };
+}
+
+impl Place for Brand {
+    ghost use Rattle.std.specs.Prelude.{[]};
+
+    ghost path = { [] };
+}
+
+/// A handle of which it is known at which path it is, whoever writes to it.
+#[derive(Drop)]
+struct Placed<K: Place, H: Handle> {
+    handle: H,
+    of: PhantomData<K>,
+    ghost at: { H.place handle ≡ K.path },
+}
+
+impl<K: Place, H: Handle> Sink for Placed<K, H> {
+    ghost contents = { λ p. H.contents p.handle };
+
+    ghost faults = { λ p. H.faults p.handle };
+
+    fn write(&mut self, buf: &[u8]) -> Result<usize, DeviceFault> {
+        self.handle.put(buf)
+    }
+}
+
+/// Writes a content to a handle of this path.
+fn fill_at<K: Place, H: Handle + Drop, C: Content>(handle: H, content: &C) -> Result<H, WriteFault>
+    requires { H.place handle ≡ K.path }
+    ensures place { IfOk result (λ full. H.place full ≡ K.path) }
+    ensures written { IfOk result (λ full. Appends (H.contents handle) (H.contents full) (C.bytes content.now)) }
+    ensures cause { OnErr result (Fails H.faults) }
+{
+    let mut placed: Placed<K, H> = Placed {
+        handle,
+        of: PhantomData,
+    };
+    content.write_to(&mut placed)?;
+    let Placed { handle, of: _ } = placed;
+    Ok(handle)
+}
+
+/// Writes a content behind what the output has, and answers the output, which has taken all of it.
+///
+/// # Errors
+///
+/// `WriteFault` where the output failed, and it is closed.
+pub fn fill<H: Handle + Drop, C: Content>(handle: H, content: &C) -> Result<H, WriteFault>
+    ensures place { IfOk result (λ full. H.place full ≡ H.place handle) }
+    ensures written { IfOk result (λ full. Appends (H.contents handle) (H.contents full) (C.bytes content.now)) }
+    ensures cause { OnErr result (Fails H.faults) }
+{
+    fill_at::<Brand, H, C>(handle, content)
+}
+
+/// What can be written to a sink, and may be refused for reasons of its own.
+pub trait Job {
+    /// Why it was refused.
+    type Refusal: Drop;
+
+    /// What a sink that told its contents before and after has taken.
+    ghost wrote: { Self → Option (List ℕ) → Option (List ℕ) → Type 0 };
+
+    /// Writes all of it.
+    ///
+    /// # Errors
+    ///
+    /// As the job says. Then the sink may have taken a part.
+    fn write_to<W: Sink>(&self, sink: &mut W) -> Result<(), Self::Refusal>
+        ensures { OnOk result (wrote self.now (W.contents sink.old) (W.contents sink.new)) };
+}
+
+/// Does a job on a handle of this path.
+fn do_at<K: Place, H: Handle + Drop, J: Job>(handle: H, job: &J) -> Result<H, J::Refusal>
+    requires { H.place handle ≡ K.path }
+    ensures place { IfOk result (λ full. H.place full ≡ K.path) }
+    ensures wrote { IfOk result (λ full. J.wrote job.now (H.contents handle) (H.contents full)) }
+{
+    let mut placed: Placed<K, H> = Placed {
+        handle,
+        of: PhantomData,
+    };
+    match job.write_to(&mut placed) {
+        Ok(()) => {}
+        Err(refusal) => return Err(refusal),
+    }
+    let Placed { handle, of: _ } = placed;
+    Ok(handle)
+}
+
+/// Does a job on an output, and answers the output, which has taken all of it.
+///
+/// # Errors
+///
+/// The job's refusal, and the output is closed.
+pub fn fill_by<H: Handle + Drop, J: Job>(handle: H, job: &J) -> Result<H, J::Refusal>
+    ensures place { IfOk result (λ full. H.place full ≡ H.place handle) }
+    ensures wrote { IfOk result (λ full. J.wrote job.now (H.contents handle) (H.contents full)) }
+{
+    do_at::<Brand, H, J>(handle, job)
+}

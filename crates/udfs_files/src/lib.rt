@@ -1,0 +1,12 @@
+//! Files that a crash may take at any moment, and one call that replaces a file whole or not at all.
+#![tactic(auto)]
+
+mod files;
+mod filling;
+mod machine;
+mod replacing;
+
+pub use files::{Files, Handle, Kind, Target};
+pub use filling::{Content, Job, fill, fill_by};
+pub use machine::{Machine, MachineFile};
+pub use replacing::{ReplaceError, replace};

@@ -1,0 +1,45 @@
+-- What a log of calls says of files: what they hold, and what a crash may leave. The newest call stands first.
+use Rattle.std.specs.Prelude.{◌≡◌, ◌≢◌, ◌⊎◌, ℕ, ◌≤◌, List, [], ◌∷◌, length, Option, Some, None, if◌then◌else◌, bytes_eq, ⊤}
+use Rattle.udfs_files.specs.Disk.{Disk, SameBut, Moved, After, folder_of}
+use Rattle.udfs_memory.specs.declared.memory.Event.{Event}
+use Rattle.udfs_memory.specs.declared.memory.Event.TheVariants.{Begun, Written, Renamed, Removed, Named}
+use Rattle.udfs_memory.specs.declared.memory.Found.{Found}
+use Rattle.udfs_memory.specs.declared.memory.Found.TheVariants.{Open, Absent, Bytes}
+
+-- what a path holds: nothing is told of one that is being written
+abbrev pub held : List Event → List ℕ → Option (Option (List ℕ))
+held [] p = Some None
+held (Begun q ∷ es) p = if bytes_eq p q.items then None else held es p
+held (Written q bytes ∷ es) p = if bytes_eq p q.items then Some (Some bytes.items) else held es p
+held (Renamed from to ∷ es) p = if bytes_eq p to.items then held es from.items else if bytes_eq p from.items then Some None else held es p
+held (Removed q ∷ es) p = if bytes_eq p q.items then Some None else held es p
+held (Named q ∷ es) p = held es p
+
+-- what a crash may leave of what is at a path, were its name on the disk
+abbrev pub kept : List Event → List ℕ → Option (List ℕ) → Type 0
+kept [] p c = c ≡ None
+kept (Begun q ∷ es) p c = (p ≡ q.items) ⊎ kept es p c
+kept (Written q bytes ∷ es) p c = ((p ≡ q.items) × (c ≡ Some bytes.items)) ⊎ ((p ≢ q.items) × kept es p c)
+kept (Renamed from to ∷ es) p c = ((p ≡ to.items) × kept es from.items c) ⊎ ((p ≡ from.items) × (p ≢ to.items) × (c ≡ None)) ⊎ ((p ≢ from.items) × (p ≢ to.items) × kept es p c)
+kept (Removed q ∷ es) p c = ((p ≡ q.items) × (c ≡ None)) ⊎ ((p ≢ q.items) × kept es p c)
+kept (Named q ∷ es) p c = kept es p c
+
+-- what a crash may leave at all paths: a file that was begun is torn in any way, and a name comes or goes at any time until its folder is synced
+abbrev pub outcome : List Event → Disk → Type 0
+outcome [] c = (p : List ℕ) → c p ≡ None
+outcome (Begun q ∷ es) c = After (outcome es) (SameBut q.items) c
+outcome (Written q bytes ∷ es) c = After (outcome es) (SameBut q.items) c
+outcome (Renamed from to ∷ es) c = After (outcome es) (Moved from.items to.items (kept es from.items)) c
+outcome (Removed q ∷ es) c = After (outcome es) (SameBut q.items) c
+outcome (Named q ∷ es) c = outcome es c × ((p : List ℕ) → folder_of p ≡ folder_of q.items → kept es p (c p))
+
+-- what a crash might have left when the log had this length, or later
+abbrev pub outcome_since : List Event → ℕ → Disk → Type 0
+outcome_since [] t c = outcome [] c
+outcome_since (e ∷ es) t c = outcome (e ∷ es) c ⊎ ((t ≤ length es) × outcome_since es t c)
+
+-- what a search found
+abbrev pub found_of : Found → Option (Option (List ℕ))
+found_of Open = None
+found_of Absent = Some None
+found_of (Bytes bytes) = Some (Some bytes.now)

@@ -1,0 +1,155 @@
+//! What is read from and written to, in memory.
+
+ghost use Rattle.std.specs.Prelude.{◌≡◌, ◌≤◌, ◌<◌, ℕ, List, Option, length, Some, drop, [], MatchOption, ⊤};
+
+use std::alloc::Global;
+use std::io::Read;
+use udfs_files::Handle;
+use udfs_reading::{DeviceFault, Sink, Source};
+
+/// How a device behaves.
+#[derive(Clone, Copy)]
+pub struct Device {
+    /// How many bytes it moves in one call at most.
+    pub most: usize,
+    /// After how many bytes it fails.
+    pub good: usize,
+    /// Whether it then takes no byte instead, as a full device may.
+    pub takes_none: bool,
+}
+
+/// A device that never fails.
+pub const SOUND: Device = Device {
+    most: usize::MAX,
+    good: usize::MAX,
+    takes_none: false,
+};
+
+/// An opened input.
+#[derive(Drop)]
+pub struct MemoryInput {
+    bytes: Vec<u8>,
+    at: usize,
+    device: Device,
+    faults: u64,
+    ghost within: { at ≤ length bytes.items },
+}
+
+impl MemoryInput {
+    /// An input of these bytes on a device.
+    pub fn new(bytes: Vec<u8>, device: Device) -> MemoryInput
+        ensures { ⟦<MemoryInput as Source>⟧.remaining result ≡ Some bytes.items }
+    {
+        MemoryInput {
+            bytes,
+            at: 0,
+            device,
+            faults: 0,
+        }
+    }
+}
+
+impl Source for MemoryInput {
+    ghost remaining = { λ i. Some (drop i.at i.bytes.items) };
+
+    ghost faults = { λ i. i.faults };
+
+    fn read(&mut self, buf: &mut [u8]) -> Result<usize, DeviceFault> {
+        let most = self.device.most.min(self.device.good);
+        if most == 0 && !buf.is_empty() {
+            self.faults = self.faults.wrapping_add(1);
+            return Err(DeviceFault);
+        }
+        let room = buf.len().min(most);
+        let mut rest = &self.bytes[self.at..];
+        match rest.read(&mut buf[..room]) {
+            Ok(count) => {
+                self.at += count;
+                self.device.good = self.device.good.saturating_sub(count);
+                Ok(count)
+            }
+            Err(_) => {
+                self.faults = self.faults.wrapping_add(1);
+                Err(DeviceFault)
+            }
+        }
+    }
+}
+
+/// An output that was made, on a device.
+#[derive(Drop)]
+pub struct MemoryFile {
+    /// Where it was made.
+    pub path: Vec<u8>,
+    /// What was written so far.
+    pub bytes: Vec<u8>,
+    device: Device,
+    faults: u64,
+}
+
+impl MemoryFile {
+    /// A file at this path, with nothing in it.
+    pub fn new(alloc: Global, path: Vec<u8>, device: Device) -> MemoryFile
+        ensures place { result.path ≡ path }
+        ensures empty { result.bytes.items ≡ [] }
+    {
+        MemoryFile {
+            path,
+            bytes: Vec::new(alloc),
+            device,
+            faults: 0,
+        }
+    }
+
+    /// Where it was made, and what was written.
+    pub fn into_parts(self) -> (Vec<u8>, Vec<u8>)
+        ensures place { result.0 ≡ self.path }
+        ensures bytes { result.1 ≡ self.bytes }
+    {
+        let MemoryFile {
+            path,
+            bytes,
+            device: _,
+            faults: _,
+        } = self;
+        (path, bytes)
+    }
+
+    /// How many of these bytes the device takes, or none where it fails.
+    fn taken(&self, buf: &[u8]) -> Option<usize>
+        ensures bound { MatchOption result ⊤ (λ n. n ≤ length buf.now) }
+        ensures some { MatchOption result ⊤ (λ n. 0 < length buf.now → 0 < n) }
+    {
+        let most = self.device.most.min(self.device.good);
+        let count = buf.len().min(most);
+        if count == 0 && !buf.is_empty() {
+            return None;
+        }
+        Some(count)
+    }
+}
+
+impl Sink for MemoryFile {
+    ghost contents = { λ f. Some f.bytes.items };
+
+    ghost faults = { λ f. f.faults };
+
+    fn write(&mut self, buf: &[u8]) -> Result<usize, DeviceFault> {
+        self.put(buf)
+    }
+}
+
+impl Handle for MemoryFile {
+    ghost place = { λ f. f.path.items };
+
+    fn put(&mut self, buf: &[u8]) -> Result<usize, DeviceFault> {
+        if let Some(count) = self.taken(buf) {
+            if self.bytes.extend_from_slice(&buf[..count]).is_ok() {
+                self.device.good = self.device.good.saturating_sub(count);
+                return Ok(count);
+            }
+        }
+        self.faults = self.faults.wrapping_add(1);
+        Err(DeviceFault)
+    }
+}

@@ -1,0 +1,8 @@
+//! Files in memory, of which a crash may leave whatever the calls so far allow, and whose devices can be slow or fail. For tests alone.
+#![tactic(auto)]
+
+mod devices;
+mod memory;
+
+pub use devices::{Device, MemoryFile, MemoryInput, SOUND};
+pub use memory::Memory;

@@ -1,0 +1,101 @@
+//! Names, their faults and their escaped form.
+
+use crate::{Name, NameFault};
+use std::test::Fail;
+
+fn escaped(rt: &HostRuntime, bytes: &[u8]) -> Result<String, Fail> {
+    let name = Name::read(rt.alloc(), bytes)?;
+    let mut text = String::new(rt.alloc());
+    name.write_escaped(&mut text)?;
+    Ok(text)
+}
+
+fn fault_of(rt: &HostRuntime, bytes: &[u8]) -> Option<NameFault> {
+    match Name::read(rt.alloc(), bytes) {
+        Ok(_) => None,
+        Err(fault) => Some(fault),
+    }
+}
+
+#[test]
+fn names_of_one_byte_a_unit(rt: HostRuntime) -> Result<(), Fail> {
+    let cases: [(&[u8], &str); 8] = [
+        (b"\x08A file.txt", "A file.txt"),
+        (b"\x08..", "\\u002E\\u002E"),
+        (b"\x08.", "\\u002E"),
+        (b"\x08...", "..."),
+        (b"\x08/", "\\u002F"),
+        (b"\x08\xe9", "\u{e9}"),
+        (b"\x08\x00\x1f\x20\x7e\x7f", "\\u0000\\u001F ~\\u007F"),
+        (b"\x08a\\b", "a\\u005Cb"),
+    ];
+    for (bytes, text) in cases {
+        assert_eq!(rt; escaped(&rt, bytes)?.as_str(), text);
+    }
+    Ok(())
+}
+
+#[test]
+fn names_of_two_bytes_a_unit(rt: HostRuntime) -> Result<(), Fail> {
+    let cases: [(&[u8], &str); 10] = [
+        (b"\x10\x00A", "A"),
+        (b"\x10\x00.\x00.", "\\u002E\\u002E"),
+        (b"\x10\x00\xe9\x4e\x2d", "\u{e9}\u{4e2d}"),
+        (
+            b"\x10\x00\x0a\x00/\x00\\\x00\x7f",
+            "\\u000A\\u002F\\u005C\\u007F",
+        ),
+        (b"\x10\xd8\x3d\xde\x00", "\u{1f600}"),
+        (b"\x10\xdb\xff\xdf\xff", "\u{10ffff}"),
+        (b"\x10\xd8\x00", "\\uD800"),
+        (b"\x10\xdc\x00\xd8\x00", "\\uDC00\\uD800"),
+        (b"\x10\xd8\x00\xd8\x00\xdc\x00", "\\uD800\u{10000}"),
+        (b"\x10\xff\xff\xe0\x00\xd7\xff", "\u{ffff}\u{e000}\u{d7ff}"),
+    ];
+    for (bytes, text) in cases {
+        assert_eq!(rt; escaped(&rt, bytes)?.as_str(), text);
+    }
+    Ok(())
+}
+
+#[test]
+fn units_of_names(rt: HostRuntime) -> Result<(), Fail> {
+    let name = Name::read(rt.alloc(), b"\x08\xe9A")?;
+    assert_eq!(rt; name.units(), [0xe9, 0x41].as_slice());
+    let name = Name::read(rt.alloc(), b"\x10\xd8\x3d\xde\x00")?;
+    assert_eq!(rt; name.units(), [0xd83d, 0xde00].as_slice());
+    let copy = name.clone()?;
+    assert_eq!(rt; copy.units(), [0xd83d, 0xde00].as_slice());
+    Ok(())
+}
+
+#[test]
+fn faults_of_names(rt: HostRuntime) -> Result<(), Fail> {
+    let cases: [(&[u8], Option<NameFault>); 8] = [
+        (b"", Some(NameFault::Empty)),
+        (b"\x08", Some(NameFault::Empty)),
+        (b"\x10", Some(NameFault::Empty)),
+        (b"\x09", Some(NameFault::Compression)),
+        (b"\x09A", Some(NameFault::Compression)),
+        (b"\x10A", Some(NameFault::Odd)),
+        (b"\x10\x00A\x00", Some(NameFault::Odd)),
+        (b"\x08A", None),
+    ];
+    for (bytes, fault) in cases {
+        assert_eq!(rt; fault_of(&rt, bytes), fault);
+    }
+    for (fault, number, text) in [
+        (NameFault::Empty, 1, "the name has no unit"),
+        (
+            NameFault::Compression,
+            2,
+            "the name begins with neither 8 nor 16",
+        ),
+        (NameFault::Odd, 3, "the name ends inside a unit"),
+        (NameFault::OutOfMemory, 4, "out of memory"),
+    ] {
+        assert_eq!(rt; fault as u8, number);
+        assert_eq!(rt; format!(in rt.alloc(); "{fault}")?.as_str(), text);
+    }
+    Ok(())
+}

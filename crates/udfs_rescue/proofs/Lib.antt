@@ -1,0 +1,11 @@
+mod Digits
+mod WordLemmas
+mod Exactly
+mod LineLemmas
+mod Contiguous
+mod HeldLemmas
+mod StreamLemmas
+mod PieceLemmas
+mod Judged
+mod Giving
+mod MapText

@@ -1,0 +1,24 @@
+-- One block after another is put behind a run (internal).
+use Rattle.std.specs.Prelude.{◌≡◌, ℕ, List, ◌++◌, Option}
+use Rattle.std.specs.List.Sorted.{IsNonDecreasing}
+use Rattle.udfs_reading.specs.Writing.{Passed}
+use Rattle.udfs_rescue.specs.declared.run.Run.{Run}
+use Rattle.udfs_rescue.specs.declared.run.RunStatus.{RunStatus}
+use Rattle.udfs_rescue.specs.declared.writing.Blocks.{Blocks}
+use Rattle.udfs_rescue.specs.declared.writing.Blocks.TheVariants.{Wanted, Of}
+use Rattle.udfs_rescue.specs.Writing.{wanted_status, table_status, joined_run, run_lines}
+
+abbrev pub status_in : Blocks → ℕ → RunStatus
+status_in (Wanted list) n = wanted_status list.now n
+status_in (Of table) n = table_status table.now n
+
+-- a list of wanted blocks rises
+abbrev pub Rises : Blocks → Type 0
+Rises (Wanted list) = IsNonDecreasing list.now
+Rises (Of table) = Unit {0}
+
+-- the lines that are complete were taken, and the run behind them is `after`
+pub record TakesRun (old new : Option (List ℕ)) (i j : ℕ) (held still : List ℕ) (before after next : Run) : Type 0 where
+  pub done : List ℕ
+  pub passed : Passed old new i j held still done
+  pub text : (rest : List Run) → run_lines (joined_run before (joined_run next rest)) ≡ done ++ run_lines (joined_run after rest)

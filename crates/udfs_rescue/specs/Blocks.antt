@@ -1,0 +1,65 @@
+-- The blocks of an image, and the reading file of those that are rescued.
+use Rattle.std.specs.Prelude.{◌≡◌, ℕ, zero, suc, ◌+◌, ◌-◌, ◌*◌, ◌<◌, ◌≤◌, List, [], ◌∷◌, ◌++◌, length, take, drop, map, Option, None, Some, IfSome, Result, ◌⊎◌}
+use Rattle.std.specs.List.{flat_map}
+use Rattle.udfs_lattice.specs.Records.{Record}
+use Rattle.udfs_reading.specs.Reading.{front, record_bytes}
+use Rattle.udfs_rescue.specs.declared.known.BlockRange.{BlockRange}
+
+-- the 2048 bytes of block n
+abbrev pub block_of : List ℕ → ℕ → List ℕ
+block_of all n = take 2048 (drop (2048 * n) all)
+
+-- so many numbers from n on
+abbrev pub count_up : ℕ → ℕ → List ℕ
+count_up n zero = []
+count_up n (suc k) = n ∷ count_up (n + 1) k
+
+-- the blocks of the ranges, in order, each with its bytes in the image
+abbrev pub records_from : List ℕ → ℕ → ℕ → List Record
+records_from all n zero = []
+records_from all n (suc k) = (n, block_of all n) ∷ records_from all (n + 1) k
+
+abbrev pub records_of : List ℕ → List BlockRange → List Record
+records_of all [] = []
+records_of all (r ∷ rs) = records_from all r.start (r.end - r.start) ++ records_of all rs
+
+-- the reading file of these blocks of the image
+abbrev pub reading_of : List ℕ → List BlockRange → List ℕ
+reading_of all ranges = front (length (records_of all ranges)) (records_of all ranges)
+
+-- where the image tells its bytes
+abbrev pub reading_known : Option (List ℕ) → List BlockRange → Option (List ℕ)
+reading_known None ranges = None
+reading_known (Some all) ranges = Some (reading_of all ranges)
+
+-- ---- as they are given (internal)
+
+-- so many blocks, the first of this number, whose bytes stand one after another
+abbrev pub records_in : ℕ → ℕ → List ℕ → List Record
+records_in n zero bytes = []
+records_in n (suc k) bytes = (n, take 2048 bytes) ∷ records_in (n + 1) k (drop 2048 bytes)
+
+-- the bytes pending, the records read and not yet pending, and those of the ranges left
+abbrev pub left_bytes : Option (List ℕ) → List ℕ → List Record → List BlockRange → Option (List ℕ)
+left_bytes None pending here ranges = None
+left_bytes (Some all) pending here ranges = Some (pending ++ (flat_map record_bytes here ++ flat_map record_bytes (records_of all ranges)))
+
+-- the front of the ranges: at most 128 blocks of the first range
+pub record IsFront (ranges : List BlockRange) (r : BlockRange) : Type 0 where
+  pub first : BlockRange
+  pub later : List BlockRange
+  pub are : ranges ≡ first ∷ later
+  pub start : r.start ≡ first.start
+  pub some : r.start < r.end
+  pub end : r.end ≤ first.end
+  pub few : r.end - r.start ≤ 128
+  pub within : r.end ≤ 4194304
+
+-- the ranges without their front
+pub record WithoutFront (old : List BlockRange) (r : BlockRange) (new : List BlockRange) : Type 0 where
+  pub same : (all : List ℕ) → records_of all old ≡ records_from all r.start (r.end - r.start) ++ records_of all new
+
+-- ranges of which none is empty, up to block 4,194,303 at most
+abbrev pub AreSome : List BlockRange → Type 0
+AreSome [] = Unit {0}
+AreSome (r ∷ rs) = (r.start < r.end) × (r.end ≤ 4194304) × AreSome rs

@@ -1,0 +1,12 @@
+pub mod Numbers
+pub mod Words
+pub mod Lines
+pub mod Held
+pub mod Runs
+pub mod Known
+pub mod Ranges
+pub mod Views
+pub mod Stream
+pub mod Blocks
+pub mod Writing
+pub mod BlockSteps

@@ -1,0 +1,39 @@
+-- A mapfile that comes byte by byte.
+use Rattle.std.specs.Prelude.{◌≡◌, ℕ, ◌+◌, ◌%◌, ◌^◌, List, [], Option, IfSome, Result, Ok, Err}
+use Rattle.udfs_reading.specs.Answers.{HadGiven}
+use Rattle.udfs_rescue.specs.declared.run.Run.{Run}
+use Rattle.udfs_rescue.specs.declared.fault.LineFault.{LineFault}
+use Rattle.udfs_rescue.specs.declared.fault.MapError.{MapError}
+use Rattle.udfs_rescue.specs.declared.fault.MapError.TheVariants as errors
+use Rattle.udfs_rescue.specs.declared.stream.MapReader.{MapReader}
+use Rattle.udfs_rescue.specs.Lines.{Progress, after_text, after_lines, next_line, onto, lines_of, outcome, HasNoFaultYet}
+use Rattle.udfs_rescue.specs.Held.{Keeps}
+use Rattle.udfs_rescue.specs.Views.{Refuses}
+
+-- what the whole comes to, if these bytes follow, is what the reader stands for
+pub record Stands (r : MapReader) (says : List ℕ → Result (List Run) LineFault) : Type 0 where
+  pub line : List ℕ
+  pub keeps : Keeps r.held.held.items r.held.comment r.held.blank line
+  pub left : (rest : List ℕ) → says rest ≡ after_lines r.line r.runs (onto line (lines_of rest))
+
+-- a line was taken
+pub record EndsLine (old new : MapReader) : Type 0 where
+  pub took : after_text old.runs old.held.held.items ≡ Ok new.runs
+  pub next : new.line ≡ next_line old.line
+  pub fresh : Keeps new.held.held.items new.held.comment new.held.blank []
+
+-- a line has a fault
+abbrev pub LineFails : MapReader → MapError → Type 0
+LineFails old errors.OutOfMemory = Unit {0}
+LineFails old errors.Io = ⊥
+LineFails old (errors.Line f) = (after_text old.runs old.held.held.items ≡ Err f.fault) × (f.line ≡ old.line)
+
+-- why a mapfile was not read, by what the source told and has left, and its counts of faults
+abbrev pub MapFails : Option (List ℕ) → Option (List ℕ) → ℕ → ℕ → MapError → Type 0
+MapFails old new i j errors.Io = (j ≡ (i + 1) % 2 ^ 64) × HadGiven old new HasNoFaultYet
+MapFails old new i j e = (j ≡ i) × IfSome old (λ bytes. Refuses e (outcome bytes))
+
+-- what reading to the end of the source gave
+abbrev pub ReadsMap : Option (List ℕ) → Option (List ℕ) → ℕ → ℕ → Result (List Run) MapError → Type 0
+ReadsMap old new i j (Ok runs) = (j ≡ i) × IfSome old (λ bytes. outcome bytes ≡ Ok runs)
+ReadsMap old new i j (Err e) = MapFails old new i j e

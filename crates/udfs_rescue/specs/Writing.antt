@@ -1,0 +1,82 @@
+-- The text of a mapfile, by the status of each block.
+use Rattle.std.specs.Prelude.{ℕ, zero, suc, ◌+◌, ◌*◌, ◌/◌, ◌%◌, ◌^◌, List, [], ◌∷◌, ◌++◌, codes, nat_lt, ◌==◌, if◌then◌else◌}
+use Rattle.std.specs.List.{flat_map}
+use Rattle.udfs_lattice.specs.declared.facts.Fact.TheVariants.{Unknown, Known, Conflict}
+use Rattle.udfs_lattice.specs.States.{State}
+use Rattle.udfs_lattice.specs.Tables.{Table, state_of}
+use Rattle.udfs_rescue.specs.declared.run.Run.{Run}
+use Rattle.udfs_rescue.specs.declared.run.RunStatus.{RunStatus}
+use Rattle.udfs_rescue.specs.declared.run.RunStatus.TheVariants.{NonTried, NonTrimmed, NonScraped, BadSector, Finished}
+
+-- ---- the status of each block
+
+-- a block of the list is wanted, and no other is
+abbrev pub wanted_status : List ℕ → ℕ → RunStatus
+wanted_status [] n = NonTried
+wanted_status (x ∷ xs) n = if x == n then Finished else wanted_status xs n
+
+abbrev pub state_status : State → RunStatus
+state_status Unknown = NonTried
+state_status (Known bytes) = Finished
+state_status Conflict = BadSector
+
+-- what the table knows of a block
+abbrev pub table_status : Table → ℕ → RunStatus
+table_status t n = state_status (state_of t n)
+
+-- ---- its runs
+
+-- ? * / - +
+abbrev pub status_byte : RunStatus → ℕ
+status_byte NonTried = 63
+status_byte NonTrimmed = 42
+status_byte NonScraped = 47
+status_byte BadSector = 45
+status_byte Finished = 43
+
+-- a run before others: with the first of them it is one where both have one status
+abbrev pub joined_run : Run → List Run → List Run
+joined_run r [] = r ∷ []
+joined_run r (s ∷ ss) = if status_byte r.status == status_byte s.status then record { at = r.at; size = r.size + s.size; status = r.status } ∷ ss else r ∷ s ∷ ss
+
+abbrev pub block_run : (ℕ → RunStatus) → ℕ → Run
+block_run status n = record { at = 2048 * n; size = 2048; status = status n }
+
+-- the runs of so many blocks from block n on
+abbrev pub runs_of_blocks : (ℕ → RunStatus) → ℕ → ℕ → List Run
+runs_of_blocks status n zero = []
+runs_of_blocks status n (suc k) = joined_run (block_run status n) (runs_of_blocks status (n + 1) k)
+
+-- ---- their text
+
+abbrev pub hex_digit : ℕ → ℕ
+hex_digit d = if nat_lt d 10 then 48 + d else 55 + d
+
+-- the last so many hexadecimal digits of a number
+abbrev pub hex_digits : ℕ → ℕ → List ℕ
+hex_digits zero n = []
+hex_digits (suc k) n = hex_digits k (n / 16) ++ hex_digit (n % 16) ∷ []
+
+-- eight digits, or one more where the number does not fit
+abbrev pub places : ℕ → ℕ
+places n = if nat_lt n (2 ^ 32) then 8 else 9
+
+unfoldable pub position_text : ℕ → List ℕ
+position_text n = (48 ∷ 120 ∷ []) ++ hex_digits (places n) n
+
+abbrev pub gap : List ℕ
+gap = 32 ∷ 32 ∷ []
+
+unfoldable pub run_line : Run → List ℕ
+run_line r = position_text r.at ++ gap ++ position_text r.size ++ gap ++ (status_byte r.status ∷ 10 ∷ [])
+
+abbrev pub run_lines : List Run → List ℕ
+run_lines rs = flat_map run_line rs
+
+-- a comment that says who made the map, and the status line
+unfoldable pub heading : List ℕ
+heading = codes "# Mapfile. Created by udfsalvage 0.1.0" ++ 10 ∷ (codes "0x00000000     +               1" ++ 10 ∷ [])
+
+-- the map of the blocks up to the last one
+abbrev pub map_text : (ℕ → RunStatus) → ℕ → List ℕ
+map_text status last = heading ++ run_lines (runs_of_blocks status 0 (last + 1))

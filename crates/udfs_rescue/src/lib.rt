@@ -1,0 +1,28 @@
+//! GNU ddrescue's images and mapfiles: the runs that a mapfile lists, the blocks that they make known, and an image
+//! with its mapfile as a source of the reading of these blocks.
+#![tactic(auto)]
+
+mod fault;
+mod held;
+mod image;
+mod known;
+mod line;
+mod mapfile;
+mod number;
+mod pair;
+mod piece;
+mod run;
+mod stream;
+mod word;
+mod writing;
+
+pub use fault::{LineFault, MapError, MapFault};
+pub use image::Image;
+pub use known::{BlockRange, KnownBlocks};
+pub use mapfile::Mapfile;
+pub use pair::Pair;
+pub use run::{Run, RunStatus};
+pub use writing::{write_domain, write_image_map};
+
+#[cfg(test)]
+mod tests;

@@ -1,0 +1,5 @@
+//! Worked rows.
+
+mod maps;
+mod pairs;
+mod texts;

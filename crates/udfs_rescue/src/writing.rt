@@ -1,0 +1,234 @@
+//! Mapfiles are written.
+
+ghost use Rattle.std.specs.Prelude.{◌≡◌, ℕ, ◌+◌, ◌*◌, ◌≤◌, ◌<◌, List, OnOk, IfErr};
+ghost use Rattle.std.specs.List.Sorted.{IsNonDecreasing};
+ghost use Rattle.udfs_reading.specs.Writing.{Writes, Passes, FailedPast};
+ghost use Rattle.udfs_rescue.specs.declared.run.Run.{Run};
+ghost use Rattle.udfs_rescue.specs.Writing.{wanted_status, table_status, status_byte, joined_run, runs_of_blocks, hex_digit, hex_digits, places, position_text, run_line, run_lines, heading, map_text};
+ghost use Rattle.udfs_rescue.specs.BlockSteps.{status_in, Rises, TakesRun};
+
+use crate::run::{Run, RunStatus};
+use udfs_lattice::{BlockTable, Fact};
+use udfs_reading::{Outgoing, Sink, WriteFault};
+
+/// What the statuses of the blocks come from.
+#[derive(Clone, Copy)]
+pub enum Blocks<'a> {
+    /// The blocks that are wanted, rising.
+    Wanted(&'a [u32]),
+    /// A table.
+    Of(&'a BlockTable),
+}
+
+fn wanted_status(wanted: &[u32], block: u32) -> RunStatus
+    requires { IsNonDecreasing wanted.now }
+    ensures { result ≡ wanted_status wanted.now block }
+{
+    match wanted.binary_search(&block) {
+        Ok(_) => RunStatus::Finished,
+        Err(_) => RunStatus::NonTried,
+    }
+}
+
+fn table_status(table: &BlockTable, block: u32) -> RunStatus
+    ensures { result ≡ table_status table.now block }
+{
+    match table.state(block) {
+        Fact::Unknown => RunStatus::NonTried,
+        Fact::Known(_) => RunStatus::Finished,
+        Fact::Conflict => RunStatus::BadSector,
+    }
+}
+
+/// The byte that stands for a status.
+fn status_byte(status: RunStatus) -> u8
+    ensures { result ≡ status_byte status }
+{
+    match status {
+        RunStatus::NonTried => b'?',
+        RunStatus::NonTrimmed => b'*',
+        RunStatus::NonScraped => b'/',
+        RunStatus::BadSector => b'-',
+        RunStatus::Finished => b'+',
+    }
+}
+
+fn hex_digit(digit: u64) -> u8
+    requires { digit < 16 }
+    ensures { result ≡ hex_digit digit }
+{
+    if digit < 10 {
+        48 + digit as u8
+    } else {
+        55 + digit as u8
+    }
+}
+
+/// The last so many hexadecimal digits of a number.
+fn write_digits<W: Sink>(
+    out: &mut Outgoing,
+    sink: &mut W,
+    count: u32,
+    n: u64,
+) -> Result<(), WriteFault>
+    ensures { Passes (W.contents sink.old) (W.contents sink.new) (W.faults sink.old) (W.faults sink.new) out.old out.new (hex_digits count n) result }
+{
+    if count == 0 {
+        return Ok(());
+    }
+    write_digits(out, sink, count - 1, n / 16)?;
+    out.push(sink, &[hex_digit(n % 16)])?;
+    Ok(())
+}
+
+/// How many digits a number has: eight, or nine where it does not fit.
+fn places(n: u64) -> u32
+    ensures { result ≡ places n }
+{
+    if n < 4_294_967_296 { 8 } else { 9 }
+}
+
+/// A number as `0x%08X` prints it.
+fn write_position<W: Sink>(out: &mut Outgoing, sink: &mut W, n: u64) -> Result<(), WriteFault>
+    ensures { Passes (W.contents sink.old) (W.contents sink.new) (W.faults sink.old) (W.faults sink.new) out.old out.new (position_text n) result }
+{
+    out.push(sink, b"0x")?;
+    write_digits(out, sink, places(n), n)?;
+    Ok(())
+}
+
+/// The line of a run.
+fn write_run<W: Sink>(out: &mut Outgoing, sink: &mut W, run: Run) -> Result<(), WriteFault>
+    ensures { Passes (W.contents sink.old) (W.contents sink.new) (W.faults sink.old) (W.faults sink.new) out.old out.new (run_line run) result }
+{
+    write_position(out, sink, run.at)?;
+    out.push(sink, b"  ")?;
+    write_position(out, sink, run.size)?;
+    out.push(sink, b"  ")?;
+    out.push(sink, &[status_byte(run.status), b'\n'])?;
+    Ok(())
+}
+
+/// Puts the next block behind the run, or writes the run and begins another.
+fn take_block<W: Sink>(
+    out: &mut Outgoing,
+    sink: &mut W,
+    run: &mut Run,
+    block: u32,
+    status: RunStatus,
+) -> Result<(), WriteFault>
+    requires { run.old.size ≤ 2048 * block }
+    ensures ok { OnOk result (TakesRun (W.contents sink.old) (W.contents sink.new) (W.faults sink.old) (W.faults sink.new) out.old out.new run.old run.new (record { at = 2048 * block; size = 2048; status = status })) }
+    ensures size { OnOk result (run.new.size ≤ 2048 * (block + 1)) }
+    ensures err { IfErr result (λ _. (rest : List Run) → FailedPast (W.contents sink.old) (W.contents sink.new) (W.faults sink.old) (W.faults sink.new) out.old (run_lines (joined_run run.old (joined_run (record { at = 2048 * block; size = 2048; status = status }) rest)))) }
+{
+    if status_byte(run.status) == status_byte(status) {
+        run.size += 2048;
+        return Ok(());
+    }
+    write_run(out, sink, *run)?;
+    *run = Run {
+        at: 2048 * u64::from(block),
+        size: 2048,
+        status,
+    };
+    Ok(())
+}
+
+impl<'a> Blocks<'a> {
+    fn status(self, block: u32) -> RunStatus
+        requires { Rises self }
+        ensures { result ≡ status_in self.entry block }
+    {
+        match self {
+            Blocks::Wanted(wanted) => wanted_status(wanted, block),
+            Blocks::Of(table) => table_status(table, block),
+        }
+    }
+}
+
+/// The runs of the blocks up to the last one.
+fn write_runs<W: Sink>(
+    out: &mut Outgoing,
+    sink: &mut W,
+    blocks: Blocks<'_>,
+    last: u32,
+) -> Result<(), WriteFault>
+    requires rises { Rises blocks }
+    requires last { last ≤ 4194303 }
+    ensures { Passes (W.contents sink.old) (W.contents sink.new) (W.faults sink.old) (W.faults sink.new) out.old out.new (run_lines (runs_of_blocks (status_in blocks.entry) 0 (last + 1))) result }
+{
+    let mut run = Run {
+        at: 0,
+        size: 2048,
+        status: blocks.status(0),
+    };
+    let mut block = 1;
+    while block <= last {
+        take_block(out, sink, &mut run, block, blocks.status(block))?;
+        block += 1;
+    }
+    write_run(out, sink, run)?;
+    Ok(())
+}
+
+fn write_all_lines<W: Sink>(
+    out: &mut Outgoing,
+    sink: &mut W,
+    blocks: Blocks<'_>,
+    last: u32,
+) -> Result<(), WriteFault>
+    requires rises { Rises blocks }
+    requires last { last ≤ 4194303 }
+    ensures { Passes (W.contents sink.old) (W.contents sink.new) (W.faults sink.old) (W.faults sink.new) out.old out.new (map_text (status_in blocks.entry) last) result }
+{
+    out.push(
+        sink,
+        b"# Mapfile. Created by udfsalvage 0.1.0\n0x00000000     +               1\n",
+    )?;
+    write_runs(out, sink, blocks, last)?;
+    Ok(())
+}
+
+fn write_map<W: Sink>(blocks: Blocks<'_>, last: u32, sink: &mut W) -> Result<(), WriteFault>
+    requires rises { Rises blocks }
+    requires last { last ≤ 4194303 }
+    ensures { Writes (W.contents sink.old) (W.contents sink.new) (W.faults sink.old) (W.faults sink.new) (map_text (status_in blocks.entry) last) result }
+{
+    let mut out = Outgoing::new();
+    write_all_lines(&mut out, sink, blocks, last)?;
+    out.flush(sink)?;
+    Ok(())
+}
+
+/// Writes the mapfile in which the wanted blocks are `+`, and all others from 0 to `last` are `?`. Its runs go from 0 to
+/// `2048 * (last + 1)` bytes. The wanted blocks are given in rising order; those above `last` do not show. It takes no
+/// memory.
+///
+/// # Errors
+///
+/// `WriteFault` exactly where the sink failed. Then a beginning of the mapfile is out.
+pub fn write_domain<W: Sink>(wanted: &[u32], last: u32, sink: &mut W) -> Result<(), WriteFault>
+    requires rises { IsNonDecreasing wanted.now }
+    requires last { last ≤ 4194303 }
+    ensures { Writes (W.contents sink.old) (W.contents sink.new) (W.faults sink.old) (W.faults sink.new) (map_text (wanted_status wanted.now) last) result }
+{
+    write_map(Blocks::Wanted(wanted), last, sink)
+}
+
+/// Writes the mapfile of a table's image: from block 0 to `last`, `+` for each block that is known, `-` for one in
+/// conflict, and `?` for one that is unknown. Its runs go from 0 to `2048 * (last + 1)` bytes. It takes no memory.
+///
+/// # Errors
+///
+/// `WriteFault` exactly where the sink failed. Then a beginning of the mapfile is out.
+pub fn write_image_map<W: Sink>(
+    table: &BlockTable,
+    last: u32,
+    sink: &mut W,
+) -> Result<(), WriteFault>
+    requires { last ≤ 4194303 }
+    ensures { Writes (W.contents sink.old) (W.contents sink.new) (W.faults sink.old) (W.faults sink.new) (map_text (table_status table.now) last) result }
+{
+    write_map(Blocks::Of(table), last, sink)
+}

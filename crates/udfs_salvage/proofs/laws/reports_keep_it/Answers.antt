@@ -1,0 +1,5 @@
+use Rattle.udfs_salvage.proofs.Headlines.{reports_keep_it as law}
+use Rattle.udfs_salvage.proofs.laws.reports_keep_it.Goals as goal
+
+pub returns : goal.returns
+returns c = law
