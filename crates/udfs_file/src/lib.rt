@@ -30,6 +30,3 @@ pub use marks::Marks;
 pub use pieces::Pieces;
 pub use portions::{Portion, Portions, Unread};
 pub use stretches::{Run, Stretch};
-
-#[cfg(test)]
-mod tests;

@@ -30,10 +30,3 @@ pub use reports::{Report, all_whole, salvage};
 pub use reread_printing::write_reread;
 pub use running::report_run;
 pub use volumes::{OpenVolume, Volume};
-
-#[cfg(test)]
-mod extract_tests;
-#[cfg(test)]
-mod json_tests;
-#[cfg(test)]
-mod tests;

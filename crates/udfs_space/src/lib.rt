@@ -12,6 +12,3 @@ pub mod views;
 pub use entries::SparingEntry;
 pub use spaces::Space;
 pub use views::View;
-
-#[cfg(test)]
-mod tests;

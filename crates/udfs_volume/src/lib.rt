@@ -16,6 +16,3 @@ pub use faults::VolumeFault;
 pub use layouts::{Partition, VolumeParts};
 pub use maps::{PartitionMap, SparableMap};
 pub use seen::Seen;
-
-#[cfg(test)]
-mod tests;

@@ -22,6 +22,3 @@ pub use paths::Path;
 pub use rereads::reread;
 pub use standings::{Standing, Torn};
 pub use walks::nodes;
-
-#[cfg(test)]
-mod tests;

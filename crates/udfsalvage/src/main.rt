@@ -1,22 +1,10 @@
-//! The command `udfsalvage`: what its words ask for, over the machine's files.
+//! The command `udfsalvage`: its words, over the machine's files.
 #![tactic(auto)]
-
-mod command;
-mod extract;
-mod files;
-mod inputs;
-mod merge;
-mod printing;
-mod refusal;
-mod report;
-mod reread;
-#[cfg(test)]
-mod tests;
-mod words;
 
 use std::alloc::Global;
 use std::process::ExitCode;
 use std::{env, io};
+use udfs_commands::{refuse_words, run};
 use udfs_files::Machine;
 use udfs_reading::Writer;
 
@@ -31,10 +19,10 @@ fn main(rt: HostRuntime) -> ExitCode {
     let mut err = Writer::new(rt.stderr());
     let mut files = Machine::new(&rt);
     let status = match words_of(&rt, alloc) {
-        Ok(words) => command::run(alloc, words.as_slice(), &mut files, &mut out, &mut err),
+        Ok(words) => run(alloc, words.as_slice(), &mut files, &mut out, &mut err),
         Err(error) => {
             let wants_memory = error.kind() == io::ErrorKind::OutOfMemory;
-            command::refuse_words(wants_memory, &mut err)
+            refuse_words(wants_memory, &mut err)
         }
     };
     ExitCode::from(status)

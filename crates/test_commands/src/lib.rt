@@ -1,0 +1,5 @@
+//! The tests of the commands: `udfs_commands` over files in memory.
+#![tactic(auto)]
+
+#[cfg(test)]
+mod tests;

@@ -1,0 +1,45 @@
+//! Want of memory: `rt try --test --fail-alloc N` refuses the allocation with this number in each test.
+
+use super::told::laid_out;
+use udfs_file::bodies::Body;
+use udfs_file::directories::Dir;
+use udfs_file::entries::Entry;
+use udfs_file::faults::WalkError;
+use std::test::Fail;
+use udfs_lattice::Fact;
+use udfs_samples::Disc;
+
+/// With any one allocation refused the answer is that with ample memory, or want of memory.
+#[test]
+fn want_of_memory_is_told(rt: HostRuntime) -> Result<(), Fail> {
+    let alloc = rt.alloc();
+    let Ok(disc) = Disc::type1(alloc) else {
+        return Ok(());
+    };
+    let Ok(table) = disc.known_at(alloc, &[256, 32, 33, 34, 273, 274]) else {
+        return Ok(());
+    };
+    let Some((space, _)) = laid_out(alloc, &table) else {
+        return Ok(());
+    };
+    let Some((_, Fact::Known(bytes))) = space.block_at(&table, 0, 1) else {
+        return Ok(());
+    };
+    let Ok(entry) = Entry::read(bytes, 1) else {
+        assert!(rt; false);
+        return Ok(());
+    };
+    let body = match Body::read(alloc, &table, &space, &entry, 0, 1) {
+        Ok(body) => body,
+        Err(error) => {
+            assert_eq!(rt; error, WalkError::OutOfMemory);
+            return Ok(());
+        }
+    };
+    if let Ok(front) = Dir::front(alloc, &table, &space, &body) {
+        assert_eq!(rt; front.entries.len(), 2);
+        assert_eq!(rt; front.missing, None);
+        assert_eq!(rt; front.fault, None);
+    }
+    Ok(())
+}

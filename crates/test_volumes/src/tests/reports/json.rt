@@ -1,0 +1,67 @@
+//! Reports as JSON, and the blocks to read again by themselves.
+
+use udfs_salvage::{report_json, salvage, write_reread};
+use std::alloc::Global;
+use std::test::Fail;
+use udfs_lattice::BlockTable;
+use udfs_reading::Writer;
+use udfs_samples::{Disc, LAST};
+
+/// The JSON of the empty table.
+const NOTHING: &str =
+    "{\"conflict\":0,\"known\":0,\"label\":null,\"last\":600,\"nodes\":[],\"reread\":[{\"block\":256,\"state\":\"unknown\"},{\"block\":344,\"state\":\"unknown\"},{\"block\":600,\"state\":\"unknown\"}],\"unnamed\":[],\"volume\":{\"blocks\":[256,344,600],\"state\":\"holes\"}}";
+
+#[test]
+fn the_json_of_nothing(rt: HostRuntime) -> Result<(), Fail> {
+    let alloc = rt.alloc();
+    let table = BlockTable::new(alloc);
+    let report = salvage(alloc, &table, LAST)?;
+    let text = report_json(alloc, &report)?;
+    assert_eq!(rt; text.as_str(), NOTHING);
+    Ok(())
+}
+
+/// The JSON of the sample volume, of which every block is known.
+const ALL: &str =
+    "{\"conflict\":0,\"known\":601,\"label\":{\"state\":\"name\",\"text\":\"TEST\"},\"last\":600,\"nodes\":[{\"hidden\":false,\"holes\":[],\"kind\":\"directory\",\"missing\":[],\"modified\":\"2001-07-04T09:30:00.000000Z\",\"path\":\"/\",\"size\":120,\"standing\":\"whole\"},{\"hidden\":false,\"holes\":[],\"kind\":\"file\",\"missing\":[],\"modified\":\"2001-07-04T09:30:00.000000Z\",\"path\":\"/A\",\"size\":5000,\"standing\":\"whole\"},{\"hidden\":false,\"holes\":[],\"kind\":\"file\",\"missing\":[],\"modified\":\"2001-07-04T09:30:00.000000Z\",\"path\":\"/B\",\"size\":2,\"standing\":\"whole\"}],\"reread\":[],\"unnamed\":[],\"volume\":{\"map\":\"type1\",\"revision\":\"1.50\",\"state\":\"ok\"}}";
+
+#[test]
+fn the_json_of_all(rt: HostRuntime) -> Result<(), Fail> {
+    let alloc = rt.alloc();
+    let table = Disc::type1(alloc)?.known_but(alloc, &[])?;
+    let report = salvage(alloc, &table, LAST)?;
+    let text = report_json(alloc, &report)?;
+    assert_eq!(rt; text.as_str(), ALL);
+    Ok(())
+}
+
+#[test]
+fn the_json_of_a_torn_file(rt: HostRuntime) -> Result<(), Fail> {
+    let alloc = rt.alloc();
+    let table = Disc::type1(alloc)?.known_but(alloc, &[278])?;
+    let report = salvage(alloc, &table, LAST)?;
+    let text = report_json(alloc, &report)?;
+    let part =
+        "{\"hidden\":false,\"holes\":[[2048,2048]],\"kind\":\"file\",\"missing\":[278],\"modified\":\"2001-07-04T09:30:00.000000Z\",\"path\":\"/A\",\"size\":5000,\"standing\":\"torn\"}";
+    assert!(rt; text.as_str().contains(part), "{text}");
+    Ok(())
+}
+
+/// What is printed of the blocks to read again.
+fn numbers(alloc: Global, table: &BlockTable) -> Result<Vec<u8>, Fail> {
+    let report = salvage(alloc, table, LAST)?;
+    let mut text = Writer::new(Vec::new(alloc));
+    write_reread(alloc, &report, &mut text)?;
+    Ok(text.into_inner())
+}
+
+#[test]
+fn the_blocks_to_read_again(rt: HostRuntime) -> Result<(), Fail> {
+    let alloc = rt.alloc();
+    let disc = Disc::type1(alloc)?;
+    let torn = numbers(alloc, &disc.known_but(alloc, &[279, 277])?)?;
+    assert_eq!(rt; torn.as_slice(), b"277\n279\n".as_slice());
+    let whole = numbers(alloc, &disc.known_but(alloc, &[])?)?;
+    assert!(rt; whole.is_empty());
+    Ok(())
+}

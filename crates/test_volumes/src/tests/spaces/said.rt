@@ -1,0 +1,57 @@
+//! What the spaces of sample volumes say, as texts.
+
+ghost use Rattle.std.specs.Prelude.{◌≤◌};
+
+use udfs_space::spaces::Space;
+use std::alloc::Global;
+use std::test::Fail;
+use udfs_lattice::BlockTable;
+use udfs_samples::{Disc, LAST};
+use udfs_volume::Seen;
+use udfs_volume::layouts::layout;
+
+/// The space by the layout of a volume.
+pub fn space_of(alloc: Global, table: &BlockTable, last: u32) -> Seen<Space>
+    requires from { 513 ≤ last }
+    requires to { last ≤ 4194303 }
+{
+    match layout(alloc, table, last) {
+        Seen::Got(parts) => Space::build(alloc, table, &parts),
+        Seen::Holes(blocks) => Seen::Holes(blocks),
+        Seen::Fault(fault) => Seen::Fault(fault),
+        Seen::OutOfMemory => Seen::OutOfMemory,
+    }
+}
+
+/// What is said of the disc with all blocks known.
+pub fn said_of(alloc: Global, disc: &Disc) -> Result<String, Fail> {
+    let table = disc.known_but(alloc, &[])?;
+    said(alloc, &table, LAST)
+}
+
+/// What the space says: `ok` and where the first logical block stands, or holes, or a fault with its
+/// number.
+pub fn said(alloc: Global, table: &BlockTable, last: u32) -> Result<String, Fail>
+    requires from { 513 ≤ last }
+    requires to { last ≤ 4194303 }
+{
+    match space_of(alloc, table, last) {
+        Seen::Got(space) => match space.place(0, 0) {
+            Some(place) => Ok(format!(in alloc; "ok {place}")?),
+            None => Ok(format!(in alloc; "no place")?),
+        },
+        Seen::Holes(blocks) => {
+            let mut text = format!(in alloc; "holes")?;
+            for n in &blocks {
+                let number = format!(in alloc; " {n}")?;
+                text.push_str(number.as_str())?;
+            }
+            Ok(text)
+        }
+        Seen::Fault(fault) => {
+            let number = fault as u8;
+            Ok(format!(in alloc; "fault {number} {fault}")?)
+        }
+        Seen::OutOfMemory => Ok(format!(in alloc; "out of memory")?),
+    }
+}

@@ -1,0 +1,24 @@
+//! Want of memory: `rt try --test --fail-alloc N` refuses the allocation with this number in each test.
+
+use udfs_volume::layouts::layout;
+use udfs_volume::seen::Seen;
+use std::test::Fail;
+use udfs_samples::{Disc, LAST};
+
+/// With any one allocation refused the answer is the layout, or want of memory.
+#[test]
+fn want_of_memory_is_told(rt: HostRuntime) -> Result<(), Fail> {
+    let alloc = rt.alloc();
+    let Ok(disc) = Disc::two_maps(alloc) else {
+        return Ok(());
+    };
+    let Ok(table) = disc.known_at(alloc, &[256, 32, 33, 34, 35]) else {
+        return Ok(());
+    };
+    match layout(alloc, &table, LAST) {
+        Seen::Got(parts) => assert_eq!(rt; parts.partitions.len(), 2),
+        Seen::OutOfMemory => {}
+        Seen::Holes(_) | Seen::Fault(_) => assert!(rt; false),
+    }
+    Ok(())
+}

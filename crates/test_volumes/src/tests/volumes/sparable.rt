@@ -1,0 +1,76 @@
+//! A volume with one sparable map, and its changes.
+
+use super::said::{said, said_of};
+use udfs_volume::layouts::layout;
+use udfs_volume::maps::PartitionMap;
+use udfs_volume::seen::Seen;
+use std::test::Fail;
+use udfs_samples::{Bytes, Disc, LAST};
+
+/// With all blocks known: a change, and what the layout then says.
+const CHANGES: [(Bytes, &str); 17] = [
+    ((32, 480, &[0x20]), "ok revision 1.50 map sparable 32"),
+    ((32, 480, &[0x10]), "ok revision 1.50 map sparable 16"),
+    ((32, 480, &[8]), "fault 8 MapKind"),
+    ((32, 441, &[63]), "fault 8 MapKind"),
+    ((32, 445, b"+"), "fault 8 MapKind"),
+    ((32, 264, &[0x3f]), "fault 8 MapKind"),
+    ((32, 482, &[0]), "fault 8 MapKind"),
+    ((32, 482, &[4]), "ok revision 1.50 map sparable 32"),
+    ((32, 482, &[5]), "fault 8 MapKind"),
+    ((32, 484, &[56, 0, 0]), "ok revision 1.50 map sparable 32"),
+    ((32, 484, &[55, 0, 0]), "fault 8 MapKind"),
+    ((32, 484, &[0, 0, 1]), "ok revision 1.50 map sparable 32"),
+    ((32, 484, &[1, 0, 1]), "fault 8 MapKind"),
+    ((32, 488, &[0x58, 2]), "ok revision 1.50 map sparable 32"),
+    ((32, 488, &[0x59, 2]), "fault 8 MapKind"),
+    ((32, 492, &[0x59, 2]), "fault 8 MapKind"),
+    ((32, 478, &[5]), "fault 9 NoPartition"),
+];
+
+#[test]
+fn changes(rt: HostRuntime) -> Result<(), Fail> {
+    let alloc = rt.alloc();
+    for ((n, at, bytes), want) in CHANGES {
+        let mut disc = Disc::sparable(alloc)?;
+        disc.write(&[(n, at, bytes)])?;
+        let said = said_of(alloc, &disc)?;
+        assert_eq!(rt; said.as_str(), want, "{n}: {at} is {bytes:?}");
+    }
+    Ok(())
+}
+
+#[test]
+fn layout_of_one_sparable_map(rt: HostRuntime) -> Result<(), Fail> {
+    let alloc = rt.alloc();
+    let table = Disc::sparable(alloc)?.known_at(alloc, &[256, 32, 33, 34])?;
+    let Seen::Got(parts) = layout(alloc, &table, LAST) else {
+        assert!(rt; false);
+        return Ok(());
+    };
+    assert_eq!(rt; parts.partitions.len(), 1);
+    for partition in &parts.partitions {
+        assert_eq!(rt; partition.start, 272);
+        assert_eq!(rt; partition.length, 300);
+        let PartitionMap::Sparable(map) = &partition.kind else {
+            assert!(rt; false);
+            return Ok(());
+        };
+        assert_eq!(rt; map.packet, 32);
+        assert_eq!(rt; map.size, 2048);
+        assert_eq!(rt; map.tables.as_slice(), [100, 200].as_slice());
+    }
+    Ok(())
+}
+
+/// Both sparing tables unread: the layout needs none of them.
+#[test]
+fn tables_are_not_read(rt: HostRuntime) -> Result<(), Fail> {
+    let alloc = rt.alloc();
+    let table = Disc::sparable(alloc)?.known_but(alloc, &[100, 200])?;
+    assert_eq!(rt;
+        said(alloc, &table)?.as_str(),
+        "ok revision 1.50 map sparable 32"
+    );
+    Ok(())
+}

@@ -1,0 +1,30 @@
+//! The texts of faults, as a report prints them.
+
+use udfs_volume::faults::VolumeFault;
+use std::test::Fail;
+
+#[test]
+fn fault_texts(rt: HostRuntime) -> Result<(), Fail> {
+    for (fault, number, text) in [
+        (VolumeFault::NoAnchor, 1, "NoAnchor"),
+        (VolumeFault::Extents, 2, "Extents"),
+        (VolumeFault::Pointer, 3, "Pointer"),
+        (VolumeFault::NoLogicalVolume, 4, "NoLogicalVolume"),
+        (VolumeFault::Domain, 5, "Domain"),
+        (VolumeFault::BlockSize, 6, "BlockSize"),
+        (VolumeFault::MapCount, 7, "MapCount"),
+        (VolumeFault::MapKind, 8, "MapKind"),
+        (VolumeFault::NoPartition, 9, "NoPartition"),
+        (VolumeFault::Contents, 10, "Contents"),
+        (VolumeFault::PartitionRange, 11, "PartitionRange"),
+        (VolumeFault::SparingTag, 12, "SparingTag"),
+        (VolumeFault::SparingShape, 13, "SparingShape"),
+        (VolumeFault::SparingOrder, 14, "SparingOrder"),
+        (VolumeFault::MappedRange, 15, "MappedRange"),
+        (VolumeFault::FileSet, 16, "FileSet"),
+    ] {
+        assert_eq!(rt; fault as u8, number);
+        assert_eq!(rt; format!(in rt.alloc(); "{fault}")?.as_str(), text);
+    }
+    Ok(())
+}

@@ -1,0 +1,39 @@
+//! Want of memory: `rt try --test --fail-alloc N` refuses the allocation with this number in each test.
+
+use super::told::rooted;
+use udfs_walk::answers::NodesError;
+use udfs_walk::reread;
+use udfs_walk::unnamed_entries::unnamed;
+use udfs_walk::nodes;
+use std::test::Fail;
+use udfs_samples::Disc;
+
+/// With any one allocation refused the answer is that with ample memory, or want of memory.
+#[test]
+fn want_of_memory_is_told(rt: HostRuntime) -> Result<(), Fail> {
+    let alloc = rt.alloc();
+    let Ok(disc) = Disc::type1(alloc) else {
+        return Ok(());
+    };
+    let Ok(table) = disc.known_at(alloc, &[256, 32, 33, 34, 272, 273, 274, 275, 277]) else {
+        return Ok(());
+    };
+    let Some((space, root)) = rooted(alloc, &table) else {
+        return Ok(());
+    };
+    let nodes = match nodes(alloc, &table, &space, root) {
+        Ok(nodes) => nodes,
+        Err(error) => {
+            assert_eq!(rt; error, NodesError::OutOfMemory);
+            return Ok(());
+        }
+    };
+    assert_eq!(rt; nodes.len(), 3);
+    if let Ok(blocks) = reread(alloc, &nodes) {
+        assert_eq!(rt; blocks.as_slice(), [276, 278, 279].as_slice());
+    }
+    if let Ok(entries) = unnamed(alloc, &table, &space, &nodes) {
+        assert_eq!(rt; entries.len(), 0);
+    }
+    Ok(())
+}

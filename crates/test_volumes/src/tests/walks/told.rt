@@ -1,0 +1,134 @@
+//! What is told of a sample volume, as text: a line for each node, each unnamed entry and each block to read again.
+
+use udfs_walk::answers::{Node, NodesError};
+use udfs_walk::reread;
+use udfs_walk::standings::Standing;
+use udfs_walk::unnamed_entries::unnamed;
+use udfs_walk::nodes;
+use std::alloc::{AllocError, Global};
+use std::test::Fail;
+use udfs_file::{Kind, file_set};
+use udfs_lattice::BlockTable;
+use udfs_osta::Stamp;
+use udfs_samples::LAST;
+use udfs_space::Space;
+use udfs_tag::LongAd;
+use udfs_volume::Seen;
+use udfs_volume::layouts::layout;
+
+/// The places of a table's volume, and the address of its root.
+pub fn rooted(alloc: Global, table: &BlockTable) -> Option<(Space, LongAd)> {
+    let Seen::Got(parts) = layout(alloc, table, LAST) else {
+        return None;
+    };
+    let Seen::Got(space) = Space::build(alloc, table, &parts) else {
+        return None;
+    };
+    match file_set(alloc, table, &space, parts.file_set) {
+        Seen::Got(root) => Some((space, root)),
+        _ => None,
+    }
+}
+
+/// The nodes of a volume, or why there are none.
+pub fn nodes_of(
+    alloc: Global,
+    table: &BlockTable,
+) -> Result<Option<Result<Vec<Node>, NodesError>>, Fail> {
+    let Some((space, root)) = rooted(alloc, table) else {
+        return Ok(None);
+    };
+    Ok(Some(nodes(alloc, table, &space, root)))
+}
+
+/// A standing, with what is missing.
+fn standing(alloc: Global, text: &mut String, standing: &Standing) -> Result<(), AllocError> {
+    match standing {
+        Standing::Whole => text.push_str("whole"),
+        Standing::Loop => text.push_str("loop"),
+        Standing::Fault(fault) => {
+            let number = *fault as u8;
+            text.push_str(format!(in alloc; "fault-{number}")?.as_str())
+        }
+        Standing::Torn(torn) => {
+            text.push_str("torn")?;
+            for n in &torn.missing {
+                text.push_str(format!(in alloc; " missing {n}")?.as_str())?;
+            }
+            for (offset, length) in &torn.holes {
+                text.push_str(format!(in alloc; " hole {offset} {length}")?.as_str())?;
+            }
+            Ok(())
+        }
+    }
+}
+
+/// A kind and a size.
+fn kind(
+    alloc: Global,
+    text: &mut String,
+    kind: Kind,
+    size: Option<u64>,
+    stamp: Option<Stamp>,
+) -> Result<(), AllocError> {
+    let one = match kind {
+        Kind::Directory => format!(in alloc; " directory")?,
+        Kind::File => format!(in alloc; " file")?,
+        Kind::Link => format!(in alloc; " link")?,
+        Kind::Other(t) => format!(in alloc; " other-{t}")?,
+        Kind::Unread => format!(in alloc; " unread")?,
+    };
+    text.push_str(one.as_str())?;
+    if let Some(size) = size {
+        text.push_str(format!(in alloc; " {size}")?.as_str())?;
+    }
+    if let Some(stamp) = stamp {
+        text.push(' ')?;
+        stamp.write_text(text)?;
+    }
+    Ok(())
+}
+
+/// All that is told of a table's volume.
+pub fn told(alloc: Global, table: &BlockTable) -> Result<String, Fail> {
+    let Some((space, root)) = rooted(alloc, table) else {
+        return Ok(format!(in alloc; "no root")?);
+    };
+    let all = match nodes(alloc, table, &space, root) {
+        Ok(all) => all,
+        Err(error) => return Ok(format!(in alloc; "{error}")?),
+    };
+    let mut text = format!(in alloc; "")?;
+    for node in &all {
+        standing(alloc, &mut text, &node.standing)?;
+        kind(alloc, &mut text, node.kind, node.size, node.stamp)?;
+        text.push(' ')?;
+        for index in 0..node.path.len() {
+            if let Some(name) = node.path.get(index) {
+                text.push('/')?;
+                name.write_escaped(&mut text)?;
+            }
+        }
+        if node.hidden {
+            text.push_str(" hidden")?;
+        }
+        text.push('\n')?;
+    }
+    for entry in &unnamed(alloc, table, &space, &all)? {
+        let (reference, block) = (entry.reference, entry.block);
+        text.push_str(format!(in alloc; "unnamed {reference}:{block} ")?.as_str())?;
+        standing(alloc, &mut text, &entry.standing)?;
+        kind(
+            alloc,
+            &mut text,
+            entry.kind,
+            Some(entry.size),
+            Some(entry.stamp),
+        )?;
+        text.push('\n')?;
+    }
+    for n in &reread(alloc, &all)? {
+        text.push_str(format!(in alloc; "reread {n}\n")?.as_str())?;
+    }
+    Ok(text)
+}

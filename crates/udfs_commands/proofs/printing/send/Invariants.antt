@@ -1,0 +1,10 @@
+-- `send` ends, since each turn takes some bytes, and what was taken is in the sink.
+use Rattle.std.proofs.Common.{◌≡◌, ◌-◌, ◌≤◌, length, take}
+use Rattle.std.specs.Io.KnownBytes.{Appends}
+use Rattle.udfs_commands.proofs.printing.send.Given as goal
+
+abbrev pub invariant-loop-sent : goal.invariant-loop-sent
+invariant-loop-sent g l = (l.sent ≤ length l.bytes) × Appends (g.W.Sink.contents l.initial.sink) (g.W.Sink.contents l.sink) (take l.sent l.bytes) × (g.W.Sink.faults l.sink ≡ g.W.Sink.faults l.initial.sink)
+
+abbrev pub decreases-loop-sent : goal.decreases-loop-sent
+decreases-loop-sent g l = length l.bytes - l.sent

@@ -1,0 +1,239 @@
+//! The program as a function: words and files in, a status out.
+
+ghost use Rattle.std.specs.Prelude.{◌≡◌, ◌≢◌, ◌⊎◌, ℕ, Bool, List, Some, None, Ok, IfOk, IfErr, OnOk, OnErr, codes, cond, length, map};
+ghost use Rattle.clap.specs.Matches.{found_of, one_text};
+ghost use Rattle.udfs_lattice.specs.Tables.{Table};
+ghost use Rattle.udfs_lattice.specs.Records.{join_all};
+ghost use Rattle.udfs_salvage.specs.Running.{OfJoin};
+ghost use Rattle.udfs_salvage.specs.declared.extraction.Fill.{Fill};
+ghost use Rattle.udfs_commands.specs.Asking.{IsPicked, input_texts, out_text};
+ghost use Rattle.udfs_commands.specs.Extracting.{SaysGood};
+ghost use Rattle.udfs_commands.specs.JsonRuns.{PrintsAs};
+ghost use Rattle.udfs_commands.specs.Keeping.{IsKept, IsTaken, Joined};
+ghost use Rattle.std.specs.Borrow.{Bor};
+ghost use Rattle.udfs_commands.specs.Rereading.{PrintsNumbers};
+ghost use Rattle.udfs_commands.specs.Spelling.{table_file};
+ghost use Rattle.udfs_commands.specs.declared.merge.Version.{Version};
+ghost use Rattle.udfs_commands.specs.declared.report.Form.{Form};
+
+use crate::extract::extract;
+use crate::files::Files;
+use crate::merge::{Version, merge};
+use crate::printing::send;
+use crate::refusal::Refusal;
+use crate::report::{Form, report_as};
+use crate::reread::reread;
+use crate::words::{FILL, INPUTS, JSON, LAST, OUT, TO, V1, grammar};
+use clap::error::ErrorKind;
+use clap::{ArgMatches, Error};
+use std::alloc::{AllocError, Global};
+use udfs_reading::{DeviceFault, Sink};
+use udfs_salvage::Fill;
+
+/// The line for want of memory, which itself takes none.
+const NO_MEMORY: &[u8] = b"udfsalvage: out of memory\n";
+
+/// What is said of a word that is not text.
+const NOT_TEXT: &[u8] =
+    b"error: invalid UTF-8 was detected in one or more arguments\n\nFor more information, try '--help'.\n";
+
+/// Runs the command that the words ask for, the program's name first, and answers its exit status: 0 where it is done and
+/// nothing is lacking, 1 where a volume is not whole, 2 where the command is refused. A refusal is one line on `err`, and a fault of the words is clap's text there. Help and the
+/// version go to `out`.
+pub fn run<F: Files, O: Sink, E: Sink>(
+    alloc: Global,
+    words: &[String],
+    files: &mut F,
+    out: &mut O,
+    err: &mut E,
+) -> u8
+    ensures status { (result ≡ 0) ⊎ (result ≡ 1) ⊎ (result ≡ 2) }
+    ensures silent { result ≢ 2 → err.new ≡ err.old }
+{
+    let command = match grammar(alloc) {
+        Ok(command) => command,
+        Err(AllocError) => return refuse(alloc, &Refusal::Memory(AllocError), err),
+    };
+    let matches = match command.try_get_matches_from(words) {
+        Ok(matches) => matches,
+        Err(error) => return show(alloc, &error, out, err),
+    };
+    let outcome = match matches.subcommand() {
+        Some(("merge", words)) => match merge_words(alloc, words, files) {
+            Ok(()) => Ok(true),
+            Err(refusal) => Err(refusal),
+        },
+        Some(("report", words)) => report_words(alloc, words, files, out),
+        Some(("reread", words)) => reread_words(alloc, words, files, out),
+        Some(("extract", words)) => extract_words(alloc, words, files, out),
+        // The grammar asks for a command and has no other.
+        _ => return 2,
+    };
+    finish(alloc, outcome, err)
+}
+
+/// The exit status of a command that is done, with or without something lacking, or refused.
+fn finish<E: Sink>(alloc: Global, outcome: Result<bool, Refusal>, err: &mut E) -> u8
+    ensures status { (result ≡ 0) ⊎ (result ≡ 1) ⊎ (result ≡ 2) }
+    ensures silent { result ≢ 2 → err.new ≡ err.old }
+    ensures done { IfOk outcome (λ whole. result ≡ cond whole 0 1) }
+    ensures refused { OnErr outcome (result ≡ 2) }
+{
+    match outcome {
+        Ok(true) => 0,
+        Ok(false) => 1,
+        Err(refusal) => refuse(alloc, &refusal, err),
+    }
+}
+
+/// Does what the words after `merge` ask for.
+fn merge_words<F: Files>(
+    alloc: Global,
+    words: &ArgMatches<'_>,
+    files: &mut F,
+) -> Result<(), Refusal>
+    ensures written { OnOk result ((version : Version) × (inputs : List (Bor (List ℕ))) × (tables : List Table) × IsPicked (found_of words.now) (codes "v1") Version.One Version.Two version ×
+        (map (λ path. path.now) inputs ≡ input_texts (found_of words.now)) × Joined (λ path. F.holds files.old (F.real files.old path)) F.Input.remaining inputs tables ×
+        ((F.tells → IsKept (F.holds files.new) (F.may_leave files.new) (F.real files.old (out_text (found_of words.now))) (table_file version (join_all tables)))
+        ⊎ (F.in_place files.old (out_text (found_of words.now)) × IsTaken F.Output.contents (table_file version (join_all tables))))) }
+    ensures untouched { IfErr result (λ refusal. refusal ≢ Refusal.Output → refusal ≢ Refusal.Unkept → files.new ≡ files.old) }
+{
+    let inputs = words.get_strs(INPUTS).unwrap_or(&[]);
+    match merge(alloc, inputs, asked_out(words), asked_version(words), files) {
+        Ok(()) => Ok(()),
+        Err(refusal) => Err(refusal),
+    }
+}
+
+/// The path of the output among the words after `merge`. The grammar asks for it.
+fn asked_out<'a>(words: &ArgMatches<'a>) -> &'a str
+    ensures { result.now ≡ out_text (found_of words.now) }
+{
+    words.get_str(OUT).unwrap_or("")
+}
+
+/// The version of the table file that the words after `merge` ask for: 1 with `--v1`, and else 2.
+fn asked_version(words: &ArgMatches<'_>) -> Version
+    ensures unset { one_text (found_of words.now) (codes "v1") ≡ None → result ≡ Version.Two }
+    ensures without { one_text (found_of words.now) (codes "v1") ≡ Some (codes "false") → result ≡ Version.Two }
+    ensures with { one_text (found_of words.now) (codes "v1") ≡ Some (codes "true") → result ≡ Version.One }
+{
+    if words.get_flag(V1) {
+        return Version::One;
+    }
+    Version::Two
+}
+
+/// Does what the words after `report` ask for.
+fn report_words<F: Files, O: Sink>(
+    alloc: Global,
+    words: &ArgMatches<'_>,
+    files: &F,
+    out: &mut O,
+) -> Result<bool, Refusal>
+    ensures printed { IfOk result (λ whole. (form : Form) × (last : ℕ) × (sources : List F.Input) × (length sources ≡ length (input_texts (found_of words.now))) ×
+        IsPicked (found_of words.now) (codes "json") Form.Json Form.Text form ×
+        OfJoin F.Input.remaining sources (PrintsAs form last (O.contents out.old) (O.contents out.new) (O.faults out.old) (O.faults out.new) whole)) }
+{
+    let inputs = words.get_strs(INPUTS).unwrap_or(&[]);
+    // The grammar asks for it.
+    let last = words.get_one::<u32>(LAST).unwrap_or(0);
+    report_as(alloc, inputs, last, asked_form(words), files, out)
+}
+
+/// The form of the report that the words after `report` ask for: JSON with `--json`, and else text.
+fn asked_form(words: &ArgMatches<'_>) -> Form
+    ensures unset { one_text (found_of words.now) (codes "json") ≡ None → result ≡ Form.Text }
+    ensures without { one_text (found_of words.now) (codes "json") ≡ Some (codes "false") → result ≡ Form.Text }
+    ensures with { one_text (found_of words.now) (codes "json") ≡ Some (codes "true") → result ≡ Form.Json }
+{
+    if words.get_flag(JSON) {
+        return Form::Json;
+    }
+    Form::Text
+}
+
+/// Does what the words after `reread` ask for.
+fn reread_words<F: Files, O: Sink>(
+    alloc: Global,
+    words: &ArgMatches<'_>,
+    files: &F,
+    out: &mut O,
+) -> Result<bool, Refusal>
+    ensures printed { IfOk result (λ whole. (last : ℕ) × (sources : List F.Input) × (length sources ≡ length (input_texts (found_of words.now))) × OfJoin F.Input.remaining sources
+        (PrintsNumbers last (O.contents out.old) (O.contents out.new) (O.faults out.old) (O.faults out.new) whole)) }
+{
+    let inputs = words.get_strs(INPUTS).unwrap_or(&[]);
+    // The grammar asks for it.
+    let last = words.get_one::<u32>(LAST).unwrap_or(0);
+    reread(alloc, inputs, last, files, out)
+}
+
+/// Does what the words after `extract` ask for.
+fn extract_words<F: Files, O: Sink>(
+    alloc: Global,
+    words: &ArgMatches<'_>,
+    files: &mut F,
+    out: &mut O,
+) -> Result<bool, Refusal>
+    ensures good { IfOk result (λ good. (last : ℕ) × (sources : List F.Input) × (length sources ≡ length (input_texts (found_of words.now))) × OfJoin F.Input.remaining sources (SaysGood last good)) }
+{
+    let inputs = words.get_strs(INPUTS).unwrap_or(&[]);
+    // The grammar asks for both.
+    let last = words.get_one::<u32>(LAST).unwrap_or(0);
+    let folder = words.get_str(TO).unwrap_or("");
+    extract(alloc, inputs, last, asked_fill(words), folder, files, out)
+}
+
+/// What the words after `extract` ask to write of torn files: zeros in the holes with `--fill`, and else nothing.
+fn asked_fill(words: &ArgMatches<'_>) -> Fill
+    ensures unset { one_text (found_of words.now) (codes "fill") ≡ None → result ≡ Fill.Refuse }
+    ensures without { one_text (found_of words.now) (codes "fill") ≡ Some (codes "false") → result ≡ Fill.Refuse }
+    ensures with { one_text (found_of words.now) (codes "fill") ≡ Some (codes "true") → result ≡ Fill.Byte 0 }
+{
+    if words.get_flag(FILL) {
+        return Fill::Byte(0);
+    }
+    Fill::Refuse
+}
+
+/// Says that the words of the command line could not be had, and answers the status.
+pub fn refuse_words<E: Sink>(wants_memory: bool, err: &mut E) -> u8
+    ensures { result ≡ 2 }
+{
+    let text = if wants_memory { NO_MEMORY } else { NOT_TEXT };
+    let _ = send(text, err);
+    2
+}
+
+/// Shows clap's text: help and version on `out`, a fault of the words on `err`.
+fn show<O: Sink, E: Sink>(alloc: Global, error: &Error, out: &mut O, err: &mut E) -> u8
+    ensures status { (result ≡ 0) ⊎ (result ≡ 2) }
+    ensures silent { result ≡ 0 → err.new ≡ err.old }
+{
+    if error.kind() == ErrorKind::OutOfMemory {
+        return refuse(alloc, &Refusal::Memory(AllocError), err);
+    }
+    let Ok(text) = format!(in alloc; "{error}") else {
+        return refuse(alloc, &Refusal::Memory(AllocError), err);
+    };
+    if error.use_stderr() {
+        let _ = send(text.as_bytes(), err);
+        return 2;
+    }
+    match send(text.as_bytes(), out) {
+        (_, Ok(())) => 0,
+        (_, Err(DeviceFault)) => refuse(alloc, &Refusal::Output, err),
+    }
+}
+
+/// Prints a refusal's line, and answers the status. Where not even the line can be had, it is that of want of memory.
+fn refuse<E: Sink>(alloc: Global, refusal: &Refusal, err: &mut E) -> u8
+    ensures { result ≡ 2 }
+{
+    let _ = match format!(in alloc; "udfsalvage: {refusal}\n") {
+        Ok(line) => send(line.as_bytes(), err),
+        Err(AllocError) => send(NO_MEMORY, err),
+    };
+    2
+}

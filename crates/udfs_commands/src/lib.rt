@@ -1,0 +1,15 @@
+//! The commands of `udfsalvage`: what its words ask for, over any files.
+#![tactic(auto)]
+
+mod command;
+mod extract;
+mod files;
+mod inputs;
+mod merge;
+mod printing;
+mod refusal;
+mod report;
+mod reread;
+mod words;
+
+pub use command::{refuse_words, run};

@@ -1,0 +1,78 @@
+//! The command `report`: readings in, the report of their volume out.
+
+ghost use Rattle.std.specs.Prelude.{◌≡◌, ℕ, List, Ok, IfOk, length};
+ghost use Rattle.udfs_salvage.specs.Running.{OfJoin, PrintsOf};
+ghost use Rattle.udfs_commands.specs.JsonRuns.{PrintsAs, PrintsJson};
+
+use crate::files::Files;
+use crate::inputs::joined;
+use crate::merge::open_all;
+use crate::refusal::Refusal;
+use std::alloc::Global;
+use udfs_reading::{Sink, WriteFault, write_all};
+use udfs_salvage::{all_whole, report_json, report_run, salvage};
+
+/// The forms of a report.
+#[derive(Clone, Copy, PartialEq, Eq)]
+pub enum Form {
+    Text,
+    Json,
+}
+
+/// Joins the inputs, and prints the report in this form of the volume of which `last` is the last block. It answers whether there are
+/// files and all of them are whole. All inputs are opened in order before one is read.
+pub fn report_as<F: Files, O: Sink>(
+    alloc: Global,
+    inputs: &[&str],
+    last: u32,
+    form: Form,
+    files: &F,
+    out: &mut O,
+) -> Result<bool, Refusal>
+    ensures printed { IfOk result (λ whole. (sources : List F.Input) × (length sources ≡ length inputs.now) ×
+        OfJoin F.Input.remaining sources (PrintsAs form last (O.contents out.old) (O.contents out.new) (O.faults out.old) (O.faults out.new) whole)) }
+{
+    match form {
+        Form::Text => report(alloc, inputs, last, files, out),
+        Form::Json => report_in_json(alloc, inputs, last, files, out),
+    }
+}
+
+/// Prints the report as JSON, and a line feed behind it.
+fn report_in_json<F: Files, O: Sink>(
+    alloc: Global,
+    inputs: &[&str],
+    last: u32,
+    files: &F,
+    out: &mut O,
+) -> Result<bool, Refusal>
+    ensures printed { IfOk result (λ whole. (sources : List F.Input) × (length sources ≡ length inputs.now) ×
+        OfJoin F.Input.remaining sources (PrintsJson last (O.contents out.old) (O.contents out.new) (O.faults out.old) (O.faults out.new) whole)) }
+{
+    let table = joined(alloc, inputs, files)?;
+    let report = salvage(alloc, &table, last)?;
+    let mut text = report_json(alloc, &report)?;
+    text.push('\n')?;
+    match write_all(out, text.as_bytes()) {
+        Ok(()) => Ok(all_whole(&report.nodes)),
+        Err(WriteFault) => Err(Refusal::Output),
+    }
+}
+
+/// Prints the text of the report.
+fn report<F: Files, O: Sink>(
+    alloc: Global,
+    inputs: &[&str],
+    last: u32,
+    files: &F,
+    out: &mut O,
+) -> Result<bool, Refusal>
+    ensures printed { IfOk result (λ whole. (sources : List F.Input) × (length sources ≡ length inputs.now) ×
+        OfJoin F.Input.remaining sources (PrintsOf last (O.contents out.old) (O.contents out.new) (O.faults out.old) (O.faults out.new) (Ok whole))) }
+{
+    let mut sources = open_all(alloc, inputs, files)?;
+    match report_run(alloc, sources.as_mut_slice(), last, out) {
+        Ok(whole) => Ok(whole),
+        Err(error) => Err(Refusal::from(error)),
+    }
+}

@@ -1,0 +1,30 @@
+//! The command `reread`: readings in, the numbers of the blocks to read again out.
+
+ghost use Rattle.std.specs.Prelude.{◌≡◌, List, IfOk, length};
+ghost use Rattle.udfs_salvage.specs.Running.{OfJoin};
+ghost use Rattle.udfs_commands.specs.Rereading.{PrintsNumbers};
+
+use crate::files::Files;
+use crate::inputs::joined;
+use crate::refusal::Refusal;
+use std::alloc::Global;
+use udfs_reading::Sink;
+use udfs_salvage::{all_whole, salvage, write_reread};
+
+/// Joins the inputs, and prints the numbers of the blocks of the volume, of which `last` is the last, that are worth
+/// reading again. It answers whether there are files and all of them are whole. All inputs are opened in order before one is read.
+pub fn reread<F: Files, O: Sink>(
+    alloc: Global,
+    inputs: &[&str],
+    last: u32,
+    files: &F,
+    out: &mut O,
+) -> Result<bool, Refusal>
+    ensures printed { IfOk result (λ whole. (sources : List F.Input) × (length sources ≡ length inputs.now) × OfJoin F.Input.remaining sources
+        (PrintsNumbers last (O.contents out.old) (O.contents out.new) (O.faults out.old) (O.faults out.new) whole)) }
+{
+    let table = joined(alloc, inputs, files)?;
+    let report = salvage(alloc, &table, last)?;
+    write_reread(alloc, &report, out)?;
+    Ok(all_whole(&report.nodes))
+}
