@@ -1,7 +1,6 @@
 //! Directories.
 
 use super::told::{end, front, steps, within};
-use udfs_file::Pieces;
 use std::alloc::{AllocError, Global};
 use std::test::Fail;
 use udfs_samples::{Bytes, Disc};
@@ -55,33 +54,6 @@ fn changed_directories(rt: HostRuntime) -> Result<(), Fail> {
         let table = disc.known_but(alloc, &[])?;
         assert_eq!(rt; front(alloc, &table, 0, 1)?.as_str(), expected);
     }
-    Ok(())
-}
-
-/// The size of a descriptor that begins with these bytes, cut behind so many.
-fn size_of(bytes: &[u8; 38], cut: usize) -> usize {
-    let (first, second) = bytes.split_at(cut.min(38));
-    let holder = None;
-    Pieces {
-        first,
-        second,
-        holder,
-    }
-    .identifier_size()
-}
-
-#[test]
-fn identifier_sizes(rt: HostRuntime) -> Result<(), Fail> {
-    let mut bytes = [0; 38];
-    assert_eq!(rt; size_of(&bytes, 38), 40);
-    bytes[19] = 9;
-    assert_eq!(rt; size_of(&bytes, 19), 48);
-    bytes[19] = 2;
-    bytes[36] = 0xd8;
-    bytes[37] = 7;
-    assert_eq!(rt; size_of(&bytes, 37), 2048);
-    bytes[36] = 0xd9;
-    assert_eq!(rt; size_of(&bytes, 0), 2052);
     Ok(())
 }
 

@@ -1,53 +1,37 @@
 //! Paths: their names in order, those of the directory first.
 
-use udfs_walk::paths::Path;
-use std::alloc::Global;
+use super::told::nodes_of;
 use std::test::Fail;
-use udfs_osta::Name;
+use udfs_samples::Disc;
+use udfs_walk::answers::Node;
 
-/// A name of one letter.
-fn name(alloc: Global, letter: u8) -> Result<Name, Fail> {
-    Ok(Name::read(alloc, &[8, letter])?)
-}
-
-/// The letters of the names, each behind a `/`, up to the first place that has none.
-fn letters(alloc: Global, path: &Path) -> Result<String, Fail> {
-    let mut text = String::new(alloc);
-    for index in 0..4 {
-        let Some(name) = path.get(index) else {
-            break;
-        };
-        text.push('/')?;
-        name.write_escaped(&mut text)?;
-    }
-    Ok(text)
+/// How many names the path of a node has, and the units of its first and last.
+fn ends(node: &Node) -> (usize, &[u16], &[u16]) {
+    let first = match node.path.get(0) {
+        Some(name) => name.units(),
+        None => &[],
+    };
+    let last = match node.path.last() {
+        Some(name) => name.units(),
+        None => &[],
+    };
+    (node.path.len(), first, last)
 }
 
 #[test]
-fn paths_of_one_directory(rt: HostRuntime) -> Result<(), Fail> {
+fn paths_of_a_volume(rt: HostRuntime) -> Result<(), Fail> {
     let alloc = rt.alloc();
-    let root = Path::root(alloc)?;
-    assert!(rt; root.is_empty());
-    assert_eq!(rt; root.len(), 0);
-    assert!(rt; root.get(0).is_none());
-    assert!(rt; root.last().is_none());
-    let top = root.names(alloc)?;
-    let a = Path::inside(alloc, &top, name(alloc, b'A')?)?;
-    let below = a.names(alloc)?;
-    let b = Path::inside(alloc, &below, name(alloc, b'B')?)?;
-    let c = Path::inside(alloc, &below, name(alloc, b'C')?)?;
-    let d = Path::inside(alloc, &b.names(alloc)?, name(alloc, b'D')?)?;
-    assert_eq!(rt; letters(alloc, &a)?.as_str(), "/A");
-    assert_eq!(rt; letters(alloc, &b)?.as_str(), "/A/B");
-    assert_eq!(rt; letters(alloc, &c)?.as_str(), "/A/C");
-    assert_eq!(rt; letters(alloc, &d)?.as_str(), "/A/B/D");
-    assert!(rt; !a.is_empty());
-    assert_eq!(rt; d.len(), 3);
-    assert!(rt; d.get(3).is_none());
-    let last = match d.last() {
-        Some(last) => last.units(),
-        None => &[],
+    let table = Disc::type1(alloc)?.known_but(alloc, &[])?;
+    let nodes = match nodes_of(alloc, &table)? {
+        Some(Ok(nodes)) => nodes,
+        _ => Vec::new(alloc),
     };
-    assert_eq!(rt; last, [68].as_slice());
+    assert_eq!(rt; nodes.len(), 3);
+    let (root, a, b) = (&nodes[0], &nodes[1], &nodes[2]);
+    assert!(rt; root.path.is_empty() && !a.path.is_empty());
+    assert!(rt; a.path.get(1).is_none());
+    assert_eq!(rt; ends(root), (0, [].as_slice(), [].as_slice()));
+    assert_eq!(rt; ends(a), (1, [65].as_slice(), [65].as_slice()));
+    assert_eq!(rt; ends(b), (1, [66].as_slice(), [66].as_slice()));
     Ok(())
 }
