@@ -25,15 +25,15 @@ pub state_sound : (count : ℕ) (done : List (ℕ × State)) (block : ℕ) (got 
 state_sound count done block got under =
     subst (HeaderIsSound tables_v1) (sym (append_assoc (entries_front count done) (number block) got)) (header_is_sound count done (number block ++ got) under)
 
-rises-push : (low : ℕ) (es : List (ℕ × State)) (e : ℕ × State) → RisesFrom low es → floor_after low es ≤ e.0 → IsEntry e.0 e.1 → RisesFrom low (es ++ e ∷ [])
+pub rises-push : (low : ℕ) (es : List (ℕ × State)) (e : ℕ × State) → RisesFrom low es → floor_after low es ≤ e.0 → IsEntry e.0 e.1 → RisesFrom low (es ++ e ∷ [])
 rises-push low [] e h above entry = (above, entry, tt)
 rises-push low (x ∷ es) e h above entry = (h.0, h.1, rises-push (x.0 + 1) es e h.2 above entry)
 
-floor-push : (low : ℕ) (es : List (ℕ × State)) (e : ℕ × State) → floor_after low (es ++ e ∷ []) ≡ e.0 + 1
+pub floor-push : (low : ℕ) (es : List (ℕ × State)) (e : ℕ × State) → floor_after low (es ++ e ∷ []) ≡ e.0 + 1
 floor-push low [] e = refl
 floor-push low (x ∷ es) e = floor-push (x.0 + 1) es e
 
-entries_bytes-push : (es : List (ℕ × State)) (e : ℕ × State) → flat_map entry_bytes (es ++ e ∷ []) ≡ flat_map entry_bytes es ++ entry_bytes e
+pub entries_bytes-push : (es : List (ℕ × State)) (e : ℕ × State) → flat_map entry_bytes (es ++ e ∷ []) ≡ flat_map entry_bytes es ++ entry_bytes e
 entries_bytes-push es e = flat_map-append entry_bytes es (e ∷ []) ∙ ap (λ (l : List ℕ). flat_map entry_bytes es ++ l) (append-nil (entry_bytes e))
 
 pub entries_none : (a : Option (List ℕ)) (t : Table) → TakesEntries a a 0 0 t t

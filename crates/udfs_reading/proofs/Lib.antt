@@ -24,3 +24,8 @@ pub mod WritingLemmas
 pub mod SoFar
 pub mod Good
 pub mod PublicLaws
+pub mod SomeHeader
+pub mod SomeReading
+pub mod SomeEntries
+pub mod SomePackets
+pub mod SomeOutcomes

@@ -28,7 +28,7 @@ use Rattle.udfs_reading.proofs.JudgePackets.{length-packet_magic}
 pub same_bytes : (xs ys : List ℕ) → bytes_eq xs ys ≡ true → xs ≡ ys
 same_bytes xs ys e = (bytes_eq-Decides xs ys).0 e
 
-other_bytes : (xs ys : List ℕ) → bytes_eq xs ys ≡ false → xs ≢ ys
+pub other_bytes : (xs ys : List ℕ) → bytes_eq xs ys ≡ false → xs ≢ ys
 other_bytes xs ys e same = false≢true (sym e ∙ (bytes_eq-Decides xs ys).1 same)
 
 -- ---- one format

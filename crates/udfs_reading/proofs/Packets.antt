@@ -13,7 +13,7 @@ use Rattle.udfs_reading.specs.PacketFile.{packet_magic, Packet, packet_bytes, pa
 use Rattle.udfs_reading.specs.PacketReading.{IsPacketFile, PacketsRise, packets_front, packet_entries, table_of_packets, TakesPacket, TakesPackets}
 use Rattle.udfs_reading.proofs.PacketTables.{rises-push, low-push, packets_of-rising, IsTable-packets}
 
-bytes-push : (qs : List Packet) (q : Packet) → flat_map packet_bytes (qs ++ q ∷ []) ≡ flat_map packet_bytes qs ++ packet_bytes q
+pub bytes-push : (qs : List Packet) (q : Packet) → flat_map packet_bytes (qs ++ q ∷ []) ≡ flat_map packet_bytes qs ++ packet_bytes q
 bytes-push qs q = flat_map-append packet_bytes qs (q ∷ []) ∙ ap (λ (l : List ℕ). flat_map packet_bytes qs ++ l) (append-nil (packet_bytes q))
 
 entries-append : (es fs : List (ℕ × State)) → table_of_entries (es ++ fs) ≡ join_tables (table_of_entries es) (table_of_entries fs)

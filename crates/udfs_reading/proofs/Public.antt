@@ -6,7 +6,7 @@ use Rattle.udfs_reading.specs.declared.error.ReadingError.{ReadingError}
 use Rattle.udfs_reading.specs.declared.error.ReadingFault.{ReadingFault}
 use Rattle.udfs_reading.specs.declared.error.ReadingFault.TheVariants.{Magic, BlockSize, BlockNumber, Truncated, Trailing, Order, State, Io, OutOfMemory}
 use Rattle.udfs_reading.specs.Device.{left}
-use Rattle.udfs_reading.specs.Kind.{Kind, HasOneOutcome}
+use Rattle.udfs_reading.specs.Kind.{Kind, AreBytes, HasOutcome, HasOneOutcome}
 use Rattle.udfs_reading.specs.Outcome.{StopsAt, Explains, Reads, Stops}
 use Rattle.udfs_reading.specs.Answers.{IsOfFile, GivesTable, GivesFault, TakesFile, RefusesFaulty, FailsAfter}
 
@@ -114,5 +114,5 @@ pub public_kept : (K : Kind) (a b : Option (List ℕ)) (i j : ℕ) (r : Result T
 public_kept K a b i j (Ok table) h n = h.1
 public_kept K a b i j (Err e) h n = kept_but_io e.fault i j (count_of K e.fault h.ends.got (left h.ahead b) i j e.number h.ends.why) n
 
-pub outcome : (K : Kind) → KindLaws K → HasOneOutcome K
-outcome K laws = record { one_table = laws.one_file; never_both = laws.either; one_fault = laws.one_fault }
+pub outcome : (K : Kind) → KindLaws K → ((bytes : List ℕ) → AreBytes bytes → HasOutcome K bytes) → HasOneOutcome K
+outcome K laws some = record { some = some; one_table = laws.one_file; never_both = laws.either; one_fault = laws.one_fault }

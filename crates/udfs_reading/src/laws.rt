@@ -10,7 +10,8 @@ ghost use Rattle.udfs_reading.specs.PacketReading.{IsPacketFile};
 ghost use Rattle.udfs_reading.specs.TableFile.{table_bytes_v1};
 ghost use Rattle.udfs_reading.specs.TableReading.{IsTableFile};
 
-/// No bytes are two files of a kind, or a file and faulty, or have two first faults.
+/// All bytes are a file of a kind or have a first fault; and none are two files, or a file and faulty, or have two first
+/// faults.
 pub fn one_outcome()
     ensures of_readings { HasOneOutcome readings }
     ensures of_tables { HasOneOutcome tables }
