@@ -6,14 +6,17 @@ use Rattle.std.proofs.lemmas.Bool.{le-ltb, lt-ltb, ne_eqb}
 use Rattle.std.proofs.lemmas.List.{take_at, drop_at}
 use Rattle.udfs_lattice.specs.declared.facts.Fact.TheVariants.{Unknown, Known, Conflict}
 use Rattle.udfs_lattice.specs.States.{State}
+use Rattle.udfs_lattice.specs.Tables.{Table, entries_of}
 use Rattle.udfs_lattice.specs.Records.{IsEntry, RisesFrom}
+use Rattle.udfs_lattice.proofs.PublicLaws.{entries_rise, few_entries}
 use Rattle.udfs_reading.specs.declared.error.ReadingFault.{ReadingFault}
 use Rattle.udfs_reading.specs.declared.error.ReadingFault.TheVariants as fault
 use Rattle.udfs_reading.specs.Format.{number, value_of, header, In, FaultHere, HasFault}
 use Rattle.udfs_reading.specs.Outcome.{HeaderIsSound}
-use Rattle.udfs_reading.specs.TableFile.{table_magic, state_bytes, entry_bytes}
-use Rattle.udfs_reading.specs.TableReading.{floor_after, entries_front, IsUnderEntries, IsOtherState, TablePlace, IsTablePlace, before_table_place, record_of_table_place, AtNumber, AtState, AtContent, AtTableEnd, table_format, tables_v1}
+use Rattle.udfs_reading.specs.TableFile.{table_magic, state_bytes, entry_bytes, file_of}
+use Rattle.udfs_reading.specs.TableReading.{IsTableFile, floor_after, entries_front, IsUnderEntries, IsOtherState, TablePlace, IsTablePlace, before_table_place, record_of_table_place, AtNumber, AtState, AtContent, AtTableEnd, table_format, tables_v1}
 use Rattle.udfs_reading.proofs.Numbers.{length-number, value_of-number}
+use Rattle.udfs_reading.proofs.Counts.{same_count}
 use Rattle.udfs_reading.proofs.JudgeHeader as header
 use Rattle.udfs_reading.proofs.JudgeHeader.{Judged, judge, judge_header, number_long, with_first, with_all, all_err, all_ok, IsFrom, from_ok, from_err, first_keeps, from_either}
 
@@ -213,10 +216,25 @@ past_header (suc n) rest f number some fits h =
     let e : judge_entries (suc n) 1 0 rest ≡ Err (f, number) = sym (judge_header table_magic judge_body length-table_magic (suc n) rest fits) ∙ judge_fault _ f number h in
     let from : IsFrom {X = Entry} 1 (Err (f, number)) = subst (IsFrom 1) e (some_first n rest) in from.is
 
--- after the header and some entries, the header has no fault, whatever follows
+-- the header, and what stands behind it
+behind : (count : ℕ) (done : List Entry) (got more : List ℕ) → (entries_front count done ++ got) ++ more ≡ header table_magic count ++ (flat_map entry_bytes done ++ (got ++ more))
+behind count done got more = append_assoc (entries_front count done) got more ∙ append_assoc (header table_magic count) (flat_map entry_bytes done) (got ++ more)
+
+-- the count in the header of a table's file
+same_entries : (count : ℕ) (bytes rest : List ℕ) (t : Table) → count < 2 ^ 32 → bytes ≡ header table_magic count ++ rest → IsTableFile bytes t → count ≡ length (entries_of t)
+unfolding file_of
+same_entries count bytes rest t fits is h =
+    let few : length (entries_of t) ≤ 4194304 = few_entries (entries_of t) (entries_rise t h.is_table) in
+    same_count table_magic count (length (entries_of t)) rest (flat_map entry_bytes (entries_of t)) length-table_magic fits (omega arith) (sym is ∙ h.spelled)
+
+-- after the header and some entries, the header has no fault and says that there are entries, whatever follows
 pub header_is_sound : (count : ℕ) (done : List Entry) (got : List ℕ) → IsUnderEntries count done → HeaderIsSound tables_v1 (entries_front count done ++ got)
-header_is_sound count done got under more f number h =
+header_is_sound count done got under =
     let fewer = under.more in
-    past_header count (flat_map entry_bytes done ++ (got ++ more)) f number (omega arith) under.fits
-    (subst (λ (l : List ℕ). HasFault table_format l f number)
-    (append_assoc (entries_front count done) got more ∙ append_assoc (header table_magic count) (flat_map entry_bytes done) (got ++ more)) h)
+    record {
+      fault = λ more f number h.
+          past_header count (flat_map entry_bytes done ++ (got ++ more)) f number (omega arith) under.fits (subst (λ (l : List ℕ). HasFault table_format l f number) (behind count done got more) h);
+      file = λ more n table h.
+          let same = same_entries count ((entries_front count done ++ got) ++ more) (flat_map entry_bytes done ++ (got ++ more)) table under.fits (behind count done got more) h.0 in
+          let many = h.1 in omega arith;
+    }

@@ -6,14 +6,17 @@ use Rattle.std.specs.Int.Bits.{bit_and}
 use Rattle.std.proofs.lemmas.Bool.{le-ltb, lt-ltb, eq-eqb, ne_eqb}
 use Rattle.std.proofs.lemmas.List.{drop_at}
 use Rattle.udfs_lattice.specs.States.{State, is_known, is_conflict}
+use Rattle.udfs_lattice.specs.Tables.{Table}
 use Rattle.udfs_reading.specs.declared.error.ReadingFault.{ReadingFault}
 use Rattle.udfs_reading.specs.declared.error.ReadingFault.TheVariants as fault
 use Rattle.udfs_reading.specs.Format.{number, value_of, header, In, FaultHere, HasFault}
 use Rattle.udfs_reading.specs.Outcome.{HeaderIsSound}
-use Rattle.udfs_reading.specs.PacketFile.{packet_magic, Packet, mask_of, content, masks_bytes, packet_bytes}
-use Rattle.udfs_reading.specs.PacketReading.{AreStates, PacketsRise, low_after, Clash, AreMasks, size_of_blocks, packets_front, IsUnderPackets, PacketPlace, IsPacketPlace, before_packet_place, record_of_packet_place, AtPacket, AtMasks, AtBlocks, AtPacketsEnd, packet_format, tables_v2}
+use Rattle.udfs_reading.specs.PacketFile.{packet_magic, Packet, mask_of, content, masks_bytes, packet_bytes, packed_file, packets_of}
+use Rattle.udfs_reading.specs.PacketReading.{IsPacketFile, AreStates, PacketsRise, low_after, Clash, AreMasks, size_of_blocks, packets_front, IsUnderPackets, PacketPlace, IsPacketPlace, before_packet_place, record_of_packet_place, AtPacket, AtMasks, AtBlocks, AtPacketsEnd, packet_format, tables_v2}
 use Rattle.udfs_reading.proofs.Numbers.{length-number, value_of-number}
 use Rattle.udfs_reading.proofs.PacketMasks.{masks_apart, mask_below, some_mask, blocks_size, states_by, states_again}
+use Rattle.udfs_reading.proofs.Counts.{same_count}
+use Rattle.udfs_reading.proofs.PacketTables.{few_packets}
 use Rattle.udfs_reading.proofs.JudgeHeader as header
 use Rattle.udfs_reading.proofs.JudgeHeader.{Judged, judge, judge_header, number_long, with_first, with_all, all_err, all_ok, IsFrom, from_ok, from_err, first_keeps, from_either}
 
@@ -238,10 +241,25 @@ past_header (suc n) rest f number some fits h =
     let e : judge_packets (suc n) 1 0 rest ≡ Err (f, number) = sym (judge_header packet_magic judge_body length-packet_magic (suc n) rest fits) ∙ judge_fault _ f number h in
     let from : IsFrom {X = Packet} 1 (Err (f, number)) = subst (IsFrom 1) e (some_first n rest) in from.is
 
--- after the header and some packets, the header has no fault, whatever follows
+-- the header, and what stands behind it
+behind : (count : ℕ) (done : List Packet) (got more : List ℕ) → (packets_front count done ++ got) ++ more ≡ header packet_magic count ++ (flat_map packet_bytes done ++ (got ++ more))
+behind count done got more = append_assoc (packets_front count done) got more ∙ append_assoc (header packet_magic count) (flat_map packet_bytes done) (got ++ more)
+
+-- the count in the header of a table's file
+same_packets : (count : ℕ) (bytes rest : List ℕ) (t : Table) → count < 2 ^ 32 → bytes ≡ header packet_magic count ++ rest → IsPacketFile bytes t → count ≡ length (packets_of t)
+unfolding packed_file
+same_packets count bytes rest t fits is h =
+    let few : length (packets_of t) ≤ 131072 = few_packets t h.is_table in
+    same_count packet_magic count (length (packets_of t)) rest (flat_map packet_bytes (packets_of t)) length-packet_magic fits (omega arith) (sym is ∙ h.spelled)
+
+-- after the header and some packets, the header has no fault and says that there are packets, whatever follows
 pub header_is_sound : (count : ℕ) (done : List Packet) (got : List ℕ) → IsUnderPackets count done → HeaderIsSound tables_v2 (packets_front count done ++ got)
-header_is_sound count done got under more f number h =
+header_is_sound count done got under =
     let fewer = under.more in
-    past_header count (flat_map packet_bytes done ++ (got ++ more)) f number (omega arith) under.fits
-    (subst (λ (l : List ℕ). HasFault packet_format l f number)
-    (append_assoc (packets_front count done) got more ∙ append_assoc (header packet_magic count) (flat_map packet_bytes done) (got ++ more)) h)
+    record {
+      fault = λ more f number h.
+          past_header count (flat_map packet_bytes done ++ (got ++ more)) f number (omega arith) under.fits (subst (λ (l : List ℕ). HasFault packet_format l f number) (behind count done got more) h);
+      file = λ more n table h.
+          let same = same_packets count ((packets_front count done ++ got) ++ more) (flat_map packet_bytes done ++ (got ++ more)) table under.fits (behind count done got more) h.0 in
+          let many = h.1 in omega arith;
+    }

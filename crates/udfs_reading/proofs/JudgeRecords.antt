@@ -11,6 +11,7 @@ use Rattle.udfs_reading.specs.Format.{number, value_of, header, In, FaultHere, H
 use Rattle.udfs_reading.specs.Outcome.{HeaderIsSound}
 use Rattle.udfs_reading.specs.Reading.{magic, record_bytes, front, AreRecords, IsUnder, IsReading, Place, IsPlace, before_place, record_of_place, AtBlock, AtBytes, AtEnd, reading_format, readings}
 use Rattle.udfs_reading.proofs.Numbers.{length-number, value_of-number}
+use Rattle.udfs_reading.proofs.Counts.{same_count}
 use Rattle.udfs_reading.proofs.JudgeHeader as header
 use Rattle.udfs_reading.proofs.JudgeHeader.{Judged, judge, judge_header, number_long, with_first, with_all, all_err, all_ok, IsFrom, from_ok, from_err, first_keeps, from_either}
 
@@ -147,10 +148,18 @@ past_header (suc n) rest fault number some fits h =
     let e : judge_records (suc n) 1 rest ≡ Err (fault, number) = sym (judge_header magic judge_body length-magic (suc n) rest fits) ∙ judge_fault _ fault number h in
     let from : IsFrom {X = Record} 1 (Err (fault, number)) = subst (IsFrom 1) e (some_first n rest) in from.is
 
--- after the header and some records, the header has no fault, whatever follows
+-- the header, and what stands behind it
+behind : (count : ℕ) (done : List Record) (got more : List ℕ) → (front count done ++ got) ++ more ≡ header magic count ++ (flat_map record_bytes done ++ (got ++ more))
+behind count done got more = append_assoc (front count done) got more ∙ append_assoc (header magic count) (flat_map record_bytes done) (got ++ more)
+
+-- after the header and some records, the header has no fault and says that there are records, whatever follows
 pub header_is_sound : (count : ℕ) (done : List Record) (got : List ℕ) → IsUnder count done → HeaderIsSound readings (front count done ++ got)
-header_is_sound count done got under more fault number h =
+header_is_sound count done got under =
     let fewer = under.more in
-    past_header count (flat_map record_bytes done ++ (got ++ more)) fault number (omega arith) under.fits
-    (subst (λ (l : List ℕ). HasFault reading_format l fault number)
-    (append_assoc (front count done) got more ∙ append_assoc (header magic count) (flat_map record_bytes done) (got ++ more)) h)
+    record {
+      fault = λ more fault number h.
+          past_header count (flat_map record_bytes done ++ (got ++ more)) fault number (omega arith) under.fits (subst (λ (l : List ℕ). HasFault reading_format l fault number) (behind count done got more) h);
+      file = λ more n table h.
+          let same : count ≡ length h.0 = same_count magic count (length h.0) (flat_map record_bytes done ++ (got ++ more)) (flat_map record_bytes h.0) length-magic under.fits h.1.count (sym (behind count done got more) ∙ h.1.spelled) in
+          let many = h.2 in omega arith;
+    }

@@ -2,6 +2,7 @@ pub mod WindowLemmas
 pub mod Numbers
 pub mod Ends
 pub mod Records
+pub mod Counts
 pub mod JudgeHeader
 pub mod JudgeRecords
 pub mod More

@@ -66,6 +66,7 @@ takes_behind K magic got {a} {b} {c} given same h =
 pub record IsKindAt (too : Bool) (K : Kind) (front : List ℕ) : Type 0 where
   pub file : (rest : List ℕ) (n : ℕ) (t : Table) → K.IsFile (front ++ rest) n t → (files too).IsFile (front ++ rest) n t
   pub faulty : (rest : List ℕ) (f : ReadingFault) (n : ℕ) → K.IsFaulty (front ++ rest) f n → (files too).IsFaulty (front ++ rest) f n
+  pub file_back : (rest : List ℕ) (n : ℕ) (t : Table) → (files too).IsFile (front ++ rest) n t → K.IsFile (front ++ rest) n t
   pub faulty_back : (rest : List ℕ) (f : ReadingFault) (n : ℕ) → (files too).IsFaulty (front ++ rest) f n → K.IsFaulty (front ++ rest) f n
 
 by_names : (P : Kind → Type 0) (a b c d e f : Bool) → a ≡ d → b ≡ e → c ≡ f → P (named a b c) → P (named d e f)
@@ -79,6 +80,7 @@ kind_at too K front a b c is p q r =
     record {
       file = λ rest n t h. by_names (λ (k : Kind). k.IsFile (front ++ rest) n t) a b c _ _ _ (p rest) (q rest) (r rest) (subst (λ (k : Kind). k.IsFile (front ++ rest) n t) (sym is) h);
       faulty = λ rest f n h. by_names (λ (k : Kind). k.IsFaulty (front ++ rest) f n) a b c _ _ _ (p rest) (q rest) (r rest) (subst (λ (k : Kind). k.IsFaulty (front ++ rest) f n) (sym is) h);
+      file_back = λ rest n t h. subst (λ (k : Kind). k.IsFile (front ++ rest) n t) is (by_names (λ (k : Kind). k.IsFile (front ++ rest) n t) _ _ _ a b c (sym (p rest)) (sym (q rest)) (sym (r rest)) h);
       faulty_back = λ rest f n h. subst (λ (k : Kind). k.IsFaulty (front ++ rest) f n) is (by_names (λ (k : Kind). k.IsFaulty (front ++ rest) f n) _ _ _ a b c (sym (p rest)) (sym (q rest)) (sym (r rest)) h);
     }
 
@@ -144,7 +146,10 @@ module _ (too : Bool) (K : Kind) (front : List ℕ) (at : IsKindAt too K front) 
   explains_input Io got rest i j number h = (h.0, elim h.1 [ inl f ↦ inl (at.faulty got Truncated number f) | inr n ↦ inr (n.0, at.file got number n.0 n.1) ])
   explains_input OutOfMemory got rest i j number h = (
     h.0,
-    λ more f m has. h.1 more f m (subst (λ (l : List ℕ). K.IsFaulty l f m) (sym (append_assoc front got more)) (at.faulty_back (got ++ more) f m (subst (λ (l : List ℕ). (files too).IsFaulty l f m) (append_assoc front got more) has))),
+    record {
+      fault = λ more f m has. h.1.fault more f m (subst (λ (l : List ℕ). K.IsFaulty l f m) (sym (append_assoc front got more)) (at.faulty_back (got ++ more) f m (subst (λ (l : List ℕ). (files too).IsFaulty l f m) (append_assoc front got more) has)));
+      file = λ more n t is. h.1.file more n t (subst (λ (l : List ℕ). K.IsFile l n t) (sym (append_assoc front got more)) (at.file_back (got ++ more) n t (subst (λ (l : List ℕ). (files too).IsFile l n t) (append_assoc front got more) is)));
+    },
     h.2,
   )
   explains_input Magic got rest i j number h = (h.0, at.faulty got Magic number h.1)

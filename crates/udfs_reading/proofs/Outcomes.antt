@@ -1,5 +1,5 @@
 -- No bytes have two outcomes: the laws of each kind of file.
-use Rattle.std.proofs.Common.{◌≡◌, ℕ, ◌≤◌, Bool, true, false, cond, List, ◌++◌, append_assoc, length, take, refl, sym, ap, subst, ◌∙◌, arith, length-append, length-take, Option, Some, None, Result, Ok}
+use Rattle.std.proofs.Common.{◌≡◌, ℕ, ◌≤◌, Bool, true, false, cond, List, ◌++◌, append_assoc, length, take, refl, sym, ap, subst, ◌∙◌, arith, length-append, length-take, Option, Some, None, Result, Ok, Err, ◌<◌}
 use Rattle.std.specs.Prelude.{IfSome, MatchResult}
 use Rattle.std.specs.Str.{bytes_eq}
 use Rattle.std.proofs.lemmas.List.{take-append-le}
@@ -11,7 +11,7 @@ use Rattle.udfs_reading.specs.Format.{number}
 use Rattle.udfs_lattice.specs.Records.{table_of, RisesFrom, table_of_entries}
 use Rattle.udfs_lattice.proofs.PublicLaws.{entries_make_table, entries_rise, few_entries}
 use Rattle.udfs_reading.specs.declared.error.ReadingFault.{ReadingFault}
-use Rattle.udfs_reading.specs.declared.error.ReadingFault.TheVariants.{Magic, Truncated}
+use Rattle.udfs_reading.specs.declared.error.ReadingFault.TheVariants.{Magic, Truncated, OutOfMemory}
 use Rattle.udfs_reading.specs.Reading.{magic, readings, reading_format}
 use Rattle.udfs_reading.specs.TableFile.{table_magic, entry_bytes, file_of, table_bytes_v1}
 use Rattle.udfs_reading.specs.TableReading.{IsTableFile, tables_v1, table_format}
@@ -175,12 +175,17 @@ v2_file bytes table h =
     let at = whole_packet_file (packets_of table) in
     subst (λ (l : List ℕ). tables.IsFile l n table) (sym (h.spelled ∙ at.1)) ((v2_at false).file at.0 n table (subst (λ (l : List ℕ). IsPacketFile l table) (h.spelled ∙ at.1) h, refl))
 
+-- a file is refused by the device or for want of memory alone
+refused_so : (r : Result Table ReadingError) (t : Table) (n : ℕ) → MatchResult r (λ u. u ≡ t) (λ e. (¬ IsOfFile e.fault) × (e.fault ≡ OutOfMemory → 0 < n)) → MatchResult r (λ u. u ≡ t) (λ e. ¬ IsOfFile e.fault)
+refused_so (Ok u) t n h = h
+refused_so (Err e) t n h = h.0
+
 pub public_written_v1 : (a : Option (List ℕ)) (r : Result Table ReadingError) → TakesFile tables a r
     → IfSome a (λ bytes. (table : Table) → IsTable table → bytes ≡ table_bytes_v1 table → MatchResult r (λ t. t ≡ table) (λ e. ¬ IsOfFile e.fault))
 public_written_v1 None r h = tt
-public_written_v1 (Some bytes) r h = λ table is spelled. h (length (entries_of table)) table (v1_file bytes table (record { is_table = is; spelled = spelled }))
+public_written_v1 (Some bytes) r h = λ table is spelled. refused_so r table _ (h (length (entries_of table)) table (v1_file bytes table (record { is_table = is; spelled = spelled })))
 
 pub public_written : (a : Option (List ℕ)) (r : Result Table ReadingError) → TakesFile tables a r
     → IfSome a (λ bytes. (table : Table) → IsTable table → bytes ≡ table_bytes table → MatchResult r (λ t. t ≡ table) (λ e. ¬ IsOfFile e.fault))
 public_written None r h = tt
-public_written (Some bytes) r h = λ table is spelled. h (length (packets_of table)) table (v2_file bytes table (record { is_table = is; spelled = spelled }))
+public_written (Some bytes) r h = λ table is spelled. refused_so r table _ (h (length (packets_of table)) table (v2_file bytes table (record { is_table = is; spelled = spelled })))

@@ -76,14 +76,23 @@ module _ (K : Kind) (laws : KindLaws K) where
   public_fault (Some xs) None i j (Err e) h = absurd h.ends.given
   public_fault (Some xs) (Some ys) i j (Err e) h = λ f. subst (λ (l : List ℕ). K.IsFaulty l e.fault e.number) (sym h.ends.given) (file_fault e.fault h.ends.got (h.ahead ++ ys) i j e.number h.ends.why f)
 
+  -- memory is wanted only for records
+  has_records : (fault : ReadingFault) (got rest : List ℕ) (i j number n : ℕ) (t : Table) → Explains K got (Some rest) i j fault number → fault ≡ OutOfMemory → K.IsFile (got ++ rest) n t → 0 < n
+  has_records OutOfMemory got rest i j number n t h e is = h.1.file rest n t is
+  has_records _ got rest i j number n t h e is = absurd cc
+
   pub public_file : (a b : Option (List ℕ)) (i j : ℕ) (r : Result Table ReadingError) → Whole K a b i j r → TakesFile K a r
   public_file None b i j r h = tt
   public_file (Some xs) None i j (Ok table) h = absurd h.0.given
   public_file (Some xs) (Some ys) i j (Ok table) h = λ n t is. laws.one_file xs h.0.count n table t (whole_file xs ys table h.0) is
-  public_file (Some xs) b i j (Err e) h = λ n t is f. laws.either xs n t e.fault e.number is (public_fault (Some xs) b i j (Err e) h f)
+  public_file (Some xs) None i j (Err e) h = absurd h.ends.given
+  public_file (Some xs) (Some ys) i j (Err e) h = λ n t is. (
+    λ f. laws.either xs n t e.fault e.number is (public_fault (Some xs) (Some ys) i j (Err e) h f),
+    λ out. has_records e.fault h.ends.got (h.ahead ++ ys) i j e.number n t h.ends.why out (subst (λ (l : List ℕ). K.IsFile l n t) h.ends.given is),
+  )
 
   no_memory : (fault : ReadingFault) (got rest : List ℕ) (i j number : ℕ) (f : ReadingFault) (m : ℕ) → Explains K got (Some rest) i j fault number → fault ≡ OutOfMemory → K.IsFaulty (got ++ rest) f m → 0 < m
-  no_memory OutOfMemory got rest i j number f m h e has = h.1 rest f m has
+  no_memory OutOfMemory got rest i j number f m h e has = h.1.fault rest f m has
   no_memory _ got rest i j number f m h e has = absurd cc
 
   pub public_faulty : (a b : Option (List ℕ)) (i j : ℕ) (r : Result Table ReadingError) → Whole K a b i j r → RefusesFaulty K a r

@@ -23,8 +23,11 @@ spelled done rises = ap file_of (sym (rising_are_entries done rises))
 -- no entry is to come
 at_end : (done : List (ℕ × State)) → length done < 2 ^ 32 → RisesFrom 0 done → (rest : List ℕ) → HasOutcome tables_v1 (entries_front (length done) done ++ rest)
 at_end done fits rises [] =
-    inl (length done, table_of_entries done,
-    (record { is_table = rising_make_table done rises; spelled = append-nil (entries_front (length done) done) ∙ spelled done rises }, ap length (sym (rising_are_entries done rises))))
+    inl (
+      length done,
+      table_of_entries done,
+      (record { is_table = rising_make_table done rises; spelled = append-nil (entries_front (length done) done) ∙ spelled done rises }, ap length (sym (rising_are_entries done rises))),
+    )
 at_end done fits rises (x ∷ xs) =
     inr (fault.Trailing, length done, record { spot = In (AtTableEnd done); is_spot = (fits, rises); rest = x ∷ xs; split = refl; here = (omega arith, omega arith); which = refl })
 
@@ -47,11 +50,18 @@ at_content : (count : ℕ) (done : List (ℕ × State)) → IsUnderEntries count
     → HasOutcome tables_v1 (entries_front count done ++ (number block ++ (1 ∷ rest)))
 at_content count done under block above low rest h next =
     ⊎_elim
-    (λ cut. inr (fault.Truncated, length done + 1, record {
-      spot = In (AtContent count done block); is_spot = (under, above, low); rest = rest;
-      split = sym (append_assoc (entries_front count done) (number block ++ 1 ∷ []) rest ∙ ap (λ (l : List ℕ). entries_front count done ++ l) (append_assoc (number block) (1 ∷ []) rest));
-      here = cut; which = refl;
-    }))
+    (λ cut. inr (
+      fault.Truncated,
+      length done + 1,
+      record {
+        spot = In (AtContent count done block);
+        is_spot = (under, above, low);
+        rest = rest;
+        split = sym (append_assoc (entries_front count done) (number block ++ 1 ∷ []) rest ∙ ap (λ (l : List ℕ). entries_front count done ++ l) (append_assoc (number block) (1 ∷ []) rest));
+        here = cut;
+        which = refl;
+      },
+    ))
     (λ whole.
     let bytes : List ℕ = take 2048 rest in
     let more : List ℕ = drop 2048 rest in

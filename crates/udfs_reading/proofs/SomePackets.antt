@@ -95,8 +95,11 @@ spelled done rises = ap packed_file (sym (packets_of-rising done rises))
 -- no packet is to come
 at_end : (done : List Packet) → length done < 2 ^ 32 → PacketsRise 0 done → (rest : List ℕ) → HasOutcome tables_v2 (packets_front (length done) done ++ rest)
 at_end done fits rises [] =
-    inl (length done, table_of_packets done,
-    (record { is_table = IsTable-packets done rises; spelled = append-nil (packets_front (length done) done) ∙ spelled done rises }, ap length (sym (packets_of-rising done rises))))
+    inl (
+      length done,
+      table_of_packets done,
+      (record { is_table = IsTable-packets done rises; spelled = append-nil (packets_front (length done) done) ∙ spelled done rises }, ap length (sym (packets_of-rising done rises))),
+    )
 at_end done fits rises (x ∷ xs) =
     inr (fault.Trailing, length done, record { spot = In (AtPacketsEnd done); is_spot = (fits, rises); rest = x ∷ xs; split = refl; here = (omega arith, omega arith); which = refl })
 
@@ -120,11 +123,18 @@ at_blocks : (count : ℕ) (done : List Packet) → IsUnderPackets count done →
     → (rest : List ℕ) → Small rest → Next count done → HasOutcome tables_v2 (packets_front count done ++ (number p ++ ((number k ++ number c) ++ rest)))
 at_blocks count done under p above there k c fits also masks rest h next =
     ⊎_elim
-    (λ cut. inr (fault.Truncated, length done + 1, record {
-      spot = In (AtBlocks count done p k c); is_spot = ((under, above, there), fits, also, masks); rest = rest;
-      split = sym (append_assoc (packets_front count done) (number p ++ (number k ++ number c)) rest ∙ ap (λ (l : List ℕ). packets_front count done ++ l) (append_assoc (number p) (number k ++ number c) rest));
-      here = cut; which = refl;
-    }))
+    (λ cut. inr (
+      fault.Truncated,
+      length done + 1,
+      record {
+        spot = In (AtBlocks count done p k c);
+        is_spot = ((under, above, there), fits, also, masks);
+        rest = rest;
+        split = sym (append_assoc (packets_front count done) (number p ++ (number k ++ number c)) rest ∙ ap (λ (l : List ℕ). packets_front count done ++ l) (append_assoc (number p) (number k ++ number c) rest));
+        here = cut;
+        which = refl;
+      },
+    ))
     (λ whole.
     let size : ℕ = size_of_blocks k in
     let bytes : List ℕ = take size rest in

@@ -25,10 +25,10 @@ GivesTable K told r = IfSome told (λ bytes. IfOk r (λ table. (count : ℕ) × 
 abbrev pub GivesFault : Kind → Option (List ℕ) → Result Table ReadingError → Type 0
 GivesFault K told r = IfSome told (λ bytes. IfErr r (λ e. IsOfFile e.fault → K.IsFaulty bytes e.fault e.number))
 
--- a file gives its table, and is refused by the device or for want of memory alone
+-- a file gives its table, and is refused by the device or for want of memory alone; never for want of memory where it has no record
 abbrev pub TakesFile : Kind → Option (List ℕ) → Result Table ReadingError → Type 0
 TakesFile K told r = IfSome told (λ bytes. (count : ℕ) (table : Table) → K.IsFile bytes count table →
-    MatchResult r (λ t. t ≡ table) (λ e. ¬ IsOfFile e.fault))
+    MatchResult r (λ t. t ≡ table) (λ e. (¬ IsOfFile e.fault) × (e.fault ≡ OutOfMemory → 0 < count)))
 
 -- other bytes give no table, and no other fault of the file; want of memory is answered only past the header
 abbrev pub RefusesFaulty : Kind → Option (List ℕ) → Result Table ReadingError → Type 0

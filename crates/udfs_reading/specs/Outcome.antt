@@ -12,9 +12,10 @@ use Rattle.udfs_reading.specs.Kind.{Kind}
 abbrev pub StopsAt : Kind → List ℕ → ℕ → Type 0
 StopsAt K got number = K.IsFaulty got Truncated number ⊎ ((table : Table) × K.IsFile got number table)
 
--- whatever follows these bytes, their header has no fault
-abbrev pub HeaderIsSound : Kind → List ℕ → Type 0
-HeaderIsSound K got = (more : List ℕ) (fault : ReadingFault) (number : ℕ) → K.IsFaulty (got ++ more) fault number → 0 < number
+-- whatever follows these bytes, their header has no fault and says that there are records
+pub record HeaderIsSound (K : Kind) (got : List ℕ) : Type 0 where
+  pub fault : (more : List ℕ) (fault : ReadingFault) (number : ℕ) → K.IsFaulty (got ++ more) fault number → 0 < number
+  pub file : (more : List ℕ) (count : ℕ) (table : Table) → K.IsFile (got ++ more) count table → 0 < count
 
 -- why a call ended after these bytes; `rest` is what the source has left, and `old` and `new` are its counts of faults
 abbrev pub Explains : Kind → List ℕ → Option (List ℕ) → ℕ → ℕ → ReadingFault → ℕ → Type 0
