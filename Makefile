@@ -4,7 +4,10 @@
 #   make test       judges the whole repository from nothing, as the gate does, and then tries what make hostile tries
 #   make hostile    refuses each allocation of many runs in turn, and changes each byte of the sample discs' descriptors
 #   make try        tries the built program on this machine's own files and devices
-#   make install    puts the program and its man page below PREFIX
+#   make install    puts the program, its man page and its completions below PREFIX; make uninstall takes them away
+#   make clean      removes all that was made
+#   make dist       a tar of the sources, and one of the built program, in out/
+#   make deb        a Debian package of the built program in out/, looked at, installed, run and removed in a scratch root
 #   make bench      measures merge against cp and extract against cp -r of the same files, report against reading its input in,
 #                   the CRC against the plain byte table in Rust, the table of blocks against an ordered map and plain copying,
 #                   places a second, and report of volumes that are made to take time or memory
@@ -75,10 +78,31 @@ hostile: all
 try: all
 	@tools/try-machine $(PROGRAM) examples
 
-install: all
+# Where the program is built, neither rt nor anything of the toolchain is needed.
+install:
+	@test -x $(PROGRAM) || $(MAKE) -s --no-print-directory all
 	install -d $(DESTDIR)$(PREFIX)/bin $(DESTDIR)$(PREFIX)/share/man/man1
 	install -m 755 $(PROGRAM) $(DESTDIR)$(PREFIX)/bin/udfsalvage
 	install -m 644 man/udfsalvage.1 $(DESTDIR)$(PREFIX)/share/man/man1/udfsalvage.1
+	@tools/make-completions $(PROGRAM) out/completions
+	install -D -m 644 out/completions/bash/udfsalvage $(DESTDIR)$(PREFIX)/share/bash-completion/completions/udfsalvage
+	install -D -m 644 out/completions/zsh/_udfsalvage $(DESTDIR)$(PREFIX)/share/zsh/site-functions/_udfsalvage
+	install -D -m 644 out/completions/fish/udfsalvage.fish $(DESTDIR)$(PREFIX)/share/fish/vendor_completions.d/udfsalvage.fish
+
+uninstall:
+	rm -f $(DESTDIR)$(PREFIX)/bin/udfsalvage $(DESTDIR)$(PREFIX)/share/man/man1/udfsalvage.1
+	rm -f $(DESTDIR)$(PREFIX)/share/bash-completion/completions/udfsalvage $(DESTDIR)$(PREFIX)/share/zsh/site-functions/_udfsalvage
+	rm -f $(DESTDIR)$(PREFIX)/share/fish/vendor_completions.d/udfsalvage.fish
+
+clean:
+	rm -rf out crates/*/out
+
+dist: all
+	@tools/package $(PROGRAM) out dist
+
+deb: all
+	@tools/package $(PROGRAM) out deb
+	@tools/try-deb out/udfsalvage_$$(tools/check-version $(PROGRAM))_amd64.deb
 
 bench: all
 	@bench/merge --program $(PROGRAM) $(BENCH)
@@ -94,4 +118,4 @@ examples:
 	tools/make-disc examples
 	cp examples/a.rd examples/b.rd crates/udfsalvage/data
 
-.PHONY: all have-rt demo test hostile try install bench examples
+.PHONY: all have-rt demo test hostile try install uninstall clean dist deb bench examples

@@ -1,3 +1,4 @@
+// SPDX-License-Identifier: MIT OR Apache-2.0
 //! The CRC of made-up bytes, for `bench/crc` to measure: `bench_crc [MEBIBYTES]`, 1 if left out.
 //!
 //! Each round's microseconds go to standard error, and the CRC to standard output.

@@ -1,3 +1,4 @@
+// SPDX-License-Identifier: MIT OR Apache-2.0
 //! Places of logical blocks under a sparing table of 8,000 packets, for `bench/places` to measure:
 //! `bench_space [MILLIONS]`, 1 if left out.
 //!

@@ -1,3 +1,4 @@
+// SPDX-License-Identifier: MIT OR Apache-2.0
 //! Times of the table of blocks, for `bench/table` to compare: `bench_table WORK [BLOCKS]`. Each time goes to
 //! standard error in microseconds, and how many blocks are known to standard output.
 #![tactic(auto)]

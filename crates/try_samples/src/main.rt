@@ -1,3 +1,4 @@
+// SPDX-License-Identifier: MIT OR Apache-2.0
 //! Runs over the sample discs, for `tools/refuse-memory`, which refuses one of a run's allocations, and for
 //! `tools/mutate`: `try_samples RUN DISC [UNREAD]`, where UNREAD is a block that no pass has read.
 //!

@@ -1,3 +1,4 @@
+// SPDX-License-Identifier: MIT OR Apache-2.0
 //! The commands of `udfsalvage`: what its words ask for, over any files.
 #![tactic(auto)]
 

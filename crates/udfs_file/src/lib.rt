@@ -1,3 +1,4 @@
+// SPDX-License-Identifier: MIT OR Apache-2.0
 //! Files and directories of UDF volumes of which some blocks are not known.
 //!
 //! [`file_set()`] finds the root's information control block, [`Entry::read`] reads the entry in a block,

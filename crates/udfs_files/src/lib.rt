@@ -1,3 +1,4 @@
+// SPDX-License-Identifier: MIT OR Apache-2.0
 //! Files that a crash may take at any moment, and one call that replaces a file whole or not at all.
 #![tactic(auto)]
 

@@ -1,3 +1,4 @@
+// SPDX-License-Identifier: MIT OR Apache-2.0
 //! Files in memory, of which a crash may leave whatever the calls so far allow, and whose devices can be slow or fail. For tests alone.
 #![tactic(auto)]
 

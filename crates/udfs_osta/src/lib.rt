@@ -1,3 +1,4 @@
+// SPDX-License-Identifier: MIT OR Apache-2.0
 //! Names, labels and timestamps of UDF volumes.
 //!
 //! UDF writes the names of files and the labels of volumes as *compressed Unicode* (OSTA UDF 2.1.1): a first byte of 8

@@ -1,3 +1,4 @@
+// SPDX-License-Identifier: MIT OR Apache-2.0
 //! The file formats of block tables: readings, which are lists of records, and table files in two versions.
 #![tactic(auto)]
 

@@ -1,3 +1,4 @@
+// SPDX-License-Identifier: MIT OR Apache-2.0
 //! GNU ddrescue's images and mapfiles: the runs that a mapfile lists, the blocks that they make known, and an image
 //! with its mapfile as a source of the reading of these blocks.
 #![tactic(auto)]

@@ -1,3 +1,4 @@
+// SPDX-License-Identifier: MIT OR Apache-2.0
 //! What can be salvaged of a UDF volume of which some blocks are not known.
 //!
 //! [`salvage`] looks at a table of blocks and answers a [`Report`]: whether the volume opens, its files and directories

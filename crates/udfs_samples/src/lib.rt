@@ -1,3 +1,4 @@
+// SPDX-License-Identifier: MIT OR Apache-2.0
 //! Sample volumes for the tests of the other crates: small discs, built block by block, and the tables of
 //! readings that know a part of them. The program never uses them.
 #![tactic(auto)]

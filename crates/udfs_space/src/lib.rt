@@ -1,3 +1,4 @@
+// SPDX-License-Identifier: MIT OR Apache-2.0
 //! Sparing tables, and where the logical blocks of partitions stand.
 #![tactic(auto)]
 

@@ -1,3 +1,4 @@
+// SPDX-License-Identifier: MIT OR Apache-2.0
 //! Descriptor tags, their CRC, and the small fields that descriptors share.
 //!
 //! Each descriptor of a volume begins with a tag of 16 bytes (ECMA-167 3/7.2), whose sums tell it

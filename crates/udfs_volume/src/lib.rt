@@ -1,3 +1,4 @@
+// SPDX-License-Identifier: MIT OR Apache-2.0
 //! Anchors, volume descriptor sequences and the layout of a volume.
 #![tactic(auto)]
 

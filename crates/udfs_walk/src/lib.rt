@@ -1,3 +1,4 @@
+// SPDX-License-Identifier: MIT OR Apache-2.0
 //! The nodes of a volume of which some blocks are not known: every path with what is told of it, the entries that no
 //! name leads to, and the blocks to read again.
 #![tactic(auto)]

@@ -1,3 +1,4 @@
+// SPDX-License-Identifier: MIT OR Apache-2.0
 //! The command `udfsalvage`: its words, over the machine's files.
 #![tactic(auto)]
 
