@@ -28,6 +28,7 @@ deed kind.Link s size fill = Skip
 deed (kind.Other t) s size fill = Skip
 deed kind.Unread s size fill = Skip
 
+-- the answer that nothing is lacking is given only where all nodes of the report are whole
 pub record SaysGood (last : ℕ) (good : Bool) (table : Table) : Type 0 where
   pub report : Report
   pub is_report : IsReport (state_of table) last report

@@ -18,6 +18,7 @@ pub record PrintsJson (last : ℕ) (old new : Option (List ℕ)) (i j : ℕ) (wh
   pub prints : Wrote old new i j (line (json_text table last report))
   pub says : whole ≡ all_whole report.nodes
 
+-- what is printed, by the form that is asked for
 abbrev pub PrintsAs : Form → ℕ → Option (List ℕ) → Option (List ℕ) → ℕ → ℕ → Bool → Table → Type 0
 PrintsAs Text last old new i j whole table = PrintsOf last old new i j (Ok whole) table
 PrintsAs Json last old new i j whole table = PrintsJson last old new i j whole table

@@ -15,6 +15,7 @@ abbrev refusal_by : InputError → ReadingFault → Refusal
 refusal_by error OutOfMemory = Memory alloc_error
 refusal_by error fault = Input error.input error.error
 
+-- an input's error, as a refusal
 abbrev pub refusal_of : InputError → Refusal
 refusal_of error = refusal_by error error.error.fault
 

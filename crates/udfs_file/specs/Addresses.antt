@@ -32,10 +32,12 @@ file_set_in a n Unknown = holes (n ∷ [])
 file_set_in a n (Known bytes) = cond (is_valid bytes a.block 256) (found (long_ad_at bytes 400)) (faulty FileSet)
 file_set_in a n Conflict = holes (n ∷ [])
 
+-- the root's address in the file set descriptor at an address, by the fault of the address and what is known of its block
 abbrev pub file_set_at : LongAd → Option NodeFault → Option (ℕ × State) → Answer LongAd
 file_set_at a (Some fault) block = faulty FileSet
 file_set_at a None None = faulty FileSet
 file_set_at a None (Some block) = file_set_in a block.0 block.1
 
+-- the root's address, as the file set descriptor at this address names it (ECMA-167 4/14.1)
 unfoldable pub file_set : View → LongAd → Answer LongAd
 file_set view a = file_set_at a (address_fault view a) (block_at view a.reference a.block)

@@ -55,6 +55,7 @@ next_area form b n Unknown = unread_at n
 next_area form b n (Known bytes) = cond (is_extent form b bytes) (area_at (part bytes 24 (uint32_at bytes 20))) (broken Chain)
 next_area form b n Conflict = unread_at n
 
+-- what a continuation leads to, by its fault and what is known of its block
 abbrev pub next_if : ℕ → ℕ → Option NodeFault → Option (ℕ × State) → Next
 next_if form b (Some fault) block = broken fault
 next_if form b None None = broken Range
@@ -68,9 +69,11 @@ continuation_fault view is_last d = first_fault (
     ∷ (nat_lt 2048 d.length || is_last, Chain)
     ∷ [])
 
+-- what a descriptor of type 3 leads to
 abbrev pub next_by : View → ℕ → Bool → LongAd → Next
 next_by view form is_last d = next_if form d.block (continuation_fault view is_last d) (block_at view d.reference d.block)
 
+-- what the first descriptor of type 3 leads to, if there is one
 abbrev pub next_of : View → ℕ → Bool → Option LongAd → Next
 next_of view form is_last None = no_more
 next_of view form is_last (Some d) = next_by view form is_last d
@@ -84,15 +87,18 @@ pub record Descriptors : Type 0 where
 abbrev pub up_to_next : List LongAd → List LongAd
 up_to_next ds = take (length (take_while (λ d. not (d.kind == 3)) ds) + 1) ds
 
+-- the first descriptor of type 3 (ECMA-167 4/14.14.1.1)
 abbrev pub next_descriptor : List LongAd → Option LongAd
 next_descriptor ds = slice_get ds (length (take_while (λ d. not (d.kind == 3)) ds))
 
+-- the descriptors of an area and of those that it is continued in
 abbrev pub joined : List LongAd → Next → (List ℕ → Descriptors) → Descriptors
 joined ds no_more later = record { all = ds; behind = no_more }
 joined ds (area_at area) later = let rest = later area in record { all = ds ++ rest.all; behind = rest.behind }
 joined ds (unread_at n) later = record { all = ds; behind = unread_at n }
 joined ds (broken fault) later = record { all = ds; behind = broken fault }
 
+-- no descriptor, and nothing behind
 abbrev pub no_descriptors : Descriptors
 no_descriptors = record { all = []; behind = no_more }
 
@@ -103,6 +109,7 @@ chain view form r zero area = let ds = descriptors_in form r area in
 chain view form r (suc left) area = let ds = descriptors_in form r area in
     joined (up_to_next ds) (next_of view form false (next_descriptor ds)) (λ a. chain view form r left a)
 
+-- the allocation descriptors of an entry, with those of at most 256 continuations
 unfoldable pub descriptors : View → ℕ → EntryFields → Descriptors
 descriptors view r entry = chain view entry.form r 256 entry.area
 
@@ -128,6 +135,7 @@ cells_in size e = min (covers e.1) (size - e.0)
 abbrev pub is_misreferred : View → LongAd → Bool
 is_misreferred view d = (d.kind == 0) && nat_le view.partitions d.reference
 
+-- whether a recorded extent passes the end of its partition
 abbrev pub is_misplaced : View → LongAd → ℕ → Bool
 is_misplaced view d count = (d.kind == 0) && is_past view.place d.reference d.block (blocks_in count)
 
@@ -135,6 +143,7 @@ is_misplaced view d count = (d.kind == 0) && is_past view.place d.reference d.bl
 abbrev pub is_odd : ℕ → ℕ → LongAd → Bool
 is_odd size c d = not (d.kind == 3) && nat_lt (c + d.length) size && not (d.length % 2048 == 0)
 
+-- the first rule that an extent breaks
 abbrev pub extent_fault : View → ℕ → ℕ × LongAd → Option NodeFault
 extent_fault view size e = first_fault (
     (is_misreferred view e.1, Reference)
@@ -148,6 +157,7 @@ cell_in b n i Unknown = Gap n
 cell_in b n i (Known bytes) = Byte (slice_index bytes i) (Some b)
 cell_in b n i Conflict = Gap n
 
+-- byte i of logical block b; of a block that is not recorded it is 0
 abbrev pub cell_at : ℕ → ℕ → Option (ℕ × State) → Cell
 cell_at b i None = Byte 0 None
 cell_at b i (Some block) = cell_in b block.0 i block.1
@@ -162,10 +172,12 @@ extent_cells view size e = cond (e.1.kind == 0)
     (map (recorded_cell view e.1.reference e.1.block) (range_with_len 0 (cells_in size e)))
     (replicate (cells_in size e) (Byte 0 None))
 
+-- the cells of a file's or directory's bytes, or why there are none
 pub data Body : Type 0 where
   cells : List Cell → Body
   faulty_body : NodeFault → Body
 
+-- the first fault of a list
 abbrev pub first_of_all : List (Option NodeFault) → Option NodeFault
 first_of_all [] = None
 first_of_all (None ∷ faults) = first_of_all faults
@@ -178,10 +190,12 @@ ended_body left (area_at area) front = faulty_body Short
 ended_body left (unread_at n) front = cells (front ++ replicate left (Gap n))
 ended_body left (broken fault) front = faulty_body fault
 
+-- a body, unless there is a fault
 abbrev pub body_unless : Option NodeFault → Body → Body
 body_unless None b = b
 body_unless (Some fault) b = faulty_body fault
 
+-- how many bytes extents cover together
 abbrev pub all_covered : List (ℕ × LongAd) → ℕ
 all_covered [] = 0
 all_covered (e ∷ es) = covers e.1 + all_covered es
@@ -192,15 +206,18 @@ covered_body size taken ds front = let covered = all_covered taken in
     cond (nat_le size covered) (cells front)
     (cond (nat_lt (length taken) (length ds.all)) (faulty_body Short) (ended_body (size - covered) ds.behind front))
 
+-- the body that allocation descriptors describe
 abbrev pub extents_body : View → ℕ → Descriptors → Body
 extents_body view size ds = let taken = used size ds.all in
     body_unless (first_of_all (map (extent_fault view size) taken))
     (covered_body size taken ds (flat_map (extent_cells view size) taken))
 
+-- the body that stands in its entry (ECMA-167 4/14.6.8)
 abbrev pub embedded_body : ℕ → EntryFields → Body
 embedded_body b entry = cond (nat_le entry.size (length entry.area))
     (cells (map (λ x. Byte x (Some b)) (take entry.size entry.area))) (faulty_body Short)
 
+-- the body of an entry in logical block b of partition r
 unfoldable pub body : View → ℕ → ℕ → EntryFields → Body
 body view r b entry = cond (entry.form == 3) (embedded_body b entry)
     (extents_body view entry.size (descriptors view r entry))
@@ -214,6 +231,7 @@ pub record IsRecordedFor (view : View) (size : ℕ) (taken : List (ℕ × LongAd
   pub to : k < extent.0 + cells_in size extent
   pub place : view.place extent.1.reference (extent.1.block + (k - extent.0) / 2048) ≡ Some n
 
+-- block n is read only to go on in the list of extents: a continuation there, whose extent begins at or before byte k
 pub record IsContinuedFor (view : View) (taken : List (ℕ × LongAd)) (k n : ℕ) : Type 0 where
   pub extent : ℕ × LongAd
   pub is_taken : Includes taken extent

@@ -9,6 +9,7 @@ use Rattle.udfs_file.specs.declared.cells.Cell.{Cell}
 use Rattle.udfs_file.specs.declared.cells.Cells.{Cells}
 use Rattle.udfs_file.specs.declared.stretches.Stretch.{Stretch}
 
+-- the cells from here on
 abbrev pub cells_left : Cells → List Cell
 cells_left c = drop c.passed (cells_of (view_now c.view) c.stretches.now)
 
@@ -17,6 +18,7 @@ abbrev pub IsInFirst : ℕ → List Stretch → Type 0
 IsInFirst passed [] = ⊤
 IsInFirst passed (s ∷ ss) = (passed < stretch_count s) × (passed < 18446744073709551615)
 
+-- the next cell lies in the first stretch, if any is left
 abbrev pub IsSettled : Cells → Type 0
 IsSettled c = IsInFirst c.passed c.stretches.now
 
@@ -25,5 +27,6 @@ abbrev pub room_of : ℕ → List Stretch → ℕ
 room_of passed [] = 0
 room_of passed (s ∷ ss) = rest_in_block s passed
 
+-- how many cells are left
 abbrev pub room : Cells → ℕ
 room c = room_of c.passed c.stretches.now

@@ -30,9 +30,11 @@ pub record IsWhole (all : View) (blocks : ℕ → ℕ → Option Bytes) : Type 0
   pub there : (r b n : ℕ) → all.place r b ≡ Some n
       → (bytes : Bytes) × (all.blocks n ≡ Known bytes) × (blocks r b ≡ Some bytes) × (length bytes ≡ 2048)
 
+-- a byte of the standard's, as a cell
 abbrev pub as_cell : Located → Cell
 as_cell x = Byte x.0 x.1
 
+-- the standard's bytes, as cells
 abbrev pub as_cells : List Located → List Cell
 as_cells xs = map as_cell xs
 
@@ -48,10 +50,12 @@ pub record IsReadFileSet (blocks : ℕ → ℕ → Option Bytes) (a root : LongA
   pub reads : IsFileSetAt blocks a root
   pub only : (other : LongAd) → IsFileSetAt blocks a other → other ≡ root
 
+-- over a complete view the root's address is the one that the standard reads
 abbrev pub FileSetLaw : Type 0
 FileSetLaw = (all : View) (blocks : ℕ → ℕ → Option Bytes) → IsWhole all blocks → (a root : LongAd)
     → file_set all a ≡ found root → IsReadFileSet blocks a root
 
+-- over a complete view a body without a fault is the one that the standard reads
 abbrev pub BodyLaw : Type 0
 BodyLaw = (all : View) (blocks : ℕ → ℕ → Option Bytes) → IsWhole all blocks → (r b : ℕ) (entry : EntryFields)
     (cs : List Cell) → body all r b entry ≡ cells cs → IsReadBody blocks r b entry cs
@@ -65,10 +69,12 @@ ReadsLaw = (cs : List Cell) (ids : List Identifier) (rest : Rest)
 abbrev pub NeverStops : Type 0
 NeverStops = (whole : List Located) (n : ℕ) → (directory (as_cells whole)).rest ≢ Stopped n
 
+-- these descriptors are those of a directory's body, and no others are
 pub record IsReadDirectory (whole : List Located) (ids : List Identifier) : Type 0 where
   pub reads : IsDirectoryBody whole ids
   pub only : (other : List Identifier) → IsDirectoryBody whole other → other ≡ ids
 
+-- a directory without a fault, all of whose bytes are there, is the one that the standard reads
 abbrev pub DirectoryLaw : Type 0
 DirectoryLaw = (whole : List Located) → (directory (as_cells whole)).rest ≡ Nothing
     → IsReadDirectory whole (directory (as_cells whole)).identifiers

@@ -17,9 +17,11 @@ use Rattle.udfs_file.specs.declared.faults.NodeFault.TheVariants.{Tag, Strategy,
 abbrev pub fixed_part : List ℕ → ℕ
 fixed_part bytes = cond (uint16_at bytes 0 == 261) 176 216
 
+-- the length of the extended attributes
 abbrev pub attributes_length : List ℕ → ℕ
 attributes_length bytes = uint32_at bytes (fixed_part bytes - 8)
 
+-- the length of the allocation descriptors
 abbrev pub descriptors_length : List ℕ → ℕ
 descriptors_length bytes = uint32_at bytes (fixed_part bytes - 4)
 
@@ -27,6 +29,7 @@ descriptors_length bytes = uint32_at bytes (fixed_part bytes - 4)
 abbrev pub descriptor_form : List ℕ → ℕ
 descriptor_form bytes = uint16_at bytes 34 % 8
 
+-- how many bytes an allocation descriptor of this form has
 abbrev pub descriptor_size : ℕ → ℕ
 descriptor_size form = cond (form == 0) 8 16
 
@@ -38,6 +41,7 @@ area_start bytes = fixed_part bytes + attributes_length bytes
 abbrev pub is_entry : List ℕ → ℕ → Bool
 is_entry bytes b = is_valid bytes b 261 || is_valid bytes b 266
 
+-- whether the form of the allocation descriptors is none of short, long and embedded
 abbrev pub is_strange_form : ℕ → Bool
 is_strange_form form = (form == 2) || nat_le 4 form
 
@@ -45,12 +49,15 @@ is_strange_form form = (form == 2) || nat_le 4 form
 abbrev pub is_cut_form : ℕ → ℕ → Bool
 is_cut_form form count = not (form == 3) && not (count % descriptor_size form == 0)
 
+-- whether the allocation descriptors pass the end of the block
 abbrev pub is_too_long : List ℕ → Bool
 is_too_long bytes = nat_lt 2048 (area_start bytes + descriptors_length bytes)
 
+-- whether the allocation descriptors pass the block's end or end inside one of them
 abbrev pub has_bad_lengths : List ℕ → Bool
 has_bad_lengths bytes = is_too_long bytes || is_cut_form (descriptor_form bytes) (descriptors_length bytes)
 
+-- the first rule that a file entry breaks (ECMA-167 4/14.9 and 14.17)
 unfoldable pub entry_fault : List ℕ → ℕ → Option NodeFault
 entry_fault bytes b = first_fault (
     (not (is_entry bytes b), Tag)
@@ -59,6 +66,7 @@ entry_fault bytes b = first_fault (
     ∷ (has_bad_lengths bytes, Lengths)
     ∷ [])
 
+-- what an entry is, by its file type (ECMA-167 4/14.6.6)
 abbrev pub kind_of : ℕ → Kind
 kind_of t = cond (t == 4) Directory (cond (t == 5) File (cond (t == 12) Link (Other t)))
 
@@ -70,6 +78,7 @@ pub record EntryFields : Type 0 where
   pub form : ℕ
   pub area : List ℕ
 
+-- the fields of a file entry or extended file entry
 unfoldable pub entry_of : List ℕ → EntryFields
 entry_of bytes = record {
   kind = kind_of (uint8_at bytes 27);

@@ -7,6 +7,7 @@ use Rattle.udfs_file.specs.declared.faults.FrontError.TheVariants as front_error
 use Rattle.udfs_file.specs.declared.faults.WalkError.{WalkError}
 use Rattle.udfs_file.specs.declared.faults.WalkError.TheVariants as walk_error
 
+-- a fault's name, as the report prints it
 abbrev pub fault_name : NodeFault → List ℕ
 fault_name fault.Tag = codes "Tag"
 fault_name fault.Strategy = codes "Strategy"
@@ -22,10 +23,12 @@ fault_name fault.Name = codes "Name"
 fault_name fault.Cut = codes "Cut"
 fault_name fault.Depth = codes "Depth"
 
+-- the text of a walk's error
 abbrev pub walk_error_text : WalkError → List ℕ
 walk_error_text (walk_error.Fault fault) = fault_name fault
 walk_error_text walk_error.OutOfMemory = codes "out of memory"
 
+-- the text of an error of a directory's front
 abbrev pub front_error_text : FrontError → List ℕ
 front_error_text front_error.TooMany = codes "too many entries"
 front_error_text front_error.OutOfMemory = codes "out of memory"

@@ -24,15 +24,18 @@ use Rattle.udfs_file.specs.declared.faults.NodeFault.{NodeFault}
 use Rattle.udfs_file.specs.declared.marks.Marks.{Marks}
 use Rattle.udfs_file.specs.declared.faults.NodeFault.TheVariants.{IdentifierTag, Name, Cut}
 
+-- the block that the first missing cell needs
 abbrev pub first_missing : List Cell → Option ℕ
 first_missing [] = None
 first_missing (Byte x holder ∷ cells) = first_missing cells
 first_missing (Gap n ∷ cells) = Some n
 
+-- a cell's byte; 0 where it is missing
 abbrev pub value : Cell → ℕ
 value (Byte x holder) = x
 value (Gap n) = 0
 
+-- the block that holds the first cell's byte
 abbrev pub holder_of : List Cell → Option ℕ
 holder_of [] = None
 holder_of (Byte x holder ∷ cells) = holder
@@ -42,6 +45,7 @@ holder_of (Gap n ∷ cells) = None
 abbrev pub identifier_size : List ℕ → ℕ
 identifier_size bytes = 4 * ((uint8_at bytes 19 + uint16_at bytes 36 + 41) / 4)
 
+-- a step, unless a block is missing before it
 abbrev pub or_stop : Option ℕ → Step → Step
 or_stop None step = step
 or_stop (Some n) step = AtRest (Stopped n)
@@ -54,6 +58,7 @@ is_listed bytes = uint8_at bytes 18 / 4 % 4 == 0
 abbrev pub marks_of : ℕ → Marks
 marks_of byte = record { 0 = byte % 32 }
 
+-- the entry in a descriptor, by what its name is read as
 abbrev pub entry_with : ℕ → List ℕ → Result (List ℕ) NameFault → Step
 entry_with size bytes (Ok units) = One (record {
   size = size;
@@ -73,10 +78,12 @@ checked_identifier None bytes = AtRest (Wrong IdentifierTag)
 checked_identifier (Some b) bytes =
     cond (is_valid bytes b 257) (identifier_in (length bytes) bytes) (AtRest (Wrong IdentifierTag))
 
+-- the descriptor of this size at the front of the cells, or what ends the directory there
 abbrev pub sized_identifier : List Cell → ℕ → Step
 sized_identifier cells size = cond (nat_lt 2048 size || nat_lt (length cells) size) (AtRest (Wrong Cut))
     (or_stop (first_missing (take size cells)) (checked_identifier (holder_of cells) (map value (take size cells))))
 
+-- the descriptor at the front of cells of which there is one, or what ends the directory there
 abbrev pub some_step : List Cell → Step
 some_step cells = cond (nat_lt (length cells) 38) (AtRest (Wrong Cut))
     (or_stop (first_missing (take 38 cells)) (sized_identifier cells (identifier_size (map value (take 38 cells)))))
@@ -91,10 +98,12 @@ abbrev pub ReadsAs : List Cell → List Identifier → Rest → Type 0
 ReadsAs cells [] rest = step cells ≡ AtRest rest
 ReadsAs cells (id ∷ ids) rest = (step cells ≡ One id) × ReadsAs (drop id.size cells) ids rest
 
+-- the descriptors of a directory, and what ends them
 pub record DirectoryText : Type 0 where
   pub identifiers : List Identifier
   pub rest : Rest
 
+-- a descriptor and those behind it, or the end
 abbrev pub read_on : Step → (ℕ → DirectoryText) → DirectoryText
 read_on (AtRest rest) later = record { identifiers = []; rest = rest }
 read_on (One id) later = let more = later id.size in record { identifiers = id ∷ more.identifiers; rest = more.rest }
@@ -104,12 +113,15 @@ abbrev pub read_from : ℕ → List Cell → DirectoryText
 read_from zero cells = record { identifiers = []; rest = Nothing }
 read_from (suc n) cells = read_on (step cells) (λ size. read_from n (drop size cells))
 
+-- the descriptors of a directory's cells, as far as they can be told
 unfoldable pub directory : List Cell → DirectoryText
 directory cells = read_from (length cells + 1) cells
 
+-- the entries of descriptors that are neither deleted nor the parent's
 abbrev pub listed_entries : List Identifier → List DirEntry
 listed_entries ids = filter_map (λ id. id.listed) ids
 
+-- the entries that a directory lists, as far as they can be told
 abbrev pub entries_of : List Cell → List DirEntry
 entries_of cells = listed_entries (directory cells).identifiers
 
@@ -119,6 +131,7 @@ missing_in Nothing = None
 missing_in (Stopped n) = Some n
 missing_in (Wrong fault) = None
 
+-- the fault that ended a directory, if one did
 abbrev pub fault_in : Rest → Option NodeFault
 fault_in Nothing = None
 fault_in (Stopped n) = None

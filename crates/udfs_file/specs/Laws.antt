@@ -29,6 +29,7 @@ IsCellOf (Gap n) whole = ⊤
 abbrev pub IsBeginningOf : {A : Type 0} → List A → List A → Type 0
 IsBeginningOf {A} xs ys = (rest : List A) × (ys ≡ xs ++ rest)
 
+-- the cell at place k is missing
 abbrev pub IsMissingAt : List Cell → ℕ → Type 0
 IsMissingAt cs k = (n : ℕ) × (slice_get cs k ≡ Some (Gap n))
 

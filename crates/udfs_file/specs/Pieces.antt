@@ -16,9 +16,11 @@ use Rattle.udfs_file.specs.declared.stretches.Stretch.TheVariants.{Recorded, Zer
 use Rattle.udfs_file.specs.Fronts.{first_missing, holder_of, value}
 use Rattle.udfs_file.specs.Stretches.{stretch_count}
 
+-- bytes that one block holds, as cells
 abbrev pub byte_cells : Option ℕ → List ℕ → List Cell
 byte_cells holder bytes = map (λ x. Byte x holder) bytes
 
+-- a piece is the front of the cells, as far as one block goes
 abbrev pub IsPieceOf : Piece → List Cell → Type 0
 IsPieceOf (piece.Bytes bytes holder) cells = cells ≡ byte_cells holder bytes.now
 IsPieceOf (piece.Gap n) cells = (rest : List Cell) × (cells ≡ Gap n ∷ rest)
@@ -52,6 +54,7 @@ pub record AreBytes (view : Pieces) (cells : List Cell) : Type 0 where
   pub values : map value cells ≡ view.first.now ++ view.second.now
   pub holder : holder_of cells ≡ view.holder
 
+-- what was taken from the front of the cells: their bytes, or the first missing block
 abbrev pub IsTaken : Front → List Cell → Type 0
 IsTaken (front.Bytes view) cells = AreBytes view cells
 IsTaken (front.Gap n) cells = first_missing cells ≡ Some n

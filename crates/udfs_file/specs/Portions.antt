@@ -18,19 +18,23 @@ IsUnread Unknown = ⊤
 IsUnread (Known bytes) = ⊥
 IsUnread Conflict = ⊤
 
+-- a block stands at place n, and is not known
 abbrev pub IsUnreadAt : Option (ℕ × State) → ℕ → Type 0
 IsUnreadAt None n = ⊥
 IsUnreadAt (Some block) n = (block.0 ≡ n) × IsUnread block.1
 
+-- how many cells a portion has
 abbrev pub portion_count : Portion → ℕ
 portion_count (Bytes bytes) = length bytes.now
 portion_count (Zeros count) = count
 portion_count (Missing run) = run.count
 
+-- the cells of so many blocks that are not known, from block n on, of each at least one
 abbrev pub AreUnread : ℕ → ℕ → List Cell → Type 0
 AreUnread n zero cs = cs ≡ []
 AreUnread n (suc k) cs = (more : ℕ) × (rest : List Cell) × (cs ≡ replicate (suc more) (Gap n) ++ rest) × AreUnread (n + 1) k rest
 
+-- these are the cells of the portion
 abbrev pub IsPortion : Portion → List Cell → Type 0
 IsPortion (Bytes bytes) cs = (holder : Option ℕ) × (cs ≡ byte_cells holder bytes.now)
 IsPortion (Zeros count) cs = cs ≡ replicate count (Byte 0 None)
@@ -43,5 +47,6 @@ pub record IsFirst (p : Portion) (s t : List Cell) : Type 0 where
   pub portion : IsPortion p (take (portion_count p) s)
   pub rest : t ≡ drop (portion_count p) s
 
+-- the next portion was taken from the front of the cells, or none was left
 abbrev pub GivesPortion : List Cell → Option Portion → List Cell → Type 0
 GivesPortion s r t = MatchOption r ((s ≡ []) × (t ≡ [])) (λ p. IsFirst p s t)

@@ -48,9 +48,11 @@ file_set_block = patched ((0, tag 0 1 3 0 0) ∷ (400, 0 ∷ 8 ∷ 0 ∷ 0 ∷ 1
 abbrev pub root_block : Bytes
 root_block = patched ((0, tag 5 1 9 1 0) ∷ (20, 4 ∷ []) ∷ (27, 4 ∷ []) ∷ (56, 0x78 ∷ []) ∷ (84, stamp) ∷ (172, 8 ∷ []) ∷ (176, 0x78 ∷ 0 ∷ 0 ∷ 0 ∷ 2 ∷ []) ∷ [])
 
+-- the entry of the sample's file A, of 5000 bytes in three blocks
 abbrev pub a_block : Bytes
 a_block = patched ((0, tag 5 1 0x0B 3 0) ∷ (20, 4 ∷ []) ∷ (27, 5 ∷ []) ∷ (56, 0x88 ∷ 0x13 ∷ []) ∷ (84, stamp) ∷ (172, 8 ∷ []) ∷ (176, 0x88 ∷ 0x13 ∷ 0 ∷ 0 ∷ 5 ∷ []) ∷ [])
 
+-- the entry of the sample's file B, which holds its two bytes itself
 abbrev pub b_block : Bytes
 b_block = patched ((0, tag 5 1 0x0C 4 0) ∷ (20, 4 ∷ []) ∷ (27, 5 ∷ []) ∷ (34, 3 ∷ []) ∷ (56, 2 ∷ []) ∷ (84, stamp) ∷ (172, 2 ∷ []) ∷ (176, 0x48 ∷ 0x69 ∷ []) ∷ [])
 
@@ -72,6 +74,7 @@ icb_at block = record { kind = 0; length = 2048; block = block; reference = 0 }
 abbrev pub sample_root : LongAd
 sample_root = icb_at 1
 
+-- the sample's blocks are blocks, and its file set names its root
 abbrev pub SampleFileSet : Type 0
 SampleFileSet = ((n : ℕ) → IsBlock (sample_contents n)) × (file_set sample_view sample_layout.file_set ≡ found sample_root)
 
@@ -91,12 +94,15 @@ pub record IsSampleFile (a : LongAd) (kind : Kind) (cs : List Cell) : Type 0 whe
 abbrev pub cells_in : ℕ → Bytes → List Cell
 cells_in block bytes = map (λ x. Byte x (Some block)) bytes
 
+-- the cells of the sample's root
 abbrev pub root_cells : List Cell
 root_cells = cells_in 2 (take 120 directory_block)
 
+-- the cells of the sample's file A
 abbrev pub a_cells : List Cell
 a_cells = cells_in 5 (replicate 2048 0x61) ++ cells_in 6 (replicate 2048 0x62) ++ cells_in 7 (replicate 904 0x63)
 
+-- the cells of the sample's file B
 abbrev pub b_cells : List Cell
 b_cells = cells_in 4 (0x48 ∷ 0x69 ∷ [])
 

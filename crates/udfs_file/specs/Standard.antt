@@ -29,9 +29,11 @@ pub record IsFileSetAt (blocks : ℕ → ℕ → Option Bytes) (a root : LongAd)
 abbrev pub Located : Type 0
 Located = ℕ × Option ℕ
 
+-- bytes with the block that holds them
 abbrev pub located : ℕ → Bytes → List Located
 located b bytes = map (λ x. (x, Some b)) bytes
 
+-- the bytes of a block with the block that holds them
 abbrev pub block_bytes : ℕ → Option Bytes → List Located
 block_bytes b None = []
 block_bytes b (Some bytes) = located b bytes
@@ -42,6 +44,7 @@ extent_bytes blocks d = cond (nat_eq d.kind 0)
     (take d.length (flat_map (λ b. block_bytes b (blocks d.reference b)) (range_with_len d.block (blocks_in d.length))))
     (replicate d.length (0, None))
 
+-- the allocation descriptors of an area, up to the first of type 3
 abbrev pub extents_in : ℕ → ℕ → Bytes → List LongAd
 extents_in form r area = take_while (λ d. not (nat_eq d.kind 3)) (descriptors_in form r area)
 
@@ -72,6 +75,7 @@ pub record IsExtentOf (blocks : ℕ → ℕ → Option Bytes) (c size : ℕ) (d 
       → (bytes : Bytes) × (blocks d.reference (d.block + j) ≡ Some bytes)
   pub full : c + d.length < size → d.length % 2048 ≡ 0
 
+-- each descriptor is a good extent of a body of this size, from byte c on
 abbrev pub AreExtentsOf : (ℕ → ℕ → Option Bytes) → ℕ → ℕ → List LongAd → Type 0
 AreExtentsOf blocks c size [] = ⊤
 AreExtentsOf blocks c size (d ∷ ds) = IsExtentOf blocks c size d × AreExtentsOf blocks (c + d.length) size ds
@@ -93,6 +97,7 @@ pub record IsEmbeddedBody (b : ℕ) (e : EntryFields) (body : List Located) : Ty
   pub enough : e.size ≤ length e.area
   pub is : body ≡ located b (take e.size e.area)
 
+-- these are the bytes of an entry's body, as the standard reads them
 abbrev pub IsBodyOf : (ℕ → ℕ → Option Bytes) → ℕ → ℕ → EntryFields → List Located → Type 0
 IsBodyOf blocks r b e body = cond (nat_eq e.form 3) (IsEmbeddedBody b e body) (IsExtentsBody blocks r e body)
 

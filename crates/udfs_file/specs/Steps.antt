@@ -13,6 +13,7 @@ use Rattle.udfs_file.specs.declared.cursors.Step.{Step}
 use Rattle.udfs_file.specs.declared.cursors.Step.TheVariants.{Id, Stop, Fault, End}
 use Rattle.udfs_file.specs.declared.pieces.Pieces.{Pieces}
 
+-- the bytes of both pieces
 abbrev pub bytes_of : Pieces → List ℕ
 bytes_of view = view.first.now ++ view.second.now
 
@@ -23,6 +24,7 @@ pub record IsDescriptor (bytes : List ℕ) (id : Identifier) : Type 0 where
   pub size : id.size ≡ length bytes
   pub is : identifier_in (length bytes) bytes ≡ One id
 
+-- the step of the code is the one of the definitions
 abbrev pub StepIs : Step → identifiers.Step → Type 0
 StepIs (Id view) s = (id : Identifier) × IsDescriptor (bytes_of view) id × (s ≡ One id)
 StepIs (Stop n) s = s ≡ AtRest (Stopped n)
@@ -36,6 +38,7 @@ left_behind (Stop n) before = before
 left_behind (Fault fault) before = before
 left_behind End before = before
 
+-- a cursor told the step of the cells before, and what is behind it is left
 pub record IsStep (before : List Cell) (told : Step) (after : List Cell) : Type 0 where
   pub is : StepIs told (step before)
   pub behind : after ≡ left_behind told before

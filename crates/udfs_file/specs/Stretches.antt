@@ -19,11 +19,13 @@ use Rattle.udfs_file.specs.declared.stretches.Follow.TheVariants.{Area, Unread, 
 use Rattle.udfs_file.specs.declared.faults.WalkError.{WalkError}
 use Rattle.udfs_file.specs.declared.faults.WalkError.TheVariants.{Fault, OutOfMemory}
 
+-- the cells of a stretch
 abbrev pub stretch_cells : View → Stretch → List Cell
 stretch_cells view (Recorded run count) = map (recorded_cell view run.reference run.block) (range_with_len run.offset count)
 stretch_cells view (Zeros count) = replicate count (Byte 0 None)
 stretch_cells view (Missing n count) = replicate count (Gap n)
 
+-- the cells of stretches, one after the other
 unfoldable pub cells_of : View → List Stretch → List Cell
 cells_of view stretches = flat_map (stretch_cells view) stretches
 
@@ -59,6 +61,7 @@ pub record IsExtent (view : View) (size c : ℕ) (d : LongAd) (s : Stretch) : Ty
   pub last : IsLast s
   pub fills : c + stretch_count s < size → FillsBlocks s
 
+-- an extent was read as its stretch, or refused for its first fault
 abbrev pub IsExtentRead : Result Stretch NodeFault → View → ℕ → ℕ → LongAd → Type 0
 IsExtentRead (Ok s) view size c d = IsExtent view size c d s
 IsExtentRead (Err fault) view size c d = extent_fault view size (c, d) ≡ Some fault
@@ -75,6 +78,7 @@ IsFollowed (Area bytes) is_last = (length bytes.now ≤ 2048) × (is_last ≡ fa
 IsFollowed (Unread n) is_last = Unit {0}
 IsFollowed (Broken fault) is_last = Unit {0}
 
+-- an area of allocation descriptors lies within a block
 abbrev pub FitsArea : Follow → Type 0
 FitsArea (Area bytes) = length bytes.now ≤ 2048
 FitsArea (Unread n) = Unit {0}

@@ -45,6 +45,7 @@ pub record IsFileSetTold (some all : View) (a root : LongAd) (told : Seen LongAd
   pub root_or_hole : IsRootOf some block root told
   pub standard : (blocks : ℕ → ℕ → Option Bytes) → IsWhole all blocks → IsReadFileSet blocks a root
 
+-- over a part of each view in which the file set names a root, what is told is told of that root
 abbrev pub TellsFileSet : View → LongAd → Seen LongAd → Type 0
 TellsFileSet some a told = (all : View) → IsPartOf some all → (root : LongAd) → file_set all a ≡ found root
     → IsFileSetTold some all a root told
@@ -66,6 +67,7 @@ IsBodyTold some all r b entry whole (Ok stretches) = IsBodyPart some all r b ent
 IsBodyTold some all r b entry whole (Err (walk_error.Fault fault)) = ⊥
 IsBodyTold some all r b entry whole (Err walk_error.OutOfMemory) = ⊤
 
+-- over a part of each view in which the body has no fault, what is told is told of that body
 abbrev pub TellsBody : View → ℕ → ℕ → EntryFields → Result (List Stretch) WalkError → Type 0
 TellsBody some r b entry told = (all : View) → IsPartOf some all → (whole : List Cell) → body all r b entry ≡ cells whole
     → IsBodyTold some all r b entry whole told
@@ -87,5 +89,6 @@ pub record IsFrontPart (part whole : List Cell) (front : DirFront) : Type 0 wher
   pub standard : (bytes : List Located) → whole ≡ as_cells bytes → (directory whole).rest ≡ Nothing
       → (ids : List Identifier) × IsReadDirectory bytes ids × (entries_of whole ≡ listed_entries ids)
 
+-- of each whole of which these cells are a part, the front is a part of its directory
 abbrev pub TellsFront : List Cell → DirFront → Type 0
 TellsFront part front = (whole : List Cell) → AllZip IsCellOf part whole → IsFrontPart part whole front

@@ -10,6 +10,7 @@ use Rattle.std.specs.Prelude.{◌≡◌, ◌≢◌, ◌⊎◌, ℕ, ◌+◌, ◌
 abbrev pub Disk : Type 0
 Disk = List ℕ → Option (List ℕ)
 
+-- all paths hold the same
 abbrev pub Same : Disk → Disk → Type 0
 Same d c = (q : List ℕ) → c q ≡ d q
 
@@ -50,6 +51,7 @@ pub record Goes {F : Type 0} (moment : F → ℕ) (may_leave : F → Disk → Ty
 abbrev pub Fails : {X : Type 0} → (X → ℕ) → Type 0
 Fails {X} faults = (before : X) × (after : X) × (faults after ≡ (faults before + 1) % 2 ^ 64)
 
+-- whether a path has a separator
 abbrev pub has_slash : List ℕ → Bool
 has_slash [] = false
 has_slash (x ∷ xs) = if nat_eq x 47 then true else has_slash xs

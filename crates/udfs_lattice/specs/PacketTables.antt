@@ -19,12 +19,15 @@ found_packet (Some t) = t
 abbrev pub packet_at : List (ℕ × Table) → ℕ → Table
 packet_at ps k = found_packet (lookup (is_at (nat_cmp k)) ps)
 
+-- what the packets hold of block n
 abbrev pub held_in : List (ℕ × Table) → ℕ → Option Held
 held_in ps n = fin.get (packet_at ps (n / 32)) (n % 32)
 
+-- the table in which block n has the state of place n % 32 of packet n / 32
 unfoldable pub table_packets : List (ℕ × Table) → Table
 table_packets ps = table_below (held_in ps) 4194304
 
+-- what the one packet of number k holds of block n
 abbrev pub held_in_one : ℕ → Table → ℕ → Option Held
 held_in_one k t n = cond (n / 32 == k) (fin.get t (n % 32)) None
 
@@ -37,6 +40,7 @@ abbrev pub IsPacketFound : ℕ → Option Table → Type 0
 IsPacketFound k None = Unit {0}
 IsPacketFound k (Some t) = (k < 131072) × IsPacketTable t
 
+-- each number has at most one packet, and that packet is one that there can be
 abbrev pub ArePackets : List (ℕ × Table) → Type 0
 ArePackets ps = (k : ℕ) → IsPacketFound k (lookup (is_at (nat_cmp k)) ps)
 
@@ -67,6 +71,7 @@ abbrev pub entries_here : Option (ℕ × Bor Table) → ℕ → List (ℕ × Sta
 entries_here None at = []
 entries_here (Some p) at = block_entries p.0 (entries_left p.1.now at)
 
+-- a packet that is found has a number below 131072
 abbrev pub IsHere : Option (ℕ × Bor Table) → Type 0
 IsHere None = Unit {0}
 IsHere (Some p) = p.0 < 131072

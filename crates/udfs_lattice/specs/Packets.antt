@@ -49,6 +49,7 @@ unfoldable pub table_below : (ℕ → Option Held) → ℕ → Table
 table_below f zero = fin.empty
 table_below f (suc n) = add_found (table_below f n) n (f n)
 
+-- the table of a packet's 32 places, by its two masks and its known blocks in order
 unfoldable pub table_packet : ℕ → ℕ → List (List ℕ) → Table
 table_packet known conflict blocks = table_below (held_at known conflict blocks) 32
 

@@ -14,16 +14,20 @@ use Rattle.udfs_lattice.specs.States.{State, IsBelow, join_of, IsBlock, is_known
 abbrev pub Held : Type 0
 Held = Option (List ℕ)
 
+-- from block numbers to bytes, or to "in conflict"; a block that is not in it is Unknown
 abbrev pub Table : Type 0
 Table = fin.FinMap nat_cmp Held
 
+-- a table as a number, so that two tables can be told apart by computing
 abbrev pub table_code : Coded Table
 table_code = fin.code coded_ℕ (coded_option (coded_list coded_ℕ))
 
+-- the state of a block that the table holds
 abbrev pub fact_held : Held → State
 fact_held (Some bytes) = Known bytes
 fact_held None = Conflict
 
+-- the state of a block, held by the table or not
 abbrev pub fact_found : Option Held → State
 fact_found None = Unknown
 fact_found (Some held) = fact_held held

@@ -36,6 +36,7 @@ pub record Agrees (blocks : Blocks) (volume : Volume) (last : ℕ) : Type 0 wher
 
 -- ---- several blocks
 
+-- the block n with its bytes where its state is Known, and else what is found later
 abbrev pub first_known_by : ℕ → State → Option (ℕ × List ℕ) → Option (ℕ × List ℕ)
 first_known_by n Unknown later = later
 first_known_by n (Known bytes) later = Some (n, bytes)
@@ -50,6 +51,7 @@ first_known blocks (n ∷ ns) = first_known_by n (blocks n) (first_known blocks 
 abbrev pub not_known : Blocks → List ℕ → List ℕ
 not_known blocks ns = filter (λ n. not (is_known (blocks n))) ns
 
+-- the block n is Known
 abbrev pub IsKnownAt : Blocks → ℕ → Type 0
 IsKnownAt blocks n = (bytes : List ℕ) × (blocks n ≡ Known bytes)
 
@@ -57,6 +59,7 @@ IsKnownAt blocks n = (bytes : List ℕ) × (blocks n ≡ Known bytes)
 abbrev pub IsUnread : Blocks → List ℕ → Type 0
 IsUnread blocks group = (n : ℕ) → Includes group n → is_known (blocks n) ≡ false
 
+-- n in its place in a rising list, unless it is there
 abbrev pub insert_once : ℕ → List ℕ → List ℕ
 insert_once n [] = n ∷ []
 insert_once n (m ∷ ms) = cond (nat_lt n m) (n ∷ m ∷ ms) (cond (n == m) (m ∷ ms) (m ∷ insert_once n ms))

@@ -8,6 +8,7 @@ use Rattle.udfs_memory.specs.declared.memory.Event.{Event}
 use Rattle.udfs_memory.specs.declared.memory.Event.TheVariants.{Begun, Written, Renamed, Removed, Named}
 use Rattle.udfs_memory.specs.Log.{held, kept, outcome}
 
+-- bytes as they are now, if there are any
 abbrev pub option_now : Option (Bor (List ℕ)) → Option (List ℕ)
 option_now None = None
 option_now (Some b) = Some b.now
@@ -25,6 +26,7 @@ brought these held d p = if these p then held p else d p
 abbrev pub beside : List ℕ → List ℕ → Bool
 beside q p = bytes_eq (folder_of p) (folder_of q)
 
+-- what each path holds after the harshest crash: only what was synced
 abbrev pub lost : List Event → Disk
 lost [] p = None
 lost (Begun q ∷ es) p = lost es p

@@ -13,6 +13,7 @@ begins_with_pair (u ∷ v ∷ us) = is_high_surrogate u && is_low_surrogate v
 abbrev pub front_len : List ℕ → ℕ
 front_len units = if begins_with_pair units then 2 else 1
 
+-- the character of the first unit, or of the surrogate pair that the units begin with
 abbrev pub front_chars : List ℕ → List ℕ
 front_chars units =
     if begins_with_pair units then surrogate_pair_char (slice_index units 0) (slice_index units 1) ∷ []

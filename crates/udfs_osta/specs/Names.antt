@@ -35,6 +35,7 @@ abbrev pub units_of : List ℕ → Result (List ℕ) NameFault
 units_of [] = Err Empty
 units_of (kind ∷ rest) = if kind == 8 || kind == 16 then units_after kind rest else Err Compression
 
+-- the fault of a name that has one
 abbrev pub fault_of : Result (List ℕ) NameFault → Option NameFault
 fault_of (Ok units) = None
 fault_of (Err fault) = Some fault

@@ -38,9 +38,11 @@ days_before_1970 = 719_528
 abbrev pub two_digits : ℕ → List ℕ
 two_digits n = (48 + n / 10) ∷ (48 + n % 10) ∷ []
 
+-- a number below 10000 in four decimal digits
 abbrev pub four_digits : ℕ → List ℕ
 four_digits n = two_digits (n / 100) ++ two_digits (n % 100)
 
+-- a number below 1000000 in six decimal digits
 abbrev pub six_digits : ℕ → List ℕ
 six_digits n = two_digits (n / 10000) ++ two_digits (n / 100 % 100) ++ two_digits (n % 100)
 
@@ -76,6 +78,7 @@ abbrev pub is_shown : ℤ → Bool
 is_shown micros =
     int_le (neg_ℤ (pos 62_167_219_200_000_000)) micros && int_le micros (pos 253_402_207_200_999_999)
 
+-- the moment has a text: it lies in the years that can be printed
 abbrev pub IsShown : Stamp → Type 0
 IsShown (Utc micros) = is_shown micros ≡ true
 IsShown (Local micros) = is_shown micros ≡ true

@@ -13,6 +13,7 @@ number n = little_bytes 4 n
 unfoldable pub value_of : List ℕ → ℕ
 value_of bytes = little_number 4 bytes
 
+-- a file's first 16 bytes: its magic, the block size and the count of its records
 abbrev pub header : List ℕ → ℕ → List ℕ
 header magic count = magic ++ number 2048 ++ number count
 
@@ -40,30 +41,35 @@ pub data Spot (P : Type 0) : Type 0 where
   AtCount : Spot P
   In : P → Spot P
 
+-- the place is one of the format
 abbrev pub IsSpot : (F : Format) → Spot F.Place → Type 0
 IsSpot F AtMagic = Unit {0}
 IsSpot F AtBlockSize = Unit {0}
 IsSpot F AtCount = Unit {0}
 IsSpot F (In place) = F.IsPlace place
 
+-- the bytes before a place, without a fault
 abbrev pub before : (F : Format) → Spot F.Place → List ℕ
 before F AtMagic = []
 before F AtBlockSize = F.magic
 before F AtCount = F.magic ++ number 2048
 before F (In place) = F.before place
 
+-- the record of a place; that of the header is 0
 abbrev pub record_of : (F : Format) → Spot F.Place → ℕ
 record_of F AtMagic = 0
 record_of F AtBlockSize = 0
 record_of F AtCount = 0
 record_of F (In place) = F.record_of place
 
+-- how many bytes the field at a place has
 abbrev pub size_of : (F : Format) → Spot F.Place → ℕ
 size_of F AtMagic = 8
 size_of F AtBlockSize = 4
 size_of F AtCount = 4
 size_of F (In place) = F.size_of place
 
+-- the whole field at a place breaks its rule, which is this fault
 abbrev pub Breaks : (F : Format) → Spot F.Place → List ℕ → ReadingFault → Type 0
 Breaks F AtMagic rest Magic = take 8 rest ≢ F.magic
 Breaks F AtBlockSize rest BlockSize = value_of rest ≢ 2048

@@ -18,6 +18,7 @@ IsUnnamed bytes Truncated number = (length bytes < 8) × (number ≡ 0)
 IsUnnamed bytes Magic number = (8 ≤ length bytes) × (number ≡ 0)
 IsUnnamed bytes fault number = ⊥
 
+-- bytes that name no format: none of them is a file
 abbrev pub unnamed : Kind
 unnamed = record { IsFile = λ bytes count table. ⊥; IsFaulty = IsUnnamed }
 
@@ -47,6 +48,7 @@ tables = files false
 abbrev pub inputs : Kind
 inputs = files true
 
+-- the kind of file that a call accepts
 abbrev pub kind_accepted : Accepted → Kind
 kind_accepted accepted.Readings = readings
 kind_accepted accepted.Tables = tables

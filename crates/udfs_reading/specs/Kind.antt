@@ -4,6 +4,7 @@ use Rattle.udfs_lattice.specs.Tables.{Table}
 use Rattle.udfs_reading.specs.declared.error.ReadingFault.{ReadingFault}
 use Rattle.udfs_reading.specs.Format.{Format, HasFault}
 
+-- which bytes are a file of a kind, and which first fault any other bytes have
 pub record Kind : Type 1 where
   -- the bytes are a file of this many records, and this is its table
   pub IsFile : List ℕ → ℕ → Table → Type 0

@@ -6,6 +6,7 @@ use Rattle.udfs_lattice.specs.States.{State, is_known, is_conflict}
 use Rattle.udfs_lattice.specs.Tables.{Table, state_of}
 use Rattle.udfs_reading.specs.Format.{number, header}
 
+-- the first eight bytes of a table file of version 2
 unfoldable pub packet_magic : List ℕ
 packet_magic = codes "UDFTABL2"
 

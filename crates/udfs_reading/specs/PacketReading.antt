@@ -63,6 +63,7 @@ packets_front count qs = header packet_magic count ++ flat_map packet_bytes qs
 
 -- ---- a file with a fault
 
+-- where a field begins behind the header of a table file of version 2, or its end is due
 pub data PacketPlace : Type 0 where
   -- the number of the next of `count` packets, after these
   AtPacket : (count : ℕ) → (done : List Packet) → PacketPlace
@@ -72,6 +73,7 @@ pub data PacketPlace : Type 0 where
   AtBlocks : (count : ℕ) → (done : List Packet) → (p : ℕ) → (known : ℕ) → (conflict : ℕ) → PacketPlace
   AtPacketsEnd : (done : List Packet) → PacketPlace
 
+-- packets are still to come, behind these
 pub record IsUnderPackets (count : ℕ) (done : List Packet) : Type 0 where
   pub more : length done < count
   pub fits : count < 2 ^ 32
@@ -81,30 +83,35 @@ pub record IsUnderPackets (count : ℕ) (done : List Packet) : Type 0 where
 abbrev pub IsNextPacket : ℕ → List Packet → ℕ → Type 0
 IsNextPacket count done p = IsUnderPackets count done × (low_after 0 done ≤ p) × (p ≤ 131071)
 
+-- the place is one that there is: what stands before it has no fault
 abbrev pub IsPacketPlace : PacketPlace → Type 0
 IsPacketPlace (AtPacket count done) = IsUnderPackets count done
 IsPacketPlace (AtMasks count done p) = IsNextPacket count done p
 IsPacketPlace (AtBlocks count done p known conflict) = IsNextPacket count done p × (known < 2 ^ 32) × (conflict < 2 ^ 32) × AreMasks known conflict
 IsPacketPlace (AtPacketsEnd done) = (length done < 2 ^ 32) × PacketsRise 0 done
 
+-- the bytes before a place
 abbrev pub before_packet_place : PacketPlace → List ℕ
 before_packet_place (AtPacket count done) = packets_front count done
 before_packet_place (AtMasks count done p) = packets_front count done ++ number p
 before_packet_place (AtBlocks count done p known conflict) = packets_front count done ++ (number p ++ (number known ++ number conflict))
 before_packet_place (AtPacketsEnd done) = packets_front (length done) done
 
+-- the record of a place: the next one, and at the end the last
 abbrev pub record_of_packet_place : PacketPlace → ℕ
 record_of_packet_place (AtPacket count done) = length done + 1
 record_of_packet_place (AtMasks count done p) = length done + 1
 record_of_packet_place (AtBlocks count done p known conflict) = length done + 1
 record_of_packet_place (AtPacketsEnd done) = length done
 
+-- how many bytes the field at a place has
 abbrev pub size_of_packet_place : PacketPlace → ℕ
 size_of_packet_place (AtPacket count done) = 4
 size_of_packet_place (AtMasks count done p) = 8
 size_of_packet_place (AtBlocks count done p known conflict) = size_of_blocks known
 size_of_packet_place (AtPacketsEnd done) = 0
 
+-- the whole field at a place breaks its rule, which is this fault
 abbrev pub BreaksPacket : PacketPlace → List ℕ → ReadingFault → Type 0
 BreaksPacket (AtPacket count done) rest fault.BlockNumber = 131071 < value_of rest
 BreaksPacket (AtPacket count done) rest fault.Order = (value_of rest ≤ 131071) × (value_of rest < low_after 0 done)
@@ -112,6 +119,7 @@ BreaksPacket (AtMasks count done p) rest fault.State = Clash (value_of rest) (va
 BreaksPacket (AtPacketsEnd done) rest fault.Trailing = 0 < length rest
 BreaksPacket place rest f = ⊥
 
+-- table files of version 2, as a format
 abbrev pub packet_format : Format
 packet_format = record {
   magic = packet_magic;
@@ -124,6 +132,7 @@ packet_format = record {
   IsFile = λ bytes count table. IsPacketFile bytes table × (count ≡ length (packets_of table));
 }
 
+-- table files of version 2
 abbrev pub tables_v2 : Kind
 tables_v2 = kind packet_format
 
@@ -135,10 +144,12 @@ entry_at n Unknown = []
 entry_at n (Known bytes) = (n, Known bytes) ∷ []
 entry_at n Conflict = (n, Conflict) ∷ []
 
+-- the entries of states, the first of which is that of block n
 abbrev pub listed : ℕ → List State → List (ℕ × State)
 listed n [] = []
 listed n (s ∷ ss) = entry_at n s ++ listed (n + 1) ss
 
+-- the entries of a packet
 abbrev pub packet_entries : Packet → List (ℕ × State)
 packet_entries q = listed (32 * q.0) q.1
 

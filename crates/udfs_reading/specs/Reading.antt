@@ -10,6 +10,7 @@ use Rattle.udfs_reading.specs.declared.error.ReadingFault.TheVariants.{BlockNumb
 use Rattle.udfs_reading.specs.Format.{number, value_of, header, Format}
 use Rattle.udfs_reading.specs.Kind.{Kind, kind}
 
+-- the first eight bytes of a reading
 unfoldable pub magic : List ℕ
 magic = codes "UDFREAD1"
 
@@ -26,6 +27,7 @@ pub record IsRecord (r : Record) : Type 0 where
   pub number : r.0 ≤ 4194303
   pub block : IsBlock r.1
 
+-- each of these is a record that there can be
 abbrev pub AreRecords : List Record → Type 0
 AreRecords rs = AllByRecursion IsRecord rs
 
@@ -53,11 +55,13 @@ pub record IsUnder (count : ℕ) (done : List Record) : Type 0 where
   pub fits : count < 2 ^ 32
   pub each : AreRecords done
 
+-- the place is one that there is: what stands before it has no fault
 abbrev pub IsPlace : Place → Type 0
 IsPlace (AtBlock count done) = IsUnder count done
 IsPlace (AtBytes count done block) = IsUnder count done × (block ≤ 4194303)
 IsPlace (AtEnd done) = (length done < 2 ^ 32) × AreRecords done
 
+-- the bytes before a place
 abbrev pub before_place : Place → List ℕ
 before_place (AtBlock count done) = front count done
 before_place (AtBytes count done block) = front count done ++ number block
@@ -69,6 +73,7 @@ record_of_place (AtBlock count done) = length done + 1
 record_of_place (AtBytes count done block) = length done + 1
 record_of_place (AtEnd done) = length done
 
+-- how many bytes the field at a place has
 abbrev pub size_of_place : Place → ℕ
 size_of_place (AtBlock count done) = 4
 size_of_place (AtBytes count done block) = 2048
@@ -80,6 +85,7 @@ BreaksAt (AtBlock count done) rest BlockNumber = 4194303 < value_of rest
 BreaksAt (AtEnd done) rest Trailing = 0 < length rest
 BreaksAt place rest fault = ⊥
 
+-- readings, as a format
 abbrev pub reading_format : Format
 reading_format = record {
   magic = magic;

@@ -6,6 +6,7 @@ use Rattle.udfs_lattice.specs.States.{State}
 use Rattle.udfs_lattice.specs.Tables.{Table, entries_of}
 use Rattle.udfs_reading.specs.Format.{number, header}
 
+-- the first eight bytes of a table file of version 1
 unfoldable pub table_magic : List ℕ
 table_magic = codes "UDFTABL1"
 
@@ -15,9 +16,11 @@ state_bytes Unknown = []
 state_bytes (Known bytes) = 1 ∷ bytes
 state_bytes Conflict = 2 ∷ []
 
+-- an entry: the block's number, its state, and the bytes of a known block
 abbrev pub entry_bytes : ℕ × State → List ℕ
 entry_bytes e = number e.0 ++ state_bytes e.1
 
+-- the header of a table file of version 1 of so many entries
 abbrev pub table_header : ℕ → List ℕ
 table_header count = header table_magic count
 

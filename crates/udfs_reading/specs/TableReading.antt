@@ -27,6 +27,7 @@ pub record IsTableFile (bytes : List ℕ) (table : Table) : Type 0 where
 
 -- ---- a file with a fault
 
+-- where a field begins behind the header of a table file of version 1, or its end is due
 pub data TablePlace : Type 0 where
   -- the block number of the next of `count` entries, after these
   AtNumber : (count : ℕ) → (done : List (ℕ × State)) → TablePlace
@@ -36,29 +37,34 @@ pub data TablePlace : Type 0 where
   AtContent : (count : ℕ) → (done : List (ℕ × State)) → (block : ℕ) → TablePlace
   AtTableEnd : (done : List (ℕ × State)) → TablePlace
 
+-- entries are still to come, behind these
 pub record IsUnderEntries (count : ℕ) (done : List (ℕ × State)) : Type 0 where
   pub more : length done < count
   pub fits : count < 2 ^ 32
   pub each : RisesFrom 0 done
 
+-- the place is one that there is: what stands before it has no fault
 abbrev pub IsTablePlace : TablePlace → Type 0
 IsTablePlace (AtNumber count done) = IsUnderEntries count done
 IsTablePlace (AtState count done block) = IsUnderEntries count done × (floor_after 0 done ≤ block) × (block ≤ 4194303)
 IsTablePlace (AtContent count done block) = IsUnderEntries count done × (floor_after 0 done ≤ block) × (block ≤ 4194303)
 IsTablePlace (AtTableEnd done) = (length done < 2 ^ 32) × RisesFrom 0 done
 
+-- the bytes before a place
 abbrev pub before_table_place : TablePlace → List ℕ
 before_table_place (AtNumber count done) = entries_front count done
 before_table_place (AtState count done block) = entries_front count done ++ number block
 before_table_place (AtContent count done block) = entries_front count done ++ (number block ++ 1 ∷ [])
 before_table_place (AtTableEnd done) = entries_front (length done) done
 
+-- the record of a place: the next one, and at the end the last
 abbrev pub record_of_table_place : TablePlace → ℕ
 record_of_table_place (AtNumber count done) = length done + 1
 record_of_table_place (AtState count done block) = length done + 1
 record_of_table_place (AtContent count done block) = length done + 1
 record_of_table_place (AtTableEnd done) = length done
 
+-- how many bytes the field at a place has
 abbrev pub size_of_table_place : TablePlace → ℕ
 size_of_table_place (AtNumber count done) = 4
 size_of_table_place (AtState count done block) = 1
@@ -70,6 +76,7 @@ abbrev pub IsOtherState : List ℕ → Type 0
 IsOtherState [] = ⊥
 IsOtherState (b ∷ bytes) = (b ≢ 1) × (b ≢ 2)
 
+-- the whole field at a place breaks its rule, which is this fault
 abbrev pub BreaksTable : TablePlace → List ℕ → ReadingFault → Type 0
 BreaksTable (AtNumber count done) rest fault.BlockNumber = 4194303 < value_of rest
 BreaksTable (AtNumber count done) rest fault.Order = (value_of rest ≤ 4194303) × (value_of rest < floor_after 0 done)
@@ -77,6 +84,7 @@ BreaksTable (AtState count done block) rest fault.State = IsOtherState rest
 BreaksTable (AtTableEnd done) rest fault.Trailing = 0 < length rest
 BreaksTable place rest f = ⊥
 
+-- table files of version 1, as a format
 abbrev pub table_format : Format
 table_format = record {
   magic = table_magic;
@@ -89,6 +97,7 @@ table_format = record {
   IsFile = λ bytes count table. IsTableFile bytes table × (count ≡ length (entries_of table));
 }
 
+-- table files of version 1
 abbrev pub tables_v1 : Kind
 tables_v1 = kind table_format
 

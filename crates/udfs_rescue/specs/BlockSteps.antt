@@ -8,6 +8,7 @@ use Rattle.udfs_rescue.specs.declared.writing.Blocks.{Blocks}
 use Rattle.udfs_rescue.specs.declared.writing.Blocks.TheVariants.{Wanted, Of}
 use Rattle.udfs_rescue.specs.Writing.{wanted_status, table_status, joined_run, run_lines}
 
+-- the status of a block in the map that is written
 abbrev pub status_in : Blocks → ℕ → RunStatus
 status_in (Wanted list) n = wanted_status list.now n
 status_in (Of table) n = table_status table.now n

@@ -19,6 +19,7 @@ abbrev pub records_from : List ℕ → ℕ → ℕ → List Record
 records_from all n zero = []
 records_from all n (suc k) = (n, block_of all n) ∷ records_from all (n + 1) k
 
+-- the records of the blocks in some ranges, by the bytes of the image
 abbrev pub records_of : List ℕ → List BlockRange → List Record
 records_of all [] = []
 records_of all (r ∷ rs) = records_from all r.start (r.end - r.start) ++ records_of all rs

@@ -23,11 +23,13 @@ parts (a ∷ b ∷ c ∷ d ∷ ws) = None
 abbrev pub is_phase_byte : ℕ → Bool
 is_phase_byte b = b == 63 || (b == 42 || (b == 47 || (b == 45 || (b == 70 || (b == 71 || b == 43)))))
 
+-- whether a word is the letter of a phase
 abbrev pub is_phase : List ℕ → Bool
 is_phase [] = false
 is_phase (b ∷ []) = is_phase_byte b
 is_phase (b ∷ c ∷ bs) = false
 
+-- a position, if the pass behind it is no 0
 abbrev pub with_pass : Option ℕ → Option ℕ → Option ℕ
 with_pass None pass = None
 with_pass (Some n) None = None
@@ -38,6 +40,7 @@ abbrev pub status_by : Option (List ℕ × List ℕ × List ℕ) → Option ℕ
 status_by None = None
 status_by (Some w) = if not (is_phase w.1) then None else if length w.2 == 0 then number_of w.0 else with_pass (number_of w.0) (decimal_of w.2)
 
+-- the position that a status line tells, if it is one
 abbrev pub status_of : List (List ℕ) → Option ℕ
 status_of ws = status_by (parts ws)
 
@@ -52,21 +55,25 @@ run_status_byte b =
     if b == 45 then Some BadSector else
     if b == 43 then Some Finished else None
 
+-- the status that a word tells, if it does
 abbrev pub run_status : List ℕ → Option RunStatus
 run_status [] = None
 run_status (b ∷ []) = run_status_byte b
 run_status (b ∷ c ∷ bs) = None
 
+-- a run, if all three of its words are good
 abbrev pub run_by : Option ℕ → Option ℕ → Option RunStatus → Option Run
 run_by None size status = None
 run_by (Some at) None status = None
 run_by (Some at) (Some size) None = None
 run_by (Some at) (Some size) (Some status) = Some (record { at = at; size = size; status = status })
 
+-- the run that three words tell
 abbrev pub run_in : Option (List ℕ × List ℕ × List ℕ) → Option Run
 run_in None = None
 run_in (Some w) = run_by (number_of w.0) (number_of w.1) (run_status w.2)
 
+-- the run that a line's words tell
 abbrev pub run_of : List (List ℕ) → Option Run
 run_of ws = run_in (parts ws)
 
@@ -78,17 +85,21 @@ pub record Progress : Type 0 where
   pub due : Option ℕ
   pub runs : List Run
 
+-- before the first line
 abbrev pub nothing : Progress
 nothing = record { begun = false; due = None; runs = [] }
 
+-- whether a run begins where the last one ended
 abbrev pub is_due : Option ℕ → ℕ → Bool
 is_due None at = true
 is_due (Some due) at = due == at
 
+-- what has come after a status line, or its fault
 abbrev pub after_status : Progress → Option ℕ → Result Progress MapFault
 after_status p None = Err NotStatusLine
 after_status p (Some n) = if nat_lt n (2 ^ 63) then Ok (record { begun = true; due = p.due; runs = p.runs }) else Err TooLarge
 
+-- what has come after a run's line, or its fault
 abbrev pub after_run : Progress → Option Run → Result Progress MapFault
 after_run p None = Err NotRun
 after_run p (Some r) =
@@ -126,6 +137,7 @@ abbrev pub with_first : ℕ → List (List ℕ) → List (List ℕ)
 with_first b [] = (b ∷ []) ∷ []
 with_first b (line ∷ lines) = (b ∷ line) ∷ lines
 
+-- the lines of a text, which line feeds part
 abbrev pub lines_of : List ℕ → List (List ℕ)
 lines_of [] = [] ∷ []
 lines_of (b ∷ bs) = if b == 10 then [] ∷ lines_of bs else with_first b (lines_of bs)

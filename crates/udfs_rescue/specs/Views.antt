@@ -19,6 +19,7 @@ abbrev pub StepFails : StepError → Result Progress MapFault → Type 0
 StepFails step.OutOfMemory says = Unit {0}
 StepFails (step.Fault fault) says = says ≡ Err fault
 
+-- a step of the code is the one of the definitions
 abbrev pub Steps : {X : Type 0} → Progress → Result X StepError → Result Progress MapFault → Type 0
 Steps new (Ok x) says = says ≡ Ok new
 Steps new (Err e) says = StepFails e says
@@ -34,6 +35,7 @@ abbrev pub Parses : Result (List Run) MapError → Result (List Run) LineFault �
 Parses (Ok runs) says = says ≡ Ok runs
 Parses (Err e) says = Refuses e says
 
+-- why a map is refused: its device, or its first fault
 abbrev pub ReadFails : MapError → Result (List Run) LineFault → Type 0
 ReadFails errors.Io says = Unit {0}
 ReadFails e says = Refuses e says

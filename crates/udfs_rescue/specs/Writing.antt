@@ -15,6 +15,7 @@ abbrev pub wanted_status : List ℕ → ℕ → RunStatus
 wanted_status [] n = NonTried
 wanted_status (x ∷ xs) n = if x == n then Finished else wanted_status xs n
 
+-- the status of a block's state: `+` known, `-` in conflict, `?` unknown
 abbrev pub state_status : State → RunStatus
 state_status Unknown = NonTried
 state_status (Known bytes) = Finished
@@ -39,6 +40,7 @@ abbrev pub joined_run : Run → List Run → List Run
 joined_run r [] = r ∷ []
 joined_run r (s ∷ ss) = if status_byte r.status == status_byte s.status then record { at = r.at; size = r.size + s.size; status = r.status } ∷ ss else r ∷ s ∷ ss
 
+-- the run of one block
 abbrev pub block_run : (ℕ → RunStatus) → ℕ → Run
 block_run status n = record { at = 2048 * n; size = 2048; status = status n }
 
@@ -49,6 +51,7 @@ runs_of_blocks status n (suc k) = joined_run (block_run status n) (runs_of_block
 
 -- ---- their text
 
+-- a hexadecimal digit, in capitals
 abbrev pub hex_digit : ℕ → ℕ
 hex_digit d = if nat_lt d 10 then 48 + d else 55 + d
 
@@ -61,15 +64,19 @@ hex_digits (suc k) n = hex_digits k (n / 16) ++ hex_digit (n % 16) ∷ []
 abbrev pub places : ℕ → ℕ
 places n = if nat_lt n (2 ^ 32) then 8 else 9
 
+-- a position in bytes, in hexadecimal
 unfoldable pub position_text : ℕ → List ℕ
 position_text n = (48 ∷ 120 ∷ []) ++ hex_digits (places n) n
 
+-- what parts two words of a line
 abbrev pub gap : List ℕ
 gap = 32 ∷ 32 ∷ []
 
+-- the line of a run
 unfoldable pub run_line : Run → List ℕ
 run_line r = position_text r.at ++ gap ++ position_text r.size ++ gap ++ (status_byte r.status ∷ 10 ∷ [])
 
+-- the lines of runs
 abbrev pub run_lines : List Run → List ℕ
 run_lines rs = flat_map run_line rs
 

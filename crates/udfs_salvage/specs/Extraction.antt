@@ -26,6 +26,7 @@ may_fill None fill = false
 may_fill (Some size) Refuse = false
 may_fill (Some size) (Byte x) = true
 
+-- whether a node's bytes are written: a whole one's, and a torn one's of known size where a fill is asked for
 abbrev pub is_offered : Standing → Option ℕ → Fill → Bool
 is_offered Whole size fill = true
 is_offered (Torn torn) size fill = may_fill size fill
@@ -37,10 +38,12 @@ abbrev pub fill_byte : Fill → ℕ
 fill_byte Refuse = 0
 fill_byte (Byte x) = x
 
+-- a cell's byte, or the fill where it is missing
 abbrev pub cell_byte : ℕ → Cell → ℕ
 cell_byte fill (cell.Byte x holder) = x
 cell_byte fill (cell.Gap n) = fill
 
+-- the bytes of cells, with the fill for those that are missing
 unfoldable pub filled : ℕ → List Cell → List ℕ
 filled fill cs = map (cell_byte fill) cs
 

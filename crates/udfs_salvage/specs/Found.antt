@@ -14,6 +14,7 @@ use Rattle.udfs_salvage.specs.declared.volumes.OpenVolume.{OpenVolume}
 use Rattle.udfs_salvage.specs.declared.volumes.Volume as code_volume
 use Rattle.udfs_salvage.specs.declared.volumes.Volume.TheVariants.{Open, Holes, Fault}
 
+-- a volume that opens: its layout, the places of its blocks, and its root
 pub record Found : Type 0 where
   pub layout : Layout
   pub space : Space
@@ -27,14 +28,17 @@ rooted blocks l s = and_then (file_set (view blocks s) l.file_set) (λ root. fou
 abbrev pub placed : Blocks → Layout → Answer Found
 placed blocks l = and_then (space blocks l) (rooted blocks l)
 
+-- the volume that opens, or the blocks to read first, or its fault
 unfoldable pub volume : Blocks → ℕ → Answer Found
 volume blocks last = and_then (layout blocks last) (placed blocks)
 
 -- the same things of the code
 
+-- an open volume of the code, as the definitions see it
 abbrev pub found_now : OpenVolume → Found
 found_now o = record { layout = parts_now o.parts; space = o.space; root = o.root }
 
+-- a volume of the code, as the definitions see it
 abbrev pub volume_now : code_volume.Volume → Answer Found
 volume_now (Open o) = found (found_now o)
 volume_now (Holes blocks) = holes blocks.items

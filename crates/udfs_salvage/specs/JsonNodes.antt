@@ -13,16 +13,20 @@ use Rattle.udfs_walk.specs.declared.standings.Standing.{Standing}
 use Rattle.udfs_walk.specs.declared.standings.Standing.TheVariants as standing
 use Rattle.udfs_salvage.specs.NodeTexts.{kind_name, path_name, standing_name}
 
+-- a number
 abbrev pub count : ℕ → Data
 count n = number (unsigned n)
 
+-- a list of values
 abbrev pub list_data : {A : Type 0} → (A → Data) → List A → Data
 list_data f xs = array (items_of (map f xs))
 
+-- a size, or null
 abbrev pub size_data : Option ℕ → Data
 size_data None = null
 size_data (Some n) = count n
 
+-- a timestamp's text, or null
 abbrev pub time_data : Option Stamp → Data
 time_data None = null
 time_data (Some stamp) = string (stamp_text stamp)
@@ -34,6 +38,7 @@ missing_of (standing.Torn torn) = torn.missing
 missing_of standing.Loop = []
 missing_of (standing.Fault f) = []
 
+-- the holes of a torn standing
 abbrev pub holes_of : Standing → List (ℕ × ℕ)
 holes_of standing.Whole = []
 holes_of (standing.Torn torn) = torn.holes
@@ -55,6 +60,7 @@ told_members s k size stamp =
     (member (codes "standing") (string (standing_name s))
     no_members)))))
 
+-- the object of a node
 unfoldable pub node_data : NodeFields → Data
 node_data n = object (
     member (codes "hidden") (boolean n.hidden)
@@ -72,6 +78,7 @@ abbrev pub with_reference : Bool → ℕ → Members → Members
 with_reference true r ms = member (codes "reference") (count r) ms
 with_reference false r ms = ms
 
+-- the object of an entry without a name; with two partitions it tells its own
 unfoldable pub unnamed_data : Bool → Unnamed → Data
 unnamed_data two u = object (
     member (codes "block") (count u.block)

@@ -21,6 +21,7 @@ use Rattle.udfs_salvage.specs.JsonNodes.{count, list_data, node_data, unnamed_da
 
 -- ---- the volume
 
+-- the name of a partition map
 abbrev pub map_name : PartitionMap → List ℕ
 map_name type1 = codes "type1"
 map_name (sparable packet size tables) = codes "sparable"
@@ -30,6 +31,7 @@ abbrev pub packet_or : PartitionMap → Option ℕ → Option ℕ
 packet_or type1 later = later
 packet_or (sparable packet size tables) later = Some packet
 
+-- how many blocks a packet of the sparable partition has, if there is one
 abbrev pub packet_of : List Partition → Option ℕ
 packet_of [] = None
 packet_of (p ∷ ps) = packet_or p.kind (packet_of ps)
@@ -40,6 +42,7 @@ with_maps [] ms = ms
 with_maps (p ∷ []) ms = member (codes "map") (string (map_name p.kind)) ms
 with_maps (p ∷ q ∷ ps) ms = member (codes "maps") (list_data (λ x. string (map_name x.kind)) (p ∷ q ∷ ps)) ms
 
+-- the packet's length, where there is one, among other members
 abbrev pub with_packet : Option ℕ → Members → Members
 with_packet None ms = ms
 with_packet (Some packet) ms = member (codes "packet") (count packet) ms
@@ -49,14 +52,17 @@ abbrev pub put_packet : Option ℕ → Members → Members
 put_packet None ms = ms
 put_packet (Some packet) ms = put (codes "packet") (count packet) ms
 
+-- the map or the maps among other members
 abbrev pub put_maps : List Partition → Members → Members
 put_maps [] ms = ms
 put_maps (p ∷ []) ms = put (codes "map") (string (map_name p.kind)) ms
 put_maps (p ∷ q ∷ ps) ms = put (codes "maps") (list_data (λ x. string (map_name x.kind)) (p ∷ q ∷ ps)) ms
 
+-- what is told of each volume that opens
 abbrev pub open_members : ℕ → Members
 open_members revision = member (codes "revision") (string (revision_text revision)) (member (codes "state") (string (codes "ok")) no_members)
 
+-- the object of the volume
 abbrev pub volume_data : Answer Found → Data
 volume_data (found f) = object (with_maps f.layout.partitions (with_packet (packet_of f.layout.partitions) (open_members f.layout.revision)))
 volume_data (holes blocks) = object (member (codes "blocks") (list_data count blocks) (member (codes "state") (string (codes "holes")) no_members))
@@ -66,12 +72,15 @@ volume_data (faulty f) = object (
     (member (codes "state") (string (codes "fault"))
     no_members)))
 
+-- an object that tells a state alone
 abbrev pub state_data : List ℕ → Data
 state_data state = object (member (codes "state") (string state) no_members)
 
+-- the object of a name
 abbrev pub name_data : List ℕ → Data
 name_data units = object (member (codes "state") (string (codes "name")) (member (codes "text") (string (escaped units)) no_members))
 
+-- the object of the volume's label
 abbrev pub label_data : Label → Data
 label_data label.Empty = state_data (codes "empty")
 label_data (label.Name units) = name_data units
@@ -85,16 +94,19 @@ label_of (faulty f) = null
 
 -- ---- the blocks to read again
 
+-- the word for the state of a block to read again
 abbrev pub state_name : State → List ℕ
 state_name Unknown = codes "unknown"
 state_name (Known bytes) = codes "unknown"
 state_name Conflict = codes "conflict"
 
+-- the object of a block to read again
 unfoldable pub reread_data : Blocks → ℕ → Data
 reread_data blocks n = object (member (codes "block") (count n) (member (codes "state") (string (state_name (blocks n))) no_members))
 
 -- ---- all of it
 
+-- the object of a report
 unfoldable pub report_data : Table → ℕ → Report → Data
 report_data table last report = object (
     member (codes "conflict") (count (conflict_count table))

@@ -69,16 +69,20 @@ pub record IsGoodReread (blocks : Blocks) (last : ℕ) (report : Report) (volume
       → IsUnread pass report.reread → IsReport joined last other → (path : List (List ℕ)) (file : TreeFile) → IsInVolume volume last path file
       → IsReportedWhole joined other path file → IsReportedWhole blocks report path file
 
+-- for each lawful volume that agrees, the list of blocks to read again is good
 abbrev pub RereadsSuffice : Blocks → ℕ → Report → Type 0
 RereadsSuffice blocks last report = ForLawful blocks last (IsGoodReread blocks last report)
 
 -- ---- laws of every report
 
+-- what is known enough is reported whole
 abbrev pub MetIsWhole : Type 0
 MetIsWhole = (blocks : Blocks) (last : ℕ) (report : Report) → IsReport blocks last report → MetIsReported blocks last report
 
+-- what is whole stays whole when more is known
 abbrev pub MoreStaysWhole : Type 0
 MoreStaysWhole = (blocks : Blocks) (last : ℕ) (report : Report) → IsReport blocks last report → StaysWhole blocks last report
 
+-- in each report the list of blocks to read again is good
 abbrev pub EachRereadSuffices : Type 0
 EachRereadSuffices = (blocks : Blocks) (last : ℕ) (report : Report) → IsReport blocks last report → RereadsSuffice blocks last report

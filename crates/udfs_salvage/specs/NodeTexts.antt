@@ -18,6 +18,7 @@ use Rattle.udfs_lattice.specs.Tables.{Table, state_of}
 use Rattle.udfs_salvage.specs.Reports.{Report}
 use Rattle.udfs_salvage.specs.Texts.{end_line, has_two, head_text, line, reread_lines}
 
+-- the number of a node's fault
 abbrev pub node_fault_number : NodeFault → ℕ
 node_fault_number fault.Tag = 1
 node_fault_number fault.Strategy = 2
@@ -35,12 +36,14 @@ node_fault_number fault.Depth = 13
 
 -- ---- fields
 
+-- the word for a standing
 abbrev pub standing_name : Standing → List ℕ
 standing_name standing.Whole = codes "whole"
 standing_name (standing.Torn torn) = codes "torn"
 standing_name standing.Loop = codes "loop"
 standing_name (standing.Fault f) = codes "fault-" ++ decimal (node_fault_number f)
 
+-- the word for a kind
 abbrev pub kind_name : Kind → List ℕ
 kind_name kind.Directory = codes "directory"
 kind_name kind.File = codes "file"
@@ -59,19 +62,24 @@ path_name (name ∷ names) = names_text (name ∷ names)
 
 -- ---- the same, a space before each
 
+-- a standing, behind a space
 abbrev pub standing_text : Standing → List ℕ
 standing_text s = codes " " ++ standing_name s
 
+-- a kind, behind a space
 abbrev pub kind_text : Kind → List ℕ
 kind_text k = codes " " ++ kind_name k
 
+-- a path, behind a space
 abbrev pub path_text : List (List ℕ) → List ℕ
 path_text path = codes " " ++ path_name path
 
+-- a size, behind a space; `-` where it is not known
 abbrev pub size_text : Option ℕ → List ℕ
 size_text None = codes " -"
 size_text (Some n) = codes " " ++ decimal n
 
+-- a timestamp, behind a space; `-` where it is not known
 abbrev pub time_text : Option Stamp → List ℕ
 time_text None = codes " -"
 time_text (Some stamp) = codes " " ++ stamp_text stamp
@@ -82,18 +90,23 @@ told_text s k size stamp = standing_text s ++ kind_text k ++ size_text size ++ t
 
 -- ---- what is missing of a torn node
 
+-- the line of a block that is missing
 abbrev pub missing_line : ℕ → List ℕ
 missing_line block = line (codes "missing " ++ decimal block)
 
+-- the line of a hole: its first byte and how many
 abbrev pub hole_line : ℕ × ℕ → List ℕ
 hole_line run = line (codes "hole " ++ decimal run.0 ++ codes " " ++ decimal run.1)
 
+-- the lines of the blocks that are missing
 abbrev pub missing_lines : List ℕ → List ℕ
 missing_lines blocks = flat_map missing_line blocks
 
+-- the lines of the holes
 abbrev pub hole_lines : List (ℕ × ℕ) → List ℕ
 hole_lines runs = flat_map hole_line runs
 
+-- the lines of what a torn node lacks
 unfoldable pub gap_lines : Standing → List ℕ
 gap_lines standing.Whole = []
 gap_lines (standing.Torn torn) = missing_lines torn.missing ++ hole_lines torn.holes
@@ -102,12 +115,15 @@ gap_lines (standing.Fault f) = []
 
 -- ---- nodes
 
+-- the line of a node
 unfoldable pub node_line : ℕ → NodeFields → List ℕ
 node_line i n = line (codes "node " ++ decimal i ++ told_text n.standing n.kind n.size n.stamp ++ path_text n.path)
 
+-- the lines of a node, with what it lacks
 abbrev pub node_text : ℕ → NodeFields → List ℕ
 node_text i n = node_line i n ++ gap_lines n.standing
 
+-- the lines of nodes, the first of which has this number
 unfoldable pub nodes_text : ℕ → List NodeFields → List ℕ
 nodes_text i [] = []
 nodes_text i (n ∷ ns) = node_text i n ++ nodes_text (i + 1) ns
@@ -118,17 +134,21 @@ nodes_text i (n ∷ ns) = node_text i n ++ nodes_text (i + 1) ns
 abbrev pub place_text : Bool → Unnamed → List ℕ
 place_text two u = cond two (decimal u.reference ++ codes ":" ++ decimal u.block) (decimal u.block)
 
+-- the line of an entry without a name
 unfoldable pub unnamed_line : Bool → Unnamed → List ℕ
 unnamed_line two u = line (codes "unnamed " ++ place_text two u ++ told_text u.standing u.kind (Some u.size) (Some u.stamp))
 
+-- the lines of an entry without a name, with what it lacks
 abbrev pub unnamed_text : Bool → Unnamed → List ℕ
 unnamed_text two u = unnamed_line two u ++ gap_lines u.standing
 
+-- the lines of all entries without a name
 abbrev pub unnamed_texts : Bool → List Unnamed → List ℕ
 unnamed_texts two us = flat_map (unnamed_text two) us
 
 -- ---- all of it
 
+-- the text of a report
 unfoldable pub report_text : Table → ℕ → Report → List ℕ
 report_text table last report =
     head_text table last report.volume ++ nodes_text 0 report.nodes ++ unnamed_texts (has_two report.volume) report.unnamed

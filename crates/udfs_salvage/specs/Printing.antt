@@ -22,6 +22,7 @@ pub record Stopped (old new : Option (List ℕ)) (i j : ℕ) (text : List ℕ) (
   pub whole : text ≡ out ++ rest
   pub count : CountsBy i j e
 
+-- the text is out, or a beginning of it and then the sink's fault or want of memory
 abbrev pub Prints : {X : Type 0} → Option (List ℕ) → Option (List ℕ) → ℕ → ℕ → List ℕ → Result X RunError → Type 0
 Prints old new i j text (Ok x) = Wrote old new i j text
 Prints old new i j text (Err e) = Stopped old new i j text e

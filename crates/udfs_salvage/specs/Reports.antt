@@ -23,6 +23,7 @@ use Rattle.udfs_salvage.specs.declared.errors.SalvageError.{SalvageError}
 use Rattle.udfs_salvage.specs.declared.errors.SalvageError.TheVariants as errors
 use Rattle.udfs_salvage.specs.declared.reports.Report as code_report
 
+-- what a table tells of a volume
 pub record Report : Type 0 where
   pub volume : Answer Found
   pub nodes : List NodeFields
@@ -41,6 +42,7 @@ pub record ReportsNone (listed : List ℕ) (report : Report) : Type 0 where
   pub no_unnamed : report.unnamed ≡ []
   pub reread_is : report.reread ≡ listed
 
+-- the report by what is found of the volume
 abbrev pub ReportsBy : Blocks → Answer Found → Report → Type 0
 ReportsBy blocks (found f) report = ReportsNodes blocks f report
 ReportsBy blocks (holes listed) report = ReportsNone listed report
@@ -62,6 +64,7 @@ pub record IsReport (blocks : Blocks) (last : ℕ) (report : Report) : Type 0 wh
   pub volume_is : report.volume ≡ volume blocks last
   pub by_volume : ReportsBy blocks report.volume report
 
+-- n is the least block behind the last one of which something is known
 pub record IsPastEnd (blocks : Blocks) (last n : ℕ) : Type 0 where
   pub past : last < n
   pub not_unknown : blocks n ≢ Unknown
@@ -71,6 +74,7 @@ pub record IsPastEnd (blocks : Blocks) (last n : ℕ) : Type 0 where
 abbrev pub HasTooManyPaths : Blocks → ℕ → Type 0
 HasTooManyPaths blocks last = (f : Found) × (volume blocks last ≡ found f) × HasMoreRoutes (view blocks f.space) f.root 65536
 
+-- whether a standing is whole
 abbrev pub is_whole : Standing → Bool
 is_whole Whole = true
 is_whole (Torn torn) = false
@@ -82,6 +86,7 @@ abbrev pub all_whole : List NodeFields → Bool
 all_whole [] = false
 all_whole (n ∷ ns) = list_all (λ n. is_whole n.standing) (n ∷ ns)
 
+-- a report of the code, as the definitions see it
 abbrev pub report_now : code_report.Report → Report
 report_now r = record { volume = volume_now r.volume; nodes = r.nodes.items; unnamed = r.unnamed.items; reread = r.reread.items }
 
@@ -96,6 +101,7 @@ IsWalkRefused blocks f errors.OutOfMemory = ⊤
 abbrev pub MayWantMemory : Blocks → ℕ → Type 0
 MayWantMemory blocks last = (layout blocks last ≢ faulty NoAnchor) × (layout blocks last ≢ faulty Extents)
 
+-- why a volume within its last block has no report: too many paths, or want of memory where it may come
 abbrev pub IsLookRefused : Blocks → ℕ → SalvageError → Type 0
 IsLookRefused blocks last errors.LastRange = ⊥
 IsLookRefused blocks last (errors.PastEnd n) = ⊥

@@ -21,6 +21,7 @@ use Rattle.udfs_salvage.specs.declared.errors.SalvageError.TheVariants as salvag
 use Rattle.udfs_salvage.specs.declared.errors.RunError.{RunError}
 use Rattle.udfs_salvage.specs.declared.errors.RunError.TheVariants.{Reading, Salvage, Write, OutOfMemory}
 
+-- why a table has no report: the first reason in order
 abbrev pub IsRefusedFor : Table → ℕ → SalvageError → Type 0
 IsRefusedFor table last salvage.LastRange = IsOutOfRange last
 IsRefusedFor table last (salvage.PastEnd n) = (¬ IsOutOfRange last) × IsPastEnd (state_of table) last n
@@ -100,6 +101,7 @@ abbrev pub by_fault : InputError → ReadingFault → RunError
 by_fault e reading.OutOfMemory = OutOfMemory
 by_fault e fault = Reading e
 
+-- an input's error, as a run answers it
 abbrev pub run_error_of : InputError → RunError
 run_error_of e = by_fault e e.error.fault
 

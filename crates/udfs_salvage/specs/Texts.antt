@@ -23,6 +23,7 @@ line text = text ++ 10 ∷ []
 
 -- ---- the volume
 
+-- the number of a volume's fault
 abbrev pub fault_number : VolumeFault → ℕ
 fault_number fault.NoAnchor = 1
 fault_number fault.Extents = 2
@@ -41,9 +42,11 @@ fault_number fault.SparingOrder = 14
 fault_number fault.MappedRange = 15
 fault_number fault.FileSet = 16
 
+-- the revision, as it is printed
 unfoldable pub revision_text : ℕ → List ℕ
 revision_text revision = cond (nat_eq revision 0x0150) (codes "1.50") (codes "2.01")
 
+-- what is told of each volume that opens
 abbrev pub open_text : ℕ → List ℕ
 open_text revision = codes "volume ok revision " ++ revision_text revision ++ codes " map"
 
@@ -52,6 +55,7 @@ abbrev pub map_text : PartitionMap → List ℕ
 map_text type1 = codes " type1"
 map_text (sparable packet size tables) = codes " sparable " ++ decimal packet
 
+-- the names of the maps, each behind a space
 abbrev pub map_texts : List Partition → List ℕ
 map_texts partitions = flat_map (λ p. map_text p.kind) partitions
 
@@ -59,6 +63,7 @@ map_texts partitions = flat_map (λ p. map_text p.kind) partitions
 abbrev pub block_texts : List ℕ → List ℕ
 block_texts blocks = flat_map (λ n. codes " " ++ decimal n) blocks
 
+-- the line of the volume
 abbrev pub volume_line : Answer Found → List ℕ
 volume_line (found f) = line (open_text f.layout.revision ++ map_texts f.layout.partitions)
 volume_line (holes blocks) = line (codes "volume holes" ++ block_texts blocks)
@@ -76,12 +81,15 @@ has_two (faulty f) = false
 abbrev pub form_text : Answer Found → List ℕ
 form_text answer = cond (has_two answer) (codes "UDFREPORT2") (codes "UDFREPORT1")
 
+-- the first line
 abbrev pub first_line : Answer Found → ℕ → List ℕ
 first_line answer last = line (form_text answer ++ codes " last " ++ decimal last)
 
+-- the line of the counts
 abbrev pub count_line : Table → List ℕ
 count_line table = line (codes "known " ++ decimal (known_count table) ++ codes " conflict " ++ decimal (conflict_count table))
 
+-- the line of the label
 abbrev pub label_line : Label → List ℕ
 label_line label.Empty = line (codes "label empty")
 label_line (label.Name units) = line (codes "label name " ++ escaped units)
@@ -93,6 +101,7 @@ label_lines (found f) = label_line f.layout.label
 label_lines (holes blocks) = []
 label_lines (faulty f) = []
 
+-- the lines before those of the nodes
 unfoldable pub head_text : Table → ℕ → Answer Found → List ℕ
 head_text table last answer = first_line answer last ++ count_line table ++ volume_line answer ++ label_lines answer
 
@@ -104,11 +113,14 @@ state_text Unknown = codes " unknown"
 state_text (Known bytes) = codes " unknown"
 state_text Conflict = codes " conflict"
 
+-- the line of a block to read again
 abbrev pub reread_line : Blocks → ℕ → List ℕ
 reread_line blocks n = line (codes "reread " ++ decimal n ++ state_text (blocks n))
 
+-- the lines of the blocks to read again
 abbrev pub reread_lines : Blocks → List ℕ → List ℕ
 reread_lines blocks ns = flat_map (reread_line blocks) ns
 
+-- the last line
 abbrev pub end_line : List ℕ
 end_line = line (codes "end")

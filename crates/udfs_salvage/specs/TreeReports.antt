@@ -48,6 +48,7 @@ pub record IsNodeOfVolume (blocks : Blocks) (volume : Volume) (last : ℕ) (told
   -- if it is whole, it has all of the tree's bytes, and of each group that it needs a block is known
   pub whole : n.standing ≡ Whole → IsReportedAs blocks opened index n file × IsMetBy blocks volume last n.path
 
+-- the report tells of this volume: each node is one of its files or directories, as it has it, and none twice
 pub record IsReportOf (blocks : Blocks) (volume : Volume) (last : ℕ) (report : Report) : Type 0 where
   pub no_fault : OpensOrHasHoles report.volume
   pub nodes : (index : ℕ) (n : NodeFields) → slice_get report.nodes index ≡ Some n → IsNodeOfVolume blocks volume last report.volume index n

@@ -68,6 +68,7 @@ pub data NeedsOf (volume : Volume) (last : ℕ) (opened : Opened) (path : List (
   for_volume : IsVolumeGroup volume last (found_of volume opened) group → NeedsOf volume last opened path group
   for_node : Needs (view (complete volume last) (standard_space volume opened.layout)) opened.blocks opened.root path group → NeedsOf volume last opened path group
 
+-- the group is one of which a file or directory at this path needs a block
 abbrev pub IsNeededIn : Volume → ℕ → List (List ℕ) → List ℕ → Type 0
 IsNeededIn volume last path group = (opened : Opened) × IsOpened volume last opened × NeedsOf volume last opened path group
 

@@ -19,19 +19,23 @@ use Rattle.udfs_space.specs.Sparing.{Space, Span, copies, space}
 use Rattle.udfs_space.specs.Standard.{table_at, standard_space}
 use Rattle.udfs_space.specs.Places.{IsPartOf, IsSparedBy, StandsAt, StandsIn, block_at, place, place_in, view}
 
+-- each place has a sparing table with a valid tag, and all of them say the same behind their tags
 pub record AreTheSameTables (volume : Volume) (size : ℕ) (tables : List ℕ) : Type 0 where
   pub tags : (place : ℕ) → Includes tables place → is_valid (table_at volume size place) place 0 ≡ true
   pub contents : (a b : ℕ) → Includes tables a → Includes tables b
       → drop 16 (table_at volume size a) ≡ drop 16 (table_at volume size b)
 
+-- the sparing tables of a sparable map agree; a map of type 1 has none
 abbrev pub SparingAgrees : Volume → PartitionMap → Type 0
 SparingAgrees volume type1 = ⊤
 SparingAgrees volume (sparable packet size tables) = AreTheSameTables volume size tables
 
+-- the sparing tables of each partition agree, and the places of its blocks can be told
 pub record IsLawfulSparing (volume : Volume) (last : ℕ) (l : Layout) : Type 0 where
   pub tables : (p : Partition) → Includes l.partitions p → SparingAgrees volume p.kind
   pub placed : (s : Space) × (space (complete volume last) l ≡ found s)
 
+-- all copies of one block of a partition's sparing table
 abbrev pub IsTableGroup : PartitionMap → List ℕ → Type 0
 IsTableGroup type1 group = ⊥
 IsTableGroup (sparable packet size tables) group = (k : ℕ) × (k < blocks_in size) × (group ≡ copies tables k)
@@ -40,6 +44,7 @@ IsTableGroup (sparable packet size tables) group = (k : ℕ) × (k < blocks_in s
 abbrev pub IsSparingGroup : List Partition → List ℕ → Type 0
 IsSparingGroup partitions group = (p : Partition) × Includes partitions p × IsTableGroup p.kind group
 
+-- over a table that agrees with a lawful volume the places are the volume's, or holes hold all copies of an unread block
 abbrev pub SpaceLaw : Type 0
 SpaceLaw = (blocks : Blocks) (volume : Volume) (last : ℕ) (l : Layout) → IsVolume volume last
     → layout (complete volume last) last ≡ found l → IsLawfulSparing volume last l → Agrees blocks volume last
@@ -90,6 +95,7 @@ pub record HasStandardBlocks (volume : Volume) (last : ℕ) (l : Layout) (s : Sp
   pub only : (other : ℕ → ℕ → Option Bytes) → AreBlocksOf volume (standard_space volume l) other → other ≡ blocks_by volume s
   pub inside : (r b n : ℕ) → place s r b ≡ Some n → n ≤ last
 
+-- the blocks of a lawful volume's partitions are those that the standard reads by the first sparing table
 abbrev pub StandardBlocks : Type 0
 StandardBlocks = (volume : Volume) (last : ℕ) (l : Layout) (s : Space) → IsVolume volume last → layout (complete volume last) last ≡ found l
     → IsLawfulSparing volume last l → space (complete volume last) l ≡ found s → HasStandardBlocks volume last l s

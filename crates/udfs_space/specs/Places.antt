@@ -20,6 +20,7 @@ use Rattle.udfs_space.specs.Sparing.{Space, Span}
 abbrev pub entry_at : Span → ℕ → Option SparingEntry
 entry_at span first = find (λ e. nat_eq e.original first) span.spared
 
+-- where a block stands: in the packet that its own was mapped to, or directly
 abbrev pub placed_at : Option SparingEntry → ℕ → ℕ → ℕ
 placed_at None direct offset = direct
 placed_at (Some e) direct offset = e.mapped + offset
@@ -29,6 +30,7 @@ abbrev pub place_in : Span → ℕ → Option ℕ
 place_in span b = let offset = b % span.packet in cond (nat_lt b span.size)
     (Some (placed_at (entry_at span (b - offset)) (span.start + b) offset)) None
 
+-- where a block of a partition stands, if there is such a partition
 abbrev pub place_by : Option Span → ℕ → Option ℕ
 place_by None b = None
 place_by (Some span) b = place_in span b
@@ -51,6 +53,7 @@ StandsAt span b n = (b < span.size)
 abbrev pub StandsIn : Space → ℕ → ℕ → ℕ → Type 0
 StandsIn space reference b n = (span : Span) × (slice_get space reference ≡ Some span) × StandsAt span b n
 
+-- how many blocks a partition has, if it is there
 abbrev pub size_of : Option Span → ℕ
 size_of None = 0
 size_of (Some span) = span.size
@@ -66,6 +69,7 @@ pub record View : Type 0 where
   pub place : ℕ → ℕ → Option ℕ
   pub blocks : Blocks
 
+-- what is known of logical blocks, by what is known of the volume's blocks and where they are placed
 abbrev pub view : Blocks → Space → View
 view blocks space = record { partitions = length space; place = place space; blocks = blocks }
 

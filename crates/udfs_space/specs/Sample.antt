@@ -12,5 +12,6 @@ use Rattle.udfs_space.specs.Laws.{IsLawfulSparing}
 abbrev pub sample_space : Space
 sample_space = record { start = 272; size = 300; packet = 1; spared = [] } ∷ []
 
+-- each volume with the sample's layout has the sample's places, and lawful ones
 abbrev pub SampleSpace : Type 0
 SampleSpace = (volume : Volume) → (space (complete volume 600) sample_layout ≡ found sample_space) × IsLawfulSparing volume 600 sample_layout

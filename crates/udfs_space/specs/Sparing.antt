@@ -38,10 +38,12 @@ copies tables k = map (λ place. place + k) tables
 abbrev pub unread : Blocks → List ℕ → ℕ → List ℕ
 unread blocks tables count = filter (λ k. is_none (first_known blocks (copies tables k))) (range_with_len 0 count)
 
+-- the bytes of the copy that was found, if any
 abbrev pub piece : Option (ℕ × Bytes) → Bytes
 piece None = []
 piece (Some known) = known.1
 
+-- where the copy that was found stands, or 0
 abbrev pub place_of : Option (ℕ × Bytes) → ℕ
 place_of None = 0
 place_of (Some known) = known.0
@@ -104,9 +106,11 @@ sparing_fault last packet size valid content = first_fault (
     ∷ (list_any (passes_end last packet) (entries content), MappedRange)
     ∷ [])
 
+-- the entries of a sparing table that are used (UDF 2.2.11)
 abbrev pub spared_in : Bytes → Spared
 spared_in content = filter is_used (entries content)
 
+-- the used entries of a sparing table, or its fault
 abbrev pub spared_from : ℕ → ℕ → ℕ → Bool → Bytes → Answer Spared
 spared_from last packet size valid content = unless_fault (sparing_fault last packet size valid content) (spared_in content)
 
@@ -120,21 +124,26 @@ abbrev pub spared_unless : List ℕ → List ℕ → Answer Spared → Answer Sp
 spared_unless tables [] answer = answer
 spared_unless tables (k ∷ ks) answer = holes (ascending (flat_map (copies tables) (k ∷ ks)))
 
+-- the spared packets of a partition, or the blocks of its sparing table to read first, or its fault
 unfoldable pub spared : Blocks → ℕ → PartitionMap → Answer Spared
 spared blocks last type1 = found []
 spared blocks last (sparable packet size tables) =
     spared_unless tables (unread blocks tables (blocks_in size)) (spared_by blocks last packet size tables)
 
+-- how many blocks a packet of the partition has; without sparing each block is one
 abbrev pub packet_of : PartitionMap → ℕ
 packet_of type1 = 1
 packet_of (sparable packet size tables) = packet
 
+-- a partition's blocks with its spared packets
 abbrev pub span_of : Partition → Spared → Span
 span_of p spared = record { start = p.start; size = p.size; packet = packet_of p.kind; spared = spared }
 
+-- the places of a partition's blocks, or what has to be read first, or a fault
 abbrev pub span : Blocks → ℕ → Partition → Answer Span
 span blocks last p = and_then (spared blocks last p.kind) (λ s. found (span_of p s))
 
+-- the places of all partitions' blocks, or what the first of them lacks
 abbrev pub spans : Blocks → ℕ → List Partition → Answer Space
 spans blocks last [] = found []
 spans blocks last (p ∷ ps) = and_then (span blocks last p) (λ s. and_then (spans blocks last ps) (λ ss. found (s ∷ ss)))

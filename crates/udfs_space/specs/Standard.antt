@@ -17,5 +17,6 @@ first_table volume type1 = []
 first_table volume (sparable packet size []) = []
 first_table volume (sparable packet size (place ∷ places)) = spared_in (drop 16 (table_at volume size place))
 
+-- the places of a volume's blocks, by the first sparing table of each partition
 abbrev pub standard_space : Volume → Layout → Space
 standard_space volume l = map (λ p. span_of p (first_table volume p.kind)) l.partitions

@@ -30,9 +30,11 @@ IsToldOf volume last blocks l (Holes listed) = ListsGroup blocks [] [] (IsSparin
 IsToldOf volume last blocks l (Fault fault) = ⊥
 IsToldOf volume last blocks l OutOfMemory = ⊤
 
+-- for each lawful volume that agrees with the table, what is answered is told of it
 abbrev pub TellsLawful : Blocks → Layout → Seen code_space.Space → Type 0
 TellsLawful blocks l seen = (volume : Volume) (last : ℕ) → IsVolume volume last → layout (complete volume last) last ≡ found l
     → IsLawfulSparing volume last l → Agrees blocks volume last → IsToldOf volume last blocks l seen
 
+-- each place is a block of the volume
 abbrev pub ArePlacesUpTo : ℕ → Space → Type 0
 ArePlacesUpTo last space = (reference b n : ℕ) → place space reference b ≡ Some n → n ≤ last

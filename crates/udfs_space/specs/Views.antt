@@ -4,5 +4,6 @@ use Rattle.udfs_lattice.specs.Tables.{state_of}
 use Rattle.udfs_space.specs.Places.{View, view}
 use Rattle.udfs_space.specs.declared.views.View.{View as Pair}
 
+-- what is known of the logical blocks of a table's space
 abbrev pub view_now : Pair → View
 view_now v = view (state_of v.table.now) v.space.now

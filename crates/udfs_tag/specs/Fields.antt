@@ -56,15 +56,19 @@ long_ad_of bytes = record {
 abbrev pub regid_of : List ℕ → RegId
 regid_of bytes = record { name = part bytes 1 23; suffix = part bytes 24 8 }
 
+-- the extent_ad at a position (ECMA-167 3/7.1)
 abbrev pub extent_ad_at : List ℕ → ℕ → ExtentAd
 extent_ad_at bytes at = extent_ad_of (drop at bytes)
 
+-- the short_ad at a position (ECMA-167 4/14.14.1)
 abbrev pub short_ad_at : List ℕ → ℕ → ShortAd
 short_ad_at bytes at = short_ad_of (drop at bytes)
 
+-- the long_ad at a position (ECMA-167 4/14.14.2)
 abbrev pub long_ad_at : List ℕ → ℕ → LongAd
 long_ad_at bytes at = long_ad_of (drop at bytes)
 
+-- the regid at a position (ECMA-167 1/7.4)
 abbrev pub regid_at : List ℕ → ℕ → RegId
 regid_at bytes at = regid_of (drop at bytes)
 

@@ -25,6 +25,7 @@ abbrev pub OverParts : (View → View → PartitionBlocks → LongAd → List No
 OverParts Holds = (some all : View) (blocks : PartitionBlocks) → IsPartOf some all → IsWhole all blocks → (root : LongAd) → IsLawfulTree all root
     → (nodes : List NodeFields) → AreNodes some root nodes → Holds some all blocks root nodes
 
+-- where of each needed group a block is known, the file is listed as whole
 abbrev pub MetIsWhole : Type 0
 MetIsWhole = OverParts (λ some all blocks root nodes. (path : List (List ℕ)) (file : TreeFile) → InTree blocks root path file
     → IsMet some all blocks root path → IsListedWhole some root nodes path file)
@@ -51,5 +52,6 @@ pub record AreWanted (some all : View) (blocks : PartitionBlocks) (root : LongAd
   -- there are none exactly if all of the tree is listed whole
   pub none : (listed ≡ []) ↔ ((path : List (List ℕ)) (file : TreeFile) → InTree blocks root path file → IsListedWhole some root nodes path file)
 
+-- each block to read again is wanted, and none else
 abbrev pub MissingIsWanted : Type 0
 MissingIsWanted = OverParts (λ some all blocks root nodes. AreWanted some all blocks root nodes (reread nodes))

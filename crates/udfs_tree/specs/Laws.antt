@@ -38,6 +38,7 @@ pub record AreTheTree (all : View) (blocks : PartitionBlocks) (root : LongAd) (n
       × HasCellsAt all root index cs × IsWholeAs n file cs
   pub once : HasPathsOnce nodes
 
+-- over a complete view with a lawful tree the nodes are the tree, each file once, all whole
 abbrev pub CompleteNodes : Type 0
 CompleteNodes = (all : View) (blocks : PartitionBlocks) → IsWhole all blocks → (root : LongAd) → IsLawfulTree all root
     → (nodes : List NodeFields) → AreNodes all root nodes → AreTheTree all blocks root nodes
@@ -55,14 +56,17 @@ pub record IsNodeOf (some all : View) (blocks : PartitionBlocks) (root : LongAd)
   pub told : IsTold some root index n file
   pub whole : n.standing ≡ Whole → ((cs : List Cell) × HasCellsAt some root index cs × IsWholeAs n file cs) × IsMet some all blocks root n.path
 
+-- over a part of it each node is a file of the tree, told as the tree has it
 abbrev pub PartialNodes : Type 0
 PartialNodes = (some all : View) (blocks : PartitionBlocks) → IsPartOf some all → IsWhole all blocks → (root : LongAd) → IsLawfulTree all root
     → (nodes : List NodeFields) → AreNodes some root nodes → (index : ℕ) (n : NodeFields) → slice_get nodes index ≡ Some n → IsNodeOf some all blocks root index n
 
+-- no two nodes have one path
 abbrev pub OncePerPath : Type 0
 OncePerPath = (some all : View) (blocks : PartitionBlocks) → IsPartOf some all → IsWhole all blocks → (root : LongAd) → IsLawfulTree all root
     → (nodes : List NodeFields) → AreNodes some root nodes → HasPathsOnce nodes
 
+-- a part has no more routes than the whole
 abbrev pub FewerRoutes : Type 0
 FewerRoutes = (some all : View) (blocks : PartitionBlocks) → IsPartOf some all → IsWhole all blocks → (root : LongAd) → IsLawfulTree all root
     → (count : ℕ) → HasMoreRoutes some root count → HasMoreRoutes all root count

@@ -71,6 +71,7 @@ pub data Needs (all : View) (blocks : PartitionBlocks) (root : LongAd) (path : L
   for_way : IsDirectoryBlock all blocks root path group → Needs all blocks root path group
   for_body : IsBodyBlock all blocks root path group → Needs all blocks root path group
 
+-- a block of the group is known
 abbrev pub HasKnown : Blocks → List ℕ → Type 0
 HasKnown known group = (n : ℕ) × Includes group n × IsKnownAt known n
 

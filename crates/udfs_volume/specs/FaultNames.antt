@@ -3,6 +3,7 @@ use Rattle.std.specs.Prelude.{ℕ, List, codes}
 use Rattle.udfs_volume.specs.declared.faults.VolumeFault.{VolumeFault}
 use Rattle.udfs_volume.specs.declared.faults.VolumeFault.TheVariants as fault
 
+-- a fault's name, as the report prints it
 abbrev pub fault_name : VolumeFault → List ℕ
 fault_name fault.NoAnchor = codes "NoAnchor"
 fault_name fault.Extents = codes "Extents"

@@ -16,6 +16,7 @@ use Rattle.udfs_volume.specs.Sequence.{Descriptor, anchor, anchor_places, positi
 use Rattle.udfs_volume.specs.Standard.{standard_anchor, standard_layout}
 use Rattle.udfs_volume.specs.Layout.{Layout, Partition, PartitionMap, type1, sparable, repeats_kind, blocks_in, layout, layout_of}
 
+-- the anchor places at which the volume has a valid anchor volume descriptor pointer (ECMA-167 3/10.2)
 abbrev pub valid_anchors : Volume → ℕ → List ℕ
 valid_anchors volume last = filter (λ n. is_valid (volume n) n 2) (anchor_places last)
 
@@ -30,6 +31,7 @@ pub record SaysTheSame (volume : Volume) (main reserve : ℕ) : Type 0 where
   pub identifiers : is_sound (volume main) main ≡ true → identifier (volume main) ≡ identifier (volume reserve)
   pub contents : is_sound (volume main) main ≡ true → drop 16 (volume main) ≡ drop 16 (volume reserve)
 
+-- a volume has an anchor, its anchors name the same extents, and both copies of its descriptor sequence say the same
 pub record IsLawfulLayout (volume : Volume) (last : ℕ) : Type 0 where
   pub anchored : valid_anchors volume last ≢ []
   pub anchors : (a b : ℕ) → Includes (valid_anchors volume last) a → Includes (valid_anchors volume last) b
@@ -46,6 +48,7 @@ pub record IsPair (volume : Volume) (last : ℕ) (group : List ℕ) : Type 0 whe
   pub through : IsThroughEnd volume last extents place
   pub is : group ≡ (extents.main.block + place) ∷ (extents.reserve.block + place) ∷ []
 
+-- a group of blocks of which one is enough: the valid anchors, or both copies of one position of the sequence
 abbrev pub IsSequenceGroup : Volume → ℕ → List ℕ → Type 0
 IsSequenceGroup volume last group = (group ≡ valid_anchors volume last) ⊎ IsPair volume last group
 
@@ -65,6 +68,7 @@ pub data IsAnswerOf {A : Type 0} (blocks : Blocks) (anchors places : List ℕ) (
   the_same : some ≡ all → ((g : List ℕ) → IsGroup g → (n : ℕ) × Includes g n × IsKnownAt blocks n) → IsAnswerOf blocks anchors places IsGroup some all
   unread : (listed : List ℕ) → some ≡ holes listed → ListsGroup blocks anchors places IsGroup listed → IsAnswerOf blocks anchors places IsGroup some all
 
+-- over a table that agrees with a lawful volume the layout is the volume's, or holes hold an unread group
 abbrev pub LayoutLaw : Type 0
 LayoutLaw = (blocks : Blocks) (volume : Volume) (last : ℕ) → IsVolume volume last → IsLawfulLayout volume last → Agrees blocks volume last
     → IsAnswerOf blocks (valid_anchors volume last) (anchor_places last) (IsSequenceGroup volume last)
@@ -79,6 +83,7 @@ pub record AreBounded (last packet size : ℕ) (tables : List ℕ) : Type 0 wher
   pub four : length tables ≤ 4
   pub ends : (place : ℕ) → Includes tables place → place + blocks_in size ≤ last + 1
 
+-- a partition map's sparing tables lie within the volume
 abbrev pub IsBoundedMap : ℕ → PartitionMap → Type 0
 IsBoundedMap last type1 = ⊤
 IsBoundedMap last (sparable packet size tables) = AreBounded last packet size tables
@@ -97,6 +102,7 @@ pub record IsBounded (last : ℕ) (l : Layout) : Type 0 where
   pub of_each : (p : Partition) → Includes l.partitions p → IsBoundedPartition last p
   pub kinds : repeats_kind (map (λ p. p.kind) l.partitions) ≡ false
 
+-- a layout that is found lies within the volume
 abbrev pub LayoutBounds : Type 0
 LayoutBounds = (last : ℕ) (ds : List Descriptor) (l : Layout) → layout_of last ds ≡ found l → IsBounded last l
 

@@ -27,15 +27,19 @@ number d = uint32_at d.content (bp 16)
 abbrev pub prevailing : List Descriptor → Option Descriptor
 prevailing ds = find (λ d. list_all (λ other. nat_le (number other) (number d)) ds) ds
 
+-- the descriptors with this tag identifier
 abbrev pub with_identifier : ℕ → List Descriptor → List Descriptor
 with_identifier id ds = filter (λ d. nat_eq d.identifier id) ds
 
+-- the prevailing logical volume descriptor (ECMA-167 3/10.6)
 abbrev pub logical_volume : List Descriptor → Option Descriptor
 logical_volume ds = prevailing (with_identifier 6 ds)
 
+-- the number of a partition descriptor (ECMA-167 3/10.5.4)
 abbrev pub partition_number : Descriptor → ℕ
 partition_number d = uint16_at d.content (bp 22)
 
+-- the prevailing partition descriptor of this number (ECMA-167 3/10.5)
 abbrev pub partition : ℕ → List Descriptor → Option Descriptor
 partition n ds = prevailing (filter (λ d. nat_eq (partition_number d) n) (with_identifier 5 ds))
 
@@ -59,6 +63,7 @@ pub record Layout : Type 0 where
   pub partitions : List Partition
   pub file_set : LongAd
 
+-- how many blocks so many bytes take
 abbrev pub blocks_in : ℕ → ℕ
 blocks_in bytes = (bytes + 2047) / 2048
 
@@ -66,10 +71,12 @@ blocks_in bytes = (bytes + 2047) / 2048
 abbrev pub is_type1 : Bytes → Bool
 is_type1 bytes = nat_eq (uint8_at bytes 0) 1 && nat_eq (uint8_at bytes 1) 6
 
+-- whether a partition map is a sparable one of type 2 (UDF 2.2.9)
 abbrev pub is_sparable : Bytes → Bool
 is_sparable bytes = nat_eq (uint8_at bytes 0) 2 && nat_eq (uint8_at bytes 1) 64
     && bytes_eq ((regid_at bytes 4).name) (filled 23 (codes "*UDF Sparable Partition"))
 
+-- where a sparable map says that its sparing tables stand
 abbrev pub table_places : Bytes → List ℕ
 table_places bytes = map (λ i. uint32_at bytes (48 + 4 * i)) (range_with_len 0 (uint8_at bytes 42))
 
@@ -79,9 +86,11 @@ has_numbers bytes = is_within 1 4 (uint8_at bytes 42)
     && (nat_eq (uint16_at bytes 40) 16 || nat_eq (uint16_at bytes 40) 32)
     && is_within 56 65536 (uint32_at bytes 44)
 
+-- whether tables of this size lie within the volume
 abbrev pub are_within : ℕ → ℕ → List ℕ → Bool
 are_within last size places = list_all (λ place. nat_le (place + blocks_in size) (last + 1)) places
 
+-- whether a sparable map has good numbers and its tables lie within the volume
 abbrev pub are_tables : ℕ → Bytes → Bool
 are_tables last bytes = has_numbers bytes && are_within last (uint32_at bytes 44) (table_places bytes)
 
@@ -96,10 +105,12 @@ read_map last length bytes =
     (cond (is_sparable bytes && nat_le 64 length && are_tables last bytes)
     (Some (sparable (uint16_at bytes 40) (uint32_at bytes 44) (table_places bytes), uint16_at bytes 38)) None)
 
+-- how many bytes a partition map takes
 abbrev pub map_size : PartitionMap → ℕ
 map_size type1 = 6
 map_size (sparable packet size tables) = 64
 
+-- a map before those that are read behind it
 abbrev pub before_maps : Option NumberedMap → (ℕ → Option (List NumberedMap)) → Option (List NumberedMap)
 before_maps None later = None
 before_maps (Some m) later = option_map (λ ms. m ∷ ms) (later (map_size m.0))
@@ -110,6 +121,7 @@ read_maps last zero length bytes = Some []
 read_maps last (suc n) length bytes =
     before_maps (read_map last length bytes) (λ size. read_maps last n (length - size) (drop size bytes))
 
+-- whether two maps are of one kind
 abbrev pub is_kind_of : PartitionMap → PartitionMap → Bool
 is_kind_of type1 type1 = true
 is_kind_of type1 (sparable packet size tables) = false
@@ -121,10 +133,12 @@ abbrev pub repeats_kind : List PartitionMap → Bool
 repeats_kind [] = false
 repeats_kind (m ∷ ms) = list_any (is_kind_of m) ms || repeats_kind ms
 
+-- maps of which no two are of one kind
 abbrev pub unless_repeated : Option (List NumberedMap) → Option (List NumberedMap)
 unless_repeated None = None
 unless_repeated (Some ms) = cond (repeats_kind (map (λ m. m.0) ms)) None (Some ms)
 
+-- how many partition maps a logical volume descriptor has (ECMA-167 3/10.6.10)
 abbrev pub map_count : Descriptor → ℕ
 map_count lv = uint32_at lv.content (bp 268)
 
@@ -132,12 +146,15 @@ map_count lv = uint32_at lv.content (bp 268)
 abbrev pub the_maps : ℕ → Descriptor → Option (List NumberedMap)
 the_maps last lv = unless_repeated (read_maps last (map_count lv) (uint32_at lv.content (bp 264)) (drop (bp 440) lv.content))
 
+-- whether the domain is that of OSTA UDF (UDF 2.2.4.3)
 abbrev pub has_domain : Descriptor → Bool
 has_domain lv = bytes_eq (regid_at lv.content (bp 216)).name (filled 23 (codes "*OSTA UDF Compliant"))
 
+-- whether the revision is 1.50 or 2.01, as the domain's suffix tells it
 abbrev pub has_revision : Descriptor → Bool
 has_revision lv = nat_eq (uint16_at lv.content (bp 240)) 0x0150 || nat_eq (uint16_at lv.content (bp 240)) 0x0201
 
+-- the first rule that a logical volume descriptor breaks
 abbrev pub volume_fault : ℕ → Descriptor → Option VolumeFault
 volume_fault last lv = first_fault (
     (not (has_domain lv) || not (has_revision lv), Domain)
@@ -150,6 +167,7 @@ volume_fault last lv = first_fault (
 abbrev pub Described : Type 0
 Described = PartitionMap × Descriptor
 
+-- a map with its partition descriptor, before the others
 abbrev pub before_described : PartitionMap → Option Descriptor → Option (List Described) → Option (List Described)
 before_described m (Some d) (Some later) = Some ((m, d) ∷ later)
 before_described m _ _ = None
@@ -159,13 +177,16 @@ abbrev pub described : List Descriptor → List NumberedMap → Option (List Des
 described ds [] = Some []
 described ds (m ∷ ms) = before_described m.0 (partition m.1 ds) (described ds ms)
 
+-- whether the partition's contents are those of ECMA-167, second or third edition (ECMA-167 3/10.5.5)
 abbrev pub has_contents : Described → Bool
 has_contents p = bytes_eq ((regid_at (p.1).content (bp 24)).name) (filled 23 (codes "+NSR02"))
     || bytes_eq ((regid_at (p.1).content (bp 24)).name) (filled 23 (codes "+NSR03"))
 
+-- the partition that a map and a descriptor describe
 abbrev pub partition_of : Described → Partition
 partition_of p = record { kind = p.0; start = uint32_at (p.1).content (bp 188); size = uint32_at (p.1).content (bp 192) }
 
+-- whether a partition has a block and lies within the volume
 abbrev pub is_in_range : ℕ → Partition → Bool
 is_in_range last p = nat_lt 0 p.size && nat_le (p.start + p.size) (last + 1)
 
@@ -176,6 +197,7 @@ partitions_fault last ps = first_fault (
     ∷ (not (list_all (λ p. is_in_range last (partition_of p)) ps), PartitionRange)
     ∷ [])
 
+-- the layout of a logical volume whose partitions are described
 abbrev pub laid_out : ℕ → Descriptor → Option (List Described) → Answer Layout
 laid_out last lv None = faulty NoPartition
 laid_out last lv (Some ps) = unless_fault (partitions_fault last ps) (record {
@@ -186,16 +208,20 @@ laid_out last lv (Some ps) = unless_fault (partitions_fault last ps) (record {
   file_set = long_ad_at lv.content (bp 248);
 })
 
+-- the layout by the maps of a logical volume
 abbrev pub with_maps : ℕ → List Descriptor → Descriptor → Option (List NumberedMap) → Answer Layout
 with_maps last ds lv None = faulty MapKind
 with_maps last ds lv (Some ms) = laid_out last lv (described ds ms)
 
+-- the layout by the prevailing logical volume descriptor
 abbrev pub with_volume : ℕ → List Descriptor → Option Descriptor → Answer Layout
 with_volume last ds None = faulty NoLogicalVolume
 with_volume last ds (Some lv) = and_then (unless_fault (volume_fault last lv) lv) (λ v. with_maps last ds v (the_maps last v))
 
+-- the layout that a descriptor sequence describes, or its least fault
 unfoldable pub layout_of : ℕ → List Descriptor → Answer Layout
 layout_of last ds = with_volume last ds (logical_volume ds)
 
+-- the layout of a volume, by what is known of its blocks
 unfoldable pub layout : Blocks → ℕ → Answer Layout
 layout blocks last = and_then (sequence blocks last) (layout_of last)

@@ -12,9 +12,11 @@ use Rattle.udfs_volume.specs.Layout.{Layout, Partition, Described, bp, has_domai
 use Rattle.udfs_volume.specs.Parts.{map_now}
 use Rattle.udfs_volume.specs.Sequences.{descriptor_now}
 
+-- a partition of the code, as the definitions see it
 abbrev pub partition_now : code_partition.Partition → Partition
 partition_now p = record { kind = map_now p.kind; start = p.start; size = p.length }
 
+-- a layout of the code, as the definitions see it
 abbrev pub parts_now : code_parts.VolumeParts → Layout
 parts_now v = record {
   last = v.last;
@@ -24,6 +26,7 @@ parts_now v = record {
   file_set = v.file_set;
 }
 
+-- a map with its descriptor, as the definitions see it
 abbrev pub described_now : code_described.Described → Described
 described_now d = (map_now d.kind, descriptor_now d.descriptor)
 
@@ -35,9 +38,11 @@ field_tests lv =
     ∷ (not (nat_eq (map_count lv) 1 || nat_eq (map_count lv) 2), MapCount)
     ∷ []
 
+-- whether a partition descriptor's contents are those of ECMA-167, second or third edition
 abbrev pub has_contents_of : Descriptor → Bool
 has_contents_of d = bytes_eq (regid_at d.content (bp 24)).name (filled 23 (codes "+NSR02"))
     || bytes_eq (regid_at d.content (bp 24)).name (filled 23 (codes "+NSR03"))
 
+-- whether a range has a block and lies within the volume
 abbrev pub is_range : ℕ → ℕ → ℕ → Bool
 is_range last start size = nat_lt 0 size && nat_le (start + size) (last + 1)

@@ -7,13 +7,16 @@ use Rattle.udfs_volume.specs.declared.maps.PartitionMap as code_map
 use Rattle.udfs_volume.specs.declared.maps.PartitionMap.TheVariants as variants
 use Rattle.udfs_volume.specs.declared.maps.NumberedMap as code_numbered
 
+-- a sparable map of the code, as the definitions see it
 abbrev pub sparable_now : code_sparable.SparableMap → PartitionMap
 sparable_now m = sparable m.packet m.size m.tables.items
 
+-- a partition map of the code, as the definitions see it
 abbrev pub map_now : code_map.PartitionMap → PartitionMap
 map_now variants.Type1 = type1
 map_now (variants.Sparable m) = sparable_now m
 
+-- a map with its partition's number, as the definitions see it
 abbrev pub numbered_now : code_numbered.NumberedMap → NumberedMap
 numbered_now m = (map_now m.kind, m.partition)
 

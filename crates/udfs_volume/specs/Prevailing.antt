@@ -8,6 +8,7 @@ abbrev pub later_of : Option Descriptor → Descriptor → Descriptor
 later_of None next = next
 later_of (Some first) next = cond (nat_lt (number first) (number next)) next first
 
+-- the prevailing one of some descriptors and one that was best before
 abbrev pub best_of : Option Descriptor → List Descriptor → Option Descriptor
 best_of best [] = best
 best_of best (d ∷ ds) = best_of (Some (later_of best d)) ds

@@ -76,5 +76,6 @@ pub record IsLawfulSample (contents : ℕ → Bytes) : Type 0 where
   pub layout_is : layout (sample_blocks contents) 600 ≡ found sample_layout
   pub is_lawful : IsLawfulLayout (sample contents) 600
 
+-- whatever stands in its partition, the sample is a volume with its layout, and lawful
 abbrev pub SampleLayout : Type 0
 SampleLayout = (contents : ℕ → Bytes) → ((n : ℕ) → IsBlock (contents n)) → IsLawfulSample contents

@@ -12,6 +12,7 @@ use Rattle.udfs_volume.specs.declared.seen.Seen.{Seen}
 use Rattle.udfs_volume.specs.declared.seen.Seen.TheVariants.{Got, Holes, Fault, OutOfMemory}
 use Rattle.udfs_volume.specs.Answers.{Answer, found, holes, faulty}
 
+-- what the code answers is this answer; want of memory says nothing of it
 abbrev pub Sees : {A B : Type 0} → (A → B) → Seen A → Answer B → Type 0
 Sees view (Got x) answer = answer ≡ found (view x)
 Sees view (Holes blocks) answer = answer ≡ holes blocks.items
@@ -23,18 +24,21 @@ abbrev pub IsRising : List ℕ → Type 0
 IsRising [] = ⊤
 IsRising (n ∷ ns) = ((m : ℕ) → Includes ns m → n < m) × IsRising ns
 
+-- the blocks to read first rise, each once
 abbrev pub HolesRise : {A : Type 0} → Seen A → Type 0
 HolesRise (Got x) = ⊤
 HolesRise (Holes blocks) = IsRising blocks.items
 HolesRise (Fault fault) = ⊤
 HolesRise OutOfMemory = ⊤
 
+-- what is found has a property
 abbrev pub IfGot : {A : Type 0} → Seen A → (A → Type 0) → Type 0
 IfGot (Got x) Property = Property x
 IfGot (Holes blocks) Property = ⊤
 IfGot (Fault fault) Property = ⊤
 IfGot OutOfMemory Property = ⊤
 
+-- where the answer is this fault, the code tells it
 abbrev pub Tells : {A B : Type 0} → VolumeFault → Seen A → Answer B → Type 0
 Tells fault seen answer = answer ≡ faulty fault → seen ≡ Fault fault
 

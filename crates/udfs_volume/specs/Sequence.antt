@@ -15,6 +15,7 @@ use Rattle.udfs_tag.specs.Tags.{is_valid, is_sound, identifier}
 use Rattle.udfs_volume.specs.Answers.{Answer, found, holes, faulty, and_then}
 use Rattle.udfs_volume.specs.declared.faults.VolumeFault.TheVariants.{NoAnchor, Extents, Pointer}
 
+-- a list of bytes
 abbrev pub Bytes : Type 0
 Bytes = List ℕ
 
@@ -26,11 +27,13 @@ anchor_places last = 256 ∷ (last - 256) ∷ last ∷ []
 abbrev pub extents_of : Bytes → AnchorExtents
 extents_of bytes = let extents = part bytes 16 16 in record { main = extent_ad_at extents 0; reserve = extent_ad_at extents 8 }
 
+-- the anchor at a place, if the block is known and valid
 abbrev pub anchor_here : ℕ → State → Option Bytes
 anchor_here place Unknown = None
 anchor_here place (Known bytes) = cond (is_valid bytes place 2) (Some bytes) None
 anchor_here place Conflict = None
 
+-- the first of two that is there
 abbrev pub or_else : {A : Type 0} → Option A → Option A → Option A
 or_else None later = later
 or_else (Some x) later = Some x
@@ -46,6 +49,7 @@ anchor_or (Some bytes) unread = found (extents_of bytes)
 anchor_or None [] = faulty NoAnchor
 anchor_or None (n ∷ ns) = holes (n ∷ ns)
 
+-- the extents of the first valid anchor, or the anchor places to read first, or that there is none
 unfoldable pub anchor : Blocks → ℕ → Answer AnchorExtents
 anchor blocks last = anchor_or (first_anchor blocks (anchor_places last)) (not_known blocks (anchor_places last))
 
@@ -54,6 +58,7 @@ anchor blocks last = anchor_or (first_anchor blocks (anchor_places last)) (not_k
 abbrev pub fits_to : ℕ → ExtentAd → Bool
 fits_to last e = nat_le (e.block + e.length / 2048) (last + 1)
 
+-- whether an anchor's extents are good: of one length, whole blocks, 16 to 256 of them, and within the volume
 abbrev pub are_extents : ℕ → AnchorExtents → Bool
 are_extents last e = nat_eq e.main.length e.reserve.length && nat_eq (e.main.length % 2048) 0
     && is_within 32768 524288 e.main.length && fits_to last e.main && fits_to last e.reserve
@@ -70,6 +75,7 @@ pub data Position : Type 0 where
   invalid : Position
   descriptor : Descriptor → Position
 
+-- a position of the descriptor sequence: unread, a sound descriptor, or invalid
 abbrev pub position_of : List ℕ → Option (ℕ × Bytes) → Position
 position_of copies None = unread (ascending copies)
 position_of copies (Some known) = cond (is_sound known.1 known.0)
@@ -79,6 +85,7 @@ position_of copies (Some known) = cond (is_sound known.1 known.0)
 unfoldable pub position : Blocks → ℕ → ℕ → Position
 position blocks main reserve = position_of (main ∷ reserve ∷ []) (first_known blocks (main ∷ reserve ∷ []))
 
+-- the positions of the descriptor sequence, each with its two copies
 abbrev pub positions : Blocks → AnchorExtents → List Position
 positions blocks e =
     map (λ i. position blocks (e.main.block + i) (e.reserve.block + i)) (range_with_len 0 (e.main.length / 2048))
@@ -89,11 +96,13 @@ goes_on (unread copies) = false
 goes_on invalid = false
 goes_on (descriptor d) = not (nat_eq d.identifier 8 || nat_eq d.identifier 3)
 
+-- a position's descriptor, if it has one, before others
 abbrev pub cons_descriptor : Position → List Descriptor → List Descriptor
 cons_descriptor (unread copies) ds = ds
 cons_descriptor invalid ds = ds
 cons_descriptor (descriptor d) ds = d ∷ ds
 
+-- the descriptors of some positions
 abbrev pub descriptors : List Position → List Descriptor
 descriptors [] = []
 descriptors (p ∷ ps) = cons_descriptor p (descriptors ps)
@@ -105,11 +114,14 @@ ended_by (Some (unread copies)) ds = holes copies
 ended_by (Some invalid) ds = found ds
 ended_by (Some (descriptor d)) ds = cond (nat_eq d.identifier 3) (faulty Pointer) (found ds)
 
+-- the descriptors up to the end of the sequence, or the copies to read first, or a fault
 abbrev pub read_positions : List Position → Answer (List Descriptor)
 read_positions all = let front = take_while goes_on all in ended_by (slice_get all (length front)) (descriptors front)
 
+-- the descriptor sequence in an anchor's extents
 abbrev pub sequence_at : Blocks → ℕ → AnchorExtents → Answer (List Descriptor)
 sequence_at blocks last e = cond (are_extents last e) (read_positions (positions blocks e)) (faulty Extents)
 
+-- the descriptor sequence of a volume
 unfoldable pub sequence : Blocks → ℕ → Answer (List Descriptor)
 sequence blocks last = and_then (anchor blocks last) (sequence_at blocks last)

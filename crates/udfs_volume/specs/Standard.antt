@@ -11,6 +11,7 @@ use Rattle.udfs_volume.specs.declared.anchors.AnchorExtents.{AnchorExtents}
 use Rattle.udfs_volume.specs.Sequence.{Descriptor, extents_of, anchor_places}
 use Rattle.udfs_volume.specs.Layout.{Layout, layout_of}
 
+-- the first place that has a valid anchor
 abbrev pub standard_anchor : Volume → ℕ → Option ℕ
 standard_anchor volume last = find (λ n. is_valid (volume n) n 2) (anchor_places last)
 
@@ -19,9 +20,11 @@ abbrev pub main_blocks : Volume → AnchorExtents → List ℕ
 main_blocks volume e = take_while (λ n. is_sound (volume n) n && not (nat_eq (identifier (volume n)) 8))
     (range_with_len e.main.block (e.main.length / 2048))
 
+-- the descriptors of the main sequence, as the standard reads them
 abbrev pub main_sequence : Volume → AnchorExtents → List Descriptor
 main_sequence volume e =
     map (λ n. record { identifier = identifier (volume n); content = drop 16 (volume n) }) (main_blocks volume e)
 
+-- the layout of a volume, as the standard reads it from this anchor
 abbrev pub standard_layout : Volume → ℕ → ℕ → Answer Layout
 standard_layout volume last anchor = layout_of last (main_sequence volume (extents_of (volume anchor)))

@@ -27,6 +27,7 @@ IsToldOf volume blocks last (Holes listed) =
 IsToldOf volume blocks last (Fault fault) = ⊥
 IsToldOf volume blocks last OutOfMemory = ⊤
 
+-- for each lawful volume that agrees with the table, what is answered is told of it
 abbrev pub TellsLawful : Blocks → ℕ → Seen VolumeParts → Type 0
 TellsLawful blocks last seen = (volume : Volume) → IsVolume volume last → IsLawfulLayout volume last → Agrees blocks volume last
     → IsToldOf volume blocks last seen

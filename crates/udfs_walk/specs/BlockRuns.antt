@@ -5,9 +5,11 @@ use Rattle.std.specs.Prelude.{⊤, ℕ, ◌+◌, ◌-◌, ◌≤◌, List, [], �
 use Rattle.std.specs.List.{range_with_len}
 use Rattle.udfs_walk.specs.declared.block_runs.BlockRun.{BlockRun}
 
+-- the blocks of a run, rising
 abbrev pub run_blocks : BlockRun → List ℕ
 run_blocks r = range_with_len r.first (r.last + 1 - r.first)
 
+-- the blocks of runs, one run after the other
 unfoldable pub blocks_of : List BlockRun → List ℕ
 blocks_of rs = flat_map run_blocks rs
 
@@ -16,5 +18,6 @@ abbrev pub AreSortedFrom : ℕ → List BlockRun → Type 0
 AreSortedFrom n [] = ⊤
 AreSortedFrom n (r ∷ rs) = (n ≤ r.first) × AreSortedFrom r.first rs
 
+-- the runs rise and do not touch
 abbrev pub AreSorted : List BlockRun → Type 0
 AreSorted rs = AreSortedFrom 0 rs

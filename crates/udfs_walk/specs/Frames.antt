@@ -21,6 +21,7 @@ pub record FrameFields : Type 0 where
   pub above : List Icb
   pub left : List DirEntry
 
+-- a directory that is gone through: its path, the ICBs above it, and the entries that are left
 abbrev pub frame_at : View → Walked → FrameFields
 frame_at view w = record { path = w.path; above = w.above ++ icb_of w.address ∷ []; left = entries_below view w }
 
@@ -29,6 +30,7 @@ abbrev pub IsFrameOf : Option FrameFields → FrameFields → Type 0
 IsFrameOf None f = f.left ≡ []
 IsFrameOf (Some kept) f = kept ≡ f
 
+-- the frames, with one more if a directory is entered
 abbrev pub kept : List FrameFields → Option FrameFields → List FrameFields
 kept frames None = frames
 kept frames (Some frame) = frames ++ frame ∷ []
@@ -42,6 +44,7 @@ pub record IsNextTaken (view : View) (old new : FrameFields) (n : NodeFields) (b
   pub node : n ≡ node view (inside old.path old.above entry)
   pub frame : IsFrameOf below (frame_at view (inside old.path old.above entry))
 
+-- the next entry of a frame was taken, or none was left
 abbrev pub IsTaken : View → FrameFields → Option (NodeFields × Option FrameFields) → FrameFields → Type 0
 IsTaken view old None new = old.left ≡ []
 IsTaken view old (Some taken) new = IsNextTaken view old new taken.0 taken.1

@@ -23,6 +23,7 @@ closed start (suc grown) runs = (start, suc grown) ∷ runs
 abbrev pub runs_open : ℕ → ℕ → List Cell → List (ℕ × ℕ)
 runs_open start grown rest = runs_from start (replicate grown (Gap 0) ++ rest)
 
+-- the cells before the rest were passed: what is missing of all is what was noted and what the rest lacks
 pub record IsPassed (whole rest : List Cell) (g : GapFields) : Type 0 where
   pub blocks : ascending (missing_blocks whole) ≡ ascending (g.missing ++ missing_blocks rest)
   pub runs : runs_from 0 whole ≡ g.holes ++ runs_open g.start g.grown rest
@@ -31,10 +32,12 @@ pub record IsPassed (whole rest : List Cell) (g : GapFields) : Type 0 where
 unfoldable pub Leaves : List Cell → List Cell → GapFields → GapFields → Type 0
 Leaves cs rest old new = (whole later : List Cell) → IsPassed whole (cs ++ later) old → IsPassed whole (rest ++ later) new
 
+-- the cell has a byte
 abbrev pub IsByte : Cell → Type 0
 IsByte (Byte x holder) = ⊤
 IsByte (Gap n) = ⊥
 
+-- the cell is missing, and needs block n
 abbrev pub IsGapOf : ℕ → Cell → Type 0
 IsGapOf n (Byte x holder) = ⊥
 IsGapOf n (Gap m) = m ≡ n

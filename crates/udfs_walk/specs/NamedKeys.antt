@@ -6,8 +6,10 @@ use Rattle.udfs_space.specs.Places.{View}
 use Rattle.udfs_walk.specs.NodeFields.{NodeFields}
 use Rattle.udfs_walk.specs.UnnamedEntries.{names}
 
+-- an ICB as one number
 abbrev pub key_of : ℕ → ℕ → ℕ
 key_of r b = r * 4294967296 + b
 
+-- the keys are those of the ICBs that the nodes name
 unfoldable pub AreNamed : View → List NodeFields → List ℕ → Type 0
 AreNamed view nodes keys = (r b : ℕ) → b < 4294967296 → list_any (nat_eq (key_of r b)) keys ≡ list_any (names view (r, b)) nodes

@@ -48,5 +48,6 @@ node_at view w (bad f) = untold w (Fault f)
 node_at view w (unread n) = untold w (Torn (record { missing = n ∷ []; holes = [] }))
 node_at view w (entry e) = told w e (entry_standing view w e)
 
+-- the node that a walk has come to
 unfoldable pub node : View → Walked → NodeFields
 node view w = node_at view w (target view w.address)

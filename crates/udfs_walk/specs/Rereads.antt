@@ -6,11 +6,13 @@ use Rattle.udfs_walk.specs.NodeFields.{NodeFields}
 use Rattle.udfs_walk.specs.declared.standings.Standing.{Standing}
 use Rattle.udfs_walk.specs.declared.standings.Standing.TheVariants.{Whole, Torn, Loop, Fault}
 
+-- the blocks that a torn standing lacks
 abbrev pub missing_of : Standing → List ℕ
 missing_of Whole = []
 missing_of (Torn torn) = torn.missing
 missing_of Loop = []
 missing_of (Fault f) = []
 
+-- the blocks that the nodes lack, rising and each once
 abbrev pub reread : List NodeFields → List ℕ
 reread nodes = ascending (flat_map (λ n. missing_of n.standing) nodes)

@@ -23,6 +23,7 @@ pub record Walked : Type 0 where
   pub above : List Icb
   pub hidden : Bool
 
+-- the walk at its beginning
 abbrev pub at_root : LongAd → Walked
 at_root root = record { address = root; path = []; above = []; hidden = false }
 
@@ -42,14 +43,17 @@ is_loop w = list_any (is_icb (icb_of w.address)) w.above
 abbrev pub is_deep : Walked → Bool
 is_deep w = nat_le 64 (length w.path)
 
+-- the entries of a directory's body; a faulty body has none
 abbrev pub entries_in : Body → List DirEntry
 entries_in (cells cs) = entries_of cs
 entries_in (faulty_body fault) = []
 
+-- the entries of a directory; what is none has none
 abbrev pub kind_entries : Kind → Body → List DirEntry
 kind_entries Directory b = entries_in b
 kind_entries _ b = []
 
+-- the entries below what an address leads to
 abbrev pub target_entries : View → LongAd → Target → List DirEntry
 target_entries view a (entry e) = kind_entries e.kind (body view a.reference a.block e)
 target_entries view a _ = []
@@ -62,6 +66,7 @@ entries_below view w = cond (is_loop w || is_deep w) [] (target_entries view w.a
 abbrev pub Route : Type 0
 Route = List ℕ
 
+-- the walk along a route, whose numbers each choose an entry
 abbrev pub walk_from : View → Walked → Route → Option Walked
 walk_from view w [] = Some w
 walk_from view w (j ∷ js) = elim (slice_get (entries_below view w) j) [ None ↦ None | Some e ↦ walk_from view (below w e) js ]
@@ -77,6 +82,7 @@ IsBefore [] (j ∷ js) = ⊤
 IsBefore (i ∷ is) [] = ⊥
 IsBefore (i ∷ is) (j ∷ js) = (i < j) ⊎ ((i ≡ j) × IsBefore is js)
 
+-- the routes stand in the order of words, a directory before what is below it
 abbrev pub IsInOrder : List Route → Type 0
 IsInOrder [] = ⊤
 IsInOrder (r ∷ []) = ⊤

@@ -7,15 +7,19 @@ use Rattle.udfs_walk.specs.Nodes.{node}
 use Rattle.udfs_walk.specs.Routes.{Walked, at_root, below, entries_below}
 use Rattle.udfs_walk.specs.declared.standings.Standing.TheVariants.{Whole}
 
+-- the sample's root
 abbrev pub top : Walked
 top = at_root sample_root
 
+-- the sample's file A
 abbrev pub at_a : Walked
 at_a = below top (named 0x41 3)
 
+-- the sample's file B
 abbrev pub at_b : Walked
 at_b = below top (named 0x42 4)
 
+-- the sample's three nodes, all whole
 pub record AreSampleNodes : Type 0 where
   pub whole_root : (node sample_view top).standing ≡ Whole
   pub below_root : entries_below sample_view top ≡ named 0x41 3 ∷ named 0x42 4 ∷ []

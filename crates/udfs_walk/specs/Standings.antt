@@ -16,6 +16,7 @@ use Rattle.udfs_file.specs.declared.faults.NodeFault.TheVariants.{Depth}
 use Rattle.udfs_walk.specs.declared.standings.Standing.{Standing}
 use Rattle.udfs_walk.specs.declared.standings.Standing.TheVariants.{Whole, Torn, Fault}
 
+-- the blocks that the missing cells need, cell by cell
 abbrev pub missing_blocks : List Cell → List ℕ
 missing_blocks [] = []
 missing_blocks (Byte x holder ∷ cs) = missing_blocks cs
@@ -32,6 +33,7 @@ runs_from at [] = []
 runs_from at (Byte x holder ∷ cs) = runs_from (at + 1) cs
 runs_from at (Gap n ∷ cs) = with_hole at (runs_from (at + 1) cs)
 
+-- whole where no block is missing, and else torn
 abbrev pub torn_or_whole : List ℕ → List (ℕ × ℕ) → Standing
 torn_or_whole [] runs = Whole
 torn_or_whole (n ∷ ns) runs = Torn (record { missing = n ∷ ns; holes = runs })
@@ -46,6 +48,7 @@ depth_or true (e ∷ es) standing = Fault Depth
 depth_or true [] standing = standing
 depth_or false es standing = standing
 
+-- a standing, unless there is a fault
 abbrev pub unless_fault : Option NodeFault → Standing → Standing
 unless_fault None standing = standing
 unless_fault (Some f) standing = Fault f
@@ -54,6 +57,7 @@ unless_fault (Some f) standing = Fault f
 abbrev pub directory_standing : Bool → List Cell → Standing
 directory_standing is_deep cs = unless_fault (fault_in (directory cs).rest) (depth_or is_deep (entries_of cs) (cells_standing cs))
 
+-- the standing of a directory, and of what is none
 abbrev pub kind_standing : Kind → Bool → List Cell → Standing
 kind_standing Directory is_deep cs = directory_standing is_deep cs
 kind_standing _ is_deep cs = cells_standing cs

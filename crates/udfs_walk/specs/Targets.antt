@@ -17,6 +17,7 @@ pub data Target : Type 0 where
   unread : ℕ → Target
   entry : EntryFields → Target
 
+-- an entry, unless there is a fault
 abbrev pub entry_unless : Option NodeFault → EntryFields → Target
 entry_unless None e = entry e
 entry_unless (Some fault) e = bad fault
@@ -33,6 +34,7 @@ target_at (Some fault) b block = bad fault
 target_at None b None = bad Range
 target_at None b (Some block) = target_in b block.0 block.1
 
+-- what an address leads to: a fault, a block that is not known, or an entry
 unfoldable pub target : View → LongAd → Target
 target view a = target_at (address_fault view a) a.block (block_at view a.reference a.block)
 
@@ -40,8 +42,10 @@ target view a = target_at (address_fault view a) a.block (block_at view a.refere
 abbrev pub Icb : Type 0
 Icb = ℕ × ℕ
 
+-- the information control block that an address names
 abbrev pub icb_of : LongAd → Icb
 icb_of a = (a.reference, a.block)
 
+-- whether two information control blocks are one
 abbrev pub is_icb : Icb → Icb → Bool
 is_icb a b = (a.0 == b.0) && (a.1 == b.1)

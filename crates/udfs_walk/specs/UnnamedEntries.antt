@@ -22,6 +22,7 @@ names view icb n = is_none (address_fault view n.icb) && is_icb icb (icb_of n.ic
 abbrev pub address_of : Icb → LongAd
 address_of icb = record { kind = 0; length = 2048; block = icb.1; reference = icb.0 }
 
+-- an entry without a name, by its fields
 abbrev pub unnamed_with : View → Icb → EntryFields → Unnamed
 unnamed_with view icb e = record {
   reference = icb.0;
@@ -32,6 +33,7 @@ unnamed_with view icb e = record {
   standing = body_standing e.kind false (body view icb.0 icb.1 e);
 }
 
+-- the entry that stands at an information control block, if it is a sound one
 abbrev pub entry_alone : View → Icb → Target → Option Unnamed
 entry_alone view icb (bad f) = None
 entry_alone view icb (unread n) = None
@@ -45,5 +47,6 @@ unnamed_at view nodes icb = cond (list_any (names view icb) nodes) None (entry_a
 abbrev pub icbs_in : Space → ℕ → List Icb
 icbs_in space r = map (λ b. (r, b)) (range_with_len 0 (length_of space r))
 
+-- the sound entries in known blocks that no node names, by partition and block
 abbrev pub unnamed : View → Space → List NodeFields → List Unnamed
 unnamed view space nodes = flat_map (λ r. filter_map (unnamed_at view nodes) (icbs_in space r)) (range_with_len 0 (length space))

@@ -15,9 +15,11 @@ use Rattle.udfs_walk.specs.declared.answers.NodesError.TheVariants.{TooManyPaths
 use Rattle.udfs_walk.specs.declared.targets.Target.{Target}
 use Rattle.udfs_walk.specs.declared.targets.Target.TheVariants.{Fault, Unread, Entry}
 
+-- the walk at the end of a route
 abbrev pub end_at : LongAd → List (List ℕ) → List Icb → Bool → Walked
 end_at address path above hidden = record { address = address; path = path; above = above; hidden = hidden }
 
+-- what an address leads to, as the definitions see it
 abbrev pub target_now : Target → targets.Target
 target_now (Fault f) = targets.bad f
 target_now (Unread n) = targets.unread n
