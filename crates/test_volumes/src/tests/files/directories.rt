@@ -1,9 +1,9 @@
 //! Directories.
 
 use super::told::{end, front, steps, within};
-use udfs_file::Pieces;
 use std::alloc::{AllocError, Global};
 use std::test::Fail;
+use udfs_file::Pieces;
 use udfs_samples::{Bytes, Disc};
 
 #[test]

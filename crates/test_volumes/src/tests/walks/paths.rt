@@ -1,9 +1,9 @@
 //! Paths: their names in order, those of the directory first.
 
-use udfs_walk::paths::Path;
 use std::alloc::Global;
 use std::test::Fail;
 use udfs_osta::Name;
+use udfs_walk::paths::Path;
 
 /// A name of one letter.
 fn name(alloc: Global, letter: u8) -> Result<Name, Fail> {
