@@ -57,7 +57,7 @@ fn settle(blocks: &mut Vec<u32>, most: usize) -> usize
         return most;
     }
     sort_once(blocks);
-    blocks.len() / 2 + most
+    blocks.len().saturating_mul(2).max(MOST_GATHERED)
 }
 
 /// The blocks that are missing in torn nodes, ascending and each once, as [`reread`] lists them, of nodes without their
