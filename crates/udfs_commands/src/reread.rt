@@ -9,7 +9,7 @@ use crate::inputs::joined;
 use crate::refusal::Refusal;
 use std::alloc::Global;
 use udfs_reading::Sink;
-use udfs_salvage::{all_whole, salvage, write_reread};
+use udfs_salvage::{survey_volume, write_numbers};
 
 /// Joins the inputs, and prints the numbers of the blocks of the volume, of which `last` is the last, that are worth
 /// reading again. It answers whether there are files and all of them are whole. All inputs are opened in order before one is read.
@@ -24,7 +24,7 @@ pub fn reread<F: Files, O: Sink>(
         (PrintsNumbers last (O.contents out.old) (O.contents out.new) (O.faults out.old) (O.faults out.new) whole)) }
 {
     let table = joined(alloc, inputs, files)?;
-    let report = salvage(alloc, &table, last)?;
-    write_reread(alloc, &report, out)?;
-    Ok(all_whole(&report.nodes))
+    let survey = survey_volume(alloc, &table, last)?;
+    write_numbers(alloc, &survey.reread, out)?;
+    Ok(survey.all_whole())
 }

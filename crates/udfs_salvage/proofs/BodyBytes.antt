@@ -1,97 +1,63 @@
--- The bytes of cells: of one block, of a stretch, and of several.
-use Rattle.std.proofs.Common.{◌≡◌, refl, sym, ◌∙◌, ap, ℕ, ◌+◌, ◌-◌, ◌*◌, ◌/◌, ◌%◌, ◌≤◌, List, ◌∷◌, ◌++◌, length, map, take, drop, drop-cons, arith, replicate, slice_range, Option, Some, None}
-use Rattle.std.specs.Prelude.{zero, suc, slice_index}
-use Rattle.std.specs.List.{range_with_len}
-use Rattle.std.proofs.lemmas.List.{drop-take, map-append}
-use Rattle.std.proofs.lemmas.Slice.{between_is}
-use Rattle.udfs_lattice.specs.States.{State}
-use Rattle.udfs_lattice.specs.declared.facts.Fact.TheVariants.{Unknown, Known, Conflict}
-use Rattle.udfs_space.specs.Places.{View, block_at}
-use Rattle.udfs_file.specs.Bodies.{cell_at, recorded_cell}
+-- The bytes of the portions of a body.
+use Rattle.std.proofs.Common.{◌≡◌, refl, sym, ◌∙◌, ap, subst, ℕ, ◌+◌, ◌-◌, List, [], ◌∷◌, ◌++◌, length, length-append, map, take, replicate, Option, Some, None}
+use Rattle.std.specs.Prelude.{zero, suc}
+use Rattle.std.specs.Borrow.{Bor}
+use Rattle.std.proofs.lemmas.List.{map-append, length-replicate, length-take-le, replicate-append-replicate}
+use Rattle.udfs_file.specs.Pieces.{byte_cells}
+use Rattle.udfs_file.specs.Portions.{AreUnread, GivesPortion, IsFirst, IsPortion, portion_count}
 use Rattle.udfs_file.specs.declared.cells.Cell.{Cell}
 use Rattle.udfs_file.specs.declared.cells.Cell.TheVariants.{Byte, Gap}
-use Rattle.udfs_file.specs.Stretches.{stretch_cells}
-use Rattle.udfs_file.specs.declared.stretches.Stretch.{Stretch}
-use Rattle.udfs_file.specs.declared.stretches.Stretch.TheVariants.{Zeros, Missing}
+use Rattle.udfs_file.specs.declared.portions.Portion.{Portion}
+use Rattle.udfs_file.specs.declared.portions.Portion.TheVariants.{Bytes, Zeros, Missing}
+use Rattle.udfs_file.specs.declared.portions.Unread.{Unread}
 use Rattle.udfs_salvage.specs.Extraction.{cell_byte, filled}
-
--- ---- one block
-
--- the bytes in one block, whatever is known of it
-in_block : (x : ℕ) (v : View) (r b q p k : ℕ) → 2048 * q ≤ p → p + k ≤ 2048 * q + 2048
-    → map (cell_byte x) (map (recorded_cell v r b) (range_with_len p k))
-    ≡ map (λ i. cell_byte x (cell_at (b + q) i (block_at v r (b + q)))) (range_with_len (p - 2048 * q) k)
-in_block x v r b q p zero h m = refl
-in_block x v r b q p (suc k) h m =
-    let e : p / 2048 ≡ q = omega (arith, h, m) in
-    let f : p % 2048 ≡ p - 2048 * q = omega (arith, h, m) in
-    let n : p + 1 - 2048 * q ≡ p - 2048 * q + 1 = omega (arith, h) in
-    let g = λ (i : ℕ). cell_byte x (cell_at (b + q) i (block_at v r (b + q))) in
-    ap (λ y. y ∷ map (cell_byte x) (map (recorded_cell v r b) (range_with_len (p + 1) k))) (λ i. cell_byte x (cell_at (b + e i) (f i) (block_at v r (b + e i))))
-    ∙ ap (λ l. g (p - 2048 * q) ∷ l) (in_block x v r b q (p + 1) k (omega (arith, h)) (omega (arith, m)) ∙ ap (λ z. map g (range_with_len z k)) n)
-
-all_same : (x a k : ℕ) → map (λ i. x) (range_with_len a k) ≡ replicate k x
-all_same x a zero = refl
-all_same x a (suc k) = ap (λ l. x ∷ l) (all_same x (a + 1) k)
-
-taken : (bytes : List ℕ) (a k : ℕ) → a + k ≤ length bytes → map (λ i. slice_index bytes i) (range_with_len a k) ≡ take k (drop a bytes)
-taken bytes a zero h = refl
-taken bytes a (suc k) h =
-    let e : suc a ≡ a + 1 = omega arith in
-    ap (λ l. slice_index bytes a ∷ l) (taken bytes (a + 1) k (omega (arith, h)) ∙ ap (λ z. take k (drop z bytes)) (sym e))
-    ∙ sym (ap (take (suc k)) (drop-cons bytes a 0 (omega (arith, h))))
-
-abbrev by_state : (x b a k : ℕ) (o : Option (ℕ × State)) → List ℕ
-by_state x b a k o = map (λ i. cell_byte x (cell_at b i o)) (range_with_len a k)
-
--- a known block has its bytes
-known : (x b a k n : ℕ) (bytes : List ℕ) (o : Option (ℕ × State)) → o ≡ Some (n, Known bytes) → a + k ≤ length bytes → by_state x b a k o ≡ slice_range bytes a (a + k)
-known x b a k n bytes o e h = ap (by_state x b a k) e ∙ taken bytes a k h ∙ sym (between_is bytes a (a + k) ∙ drop-take a k bytes)
-
--- the bytes at a place that lies in one block
-of_block : (x : ℕ) (v : View) (r b at k : ℕ) → at % 2048 + k ≤ 2048
-    → filled x (map (recorded_cell v r b) (range_with_len at k)) ≡ by_state x (b + at / 2048) (at % 2048) k (block_at v r (b + at / 2048))
-unfolding filled
-of_block x v r b at k h =
-    let e : at - 2048 * (at / 2048) ≡ at % 2048 = omega arith in
-    in_block x v r b (at / 2048) at k (omega arith) (omega (arith, h)) ∙ ap (λ a. by_state x (b + at / 2048) a k (block_at v r (b + at / 2048))) e
-
-pub block_zeros : (x : ℕ) (v : View) (r b at k : ℕ) → at % 2048 + k ≤ 2048 → block_at v r (b + at / 2048) ≡ None
-    → filled x (map (recorded_cell v r b) (range_with_len at k)) ≡ replicate k 0
-block_zeros x v r b at k h e = of_block x v r b at k h ∙ ap (by_state x (b + at / 2048) (at % 2048) k) e ∙ all_same 0 (at % 2048) k
-
-pub block_bytes : (x : ℕ) (v : View) (r b at k n : ℕ) (bytes : List ℕ) → at % 2048 + k ≤ 2048 → length bytes ≡ 2048 → block_at v r (b + at / 2048) ≡ Some (n, Known bytes)
-    → filled x (map (recorded_cell v r b) (range_with_len at k)) ≡ slice_range bytes (at % 2048) (at % 2048 + k)
-block_bytes x v r b at k n bytes h l e = of_block x v r b at k h ∙ known x (b + at / 2048) (at % 2048) k n bytes (block_at v r (b + at / 2048)) e (omega (arith, h, l))
-
-pub block_unknown : (x : ℕ) (v : View) (r b at k n : ℕ) → at % 2048 + k ≤ 2048 → block_at v r (b + at / 2048) ≡ Some (n, Unknown)
-    → filled x (map (recorded_cell v r b) (range_with_len at k)) ≡ replicate k x
-block_unknown x v r b at k n h e = of_block x v r b at k h ∙ ap (by_state x (b + at / 2048) (at % 2048) k) e ∙ all_same x (at % 2048) k
-
-pub block_conflict : (x : ℕ) (v : View) (r b at k n : ℕ) → at % 2048 + k ≤ 2048 → block_at v r (b + at / 2048) ≡ Some (n, Conflict)
-    → filled x (map (recorded_cell v r b) (range_with_len at k)) ≡ replicate k x
-block_conflict x v r b at k n h e = of_block x v r b at k h ∙ ap (by_state x (b + at / 2048) (at % 2048) k) e ∙ all_same x (at % 2048) k
-
--- ---- stretches
-
-map_replicate : (x : ℕ) (c : Cell) (k : ℕ) → map (cell_byte x) (replicate k c) ≡ replicate k (cell_byte x c)
-map_replicate x c zero = refl
-map_replicate x c (suc k) = ap (λ l. cell_byte x c ∷ l) (map_replicate x c k)
-
-zeros_filled : (x k : ℕ) → filled x (replicate k (Byte 0 None)) ≡ replicate k 0
-unfolding filled
-zeros_filled x k = map_replicate x (Byte 0 None) k
-
-gaps_filled : (x n k : ℕ) → filled x (replicate k (Gap n)) ≡ replicate k x
-unfolding filled
-gaps_filled x n k = map_replicate x (Gap n) k
 
 pub filled_append : (x : ℕ) (cs ds : List Cell) → filled x (cs ++ ds) ≡ filled x cs ++ filled x ds
 unfolding filled
 filled_append x cs ds = map-append (cell_byte x) cs ds
 
-pub zero_stretch : (x : ℕ) (v : View) (s : Stretch) (k n : ℕ) → s ≡ Zeros k → n ≡ k → filled x (stretch_cells v s) ≡ replicate n 0
-zero_stretch x v s k n e h = ap (λ z. filled x (stretch_cells v z)) e ∙ zeros_filled x k ∙ ap (λ m. replicate m 0) (sym h)
+same_filled : (x : ℕ) (c : Cell) (k : ℕ) → filled x (replicate k c) ≡ replicate k (cell_byte x c)
+unfolding filled
+same_filled x c zero = refl
+same_filled x c (suc k) = ap (λ l. cell_byte x c ∷ l) (same_filled x c k)
 
-pub gap_stretch : (x : ℕ) (v : View) (s : Stretch) (b k : ℕ) → s ≡ Missing b k → filled x (stretch_cells v s) ≡ replicate k x
-gap_stretch x v s b k e = ap (λ z. filled x (stretch_cells v z)) e ∙ gaps_filled x b k
+bytes_filled : (x : ℕ) (holder : Option ℕ) (bytes : List ℕ) → filled x (byte_cells holder bytes) ≡ bytes
+unfolding filled
+bytes_filled x holder [] = refl
+bytes_filled x holder (b ∷ bs) = ap (λ l. b ∷ l) (bytes_filled x holder bs)
+
+-- all cells of unread blocks are missing
+unread_filled : (x n k : ℕ) (cs : List Cell) → AreUnread n k cs → filled x cs ≡ replicate (length cs) x
+unfolding filled
+unread_filled x n zero cs u = ap (filled x) u ∙ sym (ap (λ z. replicate (length z) x) u)
+unread_filled x n (suc k) cs u = ap (filled x) u.2 ∙ filled_append x front u.1
+    ∙ (λ i. same_filled x (Gap n) (suc u.0) i ++ unread_filled x (n + 1) k u.1 u.3 i)
+    ∙ replicate-append-replicate (suc u.0) (length u.1) x
+    ∙ sym (ap (λ z. replicate z x) long)
+  where
+    front : List Cell
+    front = replicate (suc u.0) (Gap n)
+
+    long : length cs ≡ suc u.0 + length u.1
+    long = ap length u.2 ∙ length-append front u.1 ∙ ap (λ z. z + length u.1) (length-replicate (suc u.0) (Gap n))
+
+-- ---- what a portion says of its cells
+pub bytes_portion : (x : ℕ) (p : Portion) (b : Bor (List ℕ)) (cs : List Cell) → p ≡ Bytes b → IsPortion p cs → filled x cs ≡ b.now
+bytes_portion x p b cs e i = let h : (holder : Option ℕ) × (cs ≡ byte_cells holder b.now) = subst (λ z. IsPortion z cs) e i in ap (filled x) h.1 ∙ bytes_filled x h.0 b.now
+
+pub zeros_portion : (x : ℕ) (p : Portion) (n : ℕ) (cs : List Cell) → p ≡ Zeros n → IsPortion p cs → filled x cs ≡ replicate n 0
+zeros_portion x p n cs e i = let h : cs ≡ replicate n (Byte 0 None) = subst (λ z. IsPortion z cs) e i in ap (filled x) h ∙ same_filled x (Byte 0 None) n
+
+pub missing_portion : (x : ℕ) (p : Portion) (run : Unread) (cs : List Cell) → p ≡ Missing run → IsPortion p cs → length cs ≡ portion_count p → filled x cs ≡ replicate run.count x
+missing_portion x p run cs e i n = let h : AreUnread run.first (run.last + 1 - run.first) cs = subst (λ z. IsPortion z cs) e i in
+    unread_filled x run.first (run.last + 1 - run.first) cs h ∙ ap (λ z. replicate z x) (n ∙ ap portion_count e)
+
+-- ---- one turn of the loop over portions
+pub first_taken : (s t : List Cell) (r : Option Portion) (p : Portion) → r ≡ Some p → GivesPortion s r t → IsFirst p s t
+first_taken s t r p e g = subst (λ z. GivesPortion s z t) e g
+
+pub none_taken : (s t : List Cell) (r : Option Portion) → r ≡ None → GivesPortion s r t → s ≡ []
+none_taken s t r e g = (subst (λ z. GivesPortion s z t) e g).0
+
+pub first_count : (p : Portion) (s t : List Cell) → IsFirst p s t → length (take (portion_count p) s) ≡ portion_count p
+first_count p s t f = length-take-le (portion_count p) s f.there

@@ -21,3 +21,5 @@ pub mod Rereading
 pub mod SampleLawful
 pub mod TreeBytes
 pub mod PathNames
+pub mod FullTexts
+pub mod Surveying

@@ -1,13 +1,11 @@
 -- Bytes that are taken to be written piece by piece.
 --     Taken old new i j held still all rest     of all these bytes the rest is left
-use Rattle.std.proofs.Common.{◌≡◌, refl, sym, ◌∙◌, ap, subst, ℕ, ◌+◌, ◌-◌, ◌<◌, ◌≤◌, List, [], ◌∷◌, ◌++◌, length, map, drop, get_or, drop-cons, append_assoc, append-nil, arith, replicate, Option}
-use Rattle.std.specs.Prelude.{zero, suc}
-use Rattle.std.specs.List.{range_with_len}
-use Rattle.std.proofs.lemmas.List.{replicate-append-replicate}
-use Rattle.udfs_space.specs.Places.{View}
-use Rattle.udfs_file.specs.Stretches.{cells_of, stretch_cells}
+use Rattle.std.proofs.Common.{◌≡◌, refl, sym, ◌∙◌, ap, subst, ℕ, ◌+◌, ◌-◌, ◌<◌, ◌≤◌, List, [], ◌∷◌, ◌++◌, length, drop, take, append_assoc, append-nil, arith, replicate, slice_range, Option}
+use Rattle.std.proofs.lemmas.List.{drop-drop, drop-take, drop_all, replicate-append-replicate, take-append-drop}
+use Rattle.std.proofs.lemmas.Slice.{between_is}
+use Rattle.udfs_file.specs.Portions.{IsFirst, portion_count}
 use Rattle.udfs_file.specs.declared.cells.Cell.{Cell}
-use Rattle.udfs_file.specs.declared.stretches.Stretch.{Stretch}
+use Rattle.udfs_file.specs.declared.portions.Portion.{Portion}
 use Rattle.udfs_reading.specs.Writing.{Passed, FailedPast}
 use Rattle.udfs_salvage.specs.Extraction.{filled}
 use Rattle.udfs_salvage.proofs.Passing.{passed_none, passed_then, failed_then, failed_more}
@@ -49,41 +47,23 @@ same_split x left here h =
     let e : left ≡ here + (left - here) = omega (arith, h) in
     ap (λ n. replicate n x) e ∙ sym (replicate-append-replicate here (left - here) x)
 
-split_cells : {A : Type 0} (f : ℕ → A) (a m n : ℕ) → map f (range_with_len a (m + n)) ≡ map f (range_with_len a m) ++ map f (range_with_len (a + m) n)
-split_cells f a zero n = (λ i. map f (range_with_len (p i) (q i)))
+pub bytes_split : (bytes : List ℕ) (at here : ℕ) → at + here ≤ length bytes → drop at bytes ≡ slice_range bytes at (at + here) ++ drop (at + here) bytes
+bytes_split bytes at here h = sym (take-append-drop here (drop at bytes))
+    ∙ (λ i. piece i ++ behind i)
   where
-    p : a ≡ a + 0
-    p = omega arith
+    piece : take here (drop at bytes) ≡ slice_range bytes at (at + here)
+    piece = sym (between_is bytes at (at + here) ∙ drop-take at here bytes)
 
-    q : 0 + n ≡ n
-    q = omega arith
-split_cells f a (suc m) n = ap (λ k. map f (range_with_len a k)) (let e : suc m + n ≡ suc (m + n) = omega arith in e)
-    ∙ ap (λ l. f a ∷ l) (split_cells f (a + 1) m n ∙ ap (λ z. map f (range_with_len (a + 1) m) ++ map f (range_with_len z n)) (let e : a + 1 + m ≡ a + suc m = omega arith in e))
+    behind : drop here (drop at bytes) ≡ drop (at + here) bytes
+    behind = drop-drop here at bytes
 
-pub range_split : (x : ℕ) (f : ℕ → Cell) (at left here : ℕ) → here ≤ left
-    → filled x (map f (range_with_len at left)) ≡ filled x (map f (range_with_len at here)) ++ filled x (map f (range_with_len (at + here) (left - here)))
-range_split x f at left here h =
-    let e : left ≡ here + (left - here) = omega (arith, h) in
-    ap (λ n. filled x (map f (range_with_len at n))) e ∙ ap (filled x) (split_cells f at here (left - here))
-    ∙ filled_append x (map f (range_with_len at here)) (map f (range_with_len (at + here) (left - here)))
+pub no_bytes_left : (bytes : List ℕ) (at : ℕ) → length bytes ≤ at → drop at bytes ≡ []
+no_bytes_left bytes at h = drop_all at bytes h
 
-pub none_left : (x : ℕ) (f : ℕ → Cell) (at left : ℕ) → left ≡ 0 → filled x (map f (range_with_len at left)) ≡ []
-unfolding filled
-none_left x f at left e = ap (λ n. filled x (map f (range_with_len at n))) e
-
-pub stretches_split : (x : ℕ) (v : View) (ss : List Stretch) (i : ℕ) (d : Stretch) → i < length ss
-    → filled x (cells_of v (drop i ss)) ≡ filled x (stretch_cells v (get_or ss i d)) ++ filled x (cells_of v (drop (i + 1) ss))
-unfolding cells_of
-stretches_split x v ss i d h =
-    ap (λ l. filled x (cells_of v l)) (drop-cons ss i d h ∙ ap (λ n. get_or ss i d ∷ drop n ss) (let e : suc i ≡ i + 1 = omega arith in e))
-    ∙ filled_append x (stretch_cells v (get_or ss i d)) (cells_of v (drop (i + 1) ss))
-
-pub no_stretches_left : (x : ℕ) (v : View) (ss : List Stretch) (i : ℕ) → length ss ≤ i → filled x (cells_of v (drop i ss)) ≡ []
-unfolding cells_of filled
-no_stretches_left x v [] zero h = refl
-no_stretches_left x v [] (suc i) h = refl
-no_stretches_left x v (s ∷ ss) zero h = absurd (let z : ⊥ = omega (arith, h) in z)
-no_stretches_left x v (s ∷ ss) (suc i) h = no_stretches_left x v ss i (omega (arith, h))
+-- the cells of a portion, and those behind it
+pub portion_split : (x : ℕ) (p : Portion) (s t : List Cell) → IsFirst p s t → filled x s ≡ filled x (take (portion_count p) s) ++ filled x t
+portion_split x p s t f = ap (filled x) (sym (take-append-drop (portion_count p) s) ∙ ap (λ z. take (portion_count p) s ++ z) (sym f.rest))
+    ∙ filled_append x (take (portion_count p) s) t
 
 pub no_same_left : (x left : ℕ) → left ≡ 0 → replicate left x ≡ []
 no_same_left x left e = ap (λ n. replicate n x) e

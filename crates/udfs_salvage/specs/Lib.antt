@@ -13,3 +13,4 @@ pub mod Extraction
 pub mod RereadTexts
 pub mod JsonNodes
 pub mod JsonReports
+pub mod Surveys

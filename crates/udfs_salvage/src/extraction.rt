@@ -20,7 +20,7 @@ use std::error::Error;
 use std::fmt;
 use udfs_lattice::BlockTable;
 use udfs_reading::{Sink, WriteFault};
-use udfs_space::Space;
+use udfs_space::{Space, View};
 use udfs_tag::LongAd;
 use udfs_walk::{Node, Standing, body_at};
 
@@ -92,7 +92,7 @@ fn write_at<W: Sink>(
     ensures memory { IsErrOf result ExtractError.OutOfMemory → sink.new ≡ sink.old }
 {
     match body_at(alloc, table, space, address) {
-        Ok(Some(body)) => match write_body(table, space, &body, fill, sink) {
+        Ok(Some(body)) => match write_body(View { table, space }, &body, fill, sink) {
             Ok(()) => Ok(()),
             Err(WriteFault) => Err(ExtractError::Write),
         },

@@ -19,6 +19,8 @@ mod printing;
 mod reports;
 mod reread_printing;
 mod running;
+mod survey_printing;
+mod surveys;
 pub mod tree_laws;
 mod volumes;
 
@@ -28,6 +30,8 @@ pub use json_reports::report_json;
 pub use node_lines::push_names;
 pub use printing::{write_report, write_volume};
 pub use reports::{Report, all_whole, salvage};
-pub use reread_printing::write_reread;
+pub use reread_printing::{write_numbers, write_reread};
 pub use running::report_run;
+pub use survey_printing::write_survey;
+pub use surveys::{Survey, survey_volume};
 pub use volumes::{OpenVolume, Volume};

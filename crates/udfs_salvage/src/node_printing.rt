@@ -1,15 +1,20 @@
 //! Nodes are printed, and entries that no name leads to.
 
-ghost use Rattle.std.specs.Prelude.{◌++◌};
+ghost use Rattle.std.specs.Prelude.{◌++◌, map};
 ghost use Rattle.std.specs.String.{string_bytes};
+ghost use Rattle.udfs_space.specs.Views.{view_now};
+ghost use Rattle.udfs_walk.specs.Bare.{full_entry, full_node, lists_at, with_lists};
 ghost use Rattle.udfs_salvage.specs.Printing.{PassesOn};
 ghost use Rattle.udfs_salvage.specs.NodeTexts.{gap_lines, hole_line, hole_lines, missing_line, missing_lines, node_line, node_text, nodes_text, unnamed_line, unnamed_text, unnamed_texts};
 
 use crate::errors::RunError;
 use crate::node_lines::{push_hole, push_missing, push_node, push_unnamed};
 use crate::printing::pass_on;
+use std::alloc::Global;
 use udfs_reading::Sink;
-use udfs_walk::{Node, Standing, Unnamed};
+use udfs_space::View;
+use udfs_tag::LongAd;
+use udfs_walk::{Node, Standing, Unnamed, entry_address, full_standing};
 
 /// The line of a missing block.
 fn put_missing<W: Sink>(text: &mut String, sink: &mut W, block: u32) -> Result<(), RunError>
@@ -84,6 +89,55 @@ fn put_line<W: Sink>(
     pass_on(text, sink)
 }
 
+/// What is missing of the body that stands at an address, where something is.
+fn put_full_gaps<W: Sink>(
+    alloc: Global,
+    text: &mut String,
+    sink: &mut W,
+    view: View<'_>,
+    address: LongAd,
+    standing: &Standing,
+) -> Result<(), RunError>
+    ensures { PassesOn (W.contents sink.old) (W.contents sink.new) (W.faults sink.old) (W.faults sink.new) (string_bytes text.old) (string_bytes text.new)
+        (gap_lines (with_lists (lists_at (view_now view.entry) address) standing.now)) result }
+{
+    let full = full_standing(alloc, view, address, standing)?;
+    put_gaps(text, sink, &full)
+}
+
+/// The lines of a node without its blocks and holes, with those.
+fn put_full_node<W: Sink>(
+    alloc: Global,
+    text: &mut String,
+    sink: &mut W,
+    view: View<'_>,
+    number: usize,
+    node: &Node,
+) -> Result<(), RunError>
+    ensures { PassesOn (W.contents sink.old) (W.contents sink.new) (W.faults sink.old) (W.faults sink.new) (string_bytes text.old) (string_bytes text.new)
+        (node_text number (full_node (view_now view.entry) node.now)) result }
+{
+    put_line(text, sink, number, node)?;
+    put_full_gaps(alloc, text, sink, view, node.icb, &node.standing)
+}
+
+/// The lines of all nodes, which are without their blocks and holes, with those.
+pub(crate) fn put_full_nodes<W: Sink>(
+    alloc: Global,
+    text: &mut String,
+    sink: &mut W,
+    view: View<'_>,
+    nodes: &[Node],
+) -> Result<(), RunError>
+    ensures { PassesOn (W.contents sink.old) (W.contents sink.new) (W.faults sink.old) (W.faults sink.new) (string_bytes text.old) (string_bytes text.new)
+        (nodes_text 0 (map (full_node (view_now view.entry)) nodes.now)) result }
+{
+    for (index, node) in nodes.iter().enumerate() {
+        put_full_node(alloc, text, sink, view, index, node)?;
+    }
+    Ok(())
+}
+
 /// The lines of a node.
 fn put_node<W: Sink>(
     text: &mut String,
@@ -148,6 +202,41 @@ pub(crate) fn put_all_unnamed<W: Sink>(
 {
     for entry in entries {
         put_unnamed(text, sink, two, entry)?;
+    }
+    Ok(())
+}
+
+/// The lines of an entry that no name leads to and that is without its blocks and holes, with those.
+fn put_full_unnamed<W: Sink>(
+    alloc: Global,
+    text: &mut String,
+    sink: &mut W,
+    view: View<'_>,
+    two: bool,
+    entry: &Unnamed,
+) -> Result<(), RunError>
+    ensures { PassesOn (W.contents sink.old) (W.contents sink.new) (W.faults sink.old) (W.faults sink.new) (string_bytes text.old) (string_bytes text.new)
+        (unnamed_text two (full_entry (view_now view.entry) entry.now)) result }
+{
+    put_place(text, sink, two, entry)?;
+    let address = entry_address(entry.reference, entry.block);
+    put_full_gaps(alloc, text, sink, view, address, &entry.standing)
+}
+
+/// The lines of all entries that no name leads to, which are without their blocks and holes, with those.
+pub(crate) fn put_full_entries<W: Sink>(
+    alloc: Global,
+    text: &mut String,
+    sink: &mut W,
+    view: View<'_>,
+    two: bool,
+    entries: &[Unnamed],
+) -> Result<(), RunError>
+    ensures { PassesOn (W.contents sink.old) (W.contents sink.new) (W.faults sink.old) (W.faults sink.new) (string_bytes text.old) (string_bytes text.new)
+        (unnamed_texts two (map (full_entry (view_now view.entry)) entries.now)) result }
+{
+    for entry in entries {
+        put_full_unnamed(alloc, text, sink, view, two, entry)?;
     }
     Ok(())
 }

@@ -13,6 +13,7 @@ use crate::errors::RunError;
 use crate::lines::{has_two, push_end, push_head, push_reread, push_volume};
 use crate::node_printing::{put_all_unnamed, put_nodes};
 use crate::reports::Report;
+use crate::volumes::Volume;
 use std::alloc::Global;
 use udfs_lattice::BlockTable;
 use udfs_reading::{Sink, WriteFault, write_all};
@@ -58,7 +59,7 @@ fn put_reread<W: Sink>(
 }
 
 /// The lines of the blocks to read again.
-fn put_rereads<W: Sink>(
+pub(crate) fn put_rereads<W: Sink>(
     text: &mut String,
     sink: &mut W,
     table: &BlockTable,
@@ -73,15 +74,21 @@ fn put_rereads<W: Sink>(
 }
 
 /// The lines before those of the files.
-fn put_head<W: Sink>(text: &mut String, sink: &mut W, report: &Report<'_>) -> Result<(), RunError>
-    ensures { PassesOn (W.contents sink.old) (W.contents sink.new) (W.faults sink.old) (W.faults sink.new) (string_bytes text.old) (string_bytes text.new) (head_text report.now.table.now report.now.last (volume_now report.now.volume)) result }
+pub(crate) fn put_head<W: Sink>(
+    text: &mut String,
+    sink: &mut W,
+    table: &BlockTable,
+    last: u32,
+    volume: &Volume,
+) -> Result<(), RunError>
+    ensures { PassesOn (W.contents sink.old) (W.contents sink.new) (W.faults sink.old) (W.faults sink.new) (string_bytes text.old) (string_bytes text.new) (head_text table.now last (volume_now volume.now)) result }
 {
-    push_head(text, report.table, report.last, &report.volume)?;
+    push_head(text, table, last, volume)?;
     pass_on(text, sink)
 }
 
 /// The last line.
-fn put_end<W: Sink>(text: &mut String, sink: &mut W) -> Result<(), RunError>
+pub(crate) fn put_end<W: Sink>(text: &mut String, sink: &mut W) -> Result<(), RunError>
     ensures { PassesOn (W.contents sink.old) (W.contents sink.new) (W.faults sink.old) (W.faults sink.new) (string_bytes text.old) (string_bytes text.new) end_line result }
 {
     push_end(text)?;
@@ -93,7 +100,7 @@ fn put_report<W: Sink>(text: &mut String, sink: &mut W, report: &Report<'_>) -> 
     ensures { PassesOn (W.contents sink.old) (W.contents sink.new) (W.faults sink.old) (W.faults sink.new) (string_bytes text.old) (string_bytes text.new)
         (report_text report.now.table.now report.now.last (report_now report.now)) result }
 {
-    put_head(text, sink, report)?;
+    put_head(text, sink, report.table, report.last, &report.volume)?;
     put_nodes(text, sink, &report.nodes)?;
     put_all_unnamed(text, sink, has_two(&report.volume), &report.unnamed)?;
     put_rereads(text, sink, report.table, &report.reread)?;

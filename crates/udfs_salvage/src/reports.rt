@@ -1,27 +1,22 @@
 //! Reports.
 
-ghost use Rattle.std.specs.Prelude.{◌≡◌, ◌≤◌, ◌↔◌, ℕ, [], IfOk, IfErr, IsErrOf, MatchOption};
+ghost use Rattle.std.specs.Prelude.{◌≡◌, ◌↔◌, ℕ, IfOk, IfErr, IsErrOf, MatchOption};
 ghost use Rattle.udfs_lattice.specs.Tables.{state_of};
-ghost use Rattle.udfs_volume.specs.Answers.{found};
 ghost use Rattle.udfs_volume.specs.Seen.{IsRising};
-ghost use Rattle.udfs_space.specs.Places.{view};
-ghost use Rattle.udfs_walk.specs.Walks.{AreNodes};
-ghost use Rattle.udfs_salvage.specs.Found.{found_now, volume_now};
 ghost use Rattle.udfs_salvage.specs.Headline.{Headline};
 ghost use Rattle.udfs_salvage.specs.TreeReports.{IsOfNoLawful};
-ghost use Rattle.udfs_salvage.specs.Reports.{HasTooManyPaths, IsLookRefused, IsNothingPast, IsOutOfRange, IsPastEnd, IsReport, IsWalkRefused, MayWantMemory, ReportsBy, all_whole, is_whole, report_now};
+ghost use Rattle.udfs_salvage.specs.Reports.{HasTooManyPaths, IsNothingPast, IsOutOfRange, IsPastEnd, IsReport, MayWantMemory, all_whole, is_whole, report_now};
 
 use crate::errors::SalvageError;
-use crate::volumes::{OpenVolume, Volume, open};
-use std::alloc::{AllocError, Global};
+use crate::surveys::look_full;
+use crate::volumes::Volume;
+use std::alloc::Global;
 use udfs_lattice::BlockTable;
 use udfs_lattice::table::LAST_BLOCK;
-use udfs_volume::Seen;
-use udfs_walk::unnamed_entries::unnamed;
-use udfs_walk::{Node, NodesError, Standing, Unnamed, nodes, reread};
+use udfs_walk::{Node, Standing, Unnamed};
 
 /// The least last block of a volume.
-const FIRST_LAST: u32 = 513;
+pub(crate) const FIRST_LAST: u32 = 513;
 
 /// What a table tells of a volume.
 #[derive(Drop)]
@@ -60,7 +55,7 @@ pub fn all_whole(nodes: &[Node]) -> bool
 }
 
 /// The first block behind the last one of which something is known.
-fn past_end(table: &BlockTable, last: u32) -> Option<u32>
+pub(crate) fn past_end(table: &BlockTable, last: u32) -> Option<u32>
     ensures { MatchOption result (IsNothingPast (state_of table.now) last) (λ n. IsPastEnd (state_of table.now) last n) }
 {
     for (block, _) in table.entries() {
@@ -69,93 +64,6 @@ fn past_end(table: &BlockTable, last: u32) -> Option<u32>
         }
     }
     None
-}
-
-/// The nodes of a volume that opens.
-fn list(alloc: Global, table: &BlockTable, opened: &OpenVolume) -> Result<Vec<Node>, SalvageError>
-    ensures nodes { IfOk result (λ listed. AreNodes (view (state_of table.now) opened.now.space) opened.now.root listed.items) }
-    ensures refused { IfErr result (IsWalkRefused (state_of table.now) (found_now opened.now)) }
-{
-    match nodes(alloc, table, &opened.space, opened.root) {
-        Ok(listed) => Ok(listed),
-        Err(NodesError::TooManyPaths) => Err(SalvageError::TooManyPaths),
-        Err(NodesError::OutOfMemory) => Err(SalvageError::OutOfMemory),
-    }
-}
-
-/// The report of a volume that opens.
-#[tactic(auto, using(crate::proofs::Rereads::reread_rises))]
-fn report_open<'a>(
-    alloc: Global,
-    table: &'a BlockTable,
-    last: u32,
-    opened: OpenVolume,
-) -> Result<Report<'a>, SalvageError>
-    ensures report { IfOk result (λ report. ReportsBy (state_of table.now) (found (found_now opened)) (report_now report)) }
-    ensures volume { IfOk result (λ report. volume_now report.volume ≡ found (found_now opened)) }
-    ensures of { IfOk result (λ report. (report.table.now ≡ table.now) × (report.last ≡ last)) }
-    ensures rising { IfOk result (λ report. IsRising report.reread.items) }
-    ensures refused { IfErr result (IsWalkRefused (state_of table.now) (found_now opened)) }
-{
-    let listed = list(alloc, table, &opened)?;
-    let unnamed = unnamed(alloc, table, &opened.space, &listed)?;
-    let reread = reread(alloc, &listed)?;
-    Ok(Report {
-        table,
-        last,
-        volume: Volume::Open(opened),
-        nodes: listed,
-        unnamed,
-        reread,
-    })
-}
-
-/// The report of a volume that does not open.
-fn report_closed<'a>(
-    alloc: Global,
-    table: &'a BlockTable,
-    last: u32,
-    volume: Volume,
-    reread: Vec<u32>,
-) -> Report<'a>
-    ensures value { report_now result ≡ record { volume = volume_now volume; nodes = []; unnamed = []; reread = reread.items } }
-    ensures of { (result.table.now ≡ table.now) × (result.last ≡ last) }
-{
-    Report {
-        table,
-        last,
-        volume,
-        nodes: Vec::new(alloc),
-        unnamed: Vec::new(alloc),
-        reread,
-    }
-}
-
-/// The report of a volume, by what is found of it, where nothing is known behind its last block.
-fn look<'a>(alloc: Global, table: &'a BlockTable, last: u32) -> Result<Report<'a>, SalvageError>
-    requires from { 513 ≤ last }
-    requires to { last ≤ 4194303 }
-    requires nothing_past { IsNothingPast (state_of table.now) last }
-    ensures report { IfOk result (λ report. IsReport (state_of table.now) last (report_now report)) }
-    ensures of { IfOk result (λ report. (report.table.now ≡ table.now) × (report.last ≡ last)) }
-    ensures rising { IfOk result (λ report. IsRising report.reread.items) }
-    ensures refused { IfErr result (IsLookRefused (state_of table.now) last) }
-{
-    match open(alloc, table, last) {
-        Seen::Got(opened) => report_open(alloc, table, last, opened),
-        Seen::Holes(blocks) => {
-            let reread = blocks.clone()?;
-            Ok(report_closed(alloc, table, last, Volume::Holes(blocks), reread))
-        }
-        Seen::Fault(fault) => Ok(report_closed(
-            alloc,
-            table,
-            last,
-            Volume::Fault(fault),
-            Vec::new(alloc),
-        )),
-        Seen::OutOfMemory => Err(SalvageError::OutOfMemory),
-    }
 }
 
 /// What the table tells of the volume, of which `last` is the last block: whether it opens, its files and directories
@@ -204,5 +112,5 @@ pub fn salvage<'a>(
     if let Some(block) = past_end(table, last) {
         return Err(SalvageError::PastEnd(block));
     }
-    look(alloc, table, last)
+    look_full(alloc, table, last)
 }

@@ -38,6 +38,19 @@ fn put_numbers<W: Sink>(text: &mut String, sink: &mut W, blocks: &[u32]) -> Resu
     Ok(())
 }
 
+/// Writes the numbers of blocks, in decimal, each on a line of its own.
+///
+/// # Errors
+///
+/// `Write` exactly where the sink failed, and `OutOfMemory` where memory is refused. Then a beginning of the lines is out.
+pub fn write_numbers<W: Sink>(alloc: Global, blocks: &[u32], sink: &mut W) -> Result<(), RunError>
+    ensures { Prints (W.contents sink.old) (W.contents sink.new) (W.faults sink.old) (W.faults sink.new) (number_lines blocks.now) result }
+{
+    let mut text = String::new(alloc);
+    put_numbers(&mut text, sink, blocks)?;
+    flush(&mut text, sink)
+}
+
 /// Writes the numbers of the blocks to read again, in decimal, each on a line of its own.
 ///
 /// # Errors
@@ -50,7 +63,5 @@ pub fn write_reread<W: Sink>(
 ) -> Result<(), RunError>
     ensures { Prints (W.contents sink.old) (W.contents sink.new) (W.faults sink.old) (W.faults sink.new) (number_lines report.now.reread.items) result }
 {
-    let mut text = String::new(alloc);
-    put_numbers(&mut text, sink, &report.reread)?;
-    flush(&mut text, sink)
+    write_numbers(alloc, &report.reread, sink)
 }

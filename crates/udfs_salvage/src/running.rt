@@ -11,8 +11,8 @@ ghost use Rattle.udfs_salvage.specs.Running.{AnswersFor, EndsEarly, IfNoInput, I
 ghost use Rattle.udfs_salvage.specs.declared.errors.SalvageError.{SalvageError};
 
 use crate::errors::{RunError, SalvageError};
-use crate::printing::write_report;
-use crate::reports::{all_whole, salvage};
+use crate::survey_printing::write_survey;
+use crate::surveys::survey_volume;
 use std::alloc::Global;
 use udfs_lattice::BlockTable;
 use udfs_reading::{InputError, ReadingFault, Sink, Source, join_inputs};
@@ -37,7 +37,7 @@ fn run_refusal(error: SalvageError) -> RunError
     }
 }
 
-/// The report of a table, printed.
+/// The report of a table, printed. What is missing of the nodes is not held for all of them at a time.
 fn report_table<W: Sink>(
     alloc: Global,
     table: &BlockTable,
@@ -47,9 +47,9 @@ fn report_table<W: Sink>(
     ensures answers { AnswersFor last (W.contents sink.old) (W.contents sink.new) (W.faults sink.old) (W.faults sink.new) result table.now }
     ensures untouched { EndsEarly result → sink.new ≡ sink.old }
 {
-    match salvage(alloc, table, last) {
-        Ok(report) => match write_report(alloc, &report, sink) {
-            Ok(()) => Ok(all_whole(&report.nodes)),
+    match survey_volume(alloc, table, last) {
+        Ok(survey) => match write_survey(alloc, &survey, sink) {
+            Ok(()) => Ok(survey.all_whole()),
             Err(error) => Err(error),
         },
         Err(error) => Err(run_refusal(error)),
@@ -60,11 +60,11 @@ fn report_table<W: Sink>(
 /// files and all of them are whole.
 ///
 /// The text is the same for every order and repetition of the inputs, and however their records are split over files. It
-/// tells of every lawful volume with which the join of the inputs agrees, as [`salvage`] says.
+/// tells of every lawful volume with which the join of the inputs agrees, as [`salvage`](crate::salvage) says.
 ///
 /// # Errors
 ///
-/// `Reading` where an input cannot be read, with the answer of [`join_inputs`]; else `Salvage` where [`salvage`] refuses
+/// `Reading` where an input cannot be read, with the answer of [`join_inputs`]; else `Salvage` where [`salvage`](crate::salvage) refuses
 /// the table. Nothing is written then. `Write` exactly where the sink failed, and `OutOfMemory` for every want of memory:
 /// then a beginning of the text is out.
 pub fn report_run<R: Source, W: Sink>(

@@ -23,7 +23,7 @@ right : (xs ys : List ℕ) (n : ℕ) → Includes ys n → Includes (xs ++ ys) n
 right [] ys n i = i
 right (x ∷ xs) ys n i = inr (right xs ys n i)
 
-either : (xs ys : List ℕ) (n : ℕ) → Includes (xs ++ ys) n → Includes xs n ⊎ Includes ys n
+pub either : (xs ys : List ℕ) (n : ℕ) → Includes (xs ++ ys) n → Includes xs n ⊎ Includes ys n
 either [] ys n i = inr i
 either (x ∷ xs) ys n (inl e) = inl (inl e)
 either (x ∷ xs) ys n (inr i) = go (either xs ys n i)

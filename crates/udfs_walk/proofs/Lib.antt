@@ -12,3 +12,5 @@ pub mod Owed
 pub mod NamedLemmas
 pub mod PortionGaps
 pub mod BlockOrder
+pub mod BareNodes
+pub mod BareRereads

@@ -16,3 +16,4 @@ pub mod Rereads
 pub mod UnnamedEntries
 pub mod NamedKeys
 pub mod NodeBodies
+pub mod Bare

@@ -5,6 +5,7 @@
 
 pub mod answers;
 mod ascending;
+mod bare;
 mod block_runs;
 mod gaps;
 pub mod laws;
@@ -18,8 +19,9 @@ mod visits;
 mod walks;
 
 pub use answers::{Node, NodesError, Unnamed};
+pub use bare::{entry_address, full_entries, full_nodes, full_standing};
 pub use node_bodies::body_at;
 pub use paths::Path;
-pub use rereads::reread;
+pub use rereads::{bare_reread, reread};
 pub use standings::{Standing, Torn};
-pub use walks::nodes;
+pub use walks::{bare_nodes, nodes};

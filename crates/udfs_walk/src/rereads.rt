@@ -1,13 +1,20 @@
 //! What has to be read again.
 
-ghost use Rattle.std.specs.Prelude.{◌≡◌, ◌++◌, IfOk};
+ghost use Rattle.std.specs.Prelude.{◌≡◌, ◌++◌, IfOk, map};
+ghost use Rattle.udfs_lattice.specs.Tables.{state_of};
+ghost use Rattle.udfs_lattice.specs.Volumes.{ascending};
+ghost use Rattle.udfs_space.specs.Places.{view};
+ghost use Rattle.udfs_walk.specs.Bare.{full_node};
 ghost use Rattle.udfs_walk.specs.Rereads.{missing_of, reread};
 
 use crate::answers::Node;
 use crate::ascending::sort_once;
+use crate::bare::full_standing;
 use crate::standings::Standing;
 use std::alloc::{AllocError, Global};
+use udfs_lattice::BlockTable;
 use udfs_osta::OutOfMemory;
+use udfs_space::{Space, View};
 
 /// Puts the blocks that are missing in a node behind the others.
 fn push_missing(blocks: &mut Vec<u32>, standing: &Standing) -> Result<(), AllocError>
@@ -33,6 +40,47 @@ pub fn reread(alloc: Global, nodes: &[Node]) -> Result<Vec<u32>, OutOfMemory>
     let mut blocks = Vec::new(alloc);
     for node in nodes {
         push_missing(&mut blocks, &node.standing)?;
+    }
+    sort_once(&mut blocks);
+    Ok(blocks)
+}
+
+/// How many blocks are gathered before those that stand twice are let go.
+const MOST_GATHERED: usize = 1_048_576;
+
+/// Lets go of blocks that stand twice, where there are many, and answers how many are many the next time.
+#[tactic(auto, using(crate::proofs::BareRereads::once_again))]
+fn settle(blocks: &mut Vec<u32>, most: usize) -> usize
+    ensures { ascending blocks.new.items ≡ ascending blocks.old.items }
+{
+    if blocks.len() < most {
+        return most;
+    }
+    sort_once(blocks);
+    blocks.len().saturating_mul(2).max(MOST_GATHERED)
+}
+
+/// The blocks that are missing in torn nodes, ascending and each once, as [`reread`] lists them, of nodes without their
+/// blocks and holes. The lists of one node alone are held at a time.
+///
+/// # Errors
+///
+/// Memory was refused.
+pub fn bare_reread(
+    alloc: Global,
+    table: &BlockTable,
+    space: &Space,
+    nodes: &[Node],
+) -> Result<Vec<u32>, OutOfMemory>
+    ensures { IfOk result (λ blocks. blocks.items ≡ reread (map (full_node (view (state_of table.now) space.now)) nodes.now)) }
+{
+    let view = View { table, space };
+    let mut blocks = Vec::new(alloc);
+    let mut most = MOST_GATHERED;
+    for node in nodes {
+        let standing = full_standing(alloc, view, node.icb, &node.standing)?;
+        push_missing(&mut blocks, &standing)?;
+        most = settle(&mut blocks, most);
     }
     sort_once(&mut blocks);
     Ok(blocks)

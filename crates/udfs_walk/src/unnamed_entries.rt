@@ -1,6 +1,6 @@
 //! Entries that no name leads to.
 
-ghost use Rattle.std.specs.Prelude.{true, ◌≡◌, ◌++◌, ◌<◌, IfOk, IsSorted, List, nat_eq, filter_map, length};
+ghost use Rattle.std.specs.Prelude.{true, ◌≡◌, ◌++◌, ◌<◌, IfOk, IsSorted, List, nat_eq, filter_map, length, map};
 ghost use Rattle.std.specs.List.{list_any};
 ghost use Rattle.std.specs.Ordering.{nat_cmp};
 ghost use Rattle.udfs_lattice.specs.Tables.{state_of};
@@ -8,10 +8,12 @@ ghost use Rattle.udfs_lattice.specs.Volumes.{Blocks};
 ghost use Rattle.udfs_space.specs.Places.{view};
 ghost use Rattle.udfs_space.specs.Views.{view_now};
 ghost use Rattle.udfs_walk.specs.UnnamedEntries.{icbs_in, unnamed, unnamed_at};
+ghost use Rattle.udfs_walk.specs.Bare.{full_entry, full_node};
 ghost use Rattle.udfs_walk.specs.NodeFields.{NodeFields};
 ghost use Rattle.udfs_walk.specs.NamedKeys.{AreNamed, key_of};
 
 use crate::answers::{Node, Unnamed};
+use crate::bare::{bare_entry, entry_address, full_entries};
 use crate::targets::{Target, target_at};
 use crate::visits::standing_told;
 use std::alloc::{AllocError, Global};
@@ -19,7 +21,6 @@ use udfs_file::file_sets::address_fault;
 use udfs_lattice::BlockTable;
 use udfs_osta::OutOfMemory;
 use udfs_space::{Space, View};
-use udfs_tag::LongAd;
 
 /// An ICB as one number.
 fn key(reference: u16, block: u32) -> u64
@@ -96,12 +97,7 @@ fn unnamed_at(
     if is_at(keys, at, key) {
         return Ok(None);
     }
-    let address = LongAd {
-        kind: 0,
-        length: 2048,
-        block,
-        reference,
-    };
+    let address = entry_address(reference, block);
     match target_at(view, address) {
         Target::Fault(_) => Ok(None),
         Target::Unread(_) => Ok(None),
@@ -122,7 +118,7 @@ fn unnamed_at(
     }
 }
 
-/// Those in a partition, put behind the others.
+/// Those in a partition, put behind the others, without the blocks and the holes.
 fn push_unnamed(
     alloc: Global,
     view: View<'_>,
@@ -133,13 +129,13 @@ fn push_unnamed(
     requires sorted { IsSorted nat_cmp keys.now }
     requires reference { reference < length view.space.now }
     ensures { IfOk result (λ done. (nodes : List NodeFields) → AreNamed (view_now view.entry) nodes keys.now
-        → found.new.items ≡ found.old.items ++ filter_map (unnamed_at (view_now view.entry) nodes) (icbs_in view.entry.space.now reference)) }
+        → map (full_entry (view_now view.entry)) found.new.items ≡ map (full_entry (view_now view.entry)) found.old.items ++ filter_map (unnamed_at (view_now view.entry) nodes) (icbs_in view.entry.space.now reference)) }
 {
     let mut at = 0;
     for block in 0..view.space.length(reference) {
         at = place_from(keys, at, key(reference, block));
         match unnamed_at(alloc, view, keys, at, reference, block)? {
-            Some(entry) => found.push(entry)?,
+            Some(entry) => found.push(bare_entry(alloc, entry))?,
             None => {}
         }
     }
@@ -160,6 +156,39 @@ pub fn unnamed(
     nodes: &[Node],
 ) -> Result<Vec<Unnamed>, OutOfMemory>
     ensures { IfOk result (λ found. found.items ≡ unnamed (view (state_of table.now) space.now) space.now nodes.now) }
+{
+    let bare = not_named(alloc, table, space, nodes)?;
+    let found = full_entries(alloc, View { table, space }, bare)?;
+    Ok(found)
+}
+
+/// The entries of the volume that no name leads to, as [`unnamed`] lists them, but a torn one without its blocks and
+/// holes, which [`full_standing`](crate::full_standing) finds again. The nodes may be without theirs.
+///
+/// # Errors
+///
+/// Memory was refused.
+pub fn bare_unnamed(
+    alloc: Global,
+    table: &BlockTable,
+    space: &Space,
+    nodes: &[Node],
+) -> Result<Vec<Unnamed>, OutOfMemory>
+    ensures { IfOk result (λ found. map (full_entry (view (state_of table.now) space.now)) found.items
+        ≡ unnamed (view (state_of table.now) space.now) space.now (map (full_node (view (state_of table.now) space.now)) nodes.now)) }
+{
+    let found = not_named(alloc, table, space, nodes)?;
+    Ok(found)
+}
+
+/// The entries of the volume that none of these nodes names, without their blocks and holes.
+fn not_named(
+    alloc: Global,
+    table: &BlockTable,
+    space: &Space,
+    nodes: &[Node],
+) -> Result<Vec<Unnamed>, AllocError>
+    ensures { IfOk result (λ found. map (full_entry (view (state_of table.now) space.now)) found.items ≡ unnamed (view (state_of table.now) space.now) space.now nodes.now) }
 {
     let view = View { table, space };
     let keys = named(alloc, space, nodes)?;

@@ -15,9 +15,10 @@ ghost use Rattle.udfs_walk.specs.Nodes.{node, told, untold};
 ghost use Rattle.udfs_walk.specs.Visits.{AreRefused, end_at};
 
 use crate::answers::{Node, NodesError};
+use crate::bare::one_block;
 use crate::gaps::cells_standing;
 use crate::paths::Path;
-use crate::standings::{Standing, Torn};
+use crate::standings::Standing;
 use crate::targets::{Target, target_at};
 use std::alloc::{AllocError, Global};
 use udfs_file::directories::{DirEnd, DirFront};
@@ -236,9 +237,8 @@ pub(crate) struct Visit {
 fn not_known(alloc: Global, n: u32) -> Result<Standing, AllocError>
     ensures { IfOk result (λ standing. standing ≡ Standing.Torn (record { missing = n ∷ []; holes = [] })) }
 {
-    let missing = vec![in alloc; n]?;
-    let holes = Vec::new(alloc);
-    Ok(Standing::Torn(Torn { missing, holes }))
+    let torn = one_block(alloc, n)?;
+    Ok(Standing::Torn(torn))
 }
 
 /// A node whose entry is not read.

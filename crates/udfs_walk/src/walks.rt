@@ -1,9 +1,10 @@
 //! The walk over all routes, in the order of words.
 
-ghost use Rattle.std.specs.Prelude.{◌≡◌, ◌+◌, ◌≤◌, ◌∷◌, [], ◌++◌, IfErr, IfOk, MatchOption, MatchResult, length};
+ghost use Rattle.std.specs.Prelude.{◌≡◌, ◌+◌, ◌≤◌, ◌∷◌, [], ◌++◌, IfErr, IfOk, MatchOption, MatchResult, length, map};
 ghost use Rattle.udfs_lattice.specs.Tables.{state_of};
 ghost use Rattle.udfs_space.specs.Places.{view};
 ghost use Rattle.udfs_space.specs.Views.{view_now};
+ghost use Rattle.udfs_walk.specs.Bare.{bare_node, full_node};
 ghost use Rattle.udfs_walk.specs.Nodes.{node};
 ghost use Rattle.udfs_walk.specs.Visits.{AreRefused, end_at};
 ghost use Rattle.udfs_walk.specs.Walks.{AreNodes, IsNodesRefused};
@@ -12,6 +13,7 @@ ghost use Rattle.udfs_walk.specs.Targets.{icb_of};
 ghost use Rattle.udfs_walk.specs.Frames.{IsFrameOf, IsStepRefused, IsTaken, count_left, frame_at, kept};
 
 use crate::answers::{Node, NodesError};
+use crate::bare::{bare_node, full_nodes};
 use crate::paths::{Names, Path};
 use crate::visits::{Visit, visited};
 use bitflags::Flags;
@@ -132,11 +134,11 @@ fn count_left(frame: &Option<Frame>) -> usize
     }
 }
 
-/// Puts a node behind the others.
-fn put(nodes: &mut Vec<Node>, node: Node) -> Result<(), AllocError>
-    ensures { IfOk result (λ done. nodes.new.items ≡ nodes.old.items ++ node ∷ []) }
+/// Puts a node behind the others, without the blocks and the holes.
+fn put(alloc: Global, nodes: &mut Vec<Node>, node: Node) -> Result<(), AllocError>
+    ensures { IfOk result (λ done. nodes.new.items ≡ nodes.old.items ++ bare_node node ∷ []) }
 {
-    nodes.push(node)?;
+    nodes.push(bare_node(alloc, node))?;
     Ok(())
 }
 
@@ -159,6 +161,26 @@ pub fn nodes(
     ensures { MatchResult result (λ found. AreNodes (view (state_of table.now) space.now) root found.items)
         (IsNodesRefused (view (state_of table.now) space.now) root) }
 {
+    let bare = bare_nodes(alloc, table, space, root)?;
+    let full = full_nodes(alloc, View { table, space }, bare)?;
+    Ok(full)
+}
+
+/// The nodes of a volume as [`nodes`] lists them, but a torn one without its blocks and holes, which
+/// [`full_standing`](crate::full_standing) finds again: so no more of these lists than one node's is held at a time.
+///
+/// # Errors
+///
+/// As those of [`nodes`].
+pub fn bare_nodes(
+    alloc: Global,
+    table: &BlockTable,
+    space: &Space,
+    root: LongAd,
+) -> Result<Vec<Node>, NodesError>
+    ensures { MatchResult result (λ found. AreNodes (view (state_of table.now) space.now) root (map (full_node (view (state_of table.now) space.now)) found.items))
+        (IsNodesRefused (view (state_of table.now) space.now) root) }
+{
     let view = View { table, space };
     let path = Path::root(alloc)?;
     // So many nodes may still be found behind those that were, and behind the entries that are left.
@@ -166,7 +188,7 @@ pub fn nodes(
     let (node, frame) = Frame::enter(alloc, view, root, path, &[], false, room)?;
     room -= count_left(&frame);
     let mut nodes = Vec::new(alloc);
-    put(&mut nodes, node)?;
+    put(alloc, &mut nodes, node)?;
     let mut frames = Vec::new(alloc);
     keep(&mut frames, frame)?;
     'walk: while let Some(mut frame) = frames.pop() {
@@ -175,7 +197,7 @@ pub fn nodes(
             Some(taken) => taken,
         };
         room -= count_left(&below);
-        put(&mut nodes, node)?;
+        put(alloc, &mut nodes, node)?;
         keep(&mut frames, Some(frame))?;
         keep(&mut frames, below)?;
     }

@@ -3,6 +3,7 @@
 use super::told::{end, front, steps, within};
 use std::alloc::{AllocError, Global};
 use std::test::Fail;
+use udfs_file::Pieces;
 use udfs_samples::{Bytes, Disc};
 
 #[test]

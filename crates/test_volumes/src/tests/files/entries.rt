@@ -1,9 +1,9 @@
 //! The file set and entries.
 
 use super::told::{entry, laid_out, root};
+use std::test::Fail;
 use udfs_file::faults::NodeFault;
 use udfs_file::file_sets::address_fault;
-use std::test::Fail;
 use udfs_samples::{Bytes, Disc};
 use udfs_tag::LongAd;
 

@@ -1,11 +1,11 @@
 //! Want of memory: `rt try --test --fail-alloc N` refuses the allocation with this number in each test.
 
 use super::told::laid_out;
+use std::test::Fail;
 use udfs_file::bodies::Body;
 use udfs_file::directories::Dir;
 use udfs_file::entries::Entry;
 use udfs_file::faults::WalkError;
-use std::test::Fail;
 use udfs_lattice::Fact;
 use udfs_samples::Disc;
 

@@ -1,5 +1,7 @@
 //! What is told of the files of sample volumes, as texts.
 
+use std::alloc::{AllocError, Global};
+use std::test::Fail;
 use udfs_file::bodies::Body;
 use udfs_file::cells::Cell;
 use udfs_file::cursors::{Cursor, Step};
@@ -9,8 +11,6 @@ use udfs_file::faults::{Kind, NodeFault, WalkError};
 use udfs_file::file_sets::file_set;
 use udfs_file::portions::Portion;
 use udfs_file::stretches::{Run, Stretch};
-use std::alloc::{AllocError, Global};
-use std::test::Fail;
 use udfs_lattice::{BlockTable, Fact};
 use udfs_samples::LAST;
 use udfs_space::{Space, View};

@@ -1,9 +1,9 @@
 //! All tables that know some of twelve blocks of a volume, and nothing else.
 
-use udfs_salvage::salvage;
 use std::alloc::Global;
 use std::test::Fail;
 use udfs_lattice::{BlockTable, TableError};
+use udfs_salvage::salvage;
 use udfs_samples::{Disc, LAST};
 use udfs_walk::{Node, Standing};
 

@@ -1,12 +1,12 @@
 //! The bytes of nodes.
 
-use udfs_salvage::{ExtractError, Fill, extract, salvage};
 use std::alloc::Global;
 use std::io;
 use std::io::Write;
 use std::test::Fail;
 use udfs_lattice::BlockTable;
 use udfs_reading::Writer;
+use udfs_salvage::{ExtractError, Fill, extract, salvage};
 use udfs_samples::{Bytes, Disc, LAST};
 
 /// Takes so many bytes, and then fails.

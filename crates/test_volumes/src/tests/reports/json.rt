@@ -1,10 +1,10 @@
 //! Reports as JSON, and the blocks to read again by themselves.
 
-use udfs_salvage::{report_json, salvage, write_reread};
 use std::alloc::Global;
 use std::test::Fail;
 use udfs_lattice::BlockTable;
 use udfs_reading::Writer;
+use udfs_salvage::{report_json, salvage, survey_volume, write_numbers, write_reread};
 use udfs_samples::{Disc, LAST};
 
 /// The JSON of the empty table.
@@ -47,11 +47,13 @@ fn the_json_of_a_torn_file(rt: HostRuntime) -> Result<(), Fail> {
     Ok(())
 }
 
-/// What is printed of the blocks to read again.
+/// What is printed of the blocks to read again, by a report and then by a survey.
 fn numbers(alloc: Global, table: &BlockTable) -> Result<Vec<u8>, Fail> {
     let report = salvage(alloc, table, LAST)?;
     let mut text = Writer::new(Vec::new(alloc));
     write_reread(alloc, &report, &mut text)?;
+    let survey = survey_volume(alloc, table, LAST)?;
+    write_numbers(alloc, &survey.reread, &mut text)?;
     Ok(text.into_inner())
 }
 
@@ -60,7 +62,7 @@ fn the_blocks_to_read_again(rt: HostRuntime) -> Result<(), Fail> {
     let alloc = rt.alloc();
     let disc = Disc::type1(alloc)?;
     let torn = numbers(alloc, &disc.known_but(alloc, &[279, 277])?)?;
-    assert_eq!(rt; torn.as_slice(), b"277\n279\n".as_slice());
+    assert_eq!(rt; torn.as_slice(), b"277\n279\n277\n279\n".as_slice());
     let whole = numbers(alloc, &disc.known_but(alloc, &[])?)?;
     assert!(rt; whole.is_empty());
     Ok(())

@@ -1,12 +1,15 @@
 //! Reports that a sink or memory stops half way.
 
-use udfs_salvage::{RunError, SalvageError, report_run, salvage, write_report, write_volume};
 use std::alloc::Global;
 use std::io;
 use std::io::Write;
 use std::test::Fail;
 use udfs_lattice::BlockTable;
 use udfs_reading::{Reader, Writer};
+use udfs_salvage::{
+    RunError, SalvageError, report_run, salvage, survey_volume, write_report, write_survey,
+    write_volume,
+};
 use udfs_samples::{Disc, LAST};
 
 /// Takes so many bytes, one in each call, and then fails, or takes none.
@@ -62,6 +65,29 @@ fn a_report_is_written_whole(rt: HostRuntime) -> Result<(), Fail> {
         line.into_inner().as_slice(),
         b"volume holes 256 344 600\n".as_slice()
     );
+    Ok(())
+}
+
+/// A survey keeps no blocks and holes of its torn nodes, and its text has them, as the report's.
+#[test]
+fn a_survey_is_written_whole(rt: HostRuntime) -> Result<(), Fail> {
+    let alloc = rt.alloc();
+    let table = Disc::type1(alloc)?.known_but(alloc, &[278, 279])?;
+    let survey = survey_volume(alloc, &table, LAST)?;
+    assert_eq!(rt; survey.reread.as_slice(), [278, 279].as_slice());
+    assert!(rt; !survey.all_whole());
+    let mut text = Writer::new(Vec::new(alloc));
+    write_survey(alloc, &survey, &mut text)?;
+    let text = String::from_utf8(text.into_inner())?;
+    assert!(rt;
+        text.as_str()
+            .contains(" /A\nmissing 278\nmissing 279\nhole 2048 2952\n"),
+        "{text}"
+    );
+    let report = salvage(alloc, &table, LAST)?;
+    let mut other = Writer::new(Vec::new(alloc));
+    write_report(alloc, &report, &mut other)?;
+    assert_eq!(rt; other.into_inner().as_slice(), text.as_str().as_bytes());
     Ok(())
 }
 

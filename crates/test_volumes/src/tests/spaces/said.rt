@@ -2,11 +2,11 @@
 
 ghost use Rattle.std.specs.Prelude.{◌≤◌};
 
-use udfs_space::spaces::Space;
 use std::alloc::Global;
 use std::test::Fail;
 use udfs_lattice::BlockTable;
 use udfs_samples::{Disc, LAST};
+use udfs_space::spaces::Space;
 use udfs_volume::Seen;
 use udfs_volume::layouts::layout;
 

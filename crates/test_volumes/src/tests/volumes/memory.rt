@@ -1,9 +1,9 @@
 //! Want of memory: `rt try --test --fail-alloc N` refuses the allocation with this number in each test.
 
-use udfs_volume::layouts::layout;
-use udfs_volume::seen::Seen;
 use std::test::Fail;
 use udfs_samples::{Disc, LAST};
+use udfs_volume::layouts::layout;
+use udfs_volume::seen::Seen;
 
 /// With any one allocation refused the answer is the layout, or want of memory.
 #[test]

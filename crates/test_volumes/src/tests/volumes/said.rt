@@ -1,13 +1,13 @@
 //! What the layouts of sample volumes say, as texts.
 
-use udfs_volume::layouts::layout;
-use udfs_volume::maps::PartitionMap;
-use udfs_volume::seen::Seen;
 use std::alloc::{AllocError, Global};
 use std::test::Fail;
 use udfs_lattice::BlockTable;
 use udfs_osta::Label;
 use udfs_samples::{Disc, LAST};
+use udfs_volume::layouts::layout;
+use udfs_volume::maps::PartitionMap;
+use udfs_volume::seen::Seen;
 
 /// What is said of the disc with all blocks known.
 pub fn said_of(alloc: Global, disc: &Disc) -> Result<String, Fail> {

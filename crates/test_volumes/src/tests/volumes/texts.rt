@@ -1,7 +1,7 @@
 //! The texts of faults, as a report prints them.
 
-use udfs_volume::faults::VolumeFault;
 use std::test::Fail;
+use udfs_volume::faults::VolumeFault;
 
 #[test]
 fn fault_texts(rt: HostRuntime) -> Result<(), Fail> {

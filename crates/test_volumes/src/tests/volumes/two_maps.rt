@@ -1,12 +1,12 @@
 //! A volume with two maps, and its changes.
 
 use super::said::said_of;
-use udfs_volume::layouts::layout;
-use udfs_volume::maps::PartitionMap;
-use udfs_volume::seen::Seen;
 use std::alloc::{AllocError, Global};
 use std::test::Fail;
 use udfs_samples::{Bytes, Disc, LAST};
+use udfs_volume::layouts::layout;
+use udfs_volume::maps::PartitionMap;
+use udfs_volume::seen::Seen;
 
 /// With all blocks known: a change, and what the layout then says.
 const CHANGES: [(Bytes, &str); 12] = [

@@ -1,11 +1,11 @@
 //! A volume with one map of type 1, and its changes.
 
 use super::said::{label, said, said_of};
+use std::test::Fail;
+use udfs_samples::{Bytes, Disc, LAST};
 use udfs_volume::layouts::layout;
 use udfs_volume::maps::PartitionMap;
 use udfs_volume::seen::Seen;
-use std::test::Fail;
-use udfs_samples::{Bytes, Disc, LAST};
 
 /// With all blocks known: a change, and what the layout then says.
 const CHANGES: [(Bytes, &str); 21] = [

@@ -1,11 +1,11 @@
 //! Long paths, and many.
 
 use super::told::nodes_of;
-use udfs_walk::answers::NodesError;
-use udfs_walk::standings::Standing;
 use std::test::Fail;
 use udfs_file::NodeFault;
 use udfs_samples::Disc;
+use udfs_walk::answers::NodesError;
+use udfs_walk::standings::Standing;
 
 /// A chain of directories: each has one name, and the last has none. The root stands at logical block 1.
 fn chain(rt: &HostRuntime, names: u32) -> Result<Disc, Fail> {

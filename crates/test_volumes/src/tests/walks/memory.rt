@@ -1,12 +1,11 @@
 //! Want of memory: `rt try --test --fail-alloc N` refuses the allocation with this number in each test.
 
 use super::told::rooted;
-use udfs_walk::answers::NodesError;
-use udfs_walk::reread;
-use udfs_walk::unnamed_entries::unnamed;
-use udfs_walk::nodes;
 use std::test::Fail;
 use udfs_samples::Disc;
+use udfs_walk::answers::NodesError;
+use udfs_walk::unnamed_entries::unnamed;
+use udfs_walk::{nodes, reread};
 
 /// With any one allocation refused the answer is that with ample memory, or want of memory.
 #[test]

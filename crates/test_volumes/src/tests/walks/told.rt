@@ -1,10 +1,5 @@
 //! What is told of a sample volume, as text: a line for each node, each unnamed entry and each block to read again.
 
-use udfs_walk::answers::{Node, NodesError};
-use udfs_walk::reread;
-use udfs_walk::standings::Standing;
-use udfs_walk::unnamed_entries::unnamed;
-use udfs_walk::nodes;
 use std::alloc::{AllocError, Global};
 use std::test::Fail;
 use udfs_file::{Kind, file_set};
@@ -15,6 +10,10 @@ use udfs_space::Space;
 use udfs_tag::LongAd;
 use udfs_volume::Seen;
 use udfs_volume::layouts::layout;
+use udfs_walk::answers::{Node, NodesError};
+use udfs_walk::standings::Standing;
+use udfs_walk::unnamed_entries::unnamed;
+use udfs_walk::{nodes, reread};
 
 /// The places of a table's volume, and the address of its root.
 pub fn rooted(alloc: Global, table: &BlockTable) -> Option<(Space, LongAd)> {

@@ -1,4 +1,3 @@
-use Rattle.std.proofs.Common.{sym}
 use Rattle.std.proofs.lemmas.Result.{err_from_is_err_and}
 use Rattle.udfs_salvage.proofs.Passing.{failed_last}
 use Rattle.udfs_salvage.proofs.body_bytes.write_body.Goals as goal
@@ -6,4 +5,4 @@ use Rattle.udfs_salvage.proofs.body_bytes.write_body.Goals as goal
 pub returns-in_err-flush : goal.returns-in_err-flush
 returns-in_err-flush g c =
     let p = err_from_is_err_and c.from_residual-in_err-flush.result c.from_residual-in_err-flush.ensures.1 in
-    rw (p.1, sym c.stretches.ensures.value) (failed_last c.new-out.ensures c.in_ok-push_stretches.ensures c.in_err-flush.ensures.written)
+    rw p.1 (failed_last c.new-out.ensures c.in_ok-push_portions.ensures c.in_err-flush.ensures.written)

@@ -6,5 +6,5 @@ use Rattle.udfs_salvage.proofs.Headlines.{reports_keep_it}
 use Rattle.udfs_salvage.proofs.reports.salvage.Goals as goal
 
 pub returns-clause-headline : goal.returns-clause-headline
-returns-clause-headline c = IfOk-weaker c.look.result (λ r. IsReport (state_of c.args.table.now) c.args.last (report_now r)) (λ r. Headline (state_of c.args.table.now) c.args.last (report_now r))
-    (λ r h. reports_keep_it (state_of c.args.table.now) c.args.last (report_now r) h) c.look.ensures.report
+returns-clause-headline c = IfOk-weaker c.look_full.result (λ r. IsReport (state_of c.args.table.now) c.args.last (report_now r)) (λ r. Headline (state_of c.args.table.now) c.args.last (report_now r))
+    (λ r h. reports_keep_it (state_of c.args.table.now) c.args.last (report_now r) h) c.look_full.ensures.report

@@ -2,6 +2,7 @@ use Rattle.std.proofs.Common.{◌≡◌, ◌++◌, List, map}
 use Rattle.std.specs.Prelude.{filter_map}
 use Rattle.std.specs.List.{range_with_len}
 use Rattle.udfs_space.specs.Views.{view_now}
+use Rattle.udfs_walk.specs.Bare.{full_entry}
 use Rattle.udfs_walk.specs.NodeFields.{NodeFields}
 use Rattle.udfs_walk.specs.NamedKeys.{AreNamed}
 use Rattle.udfs_walk.specs.UnnamedEntries.{unnamed_at}
@@ -10,4 +11,4 @@ use Rattle.udfs_walk.proofs.unnamed_entries.push_unnamed.Given as goal
 
 abbrev pub invariant-loop-block : goal.invariant-loop-block
 invariant-loop-block l = (nodes : List NodeFields) → AreNamed (view_now l.view) nodes l.keys
-    → l.found.items ≡ l.fn.found.items ++ filter_map (unnamed_at (view_now l.view) nodes) (map (in_partition l.reference) (range_with_len 0 l.block))
+    → map (full_entry (view_now l.view)) l.found.items ≡ map (full_entry (view_now l.view)) l.fn.found.items ++ filter_map (unnamed_at (view_now l.view) nodes) (map (in_partition l.reference) (range_with_len 0 l.block))

@@ -1,0 +1,243 @@
+//! Surveys: reports that keep no blocks and holes of torn nodes.
+
+ghost use Rattle.std.specs.Prelude.{◌≡◌, ◌≤◌, ◌↔◌, ℕ, [], IfOk, IfErr, IsErrOf, map};
+ghost use Rattle.udfs_lattice.specs.Tables.{state_of};
+ghost use Rattle.udfs_volume.specs.Answers.{found};
+ghost use Rattle.udfs_volume.specs.Seen.{IsRising};
+ghost use Rattle.udfs_space.specs.Places.{view};
+ghost use Rattle.udfs_walk.specs.Bare.{full_node};
+ghost use Rattle.udfs_walk.specs.Walks.{AreNodes};
+ghost use Rattle.udfs_salvage.specs.Found.{found_now, volume_now};
+ghost use Rattle.udfs_salvage.specs.Headline.{Headline};
+ghost use Rattle.udfs_salvage.specs.TreeReports.{IsOfNoLawful};
+ghost use Rattle.udfs_salvage.specs.Reports.{HasTooManyPaths, IsLookRefused, IsNothingPast, IsOutOfRange, IsPastEnd, IsReport, IsWalkRefused, MayWantMemory, ReportsBy, all_whole, report_now};
+ghost use Rattle.udfs_salvage.specs.Surveys.{IsClosed, IsFound, survey_now};
+
+use crate::errors::SalvageError;
+use crate::reports::{FIRST_LAST, Report, all_whole, past_end};
+use crate::volumes::{OpenVolume, Volume, open};
+use std::alloc::{AllocError, Global};
+use udfs_lattice::BlockTable;
+use udfs_lattice::table::LAST_BLOCK;
+use udfs_space::View;
+use udfs_volume::Seen;
+use udfs_walk::unnamed_entries::bare_unnamed;
+use udfs_walk::{Node, NodesError, Unnamed, bare_nodes, bare_reread, full_entries, full_nodes};
+
+/// What a table tells of a volume, as a [`Report`] has it, but for the blocks and holes of torn nodes and entries: these
+/// are found again where they are told, so that those of one node alone are held at a time.
+#[derive(Drop)]
+pub struct Survey<'a> {
+    /// The table.
+    pub table: &'a BlockTable,
+    /// The last block of the volume.
+    pub last: u32,
+    /// Whether the volume opens.
+    pub volume: Volume,
+    /// The nodes, as a report has them; a torn one without its blocks and holes.
+    pub nodes: Vec<Node>,
+    /// The entries that no name leads to, as a report has them; a torn one without its blocks and holes.
+    pub unnamed: Vec<Unnamed>,
+    /// The blocks to read again, ascending and each once. None of them is known.
+    pub reread: Vec<u32>,
+}
+
+impl<'a> Survey<'a> {
+    /// Whether there are nodes, and all are whole.
+    pub fn all_whole(&self) -> bool
+        ensures { result ≡ all_whole (survey_now self.now).nodes }
+    {
+        all_whole(&self.nodes)
+    }
+}
+
+/// The nodes of a volume that opens.
+fn list(alloc: Global, table: &BlockTable, opened: &OpenVolume) -> Result<Vec<Node>, SalvageError>
+    ensures nodes { IfOk result (λ listed. AreNodes (view (state_of table.now) opened.now.space) opened.now.root (map (full_node (view (state_of table.now) opened.now.space)) listed.items)) }
+    ensures refused { IfErr result (IsWalkRefused (state_of table.now) (found_now opened.now)) }
+{
+    match bare_nodes(alloc, table, &opened.space, opened.root) {
+        Ok(listed) => Ok(listed),
+        Err(NodesError::TooManyPaths) => Err(SalvageError::TooManyPaths),
+        Err(NodesError::OutOfMemory) => Err(SalvageError::OutOfMemory),
+    }
+}
+
+/// The survey of a volume that opens.
+#[tactic(auto, using(crate::proofs::Rereads::reread_rises))]
+fn survey_open<'a>(
+    alloc: Global,
+    table: &'a BlockTable,
+    last: u32,
+    opened: OpenVolume,
+) -> Result<Survey<'a>, SalvageError>
+    ensures report { IfOk result (λ survey. ReportsBy (state_of table.now) (found (found_now opened)) (survey_now survey)) }
+    ensures volume { IfOk result (λ survey. volume_now survey.volume ≡ found (found_now opened)) }
+    ensures of { IfOk result (λ survey. (survey.table.now ≡ table.now) × (survey.last ≡ last)) }
+    ensures rising { IfOk result (λ survey. IsRising survey.reread.items) }
+    ensures refused { IfErr result (IsWalkRefused (state_of table.now) (found_now opened)) }
+{
+    let listed = list(alloc, table, &opened)?;
+    let unnamed = bare_unnamed(alloc, table, &opened.space, &listed)?;
+    let reread = bare_reread(alloc, table, &opened.space, &listed)?;
+    Ok(Survey {
+        table,
+        last,
+        volume: Volume::Open(opened),
+        nodes: listed,
+        unnamed,
+        reread,
+    })
+}
+
+/// The survey of a volume that does not open.
+fn survey_closed<'a>(
+    alloc: Global,
+    table: &'a BlockTable,
+    last: u32,
+    volume: Volume,
+    reread: Vec<u32>,
+) -> Survey<'a>
+    requires { IsClosed (volume_now volume) }
+    ensures value { survey_now result ≡ record { volume = volume_now volume; nodes = []; unnamed = []; reread = reread.items } }
+    ensures of { (result.table.now ≡ table.now) × (result.last ≡ last) }
+{
+    Survey {
+        table,
+        last,
+        volume,
+        nodes: Vec::new(alloc),
+        unnamed: Vec::new(alloc),
+        reread,
+    }
+}
+
+/// The survey of a volume, by what is found of it, where nothing is known behind its last block.
+fn look<'a>(alloc: Global, table: &'a BlockTable, last: u32) -> Result<Survey<'a>, SalvageError>
+    requires from { 513 ≤ last }
+    requires to { last ≤ 4194303 }
+    requires nothing_past { IsNothingPast (state_of table.now) last }
+    ensures report { IfOk result (λ survey. IsReport (state_of table.now) last (survey_now survey)) }
+    ensures of { IfOk result (λ survey. (survey.table.now ≡ table.now) × (survey.last ≡ last)) }
+    ensures rising { IfOk result (λ survey. IsRising survey.reread.items) }
+    ensures refused { IfErr result (IsLookRefused (state_of table.now) last) }
+{
+    match open(alloc, table, last) {
+        Seen::Got(opened) => survey_open(alloc, table, last, opened),
+        Seen::Holes(blocks) => {
+            let reread = blocks.clone()?;
+            Ok(survey_closed(alloc, table, last, Volume::Holes(blocks), reread))
+        }
+        Seen::Fault(fault) => Ok(survey_closed(
+            alloc,
+            table,
+            last,
+            Volume::Fault(fault),
+            Vec::new(alloc),
+        )),
+        Seen::OutOfMemory => Err(SalvageError::OutOfMemory),
+    }
+}
+
+/// The report of a survey: the blocks and holes of all torn nodes.
+fn filled<'a>(alloc: Global, survey: Survey<'a>) -> Result<Report<'a>, SalvageError>
+    ensures report { IfOk result (λ report. report_now report ≡ survey_now survey.entry) }
+    ensures of { IfOk result (λ report. (report.table.now ≡ survey.entry.table.now) × (report.last ≡ survey.entry.last)) }
+    ensures reread { IfOk result (λ report. report.reread.items ≡ survey.entry.reread.items) }
+    ensures refused { IfErr result (λ error. (error ≡ SalvageError.OutOfMemory) × IsFound (volume_now survey.entry.volume)) }
+{
+    let Survey {
+        table,
+        last,
+        volume,
+        nodes,
+        unnamed,
+        reread,
+    } = survey;
+    match volume {
+        Volume::Open(opened) => {
+            let view = View {
+                table,
+                space: &opened.space,
+            };
+            let nodes = full_nodes(alloc, view, nodes)?;
+            let unnamed = full_entries(alloc, view, unnamed)?;
+            Ok(Report {
+                table,
+                last,
+                volume: Volume::Open(opened),
+                nodes,
+                unnamed,
+                reread,
+            })
+        }
+        Volume::Holes(blocks) => Ok(Report {
+            table,
+            last,
+            volume: Volume::Holes(blocks),
+            nodes,
+            unnamed,
+            reread,
+        }),
+        Volume::Fault(fault) => Ok(Report {
+            table,
+            last,
+            volume: Volume::Fault(fault),
+            nodes,
+            unnamed,
+            reread,
+        }),
+    }
+}
+
+/// The report of a volume, by what is found of it, where nothing is known behind its last block.
+pub(crate) fn look_full<'a>(
+    alloc: Global,
+    table: &'a BlockTable,
+    last: u32,
+) -> Result<Report<'a>, SalvageError>
+    requires from { 513 ≤ last }
+    requires to { last ≤ 4194303 }
+    requires nothing_past { IsNothingPast (state_of table.now) last }
+    ensures report { IfOk result (λ report. IsReport (state_of table.now) last (report_now report)) }
+    ensures of { IfOk result (λ report. (report.table.now ≡ table.now) × (report.last ≡ last)) }
+    ensures rising { IfOk result (λ report. IsRising report.reread.items) }
+    ensures refused { IfErr result (IsLookRefused (state_of table.now) last) }
+{
+    match look(alloc, table, last) {
+        Ok(survey) => filled(alloc, survey),
+        Err(error) => Err(error),
+    }
+}
+
+/// What the table tells of the volume, of which `last` is the last block, as [`salvage`](crate::salvage) tells it, but for
+/// the blocks and the holes of torn nodes and entries, which are found again where they are told.
+///
+/// # Errors
+///
+/// As those of [`salvage`](crate::salvage).
+#[tactic(auto, using(crate::proofs::TreeReports::out_of_range, crate::proofs::TreeReports::past_end, crate::proofs::TreeReports::look_refused))]
+pub fn survey_volume<'a>(
+    alloc: Global,
+    table: &'a BlockTable,
+    last: u32,
+) -> Result<Survey<'a>, SalvageError>
+    ensures range { IsErrOf result SalvageError.LastRange ↔ IsOutOfRange last }
+    ensures past { (n : ℕ) → (IsErrOf result (SalvageError.PastEnd n) ↔ ((¬ IsOutOfRange last) × IsPastEnd (state_of table.now) last n)) }
+    ensures too_many { IsErrOf result SalvageError.TooManyPaths → (¬ IsOutOfRange last) × IsNothingPast (state_of table.now) last × HasTooManyPaths (state_of table.now) last }
+    ensures report { IfOk result (λ survey. IsReport (state_of table.now) last (survey_now survey)) }
+    // All that is promised of a report holds of the one that the survey stands for.
+    ensures headline { IfOk result (λ survey. Headline (state_of table.now) last (survey_now survey)) }
+    ensures memory { IsErrOf result SalvageError.OutOfMemory → (¬ IsOutOfRange last) × IsNothingPast (state_of table.now) last × MayWantMemory (state_of table.now) last }
+    ensures of_no_lawful { IfErr result (IsOfNoLawful (state_of table.now) last) }
+    ensures rising { IfOk result (λ survey. IsRising survey.reread.items) }
+    ensures of { IfOk result (λ survey. (survey.table.now ≡ table.now) × (survey.last ≡ last)) }
+{
+    if last < FIRST_LAST || last > LAST_BLOCK {
+        return Err(SalvageError::LastRange);
+    }
+    if let Some(block) = past_end(table, last) {
+        return Err(SalvageError::PastEnd(block));
+    }
+    look(alloc, table, last)
+}

@@ -1,0 +1,136 @@
+-- What was let go of a node is found again at its address.
+use Rattle.std.proofs.Common.{◌≡◌, refl, sym, ◌∙◌, ap, subst, ℕ, Bool, true, false, List, [], ◌∷◌, ◌++◌, length, map, cond, Option, Some, None}
+use Rattle.std.specs.Prelude.{filter_map, flat_map, ◌||◌}
+use Rattle.std.specs.List.{list_any, range_with_len}
+use Rattle.std.proofs.lemmas.List.{map-append}
+use Rattle.udfs_tag.specs.declared.layouts.LongAd.{LongAd}
+use Rattle.udfs_space.specs.Sparing.{Space}
+use Rattle.udfs_space.specs.Places.{View}
+use Rattle.udfs_file.specs.Bodies.{Body, body, cells, faulty_body}
+use Rattle.udfs_file.specs.Entries.{EntryFields}
+use Rattle.udfs_file.specs.Fronts.{directory, entries_of, fault_in}
+use Rattle.udfs_file.specs.declared.cells.Cell.{Cell}
+use Rattle.udfs_file.specs.declared.directories.DirEntry.{DirEntry}
+use Rattle.udfs_file.specs.declared.faults.Kind.{Kind}
+use Rattle.udfs_file.specs.declared.faults.Kind.TheVariants as kind
+use Rattle.udfs_file.specs.declared.faults.NodeFault.{NodeFault}
+use Rattle.udfs_walk.specs.Bare.{bare, bare_entry, bare_node, body_lists, full_entry, full_node, lists_at, lists_of, target_lists, with_lists}
+use Rattle.udfs_walk.specs.NodeFields.{NodeFields}
+use Rattle.udfs_walk.specs.TornFields.{TornFields}
+use Rattle.udfs_walk.specs.Nodes.{entry_standing, node, node_at, told}
+use Rattle.udfs_walk.specs.Frames.{FrameFields, IsTaken}
+use Rattle.udfs_walk.specs.Routes.{Walked, inside, is_deep, is_loop}
+use Rattle.udfs_walk.specs.Standings.{body_standing, cells_standing, depth_or, kind_standing, unless_fault}
+use Rattle.udfs_walk.specs.Targets.{Icb, Target, bad, unread, entry, icb_of, is_icb, target}
+use Rattle.udfs_walk.specs.UnnamedEntries.{address_of, entry_alone, icbs_in, names, unnamed, unnamed_at, unnamed_with}
+use Rattle.udfs_walk.specs.declared.answers.Unnamed.{Unnamed}
+use Rattle.udfs_walk.specs.declared.standings.Standing.{Standing}
+use Rattle.udfs_walk.specs.declared.standings.Standing.TheVariants.{Whole, Torn, Loop, Fault}
+
+-- ---- standings
+-- with its own lists again it is as it was
+again : (s : Standing) (lists : TornFields) → lists ≡ lists_of s → with_lists lists (bare s) ≡ s
+again Whole lists e = refl
+again (Torn torn) lists e = ap Torn e
+again Loop lists e = refl
+again (Fault f) lists e = refl
+
+deep_again : (deep : Bool) (es : List DirEntry) (s : Standing) (lists : TornFields) → lists ≡ lists_of s → with_lists lists (bare (depth_or deep es s)) ≡ depth_or deep es s
+deep_again true (e ∷ es) s lists h = refl
+deep_again true [] s lists h = again s lists h
+deep_again false es s lists h = again s lists h
+
+listed_again : (o : Option NodeFault) (deep : Bool) (es : List DirEntry) (s : Standing) (lists : TornFields) → lists ≡ lists_of s
+    → with_lists lists (bare (unless_fault o (depth_or deep es s))) ≡ unless_fault o (depth_or deep es s)
+listed_again None deep es s lists h = deep_again deep es s lists h
+listed_again (Some f) deep es s lists h = refl
+
+kind_again : (k : Kind) (deep : Bool) (cs : List Cell) (lists : TornFields) → lists ≡ lists_of (cells_standing cs) → with_lists lists (bare (kind_standing k deep cs)) ≡ kind_standing k deep cs
+kind_again kind.Directory deep cs lists h = listed_again (fault_in (directory cs).rest) deep (entries_of cs) (cells_standing cs) lists h
+kind_again kind.File deep cs lists h = again (cells_standing cs) lists h
+kind_again kind.Link deep cs lists h = again (cells_standing cs) lists h
+kind_again (kind.Other t) deep cs lists h = again (cells_standing cs) lists h
+kind_again kind.Unread deep cs lists h = again (cells_standing cs) lists h
+
+body_again : (k : Kind) (deep : Bool) (b : Body) (lists : TornFields) → lists ≡ body_lists b → with_lists lists (bare (body_standing k deep b)) ≡ body_standing k deep b
+body_again k deep (faulty_body f) lists h = refl
+body_again k deep (cells cs) lists h = kind_again k deep cs lists h
+
+loop_again : (l : Bool) (s : Standing) (lists : TornFields) → with_lists lists (bare s) ≡ s → with_lists lists (bare (cond l Loop s)) ≡ cond l Loop s
+loop_again true s lists h = refl
+loop_again false s lists h = h
+
+-- ---- nodes
+abbrev node_with_lists : NodeFields → TornFields → NodeFields
+node_with_lists n lists = record { path = n.path; icb = n.icb; kind = n.kind; size = n.size; stamp = n.stamp; hidden = n.hidden; standing = with_lists lists (bare n.standing) }
+
+at_target : (v : View) (w : Walked) (t : Target) (lists : TornFields) → lists ≡ target_lists v w.address t → node_with_lists (node_at v w t) lists ≡ node_at v w t
+at_target v w (bad f) lists e = refl
+at_target v w (unread n) lists e = ap (node_with_lists (node_at v w (unread n))) e
+at_target v w (entry e) lists h = ap (told w e) (loop_again (is_loop w) (body_standing e.kind (is_deep w) (body v w.address.reference w.address.block e)) lists
+    (body_again e.kind (is_deep w) (body v w.address.reference w.address.block e) lists h))
+
+icb_in : (v : View) (w : Walked) (t : Target) → (node_at v w t).icb ≡ w.address
+icb_in v w (bad f) = refl
+icb_in v w (unread n) = refl
+icb_in v w (entry e) = refl
+
+pub full_again : (v : View) (w : Walked) → full_node v (bare_node (node v w)) ≡ node v w
+unfolding node lists_at
+full_again v w = at_target v w (target v w.address) (lists_at v (node v w).icb) (ap (λ a. target_lists v a (target v a)) (icb_in v w (target v w.address)))
+
+pub full_more : (v : View) (w : Walked) (old new : List NodeFields) (n : NodeFields) → new ≡ old ++ bare_node n ∷ [] → n ≡ node v w → map (full_node v) new ≡ map (full_node v) old ++ n ∷ []
+full_more v w old new n e h = ap (map (full_node v)) e ∙ map-append (full_node v) old (bare_node n ∷ [])
+    ∙ ap (λ x. map (full_node v) old ++ x ∷ []) (ap (λ x. full_node v (bare_node x)) h ∙ full_again v w ∙ sym h)
+
+pub full_first : (v : View) (w : Walked) (old new : List NodeFields) (n : NodeFields) → old ≡ [] → new ≡ old ++ bare_node n ∷ [] → n ≡ node v w → map (full_node v) new ≡ n ∷ []
+full_first v w old new n z e h = full_more v w old new n e h ∙ ap (λ x. map (full_node v) x ++ n ∷ []) z
+
+pub full_taken : (v : View) (f g : FrameFields) (old new : List NodeFields) (taken : NodeFields × Option FrameFields) → new ≡ old ++ bare_node taken.0 ∷ [] → IsTaken v f (Some taken) g
+    → map (full_node v) new ≡ map (full_node v) old ++ taken.0 ∷ []
+full_taken v f g old new taken e t = full_more v (inside f.path f.above t.entry) old new taken.0 e t.node
+
+-- ---- entries that no name leads to
+some_is : {A : Type 0} (x y : A) → Some x ≡ Some y → x ≡ y
+some_is x y e = ap (λ o. elim o [ None ↦ x | Some z ↦ z ]) e
+
+pub lists_is : (v : View) (a : LongAd) (t : Target) → t ≡ target v a → target_lists v a t ≡ lists_at v a
+unfolding lists_at
+lists_is v a t e = ap (target_lists v a) e
+
+pub lists_entry : (v : View) (a : LongAd) (e : EntryFields) → entry e ≡ target v a → lists_at v a ≡ body_lists (body v a.reference a.block e)
+unfolding lists_at
+lists_entry v a e t = ap (target_lists v a) (sym t)
+
+alone_again : (v : View) (icb : Icb) (t : Target) (u : Unnamed) → t ≡ target v (address_of icb) → Some u ≡ entry_alone v icb t → full_entry v (bare_entry u) ≡ u
+alone_again v icb (bad f) u t e = absurd (let z : ⊥ = cc in z)
+alone_again v icb (unread n) u t e = absurd (let z : ⊥ = cc in z)
+alone_again v icb (entry f) u t e = subst (λ x. full_entry v (bare_entry x) ≡ x) (sym (some_is u (unnamed_with v icb f) e)) with_entry
+  where
+    lists : lists_at v (address_of icb) ≡ body_lists (body v icb.0 icb.1 f)
+    lists = lists_entry v (address_of icb) f t
+
+    with_entry : full_entry v (bare_entry (unnamed_with v icb f)) ≡ unnamed_with v icb f
+    with_entry = λ i. record { reference = icb.0; block = icb.1; kind = f.kind; size = f.size; stamp = f.stamp; standing = body_again f.kind false (body v icb.0 icb.1 f) (lists_at v (address_of icb)) lists i }
+
+pub entry_again : (v : View) (nodes : List NodeFields) (icb : Icb) (u : Unnamed) → Some u ≡ unnamed_at v nodes icb → full_entry v (bare_entry u) ≡ u
+unfolding unnamed_at
+entry_again v nodes icb u e = go (list_any (names v icb) nodes) e
+  where
+    go : (b : Bool) → Some u ≡ cond b None (entry_alone v icb (target v (address_of icb))) → full_entry v (bare_entry u) ≡ u
+    go true h = absurd (let z : ⊥ = cc in z)
+    go false h = alone_again v icb (target v (address_of icb)) u refl h
+
+pub entries_more : (v : View) (nodes : List NodeFields) (icb : Icb) (old new : List Unnamed) (u : Unnamed) → new ≡ old ++ bare_entry u ∷ [] → Some u ≡ unnamed_at v nodes icb
+    → map (full_entry v) new ≡ map (full_entry v) old ++ u ∷ []
+entries_more v nodes icb old new u e h = ap (map (full_entry v)) e ∙ map-append (full_entry v) old (bare_entry u ∷ [])
+    ∙ ap (λ x. map (full_entry v) old ++ x ∷ []) (entry_again v nodes icb u h)
+
+-- what nodes name is told by their addresses
+named_same : (v : View) (icb : Icb) (ns : List NodeFields) → list_any (names v icb) (map (full_node v) ns) ≡ list_any (names v icb) ns
+named_same v icb [] = refl
+named_same v icb (n ∷ ns) = ap (λ b. names v icb n || b) (named_same v icb ns)
+
+pub unnamed_same : (v : View) (space : Space) (ns : List NodeFields) → unnamed v space (map (full_node v) ns) ≡ unnamed v space ns
+unfolding unnamed_at
+unnamed_same v space ns = λ i. flat_map (λ r. filter_map (λ icb. cond (named_same v icb ns i) None (entry_alone v icb (target v (address_of icb)))) (icbs_in space r)) (range_with_len 0 (length space))
