@@ -20,11 +20,13 @@ full_nodes blocks (found f) nodes = map (full_node (view blocks f.space)) nodes
 full_nodes blocks (holes listed) nodes = nodes
 full_nodes blocks (faulty fault) nodes = nodes
 
+-- the entries of a survey with what they lack
 abbrev pub full_entries : Blocks → Answer Found → List Unnamed → List Unnamed
 full_entries blocks (found f) entries = map (full_entry (view blocks f.space)) entries
 full_entries blocks (holes listed) entries = entries
 full_entries blocks (faulty fault) entries = entries
 
+-- the report that a survey stands for
 abbrev pub survey_now : code_survey.Survey → Report
 survey_now s = record {
   volume = volume_now s.volume;
@@ -33,10 +35,12 @@ survey_now s = record {
   reread = s.reread.items;
 }
 
+-- the volume opens
 pub record IsFound (answer : Answer Found) : Type 0 where
   pub opened : Found
   pub is : answer ≡ found opened
 
+-- the volume does not open
 abbrev pub IsClosed : Answer Found → Type 0
 IsClosed (found f) = ⊥
 IsClosed (holes listed) = ⊤

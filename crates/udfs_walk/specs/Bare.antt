@@ -15,6 +15,7 @@ use Rattle.udfs_walk.specs.declared.answers.Unnamed.{Unnamed}
 use Rattle.udfs_walk.specs.declared.standings.Standing.{Standing}
 use Rattle.udfs_walk.specs.declared.standings.Standing.TheVariants.{Whole, Torn, Loop, Fault}
 
+-- nothing is missing
 abbrev pub no_lists : TornFields
 no_lists = record { missing = []; holes = [] }
 
@@ -25,12 +26,14 @@ lists_of (Torn torn) = torn
 lists_of Loop = no_lists
 lists_of (Fault f) = no_lists
 
+-- a torn standing with these blocks and holes; each other one as it was
 abbrev pub with_lists : TornFields → Standing → Standing
 with_lists lists Whole = Whole
 with_lists lists (Torn torn) = Torn lists
 with_lists lists Loop = Loop
 with_lists lists (Fault f) = Fault f
 
+-- a standing without its blocks and holes
 abbrev pub bare : Standing → Standing
 bare standing = with_lists no_lists standing
 
@@ -45,23 +48,30 @@ target_lists view a (bad f) = no_lists
 target_lists view a (unread n) = record { missing = n ∷ []; holes = [] }
 target_lists view a (entry e) = body_lists (body view a.reference a.block e)
 
+-- what is missing of what stands at an address
 unfoldable pub lists_at : View → LongAd → TornFields
 lists_at view a = target_lists view a (target view a)
 
+-- a node with another standing
 abbrev pub node_with : NodeFields → Standing → NodeFields
 node_with n standing = record { path = n.path; icb = n.icb; kind = n.kind; size = n.size; stamp = n.stamp; hidden = n.hidden; standing = standing }
 
+-- a node without its blocks and holes
 abbrev pub bare_node : NodeFields → NodeFields
 bare_node n = node_with n (bare n.standing)
 
+-- a node with what is missing of it
 abbrev pub full_node : View → NodeFields → NodeFields
 full_node view n = node_with n (with_lists (lists_at view n.icb) n.standing)
 
+-- an entry with another standing
 abbrev pub entry_with : Unnamed → Standing → Unnamed
 entry_with u standing = record { reference = u.reference; block = u.block; kind = u.kind; size = u.size; stamp = u.stamp; standing = standing }
 
+-- an entry without its blocks and holes
 abbrev pub bare_entry : Unnamed → Unnamed
 bare_entry u = entry_with u (bare u.standing)
 
+-- an entry with what is missing of it
 abbrev pub full_entry : View → Unnamed → Unnamed
 full_entry view u = entry_with u (with_lists (lists_at view (address_of (u.reference, u.block))) u.standing)
