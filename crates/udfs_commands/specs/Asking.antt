@@ -2,9 +2,12 @@
 --     IsPicked words flag given absent picked     the one thing with the flag, and the other without it
 --     input_texts words                           the paths of the inputs, in order
 --     out_text words                              the path of the output
-use Rattle.std.specs.Prelude.{◌≡◌, ℕ, List, [], Some, None, codes, option_map, unwrap_or}
+--     folder_text words                           the path of the new folder
+--     IsLast words last                           the number of the last block; or 0, of which there is no report
+use Rattle.std.specs.Prelude.{◌≡◌, ◌⊎◌, ℕ, List, [], Some, None, codes, option_map, unwrap_or}
 use Rattle.clap.specs.Matches.{matched_of, first_value, one_text, raw_values}
 use Rattle.clap.specs.declared.parser.matches.Found.{Found}
+use Rattle.std.specs.Str.Parse.{digits_value, without_leading_plus}
 
 -- clap reads a flag as `true` or `false`, and a flag that it does not know as nothing
 pub record IsPicked {A : Type 0} (words : Found) (flag : List ℕ) (given absent picked : A) : Type 0 where
@@ -19,3 +22,11 @@ input_texts words = unwrap_or (option_map raw_values (matched_of words (codes "i
 -- what was given as the output, a path
 abbrev pub out_text : Found → List ℕ
 out_text words = unwrap_or (first_value words (codes "out")) []
+
+-- what was given as the new folder, a path
+abbrev pub folder_text : Found → List ℕ
+folder_text words = unwrap_or (first_value words (codes "to")) []
+
+-- what was given as the last block, in decimal; of 0 there is no report
+abbrev pub IsLast : Found → ℕ → Type 0
+IsLast words last = ((text : List ℕ) × (one_text words (codes "last") ≡ Some text) × (digits_value 10 (without_leading_plus text) ≡ last)) ⊎ (last ≡ 0)

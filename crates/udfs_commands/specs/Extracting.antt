@@ -1,7 +1,22 @@
 -- What a command makes of the nodes of a volume.
 --     deed kind standing size fill     a folder, a file, or nothing
---     SaysGood last good table         it is good only where all nodes are whole
-use Rattle.std.specs.Prelude.{◌≡◌, ℕ, Bool, true, Option, cond}
+--     fate_lines nodes fates           what is printed of nodes, each with its fate, in order
+--     IsIn folder q                    a path below a folder by escaped names
+--     Spares folder held               nothing outside of the folder changes, nor any file that was there
+--     IsSafe .. path bytes             a path holds these bytes, and since some moment each crash leaves them
+--     IsPut .. index node fate         what the fate of a node says of its file
+--     Puts                             nodes from the first behind the root on, with their fates and lines
+--     PutsReport                       all nodes with their files and lines, or the line of a volume that does not open
+use Rattle.std.specs.Prelude.{◌≡◌, ◌≢◌, ℕ, ◌≤◌, Bool, true, false, List, [], ◌∷◌, ◌++◌, ⊤, suc, Option, Some, cond, codes, drop, length, if◌then◌else◌, ◌&&◌}
+use Rattle.udfs_file.specs.declared.cells.Cell.{Cell}
+use Rattle.udfs_files.specs.Disk.{Disk}
+use Rattle.udfs_reading.specs.Writing.{Wrote, Failed as WriteFailed}
+use Rattle.udfs_walk.specs.NodeFields.{NodeFields}
+use Rattle.udfs_salvage.specs.Extraction.{HasCellsAt, fill_byte, filled}
+use Rattle.udfs_salvage.specs.NodeTexts.{names_text}
+use Rattle.udfs_salvage.specs.Texts.{line, volume_line}
+use Rattle.udfs_salvage.specs.Found.{Found}
+use Rattle.udfs_volume.specs.Answers.{Answer, found, holes, faulty}
 use Rattle.udfs_file.specs.declared.faults.Kind.{Kind}
 use Rattle.udfs_file.specs.declared.faults.Kind.TheVariants as kind
 use Rattle.udfs_lattice.specs.Tables.{Table, state_of}
@@ -12,6 +27,8 @@ use Rattle.udfs_salvage.specs.Reports.{Report, IsReport, all_whole}
 use Rattle.udfs_salvage.specs.declared.extraction.Fill.{Fill}
 use Rattle.udfs_commands.specs.declared.extract.Deed.{Deed}
 use Rattle.udfs_commands.specs.declared.extract.Deed.TheVariants.{Folder, File, Skip}
+use Rattle.udfs_commands.specs.declared.extract.Fate.{Fate}
+use Rattle.udfs_commands.specs.declared.extract.Fate.TheVariants.{Made, Written, Failed, Left, Skipped}
 
 -- a loop is a directory that is not entered
 abbrev pub directory_deed : Standing → Deed
@@ -28,8 +45,113 @@ deed kind.Link s size fill = Skip
 deed (kind.Other t) s size fill = Skip
 deed kind.Unread s size fill = Skip
 
--- the answer that nothing is lacking is given only where all nodes of the report are whole
-pub record SaysGood (last : ℕ) (good : Bool) (table : Table) : Type 0 where
+-- what may become of a node of which this is done
+abbrev pub IsFateOf : Deed → Fate → Type 0
+IsFateOf Folder fate = (fate ≢ Written) × (fate ≢ Skipped)
+IsFateOf File fate = (fate ≢ Made) × (fate ≢ Skipped)
+IsFateOf Skip fate = fate ≡ Skipped
+
+-- a folder that was made has no line
+abbrev pub fate_line : Fate → List (List ℕ) → List ℕ
+fate_line Made path = []
+fate_line Written path = line (codes "written " ++ names_text path)
+fate_line Failed path = line (codes "failed " ++ names_text path)
+fate_line Left path = line (codes "failed " ++ names_text path)
+fate_line Skipped path = line (codes "skipped " ++ names_text path)
+
+abbrev pub fate_lines : List NodeFields → List Fate → List ℕ
+fate_lines ns [] = []
+fate_lines [] (fate ∷ fates) = []
+fate_lines (n ∷ ns) (fate ∷ fates) = fate_line fate n.path ++ fate_lines ns fates
+
+-- no file and no folder failed
+abbrev pub is_good : Fate → Bool
+is_good Made = true
+is_good Written = true
+is_good Failed = false
+is_good Left = false
+is_good Skipped = true
+
+abbrev pub all_good : List Fate → Bool
+all_good [] = true
+all_good (fate ∷ fates) = if is_good fate then all_good fates else false
+
+-- a node's path in the folder: that of the folder, and each name in its escaped form behind a `/`
+abbrev pub path_below : List ℕ → List (List ℕ) → List ℕ
+path_below folder names = folder ++ names_text names
+
+abbrev pub IsIn : List ℕ → List ℕ → Type 0
+IsIn folder q = (names : List (List ℕ)) × (q ≡ path_below folder names)
+
+-- outside of the folder all is as it was, and so is each file that was there
+pub record Spares (folder : List ℕ) (held : List ℕ → Option (Option (List ℕ))) (d c : Disk) : Type 0 where
+  pub outside : (q : List ℕ) → (¬ IsIn folder q) → c q ≡ d q
+  pub there : (q bytes : List ℕ) → held q ≡ Some (Some bytes) → c q ≡ d q
+
+-- each file that was there is there
+abbrev pub Stay : (List ℕ → Option (Option (List ℕ))) → (List ℕ → Option (Option (List ℕ))) → Type 0
+Stay old new = (q bytes : List ℕ) → old q ≡ Some (Some bytes) → new q ≡ Some (Some bytes)
+
+-- the path holds the bytes, and since some moment each crash leaves them
+pub record IsSafe (holds : List ℕ → Option (Option (List ℕ))) (moment : ℕ) (left_since : ℕ → Disk → Type 0) (path bytes : List ℕ) : Type 0 where
+  pub held : holds path ≡ Some (Some bytes)
+  pub since : ℕ
+  pub past : since ≤ moment
+  pub durable : (c : Disk) → left_since since c → c path ≡ Some bytes
+
+-- A file that is told as written holds exactly the bytes of the node at its place in the report; and nothing fails but for a fault.
+pub record IsPut (tells fails : Type 0) (table : Table) (report : Report) (fill : Fill) (folder : List ℕ) (holds : List ℕ → Option (Option (List ℕ))) (moment : ℕ) (left_since : ℕ → Disk → Type 0)
+    (index : ℕ) (n : NodeFields) (fate : Fate) : Type 0 where
+  pub done : IsFateOf (deed n.kind n.standing n.size fill) fate
+  pub written : fate ≡ Written → tells → (last : ℕ) → IsReport (state_of table) last report → (cs : List Cell) × HasCellsAt (state_of table) last index cs
+      × IsSafe holds moment left_since (path_below folder n.path) (filled (fill_byte fill) cs)
+  pub failed : is_good fate ≡ false → (last : ℕ) → IsReport (state_of table) last report → fails
+
+-- this holds of each node, of which the first has this index, and its fate, as far as there are fates
+abbrev pub Each : (ℕ → NodeFields → Fate → Type 0) → ℕ → List NodeFields → List Fate → Type 0
+Each P index nodes [] = ⊤
+Each P index [] (fate ∷ fates) = ⊥
+Each P index (n ∷ ns) (fate ∷ fates) = P index n fate × Each P (suc index) ns fates
+
+-- all of the lines were written; or a beginning, and then the sink failed
+abbrev pub Tells : Bool → Option (List ℕ) → Option (List ℕ) → ℕ → ℕ → List ℕ → Type 0
+Tells true old new i j text = Wrote old new i j text
+Tells false old new i j text = WriteFailed old new i j text
+
+-- more lines, where all before them were written; and else none
+abbrev pub TellsOn : Bool → Bool → Option (List ℕ) → Option (List ℕ) → ℕ → ℕ → List ℕ → Type 0
+TellsOn true still old new i j text = Tells still old new i j text
+TellsOn false still old new i j text = (still ≡ false) × (new ≡ old) × (j ≡ i)
+
+-- the nodes behind the root, as far as there are fates, and what was told of them
+pub record Puts (P : ℕ → NodeFields → Fate → Type 0) (nodes : List NodeFields) (old new : Option (List ℕ)) (i j : ℕ) (heard : Bool) (fates : List Fate) : Type 0 where
+  pub each : Each P 1 (drop 1 nodes) fates
+  pub lines : Tells heard old new i j (fate_lines (drop 1 nodes) fates)
+
+-- all of them have their fates, and it is good where none failed and all nodes are whole
+pub record PutsAll (P : ℕ → NodeFields → Fate → Type 0) (nodes : List NodeFields) (old new : Option (List ℕ)) (i j : ℕ) (good : Bool) : Type 0 where
+  pub fates : List Fate
+  pub puts : Puts P nodes old new i j true fates
+  pub all : length fates ≡ length (drop 1 nodes)
+  pub says : good ≡ (all_good fates && all_whole nodes)
+
+-- nothing is made of a volume that does not open, but its line is printed
+pub record PutsNone {F : Type 0} (before after : F) (volume : Answer Found) (old new : Option (List ℕ)) (i j : ℕ) (good : Bool) : Type 0 where
+  pub untouched : after ≡ before
+  pub line : Wrote old new i j (volume_line volume)
+  pub lacks : good ≡ false
+
+abbrev pub PutsBy : Answer Found → Type 0 → Type 0 → Type 0
+PutsBy (found f) opens does_not = opens
+PutsBy (holes listed) opens does_not = does_not
+PutsBy (faulty fault) opens does_not = does_not
+
+-- what is made and told of a report
+abbrev pub PutsReport : {F : Type 0} → (Report → ℕ → NodeFields → Fate → Type 0) → F → F → Report → Option (List ℕ) → Option (List ℕ) → ℕ → ℕ → Bool → Type 0
+PutsReport P before after report old new i j good = PutsBy report.volume (PutsAll (P report) report.nodes old new i j good) (PutsNone before after report.volume old new i j good)
+
+-- of the report of the table
+pub record ExtractsAll {F : Type 0} (P : Table → Report → ℕ → NodeFields → Fate → Type 0) (before after : F) (last : ℕ) (old new : Option (List ℕ)) (i j : ℕ) (good : Bool) (table : Table) : Type 0 where
   pub report : Report
   pub is_report : IsReport (state_of table) last report
-  pub whole : good ≡ true → all_whole report.nodes ≡ true
+  pub puts : PutsReport (P table) before after report old new i j good

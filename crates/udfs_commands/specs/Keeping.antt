@@ -1,5 +1,6 @@
 -- What a file that is written keeps.
 --     Opens          each source has what its path leads to
+--     OfPaths        the inputs are those of the paths, and this holds of their join
 --     IsPut          a file holds these bytes, and each crash leaves them; or they went to what is no file
 --     MayReplace     what a crash in the middle shows: what was there, or the join of the inputs in its place
 use Rattle.std.specs.Prelude.{◌≡◌, ◌⊎◌, ℕ, List, Option, Some, IfSome, length, slice_get}
@@ -22,6 +23,10 @@ pub record Joined {R : Type 0} (found : List ℕ → Option (Option (List ℕ)))
   pub each : length sources ≡ length paths
   pub opened : Opens found remaining paths sources
   pub are : TablesAre remaining sources tables
+
+-- this holds of the join of what the paths hold
+abbrev pub OfPaths : {R : Type 0} → (List ℕ → Option (Option (List ℕ))) → (R → Option (List ℕ)) → List (Bor (List ℕ)) → (Table → Type 0) → Type 0
+OfPaths found remaining paths Holds = (tables : List Table) × Joined found remaining paths tables × Holds (join_all tables)
 
 -- the path holds the bytes, and each crash leaves them
 pub record IsKept (holds : List ℕ → Option (Option (List ℕ))) (may_leave : Disk → Type 0) (path bytes : List ℕ) : Type 0 where

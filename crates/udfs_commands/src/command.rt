@@ -4,12 +4,12 @@ ghost use Rattle.std.specs.Prelude.{◌≡◌, ◌≢◌, ◌⊎◌, ℕ, Bool, 
 ghost use Rattle.clap.specs.Matches.{found_of, one_text};
 ghost use Rattle.udfs_lattice.specs.Tables.{Table};
 ghost use Rattle.udfs_lattice.specs.Records.{join_all};
-ghost use Rattle.udfs_salvage.specs.Running.{OfJoin};
+ghost use Rattle.udfs_files.specs.Disk.{Fails, Goes};
 ghost use Rattle.udfs_salvage.specs.declared.extraction.Fill.{Fill};
-ghost use Rattle.udfs_commands.specs.Asking.{IsPicked, input_texts, out_text};
-ghost use Rattle.udfs_commands.specs.Extracting.{SaysGood};
+ghost use Rattle.udfs_commands.specs.Asking.{IsLast, IsPicked, folder_text, input_texts, out_text};
+ghost use Rattle.udfs_commands.specs.Extracting.{ExtractsAll, IsIn, IsPut, Spares, Stay};
 ghost use Rattle.udfs_commands.specs.JsonRuns.{PrintsAs};
-ghost use Rattle.udfs_commands.specs.Keeping.{IsKept, IsTaken, Joined};
+ghost use Rattle.udfs_commands.specs.Keeping.{IsKept, IsTaken, Joined, OfPaths};
 ghost use Rattle.std.specs.Borrow.{Bor};
 ghost use Rattle.udfs_commands.specs.Rereading.{PrintsNumbers};
 ghost use Rattle.udfs_commands.specs.Spelling.{table_file};
@@ -131,13 +131,12 @@ fn report_words<F: Files, O: Sink>(
     files: &F,
     out: &mut O,
 ) -> Result<bool, Refusal>
-    ensures printed { IfOk result (λ whole. (form : Form) × (last : ℕ) × (sources : List F.Input) × (length sources ≡ length (input_texts (found_of words.now))) ×
-        IsPicked (found_of words.now) (codes "json") Form.Json Form.Text form ×
-        OfJoin F.Input.remaining sources (PrintsAs form last (O.contents out.old) (O.contents out.new) (O.faults out.old) (O.faults out.new) whole)) }
+    ensures printed { IfOk result (λ whole. (form : Form) × (last : ℕ) × (inputs : List (Bor (List ℕ))) × (map (λ path. path.now) inputs ≡ input_texts (found_of words.now)) ×
+        IsPicked (found_of words.now) (codes "json") Form.Json Form.Text form × IsLast (found_of words.now) last ×
+        OfPaths (λ path. F.holds files.now (F.real files.now path)) F.Input.remaining inputs (PrintsAs form last (O.contents out.old) (O.contents out.new) (O.faults out.old) (O.faults out.new) whole)) }
 {
     let inputs = words.get_strs(INPUTS).unwrap_or(&[]);
-    // The grammar asks for it.
-    let last = words.get_one::<u32>(LAST).unwrap_or(0);
+    let last = asked_last(words);
     report_as(alloc, inputs, last, asked_form(words), files, out)
 }
 
@@ -160,12 +159,12 @@ fn reread_words<F: Files, O: Sink>(
     files: &F,
     out: &mut O,
 ) -> Result<bool, Refusal>
-    ensures printed { IfOk result (λ whole. (last : ℕ) × (sources : List F.Input) × (length sources ≡ length (input_texts (found_of words.now))) × OfJoin F.Input.remaining sources
+    ensures printed { IfOk result (λ whole. (last : ℕ) × (inputs : List (Bor (List ℕ))) × (map (λ path. path.now) inputs ≡ input_texts (found_of words.now)) ×
+        IsLast (found_of words.now) last × OfPaths (λ path. F.holds files.now (F.real files.now path)) F.Input.remaining inputs
         (PrintsNumbers last (O.contents out.old) (O.contents out.new) (O.faults out.old) (O.faults out.new) whole)) }
 {
     let inputs = words.get_strs(INPUTS).unwrap_or(&[]);
-    // The grammar asks for it.
-    let last = words.get_one::<u32>(LAST).unwrap_or(0);
+    let last = asked_last(words);
     reread(alloc, inputs, last, files, out)
 }
 
@@ -176,13 +175,39 @@ fn extract_words<F: Files, O: Sink>(
     files: &mut F,
     out: &mut O,
 ) -> Result<bool, Refusal>
-    ensures good { IfOk result (λ good. (last : ℕ) × (sources : List F.Input) × (length sources ≡ length (input_texts (found_of words.now))) × OfJoin F.Input.remaining sources (SaysGood last good)) }
+    ensures extracted { IfOk result (λ good. (fill : Fill) × (last : ℕ) × (inputs : List (Bor (List ℕ))) × (map (λ path. path.now) inputs ≡ input_texts (found_of words.now)) ×
+        IsPicked (found_of words.now) (codes "fill") (Fill.Byte 0) Fill.Refuse fill × IsLast (found_of words.now) last ×
+        OfPaths (λ path. F.holds files.old (F.real files.old path)) F.Input.remaining inputs
+        (ExtractsAll (λ table told. IsPut F.tells (Fails F.faults ⊎ Fails F.Output.faults) table told fill (folder_text (found_of words.now)) (F.holds files.new) (F.moment files.new) (F.left_since files.new))
+        files.old files.new last (O.contents out.old) (O.contents out.new) (O.faults out.old) (O.faults out.new) good)) }
+    ensures stays { F.tells → Stay (F.holds files.old) (F.holds files.new) }
+    ensures outside { (q : List ℕ) → (¬ IsIn (folder_text (found_of words.now)) q) → F.holds files.new q ≡ F.holds files.old q }
+    ensures crash { F.tells → Goes F.moment F.may_leave F.left_since files.old files.new (Spares (folder_text (found_of words.now)) (F.holds files.old)) }
 {
     let inputs = words.get_strs(INPUTS).unwrap_or(&[]);
-    // The grammar asks for both.
-    let last = words.get_one::<u32>(LAST).unwrap_or(0);
-    let folder = words.get_str(TO).unwrap_or("");
-    extract(alloc, inputs, last, asked_fill(words), folder, files, out)
+    extract(
+        alloc,
+        inputs,
+        asked_last(words),
+        asked_fill(words),
+        asked_folder(words),
+        files,
+        out,
+    )
+}
+
+/// The path of the folder among the words after `extract`. The grammar asks for it.
+fn asked_folder<'a>(words: &ArgMatches<'a>) -> &'a str
+    ensures { result.now ≡ folder_text (found_of words.now) }
+{
+    words.get_str(TO).unwrap_or("")
+}
+
+/// The last block among the words. The grammar asks for it; of 0 there is no report.
+fn asked_last(words: &ArgMatches<'_>) -> u32
+    ensures { IsLast (found_of words.now) result }
+{
+    words.get_one::<u32>(LAST).unwrap_or(0)
 }
 
 /// What the words after `extract` ask to write of torn files: zeros in the holes with `--fill`, and else nothing.

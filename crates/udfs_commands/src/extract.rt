@@ -1,28 +1,26 @@
 //! The command `extract`: readings in, the files of their volume out into a new folder.
 
-ghost use Rattle.std.specs.Prelude.{◌≡◌, ◌<◌, ℕ, Bool, true, List, Some, IfOk, IfErr, length, slice_get, None, ◌≢◌, Option};
+ghost use Rattle.std.specs.Prelude.{◌≡◌, ◌≢◌, ◌<◌, ◌⊎◌, ◌++◌, ℕ, Bool, true, false, List, [], Some, IfOk, IfErr, OnErr, length, slice_get, drop, None, Option, string_bytes, if◌then◌else◌};
 ghost use Rattle.std.specs.Io.KnownBytes.{Appends};
 ghost use Rattle.udfs_file.specs.declared.cells.Cell.{Cell};
-ghost use Rattle.udfs_files.specs.Disk.{Disk, Same, SameBut, Goes};
+ghost use Rattle.udfs_files.specs.Disk.{Disk, Same, SameBut, Goes, Fails};
 ghost use Rattle.udfs_lattice.specs.Tables.{state_of};
-ghost use Rattle.udfs_reading.specs.Writing.{Wrote};
 ghost use Rattle.udfs_walk.specs.NodeFields.{NodeFields};
+ghost use Rattle.udfs_salvage.specs.declared.extraction.ExtractError.TheVariants as extract_error;
 ghost use Rattle.udfs_salvage.specs.Extraction.{HasCellsAt, fill_byte, filled, is_offered};
-ghost use Rattle.udfs_salvage.specs.Found.{volume_now};
-ghost use Rattle.udfs_salvage.specs.Reports.{IsReport, all_whole, report_now};
-ghost use Rattle.udfs_salvage.specs.Running.{OfJoin};
-ghost use Rattle.udfs_salvage.specs.Texts.{volume_line};
-ghost use Rattle.udfs_commands.specs.Extracting.{SaysGood, deed};
-ghost use Rattle.udfs_commands.specs.Keeping.{IsKept};
+ghost use Rattle.udfs_salvage.specs.NodeTexts.{names_text};
+ghost use Rattle.udfs_salvage.specs.Reports.{IsReport, report_now};
+ghost use Rattle.udfs_salvage.specs.Texts.{line};
+ghost use Rattle.udfs_commands.specs.Extracting.{ExtractsAll, IsFateOf, IsIn, IsPut, Puts, PutsReport, Spares, Stay, TellsOn, all_good, deed, fate_line, is_good, path_below};
+ghost use Rattle.udfs_commands.specs.Keeping.{IsKept, OfPaths};
 
 use crate::files::Files;
 use crate::inputs::joined;
-use crate::printing::send;
 use crate::refusal::Refusal;
 use std::alloc::{AllocError, Global};
 use udfs_file::Kind;
 use udfs_files::{Job, fill_by};
-use udfs_reading::{DeviceFault, Sink};
+use udfs_reading::{DeviceFault, Sink, WriteFault, write_all};
 use udfs_salvage::{
     ExtractError, Fill, Report, Volume, all_whole, extract as write_bytes, is_offered, push_names,
     salvage, write_volume,
@@ -61,24 +59,73 @@ fn deed_for(node: &Node, fill: Fill) -> Deed
     }
 }
 
+/// What became of a node.
+#[derive(Clone, Copy, PartialEq, Eq)]
+pub enum Fate {
+    /// Its folder was made.
+    Made,
+    /// Its file was written, and is on the disk, with its name.
+    Written,
+    /// Its folder or file could not be made or written. What was begun of a file is removed.
+    Failed,
+    /// The same, but what was begun of its file could not be removed.
+    Left,
+    /// Nothing is made for it.
+    Skipped,
+}
+
 /// The path of a node in a folder: the folder's, and each name in its escaped form behind a `/`. An escaped name has no
 /// `/` and is neither `.` nor `..`, so the path leads nowhere but below the folder.
-fn path_in(alloc: Global, folder: &str, names: &Path) -> Result<String, AllocError> {
+fn path_in(alloc: Global, folder: &str, names: &Path) -> Result<String, AllocError>
+    ensures { IfOk result (λ path. string_bytes path ≡ path_below folder.now names.now) }
+{
     let mut path = String::from_str(alloc, folder)?;
     push_names(&mut path, names)?;
     Ok(path)
 }
 
-/// Prints what became of a node: the word, its path and a line feed.
-fn tell<O: Sink>(alloc: Global, word: &str, names: &Path, out: &mut O) -> Result<(), Refusal> {
-    let mut line = String::from_str(alloc, word)?;
-    line.push(' ')?;
-    push_names(&mut line, names)?;
-    line.push('\n')?;
-    match send(line.as_bytes(), out) {
-        (_, Ok(())) => Ok(()),
-        (_, Err(DeviceFault)) => Err(Refusal::Output),
+/// A word, the path of a node and a line feed.
+fn line_of(alloc: Global, word: &str, names: &Path) -> Result<String, AllocError>
+    ensures { IfOk result (λ text. string_bytes text ≡ line (word.now ++ names_text names.now)) }
+{
+    let mut text = String::from_str(alloc, word)?;
+    push_names(&mut text, names)?;
+    text.push('\n')?;
+    Ok(text)
+}
+
+/// Prints what became of a node, where the output took all before it, and answers whether it took this too. Where memory is refused, nothing is printed.
+fn tell<O: Sink>(
+    alloc: Global,
+    heard: bool,
+    fate: Fate,
+    names: &Path,
+    out: &mut O,
+) -> Result<bool, AllocError>
+    ensures lines { IfOk result (λ still. TellsOn heard still (O.contents out.old) (O.contents out.new) (O.faults out.old) (O.faults out.new) (fate_line fate names.now)) }
+    ensures memory { OnErr result (out.new ≡ out.old) }
+{
+    if !heard {
+        return Ok(false);
     }
+    let line = match fate {
+        Fate::Made => return Ok(true),
+        Fate::Written => line_of(alloc, "written ", names)?,
+        Fate::Failed | Fate::Left => line_of(alloc, "failed ", names)?,
+        Fate::Skipped => line_of(alloc, "skipped ", names)?,
+    };
+    match write_all(out, line.as_bytes()) {
+        Ok(()) => Ok(true),
+        Err(WriteFault) => Ok(false),
+    }
+}
+
+/// The node of this index.
+fn node_at<'a>(report: &'a Report<'_>, index: usize) -> &'a Node
+    requires { index < length report.now.nodes.items }
+    ensures { slice_get report.now.nodes.items index ≡ Some result.now }
+{
+    &report.nodes[index]
 }
 
 /// The bytes of the node of this index, as far as they are known and as `fill` says.
@@ -97,6 +144,9 @@ impl<'a, 'r> Job for NodeBytes<'a, 'r> {
         IsReport (state_of job.report.now.table.now) last (report_now job.report.now) → slice_get job.report.now.nodes.items job.index ≡ Some n → is_offered n.standing n.size job.fill ≡ true →
         (cs : List Cell) × HasCellsAt (state_of job.report.now.table.now) last job.index cs × Appends old new (filled (fill_byte job.fill) cs) };
 
+    ghost blames_sink = { λ job refusal. (refusal ≢ extract_error.OutOfMemory) × (job.index < length job.report.now.nodes.items) × (last : ℕ) × (n : NodeFields) ×
+        IsReport (state_of job.report.now.table.now) last (report_now job.report.now) × (slice_get job.report.now.nodes.items job.index ≡ Some n) × (is_offered n.standing n.size job.fill ≡ true) };
+
     fn write_to<W: Sink>(&self, sink: &mut W) -> Result<(), ExtractError> {
         if self.index >= self.report.nodes.len() {
             return Err(ExtractError::NotWhole);
@@ -105,26 +155,64 @@ impl<'a, 'r> Job for NodeBytes<'a, 'r> {
     }
 }
 
-/// Writes the node of this index to a new file, and answers whether the file is there, synced, and its folder too. Where it could not be made or written, or memory
-/// ran out, none is left, and what another file of this path holds is untouched.
-fn write_file<F: Files>(
+/// Removes what was begun of a file.
+fn give_up<F: Files>(path: &str, files: &mut F) -> Fate
+    ensures gone { result ≡ Fate.Failed → F.tells → F.holds files.new path.now ≡ Some None }
+    ensures fate { (result ≡ Fate.Failed) ⊎ (result ≡ Fate.Left) }
+    ensures others { (q : List ℕ) → q ≢ path.now → F.holds files.new q ≡ F.holds files.old q }
+    ensures crash { Goes F.moment F.may_leave F.left_since files.old files.new (SameBut path.now) }
+{
+    match files.remove(path) {
+        Ok(()) => Fate::Failed,
+        Err(DeviceFault) => Fate::Left,
+    }
+}
+
+/// Brings a new file to the disk, with its name; or removes it.
+fn finish_file<F: Files>(path: &str, output: F::Output, files: &mut F) -> Fate
+    requires place { F.tells → F.Output.place output ≡ path.now }
+    requires open { F.holds files.old path.now ≡ None }
+    ensures kept { result ≡ Fate.Written → F.tells → (bytes : List ℕ) → F.Output.contents output ≡ Some bytes → IsKept (F.holds files.new) (F.may_leave files.new) path.now bytes }
+    ensures gone { result ≡ Fate.Failed → F.tells → F.holds files.new path.now ≡ Some None }
+    ensures fate { IsFateOf Deed.File result }
+    ensures cause { result ≢ Fate.Written → Fails F.faults }
+    ensures others { (q : List ℕ) → q ≢ path.now → F.holds files.new q ≡ F.holds files.old q }
+    ensures crash { Goes F.moment F.may_leave F.left_since files.old files.new (SameBut path.now) }
+{
+    match files.sync(path, output) {
+        Ok(()) => {}
+        Err(DeviceFault) => return give_up(path, files),
+    }
+    match files.sync_folder(path) {
+        Ok(()) => Fate::Written,
+        Err(DeviceFault) => give_up(path, files),
+    }
+}
+
+/// Writes the node of this index to a file that was made for it, or removes the file. Where memory is refused, it is removed too.
+fn fill_file<F: Files>(
     alloc: Global,
     report: &Report<'_>,
     index: usize,
     fill: Fill,
     path: &str,
+    output: F::Output,
     files: &mut F,
-) -> Result<bool, Refusal>
-    requires { index < length report.now.nodes.items }
-    ensures written { IfOk result (λ written. written ≡ true → F.tells → (last : ℕ) (n : NodeFields) →
+) -> Result<Fate, AllocError>
+    requires index { index < length report.now.nodes.items }
+    requires place { F.tells → F.Output.place output ≡ path.now }
+    requires empty { F.tells → F.Output.contents output ≡ Some [] }
+    requires open { F.holds files.old path.now ≡ None }
+    ensures written { IfOk result (λ fate. fate ≡ Fate.Written → F.tells → (last : ℕ) (n : NodeFields) →
         IsReport (state_of report.now.table.now) last (report_now report.now) → slice_get report.now.nodes.items index ≡ Some n → is_offered n.standing n.size fill ≡ true →
         (cs : List Cell) × HasCellsAt (state_of report.now.table.now) last index cs × IsKept (F.holds files.new) (F.may_leave files.new) path.now (filled (fill_byte fill) cs)) }
+    ensures gone { IfOk result (λ fate. fate ≡ Fate.Failed → F.tells → F.holds files.new path.now ≡ Some None) }
+    ensures fate { IfOk result (λ fate. IsFateOf Deed.File fate) }
+    ensures cause { IfOk result (λ fate. fate ≢ Fate.Written → (last : ℕ) (n : NodeFields) →
+        IsReport (state_of report.now.table.now) last (report_now report.now) → slice_get report.now.nodes.items index ≡ Some n → is_offered n.standing n.size fill ≡ true → Fails F.faults ⊎ Fails F.Output.faults) }
     ensures others { (q : List ℕ) → q ≢ path.now → F.holds files.new q ≡ F.holds files.old q }
     ensures crash { Goes F.moment F.may_leave F.left_since files.old files.new (SameBut path.now) }
 {
-    let Ok(output) = files.make_new(path) else {
-        return Ok(false);
-    };
     let job = NodeBytes {
         alloc,
         report,
@@ -135,78 +223,126 @@ fn write_file<F: Files>(
         Ok(output) => Ok(finish_file(path, output, files)),
         Err(ExtractError::OutOfMemory) => {
             let _ = files.remove(path);
-            Err(Refusal::Memory(AllocError))
+            Err(AllocError)
         }
-        Err(_) => {
-            let _ = files.remove(path);
-            Ok(false)
-        }
+        Err(_) => Ok(give_up(path, files)),
     }
 }
 
-/// Brings a new file to the disk, with its name, and answers whether it is there; or removes it.
-fn finish_file<F: Files>(path: &str, output: F::Output, files: &mut F) -> bool
-    requires place { F.tells → F.Output.place output ≡ path.now }
-    requires open { F.holds files.old path.now ≡ None }
-    ensures kept { result ≡ true → F.tells → (bytes : List ℕ) → F.Output.contents output ≡ Some bytes → IsKept (F.holds files.new) (F.may_leave files.new) path.now bytes }
+/// Writes the node of this index to a new file, which is synced then, and its folder too. Where it could not be made or written, or memory
+/// ran out, none is left, and what another file of this path holds is untouched.
+fn write_file<F: Files>(
+    alloc: Global,
+    report: &Report<'_>,
+    index: usize,
+    fill: Fill,
+    path: &str,
+    files: &mut F,
+) -> Result<Fate, AllocError>
+    requires { index < length report.now.nodes.items }
+    ensures written { IfOk result (λ fate. fate ≡ Fate.Written → F.tells → (last : ℕ) (n : NodeFields) →
+        IsReport (state_of report.now.table.now) last (report_now report.now) → slice_get report.now.nodes.items index ≡ Some n → is_offered n.standing n.size fill ≡ true →
+        (cs : List Cell) × HasCellsAt (state_of report.now.table.now) last index cs × IsKept (F.holds files.new) (F.may_leave files.new) path.now (filled (fill_byte fill) cs)) }
+    ensures gone { IfOk result (λ fate. fate ≡ Fate.Failed → F.tells → F.holds files.new path.now ≡ F.holds files.old path.now) }
+    ensures fate { IfOk result (λ fate. IsFateOf Deed.File fate) }
+    ensures cause { IfOk result (λ fate. fate ≢ Fate.Written → (last : ℕ) (n : NodeFields) →
+        IsReport (state_of report.now.table.now) last (report_now report.now) → slice_get report.now.nodes.items index ≡ Some n → is_offered n.standing n.size fill ≡ true → Fails F.faults ⊎ Fails F.Output.faults) }
     ensures others { (q : List ℕ) → q ≢ path.now → F.holds files.new q ≡ F.holds files.old q }
+    ensures there { F.tells → F.holds files.old path.now ≢ Some None → F.holds files.new path.now ≡ F.holds files.old path.now }
+    ensures stays { F.tells → F.holds files.old path.now ≢ Some None → Goes F.moment F.may_leave F.left_since files.old files.new Same }
     ensures crash { Goes F.moment F.may_leave F.left_since files.old files.new (SameBut path.now) }
 {
-    match files.sync(path, output) {
-        Ok(()) => {}
-        Err(DeviceFault) => {
-            let _ = files.remove(path);
-            return false;
-        }
-    }
-    match files.sync_folder(path) {
-        Ok(()) => true,
-        Err(DeviceFault) => {
-            let _ = files.remove(path);
-            false
-        }
-    }
+    let Ok(output) = files.make_new(path) else {
+        return Ok(Fate::Failed);
+    };
+    fill_file(alloc, report, index, fill, path, output, files)
 }
 
 /// Makes a folder, and brings its name to the disk.
-fn put_folder<F: Files>(path: &str, files: &mut F) -> Result<(), DeviceFault>
+fn put_folder<F: Files>(path: &str, files: &mut F) -> Fate
+    ensures fate { IsFateOf Deed.Folder result }
+    ensures cause { result ≢ Fate.Made → Fails F.faults }
     ensures others { (q : List ℕ) → F.holds files.new q ≡ F.holds files.old q }
     ensures crash { Goes F.moment F.may_leave F.left_since files.old files.new Same }
 {
-    files.make_folder(path)?;
-    files.sync_folder(path)
+    match files.make_folder(path) {
+        Ok(()) => {}
+        Err(DeviceFault) => return Fate::Failed,
+    }
+    match files.sync_folder(path) {
+        Ok(()) => Fate::Made,
+        Err(DeviceFault) => Fate::Failed,
+    }
 }
 
-/// Does what is to be done with the node of this index, tells it, and answers whether nothing failed.
-fn put_node<F: Files, O: Sink>(
+/// Does at this path what is to be done with the node of this index.
+fn put_at<F: Files>(
+    alloc: Global,
+    report: &Report<'_>,
+    index: usize,
+    fill: Fill,
+    path: &str,
+    files: &mut F,
+) -> Result<Fate, AllocError>
+    requires { index < length report.now.nodes.items }
+    ensures put { IfOk result (λ fate. (n : NodeFields) (folder : List ℕ) → slice_get report.now.nodes.items index ≡ Some n → path.now ≡ path_below folder n.path →
+        IsPut F.tells (Fails F.faults ⊎ Fails F.Output.faults) report.now.table.now (report_now report.now) fill folder (F.holds files.new) (F.moment files.new) (F.left_since files.new) index n fate) }
+    ensures stays { F.tells → Stay (F.holds files.old) (F.holds files.new) }
+    ensures others { (q : List ℕ) → q ≢ path.now → F.holds files.new q ≡ F.holds files.old q }
+    ensures crash { F.tells → (folder : List ℕ) → IsIn folder path.now → Goes F.moment F.may_leave F.left_since files.old files.new (Spares folder (F.holds files.old)) }
+{
+    match deed_for(node_at(report, index), fill) {
+        Deed::Folder => Ok(put_folder(path, files)),
+        Deed::File => {
+            let fate = write_file(alloc, report, index, fill, path, files)?;
+            Ok(fate)
+        }
+        Deed::Skip => Ok(Fate::Skipped),
+    }
+}
+
+/// Does what is to be done with the node of this index.
+fn put_node<F: Files>(
     alloc: Global,
     report: &Report<'_>,
     index: usize,
     fill: Fill,
     folder: &str,
     files: &mut F,
-    out: &mut O,
-) -> Result<bool, Refusal>
+) -> Result<Fate, AllocError>
     requires { index < length report.now.nodes.items }
+    ensures put { IfOk result (λ fate. (n : NodeFields) → slice_get report.now.nodes.items index ≡ Some n →
+        IsPut F.tells (Fails F.faults ⊎ Fails F.Output.faults) report.now.table.now (report_now report.now) fill folder.now (F.holds files.new) (F.moment files.new) (F.left_since files.new) index n fate) }
+    ensures stays { F.tells → Stay (F.holds files.old) (F.holds files.new) }
+    ensures outside { (q : List ℕ) → (¬ IsIn folder.now q) → F.holds files.new q ≡ F.holds files.old q }
+    ensures crash { F.tells → Goes F.moment F.may_leave F.left_since files.old files.new (Spares folder.now (F.holds files.old)) }
 {
-    let node = &report.nodes[index];
+    let node = node_at(report, index);
     let path = path_in(alloc, folder, &node.path)?;
-    let word = match deed_for(node, fill) {
-        Deed::Folder => match put_folder(path.as_str(), files) {
-            Ok(()) => return Ok(true),
-            Err(DeviceFault) => "failed",
-        },
-        Deed::File => match write_file(alloc, report, index, fill, path.as_str(), files)? {
-            true => "written",
-            false => "failed",
-        },
-        Deed::Skip => "skipped",
-    };
-    tell(alloc, word, &node.path, out)?;
-    Ok(word != "failed")
+    let fate = put_at(alloc, report, index, fill, path.as_str(), files)?;
+    Ok(fate)
 }
 
-/// Goes through the nodes behind the root, and answers whether nothing failed.
+/// What became of the nodes of a volume.
+#[derive(Clone, Copy)]
+struct Told {
+    /// Whether no file and no folder failed.
+    good: bool,
+    /// Whether the output took all lines.
+    heard: bool,
+}
+
+/// Whether nothing failed so far, and neither did this.
+fn still_good(good: bool, fate: Fate) -> bool
+    ensures { result ≡ (if is_good fate then good else false) }
+{
+    match fate {
+        Fate::Made | Fate::Written | Fate::Skipped => good,
+        Fate::Failed | Fate::Left => false,
+    }
+}
+
+/// Goes through the nodes behind the root, in order. Where the output fails, it goes on, and tells no more.
 fn put_nodes<F: Files, O: Sink>(
     alloc: Global,
     report: &Report<'_>,
@@ -214,14 +350,24 @@ fn put_nodes<F: Files, O: Sink>(
     folder: &str,
     files: &mut F,
     out: &mut O,
-) -> Result<bool, Refusal> {
+) -> Result<Told, AllocError>
+    ensures put { (heard : Bool) × (fates : List Fate) × Puts
+        (IsPut F.tells (Fails F.faults ⊎ Fails F.Output.faults) report.now.table.now (report_now report.now) fill folder.now (F.holds files.new) (F.moment files.new) (F.left_since files.new))
+        report.now.nodes.items (O.contents out.old) (O.contents out.new) (O.faults out.old) (O.faults out.new) heard fates ×
+        IfOk result (λ told. (length fates ≡ length (drop 1 report.now.nodes.items)) × (told.heard ≡ heard) × (told.good ≡ all_good fates)) }
+    ensures stays { F.tells → Stay (F.holds files.old) (F.holds files.new) }
+    ensures outside { (q : List ℕ) → (¬ IsIn folder.now q) → F.holds files.new q ≡ F.holds files.old q }
+    ensures crash { F.tells → Goes F.moment F.may_leave F.left_since files.old files.new (Spares folder.now (F.holds files.old)) }
+{
     let mut good = true;
+    let mut heard = true;
     for index in 1..report.nodes.len() {
-        if !put_node(alloc, report, index, fill, folder, files, out)? {
-            good = false;
-        }
+        let fate = put_node(alloc, report, index, fill, folder, files)?;
+        let node = node_at(report, index);
+        good = still_good(good, fate);
+        heard = tell(alloc, heard, fate, &node.path, out)?;
     }
-    Ok(good)
+    Ok(Told { good, heard })
 }
 
 /// Makes the folder and what the report has for it; where the volume does not open, it makes nothing, and prints the line of the volume.
@@ -234,15 +380,23 @@ fn put_report<F: Files, O: Sink>(
     files: &mut F,
     out: &mut O,
 ) -> Result<bool, Refusal>
-    ensures good { IfOk result (λ good. good ≡ true → all_whole report.now.nodes.items ≡ true) }
+    ensures put { IfOk result (λ good. PutsReport
+        (λ told. IsPut F.tells (Fails F.faults ⊎ Fails F.Output.faults) report.now.table.now told fill folder.now (F.holds files.new) (F.moment files.new) (F.left_since files.new))
+        files.old files.new (report_now report.now) (O.contents out.old) (O.contents out.new) (O.faults out.old) (O.faults out.new) good) }
+    ensures stays { F.tells → Stay (F.holds files.old) (F.holds files.new) }
+    ensures outside { (q : List ℕ) → (¬ IsIn folder.now q) → F.holds files.new q ≡ F.holds files.old q }
+    ensures crash { F.tells → Goes F.moment F.may_leave F.left_since files.old files.new (Spares folder.now (F.holds files.old)) }
 {
     match &report.volume {
         Volume::Open(_) => {
-            if put_folder(folder, files).is_err() {
+            if put_folder(folder, files) != Fate::Made {
                 return Err(Refusal::Folder);
             }
-            let good = put_nodes(alloc, report, fill, folder, files, out)?;
-            Ok(good && all_whole(&report.nodes))
+            let told = put_nodes(alloc, report, fill, folder, files, out)?;
+            if !told.heard {
+                return Err(Refusal::Output);
+            }
+            Ok(told.good && all_whole(&report.nodes))
         }
         _ => {
             write_volume(alloc, report, out)?;
@@ -262,7 +416,14 @@ pub fn extract<F: Files, O: Sink>(
     files: &mut F,
     out: &mut O,
 ) -> Result<bool, Refusal>
-    ensures good { IfOk result (λ good. (sources : List F.Input) × (length sources ≡ length inputs.now) × OfJoin F.Input.remaining sources (SaysGood last good)) }
+    // At `Ok` each node behind the root has its line, and each file that is told as written is there, whole, and each crash since then leaves it.
+    ensures extracted { IfOk result (λ good. OfPaths (λ path. F.holds files.old (F.real files.old path)) F.Input.remaining inputs.now
+        (ExtractsAll (λ table told. IsPut F.tells (Fails F.faults ⊎ Fails F.Output.faults) table told fill folder.now (F.holds files.new) (F.moment files.new) (F.left_since files.new))
+        files.old files.new last (O.contents out.old) (O.contents out.new) (O.faults out.old) (O.faults out.new) good)) }
+    // Whatever the answer, no file that was there is changed, and nothing outside of the folder; nor by a crash at any moment.
+    ensures stays { F.tells → Stay (F.holds files.old) (F.holds files.new) }
+    ensures outside { (q : List ℕ) → (¬ IsIn folder.now q) → F.holds files.new q ≡ F.holds files.old q }
+    ensures crash { F.tells → Goes F.moment F.may_leave F.left_since files.old files.new (Spares folder.now (F.holds files.old)) }
 {
     let table = joined(alloc, inputs, files)?;
     let report = salvage(alloc, &table, last)?;

@@ -1,7 +1,8 @@
 //! The command `report`: readings in, the report of their volume out.
 
-ghost use Rattle.std.specs.Prelude.{◌≡◌, ℕ, List, Ok, IfOk, length};
-ghost use Rattle.udfs_salvage.specs.Running.{OfJoin, PrintsOf};
+ghost use Rattle.std.specs.Prelude.{Ok, IfOk};
+ghost use Rattle.udfs_salvage.specs.Running.{PrintsOf};
+ghost use Rattle.udfs_commands.specs.Keeping.{OfPaths};
 ghost use Rattle.udfs_commands.specs.JsonRuns.{PrintsAs, PrintsJson};
 
 use crate::files::Files;
@@ -29,8 +30,8 @@ pub fn report_as<F: Files, O: Sink>(
     files: &F,
     out: &mut O,
 ) -> Result<bool, Refusal>
-    ensures printed { IfOk result (λ whole. (sources : List F.Input) × (length sources ≡ length inputs.now) ×
-        OfJoin F.Input.remaining sources (PrintsAs form last (O.contents out.old) (O.contents out.new) (O.faults out.old) (O.faults out.new) whole)) }
+    ensures printed { IfOk result (λ whole. OfPaths (λ path. F.holds files.now (F.real files.now path)) F.Input.remaining inputs.now
+        (PrintsAs form last (O.contents out.old) (O.contents out.new) (O.faults out.old) (O.faults out.new) whole)) }
 {
     match form {
         Form::Text => report(alloc, inputs, last, files, out),
@@ -46,8 +47,8 @@ fn report_in_json<F: Files, O: Sink>(
     files: &F,
     out: &mut O,
 ) -> Result<bool, Refusal>
-    ensures printed { IfOk result (λ whole. (sources : List F.Input) × (length sources ≡ length inputs.now) ×
-        OfJoin F.Input.remaining sources (PrintsJson last (O.contents out.old) (O.contents out.new) (O.faults out.old) (O.faults out.new) whole)) }
+    ensures printed { IfOk result (λ whole. OfPaths (λ path. F.holds files.now (F.real files.now path)) F.Input.remaining inputs.now
+        (PrintsJson last (O.contents out.old) (O.contents out.new) (O.faults out.old) (O.faults out.new) whole)) }
 {
     let table = joined(alloc, inputs, files)?;
     let report = salvage(alloc, &table, last)?;
@@ -67,8 +68,8 @@ fn report<F: Files, O: Sink>(
     files: &F,
     out: &mut O,
 ) -> Result<bool, Refusal>
-    ensures printed { IfOk result (λ whole. (sources : List F.Input) × (length sources ≡ length inputs.now) ×
-        OfJoin F.Input.remaining sources (PrintsOf last (O.contents out.old) (O.contents out.new) (O.faults out.old) (O.faults out.new) (Ok whole))) }
+    ensures printed { IfOk result (λ whole. OfPaths (λ path. F.holds files.now (F.real files.now path)) F.Input.remaining inputs.now
+        (PrintsOf last (O.contents out.old) (O.contents out.new) (O.faults out.old) (O.faults out.new) (Ok whole))) }
 {
     let mut sources = open_all(alloc, inputs, files)?;
     match report_run(alloc, sources.as_mut_slice(), last, out) {

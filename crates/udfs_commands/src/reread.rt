@@ -1,7 +1,7 @@
 //! The command `reread`: readings in, the numbers of the blocks to read again out.
 
-ghost use Rattle.std.specs.Prelude.{◌≡◌, List, IfOk, length};
-ghost use Rattle.udfs_salvage.specs.Running.{OfJoin};
+ghost use Rattle.std.specs.Prelude.{IfOk};
+ghost use Rattle.udfs_commands.specs.Keeping.{OfPaths};
 ghost use Rattle.udfs_commands.specs.Rereading.{PrintsNumbers};
 
 use crate::files::Files;
@@ -20,7 +20,7 @@ pub fn reread<F: Files, O: Sink>(
     files: &F,
     out: &mut O,
 ) -> Result<bool, Refusal>
-    ensures printed { IfOk result (λ whole. (sources : List F.Input) × (length sources ≡ length inputs.now) × OfJoin F.Input.remaining sources
+    ensures printed { IfOk result (λ whole. OfPaths (λ path. F.holds files.now (F.real files.now path)) F.Input.remaining inputs.now
         (PrintsNumbers last (O.contents out.old) (O.contents out.new) (O.faults out.old) (O.faults out.new) whole)) }
 {
     let table = joined(alloc, inputs, files)?;

@@ -123,7 +123,9 @@ pub trait Files {
         ensures kept { (q : List ℕ) (c : Option (List ℕ)) → q ≢ path.now → kept self.new q c → kept self.old q c }
         ensures real { real self.new ≡ real self.old }
         ensures count { CountsFault (faults self.old) (faults self.new) result }
-        ensures crash { Goes moment may_leave left_since self.old self.new (SameBut path.now) };
+        ensures crash { Goes moment may_leave left_since self.old self.new (SameBut path.now) }
+        // What is there stays, whatever crashes.
+        ensures stays { tells → holds self.old path.now ≢ Some None → Goes moment may_leave left_since self.old self.new Same };
 
     /// Makes what is to be written at a path, links followed. What an old file of this path held is gone. It is for what is no file: a
     /// device or a pipe.

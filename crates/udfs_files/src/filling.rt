@@ -1,6 +1,6 @@
 //! A content is written to an output by code that knows only sinks, and the output stays the same.
 
-ghost use Rattle.std.specs.Prelude.{◌≡◌, ℕ, List, Option, IfOk, OnOk, OnErr};
+ghost use Rattle.std.specs.Prelude.{◌≡◌, ℕ, List, Option, IfOk, IfErr, OnOk, OnErr};
 ghost use Rattle.std.specs.Io.KnownBytes.{Appends};
 ghost use Rattle.udfs_files.specs.Disk.{Fails};
 ghost use Rattle.udfs_reading.specs.Writing.{Writes};
@@ -89,13 +89,17 @@ pub trait Job {
     /// What a sink that told its contents before and after has taken.
     ghost wrote: { Self → Option (List ℕ) → Option (List ℕ) → Type 0 };
 
+    /// A refusal that comes only of a fault of the sink.
+    ghost blames_sink: { Self → Self.Refusal → Type 0 };
+
     /// Writes all of it.
     ///
     /// # Errors
     ///
     /// As the job says. Then the sink may have taken a part.
     fn write_to<W: Sink>(&self, sink: &mut W) -> Result<(), Self::Refusal>
-        ensures { OnOk result (wrote self.now (W.contents sink.old) (W.contents sink.new)) };
+        ensures wrote { OnOk result (wrote self.now (W.contents sink.old) (W.contents sink.new)) }
+        ensures cause { IfErr result (λ refusal. blames_sink self.now refusal → Fails W.faults) };
 }
 
 /// Does a job on a handle of this path.
@@ -103,6 +107,7 @@ fn do_at<K: Place, H: Handle + Drop, J: Job>(handle: H, job: &J) -> Result<H, J:
     requires { H.place handle ≡ K.path }
     ensures place { IfOk result (λ full. H.place full ≡ K.path) }
     ensures wrote { IfOk result (λ full. J.wrote job.now (H.contents handle) (H.contents full)) }
+    ensures cause { IfErr result (λ refusal. J.blames_sink job.now refusal → Fails H.faults) }
 {
     let mut placed: Placed<K, H> = Placed {
         handle,
@@ -124,6 +129,7 @@ fn do_at<K: Place, H: Handle + Drop, J: Job>(handle: H, job: &J) -> Result<H, J:
 pub fn fill_by<H: Handle + Drop, J: Job>(handle: H, job: &J) -> Result<H, J::Refusal>
     ensures place { IfOk result (λ full. H.place full ≡ H.place handle) }
     ensures wrote { IfOk result (λ full. J.wrote job.now (H.contents handle) (H.contents full)) }
+    ensures cause { IfErr result (λ refusal. J.blames_sink job.now refusal → Fails H.faults) }
 {
     do_at::<Brand, H, J>(handle, job)
 }

@@ -85,6 +85,22 @@ fn a_torn_file_is_filled_only_where_asked(rt: HostRuntime) -> Result<(), Fail> {
     Ok(())
 }
 
+/// A standard output that takes nothing stops no file; each is on the disk.
+#[test]
+fn a_standard_output_that_fails_stops_nothing(rt: HostRuntime) -> Result<(), Fail> {
+    let alloc = rt.alloc();
+    let mut memory = with_table(alloc, &Disc::type1(alloc)?.known_but(alloc, &[])?)?;
+    memory.terminal.good = 0;
+    let ran = ran(alloc, &mut memory, WORDS)?;
+    assert!(rt;
+        ran.is_refused("udfsalvage: cannot write output\n"),
+        "{ran:?}"
+    );
+    assert!(rt; memory.survives("out/A", runs(alloc, &A)?.as_slice()));
+    assert!(rt; memory.survives("out/B", b"Hi"));
+    Ok(())
+}
+
 /// The volume of type 1 with changes, extracted.
 fn changed(alloc: Global, changes: &[Bytes], unread: &[u32]) -> Result<(Memory, Outcome), Fail> {
     let mut disc = Disc::type1(alloc)?;
