@@ -14,15 +14,17 @@ ghost use Rattle.udfs_salvage.specs.Running.{OfJoin};
 ghost use Rattle.udfs_salvage.specs.Texts.{volume_line};
 ghost use Rattle.udfs_commands.specs.Extracting.{SaysGood, deed};
 ghost use Rattle.udfs_commands.specs.Keeping.{IsKept};
+ghost use Rattle.udfs_commands.specs.declared.sources.AnySource.{AnySource};
 
 use crate::files::Files;
 use crate::inputs::joined;
 use crate::printing::send;
 use crate::refusal::Refusal;
+use crate::sources::{AnySource, InputPath};
 use std::alloc::{AllocError, Global};
 use udfs_file::Kind;
 use udfs_files::{Job, fill_by};
-use udfs_reading::{DeviceFault, Sink};
+use udfs_reading::{DeviceFault, Sink, Source};
 use udfs_salvage::{
     ExtractError, Fill, Report, Volume, all_whole, extract as write_bytes, is_offered, push_names,
     salvage, write_volume,
@@ -255,14 +257,14 @@ fn put_report<F: Files, O: Sink>(
 /// yet. It answers whether all nodes are whole and nothing failed. All inputs are opened in order before one is read.
 pub fn extract<F: Files, O: Sink>(
     alloc: Global,
-    inputs: &[&str],
+    inputs: &[InputPath<'_>],
     last: u32,
     fill: Fill,
     folder: &str,
     files: &mut F,
     out: &mut O,
 ) -> Result<bool, Refusal>
-    ensures good { IfOk result (λ good. (sources : List F.Input) × (length sources ≡ length inputs.now) × OfJoin F.Input.remaining sources (SaysGood last good)) }
+    ensures good { IfOk result (λ good. (sources : List (AnySource F.Input F.Image)) × (length sources ≡ length inputs.now) × OfJoin (⟦<AnySource<F::Input, F::Image> as Source>⟧.remaining) sources (SaysGood last good)) }
 {
     let table = joined(alloc, inputs, files)?;
     let report = salvage(alloc, &table, last)?;

@@ -3,14 +3,15 @@
 ghost use Rattle.std.specs.Prelude.{◌≡◌, ℕ, List, Ok, IfOk, length};
 ghost use Rattle.udfs_salvage.specs.Running.{OfJoin, PrintsOf};
 ghost use Rattle.udfs_commands.specs.JsonRuns.{PrintsAs, PrintsJson};
+ghost use Rattle.udfs_commands.specs.declared.sources.AnySource.{AnySource};
 
 use crate::files::Files;
 use crate::inputs::joined;
-use crate::merge::open_all;
 use crate::refusal::Refusal;
+use crate::sources::{AnySource, InputPath, open_all, refusal_for};
 use std::alloc::Global;
-use udfs_reading::{Sink, WriteFault, write_all};
-use udfs_salvage::{all_whole, report_json, report_run, salvage};
+use udfs_reading::{Sink, Source, WriteFault, write_all};
+use udfs_salvage::{RunError, all_whole, report_json, report_run, salvage};
 
 /// The forms of a report.
 #[derive(Clone, Copy, PartialEq, Eq)]
@@ -23,14 +24,14 @@ pub enum Form {
 /// files and all of them are whole. All inputs are opened in order before one is read.
 pub fn report_as<F: Files, O: Sink>(
     alloc: Global,
-    inputs: &[&str],
+    inputs: &[InputPath<'_>],
     last: u32,
     form: Form,
     files: &F,
     out: &mut O,
 ) -> Result<bool, Refusal>
-    ensures printed { IfOk result (λ whole. (sources : List F.Input) × (length sources ≡ length inputs.now) ×
-        OfJoin F.Input.remaining sources (PrintsAs form last (O.contents out.old) (O.contents out.new) (O.faults out.old) (O.faults out.new) whole)) }
+    ensures printed { IfOk result (λ whole. (sources : List (AnySource F.Input F.Image)) × (length sources ≡ length inputs.now) ×
+        OfJoin (⟦<AnySource<F::Input, F::Image> as Source>⟧.remaining) sources (PrintsAs form last (O.contents out.old) (O.contents out.new) (O.faults out.old) (O.faults out.new) whole)) }
 {
     match form {
         Form::Text => report(alloc, inputs, last, files, out),
@@ -41,13 +42,13 @@ pub fn report_as<F: Files, O: Sink>(
 /// Prints the report as JSON, and a line feed behind it.
 fn report_in_json<F: Files, O: Sink>(
     alloc: Global,
-    inputs: &[&str],
+    inputs: &[InputPath<'_>],
     last: u32,
     files: &F,
     out: &mut O,
 ) -> Result<bool, Refusal>
-    ensures printed { IfOk result (λ whole. (sources : List F.Input) × (length sources ≡ length inputs.now) ×
-        OfJoin F.Input.remaining sources (PrintsJson last (O.contents out.old) (O.contents out.new) (O.faults out.old) (O.faults out.new) whole)) }
+    ensures printed { IfOk result (λ whole. (sources : List (AnySource F.Input F.Image)) × (length sources ≡ length inputs.now) ×
+        OfJoin (⟦<AnySource<F::Input, F::Image> as Source>⟧.remaining) sources (PrintsJson last (O.contents out.old) (O.contents out.new) (O.faults out.old) (O.faults out.new) whole)) }
 {
     let table = joined(alloc, inputs, files)?;
     let report = salvage(alloc, &table, last)?;
@@ -62,17 +63,18 @@ fn report_in_json<F: Files, O: Sink>(
 /// Prints the text of the report.
 fn report<F: Files, O: Sink>(
     alloc: Global,
-    inputs: &[&str],
+    inputs: &[InputPath<'_>],
     last: u32,
     files: &F,
     out: &mut O,
 ) -> Result<bool, Refusal>
-    ensures printed { IfOk result (λ whole. (sources : List F.Input) × (length sources ≡ length inputs.now) ×
-        OfJoin F.Input.remaining sources (PrintsOf last (O.contents out.old) (O.contents out.new) (O.faults out.old) (O.faults out.new) (Ok whole))) }
+    ensures printed { IfOk result (λ whole. (sources : List (AnySource F.Input F.Image)) × (length sources ≡ length inputs.now) ×
+        OfJoin (⟦<AnySource<F::Input, F::Image> as Source>⟧.remaining) sources (PrintsOf last (O.contents out.old) (O.contents out.new) (O.faults out.old) (O.faults out.new) (Ok whole))) }
 {
     let mut sources = open_all(alloc, inputs, files)?;
     match report_run(alloc, sources.as_mut_slice(), last, out) {
         Ok(whole) => Ok(whole),
+        Err(RunError::Reading(error)) => Err(refusal_for(sources.as_slice(), error)),
         Err(error) => Err(Refusal::from(error)),
     }
 }

@@ -1,11 +1,11 @@
 //! Files in memory, whose devices can be slow or fail, and a run over them.
 
-use udfs_commands::run;
 use std::alloc::{AllocError, Global};
 use std::cell::RefCell;
 use std::io;
 use std::io::Write;
 use std::rc::Rc;
+use udfs_commands::run;
 use udfs_lattice::BlockTable;
 pub use udfs_memory::{Device, Memory, SOUND};
 use udfs_reading::{Writer, write_table};

@@ -1,8 +1,8 @@
 //! The words of the command line.
 
 use super::memory::{Memory, passes, ran};
-use udfs_commands::refuse_words;
 use std::test::Fail;
+use udfs_commands::refuse_words;
 use udfs_reading::Writer;
 
 #[test]
