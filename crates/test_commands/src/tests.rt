@@ -7,6 +7,7 @@ mod json;
 mod keeping;
 mod memory;
 mod merging;
+mod pairs;
 mod refusals;
 mod reporting;
 mod rereading;

@@ -1,1 +1,3 @@
+pub mod AskingLemmas
+pub mod KeepingLemmas
 mod Putting

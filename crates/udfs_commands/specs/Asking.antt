@@ -1,13 +1,16 @@
 -- What the words of a command ask for.
 --     IsPicked words flag given absent picked     the one thing with the flag, and the other without it
---     input_texts words                           the paths of the inputs, in order
+--     input_texts words                           the paths of the inputs that are files, in order
+--     asked_inputs words                          the inputs: all files, and then all pairs
 --     out_text words                              the path of the output
 --     folder_text words                           the path of the new folder
 --     IsLast words last                           the number of the last block; or 0, of which there is no report
-use Rattle.std.specs.Prelude.{◌≡◌, ◌⊎◌, ℕ, List, [], Some, None, codes, option_map, unwrap_or}
+use Rattle.std.specs.Prelude.{◌≡◌, ◌⊎◌, ℕ, List, [], ◌∷◌, ◌++◌, Some, None, codes, map, option_map, unwrap_or}
 use Rattle.clap.specs.Matches.{matched_of, first_value, one_text, raw_values}
 use Rattle.clap.specs.declared.parser.matches.Found.{Found}
 use Rattle.std.specs.Str.Parse.{digits_value, without_leading_plus}
+use Rattle.udfs_commands.specs.declared.sources.InputPath.{InputPath}
+use Rattle.udfs_commands.specs.declared.sources.InputPath.TheVariants as path
 
 -- clap reads a flag as `true` or `false`, and a flag that it does not know as nothing
 pub record IsPicked {A : Type 0} (words : Found) (flag : List ℕ) (given absent picked : A) : Type 0 where
@@ -18,6 +21,28 @@ pub record IsPicked {A : Type 0} (words : Found) (flag : List ℕ) (given absent
 -- all that was given as an input, each a path
 abbrev pub input_texts : Found → List (List ℕ)
 input_texts words = unwrap_or (option_map raw_values (matched_of words (codes "input"))) []
+
+-- an input as it was asked for: the path of a file, or those of an image and its mapfile
+pub data Asked : Type 0 where
+  AskedFile : List ℕ → Asked
+  AskedPair : List ℕ → List ℕ → Asked
+
+abbrev pub asked_for : InputPath → Asked
+asked_for (path.File p) = AskedFile p.now
+asked_for (path.Pair image map) = AskedPair image.now map.now
+
+-- two values make a pair
+abbrev pub pairs_of : List (List ℕ) → List Asked
+pairs_of [] = []
+pairs_of (image ∷ []) = []
+pairs_of (image ∷ map ∷ rest) = AskedPair image map ∷ pairs_of rest
+
+-- all that was given as images and mapfiles, in turn
+abbrev pub pair_texts : Found → List (List ℕ)
+pair_texts words = unwrap_or (option_map raw_values (matched_of words (codes "ddrescue"))) []
+
+abbrev pub asked_inputs : Found → List Asked
+asked_inputs words = map AskedFile (input_texts words) ++ pairs_of (pair_texts words)
 
 -- what was given as the output, a path
 abbrev pub out_text : Found → List ℕ

@@ -5,3 +5,4 @@ pub mod Rereading
 pub mod JsonRuns
 pub mod Asking
 pub mod Keeping
+pub mod Sources

@@ -6,16 +6,18 @@ ghost use Rattle.udfs_lattice.specs.Tables.{Table};
 ghost use Rattle.udfs_lattice.specs.Records.{join_all};
 ghost use Rattle.udfs_files.specs.Disk.{Fails, Goes};
 ghost use Rattle.udfs_salvage.specs.declared.extraction.Fill.{Fill};
-ghost use Rattle.udfs_commands.specs.Asking.{IsLast, IsPicked, folder_text, input_texts, out_text};
+ghost use Rattle.udfs_commands.specs.Asking.{IsLast, IsPicked, asked_for, asked_inputs, folder_text, out_text};
 ghost use Rattle.udfs_commands.specs.Extracting.{ExtractsAll, IsIn, IsPut, Spares, Stay};
 ghost use Rattle.udfs_commands.specs.JsonRuns.{PrintsAs};
 ghost use Rattle.udfs_commands.specs.Keeping.{IsKept, IsTaken, Joined, OfPaths};
-ghost use Rattle.std.specs.Borrow.{Bor};
+ghost use Rattle.udfs_commands.specs.declared.sources.AnySource.{AnySource};
+ghost use Rattle.udfs_commands.specs.declared.sources.InputPath.{InputPath};
 ghost use Rattle.udfs_commands.specs.Rereading.{PrintsNumbers};
 ghost use Rattle.udfs_commands.specs.Spelling.{table_file};
 ghost use Rattle.udfs_commands.specs.declared.merge.Version.{Version};
 ghost use Rattle.udfs_commands.specs.declared.report.Form.{Form};
 
+use crate::asking::asked_inputs;
 use crate::extract::extract;
 use crate::files::Files;
 use crate::merge::{Version, merge};
@@ -23,11 +25,12 @@ use crate::printing::send;
 use crate::refusal::Refusal;
 use crate::report::{Form, report_as};
 use crate::reread::reread;
-use crate::words::{FILL, INPUTS, JSON, LAST, OUT, TO, V1, grammar};
+use crate::sources::{AnySource, InputPath};
+use crate::words::{FILL, JSON, LAST, OUT, TO, V1, grammar, has_pairs};
 use clap::error::ErrorKind;
 use clap::{ArgMatches, Error};
 use std::alloc::{AllocError, Global};
-use udfs_reading::{DeviceFault, Sink};
+use udfs_reading::{DeviceFault, Sink, Source};
 use udfs_salvage::Fill;
 
 /// The line for want of memory, which itself takes none.
@@ -50,7 +53,7 @@ pub fn run<F: Files, O: Sink, E: Sink>(
     ensures status { (result ≡ 0) ⊎ (result ≡ 1) ⊎ (result ≡ 2) }
     ensures silent { result ≢ 2 → err.new ≡ err.old }
 {
-    let command = match grammar(alloc) {
+    let command = match grammar(alloc, has_pairs(words)) {
         Ok(command) => command,
         Err(AllocError) => return refuse(alloc, &Refusal::Memory(AllocError), err),
     };
@@ -92,14 +95,20 @@ fn merge_words<F: Files>(
     words: &ArgMatches<'_>,
     files: &mut F,
 ) -> Result<(), Refusal>
-    ensures written { OnOk result ((version : Version) × (inputs : List (Bor (List ℕ))) × (tables : List Table) × IsPicked (found_of words.now) (codes "v1") Version.One Version.Two version ×
-        (map (λ path. path.now) inputs ≡ input_texts (found_of words.now)) × Joined (λ path. F.holds files.old (F.real files.old path)) F.Input.remaining inputs tables ×
+    ensures written { OnOk result ((version : Version) × (inputs : List InputPath) × (tables : List Table) × IsPicked (found_of words.now) (codes "v1") Version.One Version.Two version ×
+        (map asked_for inputs ≡ asked_inputs (found_of words.now)) × Joined (λ path. F.holds files.old (F.real files.old path)) (⟦<AnySource<F::Input, F::Image> as Source>⟧.remaining) inputs tables ×
         ((F.tells → IsKept (F.holds files.new) (F.may_leave files.new) (F.real files.old (out_text (found_of words.now))) (table_file version (join_all tables)))
         ⊎ (F.in_place files.old (out_text (found_of words.now)) × IsTaken F.Output.contents (table_file version (join_all tables))))) }
     ensures untouched { IfErr result (λ refusal. refusal ≢ Refusal.Output → refusal ≢ Refusal.Unkept → files.new ≡ files.old) }
 {
-    let inputs = words.get_strs(INPUTS).unwrap_or(&[]);
-    match merge(alloc, inputs, asked_out(words), asked_version(words), files) {
+    let inputs = asked_inputs(alloc, words)?;
+    match merge(
+        alloc,
+        inputs.as_slice(),
+        asked_out(words),
+        asked_version(words),
+        files,
+    ) {
         Ok(()) => Ok(()),
         Err(refusal) => Err(refusal),
     }
@@ -131,13 +140,20 @@ fn report_words<F: Files, O: Sink>(
     files: &F,
     out: &mut O,
 ) -> Result<bool, Refusal>
-    ensures printed { IfOk result (λ whole. (form : Form) × (last : ℕ) × (inputs : List (Bor (List ℕ))) × (map (λ path. path.now) inputs ≡ input_texts (found_of words.now)) ×
+    ensures printed { IfOk result (λ whole. (form : Form) × (last : ℕ) × (inputs : List InputPath) × (map asked_for inputs ≡ asked_inputs (found_of words.now)) ×
         IsPicked (found_of words.now) (codes "json") Form.Json Form.Text form × IsLast (found_of words.now) last ×
-        OfPaths (λ path. F.holds files.now (F.real files.now path)) F.Input.remaining inputs (PrintsAs form last (O.contents out.old) (O.contents out.new) (O.faults out.old) (O.faults out.new) whole)) }
+        OfPaths (λ path. F.holds files.now (F.real files.now path)) (⟦<AnySource<F::Input, F::Image> as Source>⟧.remaining) inputs (PrintsAs form last (O.contents out.old) (O.contents out.new) (O.faults out.old) (O.faults out.new) whole)) }
 {
-    let inputs = words.get_strs(INPUTS).unwrap_or(&[]);
+    let inputs = asked_inputs(alloc, words)?;
     let last = asked_last(words);
-    report_as(alloc, inputs, last, asked_form(words), files, out)
+    report_as(
+        alloc,
+        inputs.as_slice(),
+        last,
+        asked_form(words),
+        files,
+        out,
+    )
 }
 
 /// The form of the report that the words after `report` ask for: JSON with `--json`, and else text.
@@ -159,13 +175,13 @@ fn reread_words<F: Files, O: Sink>(
     files: &F,
     out: &mut O,
 ) -> Result<bool, Refusal>
-    ensures printed { IfOk result (λ whole. (last : ℕ) × (inputs : List (Bor (List ℕ))) × (map (λ path. path.now) inputs ≡ input_texts (found_of words.now)) ×
-        IsLast (found_of words.now) last × OfPaths (λ path. F.holds files.now (F.real files.now path)) F.Input.remaining inputs
+    ensures printed { IfOk result (λ whole. (last : ℕ) × (inputs : List InputPath) × (map asked_for inputs ≡ asked_inputs (found_of words.now)) ×
+        IsLast (found_of words.now) last × OfPaths (λ path. F.holds files.now (F.real files.now path)) (⟦<AnySource<F::Input, F::Image> as Source>⟧.remaining) inputs
         (PrintsNumbers last (O.contents out.old) (O.contents out.new) (O.faults out.old) (O.faults out.new) whole)) }
 {
-    let inputs = words.get_strs(INPUTS).unwrap_or(&[]);
+    let inputs = asked_inputs(alloc, words)?;
     let last = asked_last(words);
-    reread(alloc, inputs, last, files, out)
+    reread(alloc, inputs.as_slice(), last, files, out)
 }
 
 /// Does what the words after `extract` ask for.
@@ -175,19 +191,19 @@ fn extract_words<F: Files, O: Sink>(
     files: &mut F,
     out: &mut O,
 ) -> Result<bool, Refusal>
-    ensures extracted { IfOk result (λ good. (fill : Fill) × (last : ℕ) × (inputs : List (Bor (List ℕ))) × (map (λ path. path.now) inputs ≡ input_texts (found_of words.now)) ×
+    ensures extracted { IfOk result (λ good. (fill : Fill) × (last : ℕ) × (inputs : List InputPath) × (map asked_for inputs ≡ asked_inputs (found_of words.now)) ×
         IsPicked (found_of words.now) (codes "fill") (Fill.Byte 0) Fill.Refuse fill × IsLast (found_of words.now) last ×
-        OfPaths (λ path. F.holds files.old (F.real files.old path)) F.Input.remaining inputs
+        OfPaths (λ path. F.holds files.old (F.real files.old path)) (⟦<AnySource<F::Input, F::Image> as Source>⟧.remaining) inputs
         (ExtractsAll (λ table told. IsPut F.tells (Fails F.faults ⊎ Fails F.Output.faults) table told fill (folder_text (found_of words.now)) (F.holds files.new) (F.moment files.new) (F.left_since files.new))
         files.old files.new last (O.contents out.old) (O.contents out.new) (O.faults out.old) (O.faults out.new) good)) }
     ensures stays { F.tells → Stay (F.holds files.old) (F.holds files.new) }
     ensures outside { (q : List ℕ) → (¬ IsIn (folder_text (found_of words.now)) q) → F.holds files.new q ≡ F.holds files.old q }
     ensures crash { F.tells → Goes F.moment F.may_leave F.left_since files.old files.new (Spares (folder_text (found_of words.now)) (F.holds files.old)) }
 {
-    let inputs = words.get_strs(INPUTS).unwrap_or(&[]);
+    let inputs = asked_inputs(alloc, words)?;
     extract(
         alloc,
-        inputs,
+        inputs.as_slice(),
         asked_last(words),
         asked_fill(words),
         asked_folder(words),

@@ -13,14 +13,16 @@ ghost use Rattle.udfs_salvage.specs.Reports.{IsReport, report_now};
 ghost use Rattle.udfs_salvage.specs.Texts.{line};
 ghost use Rattle.udfs_commands.specs.Extracting.{ExtractsAll, IsFateOf, IsIn, IsPut, Puts, PutsReport, Spares, Stay, TellsOn, all_good, deed, fate_line, is_good, path_below};
 ghost use Rattle.udfs_commands.specs.Keeping.{IsKept, OfPaths};
+ghost use Rattle.udfs_commands.specs.declared.sources.AnySource.{AnySource};
 
 use crate::files::Files;
 use crate::inputs::joined;
 use crate::refusal::Refusal;
+use crate::sources::{AnySource, InputPath};
 use std::alloc::{AllocError, Global};
 use udfs_file::Kind;
 use udfs_files::{Job, fill_by};
-use udfs_reading::{DeviceFault, Sink, WriteFault, write_all};
+use udfs_reading::{DeviceFault, Sink, Source, WriteFault, write_all};
 use udfs_salvage::{
     ExtractError, Fill, Report, Volume, all_whole, extract as write_bytes, is_offered, push_names,
     salvage, write_volume,
@@ -409,7 +411,7 @@ fn put_report<F: Files, O: Sink>(
 /// yet. It answers whether all nodes are whole and nothing failed. All inputs are opened in order before one is read.
 pub fn extract<F: Files, O: Sink>(
     alloc: Global,
-    inputs: &[&str],
+    inputs: &[InputPath<'_>],
     last: u32,
     fill: Fill,
     folder: &str,
@@ -417,7 +419,7 @@ pub fn extract<F: Files, O: Sink>(
     out: &mut O,
 ) -> Result<bool, Refusal>
     // At `Ok` each node behind the root has its line, and each file that is told as written is there, whole, and each crash since then leaves it.
-    ensures extracted { IfOk result (λ good. OfPaths (λ path. F.holds files.old (F.real files.old path)) F.Input.remaining inputs.now
+    ensures extracted { IfOk result (λ good. OfPaths (λ path. F.holds files.old (F.real files.old path)) (⟦<AnySource<F::Input, F::Image> as Source>⟧.remaining) inputs.now
         (ExtractsAll (λ table told. IsPut F.tells (Fails F.faults ⊎ Fails F.Output.faults) table told fill folder.now (F.holds files.new) (F.moment files.new) (F.left_since files.new))
         files.old files.new last (O.contents out.old) (O.contents out.new) (O.faults out.old) (O.faults out.new) good)) }
     // Whatever the answer, no file that was there is changed, and nothing outside of the folder; nor by a crash at any moment.

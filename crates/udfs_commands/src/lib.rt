@@ -2,15 +2,18 @@
 //! The commands of `udfsalvage`: what its words ask for, over any files.
 #![tactic(auto)]
 
+mod asking;
 mod command;
 mod extract;
 mod files;
 mod inputs;
 mod merge;
 mod printing;
+mod putting;
 mod refusal;
 mod report;
 mod reread;
+mod sources;
 mod words;
 
 pub use command::{refuse_words, run};

@@ -6,6 +6,7 @@ ghost use Rattle.udfs_commands.specs.Refusing.{refusal_of, run_refusal_of, salva
 use std::alloc::AllocError;
 use thiserror::Error;
 use udfs_reading::{InputError, ReadingError, ReadingFault};
+use udfs_rescue::LineFault;
 use udfs_salvage::{RunError, SalvageError};
 
 /// Why a command was refused: its text is the line on standard error, without the program's name.
@@ -14,6 +15,14 @@ pub enum Refusal {
     /// An input, counted from 1, is faulty. Never for want of memory.
     #[error("input {}: fault {} {:?} at record {}", .0, .1.fault as u8, .1.fault, .1.number)]
     Input(usize, ReadingError),
+
+    /// The mapfile of an input, counted from 1, is malformed.
+    #[error("input {0}: {1}")]
+    Mapfile(usize, LineFault),
+
+    /// The image of an input, counted from 1, ends before the end of this block, the least such of those that its mapfile says are rescued.
+    #[error("input {0}: image ends before block {1}")]
+    ImageEnds(usize, u64),
 
     /// An input, counted from 1, cannot be opened.
     #[error("cannot open input {0}")]

@@ -4,14 +4,15 @@ ghost use Rattle.std.specs.Prelude.{Ok, IfOk};
 ghost use Rattle.udfs_salvage.specs.Running.{PrintsOf};
 ghost use Rattle.udfs_commands.specs.Keeping.{OfPaths};
 ghost use Rattle.udfs_commands.specs.JsonRuns.{PrintsAs, PrintsJson};
+ghost use Rattle.udfs_commands.specs.declared.sources.AnySource.{AnySource};
 
 use crate::files::Files;
 use crate::inputs::joined;
-use crate::merge::open_all;
 use crate::refusal::Refusal;
+use crate::sources::{AnySource, InputPath, open_all, refusal_for};
 use std::alloc::Global;
-use udfs_reading::{Sink, WriteFault, write_all};
-use udfs_salvage::{all_whole, report_json, report_run, salvage};
+use udfs_reading::{Sink, Source, WriteFault, write_all};
+use udfs_salvage::{RunError, all_whole, report_json, report_run, salvage};
 
 /// The forms of a report.
 #[derive(Clone, Copy, PartialEq, Eq)]
@@ -24,13 +25,13 @@ pub enum Form {
 /// files and all of them are whole. All inputs are opened in order before one is read.
 pub fn report_as<F: Files, O: Sink>(
     alloc: Global,
-    inputs: &[&str],
+    inputs: &[InputPath<'_>],
     last: u32,
     form: Form,
     files: &F,
     out: &mut O,
 ) -> Result<bool, Refusal>
-    ensures printed { IfOk result (λ whole. OfPaths (λ path. F.holds files.now (F.real files.now path)) F.Input.remaining inputs.now
+    ensures printed { IfOk result (λ whole. OfPaths (λ path. F.holds files.now (F.real files.now path)) (⟦<AnySource<F::Input, F::Image> as Source>⟧.remaining) inputs.now
         (PrintsAs form last (O.contents out.old) (O.contents out.new) (O.faults out.old) (O.faults out.new) whole)) }
 {
     match form {
@@ -42,12 +43,12 @@ pub fn report_as<F: Files, O: Sink>(
 /// Prints the report as JSON, and a line feed behind it.
 fn report_in_json<F: Files, O: Sink>(
     alloc: Global,
-    inputs: &[&str],
+    inputs: &[InputPath<'_>],
     last: u32,
     files: &F,
     out: &mut O,
 ) -> Result<bool, Refusal>
-    ensures printed { IfOk result (λ whole. OfPaths (λ path. F.holds files.now (F.real files.now path)) F.Input.remaining inputs.now
+    ensures printed { IfOk result (λ whole. OfPaths (λ path. F.holds files.now (F.real files.now path)) (⟦<AnySource<F::Input, F::Image> as Source>⟧.remaining) inputs.now
         (PrintsJson last (O.contents out.old) (O.contents out.new) (O.faults out.old) (O.faults out.new) whole)) }
 {
     let table = joined(alloc, inputs, files)?;
@@ -63,17 +64,18 @@ fn report_in_json<F: Files, O: Sink>(
 /// Prints the text of the report.
 fn report<F: Files, O: Sink>(
     alloc: Global,
-    inputs: &[&str],
+    inputs: &[InputPath<'_>],
     last: u32,
     files: &F,
     out: &mut O,
 ) -> Result<bool, Refusal>
-    ensures printed { IfOk result (λ whole. OfPaths (λ path. F.holds files.now (F.real files.now path)) F.Input.remaining inputs.now
+    ensures printed { IfOk result (λ whole. OfPaths (λ path. F.holds files.now (F.real files.now path)) (⟦<AnySource<F::Input, F::Image> as Source>⟧.remaining) inputs.now
         (PrintsOf last (O.contents out.old) (O.contents out.new) (O.faults out.old) (O.faults out.new) (Ok whole))) }
 {
     let mut sources = open_all(alloc, inputs, files)?;
     match report_run(alloc, sources.as_mut_slice(), last, out) {
         Ok(whole) => Ok(whole),
+        Err(RunError::Reading(error)) => Err(refusal_for(sources.as_slice(), error)),
         Err(error) => Err(Refusal::from(error)),
     }
 }

@@ -3,24 +3,26 @@
 ghost use Rattle.std.specs.Prelude.{IfOk};
 ghost use Rattle.udfs_commands.specs.Keeping.{OfPaths};
 ghost use Rattle.udfs_commands.specs.Rereading.{PrintsNumbers};
+ghost use Rattle.udfs_commands.specs.declared.sources.AnySource.{AnySource};
 
 use crate::files::Files;
 use crate::inputs::joined;
 use crate::refusal::Refusal;
+use crate::sources::{AnySource, InputPath};
 use std::alloc::Global;
-use udfs_reading::Sink;
+use udfs_reading::{Sink, Source};
 use udfs_salvage::{survey_volume, write_numbers};
 
 /// Joins the inputs, and prints the numbers of the blocks of the volume, of which `last` is the last, that are worth
 /// reading again. It answers whether there are files and all of them are whole. All inputs are opened in order before one is read.
 pub fn reread<F: Files, O: Sink>(
     alloc: Global,
-    inputs: &[&str],
+    inputs: &[InputPath<'_>],
     last: u32,
     files: &F,
     out: &mut O,
 ) -> Result<bool, Refusal>
-    ensures printed { IfOk result (λ whole. OfPaths (λ path. F.holds files.now (F.real files.now path)) F.Input.remaining inputs.now
+    ensures printed { IfOk result (λ whole. OfPaths (λ path. F.holds files.now (F.real files.now path)) (⟦<AnySource<F::Input, F::Image> as Source>⟧.remaining) inputs.now
         (PrintsNumbers last (O.contents out.old) (O.contents out.new) (O.faults out.old) (O.faults out.new) whole)) }
 {
     let table = joined(alloc, inputs, files)?;

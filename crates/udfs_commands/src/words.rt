@@ -6,6 +6,9 @@ use std::alloc::{AllocError, Global};
 /// The inputs' id among the matches.
 pub const INPUTS: &str = "input";
 
+/// The id of images with their mapfiles among the matches.
+pub const PAIRS: &str = "ddrescue";
+
 /// The output file's id among the matches.
 pub const OUT: &str = "out";
 
@@ -24,20 +27,26 @@ pub const FILL: &str = "fill";
 /// The id of the flag for JSON among the matches.
 pub const JSON: &str = "json";
 
-/// The commands and what they take.
-pub fn grammar<'a>(alloc: Global) -> Result<Command<'a>, AllocError> {
+/// Whether images with their mapfiles are among the words: then there need be no other input.
+pub fn has_pairs(words: &[String]) -> bool {
+    words.iter().any(|word| word.as_str() == "--ddrescue"
+        || word.as_str().starts_with("--ddrescue="))
+}
+
+/// The commands and what they take. With images and their mapfiles there need be no other input.
+pub fn grammar<'a>(alloc: Global, pairs: bool) -> Result<Command<'a>, AllocError> {
     Command::new(alloc, "udfsalvage")
         .about("Salvages scratched rewritable UDF discs from several passes over them")
         .version("0.1.0")
         .subcommand_required(true)
-        .subcommand(merge(alloc)?)?
-        .subcommand(report(alloc)?)?
-        .subcommand(reread(alloc)?)?
-        .subcommand(extract(alloc)?)
+        .subcommand(merge(alloc, pairs)?)?
+        .subcommand(report(alloc, pairs)?)?
+        .subcommand(reread(alloc, pairs)?)?
+        .subcommand(extract(alloc, pairs)?)
 }
 
 /// `merge [--v1] --out FILE IN...`
-fn merge<'a>(alloc: Global) -> Result<Command<'a>, AllocError> {
+fn merge<'a>(alloc: Global, pairs: bool) -> Result<Command<'a>, AllocError> {
     let out = Arg::new(alloc, OUT)
         .long("out")
         .value_name("FILE")
@@ -52,11 +61,12 @@ fn merge<'a>(alloc: Global) -> Result<Command<'a>, AllocError> {
         .about("Joins readings and table files into one table file")
         .arg(out)?
         .arg(v1)?
-        .arg(inputs(alloc))
+        .arg(pair_inputs(alloc))?
+        .arg(inputs(alloc, pairs))
 }
 
 /// `report --last N [--json] IN...`
-fn report<'a>(alloc: Global) -> Result<Command<'a>, AllocError> {
+fn report<'a>(alloc: Global, pairs: bool) -> Result<Command<'a>, AllocError> {
     let json = Arg::new(alloc, JSON)
         .long("json")
         .help("Print it as JSON")
@@ -65,19 +75,21 @@ fn report<'a>(alloc: Global) -> Result<Command<'a>, AllocError> {
         .about("Prints what the inputs tell of the volume, and which blocks to read again")
         .arg(last(alloc))?
         .arg(json)?
-        .arg(inputs(alloc))
+        .arg(pair_inputs(alloc))?
+        .arg(inputs(alloc, pairs))
 }
 
 /// `reread --last N IN...`
-fn reread<'a>(alloc: Global) -> Result<Command<'a>, AllocError> {
+fn reread<'a>(alloc: Global, pairs: bool) -> Result<Command<'a>, AllocError> {
     Command::new(alloc, "reread")
         .about("Prints the numbers of the blocks to read again")
         .arg(last(alloc))?
-        .arg(inputs(alloc))
+        .arg(pair_inputs(alloc))?
+        .arg(inputs(alloc, pairs))
 }
 
 /// `extract --last N --to DIR [--fill] IN...`
-fn extract<'a>(alloc: Global) -> Result<Command<'a>, AllocError> {
+fn extract<'a>(alloc: Global, pairs: bool) -> Result<Command<'a>, AllocError> {
     let to = Arg::new(alloc, TO)
         .long("to")
         .value_name("DIR")
@@ -93,7 +105,8 @@ fn extract<'a>(alloc: Global) -> Result<Command<'a>, AllocError> {
         .arg(last(alloc))?
         .arg(to)?
         .arg(fill)?
-        .arg(inputs(alloc))
+        .arg(pair_inputs(alloc))?
+        .arg(inputs(alloc, pairs))
 }
 
 /// The volume's last block.
@@ -107,12 +120,22 @@ fn last<'a>(alloc: Global) -> Arg<'a> {
         .action(ArgAction::Set)
 }
 
-/// The inputs, of which there is at least one.
-fn inputs<'a>(alloc: Global) -> Arg<'a> {
+/// Images with their mapfiles.
+fn pair_inputs<'a>(alloc: Global) -> Arg<'a> {
+    Arg::new(alloc, PAIRS)
+        .long("ddrescue")
+        .value_name("IMAGE MAPFILE")
+        .help("An image and its GNU ddrescue mapfile, as the reading of its rescued blocks")
+        .num_args(2)
+        .action(ArgAction::Append)
+}
+
+/// The inputs, of which there is at least one, or a pair.
+fn inputs<'a>(alloc: Global, pairs: bool) -> Arg<'a> {
     Arg::new(alloc, INPUTS)
         .value_name("IN")
         .help("The readings and table files to join")
-        .required(true)
+        .required(!pairs)
         .num_args(1..)
         .action(ArgAction::Append)
 }

@@ -8,6 +8,7 @@ ghost use Rattle.udfs_reading.specs.Device.{CountsFault};
 
 use std::alloc::{AllocError, Global};
 use udfs_reading::{DeviceFault, Sink, Source};
+use udfs_rescue::Image as Positions;
 
 /// An output while it is written.
 pub trait Handle: Sink {
@@ -55,6 +56,9 @@ pub trait Files {
     /// An opened input.
     type Input: Source + Drop;
 
+    /// An opened image, which is read at positions.
+    type Image: Positions + Drop;
+
     /// An output that was made.
     type Output: Handle + Drop;
 
@@ -95,6 +99,16 @@ pub trait Files {
     /// `DeviceFault`, only of a path that may fail to open.
     fn open(&self, path: &str) -> Result<Self::Input, DeviceFault>
         ensures bytes { IfOk result (λ input. IfSome (holds self.now (real self.now path.now)) (λ held. Self.Input.remaining input ≡ held)) }
+        ensures there { OnOk result (holds self.now (real self.now path.now) ≢ Some None) }
+        ensures shut { OnErr result (shut self.now path.now) };
+
+    /// Opens a file to be read at positions, which changes none. Links are followed.
+    ///
+    /// # Errors
+    ///
+    /// `DeviceFault`, only of a path that may fail to open: also where what is there has no positions, as a pipe.
+    fn open_image(&self, path: &str) -> Result<Self::Image, DeviceFault>
+        ensures bytes { IfOk result (λ image. IfSome (holds self.now (real self.now path.now)) (λ held. Self.Image.bytes image ≡ held)) }
         ensures there { OnOk result (holds self.now (real self.now path.now) ≢ Some None) }
         ensures shut { OnErr result (shut self.now path.now) };
 

@@ -7,8 +7,9 @@ use crate::files::{Files, Handle, Kind, Target};
 use std::alloc::{AllocError, Global};
 use std::fs;
 use std::fs::{OpenFile, OpenOptions};
-use std::io::{ErrorKind, Write};
+use std::io::{ErrorKind, Read, Seek, SeekFrom, Write};
 use udfs_reading::{DeviceFault, Reader, Sink};
+use udfs_rescue::Image;
 
 /// How many links are followed one after the other, as the system does.
 const LINKS: usize = 40;
@@ -41,6 +42,68 @@ impl<W: Write + OpenFile> Handle for MachineFile<W> {
 
     fn put(&mut self, buf: &[u8]) -> Result<usize, DeviceFault> {
         self.write(buf)
+    }
+}
+
+/// An image of the machine. It is moved to a position only where the last piece did not end there.
+#[derive(Drop)]
+pub struct MachineImage<S: Read + Seek> {
+    file: S,
+    at: Option<u64>,
+    faults: u64,
+}
+
+impl<S: Read + Seek> MachineImage<S> {
+    /// The outcome of a call, counted. After a fault the file may be at any position.
+    fn heeded(&mut self, outcome: Option<u64>) -> Result<u64, DeviceFault>
+        ensures count { CountsFault self.old.faults self.new.faults result }
+    {
+        match outcome {
+            Some(value) => Ok(value),
+            None => {
+                self.at = None;
+                self.faults = self.faults.wrapping_add(1);
+                Err(DeviceFault)
+            }
+        }
+    }
+
+    /// Moves the file to this position.
+    fn go_to(&mut self, at: u64) -> Option<u64>
+        ensures count { self.new.faults ≡ self.old.faults }
+    {
+        if self.at == Some(at) {
+            return Some(at);
+        }
+        self.file.seek(SeekFrom::Start(at)).ok()
+    }
+}
+
+impl<S: Read + Seek> Image for MachineImage<S> {
+    ghost bytes = { λ _. None };
+
+    ghost faults = { λ i. i.faults };
+
+    fn size(&mut self) -> Result<u64, DeviceFault> {
+        let end = self.file.seek(SeekFrom::End(0)).ok();
+        self.at = end;
+        self.heeded(end)
+    }
+
+    fn read_at(&mut self, at: u64, buf: &mut [u8]) -> Result<usize, DeviceFault> {
+        let moved = self.go_to(at);
+        self.heeded(moved)?;
+        match self.file.read(buf) {
+            Ok(count) if count <= buf.len() => {
+                self.at = at.checked_add(count as u64);
+                Ok(count)
+            }
+            _ => {
+                self.at = None;
+                self.faults = self.faults.wrapping_add(1);
+                Err(DeviceFault)
+            }
+        }
     }
 }
 
@@ -136,6 +199,8 @@ impl<'a, R: std::rt::Files> Machine<'a, R> {
 impl<'a, R: std::rt::Files> Files for Machine<'a, R> {
     type Input = Reader<R::File>;
 
+    type Image = MachineImage<R::File>;
+
     type Output = MachineFile<R::File>;
 
     ghost tells = { ⊥ };
@@ -167,6 +232,20 @@ impl<'a, R: std::rt::Files> Files for Machine<'a, R> {
     fn open(&self, path: &str) -> Result<Self::Input, DeviceFault> {
         match fs::open(self.rt, path) {
             Ok(file) => Ok(Reader::new(file)),
+            Err(_) => Err(DeviceFault),
+        }
+    }
+
+    fn open_image(&self, path: &str) -> Result<Self::Image, DeviceFault> {
+        let Ok(mut file) = fs::open(self.rt, path) else {
+            return Err(DeviceFault);
+        };
+        match file.seek(SeekFrom::Start(0)) {
+            Ok(at) => Ok(MachineImage {
+                file,
+                at: Some(at),
+                faults: 0,
+            }),
             Err(_) => Err(DeviceFault),
         }
     }

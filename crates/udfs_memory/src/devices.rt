@@ -6,6 +6,7 @@ use std::alloc::Global;
 use std::io::Read;
 use udfs_files::Handle;
 use udfs_reading::{DeviceFault, Sink, Source};
+use udfs_rescue::Image;
 
 /// How a device behaves.
 #[derive(Clone, Copy)]
@@ -73,6 +74,61 @@ impl Source for MemoryInput {
                 Err(DeviceFault)
             }
         }
+    }
+}
+
+/// An opened image.
+#[derive(Drop)]
+pub struct MemoryImage {
+    bytes: Vec<u8>,
+    device: Device,
+    faults: u64,
+}
+
+impl MemoryImage {
+    /// An image of these bytes on a device.
+    pub fn new(bytes: Vec<u8>, device: Device) -> MemoryImage
+        ensures { ⟦<MemoryImage as Image>⟧.bytes result ≡ Some bytes.items }
+    {
+        MemoryImage {
+            bytes,
+            device,
+            faults: 0,
+        }
+    }
+
+    /// The bytes from a position on.
+    fn rest(&self, at: u64) -> &[u8]
+        ensures { result.now ≡ drop at self.now.bytes.items }
+    {
+        if at < self.bytes.len() as u64 {
+            &self.bytes[at as usize..]
+        } else {
+            &[]
+        }
+    }
+}
+
+impl Image for MemoryImage {
+    ghost bytes = { λ i. Some i.bytes.items };
+
+    ghost faults = { λ i. i.faults };
+
+    fn size(&mut self) -> Result<u64, DeviceFault> {
+        Ok(self.bytes.len() as u64)
+    }
+
+    fn read_at(&mut self, at: u64, buf: &mut [u8]) -> Result<usize, DeviceFault> {
+        let most = self.device.most.min(self.device.good);
+        if most == 0 && !buf.is_empty() {
+            self.faults = self.faults.wrapping_add(1);
+            return Err(DeviceFault);
+        }
+        let rest = self.rest(at);
+        let count = rest.len().min(buf.len()).min(most);
+        buf[..count].copy_from_slice(&rest[..count]);
+        self.device.good = self.device.good.saturating_sub(count);
+        Ok(count)
     }
 }
 

@@ -5,5 +5,5 @@
 mod devices;
 mod memory;
 
-pub use devices::{Device, MemoryFile, MemoryInput, SOUND};
+pub use devices::{Device, MemoryFile, MemoryImage, MemoryInput, SOUND};
 pub use memory::Memory;

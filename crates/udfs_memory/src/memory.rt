@@ -7,7 +7,7 @@ ghost use Rattle.udfs_memory.specs.Laws.{counts_now as log_counts_now, only_now 
 ghost use Rattle.udfs_files.specs.Disk.{folder_of, has_slash};
 ghost use Rattle.udfs_reading.specs.Device.{CountsFault};
 
-use crate::devices::{Device, MemoryFile, MemoryInput, SOUND};
+use crate::devices::{Device, MemoryFile, MemoryImage, MemoryInput, SOUND};
 use std::alloc::{AllocError, Global};
 use std::cell::Cell;
 use udfs_files::{Files, Kind, Target};
@@ -295,6 +295,8 @@ impl Memory {
 impl Files for Memory {
     type Input = MemoryInput;
 
+    type Image = MemoryImage;
+
     type Output = MemoryFile;
 
     ghost tells = { Unit {0} };
@@ -326,6 +328,13 @@ impl Files for Memory {
     fn open(&self, path: &str) -> Result<MemoryInput, DeviceFault> {
         match find(&self.log, path.as_bytes()) {
             Found::Bytes(bytes) => Ok(MemoryInput::new(self.copied(bytes)?, self.inputs)),
+            Found::Open | Found::Absent => Err(DeviceFault),
+        }
+    }
+
+    fn open_image(&self, path: &str) -> Result<MemoryImage, DeviceFault> {
+        match find(&self.log, path.as_bytes()) {
+            Found::Bytes(bytes) => Ok(MemoryImage::new(self.copied(bytes)?, self.inputs)),
             Found::Open | Found::Absent => Err(DeviceFault),
         }
     }

@@ -9,3 +9,4 @@ mod PieceLemmas
 mod Judged
 mod Giving
 mod MapText
+pub mod PairLemmas

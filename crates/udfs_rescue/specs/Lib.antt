@@ -10,3 +10,4 @@ pub mod Stream
 pub mod Blocks
 pub mod Writing
 pub mod BlockSteps
+pub mod Opening

@@ -1,7 +1,7 @@
 use Rattle.std.proofs.Common.{◌≡◌, ◌⊎◌, List, ℕ, map, subst, rules}
 use Rattle.clap.specs.Matches.{found_of}
 use Rattle.udfs_lattice.specs.Records.{join_all}
-use Rattle.udfs_commands.specs.Asking.{input_texts}
+use Rattle.udfs_commands.specs.Asking.{asked_for, asked_inputs}
 use Rattle.udfs_commands.specs.Keeping.{IsKept, IsTaken}
 use Rattle.udfs_commands.specs.Spelling.{table_file}
 use Rattle.udfs_commands.proofs.command.merge_words.Goals as goal
@@ -9,13 +9,12 @@ use Rattle.udfs_commands.proofs.command.merge_words.Goals as goal
 pub returns-in-Ok-clause-written : goal.returns-in-Ok-clause-written
 returns-in-Ok-clause-written g c =
     let F = g.F.Files in
-    let w = c.in-Ok.ensures.written in
-    let paths : map (λ path. path.now) c.unwrap_or-inputs.result.now ≡ input_texts (found_of c.args.words.now) = search rules in (
+    let w = c.in-Ok.ensures.written in (
       c.asked_version.result,
-      c.unwrap_or-inputs.result.now,
+      _,
       w.0,
       record { with_flag = c.asked_version.ensures.with; without_flag = c.asked_version.ensures.without; unknown_flag = c.asked_version.ensures.unset },
-      paths,
+      search rules,
       w.1,
       subst (λ (p : List ℕ). (F.tells → IsKept (F.holds c.merge.new.files) (F.may_leave c.merge.new.files) (F.real c.args.files.now p) (table_file c.asked_version.result (join_all w.0)))
           ⊎ (F.in_place c.args.files.now p × IsTaken g.F.Output.Sink.contents (table_file c.asked_version.result (join_all w.0)))) c.asked_out.ensures w.2,
