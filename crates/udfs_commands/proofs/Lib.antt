@@ -1,3 +1,3 @@
 pub mod AskingLemmas
 pub mod KeepingLemmas
-mod Putting
+mod PutNodes

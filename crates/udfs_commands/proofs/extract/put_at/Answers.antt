@@ -4,7 +4,7 @@ use Rattle.udfs_salvage.specs.Extraction.{is_offered, filled, fill_byte}
 use Rattle.udfs_commands.specs.Extracting.{IsFateOf, IsSafe, deed, is_good}
 use Rattle.udfs_commands.specs.declared.extract.Deed.TheVariants.{File, Folder, Skip}
 use Rattle.udfs_commands.specs.declared.extract.Fate.TheVariants.{Written, Skipped}
-use Rattle.udfs_commands.proofs.Putting.{offered, safe, spares_at, stay_by}
+use Rattle.udfs_commands.proofs.PutNodes.{offered, safe, spares_at, stay_by}
 use Rattle.udfs_commands.proofs.extract.put_at.Goals as goal
 
 pub returns-in_err-fate-in-File-clause-stays : goal.returns-in_err-fate-in-File-clause-stays

@@ -4,7 +4,7 @@ use Rattle.udfs_walk.specs.NodeFields.{NodeFields}
 use Rattle.udfs_salvage.specs.Reports.{report_now}
 use Rattle.udfs_commands.specs.Extracting.{IsPut, Tells, TellsOn, fate_line, fate_lines, is_good}
 use Rattle.udfs_commands.specs.declared.extract.Fate.{Fate}
-use Rattle.udfs_commands.proofs.Putting.{all_behind, each_few, each_map, each_more, good_more, lines_more, one_on, put_still, spares_nothing, spares_on, tells_on}
+use Rattle.udfs_commands.proofs.PutNodes.{all_behind, each_few, each_map, each_more, good_more, lines_more, one_on, put_still, spares_nothing, spares_on, tells_on}
 use Rattle.udfs_commands.proofs.extract.put_nodes.Goals as goal
 
 pub loop-index-init : goal.loop-index-init

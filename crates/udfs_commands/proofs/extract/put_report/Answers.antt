@@ -1,5 +1,5 @@
 use Rattle.std.proofs.Common.{◌∙◌}
-use Rattle.udfs_commands.proofs.Putting.{spares_all, spares_on}
+use Rattle.udfs_commands.proofs.PutNodes.{spares_all, spares_on}
 use Rattle.udfs_commands.proofs.extract.put_report.Goals as goal
 
 pub returns-in_err-told-in-Open-clause-crash : goal.returns-in_err-told-in-Open-clause-crash
