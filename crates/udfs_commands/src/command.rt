@@ -146,14 +146,11 @@ fn report_words<F: Files, O: Sink>(
 {
     let inputs = asked_inputs(alloc, words)?;
     let last = asked_last(words);
-    report_as(
-        alloc,
-        inputs.as_slice(),
-        last,
-        asked_form(words),
-        files,
-        out,
-    )
+    let form = asked_form(words);
+    match report_as(alloc, inputs.as_slice(), last, form, files, out) {
+        Ok(whole) => Ok(whole),
+        Err(refusal) => Err(refusal),
+    }
 }
 
 /// The form of the report that the words after `report` ask for: JSON with `--json`, and else text.
@@ -181,7 +178,10 @@ fn reread_words<F: Files, O: Sink>(
 {
     let inputs = asked_inputs(alloc, words)?;
     let last = asked_last(words);
-    reread(alloc, inputs.as_slice(), last, files, out)
+    match reread(alloc, inputs.as_slice(), last, files, out) {
+        Ok(whole) => Ok(whole),
+        Err(refusal) => Err(refusal),
+    }
 }
 
 /// Does what the words after `extract` ask for.
@@ -201,15 +201,13 @@ fn extract_words<F: Files, O: Sink>(
     ensures crash { F.tells → Goes F.moment F.may_leave F.left_since files.old files.new (Spares (folder_text (found_of words.now)) (F.holds files.old)) }
 {
     let inputs = asked_inputs(alloc, words)?;
-    extract(
-        alloc,
-        inputs.as_slice(),
-        asked_last(words),
-        asked_fill(words),
-        asked_folder(words),
-        files,
-        out,
-    )
+    let last = asked_last(words);
+    let fill = asked_fill(words);
+    let folder = asked_folder(words);
+    match extract(alloc, inputs.as_slice(), last, fill, folder, files, out) {
+        Ok(good) => Ok(good),
+        Err(refusal) => Err(refusal),
+    }
 }
 
 /// The path of the folder among the words after `extract`. The grammar asks for it.
