@@ -1,9 +1,10 @@
 # The words to type here:
 #   make            proves the program and all that it stands on, builds it, and says where it lies
 #   make demo       the same, and then runs it on the readings of examples/
-#   make test       judges the whole repository from nothing, as the gate does, and then tries what make hostile tries
+#   make test       judges the whole repository from nothing, as the gate does, and then tries what make hostile tries, and
+#                   goes from a damaged disc to its files with GNU ddrescue where it is installed
 #   make hostile    refuses each allocation of many runs in turn, and changes each byte of the sample discs' descriptors
-#   make try        tries the built program on this machine's own files and devices
+#   make try        tries the built program on this machine's own files and devices, and with GNU ddrescue where it is installed
 #   make install    puts the program, its man page and its completions below PREFIX; make uninstall takes them away
 #   make clean      removes all that was made
 #   make dist       a tar of the sources, and one of the built program, in out/
@@ -69,6 +70,7 @@ demo: all
 test: have-rt
 	@$(RT) ci
 	@$(MAKE) -s --no-print-directory hostile
+	@tools/try-ddrescue $(PROGRAM) examples
 
 hostile: all
 	@$(MAKE) -s --no-print-directory $(TRIES)
@@ -77,6 +79,7 @@ hostile: all
 
 try: all
 	@tools/try-machine $(PROGRAM) examples
+	@tools/try-ddrescue $(PROGRAM) examples
 
 # Where the program is built, neither rt nor anything of the toolchain is needed.
 install:
