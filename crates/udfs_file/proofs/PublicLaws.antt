@@ -1,7 +1,7 @@
 -- The laws of this crate that proofs above it use. Each has the statement that the function of its name in src/laws.rt ensures.
 use Rattle.udfs_file.specs.Complete.{BodyLaw, DescriptorsAreShort, DirectoryLaw, FileSetLaw, NeverStops, StandardBodies, StandardDirectories}
 use Rattle.udfs_file.specs.Laws.{BodyLength, NamesAreParts, PartialBodies, PartialDescriptors, PartialFileSet}
-use Rattle.udfs_file.specs.Sample.{AreSampleFiles, SampleFileSet}
+use Rattle.udfs_file.specs.Sample.{HaveSampleFiles, SampleFileSet}
 use Rattle.udfs_file.proofs.BodyLengths as lengths
 use Rattle.udfs_file.proofs.EntryNames as names
 use Rattle.udfs_file.proofs.FileSets as sets
@@ -40,7 +40,7 @@ complete_directory_never_stops = readings.never_stops
 pub sample_file_set_is_found : SampleFileSet
 sample_file_set_is_found = sample.sample_file_set_law
 
-pub sample_files_are_read : AreSampleFiles
+pub sample_files_are_read : HaveSampleFiles
 sample_files_are_read = sample.sample_files
 
 pub names_are_parts : NamesAreParts

@@ -1,16 +1,17 @@
--- What stands in the partition of the sample volume of udfs_volume: a file set, the root with two files, and their bytes.
---     sample_contents      the blocks
---     sample_view          the view of the sample volume, all known
---     sample_root          the address of the root's ICB
---     SampleFileSet        these are blocks, and the file set names the root
---     AreSampleFiles       the root and both files: their entries, their bodies, and what the root lists
-use Rattle.std.specs.Prelude.{◌≡◌, ℕ, List, [], ◌∷◌, ◌++◌, map, take, replicate, cond, nat_eq, Some, None}
+-- What stands in the partitions of the sample volumes of udfs_volume: a file set, the root with the files A and B, and their bytes.
+-- B stands in the last partition: in the spared packet of a sparable one where there is one.
+--     sample_contents maps     the blocks
+--     sample_view maps         the view of the sample volume, all known
+--     sample_root              the address of the root's ICB
+--     SampleFileSet            these are blocks, and the file set names the root
+--     AreSampleFiles maps      the root and both files: their entries, their bodies, and what the root lists
+use Rattle.std.specs.Prelude.{◌≡◌, ℕ, List, [], ◌∷◌, ◌++◌, map, take, replicate, cond, nat_eq, nat_le, ◌-◌, Some, None}
 use Rattle.udfs_lattice.specs.States.{IsBlock}
 use Rattle.udfs_lattice.specs.declared.facts.Fact.TheVariants.{Known}
 use Rattle.udfs_tag.specs.declared.layouts.LongAd.{LongAd}
 use Rattle.udfs_volume.specs.Answers.{found}
 use Rattle.udfs_volume.specs.Sequence.{Bytes}
-use Rattle.udfs_volume.specs.Sample.{patched, sample_blocks, sample_layout, tag}
+use Rattle.udfs_volume.specs.Sample.{Maps, one_type1, one_sparable, type1_and_sparable, patched, sample_blocks, sample_layout, tag}
 use Rattle.udfs_space.specs.Places.{View, block_at, view}
 use Rattle.udfs_space.specs.Sample.{sample_space}
 use Rattle.udfs_file.specs.Addresses.{address_fault, file_set}
@@ -32,13 +33,20 @@ stamp = 0x3C ∷ 0x10 ∷ 0xD1 ∷ 0x07 ∷ 0x07 ∷ 0x04 ∷ 0x0A ∷ 0x1E ∷ 
 abbrev pub identifier_at : Bytes → Bytes
 identifier_at more = take 40 (1 ∷ 1 ∷ 2 ∷ 0 ∷ 6 ∷ 0 ∷ 0 ∷ 0 ∷ 0 ∷ 0 ∷ 0 ∷ 0 ∷ 2 ∷ 0 ∷ 0 ∷ 0 ∷ 1 ∷ 0 ∷ more)
 
--- that of a file with a name of one letter
-abbrev pub name_at : ℕ → ℕ → Bytes
-name_at block letter = identifier_at (0 ∷ 2 ∷ 0 ∷ 8 ∷ 0 ∷ 0 ∷ block ∷ 0 ∷ 0 ∷ 0 ∷ 0 ∷ 0 ∷ 0 ∷ 0 ∷ 0 ∷ 0 ∷ 0 ∷ 0 ∷ 0 ∷ 0 ∷ 8 ∷ letter ∷ [])
+-- that of a file with a name of one letter, whose ICB stands at this partition reference and logical block
+abbrev pub name_at : ℕ → ℕ → ℕ → Bytes
+name_at reference block letter = identifier_at (0 ∷ 2 ∷ 0 ∷ 8 ∷ 0 ∷ 0 ∷ block ∷ 0 ∷ 0 ∷ 0 ∷ reference ∷ 0 ∷ 0 ∷ 0 ∷ 0 ∷ 0 ∷ 0 ∷ 0 ∷ 0 ∷ 0 ∷ 8 ∷ letter ∷ [])
 
--- a directory of its parent and the names A and B, whose ICBs stand at logical blocks 3 and 4
-abbrev pub directory_block : Bytes
-directory_block = patched ((0, identifier_at (0x0A ∷ 0 ∷ 0 ∷ 8 ∷ 0 ∷ 0 ∷ 1 ∷ replicate 15 0)) ∷ (40, name_at 3 0x41) ∷ (80, name_at 4 0x42) ∷ [])
+-- the reference of the last partition
+abbrev pub last_reference : Maps → ℕ
+last_reference one_type1 = 0
+last_reference one_sparable = 0
+last_reference type1_and_sparable = 1
+
+-- a directory of its parent and the names A and B, whose ICBs stand at logical block 3 of the first partition and 4 of the last
+abbrev pub directory_block : Maps → Bytes
+directory_block maps = patched ((0, identifier_at (0x0A ∷ 0 ∷ 0 ∷ 8 ∷ 0 ∷ 0 ∷ 1 ∷ replicate 15 0)) ∷ (40, name_at 0 3 0x41)
+    ∷ (80, name_at (last_reference maps) 4 0x42) ∷ [])
 
 -- the file set
 abbrev pub file_set_block : Bytes
@@ -56,47 +64,52 @@ a_block = patched ((0, tag 5 1 0x0B 3 0) ∷ (20, 4 ∷ []) ∷ (27, 5 ∷ []) �
 abbrev pub b_block : Bytes
 b_block = patched ((0, tag 5 1 0x0C 4 0) ∷ (20, 4 ∷ []) ∷ (27, 5 ∷ []) ∷ (34, 3 ∷ []) ∷ (56, 2 ∷ []) ∷ (84, stamp) ∷ (172, 2 ∷ []) ∷ (176, 0x48 ∷ 0x69 ∷ []) ∷ [])
 
--- from block 272 on: the file set, the root's ICB and directory, the ICBs of both files, the bytes of A
-abbrev pub sample_contents : ℕ → Bytes
-sample_contents n = cond (nat_eq n 272) file_set_block (cond (nat_eq n 273) root_block (cond (nat_eq n 274) directory_block
-    (cond (nat_eq n 275) a_block (cond (nat_eq n 276) b_block
-    (cond (nat_eq n 277) (replicate 2048 0x61) (cond (nat_eq n 278) (replicate 2048 0x62) (cond (nat_eq n 279) (replicate 2048 0x63) (replicate 2048 0))))))))
+-- the logical blocks: the file set, the root's ICB and directory, the ICBs of both files, the bytes of A
+abbrev pub logical_block : Maps → ℕ → Bytes
+logical_block maps b = cond (nat_eq b 0) file_set_block (cond (nat_eq b 1) root_block (cond (nat_eq b 2) (directory_block maps)
+    (cond (nat_eq b 3) a_block (cond (nat_eq b 4) b_block
+    (cond (nat_eq b 5) (replicate 2048 0x61) (cond (nat_eq b 6) (replicate 2048 0x62) (cond (nat_eq b 7) (replicate 2048 0x63) (replicate 2048 0))))))))
+
+-- they stand at the front of a partition of type 1, from block 272 on, and where the first packet of a sparable one is mapped,
+-- from block 96 on
+abbrev pub sample_contents : Maps → ℕ → Bytes
+sample_contents maps n = cond (nat_le 272 n) (logical_block maps (n - 272)) (cond (nat_le 96 n) (logical_block maps (n - 96)) (replicate 2048 0))
 
 -- the sample volume as it is seen with all of it known
-abbrev pub sample_view : View
-sample_view = view (sample_blocks sample_contents) sample_space
+abbrev pub sample_view : Maps → View
+sample_view maps = view (sample_blocks maps (sample_contents maps)) (sample_space maps)
 
--- the address of an ICB
-abbrev pub icb_at : ℕ → LongAd
-icb_at block = record { kind = 0; length = 2048; block = block; reference = 0 }
+-- the address of an ICB, by its partition reference and logical block
+abbrev pub icb_at : ℕ → ℕ → LongAd
+icb_at reference block = record { kind = 0; length = 2048; block = block; reference = reference }
 
--- the root's ICB stands at logical block 1
+-- the root's ICB stands at logical block 1 of the first partition
 abbrev pub sample_root : LongAd
-sample_root = icb_at 1
+sample_root = icb_at 0 1
 
 -- the sample's blocks are blocks, and its file set names its root
 abbrev pub SampleFileSet : Type 0
-SampleFileSet = ((n : ℕ) → IsBlock (sample_contents n)) × (file_set sample_view sample_layout.file_set ≡ found sample_root)
+SampleFileSet = (maps : Maps) → ((n : ℕ) → IsBlock (sample_contents maps n)) × (file_set (sample_view maps) (sample_layout maps).file_set ≡ found sample_root)
 
 -- ---- the files
 
 -- a good address, at which an entry of this kind without a fault stands, whose body has these cells
-pub record IsSampleFile (a : LongAd) (kind : Kind) (cs : List Cell) : Type 0 where
-  pub is_good : address_fault sample_view a ≡ None
+pub record IsSampleFile (maps : Maps) (a : LongAd) (kind : Kind) (cs : List Cell) : Type 0 where
+  pub is_good : address_fault (sample_view maps) a ≡ None
   pub block : ℕ
   pub bytes : Bytes
-  pub there : block_at sample_view a.reference a.block ≡ Some (block, Known bytes)
+  pub there : block_at (sample_view maps) a.reference a.block ≡ Some (block, Known bytes)
   pub is_sound : entry_fault bytes a.block ≡ None
   pub kind_is : (entry_of bytes).kind ≡ kind
-  pub has_body : body sample_view a.reference a.block (entry_of bytes) ≡ cells cs
+  pub has_body : body (sample_view maps) a.reference a.block (entry_of bytes) ≡ cells cs
 
 -- these bytes, in a logical block
 abbrev pub cells_in : ℕ → Bytes → List Cell
 cells_in block bytes = map (λ x. Byte x (Some block)) bytes
 
 -- the cells of the sample's root
-abbrev pub root_cells : List Cell
-root_cells = cells_in 2 (take 120 directory_block)
+abbrev pub root_cells : Maps → List Cell
+root_cells maps = cells_in 2 (take 120 (directory_block maps))
 
 -- the cells of the sample's file A
 abbrev pub a_cells : List Cell
@@ -106,14 +119,26 @@ a_cells = cells_in 5 (replicate 2048 0x61) ++ cells_in 6 (replicate 2048 0x62) +
 abbrev pub b_cells : List Cell
 b_cells = cells_in 4 (0x48 ∷ 0x69 ∷ [])
 
--- an entry of the root: a name of one letter, and the block of its ICB
-abbrev pub named : ℕ → ℕ → DirEntry
-named letter block = record { name = letter ∷ []; icb = icb_at block; marks = record { 0 = 0 } }
+-- an entry of the root: a name of one letter, and the address of its ICB
+abbrev pub named : ℕ → LongAd → DirEntry
+named letter icb = record { name = letter ∷ []; icb = icb; marks = record { 0 = 0 } }
+
+-- the address of the ICB of A
+abbrev pub icb_of_a : LongAd
+icb_of_a = icb_at 0 3
+
+-- that of B is in the last partition
+abbrev pub icb_of_b : Maps → LongAd
+icb_of_b maps = icb_at (last_reference maps) 4
 
 -- a root that lists A and B and has no fault, and both files
-pub record AreSampleFiles : Type 0 where
-  pub root : IsSampleFile sample_root Directory root_cells
-  pub a : IsSampleFile (icb_at 3) File a_cells
-  pub b : IsSampleFile (icb_at 4) File b_cells
-  pub no_rest : (directory root_cells).rest ≡ Nothing
-  pub entries : entries_of root_cells ≡ named 0x41 3 ∷ named 0x42 4 ∷ []
+pub record AreSampleFiles (maps : Maps) : Type 0 where
+  pub root : IsSampleFile maps sample_root Directory (root_cells maps)
+  pub a : IsSampleFile maps icb_of_a File a_cells
+  pub b : IsSampleFile maps (icb_of_b maps) File b_cells
+  pub no_rest : (directory (root_cells maps)).rest ≡ Nothing
+  pub entries : entries_of (root_cells maps) ≡ named 0x41 icb_of_a ∷ named 0x42 (icb_of_b maps) ∷ []
+
+-- so it is in each sample volume
+abbrev pub HaveSampleFiles : Type 0
+HaveSampleFiles = (maps : Maps) → AreSampleFiles maps

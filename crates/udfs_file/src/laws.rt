@@ -1,7 +1,7 @@
 //! Laws of bodies and directories, each the contract of a function that does nothing.
 ghost use Rattle.udfs_file.specs.Laws.{BodyLength, NamesAreParts, PartialBodies, PartialDescriptors, PartialFileSet};
 ghost use Rattle.udfs_file.specs.Complete.{BodyLaw, DescriptorsAreShort, DirectoryLaw, FileSetLaw, NeverStops, ReadsLaw, StandardBodies, StandardDirectories};
-ghost use Rattle.udfs_file.specs.Sample.{AreSampleFiles, SampleFileSet};
+ghost use Rattle.udfs_file.specs.Sample.{HaveSampleFiles, SampleFileSet};
 
 /// Of partitions of which a part is known, the file set names the root of the whole exactly if its block is
 /// known.
@@ -70,13 +70,14 @@ pub fn body_has_its_length()
     ensures { BodyLength }
 {}
 
-/// There is a file set that is found: what stands in the partition of the sample volume are blocks, and its file set names
+/// There are file sets that are found: what stands in the partitions of the sample volumes are blocks, and the file set names
 /// the root.
 pub fn sample_file_set_is_found()
     ensures { SampleFileSet }
 {}
 
-/// In the sample volume stand a root that lists A and B, and both files: entries and bodies without a fault.
+/// In each sample volume stand a root that lists A and B, and both files: entries and bodies without a fault. B stands in a spared
+/// packet where there is one.
 pub fn sample_files_are_read()
-    ensures { AreSampleFiles }
+    ensures { HaveSampleFiles }
 {}

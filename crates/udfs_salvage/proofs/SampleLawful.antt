@@ -1,14 +1,15 @@
--- The sample volume is lawful: what the layers below say of it, joined.
-use Rattle.std.proofs.Common.{◌≡◌, ap, ◌∙◌, [], ◌∷◌}
-use Rattle.udfs_lattice.specs.Volumes.{Volume}
+-- The sample volumes are lawful: what the layers below say of it, joined.
+use Rattle.std.proofs.Common.{◌≡◌, refl, ap, ◌∙◌, [], ◌∷◌}
+use Rattle.udfs_lattice.specs.Volumes.{Blocks, Volume}
 use Rattle.udfs_volume.specs.Answers.{found, and_then}
-use Rattle.udfs_volume.specs.Sample.{IsLawfulSample, sample, sample_blocks, sample_layout}
+use Rattle.udfs_volume.specs.Sample.{Maps, IsLawfulSample, sample, sample_blocks, sample_layout}
 use Rattle.udfs_volume.proofs.PublicLaws.{sample_layout_is_lawful}
 use Rattle.udfs_space.specs.Sample.{sample_space}
 use Rattle.udfs_space.proofs.PublicLaws.{sample_places_are_lawful}
 use Rattle.udfs_file.specs.Sample.{sample_contents, sample_root}
 use Rattle.udfs_file.proofs.PublicLaws.{sample_file_set_is_found}
 use Rattle.udfs_tree.specs.Trees.{TreeFile, InTree}
+use Rattle.udfs_tree.specs.Sample.{HasSampleFiles}
 use Rattle.udfs_tree.proofs.PublicLaws.{sample_tree_is_lawful}
 use Rattle.udfs_salvage.specs.Found.{Found, placed, rooted, volume as volume_of}
 use Rattle.udfs_salvage.specs.TreeReports.{SomeLawful}
@@ -16,44 +17,47 @@ use Rattle.udfs_salvage.specs.VolumeTrees.{AllIsWhole, IsLawful}
 use Rattle.udfs_salvage.proofs.Openings.{ReadAs, lawful_by, open_as}
 use Rattle.udfs_salvage.proofs.TreeReports.{in_volume}
 
-abbrev volume : Volume
-volume = sample sample_contents
+abbrev volume : Maps → Volume
+volume maps = sample maps (sample_contents maps)
 
 -- its layout, its places and its root
-abbrev sample_found : Found
-sample_found = record { layout = sample_layout; space = sample_space; root = sample_root }
+abbrev sample_found : Maps → Found
+sample_found maps = record { layout = sample_layout maps; space = sample_space maps; root = sample_root }
 
-lawful_layout : IsLawfulSample sample_contents
-lawful_layout = sample_layout_is_lawful sample_contents sample_file_set_is_found.0
+abbrev blocks : Maps → Blocks
+blocks maps = sample_blocks maps (sample_contents maps)
 
-finds : volume_of (sample_blocks sample_contents) 600 ≡ found sample_found
+lawful_layout : (maps : Maps) → IsLawfulSample maps (sample_contents maps)
+lawful_layout maps = sample_layout_is_lawful maps (sample_contents maps) (sample_file_set_is_found maps).0
+
+finds : (maps : Maps) → volume_of (blocks maps) 600 ≡ found (sample_found maps)
 unfolding volume_of
-finds = ap (λ x. and_then x (placed (sample_blocks sample_contents))) lawful_layout.layout_is
-    ∙ ap (λ x. and_then x (rooted (sample_blocks sample_contents) sample_layout)) (sample_places_are_lawful volume).0
-    ∙ ap (λ x. and_then x (λ root. found (record { layout = sample_layout; space = sample_space; root = root }))) sample_file_set_is_found.1
-
-sample_is_whole : AllIsWhole volume 600
-sample_is_whole = record {
+finds maps = ap (λ x. and_then x (placed (blocks maps))) (lawful_layout maps).layout_is
+    ∙ ap (λ x. and_then x (rooted (blocks maps) (sample_layout maps))) (sample_places_are_lawful maps (sample_contents maps)).0
+    ∙ ap (λ x. and_then x (λ root. found (record { layout = sample_layout maps; space = sample_space maps; root = root }))) (sample_file_set_is_found maps).1
+sample_is_whole : (maps : Maps) → AllIsWhole (volume maps) 600
+sample_is_whole maps = record {
   is_volume = record {
-    volume_is = lawful_layout.is_volume;
-    found_is = sample_found;
-    finds = finds;
-    layout = lawful_layout.is_lawful;
-    sparing = (sample_places_are_lawful volume).1;
+    volume_is = (lawful_layout maps).is_volume;
+    found_is = sample_found maps;
+    finds = finds maps;
+    layout = (lawful_layout maps).is_lawful;
+    sparing = (sample_places_are_lawful maps (sample_contents maps)).1;
   };
-  tree = sample_tree_is_lawful.0;
+  tree = (sample_tree_is_lawful maps).0;
 }
 
-sample_is_lawful : IsLawful volume 600
-sample_is_lawful = lawful_by volume 600 sample_is_whole
+sample_is_lawful : (maps : Maps) → IsLawful (volume maps) 600
+sample_is_lawful maps = lawful_by (volume maps) 600 (sample_is_whole maps)
 
--- the file A stands in it
+-- the file B stands in it, in the last of its partitions
 pub some_lawful : SomeLawful
 unfolding sample_is_whole
-some_lawful = (volume, 600, sample_is_lawful, (0x41 ∷ [], h.0, in_volume volume 600 sample_found r ((0x41 ∷ []) ∷ []) h.0 h.1))
+some_lawful maps = (volume maps, 600, sample_is_lawful maps, (sample_layout maps, (lawful_layout maps).layout_is, refl),
+    (0x42 ∷ [], h.b.0, in_volume (volume maps) 600 (sample_found maps) r ((0x42 ∷ []) ∷ []) h.b.0 h.b.1))
   where
-    r : ReadAs volume 600 sample_found
-    r = open_as volume 600 sample_is_whole.is_volume
+    r : ReadAs (volume maps) 600 (sample_found maps)
+    r = open_as (volume maps) 600 (sample_is_whole maps).is_volume
 
-    h : (file : TreeFile) × InTree r.opened.blocks sample_root ((0x41 ∷ []) ∷ []) file
-    h = sample_tree_is_lawful.1 r.opened.blocks r.is_whole
+    h : HasSampleFiles r.opened.blocks
+    h = (sample_tree_is_lawful maps).1 r.opened.blocks r.is_whole

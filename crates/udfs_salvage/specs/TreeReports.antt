@@ -6,10 +6,12 @@
 --     FillsFile blocks last n fill           what is done with the bytes of a node that is filled is done with the tree's, its holes filled
 --     OpensOnce, OneFileAt                   the standard opens a lawful volume in one way, and a path leads to one file
 --     ReportsTellTree                        every report of a table tells this
---     SomeLawful                             there is a lawful volume with a file
+--     SomeLawful                             there are lawful volumes with files, by the maps that a volume can have
 use Rattle.std.specs.Prelude.{◌≡◌, ◌⊎◌, ⊤, ℕ, List, [], ◌∷◌, length, slice_get, Some, map}
 use Rattle.udfs_lattice.specs.Volumes.{Blocks, Volume, Agrees, complete}
 use Rattle.udfs_volume.specs.Answers.{Answer, found, holes}
+use Rattle.udfs_volume.specs.Layout.{Layout, Partition, layout}
+use Rattle.udfs_volume.specs.Sample.{Maps, sample_partitions}
 use Rattle.udfs_space.specs.Places.{view}
 use Rattle.udfs_file.specs.declared.cells.Cell.{Cell}
 use Rattle.udfs_walk.specs.NodeFields.{NodeFields}
@@ -98,9 +100,18 @@ OneFileAt = (volume : Volume) (last : ℕ) → IsLawful volume last → (path : 
 abbrev pub ReportsTellTree : Type 0
 ReportsTellTree = (blocks : Blocks) (last : ℕ) (report : Report) → IsReport blocks last report → TellsTree blocks last report × TellsWholeTree blocks last report
 
--- there is a lawful volume, and a file below its root
+-- the layout of the volume names these partitions
+abbrev pub HasPartitions : Volume → ℕ → List Partition → Type 0
+HasPartitions volume last partitions = (l : Layout) × (layout (complete volume last) last ≡ found l) × (l.partitions ≡ partitions)
+
+-- a lawful volume with these partitions, and a file below its root
+abbrev pub IsLawfulWith : List Partition → Type 0
+IsLawfulWith partitions = (volume : Volume) × (last : ℕ) × IsLawful volume last × HasPartitions volume last partitions
+    × ((name : List ℕ) × (file : TreeFile) × IsInVolume volume last (name ∷ []) file)
+
+-- there are such volumes with a partition of type 1, with a sparable one, and with one of each
 abbrev pub SomeLawful : Type 0
-SomeLawful = (volume : Volume) × (last : ℕ) × IsLawful volume last × ((name : List ℕ) × (file : TreeFile) × IsInVolume volume last (name ∷ []) file)
+SomeLawful = (maps : Maps) → IsLawfulWith (sample_partitions maps)
 
 -- ---- the bytes that are written
 abbrev pub file_bytes : TreeFile → List ℕ

@@ -17,7 +17,8 @@ pub fn reports_tell_tree()
     ensures { ReportsTellTree }
 {}
 
-/// There is a lawful volume with a file, so what is said of lawful volumes is said of something.
+/// There are lawful volumes with a file, with a map of type 1, with a sparable one that has a spared packet, and with both; so what is said of
+/// lawful volumes is said of something.
 pub fn some_volume_is_lawful()
     ensures { SomeLawful }
 {}

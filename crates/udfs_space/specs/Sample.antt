@@ -1,17 +1,25 @@
--- The places of the sample volume of udfs_volume, which has one partition of type 1.
---     sample_space     them
---     SampleSpace      whatever the volume, they are those of that layout, and lawful
-use Rattle.std.specs.Prelude.{◌≡◌, [], ◌∷◌}
-use Rattle.udfs_lattice.specs.Volumes.{Volume, complete}
+-- The places of the sample volumes of udfs_volume: with one partition of type 1, one sparable partition, and both.
+--     sample_space     them; in a sparable partition the first packet is spared
+--     SampleSpace      whatever stands in the partitions, they are those of that layout, and lawful
+use Rattle.std.specs.Prelude.{◌≡◌, ℕ, [], ◌∷◌}
 use Rattle.udfs_volume.specs.Answers.{found}
-use Rattle.udfs_volume.specs.Sample.{sample_layout}
-use Rattle.udfs_space.specs.Sparing.{Space, space}
+use Rattle.udfs_volume.specs.Sample.{Maps, one_type1, one_sparable, type1_and_sparable, sample, sample_blocks, sample_layout}
+use Rattle.udfs_volume.specs.Sequence.{Bytes}
+use Rattle.udfs_space.specs.Sparing.{Space, Spared, space}
 use Rattle.udfs_space.specs.Laws.{IsLawfulSparing}
 
--- 300 blocks from block 272 on, of which none is spared
-abbrev pub sample_space : Space
-sample_space = record { start = 272; size = 300; packet = 1; spared = [] } ∷ []
+-- the packet at logical block 0 stands at block 96
+abbrev pub first_spared : Spared
+first_spared = record { original = 0; mapped = 96 } ∷ []
 
--- each volume with the sample's layout has the sample's places, and lawful ones
+-- 300 blocks from block 272 on, or 128 from block 128 on
+abbrev pub sample_space : Maps → Space
+sample_space one_type1 = record { start = 272; size = 300; packet = 1; spared = [] } ∷ []
+sample_space one_sparable = record { start = 272; size = 300; packet = 32; spared = first_spared } ∷ []
+sample_space type1_and_sparable = record { start = 272; size = 300; packet = 1; spared = [] }
+    ∷ record { start = 128; size = 128; packet = 32; spared = first_spared } ∷ []
+
+-- whatever stands in its partitions, each sample volume has the sample's places, and lawful ones
 abbrev pub SampleSpace : Type 0
-SampleSpace = (volume : Volume) → (space (complete volume 600) sample_layout ≡ found sample_space) × IsLawfulSparing volume 600 sample_layout
+SampleSpace = (maps : Maps) (contents : ℕ → Bytes) → (space (sample_blocks maps contents) (sample_layout maps) ≡ found (sample_space maps))
+    × IsLawfulSparing (sample maps contents) 600 (sample_layout maps)

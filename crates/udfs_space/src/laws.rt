@@ -46,7 +46,7 @@ pub fn blocks_of_standard()
     ensures { StandardBlocks }
 {}
 
-/// There are lawful places: those of the sample layout, whatever the volume.
+/// There are lawful places: those of the sample layouts, whatever stands in their partitions.
 pub fn sample_places_are_lawful()
     ensures { SampleSpace }
 {}

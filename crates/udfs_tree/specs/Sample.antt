@@ -1,12 +1,18 @@
--- The tree of the sample volume: a root with the files A and B.
---     SampleTree     it is lawful, and the path A leads to a file of it
+-- The trees of the sample volumes: a root with the files A and B.
+--     SampleTree     they are lawful, and the paths A and B lead to files of them
 use Rattle.std.specs.Prelude.{[], ◌∷◌}
+use Rattle.udfs_volume.specs.Sample.{Maps}
 use Rattle.udfs_file.specs.Complete.{IsWhole}
 use Rattle.udfs_file.specs.Sample.{sample_root, sample_view}
 use Rattle.udfs_tree.specs.Lawful.{IsLawfulTree}
 use Rattle.udfs_tree.specs.Trees.{PartitionBlocks, TreeFile, InTree}
 
--- the tree is lawful, and whatever gives its blocks, the path A leads to a file
+-- whatever gives the blocks, the paths A and B lead to files
+pub record HasSampleFiles (blocks : PartitionBlocks) : Type 0 where
+  pub a : (file : TreeFile) × InTree blocks sample_root ((0x41 ∷ []) ∷ []) file
+  pub b : (file : TreeFile) × InTree blocks sample_root ((0x42 ∷ []) ∷ []) file
+
+-- each tree is lawful, and whatever gives its blocks, it has the files A and B
 abbrev pub SampleTree : Type 0
-SampleTree = IsLawfulTree sample_view sample_root
-    × ((blocks : PartitionBlocks) → IsWhole sample_view blocks → (file : TreeFile) × InTree blocks sample_root ((0x41 ∷ []) ∷ []) file)
+SampleTree = (maps : Maps) → IsLawfulTree (sample_view maps) sample_root
+    × ((blocks : PartitionBlocks) → IsWhole (sample_view maps) blocks → HasSampleFiles blocks)

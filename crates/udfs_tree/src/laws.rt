@@ -47,7 +47,7 @@ pub fn whole_alike()
     ensures { WholeAlike }
 {}
 
-/// There is a lawful tree with a file below its root: that of the sample volume.
+/// There are lawful trees with files below their roots: those of the sample volumes.
 pub fn sample_tree_is_lawful()
     ensures { SampleTree }
 {}

@@ -36,7 +36,8 @@ pub fn ascending_rises()
     ensures { AscendingRises }
 {}
 
-/// There is a lawful layout: the sample volume has it, whatever stands in its partition.
+/// There are lawful layouts with one map of type 1, with one sparable map and with both: sample volumes have them, whatever stands in
+/// their partitions.
 pub fn sample_layout_is_lawful()
     ensures { SampleLayout }
 {}

@@ -2,7 +2,7 @@
 use Rattle.std.proofs.Common.{◌<◌, length, subst}
 use Rattle.udfs_walk.specs.Laws.{MoreRoutes, NoMoreRoutes, NodeCells, OnlyWalk, PathsHaveParts, RoutesStandOnce, SomeWalk}
 use Rattle.udfs_walk.specs.Routes.{at_root}
-use Rattle.udfs_walk.specs.Sample.{AreSampleNodes}
+use Rattle.udfs_walk.specs.Sample.{HaveSampleNodes}
 use Rattle.udfs_walk.proofs.NodeCells as cells
 use Rattle.udfs_walk.proofs.PathParts as parts
 use Rattle.udfs_walk.proofs.RoutesOnce as once
@@ -27,7 +27,7 @@ routes_stand_once = once.once_listed
 pub node_has_cells : NodeCells
 node_has_cells = cells.node_cells
 
-pub sample_nodes_are_whole : AreSampleNodes
+pub sample_nodes_are_whole : HaveSampleNodes
 sample_nodes_are_whole = sample.sample_nodes
 
 pub paths_have_parts : PathsHaveParts

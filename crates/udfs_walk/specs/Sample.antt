@@ -1,8 +1,9 @@
--- The nodes of the sample volume: the root, and the files A and B below it.
---     at_a, at_b         the ends of the routes to them
---     AreSampleNodes     all three are whole, the root goes on to A and B, and these go on to nothing
+-- The nodes of the sample volumes: the root, and the files A and B below it.
+--     at_a, at_b maps         the ends of the routes to them
+--     AreSampleNodes maps     all three are whole, the root goes on to A and B, and these go on to nothing
 use Rattle.std.specs.Prelude.{◌≡◌, [], ◌∷◌}
-use Rattle.udfs_file.specs.Sample.{named, sample_root, sample_view}
+use Rattle.udfs_volume.specs.Sample.{Maps}
+use Rattle.udfs_file.specs.Sample.{icb_of_a, icb_of_b, named, sample_root, sample_view}
 use Rattle.udfs_walk.specs.Nodes.{node}
 use Rattle.udfs_walk.specs.Routes.{Walked, at_root, below, entries_below}
 use Rattle.udfs_walk.specs.declared.standings.Standing.TheVariants.{Whole}
@@ -13,17 +14,21 @@ top = at_root sample_root
 
 -- the sample's file A
 abbrev pub at_a : Walked
-at_a = below top (named 0x41 3)
+at_a = below top (named 0x41 icb_of_a)
 
 -- the sample's file B
-abbrev pub at_b : Walked
-at_b = below top (named 0x42 4)
+abbrev pub at_b : Maps → Walked
+at_b maps = below top (named 0x42 (icb_of_b maps))
 
 -- the sample's three nodes, all whole
-pub record AreSampleNodes : Type 0 where
-  pub whole_root : (node sample_view top).standing ≡ Whole
-  pub below_root : entries_below sample_view top ≡ named 0x41 3 ∷ named 0x42 4 ∷ []
-  pub whole_a : (node sample_view at_a).standing ≡ Whole
-  pub below_a : entries_below sample_view at_a ≡ []
-  pub whole_b : (node sample_view at_b).standing ≡ Whole
-  pub below_b : entries_below sample_view at_b ≡ []
+pub record AreSampleNodes (maps : Maps) : Type 0 where
+  pub whole_root : (node (sample_view maps) top).standing ≡ Whole
+  pub below_root : entries_below (sample_view maps) top ≡ named 0x41 icb_of_a ∷ named 0x42 (icb_of_b maps) ∷ []
+  pub whole_a : (node (sample_view maps) at_a).standing ≡ Whole
+  pub below_a : entries_below (sample_view maps) at_a ≡ []
+  pub whole_b : (node (sample_view maps) (at_b maps)).standing ≡ Whole
+  pub below_b : entries_below (sample_view maps) (at_b maps) ≡ []
+
+-- so it is in each sample volume
+abbrev pub HaveSampleNodes : Type 0
+HaveSampleNodes = (maps : Maps) → AreSampleNodes maps

@@ -1,6 +1,6 @@
 //! Laws of the walk over all routes, each the contract of a function that does nothing.
 ghost use Rattle.udfs_walk.specs.Laws.{MoreRoutes, NoMoreRoutes, NodeCells, OnlyWalk, PathsHaveParts, RoutesStandOnce, SomeWalk};
-ghost use Rattle.udfs_walk.specs.Sample.{AreSampleNodes};
+ghost use Rattle.udfs_walk.specs.Sample.{HaveSampleNodes};
 
 /// Every volume has a walk: at most 64 names lead anywhere.
 pub fn some_walk()
@@ -40,7 +40,7 @@ pub fn node_has_cells()
     ensures { NodeCells }
 {}
 
-/// In the sample volume the root and the files A and B are whole nodes, and nothing else is reached.
+/// In each sample volume the root and the files A and B are whole nodes, and nothing else is reached.
 pub fn sample_nodes_are_whole()
-    ensures { AreSampleNodes }
+    ensures { HaveSampleNodes }
 {}
