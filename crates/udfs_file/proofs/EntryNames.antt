@@ -1,5 +1,5 @@
 -- The names of a directory's entries can stand in a path.
-use Rattle.std.proofs.Common.{◌≡◌, refl, sym, ◌∙◌, ap, subst, inl, inr, ◌⊎◌, ℕ, ◌+◌, Bool, true, false, List, [], ◌∷◌, length, take, drop, map, cond, Option, Some, None}
+use Rattle.std.proofs.Common.{◌≡◌, refl, sym, ◌∙◌, ap, subst, inl, inr, ℕ, ◌+◌, Bool, true, false, List, [], ◌∷◌, length, take, drop, map, cond, Option, Some, None}
 use Rattle.std.specs.Prelude.{Result, Ok, Err}
 use Rattle.std.specs.List.{cons_option}
 use Rattle.udfs_lattice.specs.Volumes.{Includes}
@@ -9,8 +9,8 @@ use Rattle.udfs_osta.specs.Parts.{IsPathPart}
 use Rattle.udfs_osta.specs.declared.names.NameFault.{NameFault}
 use Rattle.udfs_osta.proofs.PublicLaws.{escaped_name_is_path_part}
 use Rattle.udfs_tag.specs.Fields.{uint8_at, uint16_at, long_ad_at, part}
-use Rattle.udfs_file.specs.Fronts.{directory, entry_with, identifier_in, is_listed, listed_entries, entries_of, marks_of, step, ReadsAs, value}
-use Rattle.udfs_file.specs.Identifiers.{Identifier, Rest, Step, One, AtRest}
+use Rattle.udfs_file.specs.Fronts.{directory, entry_with, identifier_in, is_listed, listed_entries, marks_of, step, ReadsAs, value}
+use Rattle.udfs_file.specs.Identifiers.{Identifier, Rest, Step, One}
 use Rattle.udfs_file.specs.Laws.{NamesAreParts}
 use Rattle.udfs_file.specs.declared.cells.Cell.{Cell}
 use Rattle.udfs_file.specs.declared.directories.DirEntry.{DirEntry}

@@ -17,7 +17,7 @@ use Rattle.udfs_file.specs.Bodies.{body, descriptors, used}
 use Rattle.udfs_file.specs.Entries.{entry_fault, entry_of}
 use Rattle.udfs_file.specs.Fronts.{directory, step}
 use Rattle.udfs_file.specs.declared.faults.Kind.TheVariants.{Directory, File}
-use Rattle.udfs_file.specs.Sample.{AreSampleFiles, HaveSampleFiles, IsSampleFile, SampleFileSet, a_cells, b_cells, icb_of_a, icb_of_b, root_cells, sample_root, a_block, b_block, directory_block, file_set_block, root_block, logical_block, sample_contents, sample_view}
+use Rattle.udfs_file.specs.Sample.{HaveSampleFiles, IsSampleFile, SampleFileSet, a_cells, b_cells, icb_of_a, icb_of_b, root_cells, sample_root, a_block, b_block, directory_block, file_set_block, root_block, logical_block, sample_contents, sample_view}
 
 below_256 : (x : ℕ) → nat_lt x 256 ≡ true → x < 256
 below_256 x e = let l : suc x ≤ 256 = leb-true (suc x) 256 e in omega (arith, l)

@@ -12,20 +12,19 @@ use Rattle.udfs_tag.specs.declared.layouts.LongAd.{LongAd}
 use Rattle.udfs_tag.specs.Faults.{first_fault}
 use Rattle.udfs_tag.specs.Fields.{part, uint32_at}
 use Rattle.udfs_tag.specs.Tags.{is_valid}
-use Rattle.udfs_space.specs.Places.{View, block_at}
+use Rattle.udfs_space.specs.Places.{View}
 use Rattle.udfs_file.specs.Entries.{EntryFields, descriptor_size}
 use Rattle.udfs_file.specs.Bodies.{Next, no_more, area_at, broken, Descriptors, covers, cells_in, extent_fault, continuation_fault, next_of, next_if, next_area, next_descriptor, descriptors_in, joined, no_descriptors, chain, descriptors, extent_cells, Body, cells, faulty_body, body_unless, extents_body, embedded_body, body}
 use Rattle.udfs_file.specs.declared.cells.Cell.{Cell}
 use Rattle.udfs_file.specs.declared.cells.Cell.TheVariants.{Byte}
-use Rattle.udfs_file.specs.declared.faults.NodeFault.{NodeFault}
 use Rattle.udfs_file.specs.declared.faults.NodeFault.TheVariants.{Short, Chain, Range, Reference, Odd}
 use Rattle.udfs_file.specs.Standard.{Located, block_bytes, extent_bytes, up_to_end, IsExtentAt, IsExtentOf, AreExtentsOf, IsJoined, IsExtentsBody, IsEmbeddedBody, IsBodyOf}
 use Rattle.udfs_file.specs.Complete.{HasPartitions, IsReadBody, IsWhole, StandardBodies, as_cells}
 use Rattle.udfs_file.proofs.BodyFrom.{from, le_or_lt, body-from, is_lt, not_le, not_lt}
 use Rattle.udfs_file.proofs.BodyFrom as front
-use Rattle.udfs_file.proofs.Parts.{cells-same, from-done, from-on}
+use Rattle.udfs_file.proofs.Parts.{from-done, from-on}
 use Rattle.udfs_file.proofs.ChainFits.{is_other, next-cons, onto}
-use Rattle.udfs_file.proofs.WholeBodies.{IsJoinedBy, area-cons, area_chain, body_law, bytes_of, is_three, joined_by, not_three}
+use Rattle.udfs_file.proofs.WholeBodies.{IsJoinedBy, area-cons, area_chain, body_law, bytes_of, is_three, not_three}
 
 -- the body has no fault
 abbrev HasCells : Body → Type 0

@@ -1,14 +1,13 @@
 -- A directory whose body is a list of descriptors lists these, and has no fault.
-use Rattle.std.proofs.Common.{◌≡◌, refl, sym, ◌∙◌, ap, subst, ℕ, ◌+◌, ◌<◌, ◌≤◌, inl, inr, Bool, true, false, List, [], ◌∷◌, ◌++◌, length, take, drop, map, cond, ◌||◌, arith, Option, Some, None, nat_lt}
+use Rattle.std.proofs.Common.{◌≡◌, refl, sym, ◌∙◌, ap, subst, ℕ, ◌+◌, ◌≤◌, inl, inr, Bool, true, false, List, [], ◌∷◌, ◌++◌, length, take, drop, map, cond, ◌||◌, arith, Option, Some, None, nat_lt}
 use Rattle.std.specs.Prelude.{zero, suc, Result, Ok, Err}
 use Rattle.std.proofs.lemmas.List.{length-append, length-map}
 use Rattle.std.proofs.Math.Seq.{take-append_seam, drop-append_seam}
 use Rattle.udfs_osta.specs.Names.{units_of}
 use Rattle.udfs_osta.specs.declared.names.NameFault.{NameFault}
 use Rattle.udfs_tag.specs.Fields.{uint8_at, uint16_at, part}
-use Rattle.udfs_tag.specs.Tags.{is_valid}
 use Rattle.udfs_file.specs.Complete.{AreShort, DescriptorsAreShort, StandardDirectories, as_cell, as_cells}
-use Rattle.udfs_file.specs.Fronts.{checked_identifier, directory, entry_with, first_missing, holder_of, identifier_in, identifier_size, is_listed, or_stop, sized_identifier, some_step, step, value, ReadsAs}
+use Rattle.udfs_file.specs.Fronts.{checked_identifier, directory, entry_with, first_missing, holder_of, identifier_in, identifier_size, is_listed, or_stop, sized_identifier, step, value, ReadsAs}
 use Rattle.udfs_file.specs.Identifiers.{Identifier, Rest, Nothing, Wrong, Step, AtRest, One}
 use Rattle.udfs_file.specs.Standard.{Located, IsDirectoryBody, IsIdentifierIn}
 use Rattle.udfs_file.specs.declared.cells.Cell.{Cell}

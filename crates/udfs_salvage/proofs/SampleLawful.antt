@@ -8,7 +8,6 @@ use Rattle.udfs_space.specs.Sample.{sample_space}
 use Rattle.udfs_space.proofs.PublicLaws.{sample_places_are_lawful}
 use Rattle.udfs_file.specs.Sample.{sample_contents, sample_root}
 use Rattle.udfs_file.proofs.PublicLaws.{sample_file_set_is_found}
-use Rattle.udfs_tree.specs.Trees.{TreeFile, InTree}
 use Rattle.udfs_tree.specs.Sample.{HasSampleFiles}
 use Rattle.udfs_tree.proofs.PublicLaws.{sample_tree_is_lawful}
 use Rattle.udfs_salvage.specs.Found.{Found, placed, rooted, volume as volume_of}

@@ -1,9 +1,9 @@
 -- A lawful tree is sound: what is whole is what the standard reads, and nothing lies in itself.
 use Rattle.std.proofs.Common.{◌≡◌, ◌≢◌, refl, sym, ◌∙◌, ap, subst, inl, inr, ◌⊎◌, ℕ, ◌+◌, ◌<◌, ◌≤◌, Bool, true, false, List, [], ◌∷◌, ◌++◌, length, cond, ◌&&◌, ◌||◌, arith, map, Option, Some, None, slice_get, nat_le}
-use Rattle.std.specs.Prelude.{zero, suc, AllPairs, IsSome, ◌==◌}
-use Rattle.std.specs.List.{list_any, AllZip}
+use Rattle.std.specs.Prelude.{zero, suc, AllPairs, IsSome}
+use Rattle.std.specs.List.{list_any}
 use Rattle.std.proofs.lemmas.Bool.{eq-eqb, leb-false}
-use Rattle.std.proofs.lemmas.List.{append_assoc, length-append, length-map}
+use Rattle.std.proofs.lemmas.List.{length-append, length-map}
 use Rattle.udfs_lattice.specs.Volumes.{Includes}
 use Rattle.udfs_tag.specs.declared.layouts.LongAd.{LongAd}
 use Rattle.udfs_space.specs.Places.{View}
@@ -17,12 +17,12 @@ use Rattle.udfs_file.proofs.PublicLaws.{descriptors_are_short}
 use Rattle.udfs_walk.specs.Routes.{Route, Walked, at_root, below, entries_below, is_deep, is_loop, target_entries, walk_from, walked, IsWalk}
 use Rattle.udfs_walk.specs.Targets.{Icb, icb_of, is_icb, target}
 use Rattle.udfs_walk.proofs.PublicLaws.{more_routes, some_walk}
-use Rattle.udfs_tree.specs.Lawful.{AreWhole, IsLawfulTree}
+use Rattle.udfs_tree.specs.Lawful.{IsLawfulTree}
 use Rattle.udfs_tree.specs.Sound.{IsSoundTree, LeadsOn, Path, StandOnce}
 use Rattle.udfs_tree.specs.Trees.{PartitionBlocks, TreeFile, IsFileAt, IsDirectoryAt, Leads}
 use Rattle.udfs_tree.proofs.Listed.{get_zip}
 use Rattle.udfs_tree.proofs.WholeFiles.{IsReadFile, IsReadDirectoryAt, directory_at_law}
-use Rattle.udfs_tree.proofs.WholeRoutes.{AllWhole, IsRouteTo, Open, RoutesArePaths, Step, Up, WholeAt, entries_are, file_at, get_includes, includes_get, longer, open_at, route_law, step_inv, step_on, up, whole_at}
+use Rattle.udfs_tree.proofs.WholeRoutes.{AllWhole, IsRouteTo, Open, Step, Up, WholeAt, entries_are, file_at, includes_get, longer, open_at, route_law, step_inv, step_on, up, whole_at}
 
 -- ---- what stands at the end of a path
 record End (all : View) (blocks : PartitionBlocks) (root : LongAd) (path : Path) (a : LongAd) : Type 0 where

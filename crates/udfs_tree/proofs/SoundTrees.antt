@@ -1,7 +1,7 @@
 -- A sound tree is lawful: over a complete view whatever a route leads to is whole.
 use Rattle.std.proofs.Common.{◌≡◌, ◌≢◌, refl, sym, ◌∙◌, ap, subst, inl, inr, ◌⊎◌, ℕ, ◌+◌, ◌<◌, ◌≤◌, Bool, true, false, not, List, [], ◌∷◌, ◌++◌, length, cond, ◌&&◌, ◌||◌, arith, map, Option, Some, None, slice_get, nat_le, is_none}
-use Rattle.std.specs.Prelude.{zero, suc, AllPairs, IsSome, option_map, ◌==◌}
-use Rattle.std.specs.List.{list_any, AllZip}
+use Rattle.std.specs.Prelude.{suc, AllPairs, IsSome, option_map, ◌==◌}
+use Rattle.std.specs.List.{list_any}
 use Rattle.std.proofs.lemmas.Bool.{eqb-true, leb-true}
 use Rattle.std.proofs.lemmas.List.{length-append, length-map}
 use Rattle.udfs_lattice.specs.Volumes.{Includes, ascending}
@@ -11,9 +11,9 @@ use Rattle.udfs_tag.specs.Faults.{first_fault}
 use Rattle.udfs_volume.specs.Sequence.{Bytes}
 use Rattle.udfs_space.specs.Places.{View}
 use Rattle.udfs_file.specs.Addresses.{address_fault}
-use Rattle.udfs_file.specs.Bodies.{Body, cells, body}
+use Rattle.udfs_file.specs.Bodies.{cells, body}
 use Rattle.udfs_file.specs.Complete.{AreShort, HasPartitions, IsWhole, as_cells}
-use Rattle.udfs_file.specs.Entries.{EntryFields, entry_of}
+use Rattle.udfs_file.specs.Entries.{entry_of}
 use Rattle.udfs_file.specs.Fronts.{directory, entries_of, fault_in, listed_entries}
 use Rattle.udfs_file.specs.Identifiers.{Identifier, Nothing}
 use Rattle.udfs_file.specs.Standard.{Located, IsDirectoryBody}
@@ -26,13 +26,12 @@ use Rattle.udfs_file.proofs.PublicLaws.{standard_bodies_are_read, standard_direc
 use Rattle.udfs_walk.specs.Nodes.{node, node_at}
 use Rattle.udfs_walk.specs.Routes.{Route, Walked, at_root, below, entries_below, is_deep, is_loop, walk_from, walked, HasMoreRoutes}
 use Rattle.udfs_walk.specs.Standings.{body_standing, cells_standing, depth_or, kind_standing, missing_blocks, runs_from, torn_or_whole, unless_fault}
-use Rattle.udfs_walk.specs.Targets.{Icb, icb_of, is_icb, Target, entry, entry_unless, target, target_at, target_in}
-use Rattle.udfs_walk.specs.declared.standings.Standing.{Standing}
+use Rattle.udfs_walk.specs.Targets.{Icb, icb_of, is_icb, entry, entry_unless, target, target_at, target_in}
 use Rattle.udfs_walk.specs.declared.standings.Standing.TheVariants.{Whole, Loop}
 use Rattle.udfs_walk.proofs.PublicLaws.{routes_stand_once}
 use Rattle.udfs_tree.specs.Lawful.{AreDistinct, AreWhole, IsLawfulTree}
 use Rattle.udfs_tree.specs.Sound.{IsSoundTree, LeadsOn, Path, StandOnce}
-use Rattle.udfs_tree.specs.Trees.{PartitionBlocks, TreeFile, IsFileAt, IsDirectoryAt, Leads}
+use Rattle.udfs_tree.specs.Trees.{PartitionBlocks, TreeFile, IsFileAt, Leads}
 use Rattle.udfs_tree.proofs.Listed.{map_get}
 use Rattle.udfs_tree.proofs.WholeFiles.{IsReadDirectoryAt, directory_at_law}
 use Rattle.udfs_tree.proofs.WholeRoutes.{Goes, Open, RoutesArePaths, Step, WholeAt, entries_are, entries_by, get_includes, goes, open_at, route_law, step_inv, whole_at}

@@ -11,7 +11,7 @@ use Rattle.udfs_file.specs.declared.faults.Kind.{Kind}
 use Rattle.udfs_file.proofs.PublicLaws.{sample_files_are_read}
 use Rattle.udfs_walk.specs.Nodes.{node, node_at}
 use Rattle.udfs_walk.specs.Routes.{Walked, entries_below, is_deep, is_loop, kind_entries, target_entries}
-use Rattle.udfs_walk.specs.Sample.{AreSampleNodes, HaveSampleNodes, at_a, at_b, top}
+use Rattle.udfs_walk.specs.Sample.{HaveSampleNodes, at_a, at_b, top}
 use Rattle.udfs_walk.specs.Standings.{body_standing, cells_standing, depth_or, unless_fault}
 use Rattle.udfs_walk.specs.Targets.{entry, entry_unless, target, target_at}
 use Rattle.udfs_walk.specs.declared.standings.Standing.TheVariants.{Whole, Loop}
