@@ -12,7 +12,7 @@ use Rattle.udfs_file.specs.declared.cells.Cell.{Cell}
 use Rattle.udfs_files.specs.Disk.{Disk}
 use Rattle.udfs_reading.specs.Writing.{Wrote, Failed as WriteFailed}
 use Rattle.udfs_walk.specs.NodeFields.{NodeFields}
-use Rattle.udfs_salvage.specs.Extraction.{HasCellsAt, fill_byte, filled}
+use Rattle.udfs_salvage.specs.Extraction.{HasCellsIn, fill_byte, filled}
 use Rattle.udfs_salvage.specs.NodeTexts.{names_text}
 use Rattle.udfs_salvage.specs.Texts.{line, volume_line}
 use Rattle.udfs_salvage.specs.Found.{Found}
@@ -103,7 +103,7 @@ pub record IsSafe (holds : List ℕ → Option (Option (List ℕ))) (moment : �
 pub record IsPut (tells fails : Type 0) (table : Table) (report : Report) (fill : Fill) (folder : List ℕ) (holds : List ℕ → Option (Option (List ℕ))) (moment : ℕ) (left_since : ℕ → Disk → Type 0)
     (index : ℕ) (n : NodeFields) (fate : Fate) : Type 0 where
   pub done : IsFateOf (deed n.kind n.standing n.size fill) fate
-  pub written : fate ≡ Written → tells → (last : ℕ) → IsReport (state_of table) last report → (cs : List Cell) × HasCellsAt (state_of table) last index cs
+  pub written : fate ≡ Written → tells → (last : ℕ) → IsReport (state_of table) last report → (cs : List Cell) × HasCellsIn (state_of table) last index cs
       × IsSafe holds moment left_since (path_below folder n.path) (filled (fill_byte fill) cs)
   pub failed : is_good fate ≡ false → (last : ℕ) → IsReport (state_of table) last report → fails
 

@@ -7,7 +7,7 @@ ghost use Rattle.udfs_files.specs.Disk.{Disk, Same, SameBut, Goes, Fails};
 ghost use Rattle.udfs_lattice.specs.Tables.{state_of};
 ghost use Rattle.udfs_walk.specs.NodeFields.{NodeFields};
 ghost use Rattle.udfs_salvage.specs.declared.extraction.ExtractError.TheVariants as extract_error;
-ghost use Rattle.udfs_salvage.specs.Extraction.{HasCellsAt, fill_byte, filled, is_offered};
+ghost use Rattle.udfs_salvage.specs.Extraction.{HasCellsIn, fill_byte, filled, is_offered};
 ghost use Rattle.udfs_salvage.specs.NodeTexts.{names_text};
 ghost use Rattle.udfs_salvage.specs.Reports.{IsReport, report_now};
 ghost use Rattle.udfs_salvage.specs.Texts.{line};
@@ -144,7 +144,7 @@ impl<'a, 'r> Job for NodeBytes<'a, 'r> {
 
     ghost wrote = { λ job old new. (last : ℕ) (n : NodeFields) → (job.index < length job.report.now.nodes.items) →
         IsReport (state_of job.report.now.table.now) last (report_now job.report.now) → slice_get job.report.now.nodes.items job.index ≡ Some n → is_offered n.standing n.size job.fill ≡ true →
-        (cs : List Cell) × HasCellsAt (state_of job.report.now.table.now) last job.index cs × Appends old new (filled (fill_byte job.fill) cs) };
+        (cs : List Cell) × HasCellsIn (state_of job.report.now.table.now) last job.index cs × Appends old new (filled (fill_byte job.fill) cs) };
 
     ghost blames_sink = { λ job refusal. (refusal ≢ extract_error.OutOfMemory) × (job.index < length job.report.now.nodes.items) × (last : ℕ) × (n : NodeFields) ×
         IsReport (state_of job.report.now.table.now) last (report_now job.report.now) × (slice_get job.report.now.nodes.items job.index ≡ Some n) × (is_offered n.standing n.size job.fill ≡ true) };
@@ -207,7 +207,7 @@ fn fill_file<F: Files>(
     requires open { F.holds files.old path.now ≡ None }
     ensures written { IfOk result (λ fate. fate ≡ Fate.Written → F.tells → (last : ℕ) (n : NodeFields) →
         IsReport (state_of report.now.table.now) last (report_now report.now) → slice_get report.now.nodes.items index ≡ Some n → is_offered n.standing n.size fill ≡ true →
-        (cs : List Cell) × HasCellsAt (state_of report.now.table.now) last index cs × IsKept (F.holds files.new) (F.may_leave files.new) path.now (filled (fill_byte fill) cs)) }
+        (cs : List Cell) × HasCellsIn (state_of report.now.table.now) last index cs × IsKept (F.holds files.new) (F.may_leave files.new) path.now (filled (fill_byte fill) cs)) }
     ensures gone { IfOk result (λ fate. fate ≡ Fate.Failed → F.tells → F.holds files.new path.now ≡ Some None) }
     ensures fate { IfOk result (λ fate. IsFateOf Deed.File fate) }
     ensures cause { IfOk result (λ fate. fate ≢ Fate.Written → (last : ℕ) (n : NodeFields) →
@@ -244,7 +244,7 @@ fn write_file<F: Files>(
     requires { index < length report.now.nodes.items }
     ensures written { IfOk result (λ fate. fate ≡ Fate.Written → F.tells → (last : ℕ) (n : NodeFields) →
         IsReport (state_of report.now.table.now) last (report_now report.now) → slice_get report.now.nodes.items index ≡ Some n → is_offered n.standing n.size fill ≡ true →
-        (cs : List Cell) × HasCellsAt (state_of report.now.table.now) last index cs × IsKept (F.holds files.new) (F.may_leave files.new) path.now (filled (fill_byte fill) cs)) }
+        (cs : List Cell) × HasCellsIn (state_of report.now.table.now) last index cs × IsKept (F.holds files.new) (F.may_leave files.new) path.now (filled (fill_byte fill) cs)) }
     ensures gone { IfOk result (λ fate. fate ≡ Fate.Failed → F.tells → F.holds files.new path.now ≡ F.holds files.old path.now) }
     ensures fate { IfOk result (λ fate. IsFateOf Deed.File fate) }
     ensures cause { IfOk result (λ fate. fate ≢ Fate.Written → (last : ℕ) (n : NodeFields) →

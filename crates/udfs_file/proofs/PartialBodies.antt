@@ -147,8 +147,10 @@ pub partial_bodies : PartialBodies
 partial_bodies s w p r b e whole q = let part : PartIs (body s r b e) whole = part_body s w p r b e whole q in record {
   part = part.part;
   is = part.is;
-  each = part.each;
-  names = λ k. (gaps_of s w p r b e whole part.part q part.is (AllZip-length part.part whole part.each) k).names;
-  gaps = λ k. (gaps_of s w p r b e whole part.part q part.is (AllZip-length part.part whole part.each) k).gaps;
+  cells_are = record {
+    each = part.each;
+    names = λ k. (gaps_of s w p r b e whole part.part q part.is (AllZip-length part.part whole part.each) k).names;
+    gaps = λ k. (gaps_of s w p r b e whole part.part q part.is (AllZip-length part.part whole part.each) k).gaps;
+  };
   inside = partial_directory part.part whole part.each;
 }

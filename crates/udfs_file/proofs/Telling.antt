@@ -16,7 +16,7 @@ use Rattle.udfs_file.specs.Complete.{as_cells}
 use Rattle.udfs_file.specs.Fronts.{first_missing, value, holder_of, identifier_size, or_stop, checked_identifier, sized_identifier, step, DirectoryText, read_on, read_from, directory, listed_entries, entries_of, missing_in, fault_in, IsFrontOf}
 use Rattle.udfs_file.specs.Laws.{IsCellOf, IsBeginningOf, IsClearTo, end_of, IsPartialBody, IsPartialDirectory, IsPartialFileSet, known, unread}
 use Rattle.udfs_file.specs.Stretches.{cells_of, Gives}
-use Rattle.udfs_file.specs.Told.{IsRootOf, TellsFileSet, IsBodyPart, TellsBody, TellsFront}
+use Rattle.udfs_file.specs.Told.{IsRootOf, TellsFileSet, IsToldBody, TellsBody, TellsFront}
 use Rattle.udfs_file.specs.declared.cells.Cell.{Cell}
 use Rattle.udfs_file.specs.declared.cells.Cell.TheVariants.{Byte, Gap}
 use Rattle.udfs_file.specs.declared.directories.DirEntry.{DirEntry}
@@ -67,11 +67,9 @@ tells_body : (some : View) (r b : ℕ) (entry : EntryFields) (told : Result (Lis
     → TellsBody some r b entry told
 tells_body some r b entry (Ok stretches) g all p whole e =
     let law : IsPartialBody some all r b entry whole = partial_bodies some all p r b entry whole e in
-    subst (λ cs. IsBodyPart some all r b entry cs whole) (cells-same law.part (cells_of some stretches) (sym law.is ∙ g)) (record {
+    subst (λ cs. IsToldBody some all r b entry cs whole) (cells-same law.part (cells_of some stretches) (sym law.is ∙ g)) (record {
       size = body_length some r b entry law.part law.is;
-      each = law.each;
-      names = law.names;
-      gaps = law.gaps;
+      cells_are = law.cells_are;
       standard = λ blocks w. body_law all blocks w r b entry whole e;
     })
 tells_body some r b entry (Err (walk_error.Fault fault)) g all p whole e =

@@ -65,15 +65,19 @@ abbrev pub PartialFileSet : Type 0
 PartialFileSet = (some all : View) → IsPartOf some all → (a root : LongAd) → file_set all a ≡ found root
     → (n : ℕ) × (all.place a.reference a.block ≡ Some n) × IsPartialFileSet some n a root
 
--- What a body is of which the whole is known to have no fault.
-pub record IsPartialBody (some all : View) (r b : ℕ) (entry : EntryFields) (whole : List Cell) : Type 0 where
-  pub part : List Cell
-  pub is : body some r b entry ≡ cells part
+-- The cells of a body in a part of a view, beside those of the whole.
+pub record ArePartOf (some all : View) (r : ℕ) (entry : EntryFields) (part whole : List Cell) : Type 0 where
   pub each : AllZip IsCellOf part whole
   -- the block that a missing cell names is not known, and the cell needs it
   pub names : (k n : ℕ) → slice_get part k ≡ Some (Gap n) → (is_known (some.blocks n) ≡ false) × IsNeededFor all r entry k n
   -- a cell is missing exactly if some block that it needs is not known
   pub gaps : (k : ℕ) → IsMissingAt part k ↔ ((n : ℕ) × (is_known (some.blocks n) ≡ false) × IsNeededFor all r entry k n)
+
+-- What a body is of which the whole is known to have no fault.
+pub record IsPartialBody (some all : View) (r b : ℕ) (entry : EntryFields) (whole : List Cell) : Type 0 where
+  pub part : List Cell
+  pub is : body some r b entry ≡ cells part
+  pub cells_are : ArePartOf some all r entry part whole
   pub inside : IsPartialDirectory part whole
 
 -- Over any view that is part of a complete one: where the complete body has no fault, this body has none, each

@@ -51,19 +51,15 @@ TellsFileSet some a told = (all : View) → IsPartOf some all → (root : LongAd
     → IsFileSetTold some all a root told
 
 -- ---- a body
--- the cells of a body that is without a fault in the complete view
-pub record IsBodyPart (some all : View) (r b : ℕ) (entry : EntryFields) (part whole : List Cell) : Type 0 where
+-- a body that is without a fault in the complete view
+pub record IsToldBody (some all : View) (r b : ℕ) (entry : EntryFields) (part whole : List Cell) : Type 0 where
   pub size : length part ≡ entry.size
-  pub each : AllZip IsCellOf part whole
-  -- the block that a missing cell names is not known, and the cell needs it
-  pub names : (k n : ℕ) → slice_get part k ≡ Some (Gap n) → (is_known (some.blocks n) ≡ false) × IsNeededFor all r entry k n
-  -- a cell is missing exactly if some block that it needs is not known
-  pub gaps : (k : ℕ) → IsMissingAt part k ↔ ((n : ℕ) × (is_known (some.blocks n) ≡ false) × IsNeededFor all r entry k n)
+  pub cells_are : ArePartOf some all r entry part whole
   pub standard : (blocks : ℕ → ℕ → Option Bytes) → IsWhole all blocks → IsReadBody blocks r b entry whole
 
 -- such a body has no fault in a part of the view; memory may be wanted
 abbrev pub IsBodyTold : View → View → ℕ → ℕ → EntryFields → List Cell → Result (List Stretch) WalkError → Type 0
-IsBodyTold some all r b entry whole (Ok stretches) = IsBodyPart some all r b entry (cells_of some stretches) whole
+IsBodyTold some all r b entry whole (Ok stretches) = IsToldBody some all r b entry (cells_of some stretches) whole
 IsBodyTold some all r b entry whole (Err (walk_error.Fault fault)) = ⊥
 IsBodyTold some all r b entry whole (Err walk_error.OutOfMemory) = ⊤
 

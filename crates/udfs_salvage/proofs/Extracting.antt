@@ -15,7 +15,7 @@ use Rattle.udfs_walk.specs.declared.standings.Standing.TheVariants.{Whole, Torn,
 use Rattle.udfs_walk.proofs.PublicLaws.{node_has_cells}
 use Rattle.udfs_salvage.specs.Found.{Found}
 use Rattle.udfs_salvage.specs.Reports.{Report, IsReport, ReportsBy, ReportsNodes}
-use Rattle.udfs_salvage.specs.Extraction.{Extracts, HasCellsAt, is_offered}
+use Rattle.udfs_salvage.specs.Extraction.{Extracts, HasCellsIn, is_offered}
 use Rattle.udfs_salvage.specs.declared.extraction.Fill.{Fill}
 use Rattle.udfs_salvage.specs.declared.extraction.ExtractError.{ExtractError}
 use Rattle.udfs_salvage.specs.declared.extraction.ExtractError.TheVariants.{NotWhole, Write, OutOfMemory}
@@ -30,17 +30,13 @@ offered_body (Fault f) size fill o = absurd (let z : ⊥ = cc in z)
 
 -- the cells of a node that is to be written, at the end of its route and at its address
 pub report_cells : (blocks : Blocks) (last i : ℕ) (r : Report) (f : Found) (n : NodeFields) (fill : Fill) → IsReport blocks last r → r.volume ≡ found f
-    → slice_get r.nodes i ≡ Some n → is_offered n.standing n.size fill ≡ true → (cs : List Cell) × HasCellsAt blocks last i cs × HasCells (view blocks f.space) n.icb cs
+    → slice_get r.nodes i ≡ Some n → is_offered n.standing n.size fill ≡ true → (cs : List Cell) × HasCellsIn blocks last i cs × HasCells (view blocks f.space) n.icb cs
 report_cells blocks last i r f n fill is opens at offered = (
   there.3.0,
   record {
     opened = f;
     opens = sym is.volume_is ∙ opens;
-    walks = listed.nodes_are.walks;
-    walk = listed.nodes_are.walk;
-    end = there.0;
-    at = there.1;
-    has_cells = there.3.1;
+    has_cells = record { walks = listed.nodes_are.walks; walk = listed.nodes_are.walk; end = there.0; at = there.1; has_cells = there.3.1 };
   },
   subst (λ a. HasCells (view blocks f.space) a there.3.0) (sym there.2) there.3.1,
 )

@@ -15,7 +15,8 @@ use Rattle.udfs_walk.specs.declared.answers.Unnamed.{Unnamed}
 use Rattle.udfs_salvage.specs.Found.{Found}
 use Rattle.udfs_salvage.specs.Reports.{Report}
 use Rattle.udfs_salvage.specs.Texts.{has_two}
-use Rattle.udfs_salvage.specs.JsonNodes.{count, hole_data, holes_of, list_data, missing_of, node_data, size_data, time_data, unnamed_data}
+use Rattle.udfs_walk.specs.Rereads.{holes_of, missing_of}
+use Rattle.udfs_salvage.specs.JsonNodes.{count, hole_data, list_data, node_data, size_data, time_data, unnamed_data}
 use Rattle.udfs_salvage.specs.JsonReports.{label_data, label_of, map_name, open_members, packet_of, report_data, reread_data, volume_data, with_maps, with_packet}
 
 none_in : {A : Type 0} (f : A → Data) (xs : List A) → ((x : A) → has_float (f x) ≡ false) → has_float (list_data f xs) ≡ false

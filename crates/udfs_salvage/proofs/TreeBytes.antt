@@ -13,13 +13,13 @@ use Rattle.udfs_file.specs.declared.cells.Cell.TheVariants.{Byte, Gap}
 use Rattle.udfs_walk.specs.NodeFields.{NodeFields}
 use Rattle.udfs_walk.specs.declared.standings.Standing.{Standing}
 use Rattle.udfs_walk.specs.declared.standings.Standing.TheVariants.{Whole, Torn, Loop, Fault}
-use Rattle.udfs_tree.specs.Cells.{IsByteOf, IsByteOrMissing, IsToldAs, IsTornAs, IsUntold, holes_of}
+use Rattle.udfs_walk.specs.Rereads.{holes_of}
+use Rattle.udfs_tree.specs.Cells.{HasCellsAt, IsByteOf, IsByteOrMissing, IsToldAs, IsTornAs, IsUntold}
 use Rattle.udfs_tree.specs.Laws.{IsTold}
-use Rattle.udfs_tree.specs.Cells as tree
 use Rattle.udfs_tree.proofs.PublicLaws.{one_reading}
 use Rattle.udfs_salvage.specs.Found.{Found, volume as volume_of}
 use Rattle.udfs_salvage.specs.Reports.{Report, IsReport}
-use Rattle.udfs_salvage.specs.Extraction.{HasCellsAt, cell_byte, filled, is_offered}
+use Rattle.udfs_salvage.specs.Extraction.{HasCellsIn, cell_byte, filled, is_offered}
 use Rattle.udfs_salvage.specs.TreeReports.{AreFilled, FillsFile, IsNodeOfVolume, IsReportedAs, WritesFile, file_bytes}
 use Rattle.udfs_salvage.specs.declared.extraction.Fill.{Fill}
 use Rattle.udfs_salvage.proofs.Founds.{found_same}
@@ -35,18 +35,12 @@ all_there x (Byte b o ∷ cs) (l ∷ ls) z = λ i. z.0 i ∷ all_there x cs ls z
 all_there x (Gap n ∷ cs) (l ∷ ls) z = absurd z.0
 
 -- the cells at a place of a report, as the tree's laws say it
-as_tree : (M : Blocks) (N index : ℕ) (cs : List Cell) (f : Found) → volume_of M N ≡ found f → HasCellsAt M N index cs → tree.HasCellsAt (view M f.space) f.root index cs
-as_tree M N index cs f e h = subst (λ (g : Found). tree.HasCellsAt (view M g.space) g.root index cs) (found_same h.opened f (sym h.opens ∙ e)) (record {
-  walks = h.walks;
-  walk = h.walk;
-  end = h.end;
-  at = h.at;
-  has_cells = record { fields = h.has_cells.fields; is_entry = h.has_cells.is_entry; has_body = h.has_cells.has_body };
-})
+as_tree : (M : Blocks) (N index : ℕ) (cs : List Cell) (f : Found) → volume_of M N ≡ found f → HasCellsIn M N index cs → HasCellsAt (view M f.space) f.root index cs
+as_tree M N index cs f e h = subst (λ (g : Found). HasCellsAt (view M g.space) g.root index cs) (found_same h.opened f (sym h.opens ∙ e)) h.has_cells
 
 -- what holds of the cells that are written holds of the file's bytes
 pub writes_file : (M : Blocks) (N index : ℕ) (report : Report) (fill : ℕ) (Writes : List ℕ → Type 0) → IsReport M N report → (n : NodeFields) → slice_get report.nodes index ≡ Some n → n.standing ≡ Whole
-    → ((cs : List Cell) × HasCellsAt M N index cs × Writes (filled fill cs)) → WritesFile M N report index n Writes
+    → ((cs : List Cell) × HasCellsIn M N index cs × Writes (filled fill cs)) → WritesFile M N report index n Writes
 writes_file M N index report fill Writes is n at whole w V lawful agrees = (y.file, y.in_volume, told.2.told, subst Writes (all_there fill cs y.file.body bytes) w.2)
   where
     y : IsNodeOfVolume M V N report.volume index n
@@ -89,7 +83,7 @@ as_long x (c ∷ cs) (l ∷ ls) z = ap suc (as_long x cs ls z.1)
 
 -- what holds of the cells that are written holds of the file's bytes, with the node's holes filled
 pub fills_file : (M : Blocks) (N index : ℕ) (report : Report) (fill : ℕ) (given : Fill) (Writes : List ℕ → Type 0) → IsReport M N report → (n : NodeFields) → slice_get report.nodes index ≡ Some n
-    → is_offered n.standing n.size given ≡ true → ((cs : List Cell) × HasCellsAt M N index cs × Writes (filled fill cs)) → FillsFile M N n fill Writes
+    → is_offered n.standing n.size given ≡ true → ((cs : List Cell) × HasCellsIn M N index cs × Writes (filled fill cs)) → FillsFile M N n fill Writes
 fills_file M N index report fill given Writes is n at offered w V lawful agrees = (y.file, y.in_volume, told.2.told, (filled fill cs, bytes, w.2))
   where
     y : IsNodeOfVolume M V N report.volume index n
@@ -102,11 +96,11 @@ fills_file M N index report fill given Writes is n at offered w V lawful agrees 
     known u Loop e = let z : false ≡ true = sym (ap (λ s. is_offered s n.size given) e) ∙ offered in let q : ⊥ = cc in q
     known u (Fault f) e = let z : false ≡ true = sym (ap (λ s. is_offered s n.size given) e) ∙ offered in let q : ⊥ = cc in q
 
-    told_by : IsTold (view M y.opened.space) y.opened.root index n y.file → (ds : List Cell) × tree.HasCellsAt (view M y.opened.space) y.opened.root index ds × IsTornAs n y.file ds
+    told_by : IsTold (view M y.opened.space) y.opened.root index n y.file → (ds : List Cell) × HasCellsAt (view M y.opened.space) y.opened.root index ds × IsTornAs n y.file ds
     told_by (inl u) = absurd (known u n.standing refl)
     told_by (inr t) = t
 
-    told : (ds : List Cell) × tree.HasCellsAt (view M y.opened.space) y.opened.root index ds × IsTornAs n y.file ds
+    told : (ds : List Cell) × HasCellsAt (view M y.opened.space) y.opened.root index ds × IsTornAs n y.file ds
     told = told_by y.as_far
 
     cs : List Cell

@@ -1,19 +1,18 @@
 -- What is written of a node.
 --     is_offered standing size fill     it is whole; or torn and of known size, with leave to fill it
 --     filled byte cells                 the bytes of the cells, and this byte for each that is missing
---     HasCellsAt blocks last i cells    the cells of the body at the end of route i
+--     HasCellsIn blocks last i cells    the cells of the body at the end of route i
 --     Extracts                          what writing these bytes did
-use Rattle.std.specs.Prelude.{◌≡◌, ℕ, Bool, true, false, List, map, slice_get, Option, Some, None, Result, Ok, Err}
+use Rattle.std.specs.Prelude.{◌≡◌, ℕ, Bool, true, false, List, map, Option, Some, None, Result, Ok, Err}
 use Rattle.udfs_lattice.specs.Volumes.{Blocks}
 use Rattle.udfs_volume.specs.Answers.{found}
 use Rattle.udfs_space.specs.Places.{view}
 use Rattle.udfs_file.specs.declared.cells.Cell.{Cell}
 use Rattle.udfs_file.specs.declared.cells.Cell.TheVariants as cell
-use Rattle.udfs_walk.specs.NodeBodies.{HasCells}
-use Rattle.udfs_walk.specs.Routes.{Walked, IsWalk}
 use Rattle.udfs_walk.specs.declared.standings.Standing.{Standing}
 use Rattle.udfs_walk.specs.declared.standings.Standing.TheVariants.{Whole, Torn, Loop, Fault}
 use Rattle.udfs_reading.specs.Writing.{Wrote, Failed}
+use Rattle.udfs_tree.specs.Cells.{HasCellsAt}
 use Rattle.udfs_salvage.specs.Found.{Found, volume}
 use Rattle.udfs_salvage.specs.declared.extraction.Fill.{Fill}
 use Rattle.udfs_salvage.specs.declared.extraction.Fill.TheVariants.{Refuse, Byte}
@@ -48,14 +47,10 @@ unfoldable pub filled : ℕ → List Cell → List ℕ
 filled fill cs = map (cell_byte fill) cs
 
 -- the cells of the body that stands at the end of the route with this index, in the order of words
-pub record HasCellsAt (blocks : Blocks) (last index : ℕ) (cs : List Cell) : Type 0 where
+pub record HasCellsIn (blocks : Blocks) (last index : ℕ) (cs : List Cell) : Type 0 where
   pub opened : Found
   pub opens : volume blocks last ≡ found opened
-  pub walks : List Walked
-  pub walk : IsWalk (view blocks opened.space) opened.root walks
-  pub end : Walked
-  pub at : slice_get walks index ≡ Some end
-  pub has_cells : HasCells (view blocks opened.space) end.address cs
+  pub has_cells : HasCellsAt (view blocks opened.space) opened.root index cs
 
 -- all of the bytes were written; or a beginning of them, and then the sink failed; or nothing, for want of memory
 abbrev pub Extracts : {X : Type 0} → Option (List ℕ) → Option (List ℕ) → ℕ → ℕ → List ℕ → Result X ExtractError → Type 0

@@ -9,6 +9,7 @@ use Rattle.udfs_osta.specs.declared.stamps.Stamp.{Stamp}
 use Rattle.udfs_file.specs.declared.faults.Kind.{Kind}
 use Rattle.udfs_walk.specs.NodeFields.{NodeFields}
 use Rattle.udfs_walk.specs.declared.answers.Unnamed.{Unnamed}
+use Rattle.udfs_walk.specs.Rereads.{holes_of, missing_of}
 use Rattle.udfs_walk.specs.declared.standings.Standing.{Standing}
 use Rattle.udfs_walk.specs.declared.standings.Standing.TheVariants as standing
 use Rattle.udfs_salvage.specs.NodeTexts.{kind_name, path_name, standing_name}
@@ -30,20 +31,6 @@ size_data (Some n) = count n
 abbrev pub time_data : Option Stamp → Data
 time_data None = null
 time_data (Some stamp) = string (stamp_text stamp)
-
--- only what is torn has missing blocks and holes
-abbrev pub missing_of : Standing → List ℕ
-missing_of standing.Whole = []
-missing_of (standing.Torn torn) = torn.missing
-missing_of standing.Loop = []
-missing_of (standing.Fault f) = []
-
--- the holes of a torn standing
-abbrev pub holes_of : Standing → List (ℕ × ℕ)
-holes_of standing.Whole = []
-holes_of (standing.Torn torn) = torn.holes
-holes_of standing.Loop = []
-holes_of (standing.Fault f) = []
 
 -- a run of missing bytes: its offset and its length
 abbrev pub hole_data : ℕ × ℕ → Data

@@ -10,7 +10,7 @@ ghost use Rattle.udfs_walk.specs.NodeFields.{NodeFields};
 ghost use Rattle.udfs_salvage.specs.Found.{Found, volume_now};
 ghost use Rattle.udfs_salvage.specs.Reports.{IsReport, report_now};
 ghost use Rattle.udfs_salvage.specs.TreeReports.{FillsFile, WritesFile};
-ghost use Rattle.udfs_salvage.specs.Extraction.{Extracts, HasCellsAt, fill_byte, filled, is_offered};
+ghost use Rattle.udfs_salvage.specs.Extraction.{Extracts, HasCellsIn, fill_byte, filled, is_offered};
 
 use crate::body_bytes::write_body;
 use crate::reports::Report;
@@ -127,7 +127,7 @@ pub fn extract<W: Sink>(
     // The bytes are those of the cells at the end of the route of this index.
     ensures cells { (last : ℕ) (n : NodeFields) → IsReport (state_of report.now.table.now) last (report_now report.now) →
         slice_get report.now.nodes.items index ≡ Some n → is_offered n.standing n.size fill ≡ true →
-        (cs : List Cell) × HasCellsAt (state_of report.now.table.now) last index cs ×
+        (cs : List Cell) × HasCellsIn (state_of report.now.table.now) last index cs ×
         Extracts (W.contents sink.old) (W.contents sink.new) (W.faults sink.old) (W.faults sink.new) (filled (fill_byte fill) cs) result }
     ensures not_whole { (last : ℕ) (n : NodeFields) → IsReport (state_of report.now.table.now) last (report_now report.now) →
         slice_get report.now.nodes.items index ≡ Some n → (IsErrOf result ExtractError.NotWhole ↔ (is_offered n.standing n.size fill ≡ false)) }

@@ -4,7 +4,8 @@ ghost use Rattle.std.specs.Prelude.{◌≡◌, IfOk};
 ghost use Rattle.serde_json.specs.Data.{string};
 ghost use Rattle.serde_json.specs.View.{members_view, view};
 ghost use Rattle.udfs_salvage.specs.NodeTexts.{kind_name, path_name, standing_name};
-ghost use Rattle.udfs_salvage.specs.JsonNodes.{count, hole_data, holes_of, list_data, missing_of, node_data, size_data, time_data, told_members, unnamed_data};
+ghost use Rattle.udfs_walk.specs.Rereads.{holes_of, missing_of};
+ghost use Rattle.udfs_salvage.specs.JsonNodes.{count, hole_data, list_data, node_data, size_data, time_data, told_members, unnamed_data};
 
 use crate::node_lines::{push_kind_name, push_path_name, push_standing_name};
 use serde_json::{Map, Value, json, put};

@@ -12,7 +12,8 @@ use Rattle.udfs_walk.specs.NodeFields.{NodeFields}
 use Rattle.udfs_walk.specs.Nodes.{node}
 use Rattle.udfs_walk.specs.Routes.{Route, Walked, at_root, walked}
 use Rattle.udfs_tree.specs.Trees.{PartitionBlocks, TreeFile, IsFileAt, InTree}
-use Rattle.udfs_tree.specs.Cells.{HasCells, HasCellsAt, IsByteOf, IsWholeAs}
+use Rattle.udfs_walk.specs.NodeBodies.{HasCells}
+use Rattle.udfs_tree.specs.Cells.{HasCellsAt, IsByteOf, IsWholeAs}
 use Rattle.udfs_tree.specs.Lawful.{IsLawfulTree}
 use Rattle.udfs_tree.specs.Laws.{IsWholeNode, CompleteNodes, OneFile, RootInTree}
 use Rattle.udfs_tree.proofs.WholeRoutes.{IsRouteTo}
@@ -41,7 +42,7 @@ whole_here all blocks root s w h = record {
   bytes = subst (λ z. AllZip IsByteOf z h.file.file.body) (sym h.file.body) (all_bytes h.file.file.body);
 }
 
-has_here : (all : View) (blocks : PartitionBlocks) (root : LongAd) (w : Walked) (h : Here all all blocks root w) → HasCells all w h.at.cs
+has_here : (all : View) (blocks : PartitionBlocks) (root : LongAd) (w : Walked) (h : Here all all blocks root w) → HasCells all w.address h.at.cs
 has_here all blocks root w h = record { fields = h.at.fields; is_entry = h.at.is_entry; has_body = h.at.has_body }
 
 -- the file at the end of a route is one of the tree

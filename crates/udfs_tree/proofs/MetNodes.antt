@@ -32,7 +32,7 @@ pub gap_known : (some all : View) (r b : ℕ) (e : EntryFields) (cs : List Cell)
 gap_known some all r b e cs p k n need here = go (some.blocks n) refl
   where
     open_at : is_known (some.blocks n) ≡ false → IsKnownAt some.blocks n
-    open_at u = absurd (here ((p.gaps k).1 (n, u, need)))
+    open_at u = absurd (here ((p.cells_are.gaps k).1 (n, u, need)))
 
     go : (x : State) → some.blocks n ≡ x → IsKnownAt some.blocks n
     go Unknown q = open_at (ap is_known q)
@@ -125,7 +125,7 @@ clear_before some all blocks root s w h name on ids is_dir end ends = subst (IsC
     x = split_at (directory part.part).identifiers on.entry goes.inside
 
     more : IsBeginningOf (directory part.part).identifiers (directory h.at.cs).identifiers
-    more = partial_descriptors part.part h.at.cs part.each
+    more = partial_descriptors part.part h.at.cs part.cells_are.each
 
     whole_is : (directory h.at.cs).identifiers ≡ x.front ++ x.id ∷ (x.back ++ more.0)
     whole_is = more.1 ∙ ap (λ z. z ++ more.0) x.splits ∙ append_assoc x.front (x.id ∷ x.back) more.0

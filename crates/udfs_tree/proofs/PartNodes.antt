@@ -21,7 +21,9 @@ use Rattle.udfs_walk.specs.declared.standings.Standing.TheVariants.{Whole}
 use Rattle.udfs_walk.proofs.PublicLaws.{routes_stand_once}
 use Rattle.udfs_tree.specs.Trees.{PartitionBlocks, TreeFile, InTree}
 use Rattle.udfs_tree.specs.Needs.{IsMet}
-use Rattle.udfs_tree.specs.Cells.{HasCells, HasCellsAt, IsByteOf, IsByteOrMissing, IsToldAs, IsUntold, holes_of, IsInRuns, IsTornAs, IsWholeAs}
+use Rattle.udfs_walk.specs.NodeBodies.{HasCells}
+use Rattle.udfs_walk.specs.Rereads.{holes_of}
+use Rattle.udfs_tree.specs.Cells.{HasCellsAt, IsByteOf, IsByteOrMissing, IsToldAs, IsUntold, IsInRuns, IsTornAs, IsWholeAs}
 use Rattle.udfs_tree.specs.Laws.{IsTold, IsNodeOf, PartialNodes, OncePerPath}
 use Rattle.udfs_tree.proofs.PartRoutes.{NodePart, node_unread, node_read, node_part, good_node, part_route}
 use Rattle.udfs_tree.proofs.Runs.{none_at, none_missing, holes_are}
@@ -64,13 +66,13 @@ not_whole v w n t e = absurd (let q : (node_at v w (unread n)).standing ≡ Whol
 -- the bytes of a node that is read
 pub part_bytes : (some all : View) (blocks : PartitionBlocks) (root : LongAd) (s : Setting some all blocks root) (w : Walked) (h : Here some all blocks root w)
     → AllZip IsByteOrMissing (part_here some all blocks root s w h).part h.file.file.body
-part_bytes some all blocks root s w h = bytes_or_missing part.part h.file.file.body (subst (AllZip IsCellOf part.part) h.file.body part.each)
+part_bytes some all blocks root s w h = bytes_or_missing part.part h.file.file.body (subst (AllZip IsCellOf part.part) h.file.body part.cells_are.each)
   where
     part : IsPartialBody some all w.address.reference w.address.block h.at.fields h.at.cs
     part = part_here some all blocks root s w h
 
 pub cells_here : (some all : View) (blocks : PartitionBlocks) (root : LongAd) (s : Setting some all blocks root) (w : Walked) (h : Here some all blocks root w) → target some w.address ≡ entry h.at.fields
-    → HasCells some w (part_here some all blocks root s w h).part
+    → HasCells some w.address (part_here some all blocks root s w h).part
 cells_here some all blocks root s w h t = record { fields = h.at.fields; is_entry = t; has_body = (part_here some all blocks root s w h).is }
 
 torn_as : (some all : View) (blocks : PartitionBlocks) (root : LongAd) (s : Setting some all blocks root) (w : Walked) (h : Here some all blocks root w) → target some w.address ≡ entry h.at.fields

@@ -169,7 +169,7 @@ rise some all blocks p c (name ∷ names) w address h (ids, d, is_dir, i, named,
 
         by_cells : target some w.address ≡ entry x.fields → (node some w).standing ≡ cells_standing part.part
             → ((k : ℕ) × (n : ℕ) × (k < end) × IsGapAt part.part k n) ⊎ IsClearTo part.part end → Risen some all blocks w (name ∷ names) address
-        by_cells is_entry stands (inl (k, n, lt, g)) = let named : (is_known (some.blocks n) ≡ false) × IsNeededFor all w.address.reference x.fields k n = part.names k n g in
+        by_cells is_entry stands (inl (k, n, lt, g)) = let named : (is_known (some.blocks n) ≡ false) × IsNeededFor all w.address.reference x.fields k n = part.cells_are.names k n g in
             stops n named.0 (on_way k n lt named.1) [] w refl (gap_misses (node some w).standing part.part stands k n g)
         by_cells is_entry stands (inr clear) = on is_entry clear
 

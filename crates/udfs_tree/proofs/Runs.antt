@@ -9,7 +9,8 @@ use Rattle.udfs_file.specs.declared.cells.Cell.TheVariants.{Byte, Gap}
 use Rattle.udfs_lattice.proofs.PublicLaws.{ascending_includes}
 use Rattle.udfs_walk.specs.Standings.{missing_blocks, with_hole, runs_from, torn_or_whole, cells_standing}
 use Rattle.udfs_walk.specs.declared.standings.Standing.TheVariants.{Whole}
-use Rattle.udfs_tree.specs.Cells.{holes_of, IsInRuns}
+use Rattle.udfs_walk.specs.Rereads.{holes_of}
+use Rattle.udfs_tree.specs.Cells.{IsInRuns}
 
 in_first : (run : ℕ × ℕ) (runs : List (ℕ × ℕ)) (k : ℕ) → run.0 ≤ k → k < run.0 + run.1 → IsInRuns (run ∷ runs) k
 in_first run runs k l h = (run, inl refl, l, h)

@@ -102,7 +102,7 @@ settle some all blocks p c root lawful nodes listed path file t = by_rise (rise 
             place = placed some root nodes listed route w walks
 
         by_gap : (node some w).standing ≡ cells_standing part.part → (k : ℕ) × (n : ℕ) × IsGapAt part.part k n → Settled
-        by_gap stands (k, n, g) = let named : (is_known (some.blocks n) ≡ false) × IsNeededFor all w.address.reference h.at.fields k n = part.names k n g in
+        by_gap stands (k, n, g) = let named : (is_known (some.blocks n) ≡ false) × IsNeededFor all w.address.reference h.at.fields k n = part.cells_are.names k n g in
             held n named.0 (for_own k n named.1) (missed n (gap_misses (node some w).standing part.part stands k n g))
 
         by_blocks : target some w.address ≡ entry h.at.fields → (node some w).standing ≡ cells_standing part.part → (ns : List ℕ) → missing_blocks part.part ≡ ns → Settled

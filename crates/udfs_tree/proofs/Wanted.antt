@@ -73,7 +73,7 @@ missed_for some all blocks p c root lawful n m = by_node (node_part some all blo
     tree = tree_here some all blocks root s w h
 
     by_cell : (k : ℕ) × IsGapAt part.part k n → IsMissedFor some all blocks root w n
-    by_cell (k, g) = let named : (is_known (some.blocks n) ≡ false) × IsNeededFor all w.address.reference h.at.fields k n = part.names k n g in record {
+    by_cell (k, g) = let named : (is_known (some.blocks n) ≡ false) × IsNeededFor all w.address.reference h.at.fields k n = part.cells_are.names k n g in record {
       not_known = named.0;
       file = h.file.file;
       in_tree = tree;

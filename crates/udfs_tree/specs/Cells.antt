@@ -1,6 +1,5 @@
 -- The cells of a node's body, beside the bytes of a file of the tree.
---     HasCells view w cells            the cells of the body at the end of a route
---     HasCellsAt view root i cells     the same of the end of route i in their order
+--     HasCellsAt view root i cells     the cells of the body at the end of route i in their order
 --     IsToldAs n file                  the node is told as the tree has it
 --     IsTornAs n file cells            so it is, and each byte outside its holes is there
 use Rattle.std.specs.Prelude.{◌≡◌, ◌≢◌, ◌↔◌, ⊤, ℕ, ◌+◌, ◌<◌, ◌≤◌, List, [], Some, None, slice_get}
@@ -16,18 +15,14 @@ use Rattle.udfs_file.specs.declared.cells.Cell.{Cell}
 use Rattle.udfs_file.specs.declared.cells.Cell.TheVariants.{Byte, Gap}
 use Rattle.udfs_file.specs.declared.faults.Kind.TheVariants.{Unread}
 use Rattle.udfs_file.specs.declared.faults.NodeFault.{NodeFault}
+use Rattle.udfs_walk.specs.NodeBodies.{HasCells}
 use Rattle.udfs_walk.specs.NodeFields.{NodeFields}
+use Rattle.udfs_walk.specs.Rereads.{holes_of}
 use Rattle.udfs_walk.specs.Routes.{Walked, IsWalk}
 use Rattle.udfs_walk.specs.Targets.{entry, target}
 use Rattle.udfs_walk.specs.declared.standings.Standing.{Standing}
 use Rattle.udfs_walk.specs.declared.standings.Standing.TheVariants.{Whole, Torn, Loop, Fault}
 use Rattle.udfs_tree.specs.Trees.{TreeFile}
-
--- the cells of the body of the entry at the end of a route
-pub record HasCells (v : View) (w : Walked) (cs : List Cell) : Type 0 where
-  pub fields : EntryFields
-  pub is_entry : target v w.address ≡ entry fields
-  pub has_body : body v w.address.reference w.address.block fields ≡ cells cs
 
 -- the cells of the node at this place in the list of all nodes
 pub record HasCellsAt (v : View) (root : LongAd) (index : ℕ) (cs : List Cell) : Type 0 where
@@ -35,7 +30,7 @@ pub record HasCellsAt (v : View) (root : LongAd) (index : ℕ) (cs : List Cell) 
   pub walk : IsWalk v root walks
   pub end : Walked
   pub at : slice_get walks index ≡ Some end
-  pub has_cells : HasCells v end cs
+  pub has_cells : HasCells v end.address cs
 
 -- the cell is there, and is this byte
 abbrev pub IsByteOf : Cell → Located → Type 0
@@ -62,13 +57,6 @@ pub record IsUntold (n : NodeFields) : Type 0 where
   pub kind : n.kind ≡ Unread
   pub size : n.size ≡ None
   pub stamp : n.stamp ≡ None
-
--- the runs of missing bytes
-abbrev pub holes_of : Standing → List (ℕ × ℕ)
-holes_of Whole = []
-holes_of (Torn torn) = torn.holes
-holes_of Loop = []
-holes_of (Fault f) = []
 
 -- a run, by its offset and length, holds this place
 abbrev pub IsInRuns : List (ℕ × ℕ) → ℕ → Type 0

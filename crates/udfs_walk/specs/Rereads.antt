@@ -1,5 +1,6 @@
--- What has to be read again.
---     reread nodes      the blocks that are missing in torn nodes, ascending and each once
+-- What a standing lacks, and what has to be read again.
+--     missing_of, holes_of     the blocks and the bytes that are missing where it is torn
+--     reread nodes             the blocks that are missing in torn nodes, ascending and each once
 use Rattle.std.specs.Prelude.{ℕ, List, [], flat_map}
 use Rattle.udfs_lattice.specs.Volumes.{ascending}
 use Rattle.udfs_walk.specs.NodeFields.{NodeFields}
@@ -12,6 +13,13 @@ missing_of Whole = []
 missing_of (Torn torn) = torn.missing
 missing_of Loop = []
 missing_of (Fault f) = []
+
+-- the runs of bytes that it lacks, each by its offset and length
+abbrev pub holes_of : Standing → List (ℕ × ℕ)
+holes_of Whole = []
+holes_of (Torn torn) = torn.holes
+holes_of Loop = []
+holes_of (Fault f) = []
 
 -- the blocks that the nodes lack, rising and each once
 abbrev pub reread : List NodeFields → List ℕ
