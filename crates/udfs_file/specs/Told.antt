@@ -17,7 +17,7 @@ use Rattle.udfs_file.specs.Bodies.{cells, body, IsNeededFor}
 use Rattle.udfs_file.specs.Complete.{IsWhole, IsReadBody, IsReadDirectory, IsReadFileSet, as_cells}
 use Rattle.udfs_file.specs.Entries.{EntryFields}
 use Rattle.udfs_file.specs.Fronts.{directory, entries_of, listed_entries}
-use Rattle.udfs_file.specs.Laws.{IsBeginningOf, IsCellOf, IsClearTo, IsMissingAt, end_of}
+use Rattle.udfs_file.specs.Laws.{ArePartOf, IsBeginningOf, IsCellOf, IsClearTo, IsMissingAt, end_of}
 use Rattle.udfs_file.specs.Standard.{Located}
 use Rattle.udfs_file.specs.Stretches.{cells_of}
 use Rattle.udfs_file.specs.declared.cells.Cell.{Cell}
