@@ -17,7 +17,7 @@ use Rattle.udfs_space.specs.Sample.{sample_space}
 use Rattle.udfs_file.specs.Addresses.{address_fault, file_set}
 use Rattle.udfs_file.specs.Bodies.{body, cells}
 use Rattle.udfs_file.specs.Entries.{entry_fault, entry_of}
-use Rattle.udfs_file.specs.Fronts.{directory, entries_of}
+use Rattle.udfs_file.specs.Fronts.{directory, directory_entries}
 use Rattle.udfs_file.specs.Identifiers.{Nothing}
 use Rattle.udfs_file.specs.declared.cells.Cell.{Cell}
 use Rattle.udfs_file.specs.declared.cells.Cell.TheVariants.{Byte}
@@ -104,24 +104,24 @@ pub record IsSampleFile (maps : Maps) (a : LongAd) (kind : Kind) (cs : List Cell
   pub has_body : body (sample_view maps) a.reference a.block (entry_of bytes) ≡ cells cs
 
 -- these bytes, in a logical block
-abbrev pub cells_in : ℕ → Bytes → List Cell
-cells_in block bytes = map (λ x. Byte x (Some block)) bytes
+abbrev pub cells_of_bytes : ℕ → Bytes → List Cell
+cells_of_bytes block bytes = map (λ x. Byte x (Some block)) bytes
 
 -- the cells of the sample's root
 abbrev pub root_cells : Maps → List Cell
-root_cells maps = cells_in 2 (take 120 (directory_block maps))
+root_cells maps = cells_of_bytes 2 (take 120 (directory_block maps))
 
 -- the cells of the sample's file A
 abbrev pub a_cells : List Cell
-a_cells = cells_in 5 (replicate 2048 0x61) ++ cells_in 6 (replicate 2048 0x62) ++ cells_in 7 (replicate 904 0x63)
+a_cells = cells_of_bytes 5 (replicate 2048 0x61) ++ cells_of_bytes 6 (replicate 2048 0x62) ++ cells_of_bytes 7 (replicate 904 0x63)
 
 -- the cells of the sample's file B
 abbrev pub b_cells : List Cell
-b_cells = cells_in 4 (0x48 ∷ 0x69 ∷ [])
+b_cells = cells_of_bytes 4 (0x48 ∷ 0x69 ∷ [])
 
 -- an entry of the root: a name of one letter, and the address of its ICB
-abbrev pub named : ℕ → LongAd → DirEntry
-named letter icb = record { name = letter ∷ []; icb = icb; marks = record { 0 = 0 } }
+abbrev pub entry_named : ℕ → LongAd → DirEntry
+entry_named letter icb = record { name = letter ∷ []; icb = icb; marks = record { 0 = 0 } }
 
 -- the address of the ICB of A
 abbrev pub icb_of_a : LongAd
@@ -137,7 +137,7 @@ pub record AreSampleFiles (maps : Maps) : Type 0 where
   pub a : IsSampleFile maps icb_of_a File a_cells
   pub b : IsSampleFile maps (icb_of_b maps) File b_cells
   pub no_rest : (directory (root_cells maps)).rest ≡ Nothing
-  pub entries : entries_of (root_cells maps) ≡ named 0x41 icb_of_a ∷ named 0x42 (icb_of_b maps) ∷ []
+  pub entries : directory_entries (root_cells maps) ≡ entry_named 0x41 icb_of_a ∷ entry_named 0x42 (icb_of_b maps) ∷ []
 
 -- so it is in each sample volume
 abbrev pub HaveSampleFiles : Type 0

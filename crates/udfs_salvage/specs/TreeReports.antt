@@ -102,12 +102,12 @@ abbrev pub ReportsTellTree : Type 0
 ReportsTellTree = (blocks : Blocks) (last : ℕ) (report : Report) → IsReport blocks last report → TellsTree blocks last report × TellsWholeTree blocks last report
 
 -- the layout of the volume names these partitions
-abbrev pub HasPartitions : Volume → ℕ → List Partition → Type 0
-HasPartitions volume last partitions = (l : Layout) × (layout (complete volume last) last ≡ found l) × (l.partitions ≡ partitions)
+abbrev pub NamesPartitions : Volume → ℕ → List Partition → Type 0
+NamesPartitions volume last partitions = (l : Layout) × (layout (complete volume last) last ≡ found l) × (l.partitions ≡ partitions)
 
 -- a lawful volume with these partitions, and a file below its root
 abbrev pub IsLawfulWith : List Partition → Type 0
-IsLawfulWith partitions = (volume : Volume) × (last : ℕ) × IsLawful volume last × HasPartitions volume last partitions
+IsLawfulWith partitions = (volume : Volume) × (last : ℕ) × IsLawful volume last × NamesPartitions volume last partitions
     × ((name : List ℕ) × (file : TreeFile) × IsInVolume volume last (name ∷ []) file)
 
 -- there are such volumes with a partition of type 1, with a sparable one, and with one of each

@@ -4,7 +4,7 @@ use Rattle.std.specs.Prelude.{zero, suc, AllPairs, IsSome}
 use Rattle.udfs_lattice.specs.Volumes.{Includes}
 use Rattle.udfs_volume.specs.Sample.{Maps}
 use Rattle.udfs_space.specs.Places.{View}
-use Rattle.udfs_file.specs.Sample.{icb_of_a, icb_of_b, named, sample_root, sample_view}
+use Rattle.udfs_file.specs.Sample.{icb_of_a, icb_of_b, entry_named, sample_root, sample_view}
 use Rattle.udfs_file.specs.declared.directories.DirEntry.{DirEntry}
 use Rattle.udfs_walk.specs.Routes.{Route, Walked, below, entries_below, walk_from, walked, IsWalk}
 use Rattle.udfs_walk.specs.Nodes.{node}
@@ -30,7 +30,7 @@ abbrev ends : Maps → List Ends
 ends maps = ([], top) ∷ (0 ∷ [], at_a) ∷ (1 ∷ [], at_b maps) ∷ []
 
 abbrev listed : Maps → List DirEntry
-listed maps = named 0x41 icb_of_a ∷ named 0x42 (icb_of_b maps) ∷ []
+listed maps = entry_named 0x41 icb_of_a ∷ entry_named 0x42 (icb_of_b maps) ∷ []
 
 -- nothing lies behind a file
 leaf : (maps : Maps) (w : Walked) → entries_below (all maps) w ≡ [] → (js : Route) (end : Walked) → walk_from (all maps) w js ≡ Some end → (js ≡ []) × (w ≡ end)
@@ -47,9 +47,9 @@ they_end maps (j ∷ js) w h = go j s.entry (ap (λ z. slice_get z j) (sym (node
     s = step_inv (all maps) top j js w h
 
     go : (j : ℕ) (d : DirEntry) → slice_get (listed maps) j ≡ Some d → walk_from (all maps) (below top d) js ≡ Some w → Includes (ends maps) (j ∷ js, w)
-    go zero d e h = let q : named 0x41 icb_of_a ≡ d = cc in let x : (js ≡ []) × (at_a ≡ w) = leaf maps at_a (nodes_of maps).below_a js w (subst (λ z. walk_from (all maps) (below top z) js ≡ Some w) (sym q) h) in
+    go zero d e h = let q : entry_named 0x41 icb_of_a ≡ d = cc in let x : (js ≡ []) × (at_a ≡ w) = leaf maps at_a (nodes_of maps).below_a js w (subst (λ z. walk_from (all maps) (below top z) js ≡ Some w) (sym q) h) in
         inr (inl (λ i. (0 ∷ sym x.0 i, x.1 i)))
-    go (suc zero) d e h = let q : named 0x42 (icb_of_b maps) ≡ d = cc in let x : (js ≡ []) × (at_b maps ≡ w) = leaf maps (at_b maps) (nodes_of maps).below_b js w (subst (λ z. walk_from (all maps) (below top z) js ≡ Some w) (sym q) h) in
+    go (suc zero) d e h = let q : entry_named 0x42 (icb_of_b maps) ≡ d = cc in let x : (js ≡ []) × (at_b maps ≡ w) = leaf maps (at_b maps) (nodes_of maps).below_b js w (subst (λ z. walk_from (all maps) (below top z) js ≡ Some w) (sym q) h) in
         inr (inr (inl (λ i. (1 ∷ sym x.0 i, x.1 i))))
     go (suc (suc j)) d e h = absurd (let z : ⊥ = cc in z)
 

@@ -2,7 +2,7 @@
 --     SampleTree     they are lawful, and the paths A and B lead to files of them
 use Rattle.std.specs.Prelude.{[], ◌∷◌}
 use Rattle.udfs_volume.specs.Sample.{Maps}
-use Rattle.udfs_file.specs.Complete.{IsWhole}
+use Rattle.udfs_file.specs.Complete.{IsComplete}
 use Rattle.udfs_file.specs.Sample.{sample_root, sample_view}
 use Rattle.udfs_tree.specs.Lawful.{IsLawfulTree}
 use Rattle.udfs_tree.specs.Trees.{PartitionBlocks, TreeFile, InTree}
@@ -15,4 +15,4 @@ pub record HasSampleFiles (blocks : PartitionBlocks) : Type 0 where
 -- each tree is lawful, and whatever gives its blocks, it has the files A and B
 abbrev pub SampleTree : Type 0
 SampleTree = (maps : Maps) → IsLawfulTree (sample_view maps) sample_root
-    × ((blocks : PartitionBlocks) → IsWhole (sample_view maps) blocks → HasSampleFiles blocks)
+    × ((blocks : PartitionBlocks) → IsComplete (sample_view maps) blocks → HasSampleFiles blocks)

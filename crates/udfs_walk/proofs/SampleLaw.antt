@@ -12,7 +12,7 @@ use Rattle.udfs_file.proofs.PublicLaws.{sample_files_are_read}
 use Rattle.udfs_walk.specs.Nodes.{node, node_at}
 use Rattle.udfs_walk.specs.Routes.{Walked, entries_below, is_deep, is_loop, kind_entries, target_entries}
 use Rattle.udfs_walk.specs.Sample.{HaveSampleNodes, at_a, at_b, top}
-use Rattle.udfs_walk.specs.Standings.{body_standing, cells_standing, depth_or, unless_fault}
+use Rattle.udfs_walk.specs.Standings.{body_standing, cells_standing, depth_or, standing_or_fault}
 use Rattle.udfs_walk.specs.Targets.{entry, entry_unless, target, target_at}
 use Rattle.udfs_walk.specs.declared.standings.Standing.TheVariants.{Whole, Loop}
 
@@ -51,7 +51,7 @@ all_of_b = refl
 pub sample_nodes : HaveSampleNodes
 sample_nodes maps = record {
   whole_root = standing_is maps top _ (root_cells maps) files.root refl
-      ∙ (λ i. unless_fault (fault_in (files.no_rest i)) (depth_or false (files.entries i) (all_of_root maps i)));
+      ∙ (λ i. standing_or_fault (fault_in (files.no_rest i)) (depth_or false (files.entries i) (all_of_root maps i)));
   below_root = entries_are maps top _ (root_cells maps) files.root refl refl ∙ files.entries;
   whole_a = standing_is maps at_a _ a_cells files.a refl ∙ all_of_a;
   below_a = entries_are maps at_a _ a_cells files.a refl refl;

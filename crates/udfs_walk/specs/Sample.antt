@@ -3,7 +3,7 @@
 --     AreSampleNodes maps     all three are whole, the root goes on to A and B, and these go on to nothing
 use Rattle.std.specs.Prelude.{◌≡◌, [], ◌∷◌}
 use Rattle.udfs_volume.specs.Sample.{Maps}
-use Rattle.udfs_file.specs.Sample.{icb_of_a, icb_of_b, named, sample_root, sample_view}
+use Rattle.udfs_file.specs.Sample.{icb_of_a, icb_of_b, entry_named, sample_root, sample_view}
 use Rattle.udfs_walk.specs.Nodes.{node}
 use Rattle.udfs_walk.specs.Routes.{Walked, at_root, below, entries_below}
 use Rattle.udfs_walk.specs.declared.standings.Standing.TheVariants.{Whole}
@@ -14,16 +14,16 @@ top = at_root sample_root
 
 -- the sample's file A
 abbrev pub at_a : Walked
-at_a = below top (named 0x41 icb_of_a)
+at_a = below top (entry_named 0x41 icb_of_a)
 
 -- the sample's file B
 abbrev pub at_b : Maps → Walked
-at_b maps = below top (named 0x42 (icb_of_b maps))
+at_b maps = below top (entry_named 0x42 (icb_of_b maps))
 
 -- the sample's three nodes, all whole
 pub record AreSampleNodes (maps : Maps) : Type 0 where
   pub whole_root : (node (sample_view maps) top).standing ≡ Whole
-  pub below_root : entries_below (sample_view maps) top ≡ named 0x41 icb_of_a ∷ named 0x42 (icb_of_b maps) ∷ []
+  pub below_root : entries_below (sample_view maps) top ≡ entry_named 0x41 icb_of_a ∷ entry_named 0x42 (icb_of_b maps) ∷ []
   pub whole_a : (node (sample_view maps) at_a).standing ≡ Whole
   pub below_a : entries_below (sample_view maps) at_a ≡ []
   pub whole_b : (node (sample_view maps) (at_b maps)).standing ≡ Whole
