@@ -14,7 +14,7 @@ use Rattle.udfs_lattice.specs.Volumes.{Includes}
 use Rattle.udfs_lattice.specs.States.{State, join_of, is_known, is_conflict}
 use Rattle.udfs_lattice.specs.Tables.{Table, state_of, join_tables, IsTable, IsStateAt, IsForgotten, AreForgotten, IsWithoutConflicts, is_named, without_conflict}
 use Rattle.udfs_lattice.specs.TableLaws.{same_table, state_of-join_tables}
-use Rattle.udfs_lattice.specs.Packets.{IsPacket, IsPlace, IsPacketTable, rank, table_packet}
+use Rattle.udfs_lattice.specs.Packets.{IsPacket, IsPlaceState, IsPacketTable, rank, table_packet}
 use Rattle.udfs_lattice.specs.PacketTables.{table_packets, ArePackets, IsSettledIn}
 use Rattle.udfs_lattice.proofs.PacketStates.{state_of-packet, bits_say, clear_bit}
 use Rattle.udfs_lattice.proofs.PacketTables.{IsWritten, packet_found, state_of-updates, state_of-in}
@@ -114,13 +114,13 @@ pub IsPacket-clears : (k c : ℕ) (bs : List (List ℕ)) → IsPacket k c bs →
 IsPacket-clears k c bs p = record { apart = λ i h set. bit_at-zero i; stored = p.stored; whole = p.whole }
 
 -- ---- one packet of a table
-place_settled : (i : ℕ) (s : State) → IsPlace i s → IsPlace i (without_conflict s)
+place_settled : (i : ℕ) (s : State) → IsPlaceState i s → IsPlaceState i (without_conflict s)
 place_settled i Unknown h = tt
 place_settled i (Known bytes) h = h
 place_settled i Conflict h = tt
 
 pub settled_packet : (had u : Table) → IsPacketTable had → IsWithoutConflicts had u → IsPacketTable u
-settled_packet had u h set q = subst (IsPlace q) (sym (set q)) (place_settled q (state_of had q) (h q))
+settled_packet had u h set q = subst (IsPlaceState q) (sym (set q)) (place_settled q (state_of had q) (h q))
 
 settled_at : (old : BTreeMap ℕ Table) (k q : ℕ) (had u : Table) (b : Bool) → ArePackets old.entries → Some had ≡ get nat_cmp old k → IsWithoutConflicts had u → (q / 32 == k) ≡ b
     → cond b (state_of u (q % 32)) (state_of (table_packets old.entries) q) ≡ cond b (without_conflict (state_of (table_packets old.entries) q)) (state_of (table_packets old.entries) q)
