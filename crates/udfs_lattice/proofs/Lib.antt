@@ -11,6 +11,7 @@ pub mod PacketWrites
 pub mod RecordLaws
 pub mod EntryLaws
 pub mod JoinLaws
+pub mod Forgetting
 pub mod VolumeLaws
 pub mod EntryStates
 pub mod PublicLaws

@@ -109,7 +109,7 @@ state_of-updates old new k u q h g up =
     ∙ ap (cond (q / 32 == k) (state_of u (q % 32))) (sym (state_of-table_packets old.entries q h))
 
 -- the state of a block whose packet is k
-state_of-in : (ps : List (ℕ × Table)) (k q : ℕ) → ArePackets ps → q / 32 ≡ k → state_of (table_packets ps) q ≡ state_of (packet_at ps k) (q % 32)
+pub state_of-in : (ps : List (ℕ × Table)) (k q : ℕ) → ArePackets ps → q / 32 ≡ k → state_of (table_packets ps) q ≡ state_of (packet_at ps k) (q % 32)
 state_of-in ps k q h e = state_of-table_packets ps q h ∙ ap (λ j. state_of (packet_at ps j) (q % 32)) e
 
 -- what is new in the map of packets: the packet u at k, which lies between the old one there and its join with v

@@ -13,11 +13,14 @@
 --     TablesMakeJoin       the join of tables on the set of them
 --     RecordsMakeJoin      and of the tables of lists of records it is the table of all the records
 --     ForgettingCommutes   to forget a block commutes with joining a table that says nothing of it
+--     ForgettingAllCommutes    and so with several blocks
+--     SettlingCommutes         and so with the blocks in conflict
+--     NamedAreIncluded     a block is named where it is one of the list
 --     RecordAdded, EntryAdded, TableAdded, EntryBefore       one more is joined in
-use Rattle.std.specs.Prelude.{◌≡◌, ◌≢◌, ◌↔◌, ◌≤◌, ◌==◌, ℕ, List, [], ◌∷◌, ◌++◌, cond, length, map}
-use Rattle.udfs_lattice.specs.declared.facts.Fact.TheVariants.{Unknown, Known}
+use Rattle.std.specs.Prelude.{◌≡◌, ◌≢◌, ◌↔◌, ◌≤◌, ◌==◌, ℕ, true, List, [], ◌∷◌, ◌++◌, cond, length, map}
+use Rattle.udfs_lattice.specs.declared.facts.Fact.TheVariants.{Unknown, Known, Conflict}
 use Rattle.udfs_lattice.specs.States.{State, join_of}
-use Rattle.udfs_lattice.specs.Tables.{Table, state_of, entries_of, join_tables, one_entry, one_record, IsTable, IsForgotten}
+use Rattle.udfs_lattice.specs.Tables.{Table, state_of, entries_of, join_tables, one_entry, one_record, IsTable, IsForgotten, AreForgotten, IsWithoutConflicts, is_named}
 use Rattle.udfs_lattice.specs.Records.{Record, SameRecords, SameTables, all_records, join_all, table_of, table_of_entries, RisesFrom}
 use Rattle.udfs_lattice.specs.Volumes.{Includes, Volume, Agrees, ascending, complete}
 
@@ -93,3 +96,15 @@ EntryBefore = (e : ℕ × State) (es : List (ℕ × State)) (q : ℕ)
 -- what a table that says nothing of a block adds is added before or after the block is forgotten
 abbrev pub ForgettingCommutes : Type 0
 ForgettingCommutes = (t u v w : Table) (n : ℕ) → IsForgotten t n u → state_of v n ≡ Unknown → IsForgotten (join_tables t v) n w → w ≡ join_tables u v
+
+-- and so for several blocks
+abbrev pub ForgettingAllCommutes : Type 0
+ForgettingAllCommutes = (t u v w : Table) (ns : List ℕ) → AreForgotten t ns u → ((n : ℕ) → Includes ns n → state_of v n ≡ Unknown) → AreForgotten (join_tables t v) ns w → w ≡ join_tables u v
+
+-- and for the blocks in conflict, where the other table says nothing of those that are so in the join
+abbrev pub SettlingCommutes : Type 0
+SettlingCommutes = (t u v w : Table) → IsWithoutConflicts t u → ((n : ℕ) → state_of (join_tables t v) n ≡ Conflict → state_of v n ≡ Unknown) → IsWithoutConflicts (join_tables t v) w → w ≡ join_tables u v
+
+-- the blocks that are named are those of the list
+abbrev pub NamedAreIncluded : Type 0
+NamedAreIncluded = (ns : List ℕ) (n : ℕ) → (is_named ns n ≡ true) ↔ Includes ns n

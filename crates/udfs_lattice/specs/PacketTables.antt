@@ -7,7 +7,7 @@ use Rattle.std.specs.FinMap as fin
 use Rattle.std.specs.Borrow.{Bor}
 use Rattle.udfs_lattice.specs.declared.facts.Fact.TheVariants.{Unknown}
 use Rattle.udfs_lattice.specs.States.{State}
-use Rattle.udfs_lattice.specs.Tables.{Table, Held, state_of, empty_table}
+use Rattle.udfs_lattice.specs.Tables.{Table, Held, state_of, empty_table, without_conflict}
 use Rattle.udfs_lattice.specs.Packets.{IsPacketTable, table_below, entries_left}
 
 -- the packet that a look-up tells: where there is none, the one whose blocks are all unknown
@@ -85,3 +85,7 @@ pub record IsFound (packets : List (ℕ × Table)) (k : ℕ) (t : Table) (i : �
   pub number : k < 131072
   pub place : i < 32
   pub entries : entries_of_packets packets ≡ (k * 32 + i, s) ∷ (block_entries k (entries_left t (i + 1)) ++ entries_of_packets rest)
+
+-- u is t without the conflicts of the packet of this number
+abbrev pub IsSettledIn : Table → ℕ → Table → Type 0
+IsSettledIn t k u = (q : ℕ) → state_of u q ≡ cond (q / 32 == k) (without_conflict (state_of t q)) (state_of t q)

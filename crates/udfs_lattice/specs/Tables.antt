@@ -1,5 +1,5 @@
 -- A table is a map from block numbers to states, in which an absent block is Unknown.
-use Rattle.std.specs.Prelude.{◌≡◌, ℕ, ◌≤◌, ◌==◌, Bool, true, false, cond, List, [], ◌∷◌, map, count_by}
+use Rattle.std.specs.Prelude.{◌≡◌, ℕ, ◌≤◌, ◌==◌, ◌||◌, Bool, true, false, cond, List, [], ◌∷◌, map, count_by}
 use Rattle.std.specs.Prelude.{Option, None, Some}
 use Rattle.std.specs.Ordering.{nat_cmp}
 use Rattle.std.specs.Coded.{Coded, coded_ℕ, coded_list, coded_option}
@@ -117,3 +117,22 @@ IsAdded-same t u v n s a b q = a q ∙ sym (b q)
 -- u is t without what is known of block n
 abbrev pub IsForgotten : Table → ℕ → Table → Type 0
 IsForgotten t n u = (q : ℕ) → state_of u q ≡ cond (q == n) Unknown (state_of t q)
+
+-- the block is one of these
+abbrev pub is_named : List ℕ → ℕ → Bool
+is_named [] q = false
+is_named (n ∷ ns) q = (q == n) || is_named ns q
+
+-- u is t without what is known of these blocks
+abbrev pub AreForgotten : Table → List ℕ → Table → Type 0
+AreForgotten t ns u = (q : ℕ) → state_of u q ≡ cond (is_named ns q) Unknown (state_of t q)
+
+-- a state that is not in conflict
+abbrev pub without_conflict : State → State
+without_conflict Unknown = Unknown
+without_conflict (Known bytes) = Known bytes
+without_conflict Conflict = Unknown
+
+-- u is t without its conflicts
+abbrev pub IsWithoutConflicts : Table → Table → Type 0
+IsWithoutConflicts t u = (q : ℕ) → state_of u q ≡ without_conflict (state_of t q)

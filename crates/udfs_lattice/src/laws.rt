@@ -1,7 +1,7 @@
 //! Laws of tables, each the contract of a function that does nothing.
 ghost use Rattle.std.specs.Prelude.{◌≡◌, ◌⊎◌, ◌↔◌, ◌≤◌, ℕ, List, map};
 ghost use Rattle.udfs_lattice.specs.declared.facts.Fact.TheVariants.{Known, Conflict};
-ghost use Rattle.udfs_lattice.specs.Laws.{AscendingIncludes, CompleteAgrees, CompleteKnows, EntriesMakeTable, EntriesRise, EntriesTellStates, EntryAdded, EntryBefore, FewEntries, RecordAdded, ForgettingCommutes, RecordsMakeJoin, RisingAreEntries, RisingMakeTable, SetMakesTable, TableAdded, TablesMakeJoin};
+ghost use Rattle.udfs_lattice.specs.Laws.{AscendingIncludes, CompleteAgrees, CompleteKnows, EntriesMakeTable, EntriesRise, EntriesTellStates, EntryAdded, EntryBefore, FewEntries, RecordAdded, ForgettingAllCommutes, ForgettingCommutes, NamedAreIncluded, RecordsMakeJoin, RisingAreEntries, RisingMakeTable, SetMakesTable, SettlingCommutes, TableAdded, TablesMakeJoin};
 ghost use Rattle.udfs_lattice.specs.Records.{Record, IsTableOf, SameRecords, table_of, table_of_entries, RisesFrom, join_all, IsLeastAbove, SameTables, all_records};
 ghost use Rattle.udfs_lattice.specs.States.{State};
 ghost use Rattle.udfs_lattice.specs.Volumes.{Volume, Agrees, Includes, complete, ascending};
@@ -80,7 +80,10 @@ pub fn one_more_is_joined()
     ensures before { EntryBefore }
 {}
 
-/// To forget a block commutes with joining a table that says nothing of it.
+/// To forget a block, or several, or those in conflict, commutes with joining a table that says nothing of them.
 pub fn forgetting_commutes_with_joining()
-    ensures { ForgettingCommutes }
+    ensures one { ForgettingCommutes }
+    ensures several { ForgettingAllCommutes }
+    ensures conflicts { SettlingCommutes }
+    ensures named { NamedAreIncluded }
 {}

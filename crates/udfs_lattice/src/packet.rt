@@ -3,7 +3,7 @@ ghost use Rattle.std.specs.Prelude.{◌≡◌, ◌≢◌, ◌<◌, ◌==◌, [],
 ghost use Rattle.std.specs.Iterator.{YieldsFirstBy, item_count};
 ghost use Rattle.std.specs.Int.{bit_at};
 ghost use Rattle.udfs_lattice.specs.States.{fact_now, entry_now, is_known, is_conflict};
-ghost use Rattle.udfs_lattice.specs.Tables.{state_of, entries_of, known_count, conflict_count, empty_table, one_entry, join_tables, IsAdded, IsTableBelow};
+ghost use Rattle.udfs_lattice.specs.Tables.{state_of, entries_of, known_count, conflict_count, empty_table, one_entry, join_tables, IsAdded, IsTableBelow, IsWithoutConflicts};
 ghost use Rattle.udfs_lattice.specs.TableLaws.{join_tables-comm, join_tables-assoc, join_tables-idem, IsTableBelow-join_tables, join_tables-least};
 ghost use Rattle.udfs_lattice.specs.Packets.{IsPacketTable, IsSetTo, IsMaskOf, IsFirstLeft, entries_left, rank};
 ghost use Rattle.udfs_lattice.specs.declared.facts.Fact.TheVariants.{Unknown};
@@ -151,6 +151,13 @@ impl Packet {
         } else {
             self.unmark(i);
         }
+    }
+
+    /// Makes each block that is in conflict unknown. It takes no memory.
+    pub fn forget_conflicts(&mut self)
+        ensures { IsWithoutConflicts self.old self.new }
+    {
+        self.conflict = 0;
     }
 
     fn add_bytes(&mut self, i: u32, bytes: &[u8; 2048]) -> Result<(), AllocError>

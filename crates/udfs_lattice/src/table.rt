@@ -3,10 +3,10 @@ ghost use Rattle.std.specs.Prelude.{◌≡◌, ◌≢◌, ◌≤◌, ◌<◌, �
 ghost use Rattle.std.specs.BTreeMap.{values};
 ghost use Rattle.std.specs.Iterator.{YieldsFirstBy, item_count};
 ghost use Rattle.udfs_lattice.specs.States.{fact_now, entry_now};
-ghost use Rattle.udfs_lattice.specs.Tables.{state_of, entries_of, known_count, conflict_count, empty_table, one_record, one_entry, join_tables, IsStateAt, IsTable, IsTableBelow, IsForgotten};
+ghost use Rattle.udfs_lattice.specs.Tables.{state_of, entries_of, known_count, conflict_count, empty_table, one_record, one_entry, join_tables, IsStateAt, IsTable, IsTableBelow, IsForgotten, AreForgotten, IsWithoutConflicts};
 ghost use Rattle.udfs_lattice.specs.TableLaws.{join_tables-comm, join_tables-assoc, join_tables-idem, IsTableBelow-join_tables, join_tables-least};
 ghost use Rattle.udfs_lattice.specs.Packets.{IsPacketTable};
-ghost use Rattle.udfs_lattice.specs.PacketTables.{one_packet, IsUnknownPacket, IsFound, entries_of_packets};
+ghost use Rattle.udfs_lattice.specs.PacketTables.{one_packet, IsUnknownPacket, IsFound, IsSettledIn, entries_of_packets};
 ghost use Rattle.udfs_lattice.specs.declared.facts.Fact.TheVariants.{Unknown};
 
 use crate::error::TableError;
@@ -168,6 +168,36 @@ impl BlockTable {
             return;
         };
         packet.forget(n % 32);
+    }
+
+    /// Makes these blocks unknown, whatever they are, and leaves all others as they are. They may be in any order, and
+    /// each may come several times. It takes no memory. A number above [`LAST_BLOCK`] changes nothing.
+    pub fn forget_all(&mut self, blocks: &[u32])
+        ensures { AreForgotten self.old blocks.now self.new }
+    {
+        for n in blocks {
+            self.forget(*n);
+        }
+    }
+
+    /// Makes the blocks in conflict of one packet unknown.
+    fn settle(&mut self, number: u32)
+        ensures { IsSettledIn self.old number self.new }
+    {
+        let Some(packet) = self.packets.get_mut(&number) else {
+            return;
+        };
+        packet.forget_conflicts();
+    }
+
+    /// Makes each block that is in conflict unknown, and leaves all others as they are. It takes no memory.
+    pub fn forget_conflicts(&mut self)
+        ensures { IsWithoutConflicts self.old self.new }
+    {
+        let _ = &self.packets;
+        for number in 0..131_072 {
+            self.settle(number);
+        }
     }
 
     /// How many blocks are known. It takes no memory.
@@ -427,6 +457,30 @@ mod tests {
         assert!(rt; matches!(table.state(64), Fact::Known(bytes) if bytes[0] == 0x63));
         table.put(61, &[0x64; 2048])?;
         assert!(rt; matches!(table.state(61), Fact::Known(_)));
+        Ok(())
+    }
+
+    #[test]
+    fn forgets_conflicts_and_lists(rt: HostRuntime) -> Result<(), Fail> {
+        let mut table = BlockTable::new(rt.alloc());
+        for n in [0u32, 31, 32, LAST_BLOCK] {
+            table.put(n, &[0x61; 2048])?;
+        }
+        for n in [1u32, 32, 5000, LAST_BLOCK] {
+            table.add(n, Fact::Conflict)?;
+        }
+        table.forget_conflicts();
+        assert_eq!(rt; table.conflicts(), 0);
+        assert_eq!(rt; table.known(), 2);
+        assert!(rt; matches!(table.state(LAST_BLOCK), Fact::Unknown));
+        table.put(33, &[0x62; 2048])?;
+        table.put(LAST_BLOCK, &[0x62; 2048])?;
+        table.forget_all(&[]);
+        assert_eq!(rt; table.known(), 4);
+        table.forget_all(&[LAST_BLOCK, 0, 7, LAST_BLOCK + 1, 0]);
+        assert_eq!(rt; table.known(), 2);
+        assert!(rt; matches!(table.state(31), Fact::Known(bytes) if bytes[0] == 0x61));
+        assert!(rt; matches!(table.state(33), Fact::Known(bytes) if bytes[0] == 0x62));
         Ok(())
     }
 

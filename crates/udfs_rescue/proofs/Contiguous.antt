@@ -1,15 +1,9 @@
 -- The runs of a mapfile stand one behind the other.
-use Rattle.std.proofs.Common.{◌≡◌, ℕ, ◌+◌, ◌^◌, ◌<◌, Bool, true, false, not, cond, ◌&&◌, List, [], ◌∷◌, ◌++◌, Option, None, Some, Result, Ok, Err, IfOk, length, eqb, ltb, refl, sym, ap, subst, ◌∙◌, arith}
-use Rattle.std.proofs.lemmas.Bool.{ltb-true}
+use Rattle.std.proofs.Common.{◌≡◌, ℕ, ◌+◌, ◌^◌, ◌<◌, true, List, [], ◌∷◌, ◌++◌, Option, None, Some, refl, sym, ap, subst, ◌∙◌, arith}
 use Rattle.std.proofs.lemmas.Bool.Decides.{nat_tests}
 use Rattle.udfs_rescue.specs.declared.run.Run.{Run}
-use Rattle.udfs_rescue.specs.declared.fault.MapFault.{MapFault}
-use Rattle.udfs_rescue.specs.declared.fault.MapFault.TheVariants.{NotStatusLine, NotRun, TooLarge, NotContiguous, SizeZero}
-use Rattle.udfs_rescue.specs.declared.fault.LineFault.{LineFault}
-use Rattle.udfs_rescue.specs.Words.{words}
 use Rattle.udfs_rescue.specs.Runs.{RunsFrom, AreRuns, RunsTo, DueAfter, end_of}
-use Rattle.udfs_rescue.specs.Lines.{Progress, nothing, is_due, after_status, after_run, after_words, after_text, unlike, status_of, run_of, text_of, next_line, after_lines, lines_of, outcome}
-use Rattle.udfs_rescue.proofs.LineLemmas.{going, going_is}
+use Rattle.udfs_rescue.specs.Lines.{is_due}
 
 runs_more : (p e : ℕ) (rs : List Run) (r : Run) → RunsTo p rs e → r.at ≡ e → e + r.size < 2 ^ 63 → RunsTo p (rs ++ r ∷ []) (r.at + r.size)
 runs_more p e [] r h is fits = (is ∙ sym h, omega arith, omega arith)

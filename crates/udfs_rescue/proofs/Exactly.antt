@@ -1,11 +1,11 @@
 -- The ranges that are computed from the runs hold exactly the blocks all of whose bytes are rescued.
-use Rattle.std.proofs.Common.{◌≡◌, ℕ, zero, suc, ◌+◌, ◌-◌, ◌*◌, ◌/◌, ◌^◌, ◌≤◌, ◌<◌, ◌⊎◌, inl, inr, ⊎_elim, ◌↔◌, Bool, true, false, cond, List, [], ◌∷◌, ◌++◌, refl, sym, ap, subst, ◌∙◌, arith, ltb, eqb}
+use Rattle.std.proofs.Common.{◌≡◌, ℕ, zero, suc, ◌+◌, ◌-◌, ◌*◌, ◌/◌, ◌≤◌, ◌<◌, ◌⊎◌, inl, inr, ⊎_elim, ◌↔◌, Bool, true, false, cond, List, [], ◌∷◌, ◌++◌, refl, sym, ap, subst, arith, ltb}
 use Rattle.std.proofs.lemmas.Bool.{lt-ltb, ltb-true, cases_lt, ne_eqb}
 use Rattle.udfs_rescue.specs.declared.run.Run.{Run}
 use Rattle.udfs_rescue.specs.declared.run.RunStatus.{RunStatus}
 use Rattle.udfs_rescue.specs.declared.run.RunStatus.TheVariants.{NonTried, NonTrimmed, NonScraped, BadSector, Finished}
 use Rattle.udfs_rescue.specs.declared.known.BlockRange.{BlockRange}
-use Rattle.udfs_rescue.specs.Runs.{RunsFrom, AreRuns}
+use Rattle.udfs_rescue.specs.Runs.{RunsFrom}
 use Rattle.udfs_rescue.specs.Known.{IsRescued, IsKnown, InRanges, RiseFrom}
 use Rattle.udfs_rescue.specs.Ranges.{range_of, goes_on_by, goes_on, ranges_from}
 

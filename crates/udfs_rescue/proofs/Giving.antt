@@ -1,5 +1,5 @@
 -- The bytes of a record in a buffer, given in pieces of any size.
-use Rattle.std.proofs.Common.{◌≡◌, ℕ, ◌+◌, ◌-◌, ◌≤◌, ◌<◌, List, [], ◌++◌, length, take, drop, slice_range, Option, Some, None, IfSome, refl, sym, ap, ◌∙◌, append_assoc, arith, le_refl, drop_at, length-take-le, length-take, length-drop, length-append, take-append-drop, subst, zero, suc, get_or, ◌∷◌, ◌*◌}
+use Rattle.std.proofs.Common.{◌≡◌, ℕ, ◌+◌, ◌-◌, ◌≤◌, ◌<◌, List, [], ◌++◌, length, take, drop, slice_range, Option, Some, None, IfSome, refl, sym, ap, ◌∙◌, append_assoc, arith, le_refl, drop_at, length-take-le, length-drop, length-append, take-append-drop, subst, zero, suc, get_or, ◌∷◌, ◌*◌}
 use Rattle.std.specs.List.{flat_map}
 use Rattle.std.specs.Io.KnownBytes.{Keeps, IsAtEnd, Consumes}
 use Rattle.udfs_lattice.specs.Records.{Record}

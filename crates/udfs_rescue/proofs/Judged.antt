@@ -1,5 +1,5 @@
 -- What the count of ranges says of their blocks.
-use Rattle.std.specs.Prelude.{◌↔◌, IfSome, IfNone, nat_lt}
+use Rattle.std.specs.Prelude.{◌↔◌, IfSome, IfNone}
 use Rattle.udfs_rescue.specs.Blocks.{AreSome}
 use Rattle.std.proofs.Common.{◌≡◌, ℕ, ◌+◌, ◌-◌, ◌<◌, ◌≤◌, ◌*◌, ◌/◌, ltb, max, Option, Some, None, ◌⊎◌, inl, inr, ⊎_elim, Bool, true, false, cond, List, [], ◌∷◌, Result, Ok, Err, leb, refl, sym, ap, subst, ◌∙◌, arith}
 use Rattle.std.proofs.lemmas.Bool.{cases_lt, leb-true, leb-false, ltb-true, ltb-false}

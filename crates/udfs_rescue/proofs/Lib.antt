@@ -10,3 +10,6 @@ mod Judged
 mod Giving
 mod MapText
 pub mod PairLemmas
+mod ListLines
+mod ListPieces
+mod ImageText

@@ -1,6 +1,6 @@
 -- A mapfile that comes in pieces.
 use Rattle.std.specs.Prelude.{◌↔◌, IfErr, IsErrOf}
-use Rattle.std.proofs.Common.{◌≡◌, ℕ, ◌+◌, ◌%◌, ◌^◌, arith, List, [], ◌++◌, Option, None, Some, IfSome, Result, Ok, Err, refl, sym, ap, subst, ◌∙◌, append_assoc, append-nil}
+use Rattle.std.proofs.Common.{◌≡◌, ℕ, ◌+◌, ◌%◌, ◌^◌, arith, List, [], ◌++◌, Option, None, Some, IfSome, Result, Ok, Err, refl, sym, ap, subst, ◌∙◌, append_assoc}
 use Rattle.std.specs.Io.KnownBytes.{Consumes, IsAtEnd, Keeps}
 use Rattle.udfs_reading.specs.Answers.{HadGiven}
 use Rattle.udfs_rescue.specs.declared.run.Run.{Run}

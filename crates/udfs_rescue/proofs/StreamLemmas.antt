@@ -1,14 +1,13 @@
 -- One byte more of a mapfile.
-use Rattle.std.proofs.Common.{◌≡◌, ℕ, ◌+◌, ◌≤◌, ◌<◌, ◌⊎◌, inl, inr, Bool, true, false, cond, List, [], ◌∷◌, ◌++◌, Option, None, Result, Ok, Err, length, take, ltb, eqb, refl, sym, ap, subst, ◌∙◌, arith, append-nil, length-take}
+use Rattle.std.proofs.Common.{◌≡◌, ℕ, ◌≤◌, ◌<◌, ◌⊎◌, inl, inr, Bool, true, false, cond, List, [], ◌∷◌, ◌++◌, None, Result, Ok, Err, length, take, eqb, sym, ap, ◌∙◌, arith, append-nil, length-take}
 use Rattle.std.proofs.lemmas.Bool.{eq-eqb, ne_eqb, lt-ltb, cases_lt}
 use Rattle.udfs_rescue.specs.declared.run.Run.{Run}
-use Rattle.udfs_rescue.specs.declared.fault.MapFault.{MapFault}
 use Rattle.udfs_rescue.specs.declared.fault.MapError.{MapError}
 use Rattle.udfs_rescue.specs.declared.fault.MapError.TheVariants as errors
 use Rattle.udfs_rescue.specs.declared.fault.LineFault.{LineFault}
 use Rattle.udfs_rescue.specs.declared.stream.MapReader.{MapReader}
 use Rattle.udfs_rescue.specs.Words.{words}
-use Rattle.udfs_rescue.specs.Lines.{Progress, nothing, outcome, after_words, after_text, unlike, text_of, next_line, after_lines, with_first, onto, lines_of}
+use Rattle.udfs_rescue.specs.Lines.{Progress, nothing, outcome, after_words, after_text, unlike, text_of, after_lines, with_first, onto, lines_of}
 use Rattle.udfs_rescue.specs.Held.{Keeps}
 use Rattle.udfs_rescue.specs.Views.{Refuses}
 use Rattle.udfs_rescue.specs.Stream.{Stands, EndsLine, LineFails}
@@ -27,11 +26,11 @@ cut : (p : Progress) (text : List ℕ) → after_text p (take 128 text) ≡ afte
 cut p text = cut_by p text (cases_lt 127 (length text))
 
 -- the lines at an LF
-at_end : (line rest : List ℕ) (b : ℕ) → b ≡ 10 → onto line (lines_of (b ∷ rest)) ≡ line ∷ lines_of rest
+pub at_end : (line rest : List ℕ) (b : ℕ) → b ≡ 10 → onto line (lines_of (b ∷ rest)) ≡ line ∷ lines_of rest
 at_end line rest b e = ap (onto line) (chosen (eqb b 10) true ([] ∷ lines_of rest) (with_first b (lines_of rest)) (eq-eqb b 10 e)) ∙ ap (λ l. l ∷ lines_of rest) (append-nil line)
 
 -- and at another byte
-at_more : (line rest : List ℕ) (b : ℕ) → (b ≡ 10 → ⊥) → onto line (lines_of (b ∷ rest)) ≡ onto (line ++ b ∷ []) (lines_of rest)
+pub at_more : (line rest : List ℕ) (b : ℕ) → (b ≡ 10 → ⊥) → onto line (lines_of (b ∷ rest)) ≡ onto (line ++ b ∷ []) (lines_of rest)
 at_more line rest b e = ap (onto line) (chosen (eqb b 10) false ([] ∷ lines_of rest) (with_first b (lines_of rest)) (ne_eqb b 10 e)) ∙ onto_first line b (lines_of rest)
 
 pub stands_end : (old new : MapReader) (says : List ℕ → Result (List Run) LineFault) (b : ℕ) → b ≡ 10 → EndsLine old new → Stands old says → Stands new (λ rest. says (b ∷ rest))
@@ -70,7 +69,7 @@ stands_new r n v k =
     }
 
 -- the last line has no LF
-last_end : (line : List ℕ) → onto line (lines_of []) ≡ line ∷ []
+pub last_end : (line : List ℕ) → onto line (lines_of []) ≡ line ∷ []
 last_end line = ap (λ l. l ∷ []) (append-nil line)
 
 pub finish_ok : (old new : MapReader) (says : List ℕ → Result (List Run) LineFault) → EndsLine old new → Stands old says → says [] ≡ Ok new.runs.runs

@@ -1,5 +1,5 @@
 -- The blocks of an image, and the reading file of those that are rescued.
-use Rattle.std.specs.Prelude.{◌≡◌, ℕ, zero, suc, ◌+◌, ◌-◌, ◌*◌, ◌<◌, ◌≤◌, List, [], ◌∷◌, ◌++◌, length, take, drop, map, Option, None, Some, IfSome, Result, ◌⊎◌}
+use Rattle.std.specs.Prelude.{◌≡◌, ℕ, zero, suc, ◌+◌, ◌-◌, ◌*◌, ◌<◌, ◌≤◌, List, [], ◌∷◌, ◌++◌, length, take, drop, Option, None, Some}
 use Rattle.std.specs.List.{flat_map}
 use Rattle.udfs_lattice.specs.Records.{Record}
 use Rattle.udfs_reading.specs.Reading.{front, record_bytes}

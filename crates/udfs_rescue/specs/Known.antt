@@ -3,7 +3,6 @@ use Rattle.std.specs.Prelude.{◌≡◌, ◌↔◌, ℕ, ◌+◌, ◌-◌, ◌*�
 use Rattle.udfs_reading.specs.declared.error.ReadingFault.{ReadingFault}
 use Rattle.udfs_reading.specs.declared.error.ReadingFault.TheVariants.{BlockNumber, OutOfMemory}
 use Rattle.udfs_rescue.specs.declared.run.Run.{Run}
-use Rattle.udfs_rescue.specs.declared.run.RunStatus.{RunStatus}
 use Rattle.udfs_rescue.specs.declared.run.RunStatus.TheVariants.{Finished}
 use Rattle.udfs_rescue.specs.declared.known.BlockRange.{BlockRange}
 

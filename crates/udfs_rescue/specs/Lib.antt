@@ -11,3 +11,5 @@ pub mod Blocks
 pub mod Writing
 pub mod BlockSteps
 pub mod Opening
+pub mod BlockLists
+pub mod Images

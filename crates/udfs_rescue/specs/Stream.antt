@@ -6,7 +6,7 @@ use Rattle.udfs_rescue.specs.declared.fault.LineFault.{LineFault}
 use Rattle.udfs_rescue.specs.declared.fault.MapError.{MapError}
 use Rattle.udfs_rescue.specs.declared.fault.MapError.TheVariants as errors
 use Rattle.udfs_rescue.specs.declared.stream.MapReader.{MapReader}
-use Rattle.udfs_rescue.specs.Lines.{Progress, after_text, after_lines, next_line, onto, lines_of, outcome, HasNoFaultYet}
+use Rattle.udfs_rescue.specs.Lines.{after_text, after_lines, next_line, onto, lines_of, outcome, HasNoFaultYet}
 use Rattle.udfs_rescue.specs.Held.{Keeps}
 use Rattle.udfs_rescue.specs.Views.{Refuses}
 

@@ -1,5 +1,5 @@
 -- What the code's values stand for, and what its answers say.
-use Rattle.std.specs.Prelude.{◌≡◌, ℕ, List, Option, None, Some, Result, Ok, Err, min, ◌^◌}
+use Rattle.std.specs.Prelude.{◌≡◌, List, Option, None, Some, Result, Ok, Err, min, ◌^◌}
 use Rattle.udfs_rescue.specs.declared.run.Run.{Run}
 use Rattle.udfs_rescue.specs.declared.line.StepError.{StepError}
 use Rattle.udfs_rescue.specs.declared.line.StepError.TheVariants as step

@@ -6,8 +6,10 @@
 mod fault;
 mod held;
 mod image;
+mod imaging;
 mod known;
 mod line;
+mod list;
 mod mapfile;
 mod number;
 mod opening;
@@ -20,7 +22,9 @@ mod writing;
 
 pub use fault::{LineFault, MapError, MapFault};
 pub use image::Image;
+pub use imaging::write_image;
 pub use known::{BlockRange, KnownBlocks};
+pub use list::{BlockList, ListError};
 pub use mapfile::Mapfile;
 pub use opening::{PairFault, open_pair};
 pub use pair::Pair;

@@ -1,5 +1,7 @@
 //! Worked rows.
 
+mod images;
+mod lists;
 mod maps;
 mod pairs;
 mod texts;

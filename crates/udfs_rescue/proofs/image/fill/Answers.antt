@@ -1,4 +1,4 @@
-use Rattle.std.proofs.Common.{◌≡◌, ◌++◌, ◌+◌, ◌-◌, ◌≤◌, List, ℕ, length, take, drop, sym, ap, arith, ◌∙◌, rules}
+use Rattle.std.proofs.Common.{◌≡◌, ◌+◌, List, ℕ, take, drop, arith, ◌∙◌, rules}
 use Rattle.std.proofs.KnownBytes.{Keeps-trans}
 use Rattle.udfs_rescue.proofs.Giving.{filled_more, kept_value}
 use Rattle.udfs_rescue.proofs.image.fill.Goals as goal

@@ -1,4 +1,4 @@
-use Rattle.std.proofs.Common.{◌≡◌, ℕ, ◌↔◌, arith, sym, subst}
+use Rattle.std.proofs.Common.{◌↔◌, arith, sym, subst}
 use Rattle.std.proofs.lemmas.Result.{IfOk-weaker}
 use Rattle.udfs_rescue.specs.Known.{InRanges, IsKnown, RiseFrom}
 use Rattle.udfs_rescue.proofs.Exactly.{known_exactly, rising}

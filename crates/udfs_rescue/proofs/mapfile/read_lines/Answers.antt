@@ -1,4 +1,4 @@
-use Rattle.std.proofs.Common.{◌≡◌, ◌+◌, ◌%◌, ◌^◌, take, ap, subst, ◌∙◌, arith}
+use Rattle.std.proofs.Common.{◌+◌, ◌%◌, ◌^◌, take, ap, subst, ◌∙◌, arith}
 use Rattle.std.specs.Io.KnownBytes.{Consumes}
 use Rattle.udfs_rescue.proofs.PieceLemmas.{came_more, came_fails, came_io, came_end}
 use Rattle.udfs_rescue.proofs.mapfile.read_lines.Goals as goal

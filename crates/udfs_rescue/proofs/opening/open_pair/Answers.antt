@@ -1,4 +1,3 @@
-use Rattle.std.proofs.Common.{rules}
 use Rattle.udfs_rescue.proofs.PairLemmas.{reading_kept}
 use Rattle.udfs_rescue.proofs.opening.open_pair.Goals as goal
 

@@ -1,4 +1,4 @@
-use Rattle.std.proofs.Common.{◌≡◌, ◌*◌, length, arith, length-take}
+use Rattle.std.proofs.Common.{◌*◌, arith, length-take}
 use Rattle.udfs_rescue.proofs.Giving.{loaded_ok}
 use Rattle.udfs_rescue.proofs.piece.read_blocks.Goals as goal
 

@@ -1,4 +1,4 @@
-use Rattle.std.proofs.Common.{◌≡◌, arith}
+use Rattle.std.proofs.Common.{arith}
 use Rattle.std.proofs.lemmas.Result.{err_from_is_err_and}
 use Rattle.udfs_rescue.proofs.MapText.{digits_taken, digits_fail, digit_fails}
 use Rattle.udfs_rescue.proofs.writing.+write_digits.Goals as goal

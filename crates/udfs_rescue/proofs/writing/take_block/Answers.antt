@@ -1,4 +1,4 @@
-use Rattle.std.proofs.Common.{◌≡◌, ◌*◌, sym, ◌∙◌}
+use Rattle.std.proofs.Common.{◌*◌, sym, ◌∙◌}
 use Rattle.std.proofs.lemmas.Result.{err_from_is_err_and}
 use Rattle.udfs_rescue.proofs.MapText.{takes_same, takes_other, other_fails}
 use Rattle.udfs_rescue.proofs.writing.take_block.Goals as goal

@@ -1,4 +1,4 @@
-use Rattle.std.proofs.Common.{◌≡◌, ℕ, Ok, Err, inl, inr, sym, arith}
+use Rattle.std.proofs.Common.{Ok, Err, inl, inr, sym, arith}
 use Rattle.std.proofs.lemmas.Bool.{cases_lt}
 use Rattle.std.proofs.lemmas.List.Sorted.{searched}
 use Rattle.udfs_rescue.proofs.MapText.{found, not_found}

@@ -1,4 +1,4 @@
-use Rattle.std.proofs.Common.{◌≡◌, ◌/◌, subst, sym, ap, ◌∙◌}
+use Rattle.std.proofs.Common.{◌/◌, subst, ap, ◌∙◌}
 use Rattle.udfs_rescue.specs.Known.{AreBlocks, first_from}
 use Rattle.udfs_rescue.proofs.Judged.{outside_some, outside_none}
 use Rattle.udfs_rescue.proofs.known.KnownBlocks.first_outside.Goals as goal

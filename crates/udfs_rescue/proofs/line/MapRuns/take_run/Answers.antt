@@ -1,5 +1,4 @@
-use Rattle.std.proofs.Common.{◌≡◌, ◌+◌, ◌<◌, ◌^◌, true, sym, ◌∙◌, arith, rules}
-use Rattle.udfs_rescue.specs.Lines.{is_due}
+use Rattle.std.proofs.Common.{◌≡◌, true, sym, ◌∙◌, arith, rules}
 use Rattle.udfs_rescue.proofs.Contiguous.{due_more}
 use Rattle.udfs_rescue.proofs.line.MapRuns.take_run.Goals as goal
 

@@ -1,4 +1,4 @@
-use Rattle.std.proofs.Common.{◌≡◌, ◌≤◌, ◌-◌, take, drop, sym, arith, ◌∙◌, length-take}
+use Rattle.std.proofs.Common.{sym, arith, length-take}
 use Rattle.udfs_rescue.proofs.Giving.{given_view}
 use Rattle.udfs_rescue.proofs.piece.Pending.give.Goals as goal
 

@@ -1,4 +1,4 @@
-use Rattle.std.proofs.Common.{◌≡◌, ◌++◌, length, refl, sym, ap, arith, ◌∙◌}
+use Rattle.std.proofs.Common.{◌++◌, refl, ap, arith, ◌∙◌}
 use Rattle.udfs_reading.specs.Format.{number}
 use Rattle.udfs_rescue.proofs.Giving.{held_view}
 use Rattle.udfs_rescue.proofs.piece.Pending.hold.Goals as goal

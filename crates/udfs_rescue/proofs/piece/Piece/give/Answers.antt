@@ -1,4 +1,4 @@
-use Rattle.std.proofs.Common.{◌≡◌, ◌++◌, ◌-◌, suc, take, drop, sym, ap, arith, ◌∙◌}
+use Rattle.std.proofs.Common.{◌++◌, ◌-◌, take, drop, ap, arith, ◌∙◌}
 use Rattle.udfs_reading.specs.Format.{number}
 use Rattle.udfs_rescue.proofs.Giving.{given_record}
 use Rattle.udfs_rescue.proofs.piece.Piece.give.Goals as goal

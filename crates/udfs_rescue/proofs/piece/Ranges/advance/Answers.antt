@@ -1,4 +1,3 @@
-use Rattle.std.proofs.Common.{◌≡◌, ◌<◌, ◌∷◌, length, sym, ap, arith, rules, ◌∙◌}
 use Rattle.udfs_rescue.proofs.Giving.{without_front, advanced}
 use Rattle.udfs_rescue.proofs.piece.Ranges.advance.Goals as goal
 

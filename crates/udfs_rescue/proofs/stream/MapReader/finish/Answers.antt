@@ -1,4 +1,4 @@
-use Rattle.std.proofs.Common.{◌≡◌, Ok, sym, ap, ◌∙◌}
+use Rattle.std.proofs.Common.{Ok, sym, ap, ◌∙◌}
 use Rattle.udfs_rescue.proofs.StreamLemmas.{finish_ok, finish_fails}
 use Rattle.udfs_rescue.proofs.stream.MapReader.finish.Goals as goal
 
