@@ -3,7 +3,7 @@ use Rattle.std.proofs.Common.{◌≡◌, refl, sym, ◌∙◌, ap, ℕ, ◌-◌,
 use Rattle.std.proofs.lemmas.Bool.{leb-true}
 use Rattle.std.proofs.lemmas.List.{length-map, length-take-le}
 use Rattle.udfs_file.specs.Entries.{EntryFields}
-use Rattle.udfs_file.specs.Bodies.{descriptors, cells, faulty_body, extents_body, embedded_body, body}
+use Rattle.udfs_file.specs.Bodies.{allocation_descriptors, cells, faulty_body, extents_body, embedded_body, body}
 use Rattle.udfs_file.specs.Laws.{BodyLength}
 use Rattle.udfs_file.specs.declared.cells.Cell.{Cell}
 use Rattle.udfs_file.specs.declared.cells.Cell.TheVariants.{Byte}
@@ -23,7 +23,7 @@ pub body_length : BodyLength
 unfolding body
 body_length v r b e cs = go (nat_eq e.form 3)
   where
-    go : (x : Bool) → cond x (embedded_body b e) (extents_body v e.size (descriptors v r e)) ≡ cells cs → length cs ≡ e.size
+    go : (x : Bool) → cond x (embedded_body b e) (extents_body v e.size (allocation_descriptors v r e)) ≡ cells cs → length cs ≡ e.size
     go true q = embedded_length b e cs q
-    go false q = from-length v e.size (descriptors v r e).behind 0 (descriptors v r e).all cs (sym (body-from v e.size (descriptors v r e)) ∙ q)
+    go false q = from-length v e.size (allocation_descriptors v r e).behind 0 (allocation_descriptors v r e).all cs (sym (body-from v e.size (allocation_descriptors v r e)) ∙ q)
         ∙ (let z : e.size - 0 ≡ e.size = omega arith in z)

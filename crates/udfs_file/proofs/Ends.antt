@@ -11,7 +11,7 @@ use Rattle.udfs_file.specs.declared.cursors.Step as cursor
 use Rattle.udfs_file.specs.declared.cursors.Step.TheVariants.{Id}
 use Rattle.udfs_file.specs.declared.pieces.Pieces.{Pieces}
 use Rattle.udfs_file.specs.Identifiers.{Identifier, Rest, Step, AtRest, One}
-use Rattle.udfs_file.specs.Fronts.{directory, entries_of, entry_with, identifier_in, is_listed, listed_entries, missing_in, fault_in, IsEndOf}
+use Rattle.udfs_file.specs.Fronts.{directory, directory_entries, entry_with, identifier_in, is_listed, listed_entries, missing_in, fault_in, IsEndOf}
 use Rattle.udfs_file.specs.Steps.{Goes, IsDescriptor, bytes_of}
 use Rattle.udfs_file.proofs.FrontLemmas.{listed_in}
 
@@ -21,11 +21,11 @@ some_listed ids = nat_lt 0 (length (listed_entries ids))
 
 -- the cells that are left end as all do, and there is an entry so far or among them exactly if there is one at all
 pub record IsEnding (cells left : List Cell) (so_far : Bool) : Type 0 where
-  pub lists : (so_far || nat_lt 0 (length (entries_of left))) ≡ nat_lt 0 (length (entries_of cells))
+  pub lists : (so_far || nat_lt 0 (length (directory_entries left))) ≡ nat_lt 0 (length (directory_entries cells))
   pub rest : (directory left).rest ≡ (directory cells).rest
 
 pub ending_start : (cells left : List Cell) → left ≡ cells → IsEnding cells left false
-ending_start cells left e = record { lists = ap (λ cs. nat_lt 0 (length (entries_of cs))) e; rest = ap (λ cs. (directory cs).rest) e }
+ending_start cells left e = record { lists = ap (λ cs. nat_lt 0 (length (directory_entries cs))) e; rest = ap (λ cs. (directory cs).rest) e }
 
 -- the entry of what was read
 abbrev listed_of : Step → Option DirEntry
@@ -61,8 +61,8 @@ or_true false = refl
 next : (cells left behind : List Cell) (so_far : Bool) (view : Pieces) → IsEnding cells left so_far → Goes (directory left) (Id view) (directory behind)
     → IsEnding cells behind (so_far || is_listed (bytes_of view))
 next cells left behind so_far view f g = record {
-  lists = or_assoc so_far (is_listed (bytes_of view)) (nat_lt 0 (length (entries_of behind)))
-      ∙ ap (λ b. so_far || (b || nat_lt 0 (length (entries_of behind)))) (sym (entry_listed (bytes_of view) id d.is))
+  lists = or_assoc so_far (is_listed (bytes_of view)) (nat_lt 0 (length (directory_entries behind)))
+      ∙ ap (λ b. so_far || (b || nat_lt 0 (length (directory_entries behind)))) (sym (entry_listed (bytes_of view) id d.is))
       ∙ ap (λ b. so_far || b) (sym (first_or_later id.listed id.size (directory behind).identifiers))
       ∙ ap (λ ids. so_far || some_listed ids) (sym g.2) ∙ f.lists;
   rest = sym g.3 ∙ f.rest;

@@ -9,7 +9,7 @@ use Rattle.udfs_osta.specs.Parts.{IsPathPart}
 use Rattle.udfs_osta.specs.declared.names.NameFault.{NameFault}
 use Rattle.udfs_osta.proofs.PublicLaws.{escaped_name_is_path_part}
 use Rattle.udfs_tag.specs.Fields.{uint8_at, uint16_at, long_ad_at, part}
-use Rattle.udfs_file.specs.Fronts.{directory, entry_with, identifier_in, is_listed, listed_entries, entries_of, marks_of, step, ReadsAs, value}
+use Rattle.udfs_file.specs.Fronts.{directory, entry_with, identifier_in, is_listed, listed_entries, directory_entries, marks_of, step, ReadsAs, value}
 use Rattle.udfs_file.specs.Identifiers.{Identifier, Rest, Step, One, AtRest}
 use Rattle.udfs_file.specs.Laws.{NamesAreParts}
 use Rattle.udfs_file.specs.declared.cells.Cell.{Cell}

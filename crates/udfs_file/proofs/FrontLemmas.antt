@@ -13,7 +13,7 @@ use Rattle.udfs_file.specs.Identifiers.{Rest}
 use Rattle.udfs_file.specs.Identifiers.{Step}
 use Rattle.udfs_file.specs.Identifiers.{AtRest, One}
 use Rattle.udfs_file.specs.declared.directories.DirFront.{DirFront}
-use Rattle.udfs_file.specs.Fronts.{step, read_on, read_from, directory, listed_entries, entries_of, DirectoryText, missing_in, fault_in, IsFrontOf, IsFrontRefused, is_listed, identifier_in, entry_with, marks_of}
+use Rattle.udfs_file.specs.Fronts.{step, read_on, read_from, directory, listed_entries, directory_entries, DirectoryText, missing_in, fault_in, IsFrontOf, IsFrontRefused, is_listed, identifier_in, entry_with, marks_of}
 use Rattle.udfs_file.specs.Steps.{IsDescriptor, IsListedIn, IsStep, bytes_of}
 use Rattle.udfs_file.specs.declared.cursors.Step as cursor
 use Rattle.udfs_file.specs.declared.cursors.Step.TheVariants.{Id}
@@ -25,14 +25,14 @@ use Rattle.udfs_file.proofs.Readings.{StepOne, step_one}
 pub record IsFronting (cells left : List Cell) (listed : List DirEntry) : Type 0 where
   pub fuel : ℕ
   pub enough : length left < fuel
-  pub entries : listed ++ listed_entries (read_from fuel left).identifiers ≡ entries_of cells
+  pub entries : listed ++ listed_entries (read_from fuel left).identifiers ≡ directory_entries cells
   pub rest : (read_from fuel left).rest ≡ (directory cells).rest
 
 pub front-start : (cells : List Cell) → IsFronting cells cells []
 unfolding directory
 front-start cells = record { fuel = length cells + 1; enough = omega arith; entries = more cells; rest = refl }
   where
-    more : (cells : List Cell) → [] ++ listed_entries (directory cells).identifiers ≡ entries_of cells
+    more : (cells : List Cell) → [] ++ listed_entries (directory cells).identifiers ≡ directory_entries cells
     more cells = refl
 
 -- the text of a directory with some fuel, by its first step
@@ -40,8 +40,8 @@ text : (k : ℕ) (left : List Cell) (s : Step) → step left ≡ s → read_from
 text k left s e = ap (λ (t : Step). read_on t (λ size. read_from k (drop size left))) e
 
 rest_text : (cells left : List Cell) (listed : List DirEntry) (fuel : ℕ) (r : Rest) → length left < fuel → step left ≡ AtRest r
-    → listed ++ listed_entries (read_from fuel left).identifiers ≡ entries_of cells → (read_from fuel left).rest ≡ (directory cells).rest
-    → (listed ≡ entries_of cells) × (r ≡ (directory cells).rest)
+    → listed ++ listed_entries (read_from fuel left).identifiers ≡ directory_entries cells → (read_from fuel left).rest ≡ (directory cells).rest
+    → (listed ≡ directory_entries cells) × (r ≡ (directory cells).rest)
 rest_text cells left listed zero r h e p q = absurd (omega arith)
 rest_text cells left listed (suc k) r h e p q = (
   sym (append-nil listed) ∙ sym (ap (λ (t : DirectoryText). listed ++ listed_entries t.identifiers) (text k left (AtRest r) e)) ∙ p,
@@ -49,7 +49,7 @@ rest_text cells left listed (suc k) r h e p q = (
 )
 
 pub front-rest : (cells left : List Cell) (listed : List DirEntry) (r : Rest) → IsFronting cells left listed → step left ≡ AtRest r
-    → (listed ≡ entries_of cells) × (r ≡ (directory cells).rest)
+    → (listed ≡ directory_entries cells) × (r ≡ (directory cells).rest)
 front-rest cells left listed r f e = rest_text cells left listed f.fuel r f.enough e f.entries f.rest
 
 abbrev also : List DirEntry → Option DirEntry → List DirEntry
@@ -63,7 +63,7 @@ listed_first listed size (Some entry) ids = append_assoc listed (entry ∷ []) (
 
 go_on : (cells left : List Cell) (listed : List DirEntry) (fuel size : ℕ) (o : Option DirEntry) → length left < fuel → step left ≡ One (record { size = size; listed = o })
     → 1 ≤ size → size ≤ length left
-    → listed ++ listed_entries (read_from fuel left).identifiers ≡ entries_of cells → (read_from fuel left).rest ≡ (directory cells).rest
+    → listed ++ listed_entries (read_from fuel left).identifiers ≡ directory_entries cells → (read_from fuel left).rest ≡ (directory cells).rest
     → IsFronting cells (drop size left) (also listed o)
 go_on cells left listed zero size o h e l w p q = absurd (omega arith)
 go_on cells left listed (suc k) size o h e l w p q = record {
@@ -134,7 +134,7 @@ front_ended cells left listed front rest f e i m q = let r = front-rest cells le
 
 -- ---- a listed descriptor is one of the directory's entries, behind those before it
 some_entry : (cells left : List Cell) (listed : List DirEntry) (fuel size : ℕ) (entry : DirEntry) → length left < fuel → step left ≡ One (record { size = size; listed = Some entry })
-    → listed ++ listed_entries (read_from fuel left).identifiers ≡ entries_of cells → length listed < length (entries_of cells)
+    → listed ++ listed_entries (read_from fuel left).identifiers ≡ directory_entries cells → length listed < length (directory_entries cells)
 some_entry cells left listed zero size entry h e p = absurd (omega arith)
 some_entry cells left listed (suc k) size entry h e p = subst (λ es. length listed < length es) (listed_first listed size (Some entry) (read_from k (drop size left)).identifiers
     ∙ sym (ap (λ (t : DirectoryText). listed ++ listed_entries t.identifiers) (text k left (One (record { size = size; listed = Some entry })) e)) ∙ p)
@@ -143,10 +143,10 @@ some_entry cells left listed (suc k) size entry h e p = subst (λ es. length lis
     let r : length (listed ++ entry ∷ []) ≡ length listed + 1 = length-append listed (entry ∷ []) in omega (arith, q, r))
 
 pub lists_entry : (cells left : List Cell) (listed : List DirEntry) (behind : List Cell) (view : Pieces) (told : cursor.Step) (entry : DirEntry) → IsFronting cells left listed
-    → IsStep left told behind → told ≡ Id view → IsListedIn (bytes_of view) (Some entry) → length listed < length (entries_of cells)
+    → IsStep left told behind → told ≡ Id view → IsListedIn (bytes_of view) (Some entry) → length listed < length (directory_entries cells)
 lists_entry cells left listed behind view told entry f s t l = go (subst (λ (x : cursor.Step). IsStep left x behind) t s)
   where
-    go : IsStep left (Id view) behind → length listed < length (entries_of cells)
+    go : IsStep left (Id view) behind → length listed < length (directory_entries cells)
     go i = some_entry cells left listed f.fuel i.is.0.size entry f.enough (i.is.2 ∙ ap (λ o. One (record { size = i.is.0.size; listed = o })) (l i.is.0 i.is.1.is)) f.entries
 
 -- a descriptor that is good and listed has an entry
@@ -159,14 +159,14 @@ listed_in bytes id e q = by (units_of (part bytes (38 + uint16_at bytes 36) (uin
     by (Err fault) w = absurd (let z : ⊥ = cc in z)
 
 pub lists_some : (cells left : List Cell) (listed : List DirEntry) (behind : List Cell) (view : Pieces) (told : cursor.Step) → IsFronting cells left listed
-    → IsStep left told behind → told ≡ Id view → is_listed (bytes_of view) ≡ true → length listed < length (entries_of cells)
+    → IsStep left told behind → told ≡ Id view → is_listed (bytes_of view) ≡ true → length listed < length (directory_entries cells)
 lists_some cells left listed behind view told f s t l = go (subst (λ (x : cursor.Step). IsStep left x behind) t s)
   where
-    go : IsStep left (Id view) behind → length listed < length (entries_of cells)
+    go : IsStep left (Id view) behind → length listed < length (directory_entries cells)
     go i = let w = listed_in (bytes_of view) i.is.0 l i.is.1.is in
         some_entry cells left listed f.fuel i.is.0.size w.0 f.enough (i.is.2 ∙ ap (λ o. One (record { size = i.is.0.size; listed = o })) w.1) f.entries
 
 -- where memory is refused, there is an entry
-pub no_memory : {A : Type 0} (r : Result A FrontError) (most : ℕ) (cells : List Cell) (n : ℕ) → IsErrAnd r (λ e. e ≡ OutOfMemory) → n < length (entries_of cells) → IfErr r (IsFrontRefused most cells)
+pub no_memory : {A : Type 0} (r : Result A FrontError) (most : ℕ) (cells : List Cell) (n : ℕ) → IsErrAnd r (λ e. e ≡ OutOfMemory) → n < length (directory_entries cells) → IfErr r (IsFrontRefused most cells)
 no_memory r most cells n h l = let p = err_from_is_err_and r h in
-    subst (λ x. IfErr x (IsFrontRefused most cells)) (sym (p.1 ∙ ap Err p.2)) (let z : 0 < length (entries_of cells) = omega (arith, l) in z)
+    subst (λ x. IfErr x (IsFrontRefused most cells)) (sym (p.1 ∙ ap Err p.2)) (let z : 0 < length (directory_entries cells) = omega (arith, l) in z)

@@ -4,7 +4,7 @@ use Rattle.std.specs.Prelude.{zero, suc}
 use Rattle.std.specs.List.{AllZip, cons_option}
 use Rattle.udfs_file.specs.declared.cells.Cell.{Cell}
 use Rattle.udfs_file.specs.declared.cells.Cell.TheVariants.{Byte, Gap}
-use Rattle.udfs_file.specs.Fronts.{first_missing, value, holder_of, identifier_size, or_stop, checked_identifier, sized_identifier, step, DirectoryText, read_on, read_from, directory, listed_entries, entries_of}
+use Rattle.udfs_file.specs.Fronts.{first_missing, value, holder_of, identifier_size, or_stop, checked_identifier, sized_identifier, step, DirectoryText, read_on, read_from, directory, listed_entries, directory_entries}
 use Rattle.udfs_file.specs.declared.directories.DirEntry.{DirEntry}
 use Rattle.udfs_file.specs.Identifiers.{Identifier}
 use Rattle.udfs_file.specs.Identifiers.{Stopped, Wrong}
@@ -161,7 +161,7 @@ listed-append (x ∷ xs) ys = go (listed-append xs ys) x.listed
     go ih (Some e) = ap (λ z. e ∷ z) ih
 
 -- over a part of a body the entries are a beginning of the whole's
-pub part_front : (xs ys : List Cell) → AllZip IsCellOf xs ys → IsBeginningOf (entries_of xs) (entries_of ys)
+pub part_front : (xs ys : List Cell) → AllZip IsCellOf xs ys → IsBeginningOf (directory_entries xs) (directory_entries ys)
 unfolding directory
 part_front xs ys h = go (part_read (length ys + 1) xs ys h)
   where

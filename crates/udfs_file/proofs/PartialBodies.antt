@@ -9,7 +9,7 @@ use Rattle.udfs_lattice.specs.Volumes.{Includes}
 use Rattle.udfs_tag.specs.declared.layouts.LongAd.{LongAd}
 use Rattle.udfs_space.specs.Places.{View, IsPartOf}
 use Rattle.udfs_file.specs.Entries.{EntryFields}
-use Rattle.udfs_file.specs.Bodies.{covers, with_start, used, descriptors, cells, faulty_body, extents_body, embedded_body, body, IsRecordedFor, IsContinuedFor, IsNeededFor}
+use Rattle.udfs_file.specs.Bodies.{covers, with_start, used, allocation_descriptors, cells, faulty_body, extents_body, embedded_body, body, IsRecordedFor, IsContinuedFor, IsNeededFor}
 use Rattle.udfs_file.specs.declared.cells.Cell.{Cell}
 use Rattle.udfs_file.specs.declared.cells.Cell.TheVariants.{Byte, Gap}
 use Rattle.udfs_file.specs.Laws.{IsMissingAt, PartialBodies}
@@ -87,8 +87,8 @@ record Gaps (s w : View) (r : ℕ) (e : EntryFields) (part : List Cell) (k : ℕ
   names : (n : ℕ) → slice_get part k ≡ Some (Gap n) → (is_known (s.blocks n) ≡ false) × IsNeededFor w r e k n
   gaps : IsMissingAt part k ↔ ((n : ℕ) × (is_known (s.blocks n) ≡ false) × IsNeededFor w r e k n)
 
-descriptors_fit : (s w : View) → IsPartOf s w → (r : ℕ) (e : EntryFields) → ChainFits s w (descriptors s r e) (descriptors w r e)
-unfolding descriptors
+descriptors_fit : (s w : View) → IsPartOf s w → (r : ℕ) (e : EntryFields) → ChainFits s w (allocation_descriptors s r e) (allocation_descriptors w r e)
+unfolding allocation_descriptors
 descriptors_fit s w p r e = chain_fits s w p e.form r 256 e.area
 
 gaps_of : (s w : View) → IsPartOf s w → (r b : ℕ) (e : EntryFields) (whole part : List Cell) → body w r b e ≡ cells whole → body s r b e ≡ cells part → length part ≡ length whole
@@ -96,11 +96,11 @@ gaps_of : (s w : View) → IsPartOf s w → (r b : ℕ) (e : EntryFields) (whole
 unfolding body
 gaps_of s w p r b e whole part ew es len k = go (nat_eq e.form 3) refl ew es
   where
-    f : ChainFits s w (descriptors s r e) (descriptors w r e)
+    f : ChainFits s w (allocation_descriptors s r e) (allocation_descriptors w r e)
     f = descriptors_fit s w p r e
 
-    go : (x : Bool) → nat_eq e.form 3 ≡ x → cond x (embedded_body b e) (extents_body w e.size (descriptors w r e)) ≡ cells whole
-        → cond x (embedded_body b e) (extents_body s e.size (descriptors s r e)) ≡ cells part → Gaps s w r e part k
+    go : (x : Bool) → nat_eq e.form 3 ≡ x → cond x (embedded_body b e) (extents_body w e.size (allocation_descriptors w r e)) ≡ cells whole
+        → cond x (embedded_body b e) (extents_body s e.size (allocation_descriptors s r e)) ≡ cells part → Gaps s w r e part k
     go true x qw qs = record {
       names = λ n m. absurd (no_gap b (take e.size e.area) k (subst (λ z. IsMissingAt z k) (embedded_cells b e part qs) (n, m)));
       gaps = (
@@ -110,38 +110,38 @@ gaps_of s w p r b e whole part ew es len k = go (nat_eq e.form 3) refl ew es
     }
     go false x qw qs = record { names = needed; gaps = ((λ (n, m). let q : (is_known (s.blocks n) ≡ false) × IsNeededFor w r e k n = needed n m in (n, q.0, q.1)), open_if) }
       where
-        fw : from w e.size (descriptors w r e).behind 0 ((descriptors s r e).all ++ f.rest) ≡ cells whole
-        fw = ap (from w e.size (descriptors w r e).behind 0) (sym f.splits) ∙ sym (body-from w e.size (descriptors w r e)) ∙ qw
+        fw : from w e.size (allocation_descriptors w r e).behind 0 ((allocation_descriptors s r e).all ++ f.rest) ≡ cells whole
+        fw = ap (from w e.size (allocation_descriptors w r e).behind 0) (sym f.splits) ∙ sym (body-from w e.size (allocation_descriptors w r e)) ∙ qw
 
-        fs : from s e.size (descriptors s r e).behind 0 (descriptors s r e).all ≡ cells part
-        fs = sym (body-from s e.size (descriptors s r e)) ∙ qs
+        fs : from s e.size (allocation_descriptors s r e).behind 0 (allocation_descriptors s r e).all ≡ cells part
+        fs = sym (body-from s e.size (allocation_descriptors s r e)) ∙ qs
 
-        g : GapsAt s w e.size 0 ((descriptors s r e).all ++ f.rest) part k
-        g = gaps_from s w p e.size (descriptors s r e).behind (descriptors w r e).behind f.rest 0 (descriptors s r e).all f.fits whole part fw fs k
+        g : GapsAt s w e.size 0 ((allocation_descriptors s r e).all ++ f.rest) part k
+        g = gaps_from s w p e.size (allocation_descriptors s r e).behind (allocation_descriptors w r e).behind f.rest 0 (allocation_descriptors s r e).all f.fits whole part fw fs k
 
         not_three : ¬ (e.form ≡ 3)
         not_three q = let t : nat_eq e.form 3 ≡ true = ap (λ z. nat_eq z 3) q in let z : ⊥ = cc in z
 
         long : length part ≡ e.size - 0
-        long = len ∙ from-length w e.size (descriptors w r e).behind 0 ((descriptors s r e).all ++ f.rest) whole fw
+        long = len ∙ from-length w e.size (allocation_descriptors w r e).behind 0 ((allocation_descriptors s r e).all ++ f.rest) whole fw
 
         same : 0 + k ≡ k
         same = omega arith
 
         needed : (n : ℕ) → slice_get part k ≡ Some (Gap n) → (is_known (s.blocks n) ≡ false) × IsNeededFor w r e k n
-        needed n m = let q : (is_known (s.blocks n) ≡ false) × NeedIn w e.size 0 ((descriptors s r e).all ++ f.rest) (0 + k) n = g.needed n m in
+        needed n m = let q : (is_known (s.blocks n) ≡ false) × NeedIn w e.size 0 ((allocation_descriptors s r e).all ++ f.rest) (0 + k) n = g.needed n m in
             let inside : k < length part = slice_get_within part k (Gap n) m in (
               q.0,
               (
                 omega (arith, inside, long),
                 not_three,
-                to_needed w e.size (descriptors w r e).all k n (subst (λ z. NeedIn w e.size 0 z k n) (sym f.splits) (subst (λ z. NeedIn w e.size 0 ((descriptors s r e).all ++ f.rest) z n) same q.1)),
+                to_needed w e.size (allocation_descriptors w r e).all k n (subst (λ z. NeedIn w e.size 0 z k n) (sym f.splits) (subst (λ z. NeedIn w e.size 0 ((allocation_descriptors s r e).all ++ f.rest) z n) same q.1)),
               ),
             )
 
         open_if : (n : ℕ) × (is_known (s.blocks n) ≡ false) × IsNeededFor w r e k n → IsMissingAt part k
         open_if (n, u, need) = g.open_if n u (let l : k < e.size = need.0 in omega (arith, l))
-            (subst (λ z. NeedIn w e.size 0 ((descriptors s r e).all ++ f.rest) z n) (sym same) (subst (λ z. NeedIn w e.size 0 z k n) f.splits (from_needed w e.size (descriptors w r e).all k n need.2)))
+            (subst (λ z. NeedIn w e.size 0 ((allocation_descriptors s r e).all ++ f.rest) z n) (sym same) (subst (λ z. NeedIn w e.size 0 z k n) f.splits (from_needed w e.size (allocation_descriptors w r e).all k n need.2)))
 
 pub partial_bodies : PartialBodies
 partial_bodies s w p r b e whole q = let part : PartIs (body s r b e) whole = part_body s w p r b e whole q in record {

@@ -11,7 +11,7 @@ use Rattle.udfs_lattice.specs.declared.facts.Fact.TheVariants.{Unknown, Known, C
 use Rattle.udfs_tag.specs.declared.layouts.LongAd.{LongAd}
 use Rattle.udfs_space.specs.Places.{View, IsPartOf}
 use Rattle.udfs_file.specs.Entries.{EntryFields}
-use Rattle.udfs_file.specs.Bodies.{Next, no_more, area_at, unread_at, broken, Descriptors, covers, cells_in, extent_fault, continuation_fault, next_of, next_if, next_area, next_descriptor, up_to_next, descriptors_in, joined, no_descriptors, chain, descriptors, cell_in, cell_at, extent_cells, recorded_cell, Body, cells, faulty_body, ended_body, body_unless, extents_body, embedded_body, body}
+use Rattle.udfs_file.specs.Bodies.{Next, no_more, area_at, unread_at, broken, Descriptors, covers, cells_in, extent_fault, continuation_fault, next_of, next_if, next_area, next_descriptor, up_to_next, descriptors_in, joined, no_descriptors, chain, allocation_descriptors, cell_in, cell_at, extent_cells, recorded_cell, Body, cells, faulty_body, ended_body, body_unless, extents_body, embedded_body, body}
 use Rattle.udfs_file.specs.declared.cells.Cell.{Cell}
 use Rattle.udfs_file.specs.declared.cells.Cell.TheVariants.{Byte, Gap}
 use Rattle.udfs_file.specs.Laws.{IsCellOf}
@@ -175,7 +175,7 @@ pub record PartIs (b : Body) (whole : List Cell) : Type 0 where
   pub is : b ≡ cells part
   pub each : AllZip IsCellOf part whole
 
--- the same descriptors, of which the known ones end where something else stands behind them
+-- the same allocation_descriptors, of which the known ones end where something else stands behind them
 compare_from : (s w : View) → IsPartOf s w → (size : ℕ) (bs bw : Next) (rest : List LongAd)
     → ((c : ℕ) (whole : List Cell) → c < size → from w size bw c rest ≡ cells whole → PartIs (ended_body (size - c) bs []) whole)
     → (c : ℕ) (xs : List LongAd) (whole : List Cell) → from w size bw c (xs ++ rest) ≡ cells whole → PartIs (from s size bs c xs) whole
@@ -245,7 +245,7 @@ next_is s w p form is_last (Some d) = go (continuation_fault w is_last d) refl (
         (to s (continuation_fault s is_last d) None (s.place d.reference d.block) (Some n) (same_continuation s w p is_last d ∙ eo) (p.places d.reference d.block ∙ ek))
         (to w (continuation_fault w is_last d) None (w.place d.reference d.block) (Some n) eo ek) (s.blocks n) refl
 
--- All descriptors: the same, or those up to a continuation that is not known.
+-- All allocation_descriptors: the same, or those up to a continuation that is not known.
 data ChainIs (s : View) (cs cw : Descriptors) : Type 0 where
   chain_same : cs.all ≡ cw.all → cs.behind ≡ cw.behind → ChainIs s cs cw
   chain_cut : (rest : List LongAd) (n : ℕ) → cw.all ≡ cs.all ++ rest → cs.behind ≡ unread_at n → is_known (s.blocks n) ≡ false → ChainIs s cs cw
@@ -284,8 +284,8 @@ chain_is s w p form r (suc left) area = let ds : List LongAd = descriptors_in fo
     chain_with s (up_to_next ds) (next_of s form false (next_descriptor ds)) (next_of w form false (next_descriptor ds)) (λ a. chain s form r left a) (λ a. chain w form r left a)
     (next_is s w p form false (next_descriptor ds)) (λ a. chain_is s w p form r left a)
 
-descriptors_is : (s w : View) → IsPartOf s w → (r : ℕ) (e : EntryFields) → ChainIs s (descriptors s r e) (descriptors w r e)
-unfolding descriptors
+descriptors_is : (s w : View) → IsPartOf s w → (r : ℕ) (e : EntryFields) → ChainIs s (allocation_descriptors s r e) (allocation_descriptors w r e)
+unfolding allocation_descriptors
 descriptors_is s w p r e = chain_is s w p e.form r 256 e.area
 
 part_extents : (s w : View) → IsPartOf s w → (size : ℕ) (ds dw : Descriptors) → ChainIs s ds dw → (whole : List Cell)
@@ -314,7 +314,7 @@ pub part_body : (s w : View) → IsPartOf s w → (r b : ℕ) (entry : EntryFiel
 unfolding body
 part_body s w p r b entry whole e = go (nat_eq entry.form 3) e
   where
-    go : (x : Bool) → cond x (embedded_body b entry) (extents_body w entry.size (descriptors w r entry)) ≡ cells whole
-        → PartIs (cond x (embedded_body b entry) (extents_body s entry.size (descriptors s r entry))) whole
+    go : (x : Bool) → cond x (embedded_body b entry) (extents_body w entry.size (allocation_descriptors w r entry)) ≡ cells whole
+        → PartIs (cond x (embedded_body b entry) (extents_body s entry.size (allocation_descriptors s r entry))) whole
     go true k = record { part = whole; is = k; each = AllZip-refl whole }
-    go false k = part_extents s w p entry.size (descriptors s r entry) (descriptors w r entry) (descriptors_is s w p r entry) whole k
+    go false k = part_extents s w p entry.size (allocation_descriptors s r entry) (allocation_descriptors w r entry) (descriptors_is s w p r entry) whole k

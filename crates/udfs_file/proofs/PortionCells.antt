@@ -7,7 +7,7 @@ use Rattle.udfs_lattice.specs.States.{State}
 use Rattle.udfs_lattice.specs.declared.facts.Fact.TheVariants.{Unknown, Known, Conflict}
 use Rattle.udfs_space.specs.Places.{View, block_at}
 use Rattle.udfs_file.specs.Bodies.{cell_in, cell_at, recorded_cell}
-use Rattle.udfs_file.specs.Portions.{AreUnread, IsFirst, IsPortion, IsUnread, IsUnreadAt, portion_count}
+use Rattle.udfs_file.specs.Portions.{AreUnread, IsFirst, IsPortion, IsUnreadState, IsUnreadAt, portion_count}
 use Rattle.udfs_file.specs.Stretches.{cells_of, stretch_cells, stretch_count}
 use Rattle.udfs_file.specs.declared.portions.Portion.{Portion}
 use Rattle.udfs_file.specs.declared.stretches.Run.{Run}
@@ -21,7 +21,7 @@ use Rattle.udfs_file.specs.declared.cells.Cell.TheVariants.{Byte, Gap}
 same_block : (q p : ℕ) → 2048 * q ≤ p → p < 2048 * q + 2048 → p / 2048 ≡ q
 same_block q p h k = omega arith
 
-gap_in : (b i m n : ℕ) (s : State) → m ≡ n → IsUnread s → cell_in b m i s ≡ Gap n
+gap_in : (b i m n : ℕ) (s : State) → m ≡ n → IsUnreadState s → cell_in b m i s ≡ Gap n
 gap_in b i m n Unknown e u = ap Gap e
 gap_in b i m n (Known bytes) e u = absurd u
 gap_in b i m n Conflict e u = ap Gap e

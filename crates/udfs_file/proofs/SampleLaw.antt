@@ -11,7 +11,7 @@ use Rattle.udfs_tag.specs.Tags.{tag_of}
 use Rattle.udfs_volume.specs.Sequence.{Bytes}
 use Rattle.udfs_space.specs.Places.{place}
 use Rattle.udfs_file.specs.Addresses.{file_set}
-use Rattle.udfs_file.specs.Bodies.{body, descriptors, used}
+use Rattle.udfs_file.specs.Bodies.{body, allocation_descriptors, used}
 use Rattle.udfs_file.specs.Entries.{entry_fault, entry_of}
 use Rattle.udfs_file.specs.Fronts.{directory, step}
 use Rattle.udfs_file.specs.declared.faults.Kind.TheVariants.{Directory, File}
@@ -44,15 +44,15 @@ sample_file_set_law = (are_blocks, refl)
 
 -- ---- the files
 root_file : IsSampleFile sample_root Directory root_cells
-unfolding polynomial reduced crc_of tag_of place entry_fault entry_of descriptors used body
+unfolding polynomial reduced crc_of tag_of place entry_fault entry_of allocation_descriptors used body
 root_file = record { is_good = refl; block = 273; bytes = root_block; there = refl; is_sound = refl; kind_is = refl; has_body = refl }
 
 a_file : IsSampleFile (icb_at 3) File a_cells
-unfolding polynomial reduced crc_of tag_of place entry_fault entry_of descriptors used body
+unfolding polynomial reduced crc_of tag_of place entry_fault entry_of allocation_descriptors used body
 a_file = record { is_good = refl; block = 275; bytes = a_block; there = refl; is_sound = refl; kind_is = refl; has_body = refl }
 
 b_file : IsSampleFile (icb_at 4) File b_cells
-unfolding polynomial reduced crc_of tag_of place entry_fault entry_of descriptors used body
+unfolding polynomial reduced crc_of tag_of place entry_fault entry_of allocation_descriptors used body
 b_file = record { is_good = refl; block = 276; bytes = b_block; there = refl; is_sound = refl; kind_is = refl; has_body = refl }
 
 pub sample_files : AreSampleFiles

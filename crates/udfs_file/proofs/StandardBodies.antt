@@ -14,13 +14,13 @@ use Rattle.udfs_tag.specs.Fields.{part, uint32_at}
 use Rattle.udfs_tag.specs.Tags.{is_valid}
 use Rattle.udfs_space.specs.Places.{View, block_at}
 use Rattle.udfs_file.specs.Entries.{EntryFields, descriptor_size}
-use Rattle.udfs_file.specs.Bodies.{Next, no_more, area_at, broken, Descriptors, covers, cells_in, extent_fault, continuation_fault, next_of, next_if, next_area, next_descriptor, descriptors_in, joined, no_descriptors, chain, descriptors, extent_cells, Body, cells, faulty_body, body_unless, extents_body, embedded_body, body}
+use Rattle.udfs_file.specs.Bodies.{Next, no_more, area_at, broken, Descriptors, covers, cells_in, extent_fault, continuation_fault, next_of, next_if, next_area, next_descriptor, descriptors_in, joined, no_descriptors, chain, allocation_descriptors, extent_cells, Body, cells, faulty_body, body_unless, extents_body, embedded_body, body}
 use Rattle.udfs_file.specs.declared.cells.Cell.{Cell}
 use Rattle.udfs_file.specs.declared.cells.Cell.TheVariants.{Byte}
 use Rattle.udfs_file.specs.declared.faults.NodeFault.{NodeFault}
 use Rattle.udfs_file.specs.declared.faults.NodeFault.TheVariants.{Short, Chain, Range, Reference, Odd}
 use Rattle.udfs_file.specs.Standard.{Located, block_bytes, extent_bytes, up_to_end, IsExtentAt, IsExtentOf, AreExtentsOf, IsJoined, IsExtentsBody, IsEmbeddedBody, IsBodyOf}
-use Rattle.udfs_file.specs.Complete.{HasPartitions, IsReadBody, IsWhole, StandardBodies, as_cells}
+use Rattle.udfs_file.specs.Complete.{HasPartitions, IsReadBody, IsComplete, StandardBodies, as_cells}
 use Rattle.udfs_file.proofs.BodyFrom.{from, le_or_lt, body-from, is_lt, not_le, not_lt}
 use Rattle.udfs_file.proofs.BodyFrom as front
 use Rattle.udfs_file.proofs.Parts.{cells-same, from-done, from-on}
@@ -38,7 +38,7 @@ record IsPlaced (all : View) (r b : ℕ) (bytes : Bytes) : Type 0 where
   known : all.blocks at ≡ Known bytes
   within : nat_le all.partitions r ≡ false
 
-placed : (all : View) (blocks : ℕ → ℕ → Option Bytes) → IsWhole all blocks → HasPartitions all → (r b : ℕ) (bytes : Bytes) → blocks r b ≡ Some bytes → IsPlaced all r b bytes
+placed : (all : View) (blocks : ℕ → ℕ → Option Bytes) → IsComplete all blocks → HasPartitions all → (r b : ℕ) (bytes : Bytes) → blocks r b ≡ Some bytes → IsPlaced all r b bytes
 placed all blocks w has r b bytes e = go (all.place r b) refl
   where
     go : (o : Option ℕ) → all.place r b ≡ o → IsPlaced all r b bytes
@@ -76,7 +76,7 @@ in_first j m l p q = omega (arith, p, q)
 in_body : (j l s c : ℕ) → c < s → j < blocks_in (min l (s - c)) → c + 2048 * j < s
 in_body j l s c q p = let h : min l (s - c) ≤ s - c = grind arith in omega (arith, p, q, h)
 
-sound_extent : (all : View) (blocks : ℕ → ℕ → Option Bytes) → IsWhole all blocks → HasPartitions all → (size c : ℕ) (d : LongAd) → c < size → 0 < d.length → covers d ≡ d.length
+sound_extent : (all : View) (blocks : ℕ → ℕ → Option Bytes) → IsComplete all blocks → HasPartitions all → (size c : ℕ) (d : LongAd) → c < size → 0 < d.length → covers d ≡ d.length
     → IsExtentOf blocks c size d → extent_fault all size (c, d) ≡ None
 sound_extent all blocks w has size c d l long cover x = clear_three (nat_eq d.kind 0 && nat_le all.partitions d.reference) (nat_eq d.kind 0 && list_any absent (range_with_len 0 (blocks_in m)))
     (not (nat_eq d.kind 3) && nat_lt (c + d.length) size && not (nat_eq (d.length % 2048) 0)) Reference Range Odd
@@ -173,7 +173,7 @@ is_long blocks size c d xs l h = go (nat_lt 0 d.length) refl
 extent_true : (form b : ℕ) (bytes : Bytes) → IsExtentAt form b bytes → (is_valid bytes b 258 && nat_le (24 + uint32_at bytes 20) 2048 && nat_eq (uint32_at bytes 20 % descriptor_size form) 0) ≡ true
 extent_true form b bytes (v, fits, even) = λ i. v i && le-leb (24 + uint32_at bytes 20) 2048 fits i && nat_eq (even i) 0
 
-follows : (all : View) (blocks : ℕ → ℕ → Option Bytes) → IsWhole all blocks → HasPartitions all → (form : ℕ) (d : LongAd) (bytes : Bytes) → d.length ≤ 2048 → blocks d.reference d.block ≡ Some bytes
+follows : (all : View) (blocks : ℕ → ℕ → Option Bytes) → IsComplete all blocks → HasPartitions all → (form : ℕ) (d : LongAd) (bytes : Bytes) → d.length ≤ 2048 → blocks d.reference d.block ≡ Some bytes
     → IsExtentAt form d.block bytes → next_of all form false (Some d) ≡ area_at (part bytes 24 (uint32_at bytes 20))
 follows all blocks w has form d bytes short k v = (λ i. next_if form d.block (clear i) (option_map (λ n. (n, all.blocks n)) (p.place i))) ∙ (λ i. next_area form d.block p.at (p.known i))
     ∙ ap (λ b. cond b (area_at (part bytes 24 (uint32_at bytes 20))) (broken Chain)) (extent_true form d.block bytes v)
@@ -217,7 +217,7 @@ more_extents blocks form r d ds (b ∷ f) xs e (a, later, n, o, k, v, j, x) = (
   (a, later, sym (ap (λ b. cond b (next_descriptor ds) (Some d)) e) ∙ sym (next-cons d ds) ∙ n, o, k, v, j, refl),
 )
 
-area_back : (all : View) (blocks : ℕ → ℕ → Option Bytes) → IsWhole all blocks → HasPartitions all → (form r size below : ℕ) (is_last : Bool) (later : Bytes → Descriptors) → (is_last ≡ false → Later all blocks form r size below later)
+area_back : (all : View) (blocks : ℕ → ℕ → Option Bytes) → IsComplete all blocks → HasPartitions all → (form r size below : ℕ) (is_last : Bool) (later : Bytes → Descriptors) → (is_last ≡ false → Later all blocks form r size below later)
     → (ds : List LongAd) (c : ℕ) (f : List Bytes) (xs : List LongAd) → HasRoom is_last below f → IsJoinedBy blocks form r ds f xs → Left blocks size c xs
     → HasCells (from all size (area_chain all form is_last later ds).behind c (area_chain all form is_last later ds).all)
 area_back all blocks w has form r size below is_last later h [] c [] xs room j left = done all size no_more c [] (nothing_left blocks size c xs left j)
@@ -288,7 +288,7 @@ by_area : (blocks : ℕ → ℕ → Option Bytes) (form r : ℕ) (area : Bytes) 
 by_area blocks form r area [] xs h = h
 by_area blocks form r area (b ∷ f) xs h = h
 
-chain_back : (all : View) (blocks : ℕ → ℕ → Option Bytes) → IsWhole all blocks → HasPartitions all → (form r size most : ℕ) (area : Bytes) (c : ℕ) (f : List Bytes) (xs : List LongAd)
+chain_back : (all : View) (blocks : ℕ → ℕ → Option Bytes) → IsComplete all blocks → HasPartitions all → (form r size most : ℕ) (area : Bytes) (c : ℕ) (f : List Bytes) (xs : List LongAd)
     → IsJoined blocks form r area f xs → length f ≤ most → Left blocks size c xs → HasCells (from all size (chain all form r most area).behind c (chain all form r most area).all)
 chain_back all blocks w has form r size zero area c f xs j few left = area_back all blocks w has form r size 0 true (λ a. no_descriptors) (λ last. absurd (let z : ⊥ = cc in z))
     (descriptors_in form r area) c f xs (λ bytes more q. absurd (let p : length f ≡ suc (length more) = ap length q in let z : ⊥ = omega (arith, few, p) in z)) (by_area blocks form r area f xs j) left
@@ -296,21 +296,21 @@ chain_back all blocks w has form r size (suc most) area c f xs j few left = area
     (λ last a. chain_back all blocks w has form r size most a) (descriptors_in form r area) c f xs
     (λ bytes more q. (refl, let p : length f ≡ suc (length more) = ap length q in omega (arith, few, p))) (by_area blocks form r area f xs j) left
 
-extents_back : (all : View) (blocks : ℕ → ℕ → Option Bytes) → IsWhole all blocks → HasPartitions all → (r : ℕ) (entry : EntryFields) (whole : List Located) → IsExtentsBody blocks r entry whole
-    → HasCells (extents_body all entry.size (descriptors all r entry))
-unfolding descriptors
-extents_back all blocks w has r entry whole x = (got.0, body-from all entry.size (descriptors all r entry) ∙ got.1)
+extents_back : (all : View) (blocks : ℕ → ℕ → Option Bytes) → IsComplete all blocks → HasPartitions all → (r : ℕ) (entry : EntryFields) (whole : List Located) → IsExtentsBody blocks r entry whole
+    → HasCells (extents_body all entry.size (allocation_descriptors all r entry))
+unfolding allocation_descriptors
+extents_back all blocks w has r entry whole x = (got.0, body-from all entry.size (allocation_descriptors all r entry) ∙ got.1)
   where
-    got : HasCells (from all entry.size (descriptors all r entry).behind 0 (descriptors all r entry).all)
+    got : HasCells (from all entry.size (allocation_descriptors all r entry).behind 0 (allocation_descriptors all r entry).all)
     got = chain_back all blocks w has entry.form r entry.size 256 entry.area 0 x.followed x.extents x.joined x.limit
         (record { sound = x.sound; enough = let e : entry.size ≤ length x.bytes = x.enough in let z : length x.bytes ≡ length (bytes_of blocks x.extents) = ap length x.together in omega (arith, e, z) })
 
-body_back : (all : View) (blocks : ℕ → ℕ → Option Bytes) → IsWhole all blocks → HasPartitions all → (r b : ℕ) (entry : EntryFields) (whole : List Located) → IsBodyOf blocks r b entry whole
+body_back : (all : View) (blocks : ℕ → ℕ → Option Bytes) → IsComplete all blocks → HasPartitions all → (r b : ℕ) (entry : EntryFields) (whole : List Located) → IsBodyOf blocks r b entry whole
     → HasCells (body all r b entry)
 unfolding body
 body_back all blocks w has r b entry whole = go (nat_eq entry.form 3)
   where
-    go : (x : Bool) → cond x (IsEmbeddedBody b entry whole) (IsExtentsBody blocks r entry whole) → HasCells (cond x (embedded_body b entry) (extents_body all entry.size (descriptors all r entry)))
+    go : (x : Bool) → cond x (IsEmbeddedBody b entry whole) (IsExtentsBody blocks r entry whole) → HasCells (cond x (embedded_body b entry) (extents_body all entry.size (allocation_descriptors all r entry)))
     go true e = (
       map (λ x. Byte x (Some b)) (take entry.size entry.area),
       ap (λ t. cond t (cells (map (λ x. Byte x (Some b)) (take entry.size entry.area))) (faulty_body Short)) (le-leb entry.size (length entry.area) e.enough),

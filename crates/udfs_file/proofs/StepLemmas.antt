@@ -5,7 +5,7 @@ use Rattle.udfs_tag.specs.Fields.{part, uint8_at, uint16_at}
 use Rattle.udfs_osta.specs.Names.{fault_of, units_of}
 use Rattle.udfs_osta.specs.declared.names.NameFault.{NameFault}
 use Rattle.std.proofs.lemmas.List.{length-take-le, length-map}
-use Rattle.udfs_file.specs.Pieces.{AreBytes}
+use Rattle.udfs_file.specs.Pieces.{ShowsBytes}
 use Rattle.udfs_file.specs.Steps.{IsDescriptor, bytes_of}
 use Rattle.udfs_file.specs.declared.cells.Cell.{Cell}
 use Rattle.udfs_file.specs.declared.cells.Cell.TheVariants.{Byte, Gap}
@@ -46,16 +46,16 @@ step_long cells o h = step_some cells o ∙ ap (of_many cells) (not_lt (length c
 pub step_stopped : (cells : List Cell) (n : ℕ) → nat_le 1 (length cells) ≡ true → nat_le 38 (length cells) ≡ true → first_missing (take 38 cells) ≡ Some n → step cells ≡ AtRest (Stopped n)
 step_stopped cells n o h m = step_long cells o h ∙ ap (λ b. or_stop b (sized_identifier cells (identifier_size (map value (take 38 cells))))) m
 
-pub step_sized : (cells : List Cell) (head : Pieces) → nat_le 1 (length cells) ≡ true → nat_le 38 (length cells) ≡ true → AreBytes head (take 38 cells)
+pub step_sized : (cells : List Cell) (head : Pieces) → nat_le 1 (length cells) ≡ true → nat_le 38 (length cells) ≡ true → ShowsBytes head (take 38 cells)
     → step cells ≡ sized_identifier cells (identifier_size (bytes_of head))
 step_sized cells head o h b = step_long cells o h ∙ ap (λ m. or_stop m (sized_identifier cells (identifier_size (map value (take 38 cells))))) b.no_missing
     ∙ ap (λ bytes. sized_identifier cells (identifier_size bytes)) b.values
 
 -- pieces have as many bytes as there are cells
-pub bytes_length : (cells : List Cell) (n : ℕ) (view : Pieces) → n ≤ length cells → AreBytes view (take n cells) → length (bytes_of view) ≡ n
+pub bytes_length : (cells : List Cell) (n : ℕ) (view : Pieces) → n ≤ length cells → ShowsBytes view (take n cells) → length (bytes_of view) ≡ n
 bytes_length cells n view h b = sym (ap length b.values) ∙ length-map (take n cells) value ∙ length-take-le n cells h
 
-pub head_length : (cells : List Cell) (n : ℕ) (view : Pieces) → nat_le n (length cells) ≡ true → AreBytes view (take n cells) → n ≤ length (bytes_of view)
+pub head_length : (cells : List Cell) (n : ℕ) (view : Pieces) → nat_le n (length cells) ≡ true → ShowsBytes view (take n cells) → n ≤ length (bytes_of view)
 head_length cells n view h b = let e : length (bytes_of view) ≡ n = bytes_length cells n view (le_of n (length cells) h) b in omega (arith, e)
 
 -- ---- a descriptor of a size
@@ -91,7 +91,7 @@ holder_front (suc n) [] h = refl
 holder_front (suc n) (Byte x o ∷ cs) h = refl
 holder_front (suc n) (Gap b ∷ cs) h = refl
 
-pub sized_whole : (cells : List Cell) (size : ℕ) (view : Pieces) → 38 ≤ size → size ≤ 2048 → nat_le size (length cells) ≡ true → AreBytes view (take size cells)
+pub sized_whole : (cells : List Cell) (size : ℕ) (view : Pieces) → 38 ≤ size → size ≤ 2048 → nat_le size (length cells) ≡ true → ShowsBytes view (take size cells)
     → checked_identifier view.holder (bytes_of view) ≡ sized_identifier cells size
 sized_whole cells size view low l h b = sym (sized_fits cells size l h ∙ ap (λ m. or_stop m (checked_identifier (holder_of cells) (map value (take size cells)))) b.no_missing
     ∙ (λ i. checked_identifier (holder i) (b.values i)))

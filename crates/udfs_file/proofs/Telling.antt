@@ -13,7 +13,7 @@ use Rattle.udfs_file.specs.Addresses.{file_set}
 use Rattle.udfs_file.specs.Bodies.{cells, faulty_body, body}
 use Rattle.udfs_file.specs.Entries.{EntryFields}
 use Rattle.udfs_file.specs.Complete.{as_cells}
-use Rattle.udfs_file.specs.Fronts.{first_missing, value, holder_of, identifier_size, or_stop, checked_identifier, sized_identifier, step, DirectoryText, read_on, read_from, directory, listed_entries, entries_of, missing_in, fault_in, IsFrontOf}
+use Rattle.udfs_file.specs.Fronts.{first_missing, value, holder_of, identifier_size, or_stop, checked_identifier, sized_identifier, step, DirectoryText, read_on, read_from, directory, listed_entries, directory_entries, missing_in, fault_in, IsFrontOf}
 use Rattle.udfs_file.specs.Laws.{IsCellOf, IsBeginningOf, IsClearTo, end_of, IsPartialBody, IsPartialDirectory, IsPartialFileSet, known, unread}
 use Rattle.udfs_file.specs.Stretches.{cells_of, Gives}
 use Rattle.udfs_file.specs.Told.{IsRootOf, TellsFileSet, IsBodyPart, TellsBody, TellsFront}
@@ -196,12 +196,12 @@ reads_on (i ∷ is) rest (j ∷ js) behind id e h =
 
 tells_front : (part : List Cell) (front : DirFront) → IsFrontOf front part → TellsFront part front
 tells_front part front f whole h = record {
-  entries = subst (λ es. IsBeginningOf es (entries_of whole)) (sym f.entries) law.entries;
+  entries = subst (λ es. IsBeginningOf es (directory_entries whole)) (sym f.entries) law.entries;
   reached = λ before behind id entry e l. (clear before behind id e, listed before behind id entry e l);
   stopped = λ n e. stopped_at part n (stops n (directory part).rest (sym f.missing ∙ e));
   no_fault = λ e. f.fault ∙ sound e (directory part).rest refl;
   all = λ e none. f.entries ∙ ap listed_entries (same_ids part whole h (ends e (directory part).rest refl (sym f.missing ∙ none)));
-  standard = λ bytes same e. ((directory (as_cells bytes)).identifiers, directory_law bytes (ap (λ cs. (directory cs).rest) (sym same) ∙ e), ap entries_of same);
+  standard = λ bytes same e. ((directory (as_cells bytes)).identifiers, directory_law bytes (ap (λ cs. (directory cs).rest) (sym same) ∙ e), ap directory_entries same);
 }
   where
     law : IsPartialDirectory part whole

@@ -12,12 +12,12 @@ use Rattle.udfs_tag.specs.Fields.{part, uint32_at}
 use Rattle.udfs_tag.specs.Tags.{is_valid}
 use Rattle.udfs_space.specs.Places.{View}
 use Rattle.udfs_file.specs.Entries.{EntryFields, descriptor_size}
-use Rattle.udfs_file.specs.Bodies.{Next, no_more, area_at, broken, Descriptors, covers, cells_in, continuation_fault, next_of, next_if, next_area, next_descriptor, up_to_next, descriptors_in, joined, no_descriptors, chain, descriptors, extent_cells, cells, faulty_body, ended_body, extents_body, embedded_body, body}
+use Rattle.udfs_file.specs.Bodies.{Next, no_more, area_at, broken, Descriptors, covers, cells_in, continuation_fault, next_of, next_if, next_area, next_descriptor, up_to_next, descriptors_in, joined, no_descriptors, chain, allocation_descriptors, extent_cells, cells, faulty_body, ended_body, extents_body, embedded_body, body}
 use Rattle.udfs_file.specs.declared.cells.Cell.{Cell}
 use Rattle.udfs_file.specs.declared.cells.Cell.TheVariants.{Byte}
 use Rattle.udfs_tag.specs.Faults.{first_fault}
 use Rattle.udfs_file.specs.Standard.{Located, located, extent_bytes, extents_in, up_to_end, IsOneBlock, IsExtentAt, AreExtentsOf, IsJoined, IsExtentsBody, IsEmbeddedBody, IsBodyOf}
-use Rattle.udfs_file.specs.Complete.{IsWhole, as_cell, as_cells, BodyLaw}
+use Rattle.udfs_file.specs.Complete.{IsComplete, as_cell, as_cells, BodyLaw}
 use Rattle.udfs_file.specs.declared.faults.NodeFault.{NodeFault}
 use Rattle.udfs_file.specs.declared.faults.NodeFault.TheVariants.{Short, Chain, Range, Reference}
 use Rattle.udfs_file.proofs.BodyFrom.{from, le_or_lt, body-from}
@@ -26,7 +26,7 @@ use Rattle.udfs_file.proofs.ChainFits.{is_other, up-cons, next-cons, onto, joine
 use Rattle.udfs_file.proofs.WholeExtents.{ExtentIs, extent_is}
 use Rattle.udfs_file.proofs.Joins.{only_body}
 
--- the standard's joined extents, of these descriptors in place of an area's
+-- the standard's joined extents, of these allocation_descriptors in place of an area's
 abbrev pub IsJoinedBy : (ℕ → ℕ → Option Bytes) → ℕ → ℕ → List LongAd → List Bytes → List LongAd → Type 0
 IsJoinedBy blocks form r ds [] xs = xs ≡ take_while is_other ds
 IsJoinedBy blocks form r ds (bytes ∷ more) xs = (d : LongAd) × (later : List LongAd)
@@ -105,7 +105,7 @@ third_none false false false false e = (refl, refl)
 not_more : (n : ℕ) → nat_lt 2048 n ≡ false → n ≤ 2048
 not_more n h = grind arith
 
--- What stands behind the descriptors of an area in a complete partition.
+-- What stands behind the allocation_descriptors of an area in a complete partition.
 record IsFollowing (blocks : ℕ → ℕ → Option Bytes) (form : ℕ) (is_last : Bool) (d : LongAd) (x : Next) (bytes : Bytes) : Type 0 where
   is : x ≡ area_at (part bytes 24 (uint32_at bytes 20))
   given : blocks d.reference d.block ≡ Some bytes
@@ -138,7 +138,7 @@ then_in blocks form n is_last d bytes k short =
     go true e false p y q = then_broken Chain refl
     go false e x p y q = then_broken Chain refl
 
-then_is : (all : View) (blocks : ℕ → ℕ → Option Bytes) → IsWhole all blocks → (form : ℕ) (is_last : Bool) (d : LongAd) → Then blocks form is_last d (next_of all form is_last (Some d))
+then_is : (all : View) (blocks : ℕ → ℕ → Option Bytes) → IsComplete all blocks → (form : ℕ) (is_last : Bool) (d : LongAd) → Then blocks form is_last d (next_of all form is_last (Some d))
 then_is all blocks w form is_last d = go (continuation_fault all is_last d) refl (all.place d.reference d.block) refl
   where
     F : Option NodeFault → Option ℕ → Next
@@ -224,7 +224,7 @@ area-cons v form is_last later d ds b e = (λ i. joined (up-cons d ds i) (next_o
     go false = refl
 
 -- an extent, and the reading behind it
-extent_reads : (all : View) (blocks : ℕ → ℕ → Option Bytes) → IsWhole all blocks → (form r size most c : ℕ) (behind : Next) (d : LongAd) (ds all_ds : List LongAd) (cs : List Cell) → is_other d ≡ true
+extent_reads : (all : View) (blocks : ℕ → ℕ → Option Bytes) → IsComplete all blocks → (form r size most c : ℕ) (behind : Next) (d : LongAd) (ds all_ds : List LongAd) (cs : List Cell) → is_other d ≡ true
     → (t : Taken all size behind c d all_ds cs) → Reading blocks size most (IsJoinedBy blocks form r ds) (c + covers d) t.then.rest → Reading blocks size most (IsJoinedBy blocks form r (d ∷ ds)) c cs
 extent_reads all blocks w form r size most c behind d ds all_ds cs e t q = record {
   followed = q.followed;
@@ -262,7 +262,7 @@ extent_reads all blocks w form r size most c behind d ds all_ds cs e t q = recor
     m = meet (covers d) (size - c) E B x.enough (subst (λ z. length E ≤ z) (sym cover) x.most) (subst (λ z. z ≤ length B) left q.enough)
 
 -- a continuation, and the reading in its area
-next_reads : (all : View) (blocks : ℕ → ℕ → Option Bytes) → IsWhole all blocks → (form r size most below c : ℕ) (is_last : Bool) → (is_last ≡ false → suc below ≤ most) → (later : Bytes → Descriptors)
+next_reads : (all : View) (blocks : ℕ → ℕ → Option Bytes) → IsComplete all blocks → (form r size most below c : ℕ) (is_last : Bool) → (is_last ≡ false → suc below ≤ most) → (later : Bytes → Descriptors)
     → ((a : Bytes) (c : ℕ) (cs : List Cell) → from all size (later a).behind c (later a).all ≡ cells cs → Reading blocks size below (IsJoined blocks form r a) c cs)
     → (d : LongAd) (ds : List LongAd) (cs : List Cell) → is_other d ≡ false → c < size → (x : Next) → Then blocks form is_last d x
     → from all size (joined (d ∷ []) x later).behind c (joined (d ∷ []) x later).all ≡ cells cs → Reading blocks size most (IsJoinedBy blocks form r (d ∷ ds)) c cs
@@ -313,7 +313,7 @@ next_reads all blocks w form r size most below c is_last room later h d ds cs e 
         read : Reading blocks size below (IsJoined blocks form r area) (c + covers d) t.then.rest
         read = h area (c + covers d) t.then.rest t.then.is
 
-area_reads : (all : View) (blocks : ℕ → ℕ → Option Bytes) → IsWhole all blocks → (form r size most below : ℕ) (is_last : Bool) → (is_last ≡ false → suc below ≤ most) → (later : Bytes → Descriptors)
+area_reads : (all : View) (blocks : ℕ → ℕ → Option Bytes) → IsComplete all blocks → (form r size most below : ℕ) (is_last : Bool) → (is_last ≡ false → suc below ≤ most) → (later : Bytes → Descriptors)
     → ((a : Bytes) (c : ℕ) (cs : List Cell) → from all size (later a).behind c (later a).all ≡ cells cs → Reading blocks size below (IsJoined blocks form r a) c cs)
     → (ds : List LongAd) (c : ℕ) (cs : List Cell) → from all size (area_chain all form is_last later ds).behind c (area_chain all form is_last later ds).all ≡ cells cs
     → Reading blocks size most (IsJoinedBy blocks form r ds) c cs
@@ -346,7 +346,7 @@ of_area blocks form r size most area c cs q = record { followed = q.followed; ex
 no_less : (n : ℕ) → n ≤ n
 no_less n = omega arith
 
-chain_reads : (all : View) (blocks : ℕ → ℕ → Option Bytes) → IsWhole all blocks → (form r size left : ℕ) (area : Bytes) (c : ℕ) (cs : List Cell)
+chain_reads : (all : View) (blocks : ℕ → ℕ → Option Bytes) → IsComplete all blocks → (form r size left : ℕ) (area : Bytes) (c : ℕ) (cs : List Cell)
     → from all size (chain all form r left area).behind c (chain all form r left area).all ≡ cells cs → Reading blocks size left (IsJoined blocks form r area) c cs
 chain_reads all blocks w form r size zero area c cs e = of_area blocks form r size 0 area c cs
     (area_reads all blocks w form r size 0 0 true (λ t. absurd (let no : ⊥ = cc in no)) (λ a. no_descriptors) nothing_more (descriptors_in form r area) c cs e)
@@ -366,9 +366,9 @@ record Found (blocks : ℕ → ℕ → Option Bytes) (cs : List Cell) (reads : L
   is : cs ≡ as_cells whole
   read : reads whole
 
-extents_read : (all : View) (blocks : ℕ → ℕ → Option Bytes) → IsWhole all blocks → (r : ℕ) (entry : EntryFields) (cs : List Cell)
-    → extents_body all entry.size (descriptors all r entry) ≡ cells cs → Found blocks cs (IsExtentsBody blocks r entry)
-unfolding descriptors
+extents_read : (all : View) (blocks : ℕ → ℕ → Option Bytes) → IsComplete all blocks → (r : ℕ) (entry : EntryFields) (cs : List Cell)
+    → extents_body all entry.size (allocation_descriptors all r entry) ≡ cells cs → Found blocks cs (IsExtentsBody blocks r entry)
+unfolding allocation_descriptors
 extents_read all blocks w r entry cs e = record {
   whole = take entry.size (bytes_of blocks q.extents);
   is = q.same ∙ ap (λ z. as_cells (take z (bytes_of blocks q.extents))) whole_size;
@@ -389,7 +389,7 @@ extents_read all blocks w r entry cs e = record {
     whole_size = omega arith
 
     q : Reading blocks entry.size 256 (IsJoined blocks entry.form r entry.area) 0 cs
-    q = chain_reads all blocks w entry.form r entry.size 256 entry.area 0 cs (sym (body-from all entry.size (descriptors all r entry)) ∙ e)
+    q = chain_reads all blocks w entry.form r entry.size 256 entry.area 0 cs (sym (body-from all entry.size (allocation_descriptors all r entry)) ∙ e)
 
 le_is : (a b : ℕ) → nat_le a b ≡ true → a ≤ b
 le_is a b e = grind arith
@@ -412,11 +412,11 @@ embedded_read blocks b entry cs e = go (nat_le entry.size (length entry.area)) r
     }
     go false q k = no_cells Short cs k
 
-body_read : (all : View) (blocks : ℕ → ℕ → Option Bytes) → IsWhole all blocks → (r b : ℕ) (entry : EntryFields) (cs : List Cell) → body all r b entry ≡ cells cs → Found blocks cs (IsBodyOf blocks r b entry)
+body_read : (all : View) (blocks : ℕ → ℕ → Option Bytes) → IsComplete all blocks → (r b : ℕ) (entry : EntryFields) (cs : List Cell) → body all r b entry ≡ cells cs → Found blocks cs (IsBodyOf blocks r b entry)
 unfolding body
 body_read all blocks w r b entry cs e = go (nat_eq entry.form 3) e
   where
-    go : (x : Bool) → cond x (embedded_body b entry) (extents_body all entry.size (descriptors all r entry)) ≡ cells cs
+    go : (x : Bool) → cond x (embedded_body b entry) (extents_body all entry.size (allocation_descriptors all r entry)) ≡ cells cs
         → Found blocks cs (λ whole. cond x (IsEmbeddedBody b entry whole) (IsExtentsBody blocks r entry whole))
     go true k = embedded_read blocks b entry cs k
     go false k = extents_read all blocks w r entry cs k

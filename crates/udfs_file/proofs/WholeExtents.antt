@@ -16,7 +16,7 @@ use Rattle.udfs_file.specs.Bodies.{covers, cells_in, extent_fault, cell_in, cell
 use Rattle.udfs_file.specs.declared.cells.Cell.{Cell}
 use Rattle.udfs_file.specs.declared.cells.Cell.TheVariants.{Byte, Gap}
 use Rattle.udfs_file.specs.Standard.{Located, located, block_bytes, extent_bytes, IsExtentOf}
-use Rattle.udfs_file.specs.Complete.{IsWhole, as_cell, as_cells}
+use Rattle.udfs_file.specs.Complete.{IsComplete, as_cell, as_cells}
 use Rattle.udfs_file.specs.declared.faults.NodeFault.TheVariants.{Reference, Range, Odd}
 use Rattle.std.proofs.lemmas.Bool.{eqb-true}
 use Rattle.udfs_file.proofs.BodyFrom.{le_or_lt, is_lt}
@@ -31,7 +31,7 @@ pub record IsHeld (all : View) (blocks : ℕ → ℕ → Option Bytes) (r b : �
   pub given : blocks r b ≡ Some bytes
   pub size : length bytes ≡ 2048
 
-pub held : (all : View) (blocks : ℕ → ℕ → Option Bytes) → IsWhole all blocks → (r b n : ℕ) → all.place r b ≡ Some n → IsHeld all blocks r b
+pub held : (all : View) (blocks : ℕ → ℕ → Option Bytes) → IsComplete all blocks → (r b n : ℕ) → all.place r b ≡ Some n → IsHeld all blocks r b
 held all blocks w r b n e = let t : (bytes : Bytes) × (all.blocks n ≡ Known bytes) × (blocks r b ≡ Some bytes) × (length bytes ≡ 2048) = w.there r b n e in
     record { at = n; place = e; bytes = t.0; known = t.1; given = t.2; size = t.3 }
 
@@ -207,7 +207,7 @@ third_clear false false false x y z e = refl
 within_both : (a l s c : ℕ) → a < l → c + a < s → a < min l (s - c)
 within_both a l s c p q = grind arith
 
-pub extent_is : (all : View) (blocks : ℕ → ℕ → Option Bytes) → IsWhole all blocks → (size c : ℕ) (d : LongAd) → not (nat_eq d.kind 3) ≡ true → covers d ≡ d.length
+pub extent_is : (all : View) (blocks : ℕ → ℕ → Option Bytes) → IsComplete all blocks → (size c : ℕ) (d : LongAd) → not (nat_eq d.kind 3) ≡ true → covers d ≡ d.length
     → extent_fault all size (c, d) ≡ None → ExtentIs all blocks size c d
 extent_is all blocks w size c d other cover fault = go (nat_eq d.kind 0) refl
   where

@@ -1,5 +1,5 @@
--- The body of an entry (ECMA-167 4/14.5, 4/14.14): its allocation descriptors, and the cells that they give.
---     chain view form r left area       all descriptors, area after area
+-- The body of an entry (ECMA-167 4/14.5, 4/14.14): its allocation allocation_descriptors, and the cells that they give.
+--     chain view form r left area       all allocation_descriptors, area after area
 --     used size ds                      those that are taken, each with its first cell
 --     body view r b entry               the cells, or the fault
 use Rattle.std.specs.Prelude.{◌≡◌, ℕ, zero, suc, ◌+◌, ◌-◌, ◌*◌, ◌/◌, ◌%◌, ◌<◌, ◌≤◌, min, Bool, true, false, not, List, [], ◌∷◌, ◌++◌, length, take, map, flat_map, replicate, take_while, slice_get, slice_index, cond, ◌==◌, nat_le, nat_lt, ◌&&◌, ◌||◌, Option, Some, None, is_none, ◌⊎◌}
@@ -33,11 +33,11 @@ descriptor_at form r area i = cond (form == 0) (long_of r (short_ad_at area (8 *
 abbrev pub descriptor_count : ℕ → List ℕ → ℕ
 descriptor_count form area = length area / descriptor_size form
 
--- the descriptors in an area
+-- the allocation_descriptors in an area
 abbrev pub descriptors_in : ℕ → ℕ → List ℕ → List LongAd
 descriptors_in form r area = map (descriptor_at form r area) (range_with_len 0 (descriptor_count form area))
 
--- What stands behind the descriptors of an area: nothing, another area, a block that is not known, or a fault.
+-- What stands behind the allocation_descriptors of an area: nothing, another area, a block that is not known, or a fault.
 pub data Next : Type 0 where
   no_more : Next
   area_at : List ℕ → Next
@@ -78,7 +78,7 @@ abbrev pub next_of : View → ℕ → Bool → Option LongAd → Next
 next_of view form is_last None = no_more
 next_of view form is_last (Some d) = next_by view form is_last d
 
--- All descriptors of an entry, and what stands behind the last.
+-- All allocation_descriptors of an entry, and what stands behind the last.
 pub record Descriptors : Type 0 where
   pub all : List LongAd
   pub behind : Next
@@ -91,7 +91,7 @@ up_to_next ds = take (length (take_while (λ d. not (d.kind == 3)) ds) + 1) ds
 abbrev pub next_descriptor : List LongAd → Option LongAd
 next_descriptor ds = slice_get ds (length (take_while (λ d. not (d.kind == 3)) ds))
 
--- the descriptors of an area and of those that it is continued in
+-- the allocation_descriptors of an area and of those that it is continued in
 abbrev pub joined : List LongAd → Next → (List ℕ → Descriptors) → Descriptors
 joined ds no_more later = record { all = ds; behind = no_more }
 joined ds (area_at area) later = let rest = later area in record { all = ds ++ rest.all; behind = rest.behind }
@@ -109,9 +109,9 @@ chain view form r zero area = let ds = descriptors_in form r area in
 chain view form r (suc left) area = let ds = descriptors_in form r area in
     joined (up_to_next ds) (next_of view form false (next_descriptor ds)) (λ a. chain view form r left a)
 
--- the allocation descriptors of an entry, with those of at most 256 continuations
-unfoldable pub descriptors : View → ℕ → EntryFields → Descriptors
-descriptors view r entry = chain view entry.form r 256 entry.area
+-- the allocation allocation_descriptors of an entry, with those of at most 256 continuations
+unfoldable pub allocation_descriptors : View → ℕ → EntryFields → Descriptors
+allocation_descriptors view r entry = chain view entry.form r 256 entry.area
 
 -- how many cells a descriptor covers
 abbrev pub covers : LongAd → ℕ
@@ -200,13 +200,13 @@ abbrev pub all_covered : List (ℕ × LongAd) → ℕ
 all_covered [] = 0
 all_covered (e ∷ es) = covers e.1 + all_covered es
 
--- all cells are covered, or a descriptor of length 0 ends the list, or all descriptors are taken
+-- all cells are covered, or a descriptor of length 0 ends the list, or all allocation_descriptors are taken
 abbrev pub covered_body : ℕ → List (ℕ × LongAd) → Descriptors → List Cell → Body
 covered_body size taken ds front = let covered = all_covered taken in
     cond (nat_le size covered) (cells front)
     (cond (nat_lt (length taken) (length ds.all)) (faulty_body Short) (ended_body (size - covered) ds.behind front))
 
--- the body that allocation descriptors describe
+-- the body that allocation allocation_descriptors describe
 abbrev pub extents_body : View → ℕ → Descriptors → Body
 extents_body view size ds = let taken = used size ds.all in
     body_unless (first_of_all (map (extent_fault view size) taken))
@@ -220,7 +220,7 @@ embedded_body b entry = cond (nat_le entry.size (length entry.area))
 -- the body of an entry in logical block b of partition r
 unfoldable pub body : View → ℕ → ℕ → EntryFields → Body
 body view r b entry = cond (entry.form == 3) (embedded_body b entry)
-    (extents_body view entry.size (descriptors view r entry))
+    (extents_body view entry.size (allocation_descriptors view r entry))
 
 -- block n holds cell k, or it holds the continuation that is followed at or before cell k
 pub record IsRecordedFor (view : View) (size : ℕ) (taken : List (ℕ × LongAd)) (k n : ℕ) : Type 0 where
@@ -241,5 +241,5 @@ pub record IsContinuedFor (view : View) (taken : List (ℕ × LongAd)) (k n : �
 
 -- cell k of a body can be told only if block n is known
 abbrev pub IsNeededFor : View → ℕ → EntryFields → ℕ → ℕ → Type 0
-IsNeededFor view r entry k n = let taken = used entry.size (descriptors view r entry).all in
+IsNeededFor view r entry k n = let taken = used entry.size (allocation_descriptors view r entry).all in
     (k < entry.size) × (¬ (entry.form ≡ 3)) × (IsRecordedFor view entry.size taken k n ⊎ IsContinuedFor view taken k n)

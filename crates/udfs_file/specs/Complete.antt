@@ -1,5 +1,5 @@
 -- Over a complete partition the model's reading is the standard's.
---     IsWhole view blocks         each block that has a place is known, and these are its bytes
+--     IsComplete view blocks         each block that has a place is known, and these are its bytes
 --     FileSetLaw                 the file set names the root that the standard reads
 --     BodyLaw                     a body without a fault is the one that the standard reads
 --     DirectoryLaw                a directory without a fault is the one list that the standard reads
@@ -25,7 +25,7 @@ use Rattle.udfs_file.specs.Addresses.{file_set}
 use Rattle.udfs_file.specs.Standard.{Located, IsFileSetAt, IsBodyOf, IsDirectoryBody}
 
 -- the blocks of a view of which each block that has a place is known, and is whole
-pub record IsWhole (all : View) (blocks : ℕ → ℕ → Option Bytes) : Type 0 where
+pub record IsComplete (all : View) (blocks : ℕ → ℕ → Option Bytes) : Type 0 where
   pub nowhere : (r b : ℕ) → all.place r b ≡ None → blocks r b ≡ None
   pub there : (r b n : ℕ) → all.place r b ≡ Some n
       → (bytes : Bytes) × (all.blocks n ≡ Known bytes) × (blocks r b ≡ Some bytes) × (length bytes ≡ 2048)
@@ -52,12 +52,12 @@ pub record IsReadFileSet (blocks : ℕ → ℕ → Option Bytes) (a root : LongA
 
 -- over a complete view the root's address is the one that the standard reads
 abbrev pub FileSetLaw : Type 0
-FileSetLaw = (all : View) (blocks : ℕ → ℕ → Option Bytes) → IsWhole all blocks → (a root : LongAd)
+FileSetLaw = (all : View) (blocks : ℕ → ℕ → Option Bytes) → IsComplete all blocks → (a root : LongAd)
     → file_set all a ≡ found root → IsReadFileSet blocks a root
 
 -- over a complete view a body without a fault is the one that the standard reads
 abbrev pub BodyLaw : Type 0
-BodyLaw = (all : View) (blocks : ℕ → ℕ → Option Bytes) → IsWhole all blocks → (r b : ℕ) (entry : EntryFields)
+BodyLaw = (all : View) (blocks : ℕ → ℕ → Option Bytes) → IsComplete all blocks → (r b : ℕ) (entry : EntryFields)
     (cs : List Cell) → body all r b entry ≡ cells cs → IsReadBody blocks r b entry cs
 
 -- the descriptors and the rest are those that the cells read as, and no others
@@ -85,7 +85,7 @@ HasPartitions all = (r b n : ℕ) → all.place r b ≡ Some n → r < all.parti
 
 -- back: a body that the standard reads has no fault, and is the one by the definition
 abbrev pub StandardBodies : Type 0
-StandardBodies = (all : View) (blocks : ℕ → ℕ → Option Bytes) → IsWhole all blocks → HasPartitions all → (r b : ℕ) (entry : EntryFields)
+StandardBodies = (all : View) (blocks : ℕ → ℕ → Option Bytes) → IsComplete all blocks → HasPartitions all → (r b : ℕ) (entry : EntryFields)
     (whole : List Located) → IsBodyOf blocks r b entry whole → body all r b entry ≡ cells (as_cells whole)
 
 -- no descriptor is longer than a block (own choice)

@@ -1,7 +1,7 @@
 -- Directories (ECMA-167 4/14.4): a list of file identifier descriptors, one after the other, then a rest.
 --     ReadsAs cells ids rest      the cells are these descriptors, and then the rest
 --     directory cells             the descriptors and the rest
---     entries_of cells            the entries that are neither deleted nor the parent
+--     directory_entries cells            the entries that are neither deleted nor the parent
 use Rattle.std.specs.Prelude.{◌≡◌, ◌<◌, ℕ, zero, suc, ◌+◌, ◌*◌, ◌/◌, ◌%◌, Bool, List, [], ◌∷◌, length, take, drop, map, cond, ◌==◌, nat_lt, ◌||◌, Option, Some, None, filter_map, Result, Ok, Err}
 use Rattle.udfs_tag.specs.Fields.{uint16_at}
 use Rattle.udfs_tag.specs.Fields.{uint8_at, long_ad_at, part}
@@ -122,8 +122,8 @@ abbrev pub listed_entries : List Identifier → List DirEntry
 listed_entries ids = filter_map (λ id. id.listed) ids
 
 -- the entries that a directory lists, as far as they can be told
-abbrev pub entries_of : List Cell → List DirEntry
-entries_of cells = listed_entries (directory cells).identifiers
+abbrev pub directory_entries : List Cell → List DirEntry
+directory_entries cells = listed_entries (directory cells).identifiers
 
 -- ---- what code tells of a directory
 abbrev pub missing_in : Rest → Option ℕ
@@ -139,17 +139,17 @@ fault_in (Wrong fault) = Some fault
 
 -- the front is what the definition says of these cells
 pub record IsFrontOf (front : DirFront) (cells : List Cell) : Type 0 where
-  pub entries : front.entries.items ≡ entries_of cells
+  pub entries : front.entries.items ≡ directory_entries cells
   pub missing : front.missing ≡ missing_in (directory cells).rest
   pub fault : front.fault ≡ fault_in (directory cells).rest
 
 -- the end is what the definition says of these cells
 pub record IsEndOf (end : DirEnd) (cells : List Cell) : Type 0 where
-  pub lists : end.lists ≡ nat_lt 0 (length (entries_of cells))
+  pub lists : end.lists ≡ nat_lt 0 (length (directory_entries cells))
   pub missing : end.missing ≡ missing_in (directory cells).rest
   pub fault : end.fault ≡ fault_in (directory cells).rest
 
 -- too many entries are told only where there are more than so many, and memory is refused only where there is one
 abbrev pub IsFrontRefused : ℕ → List Cell → FrontError → Type 0
-IsFrontRefused most cells front_error.TooMany = most < length (entries_of cells)
-IsFrontRefused most cells front_error.OutOfMemory = 0 < length (entries_of cells)
+IsFrontRefused most cells front_error.TooMany = most < length (directory_entries cells)
+IsFrontRefused most cells front_error.OutOfMemory = 0 < length (directory_entries cells)

@@ -14,7 +14,7 @@ use Rattle.udfs_file.specs.Entries.{EntryFields}
 use Rattle.udfs_file.specs.Bodies.{cells, body, IsNeededFor}
 use Rattle.udfs_file.specs.declared.cells.Cell.{Cell}
 use Rattle.udfs_file.specs.declared.cells.Cell.TheVariants.{Byte, Gap}
-use Rattle.udfs_file.specs.Fronts.{directory, entries_of}
+use Rattle.udfs_file.specs.Fronts.{directory, directory_entries}
 use Rattle.udfs_file.specs.Identifiers.{Nothing, Wrong}
 use Rattle.udfs_file.specs.Identifiers.{Identifier}
 use Rattle.udfs_file.specs.declared.directories.DirEntry.{DirEntry}
@@ -45,7 +45,7 @@ IsClearTo cs end = (k : ℕ) → k < end → ¬ IsMissingAt cs k
 -- What the directory in a part of a body says beside that in the whole.
 pub record IsPartialDirectory (part whole : List Cell) : Type 0 where
   -- its entries are a beginning of the whole's
-  pub entries : IsBeginningOf (entries_of part) (entries_of whole)
+  pub entries : IsBeginningOf (directory_entries part) (directory_entries whole)
   -- where the whole has no fault, it has none
   pub no_fault : (directory whole).rest ≡ Nothing → (f : NodeFault) → (directory part).rest ≢ Wrong f
   -- a descriptor of the whole is read exactly if no cell before its end is missing
@@ -94,4 +94,4 @@ BodyLength = (v : View) (r b : ℕ) (entry : EntryFields) (cs : List Cell) → b
 
 -- the escaped name of each entry of a directory can stand in a path
 abbrev pub NamesAreParts : Type 0
-NamesAreParts = (cs : List Cell) (e : DirEntry) → Includes (entries_of cs) e → IsPathPart (escaped e.name)
+NamesAreParts = (cs : List Cell) (e : DirEntry) → Includes (directory_entries cs) e → IsPathPart (escaped e.name)

@@ -49,12 +49,12 @@ Starts passed [] = ⊤
 Starts passed (s ∷ ss) = (passed < stretch_count s → BeginsBlock s passed) × (stretch_count s ≤ passed → Starts (passed - stretch_count s) ss)
 
 -- none of the cells is missing, and these are their bytes
-pub record AreBytes (view : Pieces) (cells : List Cell) : Type 0 where
+pub record ShowsBytes (view : Pieces) (cells : List Cell) : Type 0 where
   pub no_missing : first_missing cells ≡ None
   pub values : map value cells ≡ view.first.now ++ view.second.now
   pub holder : holder_of cells ≡ view.holder
 
 -- what was taken from the front of the cells: their bytes, or the first missing block
 abbrev pub IsTaken : Front → List Cell → Type 0
-IsTaken (front.Bytes view) cells = AreBytes view cells
+IsTaken (front.Bytes view) cells = ShowsBytes view cells
 IsTaken (front.Gap n) cells = first_missing cells ≡ Some n

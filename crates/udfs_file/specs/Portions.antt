@@ -13,15 +13,15 @@ use Rattle.udfs_file.specs.declared.portions.Portion.TheVariants.{Bytes, Zeros, 
 use Rattle.udfs_file.specs.Pieces.{byte_cells}
 
 -- a block stands there, with this number, and is not known
-abbrev pub IsUnread : State → Type 0
-IsUnread Unknown = ⊤
-IsUnread (Known bytes) = ⊥
-IsUnread Conflict = ⊤
+abbrev pub IsUnreadState : State → Type 0
+IsUnreadState Unknown = ⊤
+IsUnreadState (Known bytes) = ⊥
+IsUnreadState Conflict = ⊤
 
 -- a block stands at place n, and is not known
 abbrev pub IsUnreadAt : Option (ℕ × State) → ℕ → Type 0
 IsUnreadAt None n = ⊥
-IsUnreadAt (Some block) n = (block.0 ≡ n) × IsUnread block.1
+IsUnreadAt (Some block) n = (block.0 ≡ n) × IsUnreadState block.1
 
 -- how many cells a portion has
 abbrev pub portion_count : Portion → ℕ

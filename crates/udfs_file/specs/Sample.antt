@@ -16,7 +16,7 @@ use Rattle.udfs_space.specs.Sample.{sample_space}
 use Rattle.udfs_file.specs.Addresses.{address_fault, file_set}
 use Rattle.udfs_file.specs.Bodies.{body, cells}
 use Rattle.udfs_file.specs.Entries.{entry_fault, entry_of}
-use Rattle.udfs_file.specs.Fronts.{directory, entries_of}
+use Rattle.udfs_file.specs.Fronts.{directory, directory_entries}
 use Rattle.udfs_file.specs.Identifiers.{Nothing}
 use Rattle.udfs_file.specs.declared.cells.Cell.{Cell}
 use Rattle.udfs_file.specs.declared.cells.Cell.TheVariants.{Byte}
@@ -91,24 +91,24 @@ pub record IsSampleFile (a : LongAd) (kind : Kind) (cs : List Cell) : Type 0 whe
   pub has_body : body sample_view a.reference a.block (entry_of bytes) ≡ cells cs
 
 -- these bytes, in a logical block
-abbrev pub cells_in : ℕ → Bytes → List Cell
-cells_in block bytes = map (λ x. Byte x (Some block)) bytes
+abbrev pub cells_of_bytes : ℕ → Bytes → List Cell
+cells_of_bytes block bytes = map (λ x. Byte x (Some block)) bytes
 
 -- the cells of the sample's root
 abbrev pub root_cells : List Cell
-root_cells = cells_in 2 (take 120 directory_block)
+root_cells = cells_of_bytes 2 (take 120 directory_block)
 
 -- the cells of the sample's file A
 abbrev pub a_cells : List Cell
-a_cells = cells_in 5 (replicate 2048 0x61) ++ cells_in 6 (replicate 2048 0x62) ++ cells_in 7 (replicate 904 0x63)
+a_cells = cells_of_bytes 5 (replicate 2048 0x61) ++ cells_of_bytes 6 (replicate 2048 0x62) ++ cells_of_bytes 7 (replicate 904 0x63)
 
 -- the cells of the sample's file B
 abbrev pub b_cells : List Cell
-b_cells = cells_in 4 (0x48 ∷ 0x69 ∷ [])
+b_cells = cells_of_bytes 4 (0x48 ∷ 0x69 ∷ [])
 
 -- an entry of the root: a name of one letter, and the block of its ICB
-abbrev pub named : ℕ → ℕ → DirEntry
-named letter block = record { name = letter ∷ []; icb = icb_at block; marks = record { 0 = 0 } }
+abbrev pub entry_named : ℕ → ℕ → DirEntry
+entry_named letter block = record { name = letter ∷ []; icb = icb_at block; marks = record { 0 = 0 } }
 
 -- a root that lists A and B and has no fault, and both files
 pub record AreSampleFiles : Type 0 where
@@ -116,4 +116,4 @@ pub record AreSampleFiles : Type 0 where
   pub a : IsSampleFile (icb_at 3) File a_cells
   pub b : IsSampleFile (icb_at 4) File b_cells
   pub no_rest : (directory root_cells).rest ≡ Nothing
-  pub entries : entries_of root_cells ≡ named 0x41 3 ∷ named 0x42 4 ∷ []
+  pub entries : directory_entries root_cells ≡ entry_named 0x41 3 ∷ entry_named 0x42 4 ∷ []

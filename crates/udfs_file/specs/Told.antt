@@ -14,9 +14,9 @@ use Rattle.udfs_volume.specs.declared.seen.Seen.TheVariants as seen
 use Rattle.udfs_space.specs.Places.{View, IsPartOf}
 use Rattle.udfs_file.specs.Addresses.{file_set}
 use Rattle.udfs_file.specs.Bodies.{cells, body, IsNeededFor}
-use Rattle.udfs_file.specs.Complete.{IsWhole, IsReadBody, IsReadDirectory, IsReadFileSet, as_cells}
+use Rattle.udfs_file.specs.Complete.{IsComplete, IsReadBody, IsReadDirectory, IsReadFileSet, as_cells}
 use Rattle.udfs_file.specs.Entries.{EntryFields}
-use Rattle.udfs_file.specs.Fronts.{directory, entries_of, listed_entries}
+use Rattle.udfs_file.specs.Fronts.{directory, directory_entries, listed_entries}
 use Rattle.udfs_file.specs.Laws.{IsBeginningOf, IsCellOf, IsClearTo, IsMissingAt, end_of}
 use Rattle.udfs_file.specs.Standard.{Located}
 use Rattle.udfs_file.specs.Stretches.{cells_of}
@@ -43,7 +43,7 @@ pub record IsFileSetTold (some all : View) (a root : LongAd) (told : Seen LongAd
   pub block : ℕ
   pub place : all.place a.reference a.block ≡ Some block
   pub root_or_hole : IsRootOf some block root told
-  pub standard : (blocks : ℕ → ℕ → Option Bytes) → IsWhole all blocks → IsReadFileSet blocks a root
+  pub standard : (blocks : ℕ → ℕ → Option Bytes) → IsComplete all blocks → IsReadFileSet blocks a root
 
 -- over a part of each view in which the file set names a root, what is told is told of that root
 abbrev pub TellsFileSet : View → LongAd → Seen LongAd → Type 0
@@ -59,7 +59,7 @@ pub record IsBodyPart (some all : View) (r b : ℕ) (entry : EntryFields) (part 
   pub names : (k n : ℕ) → slice_get part k ≡ Some (Gap n) → (is_known (some.blocks n) ≡ false) × IsNeededFor all r entry k n
   -- a cell is missing exactly if some block that it needs is not known
   pub gaps : (k : ℕ) → IsMissingAt part k ↔ ((n : ℕ) × (is_known (some.blocks n) ≡ false) × IsNeededFor all r entry k n)
-  pub standard : (blocks : ℕ → ℕ → Option Bytes) → IsWhole all blocks → IsReadBody blocks r b entry whole
+  pub standard : (blocks : ℕ → ℕ → Option Bytes) → IsComplete all blocks → IsReadBody blocks r b entry whole
 
 -- such a body has no fault in a part of the view; memory may be wanted
 abbrev pub IsBodyTold : View → View → ℕ → ℕ → EntryFields → List Cell → Result (List Stretch) WalkError → Type 0
@@ -75,7 +75,7 @@ TellsBody some r b entry told = (all : View) → IsPartOf some all → (whole : 
 -- ---- a directory
 -- the front of the directory in some cells, each of which is the whole's or missing
 pub record IsFrontPart (part whole : List Cell) (front : DirFront) : Type 0 where
-  pub entries : IsBeginningOf front.entries.items (entries_of whole)
+  pub entries : IsBeginningOf front.entries.items (directory_entries whole)
   -- an entry is among them exactly if no cell before the end of its descriptor is missing
   pub reached : (before behind : List Identifier) (id : Identifier) (entry : DirEntry)
       → (directory whole).identifiers ≡ before ++ id ∷ behind → id.listed ≡ Some entry
@@ -84,10 +84,10 @@ pub record IsFrontPart (part whole : List Cell) (front : DirFront) : Type 0 wher
   pub stopped : (n : ℕ) → front.missing ≡ Some n → (k : ℕ) × (slice_get part k ≡ Some (Gap n))
   -- where the whole has no fault, it has none, and its entries are all of them unless a missing block ended it
   pub no_fault : (directory whole).rest ≡ Nothing → front.fault ≡ None
-  pub all : (directory whole).rest ≡ Nothing → front.missing ≡ None → front.entries.items ≡ entries_of whole
+  pub all : (directory whole).rest ≡ Nothing → front.missing ≡ None → front.entries.items ≡ directory_entries whole
   -- the whole's entries are those of the one list of descriptors that the standard reads from its bytes
   pub standard : (bytes : List Located) → whole ≡ as_cells bytes → (directory whole).rest ≡ Nothing
-      → (ids : List Identifier) × IsReadDirectory bytes ids × (entries_of whole ≡ listed_entries ids)
+      → (ids : List Identifier) × IsReadDirectory bytes ids × (directory_entries whole ≡ listed_entries ids)
 
 -- of each whole of which these cells are a part, the front is a part of its directory
 abbrev pub TellsFront : List Cell → DirFront → Type 0

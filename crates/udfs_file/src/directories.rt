@@ -5,7 +5,7 @@ ghost use Rattle.udfs_lattice.specs.Tables.{state_of};
 ghost use Rattle.udfs_space.specs.Places.{view};
 ghost use Rattle.udfs_tag.specs.Fields.{uint8_at, uint16_at, part};
 ghost use Rattle.udfs_file.specs.Stretches.{cells_of};
-ghost use Rattle.udfs_file.specs.Fronts.{entries_of, entry_with, is_listed, IsEndOf, IsFrontOf, IsFrontRefused};
+ghost use Rattle.udfs_file.specs.Fronts.{directory_entries, entry_with, is_listed, IsEndOf, IsFrontOf, IsFrontRefused};
 ghost use Rattle.udfs_file.specs.Identifiers.{One};
 ghost use Rattle.udfs_file.specs.Steps.{IsListedIn, bytes_of};
 ghost use Rattle.udfs_file.specs.Told.{TellsFront};
@@ -175,7 +175,7 @@ impl Dir {
     ) -> Result<DirFront, OutOfMemory>
         ensures value { IfOk result (λ front. IsFrontOf front (cells_of (view (state_of table.now) space.now) body.now)) }
         ensures complete { IfOk result (TellsFront (cells_of (view (state_of table.now) space.now) body.now)) }
-        ensures memory { IfErr result (λ e. 0 < length (entries_of (cells_of (view (state_of table.now) space.now) body.now))) }
+        ensures memory { IfErr result (λ e. 0 < length (directory_entries (cells_of (view (state_of table.now) space.now) body.now))) }
     {
         match Dir::front_within(alloc, table, space, body, usize::MAX) {
             Ok(front) => Ok(front),

@@ -1,7 +1,7 @@
 //! What is wrong with a node, and its kind.
 
 ghost use Rattle.std.specs.Prelude.{◌≡◌, Some};
-ghost use Rattle.udfs_file.specs.FaultNames.{fault_name, front_error_text, walk_error_text};
+ghost use Rattle.udfs_file.specs.FaultNames.{node_fault_name, front_error_text, walk_error_text};
 ghost use Rattle.udfs_file.specs.declared.faults.FrontError.TheVariants as front_error;
 ghost use Rattle.udfs_file.specs.declared.faults.WalkError.TheVariants as walk_error;
 
@@ -46,7 +46,7 @@ pub enum NodeFault {
 
 /// The fault's name.
 impl fmt::Display for NodeFault {
-    ghost output = { λ fault. Some (fault_name fault) };
+    ghost output = { λ fault. Some (node_fault_name fault) };
 
     fn fmt<W: fmt::Write>(&self, f: &mut fmt::Formatter<W>) -> fmt::Result {
         f.write_str(match self {

@@ -11,7 +11,7 @@ use Rattle.udfs_lattice.specs.States.{State, fact_now, join_of, join_of-unknown}
 use Rattle.udfs_lattice.specs.Tables.{Table, state_of, entries_of, IsTable, IsStateAt}
 use Rattle.udfs_lattice.specs.TableLaws.{same_table, state_of-empty}
 use Rattle.udfs_lattice.specs.Records.{table_of_entries, RisesFrom}
-use Rattle.udfs_lattice.specs.Packets.{IsPlace, IsPacketTable, listed_at, entries_from, entries_left}
+use Rattle.udfs_lattice.specs.Packets.{IsPlaceState, IsPacketTable, listed_at, entries_from, entries_left}
 use Rattle.udfs_lattice.proofs.EntryLaws.{state_of-cons, entries_of-rising}
 
 -- ---- the first of the places that are left
@@ -109,12 +109,12 @@ state_of-entries_from t i (suc m) q h =
 lt_zero : (q : ℕ) → nat_lt q 0 ≡ false
 lt_zero q = grind (arith, nat_tests)
 
-beyond_state : (i : ℕ) (s : State) → IsPlace i s → 32 ≤ i → s ≡ Unknown
+beyond_state : (i : ℕ) (s : State) → IsPlaceState i s → 32 ≤ i → s ≡ Unknown
 beyond_state i Unknown h le = refl
 beyond_state i (Known bytes) h le = absurd (omega arith)
 beyond_state i Conflict h le = absurd (omega arith)
 
-table_state : (i : ℕ) (s : State) → IsPlace i s → IsStateAt i s
+table_state : (i : ℕ) (s : State) → IsPlaceState i s → IsStateAt i s
 table_state i Unknown h = tt
 table_state i (Known bytes) h = (omega arith, h.1)
 table_state i Conflict h = omega arith

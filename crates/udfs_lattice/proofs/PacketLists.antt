@@ -17,7 +17,7 @@ use Rattle.udfs_lattice.specs.Tables.{Table, state_of, entries_of, known_count, 
 use Rattle.udfs_lattice.specs.TableLaws.{same_table, state_of-empty}
 use Rattle.udfs_lattice.specs.Records.{table_of_entries, IsEntry, RisesFrom}
 use Rattle.udfs_lattice.specs.Packets.{IsPacketTable, IsFirstLeft, entries_left}
-use Rattle.udfs_lattice.specs.PacketTables.{found_packet, packet_at, table_packets, IsPacketFound, ArePackets, IsPacketMap, block_entry, block_entries, packet_entries, IsFound}
+use Rattle.udfs_lattice.specs.PacketTables.{found_packet, packet_at, table_packets, IsPacketFound, ArePackets, IsPacketMap, block_entry, block_entries, entries_of_packets, IsFound}
 use Rattle.udfs_lattice.proofs.EntryLaws.{state_of-cons, entries_of-rising, few_entries}
 use Rattle.udfs_lattice.proofs.PacketEntries.{rises_lower, rises-entries_from, entries_of-packet, places-packet, table_of_entries-packet, IsTable-packet}
 use Rattle.udfs_lattice.proofs.PacketTables.{state_of-table_packets, is_at-nat}
@@ -82,13 +82,13 @@ first_after : (k : ℕ) (ps : List (ℕ × Table)) → Above k ps → FirstFrom 
 first_after k [] h = tt
 first_after k (p ∷ ps) h = let less : k < p.0 = less_from k p.0 h.0 in omega arith
 
-rises_packets : (low : ℕ) (ps : List (ℕ × Table)) → FirstFrom low ps → IsStrictlySortedBy nat_cmp (keys_of ps) → ArePackets ps → RisesFrom (low * 32) (packet_entries ps)
+rises_packets : (low : ℕ) (ps : List (ℕ × Table)) → FirstFrom low ps → IsStrictlySortedBy nat_cmp (keys_of ps) → ArePackets ps → RisesFrom (low * 32) (entries_of_packets ps)
 rises_packets low [] first sorted h = tt
 rises_packets low (p ∷ ps) first sorted h =
     let above = sorted_head nat_cmp p.0 (keys_of ps) sorted in
     let one = first_packet p ps h in
     let places = places-packet p.1 in
-    rises_append (low * 32) ((p.0 + 1) * 32) (block_entries p.0 (entries_left p.1 0)) (packet_entries ps) (omega arith)
+    rises_append (low * 32) ((p.0 + 1) * 32) (block_entries p.0 (entries_left p.1 0)) (entries_of_packets ps) (omega arith)
     (rises_lower (low * 32) (p.0 * 32 + 0) (block_entries p.0 (entries_left p.1 0)) (omega arith) (rises_block p.0 0 (entries_left p.1 0) one.0 places (rises-entries_from p.1 0 32 (IsTable-packet p.1 one.1))))
     (below_block p.0 (entries_left p.1 0) places)
     (rises_packets (p.0 + 1) ps (first_after p.0 ps above) (sorted_tail nat_cmp p.0 (keys_of ps) sorted) (later_packets p ps above h))
@@ -136,12 +136,12 @@ packet_step p ps j i true is above =
     ∙ join_of-unknown (state_of p.1 i)
 packet_step p ps j i false is above = refl
 
-state_of-packet_entries : (ps : List (ℕ × Table)) (q : ℕ) → IsStrictlySortedBy nat_cmp (keys_of ps) → ArePackets ps → state_of (table_of_entries (packet_entries ps)) q ≡ state_of (packet_at ps (q / 32)) (q % 32)
+state_of-packet_entries : (ps : List (ℕ × Table)) (q : ℕ) → IsStrictlySortedBy nat_cmp (keys_of ps) → ArePackets ps → state_of (table_of_entries (entries_of_packets ps)) q ≡ state_of (packet_at ps (q / 32)) (q % 32)
 state_of-packet_entries [] q sorted h = state_of-empty q ∙ sym (state_of-empty (q % 32))
 state_of-packet_entries (p ∷ ps) q sorted h =
     let above = sorted_head nat_cmp p.0 (keys_of ps) sorted in
-    state_of-append (block_entries p.0 (entries_left p.1 0)) (packet_entries ps) q
-    ∙ ap (λ s. join_of s (state_of (table_of_entries (packet_entries ps)) q)) (state_of-packet_block p.0 q p.1 ((first_packet p ps h).1))
+    state_of-append (block_entries p.0 (entries_left p.1 0)) (entries_of_packets ps) q
+    ∙ ap (λ s. join_of s (state_of (table_of_entries (entries_of_packets ps)) q)) (state_of-packet_block p.0 q p.1 ((first_packet p ps h).1))
     ∙ ap (join_of (cond (q / 32 == p.0) (state_of p.1 (q % 32)) Unknown)) (state_of-packet_entries ps q (sorted_tail nat_cmp p.0 (keys_of ps) sorted) (later_packets p ps above h))
     ∙ ap (λ b. join_of (cond b (state_of p.1 (q % 32)) Unknown) (state_of (packet_at ps (q / 32)) (q % 32))) (same_test (q / 32) p.0 ∙ sym (is_at-nat (q / 32) p.0))
     ∙ packet_step p ps (q / 32) (q % 32) (is_at (nat_cmp (q / 32)) p.0) refl above
@@ -150,18 +150,18 @@ first_from_zero : (ps : List (ℕ × Table)) → FirstFrom 0 ps
 first_from_zero [] = tt
 first_from_zero (p ∷ ps) = omega arith
 
-pub rises-packet_entries : (m : BTreeMap ℕ Table) → IsPacketMap m → RisesFrom 0 (packet_entries m.entries)
+pub rises-packet_entries : (m : BTreeMap ℕ Table) → IsPacketMap m → RisesFrom 0 (entries_of_packets m.entries)
 rises-packet_entries m h = rises_packets 0 m.entries (first_from_zero m.entries) h.ordered h.each
 
-pub packet_entries-entries_of : (m : BTreeMap ℕ Table) → IsPacketMap m → packet_entries m.entries ≡ entries_of (table_packets m.entries)
+pub packet_entries-entries_of : (m : BTreeMap ℕ Table) → IsPacketMap m → entries_of_packets m.entries ≡ entries_of (table_packets m.entries)
 packet_entries-entries_of m h =
-    sym (entries_of-rising 0 (packet_entries m.entries) (rises-packet_entries m h))
-    ∙ ap entries_of (same_table (table_of_entries (packet_entries m.entries)) (table_packets m.entries) (λ q.
+    sym (entries_of-rising 0 (entries_of_packets m.entries) (rises-packet_entries m h))
+    ∙ ap entries_of (same_table (table_of_entries (entries_of_packets m.entries)) (table_packets m.entries) (λ q.
     state_of-packet_entries m.entries q h.ordered h.each ∙ sym (state_of-table_packets m.entries q h.each)))
 
-pub few_packet_entries : (m : BTreeMap ℕ Table) → IsPacketMap m → length (packet_entries m.entries) ≤ 4194304
+pub few_packet_entries : (m : BTreeMap ℕ Table) → IsPacketMap m → length (entries_of_packets m.entries) ≤ 4194304
 few_packet_entries m h =
-    let few : 0 + length (packet_entries m.entries) ≤ 4194304 = few_entries 0 (packet_entries m.entries) (omega arith) (rises-packet_entries m h) in
+    let few : 0 + length (entries_of_packets m.entries) ≤ 4194304 = few_entries 0 (entries_of_packets m.entries) (omega arith) (rises-packet_entries m h) in
     omega arith
 
 abbrev NumberFits : ℕ × Table → Type 0
@@ -187,11 +187,11 @@ count_of-block test k (e ∷ es) =
     ∙ ap (λ n. cond (test e.1) 1 0 + n) (count_of-block test k es)
     ∙ sym (sum_by-cons (λ (x : ℕ × State). cond (test x.1) 1 0) e es)
 
-count_of-packets : (test : State → Bool) (ps : List (ℕ × Table)) → IsStrictlySortedBy nat_cmp (keys_of ps) → ArePackets ps → count_of test (packet_entries ps) ≡ sum_by (λ (t : Table). count_of test (entries_of t)) (values_of ps)
+count_of-packets : (test : State → Bool) (ps : List (ℕ × Table)) → IsStrictlySortedBy nat_cmp (keys_of ps) → ArePackets ps → count_of test (entries_of_packets ps) ≡ sum_by (λ (t : Table). count_of test (entries_of t)) (values_of ps)
 count_of-packets test [] sorted h = refl
 count_of-packets test (p ∷ ps) sorted h =
-    sum_by-append (λ (x : ℕ × State). cond (test x.1) 1 0) (block_entries p.0 (entries_left p.1 0)) (packet_entries ps)
-    ∙ ap (λ n. n + count_of test (packet_entries ps)) (count_of-block test p.0 (entries_left p.1 0) ∙ ap (count_of test) (entries_of-packet p.1 ((first_packet p ps h).1)))
+    sum_by-append (λ (x : ℕ × State). cond (test x.1) 1 0) (block_entries p.0 (entries_left p.1 0)) (entries_of_packets ps)
+    ∙ ap (λ n. n + count_of test (entries_of_packets ps)) (count_of-block test p.0 (entries_left p.1 0) ∙ ap (count_of test) (entries_of-packet p.1 ((first_packet p ps h).1)))
     ∙ ap (λ n. count_of test (entries_of p.1) + n) (count_of-packets test ps (sorted_tail nat_cmp p.0 (keys_of ps) sorted) (later_packets p ps (sorted_head nat_cmp p.0 (keys_of ps) sorted) h))
     ∙ sym (sum_by-cons (λ (t : Table). count_of test (entries_of t)) p.1 (values_of ps))
 
@@ -203,22 +203,22 @@ conflict_count-packets m h = sym (count_of-packets is_conflict m.entries h.order
 
 pub few_counted : (test : State → Bool) (m : BTreeMap ℕ Table) → IsPacketMap m → sum_by (λ (t : Table). count_by (λ (e : ℕ × State). test e.1) (entries_of t)) (values_of m.entries) < 4294967296
 few_counted test m h =
-    let counted : count_of test (packet_entries m.entries) ≡ sum_by (λ (t : Table). count_of test (entries_of t)) (values_of m.entries) = count_of-packets test m.entries h.ordered h.each in
-    let few : length (packet_entries m.entries) ≤ 4194304 = few_packet_entries m h in
-    let fewer : count_of test (packet_entries m.entries) ≤ length (packet_entries m.entries) = count_by-le-length (λ (e : ℕ × State). test e.1) (packet_entries m.entries) in
+    let counted : count_of test (entries_of_packets m.entries) ≡ sum_by (λ (t : Table). count_of test (entries_of t)) (values_of m.entries) = count_of-packets test m.entries h.ordered h.each in
+    let few : length (entries_of_packets m.entries) ≤ 4194304 = few_packet_entries m h in
+    let fewer : count_of test (entries_of_packets m.entries) ≤ length (entries_of_packets m.entries) = count_by-le-length (λ (e : ℕ × State). test e.1) (entries_of_packets m.entries) in
     omega arith
 
 -- ---- the first entry of several packets
-pub found_first : (all now rest : List (ℕ × Table)) (k : ℕ) (t : Table) (i : ℕ) (s : State) → packet_entries all ≡ packet_entries now → All (λ (p : ℕ × Table). p.0 < 131072) now → now ≡ (k, t) ∷ rest → IsFirstLeft t 0 (i, s) → IsFound all k t i s rest
+pub found_first : (all now rest : List (ℕ × Table)) (k : ℕ) (t : Table) (i : ℕ) (s : State) → entries_of_packets all ≡ entries_of_packets now → All (λ (p : ℕ × Table). p.0 < 131072) now → now ≡ (k, t) ∷ rest → IsFirstLeft t 0 (i, s) → IsFound all k t i s rest
 found_first all now rest k t i s same small is first = record {
   number = All-head (λ (p : ℕ × Table). p.0 < 131072) (k, t) rest (subst (All (λ (p : ℕ × Table). p.0 < 131072)) is small);
   place = first.0;
-  entries = same ∙ ap packet_entries is ∙ ap (λ l. block_entries k l ++ packet_entries rest) first.1;
+  entries = same ∙ ap entries_of_packets is ∙ ap (λ l. block_entries k l ++ entries_of_packets rest) first.1;
 }
 
 pub later_numbers : (now rest : List (ℕ × Table)) (k : ℕ) (t : Table) → All (λ (p : ℕ × Table). p.0 < 131072) now → now ≡ (k, t) ∷ rest → All (λ (p : ℕ × Table). p.0 < 131072) rest
 later_numbers now rest k t small is = All-tail (λ (p : ℕ × Table). p.0 < 131072) (k, t) rest (subst (All (λ (p : ℕ × Table). p.0 < 131072)) is small)
 
-pub passed_over : (all now rest : List (ℕ × Table)) (k : ℕ) (t : Table) → packet_entries all ≡ packet_entries now → All (λ (p : ℕ × Table). p.0 < 131072) now → now ≡ (k, t) ∷ rest → entries_left t 0 ≡ [] → (packet_entries all ≡ packet_entries rest) × All (λ (p : ℕ × Table). p.0 < 131072) rest
+pub passed_over : (all now rest : List (ℕ × Table)) (k : ℕ) (t : Table) → entries_of_packets all ≡ entries_of_packets now → All (λ (p : ℕ × Table). p.0 < 131072) now → now ≡ (k, t) ∷ rest → entries_left t 0 ≡ [] → (entries_of_packets all ≡ entries_of_packets rest) × All (λ (p : ℕ × Table). p.0 < 131072) rest
 passed_over all now rest k t same small is none =
-    (same ∙ ap packet_entries is ∙ ap (λ l. block_entries k l ++ packet_entries rest) none, later_numbers now rest k t small is)
+    (same ∙ ap entries_of_packets is ∙ ap (λ l. block_entries k l ++ entries_of_packets rest) none, later_numbers now rest k t small is)

@@ -13,7 +13,7 @@ use Rattle.udfs_lattice.specs.declared.facts.Fact.TheVariants.{Unknown, Known, C
 use Rattle.udfs_lattice.specs.States.{State, IsBlock, is_known, is_conflict, join_of}
 use Rattle.udfs_lattice.specs.Tables.{Table, Held, fact_found, state_of, empty_table, one_entry, join_tables, IsStateAt}
 use Rattle.udfs_lattice.specs.TableLaws.{state_of-insert, state_of-empty, state_of-join_tables, state_of-one_entry, same_table}
-use Rattle.udfs_lattice.specs.Packets.{rank, held_at, add_found, table_below, table_packet, box_values, IsPacket, IsPlace, IsPacketTable, IsMaskOf}
+use Rattle.udfs_lattice.specs.Packets.{rank, held_at, add_found, table_below, table_packet, box_values, IsPacket, IsPlaceState, IsPacketTable, IsMaskOf}
 use Rattle.udfs_lattice.proofs.PacketRanks.{rank_below}
 
 none_at : (t : Table) (n q : ℕ) → state_of t n ≡ Unknown → (b : Bool) → (q == n) ≡ b → state_of t q ≡ cond b Unknown (state_of t q)
@@ -147,7 +147,7 @@ IsMaskOf-conflict k c bs t fits p view i = ⊎_elim
     (cases_lt i 32)
 
 -- ---- the packets that there are
-place_said : (i : ℕ) (p q : Bool) (v : List ℕ) → i < 32 → (p ≡ true → IsBlock v) → IsPlace i (bits_say p q v)
+place_said : (i : ℕ) (p q : Bool) (v : List ℕ) → i < 32 → (p ≡ true → IsBlock v) → IsPlaceState i (bits_say p q v)
 place_said i true q v h whole = (h, whole refl)
 place_said i false true v h whole = h
 place_said i false false v h whole = tt
@@ -157,10 +157,10 @@ pub stored_below : (k c : ℕ) (bs : List (List ℕ)) (i : ℕ) → IsPacket k c
 stored_below k c bs i p h set = subst (λ n. rank k i < n) (sym p.stored) (rank_below k i 32 h (eqb-true (bit_at k i) 1 set))
 
 pub IsPacketTable-packet : (k c : ℕ) (bs : List (List ℕ)) (t : Table) → IsPacket k c bs → table_packet k c bs ≡ t → IsPacketTable t
-IsPacketTable-packet k c bs t p view i = subst (λ u. IsPlace i (state_of u i)) view (⊎_elim
-    (λ lt. subst (IsPlace i) (sym (state_of-place k c bs i lt))
+IsPacketTable-packet k c bs t p view i = subst (λ u. IsPlaceState i (state_of u i)) view (⊎_elim
+    (λ lt. subst (IsPlaceState i) (sym (state_of-place k c bs i lt))
     (place_said i (bit_at k i == 1) (bit_at c i == 1) (slice_index_or bs (rank k i) []) lt (λ e. All-get_or IsBlock bs (rank k i) [] (stored_below k c bs i p lt e) p.whole)))
-    (λ ge. subst (IsPlace i) (sym (state_of-beyond k c bs i ge)) tt)
+    (λ ge. subst (IsPlaceState i) (sym (state_of-beyond k c bs i ge)) tt)
     (cases_lt i 32))
 
 -- ---- the packet with no bit set
@@ -196,32 +196,32 @@ pub stored_read : (boxes : List (Box (List ℕ))) (i r : ℕ) (x : Box (List ℕ
 stored_read boxes i r x e h is = get_or-map (λ b. b.value) boxes r x [] h ∙ ap (λ k. (slice_index_or boxes k x).value) (sym e) ∙ sym (ap (λ b. b.value) is)
 
 -- ---- what makes a packet that there is
-pub IsPlace-join_of : (i : ℕ) (x y : State) → IsPlace i x → IsPlace i y → IsPlace i (join_of x y)
+pub IsPlace-join_of : (i : ℕ) (x y : State) → IsPlaceState i x → IsPlaceState i y → IsPlaceState i (join_of x y)
 IsPlace-join_of i Unknown y p q = q
 IsPlace-join_of i (Known a) Unknown p q = p
-IsPlace-join_of i (Known a) (Known b) p q = elim (bytes_eq a b) as (λ r. IsPlace i (cond r (Known a) Conflict)) [ true ↦ p | false ↦ p.0 ]
+IsPlace-join_of i (Known a) (Known b) p q = elim (bytes_eq a b) as (λ r. IsPlaceState i (cond r (Known a) Conflict)) [ true ↦ p | false ↦ p.0 ]
 IsPlace-join_of i (Known a) Conflict p q = q
 IsPlace-join_of i Conflict y p q = p
 
 pub IsPacketTable-join : (t u : Table) → IsPacketTable t → IsPacketTable u → IsPacketTable (join_tables t u)
-IsPacketTable-join t u p q i = subst (IsPlace i) (sym (state_of-join_tables t u i)) (IsPlace-join_of i (state_of t i) (state_of u i) (p i) (q i))
+IsPacketTable-join t u p q i = subst (IsPlaceState i) (sym (state_of-join_tables t u i)) (IsPlace-join_of i (state_of t i) (state_of u i) (p i) (q i))
 
 pub IsPacketTable-empty : IsPacketTable empty_table
-IsPacketTable-empty i = subst (IsPlace i) (sym (state_of-empty i)) tt
+IsPacketTable-empty i = subst (IsPlaceState i) (sym (state_of-empty i)) tt
 
 -- a block's state at its place
-at_place : (n i : ℕ) (s : State) → i < 32 → IsStateAt n s → IsPlace i s
+at_place : (n i : ℕ) (s : State) → i < 32 → IsStateAt n s → IsPlaceState i s
 at_place n i Unknown small h = tt
 at_place n i (Known bytes) small h = (small, h.1)
 at_place n i Conflict small h = small
 
-one_place : (i : ℕ) (s : State) (q : ℕ) (b : Bool) → IsPlace i s → (q == i) ≡ b → IsPlace q (cond b s Unknown)
-one_place i s q true h is = subst (λ k. IsPlace k s) (sym (eqb-true q i is)) h
+one_place : (i : ℕ) (s : State) (q : ℕ) (b : Bool) → IsPlaceState i s → (q == i) ≡ b → IsPlaceState q (cond b s Unknown)
+one_place i s q true h is = subst (λ k. IsPlaceState k s) (sym (eqb-true q i is)) h
 one_place i s q false h is = tt
 
 pub IsPacketTable-one : (n i : ℕ) (s : State) → i < 32 → IsStateAt n s → IsPacketTable (one_entry i s)
-IsPacketTable-one n i s small h q = subst (IsPlace q) (sym (state_of-one_entry i s q)) (one_place i s q (q == i) (at_place n i s small h) refl)
+IsPacketTable-one n i s small h q = subst (IsPlaceState q) (sym (state_of-one_entry i s q)) (one_place i s q (q == i) (at_place n i s small h) refl)
 
 -- one block of a packet
 pub IsPacketTable-place : (t : Table) (i : ℕ) → IsPacketTable t → IsPacketTable (one_entry i (state_of t i))
-IsPacketTable-place t i h q = subst (IsPlace q) (sym (state_of-one_entry i (state_of t i) q)) (one_place i (state_of t i) q (q == i) (h i) refl)
+IsPacketTable-place t i h q = subst (IsPlaceState q) (sym (state_of-one_entry i (state_of t i) q)) (one_place i (state_of t i) q (q == i) (h i) refl)

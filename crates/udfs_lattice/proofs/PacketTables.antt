@@ -11,7 +11,7 @@ use Rattle.udfs_lattice.specs.declared.facts.Fact.TheVariants.{Unknown, Known, C
 use Rattle.udfs_lattice.specs.States.{State, IsBelow, IsBelow-refl, join_of, join_of-unknown, IsBelow-join_of}
 use Rattle.udfs_lattice.specs.Tables.{Table, fact_found, state_of, empty_table, one_entry, join_tables, IsTable, IsStateAt, IsTableBelow, IsForgotten}
 use Rattle.udfs_lattice.specs.TableLaws.{same_table, state_of-empty, state_of-join_tables, state_of-one_entry, join_tables-empty, IsTableBelow-join_tables}
-use Rattle.udfs_lattice.specs.Packets.{IsPlace, IsPacketTable, IsSetTo}
+use Rattle.udfs_lattice.specs.Packets.{IsPlaceState, IsPacketTable, IsSetTo}
 use Rattle.udfs_lattice.specs.PacketTables.{found_packet, packet_at, held_in, table_packets, held_in_one, one_packet, IsPacketFound, ArePackets, IsPacketMap, IsUnknownPacket}
 use Rattle.udfs_lattice.proofs.PacketStates.{state_of-table_below, IsPacketTable-join, IsPacketTable-empty, IsPacketTable-one}
 
@@ -34,7 +34,7 @@ state_of-table_packets ps q h =
     state_of-table_below (held_in ps) 4194304 q
     ∙ in_range_or_far q (lookup (is_at (nat_cmp (q / 32))) ps) (nat_lt q 4194304) refl (h (q / 32))
 
-place_at : (n i : ℕ) (s : State) → n ≤ 4194303 → IsPlace i s → IsStateAt n s
+place_at : (n i : ℕ) (s : State) → n ≤ 4194303 → IsPlaceState i s → IsStateAt n s
 place_at n i Unknown le h = tt
 place_at n i (Known bytes) le h = (le, h.1)
 place_at n i Conflict le h = le
@@ -218,7 +218,7 @@ is_packet : (k : ℕ) (o : Option Table) → IsPacketFound k o → IsPacketTable
 is_packet k None h = IsPacketTable-empty
 is_packet k (Some t) h = h.1
 
-beyond_place : (i : ℕ) (s : State) → IsPlace i s → 32 ≤ i → s ≡ Unknown
+beyond_place : (i : ℕ) (s : State) → IsPlaceState i s → 32 ≤ i → s ≡ Unknown
 beyond_place i Unknown h le = refl
 beyond_place i (Known bytes) h le = absurd (omega arith)
 beyond_place i Conflict h le = absurd (omega arith)
@@ -286,12 +286,12 @@ one_below m k v t h view found = subst (IsTableBelow (one_packet k v)) view (λ 
     (one_below_at m.entries k v q (q / 32 == k) h.each (packet_found m k v found) refl))
 
 -- ---- a block is forgotten
-place_unknown : (i : ℕ) (s : State) (b : Bool) → IsPlace i s → IsPlace i (cond b Unknown s)
+place_unknown : (i : ℕ) (s : State) (b : Bool) → IsPlaceState i s → IsPlaceState i (cond b Unknown s)
 place_unknown i s true h = tt
 place_unknown i s false h = h
 
 pub forgotten_packet : (had u : Table) (i : ℕ) → IsPacketTable had → IsSetTo had i Unknown u → IsPacketTable u
-forgotten_packet had u i h set q = subst (IsPlace q) (sym (set q)) (place_unknown q (state_of had q) (q == i) (h q))
+forgotten_packet had u i h set q = subst (IsPlaceState q) (sym (set q)) (place_unknown q (state_of had q) (q == i) (h q))
 
 same_place : (q n : ℕ) → q / 32 ≡ n / 32 → (q % 32 == n % 32) ≡ (q == n)
 same_place q n e = grind (arith, nat_tests)

@@ -58,9 +58,9 @@ abbrev pub block_entries : ℕ → List (ℕ × State) → List (ℕ × State)
 block_entries k es = map (block_entry k) es
 
 -- the entries of the packets, one packet after the other
-abbrev pub packet_entries : List (ℕ × Table) → List (ℕ × State)
-packet_entries [] = []
-packet_entries (p ∷ ps) = block_entries p.0 (entries_left p.1 0) ++ packet_entries ps
+abbrev pub entries_of_packets : List (ℕ × Table) → List (ℕ × State)
+entries_of_packets [] = []
+entries_of_packets (p ∷ ps) = block_entries p.0 (entries_left p.1 0) ++ entries_of_packets ps
 
 -- every block of the packet of this number is unknown
 abbrev pub IsUnknownPacket : Table → ℕ → Type 0
@@ -84,4 +84,4 @@ AreEntries here ps = IsHere here × All (λ (e : ℕ × Table). e.0 < 131072) ps
 pub record IsFound (packets : List (ℕ × Table)) (k : ℕ) (t : Table) (i : ℕ) (s : State) (rest : List (ℕ × Table)) : Type 0 where
   pub number : k < 131072
   pub place : i < 32
-  pub entries : packet_entries packets ≡ (k * 32 + i, s) ∷ (block_entries k (entries_left t (i + 1)) ++ packet_entries rest)
+  pub entries : entries_of_packets packets ≡ (k * 32 + i, s) ∷ (block_entries k (entries_left t (i + 1)) ++ entries_of_packets rest)

@@ -8,14 +8,14 @@ use Rattle.udfs_lattice.specs.States.{State, IsBlock}
 use Rattle.udfs_lattice.specs.Tables.{Table, Held, state_of}
 
 -- what a state at place i of a packet may be
-abbrev pub IsPlace : ℕ → State → Type 0
-IsPlace i Unknown = Unit {0}
-IsPlace i (Known bytes) = (i < 32) × IsBlock bytes
-IsPlace i Conflict = i < 32
+abbrev pub IsPlaceState : ℕ → State → Type 0
+IsPlaceState i Unknown = Unit {0}
+IsPlaceState i (Known bytes) = (i < 32) × IsBlock bytes
+IsPlaceState i Conflict = i < 32
 
 -- the packets that there are: places 0 to 31 of 2048 bytes each
 abbrev pub IsPacketTable : Table → Type 0
-IsPacketTable t = (i : ℕ) → IsPlace i (state_of t i)
+IsPacketTable t = (i : ℕ) → IsPlaceState i (state_of t i)
 
 -- u is t with this state at place i
 abbrev pub IsSetTo : Table → ℕ → State → Table → Type 0

@@ -5,7 +5,7 @@ use Rattle.std.specs.Io.KnownBytes.{Keeps, IsAtEnd, Consumes}
 use Rattle.udfs_lattice.specs.Records.{Record}
 use Rattle.udfs_reading.specs.Reading.{magic, record_bytes}
 use Rattle.udfs_rescue.specs.Blocks.{records_in, records_from, records_of, block_of, WithoutFront, left_bytes, reading_known}
-use Rattle.udfs_rescue.specs.Known.{blocks_in}
+use Rattle.udfs_rescue.specs.Known.{block_count}
 use Rattle.udfs_reading.specs.Format.{header}
 use Rattle.udfs_rescue.specs.declared.known.BlockRange.{BlockRange}
 use Rattle.std.specs.Prelude.{IfOk, Result, Ok, Err, Bool, true}
@@ -189,13 +189,13 @@ length-records_from : (all : List ℕ) (n k : ℕ) → length (records_from all 
 length-records_from all n zero = refl
 length-records_from all n (suc k) = ap suc (length-records_from all (n + 1) k)
 
-pub length-records_of : (all : List ℕ) (rs : List BlockRange) → length (records_of all rs) ≡ blocks_in rs
+pub length-records_of : (all : List ℕ) (rs : List BlockRange) → length (records_of all rs) ≡ block_count rs
 length-records_of all [] = refl
 length-records_of all (r ∷ rs) =
     length-append (records_from all r.start (r.end - r.start)) (records_of all rs) ∙ ap (λ n. n + length (records_of all rs)) (length-records_from all r.start (r.end - r.start)) ∙ ap (λ n. (r.end - r.start) + n) (length-records_of all rs)
 
 -- at the start
-pub at_start : (a : Option (List ℕ)) (p : List ℕ) (g : List Record) (rs known : List BlockRange) (count : ℕ) → count ≡ blocks_in known → p ≡ header magic count → g ≡ [] → rs ≡ known → left_bytes a p g rs ≡ reading_known a known
+pub at_start : (a : Option (List ℕ)) (p : List ℕ) (g : List Record) (rs known : List BlockRange) (count : ℕ) → count ≡ block_count known → p ≡ header magic count → g ≡ [] → rs ≡ known → left_bytes a p g rs ≡ reading_known a known
 at_start None p g rs known count c h none same = refl
 at_start (Some all) p g rs known count c h none same =
     ap Some (ap (λ l. p ++ (flat_map record_bytes l ++ flat_map record_bytes (records_of all rs))) none ∙ ap (λ l. p ++ flat_map record_bytes (records_of all l)) same

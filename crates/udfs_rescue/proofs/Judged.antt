@@ -5,7 +5,7 @@ use Rattle.std.proofs.Common.{◌≡◌, ℕ, ◌+◌, ◌-◌, ◌<◌, ◌≤�
 use Rattle.std.proofs.lemmas.Bool.{cases_lt, leb-true, leb-false, ltb-true, ltb-false}
 use Rattle.udfs_rescue.specs.declared.run.Run.{Run}
 use Rattle.udfs_rescue.specs.declared.known.BlockRange.{BlockRange}
-use Rattle.udfs_rescue.specs.Known.{IsKnown, InRanges, RiseFrom, EndWithin, AreBlocks, IsFirstOutside, first_from, blocks_in, judged, added, IsTooHigh}
+use Rattle.udfs_rescue.specs.Known.{IsKnown, InRanges, RiseFrom, EndWithin, AreBlocks, IsFirstOutside, first_from, block_count, judged, added, IsTooHigh}
 
 added_ok : (k n : ℕ) (r : Result ℕ ℕ) → added k r ≡ Ok n → (m : ℕ) × (r ≡ Ok m) × (n ≡ k + m)
 added_ok k n (Ok m) e = (m, refl, cc)
@@ -16,7 +16,7 @@ added_err k n (Ok m) e = absurd cc
 added_err k n (Err m) e = (m, refl, cc)
 
 ok_step : (t : Bool) (r : BlockRange) (rs : List BlockRange) (n : ℕ) → leb r.end 4194304 ≡ t → cond t (added (r.end - r.start) (judged rs)) (Err (4194304 - r.start)) ≡ Ok n
-    → ((m : ℕ) → judged rs ≡ Ok m → EndWithin rs × (m ≡ blocks_in rs)) → EndWithin (r ∷ rs) × (n ≡ blocks_in (r ∷ rs))
+    → ((m : ℕ) → judged rs ≡ Ok m → EndWithin rs × (m ≡ block_count rs)) → EndWithin (r ∷ rs) × (n ≡ block_count (r ∷ rs))
 ok_step true r rs n is e h =
     let a = added_ok (r.end - r.start) n (judged rs) e in
     let b = h a.0 a.1 in
@@ -24,7 +24,7 @@ ok_step true r rs n is e h =
 ok_step false r rs n is e h = absurd cc
 
 -- all blocks were counted
-pub judged_ok : (rs : List BlockRange) (n : ℕ) → judged rs ≡ Ok n → EndWithin rs × (n ≡ blocks_in rs)
+pub judged_ok : (rs : List BlockRange) (n : ℕ) → judged rs ≡ Ok n → EndWithin rs × (n ≡ block_count rs)
 judged_ok [] n e = (tt, cc)
 judged_ok (r ∷ rs) n e = ok_step (leb r.end 4194304) r rs n refl e (λ m. judged_ok rs m)
 
@@ -41,7 +41,7 @@ pub record Over (low : ℕ) (ranges : List BlockRange) (count : ℕ) : Type 0 wh
   pub before : List BlockRange
   pub rise : RiseFrom low before
   pub exactly : (n : ℕ) → InRanges before n ↔ (InRanges ranges n × (n ≤ 4194303))
-  pub which : count ≡ blocks_in before
+  pub which : count ≡ block_count before
 
 none_below : (low : ℕ) (rs : List BlockRange) → 4194304 ≤ low → RiseFrom low rs → (n : ℕ) → InRanges rs n → n ≤ 4194303 → ⊥
 none_below low [] o w n i l = i

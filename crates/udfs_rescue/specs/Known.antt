@@ -32,9 +32,9 @@ EndWithin [] = Unit {0}
 EndWithin (r ∷ rs) = (r.end ≤ 4194304) × EndWithin rs
 
 -- how many blocks the ranges have
-abbrev pub blocks_in : List BlockRange → ℕ
-blocks_in [] = 0
-blocks_in (r ∷ rs) = (r.end - r.start) + blocks_in rs
+abbrev pub block_count : List BlockRange → ℕ
+block_count [] = 0
+block_count (r ∷ rs) = (r.end - r.start) + block_count rs
 
 -- blocks of a volume: ranges that rise, up to block 4,194,303 at most
 pub record AreBlocks (ranges : List BlockRange) : Type 0 where
@@ -49,7 +49,7 @@ pub record IsTooHigh (runs : List Run) (number : ℕ) : Type 0 where
   pub before : List BlockRange
   pub rise : RiseFrom 0 before
   pub exactly : (n : ℕ) → InRanges before n ↔ (IsKnown runs n × (n ≤ 4194303))
-  pub which : number ≡ blocks_in before + 1
+  pub which : number ≡ block_count before + 1
 
 -- why there are no known blocks of a volume
 abbrev pub KnownFails : List Run → ReadingFault → ℕ → Type 0

@@ -2,7 +2,7 @@
 
 ghost use Rattle.std.specs.Prelude.{◌≡◌, ◌++◌, ℕ, ◌+◌, ◌^◌, ◌≤◌, ◌<◌, ◌↔◌, ◌*◌, OnOk, IfOk, IfErr, IfSome, IfNone};
 ghost use Rattle.udfs_rescue.specs.Runs.{AreRuns, RunsFrom};
-ghost use Rattle.udfs_rescue.specs.Known.{IsKnown, InRanges, RiseFrom, AreBlocks, blocks_in, KnownFails, IsFirstOutside, judged, first_from};
+ghost use Rattle.udfs_rescue.specs.Known.{IsKnown, InRanges, RiseFrom, AreBlocks, block_count, KnownFails, IsFirstOutside, judged, first_from};
 ghost use Rattle.udfs_rescue.specs.Blocks.{AreSome};
 ghost use Rattle.udfs_rescue.specs.Ranges.{range_of, goes_on, ranges_from};
 
@@ -36,11 +36,11 @@ impl Model for KnownBlocks {
     ghost Value = { List BlockRange };
 
     ghost use Rattle.std.specs.Prelude.{◌≡◌};
-    ghost use Rattle.udfs_rescue.specs.Known.{AreBlocks, blocks_in};
+    ghost use Rattle.udfs_rescue.specs.Known.{AreBlocks, block_count};
 
     ghost view = { λ k. k.ranges.items };
 
-    ghost invariant = { λ k. AreBlocks k.ranges.items × (k.count ≡ blocks_in k.ranges.items) };
+    ghost invariant = { λ k. AreBlocks k.ranges.items × (k.count ≡ block_count k.ranges.items) };
 }
 
 /// Adds the blocks that lie wholly from one position to another.
@@ -192,7 +192,7 @@ impl KnownBlocks {
 
     /// How many blocks are known.
     pub fn count(&self) -> u32
-        ensures { result ≡ blocks_in self.now }
+        ensures { result ≡ block_count self.now }
     {
         self.count
     }

@@ -13,7 +13,7 @@ use Rattle.udfs_walk.specs.UnnamedEntries.{address_of}
 use Rattle.udfs_walk.specs.declared.answers.Unnamed.{Unnamed}
 use Rattle.udfs_walk.specs.declared.standings.Standing.{Standing}
 use Rattle.udfs_walk.specs.declared.standings.Standing.TheVariants.{Whole, Torn, Loop, Fault}
-use Rattle.udfs_salvage.specs.NodeTexts.{kind_text, node_line, path_text, place_text, size_text, standing_name, standing_text, time_text, told_text, unnamed_line}
+use Rattle.udfs_salvage.specs.NodeTexts.{kind_text, node_line, path_text, place_text, size_text, standing_name, standing_text, stamp_column, told_text, unnamed_line}
 use Rattle.udfs_salvage.specs.Texts.{line}
 
 -- the lists are no part of the line
@@ -25,7 +25,7 @@ same_name lists (Fault f) = refl
 
 same_told : (lists : TornFields) (s : Standing) (k : Kind) (size : Option ℕ) (stamp : Option Stamp) → told_text (with_lists lists s) k size stamp ≡ told_text s k size stamp
 unfolding told_text
-same_told lists s k size stamp = ap (λ t. (codes " " ++ t) ++ kind_text k ++ size_text size ++ time_text stamp) (same_name lists s)
+same_told lists s k size stamp = ap (λ t. (codes " " ++ t) ++ kind_text k ++ size_text size ++ stamp_column stamp) (same_name lists s)
 
 pub same_line : (v : View) (i : ℕ) (n : NodeFields) → node_line i (full_node v n) ≡ node_line i n
 unfolding node_line

@@ -16,7 +16,7 @@ use Rattle.udfs_salvage.specs.Found.{Found}
 use Rattle.udfs_salvage.specs.Reports.{Report}
 use Rattle.udfs_salvage.specs.Texts.{has_two}
 use Rattle.udfs_salvage.specs.JsonNodes.{count, hole_data, holes_of, list_data, missing_of, node_data, size_data, time_data, unnamed_data}
-use Rattle.udfs_salvage.specs.JsonReports.{label_data, label_of, map_name, open_members, packet_of, report_data, reread_data, volume_data, with_maps, with_packet}
+use Rattle.udfs_salvage.specs.JsonReports.{label_data, label_data_of, map_name, open_members, packet_length_of, report_data, reread_data, volume_data, with_map_members, with_packet}
 
 none_in : {A : Type 0} (f : A → Data) (xs : List A) → ((x : A) → has_float (f x) ≡ false) → has_float (list_data f xs) ≡ false
 none_in f [] h = refl
@@ -43,7 +43,7 @@ reread_none : (b : Blocks) (n : ℕ) → has_float (reread_data b n) ≡ false
 unfolding reread_data
 reread_none b n = refl
 
-open_none : (ps : List Partition) (packet : Option ℕ) (r : ℕ) → has_float (object (with_maps ps (with_packet packet (open_members r)))) ≡ false
+open_none : (ps : List Partition) (packet : Option ℕ) (r : ℕ) → has_float (object (with_map_members ps (with_packet packet (open_members r)))) ≡ false
 open_none [] None r = refl
 open_none [] (Some n) r = refl
 open_none (p ∷ []) None r = refl
@@ -52,7 +52,7 @@ open_none (p ∷ q ∷ ps) None r = rw (none_in (λ x. string (map_name x.kind))
 open_none (p ∷ q ∷ ps) (Some n) r = rw (none_in (λ x. string (map_name x.kind)) (p ∷ q ∷ ps) (λ x. refl)) refl
 
 volume_none : (a : Answer Found) → has_float (volume_data a) ≡ false
-volume_none (found f) = open_none f.layout.partitions (packet_of f.layout.partitions) f.layout.revision
+volume_none (found f) = open_none f.layout.partitions (packet_length_of f.layout.partitions) f.layout.revision
 volume_none (holes blocks) = rw (none_in count blocks (λ x. refl)) refl
 volume_none (faulty f) = refl
 
@@ -61,7 +61,7 @@ label_none label.Empty = refl
 label_none (label.Name units) = refl
 label_none label.Invalid = refl
 
-label_of_none : (a : Answer Found) → has_float (label_of a) ≡ false
+label_of_none : (a : Answer Found) → has_float (label_data_of a) ≡ false
 label_of_none (found f) = label_none f.layout.label
 label_of_none (holes blocks) = refl
 label_of_none (faulty f) = refl

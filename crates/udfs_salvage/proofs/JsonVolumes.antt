@@ -8,9 +8,9 @@ use Rattle.udfs_volume.specs.Layout.{Partition}
 use Rattle.udfs_volume.specs.LayoutParts.{partition_now}
 use Rattle.udfs_volume.specs.declared.layouts.Partition as code_partition
 use Rattle.udfs_salvage.specs.JsonNodes.{list_data}
-use Rattle.udfs_salvage.specs.JsonReports.{map_name, open_members, put_maps, put_packet, with_maps, with_packet}
+use Rattle.udfs_salvage.specs.JsonReports.{map_name, open_members, put_maps, put_packet, with_map_members, with_packet}
 
-pub volume_members : (ps : List Partition) (packet : Option ℕ) (r : ℕ) → put_maps ps (put_packet packet (open_members r)) ≡ with_maps ps (with_packet packet (open_members r))
+pub volume_members : (ps : List Partition) (packet : Option ℕ) (r : ℕ) → put_maps ps (put_packet packet (open_members r)) ≡ with_map_members ps (with_packet packet (open_members r))
 volume_members [] None r = refl
 volume_members [] (Some n) r = refl
 volume_members (p ∷ []) None r = refl

@@ -11,7 +11,7 @@ use Rattle.udfs_space.specs.Places.{place, place_by, view}
 use Rattle.udfs_space.specs.Sparing.{Space, Span}
 use Rattle.udfs_space.specs.Standard.{standard_space}
 use Rattle.udfs_space.proofs.PublicLaws.{blocks_of_standard}
-use Rattle.udfs_file.specs.Complete.{HasPartitions, IsWhole, IsReadFileSet}
+use Rattle.udfs_file.specs.Complete.{HasPartitions, IsComplete, IsReadFileSet}
 use Rattle.udfs_file.specs.Standard.{IsFileSetAt}
 use Rattle.udfs_file.proofs.PublicLaws.{file_set_is_read}
 use Rattle.udfs_tree.specs.Lawful.{IsLawfulTree}
@@ -30,7 +30,7 @@ pub record ReadAs (V : Volume) (N : ℕ) (f : Found) : Type 0 where
   pub opened : Opened
   pub is_opened : IsOpened V N opened
   pub is_found : found_of V opened ≡ f
-  pub is_whole : IsWhole (view (complete V N) f.space) opened.blocks
+  pub is_whole : IsComplete (view (complete V N) f.space) opened.blocks
   pub only : (other : Opened) → IsOpened V N other → other ≡ opened
 
 pub open_as : (V : Volume) (N : ℕ) (lawful : IsLawfulVolume V N) → ReadAs V N lawful.found_is
@@ -63,7 +63,7 @@ open_as V N lawful = record {
     opened : Opened
     opened = record { layout = f.layout; blocks = blocks; root = f.root }
 
-    is_whole : IsWhole (view C f.space) blocks
+    is_whole : IsComplete (view C f.space) blocks
     is_whole = record {
       nowhere = λ r b p. ap (option_map V) p;
       there = λ r b n p. let inside : n ≤ N = there.inside r b n p in

@@ -23,7 +23,7 @@ use Rattle.udfs_tree.specs.Trees.{PartitionBlocks, TreeFile, InTree}
 use Rattle.udfs_tree.proofs.PublicLaws.{missing_is_wanted, partial_nodes, root_is_in_tree, whole_alike}
 use Rattle.udfs_salvage.specs.Found.{Found, volume as volume_of}
 use Rattle.udfs_salvage.specs.Laws.{IsVolumeGroup, IsToldOf}
-use Rattle.udfs_salvage.specs.KnownEnough.{IsReportedWhole, MetIsReported, StaysWhole, HoldsWanted, IsWantedBlock, RereadsSuffice}
+use Rattle.udfs_salvage.specs.KnownEnough.{IsReportedWhole, MetIsReported, StaysWhole, HoldsWantedIn, IsWantedBlock, RereadsSuffice}
 use Rattle.udfs_salvage.specs.Reports.{Report, IsReport, ReportsBy}
 use Rattle.udfs_salvage.specs.VolumeTrees.{IsInVolume, IsLawful, NeedsOf, for_volume, for_node, IsNeededIn, IsMetBy}
 use Rattle.udfs_salvage.proofs.Founds.{found_same, known_not_unread}
@@ -172,7 +172,7 @@ record IsRightList (T : Blocks) (V : Volume) (N : ℕ) (report : Report) : Type 
   none_only_if : ((path : List (List ℕ)) (file : TreeFile) → IsInVolume V N path file → IsReportedWhole T report path file) → report.reread ≡ []
   not_known : IsUnread T report.reread
   each : (n : ℕ) → Includes report.reread n → IsWantedBlock T V N n ⊎ (Includes (anchor_places N) n × IsUnread T (valid_anchors V N))
-  whole_or_held : (path : List (List ℕ)) (file : TreeFile) → IsInVolume V N path file → IsReportedWhole T report path file ⊎ HoldsWanted T V N path report.reread
+  whole_or_held : (path : List (List ℕ)) (file : TreeFile) → IsInVolume V N path file → IsReportedWhole T report path file ⊎ HoldsWantedIn T V N path report.reread
 
 -- of a volume that opens
 open_list : (T : Blocks) (V : Volume) (N : ℕ) (l : IsLawful V N) → Agrees T V N → (report : Report) → report.volume ≡ found l.is_volume.found_is
@@ -196,7 +196,7 @@ open_list T V N l a report e are again = record {
     by_block n (path, file, g, t, (needs, u), i) = (path, file, g, tree_up V N l path file t, (node_up V N l path g needs, u), i)
 
     by_path : (path : List (List ℕ)) (file : TreeFile) → IsListedWhole (part_of T V N l) f.root report.nodes path file ⊎ known.HoldsWanted (part_of T V N l) (all_of V N l) (blocks_of V N l) f.root path (reread report.nodes)
-        → IsReportedWhole T report path file ⊎ HoldsWanted T V N path report.reread
+        → IsReportedWhole T report path file ⊎ HoldsWantedIn T V N path report.reread
     by_path path file (inl x) = inl (f, e, x)
     by_path path file (inr (g, (needs, u), h)) = inr (g, (node_up V N l path g needs, u), λ n i. subst (λ z. Includes z n) (sym again) (h n i))
 
@@ -233,7 +233,7 @@ right_list T V N l a report r = go (open_or_shut T V N l a report r)
 pub met_is_reported : (T : Blocks) (N : ℕ) (report : Report) → IsReport T N report → MetIsReported T N report
 met_is_reported T N report r V l a path file t met = go ((right_list T V N l a report r).whole_or_held path file t)
   where
-    go : IsReportedWhole T report path file ⊎ HoldsWanted T V N path report.reread → IsReportedWhole T report path file
+    go : IsReportedWhole T report path file ⊎ HoldsWantedIn T V N path report.reread → IsReportedWhole T report path file
     go (inl w) = w
     go (inr (g, (needs, u), h)) = let k : HasKnown T g = met g needs in known_not_unread T k.0 k.2 (u k.0 k.1)
 
@@ -279,7 +279,7 @@ rereads_suffice T N report r V l a = record {
     s = right_list T V N l a report r
 
     go : (pass joined : Blocks) → ((n : ℕ) → joined n ≡ join_of (T n) (pass n)) → IsUnread pass report.reread → (path : List (List ℕ)) (file : TreeFile) → IsMetBy joined V N path
-        → IsReportedWhole T report path file ⊎ HoldsWanted T V N path report.reread → IsReportedWhole T report path file
+        → IsReportedWhole T report path file ⊎ HoldsWantedIn T V N path report.reread → IsReportedWhole T report path file
     go pass joined are u path file met (inl w) = w
     go pass joined are u path file met (inr (g, (needs, v), h)) = let k : HasKnown joined g = met g needs in
         known_not_unread joined k.0 k.2 (ap is_known (are k.0) ∙ unread_join (T k.0) (pass k.0) (v k.0 k.1) (u k.0 (h k.0 k.1)))

@@ -14,7 +14,7 @@ use Rattle.udfs_space.specs.Places.{view}
 use Rattle.udfs_walk.proofs.PublicLaws.{no_more_routes}
 use Rattle.udfs_salvage.specs.Reports.{Report, ReportsBy, ReportsNodes, IsReport, IsNothingPast, IsOutOfRange, IsPastEnd, HasTooManyPaths}
 use Rattle.udfs_salvage.specs.TreeReports.{IsOfNoLawful}
-use Rattle.udfs_salvage.specs.Running.{AnswersFor, IfNoInput, IsRefusedFor, Names, PrintsNothing, PrintsOf, RefusesWith, by_fault, run_error_of, run_refusal_of}
+use Rattle.udfs_salvage.specs.Running.{AnswersFor, IfNoInput, IsRefusedFor, Names, PrintsNothing, PrintsOf, RefusesWith, by_fault, run_error_of, salvage_run_error}
 use Rattle.udfs_salvage.specs.declared.errors.RunError.{RunError}
 use Rattle.udfs_salvage.specs.declared.errors.RunError.TheVariants.{Reading, Salvage, Write, OutOfMemory}
 use Rattle.udfs_salvage.specs.declared.errors.SalvageError.{SalvageError}
@@ -90,13 +90,13 @@ not_reported table last r errors.OutOfMemory is q = q
 refused_as : (table : Table) (last : ℕ) (old : Option (List ℕ)) (i : ℕ) {X : Type 0} (r : Result X SalvageError) (e : SalvageError) → r ≡ Err e → (r ≡ Err errors.LastRange → IsOutOfRange last)
     → ((n : ℕ) → r ≡ Err (errors.PastEnd n) → (¬ IsOutOfRange last) × IsPastEnd (state_of table) last n)
     → (r ≡ Err errors.TooManyPaths → (¬ IsOutOfRange last) × IsNothingPast (state_of table) last × HasTooManyPaths (state_of table) last)
-    → IsOfNoLawful (state_of table) last e → AnswersFor last old old i i (Err (run_refusal_of e)) table
+    → IsOfNoLawful (state_of table) last e → AnswersFor last old old i i (Err (salvage_run_error e)) table
 refused_as table last old i r errors.LastRange is range past many none = (range is, none)
 refused_as table last old i r (errors.PastEnd n) is range past many none = (past n is, none)
 refused_as table last old i r errors.TooManyPaths is range past many none = (many is, none)
 refused_as table last old i r errors.OutOfMemory is range past many none = nothing_out old i last table
 
-pub refused_by : (table : Table) (last : ℕ) (old : Option (List ℕ)) (i : ℕ) {X : Type 0} (r : Result X SalvageError) (e : SalvageError) (x : RunError) → x ≡ run_refusal_of e → r ≡ Err e
+pub refused_by : (table : Table) (last : ℕ) (old : Option (List ℕ)) (i : ℕ) {X : Type 0} (r : Result X SalvageError) (e : SalvageError) (x : RunError) → x ≡ salvage_run_error e → r ≡ Err e
     → (r ≡ Err errors.LastRange → IsOutOfRange last) → ((n : ℕ) → r ≡ Err (errors.PastEnd n) → (¬ IsOutOfRange last) × IsPastEnd (state_of table) last n)
     → (r ≡ Err errors.TooManyPaths → (¬ IsOutOfRange last) × IsNothingPast (state_of table) last × HasTooManyPaths (state_of table) last)
     → IsOfNoLawful (state_of table) last e → AnswersFor last old old i i (Err x) table

@@ -12,11 +12,11 @@ use Rattle.udfs_osta.specs.Escapes.{escaped}
 use Rattle.udfs_osta.specs.declared.labels.Label.{Label}
 use Rattle.udfs_osta.specs.declared.labels.Label.TheVariants as label
 use Rattle.udfs_volume.specs.Answers.{Answer, found, holes, faulty}
-use Rattle.udfs_volume.specs.FaultNames.{fault_name}
+use Rattle.udfs_volume.specs.FaultNames.{volume_fault_name}
 use Rattle.udfs_volume.specs.Layout.{Partition, PartitionMap, type1, sparable}
 use Rattle.udfs_salvage.specs.Found.{Found}
 use Rattle.udfs_salvage.specs.Reports.{Report}
-use Rattle.udfs_salvage.specs.Texts.{fault_number, has_two, revision_text}
+use Rattle.udfs_salvage.specs.Texts.{volume_fault_number, has_two, revision_text}
 use Rattle.udfs_salvage.specs.JsonNodes.{count, list_data, node_data, unnamed_data}
 
 -- ---- the volume
@@ -32,15 +32,15 @@ packet_or type1 later = later
 packet_or (sparable packet size tables) later = Some packet
 
 -- how many blocks a packet of the sparable partition has, if there is one
-abbrev pub packet_of : List Partition → Option ℕ
-packet_of [] = None
-packet_of (p ∷ ps) = packet_or p.kind (packet_of ps)
+abbrev pub packet_length_of : List Partition → Option ℕ
+packet_length_of [] = None
+packet_length_of (p ∷ ps) = packet_or p.kind (packet_length_of ps)
 
 -- one map by its name, and two as a list
-abbrev pub with_maps : List Partition → Members → Members
-with_maps [] ms = ms
-with_maps (p ∷ []) ms = member (codes "map") (string (map_name p.kind)) ms
-with_maps (p ∷ q ∷ ps) ms = member (codes "maps") (list_data (λ x. string (map_name x.kind)) (p ∷ q ∷ ps)) ms
+abbrev pub with_map_members : List Partition → Members → Members
+with_map_members [] ms = ms
+with_map_members (p ∷ []) ms = member (codes "map") (string (map_name p.kind)) ms
+with_map_members (p ∷ q ∷ ps) ms = member (codes "maps") (list_data (λ x. string (map_name x.kind)) (p ∷ q ∷ ps)) ms
 
 -- the packet's length, where there is one, among other members
 abbrev pub with_packet : Option ℕ → Members → Members
@@ -64,11 +64,11 @@ open_members revision = member (codes "revision") (string (revision_text revisio
 
 -- the object of the volume
 abbrev pub volume_data : Answer Found → Data
-volume_data (found f) = object (with_maps f.layout.partitions (with_packet (packet_of f.layout.partitions) (open_members f.layout.revision)))
+volume_data (found f) = object (with_map_members f.layout.partitions (with_packet (packet_length_of f.layout.partitions) (open_members f.layout.revision)))
 volume_data (holes blocks) = object (member (codes "blocks") (list_data count blocks) (member (codes "state") (string (codes "holes")) no_members))
 volume_data (faulty f) = object (
-    member (codes "fault") (count (fault_number f))
-    (member (codes "name") (string (fault_name f))
+    member (codes "fault") (count (volume_fault_number f))
+    (member (codes "name") (string (volume_fault_name f))
     (member (codes "state") (string (codes "fault"))
     no_members)))
 
@@ -87,10 +87,10 @@ label_data (label.Name units) = name_data units
 label_data label.Invalid = state_data (codes "invalid")
 
 -- only a volume that is found has a label
-abbrev pub label_of : Answer Found → Data
-label_of (found f) = label_data f.layout.label
-label_of (holes blocks) = null
-label_of (faulty f) = null
+abbrev pub label_data_of : Answer Found → Data
+label_data_of (found f) = label_data f.layout.label
+label_data_of (holes blocks) = null
+label_data_of (faulty f) = null
 
 -- ---- the blocks to read again
 
@@ -111,7 +111,7 @@ unfoldable pub report_data : Table → ℕ → Report → Data
 report_data table last report = object (
     member (codes "conflict") (count (conflict_count table))
     (member (codes "known") (count (known_count table))
-    (member (codes "label") (label_of report.volume)
+    (member (codes "label") (label_data_of report.volume)
     (member (codes "last") (count last)
     (member (codes "nodes") (list_data node_data report.nodes)
     (member (codes "reread") (list_data (reread_data (state_of table)) report.reread)

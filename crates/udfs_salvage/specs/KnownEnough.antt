@@ -40,17 +40,17 @@ StaysWhole blocks last report = ForLawful blocks last (λ volume. (more : Blocks
     → KnowsMore blocks more → (path : List (List ℕ)) (file : TreeFile) → IsReportedWhole blocks report path file → IsReportedWhole more other path file)
 
 -- the node of this path needs the group, and none of it is known
-abbrev pub IsWanted : Blocks → Volume → ℕ → List (List ℕ) → List ℕ → Type 0
-IsWanted blocks volume last path group = IsNeededIn volume last path group × IsUnread blocks group
+abbrev pub IsWantedIn : Blocks → Volume → ℕ → List (List ℕ) → List ℕ → Type 0
+IsWantedIn blocks volume last path group = IsNeededIn volume last path group × IsUnread blocks group
 
 -- these blocks hold all of some group that is wanted for the node of this path
-abbrev pub HoldsWanted : Blocks → Volume → ℕ → List (List ℕ) → List ℕ → Type 0
-HoldsWanted blocks volume last path listed = (group : List ℕ) × IsWanted blocks volume last path group × ((n : ℕ) → Includes group n → Includes listed n)
+abbrev pub HoldsWantedIn : Blocks → Volume → ℕ → List (List ℕ) → List ℕ → Type 0
+HoldsWantedIn blocks volume last path listed = (group : List ℕ) × IsWantedIn blocks volume last path group × ((n : ℕ) → Includes group n → Includes listed n)
 
 -- the block is in a group that is wanted for some node of the tree
 abbrev pub IsWantedBlock : Blocks → Volume → ℕ → ℕ → Type 0
 IsWantedBlock blocks volume last n = (path : List (List ℕ)) × (file : TreeFile) × (group : List ℕ) × IsInVolume volume last path file
-    × IsWanted blocks volume last path group × Includes group n
+    × IsWantedIn blocks volume last path group × Includes group n
 
 -- What is asked of the list of blocks to read again.
 pub record IsGoodReread (blocks : Blocks) (last : ℕ) (report : Report) (volume : Volume) : Type 0 where
@@ -63,7 +63,7 @@ pub record IsGoodReread (blocks : Blocks) (last : ℕ) (report : Report) (volume
       → IsWantedBlock blocks volume last n ⊎ (Includes (anchor_places last) n × IsUnread blocks (valid_anchors volume last))
   -- each node of the tree is reported whole, or the list holds all of a group that it wants
   pub whole_or_held : (path : List (List ℕ)) (file : TreeFile) → IsInVolume volume last path file
-      → IsReportedWhole blocks report path file ⊎ HoldsWanted blocks volume last path report.reread
+      → IsReportedWhole blocks report path file ⊎ HoldsWantedIn blocks volume last path report.reread
   -- so a pass that reads no listed block makes no further node whole
   pub needed_pass : (pass joined : Blocks) (other : Report) → ((n : ℕ) → joined n ≡ join_of (blocks n) (pass n)) → Agrees joined volume last
       → IsUnread pass report.reread → IsReport joined last other → (path : List (List ℕ)) (file : TreeFile) → IsInVolume volume last path file
@@ -76,8 +76,8 @@ RereadsSuffice blocks last report = ForLawful blocks last (IsGoodReread blocks l
 -- ---- laws of every report
 
 -- what is known enough is reported whole
-abbrev pub MetIsWhole : Type 0
-MetIsWhole = (blocks : Blocks) (last : ℕ) (report : Report) → IsReport blocks last report → MetIsReported blocks last report
+abbrev pub MetIsReportedWhole : Type 0
+MetIsReportedWhole = (blocks : Blocks) (last : ℕ) (report : Report) → IsReport blocks last report → MetIsReported blocks last report
 
 -- what is whole stays whole when more is known
 abbrev pub MoreStaysWhole : Type 0

@@ -80,13 +80,13 @@ size_text None = codes " -"
 size_text (Some n) = codes " " ++ decimal n
 
 -- a timestamp, behind a space; `-` where it is not known
-abbrev pub time_text : Option Stamp → List ℕ
-time_text None = codes " -"
-time_text (Some stamp) = codes " " ++ stamp_text stamp
+abbrev pub stamp_column : Option Stamp → List ℕ
+stamp_column None = codes " -"
+stamp_column (Some stamp) = codes " " ++ stamp_text stamp
 
 -- what is told of a node and of an entry alike
 unfoldable pub told_text : Standing → Kind → Option ℕ → Option Stamp → List ℕ
-told_text s k size stamp = standing_text s ++ kind_text k ++ size_text size ++ time_text stamp
+told_text s k size stamp = standing_text s ++ kind_text k ++ size_text size ++ stamp_column stamp
 
 -- ---- what is missing of a torn node
 

@@ -106,6 +106,6 @@ abbrev pub run_error_of : InputError → RunError
 run_error_of e = by_fault e e.error.fault
 
 -- and none of the table
-abbrev pub run_refusal_of : SalvageError → RunError
-run_refusal_of salvage.OutOfMemory = OutOfMemory
-run_refusal_of e = Salvage e
+abbrev pub salvage_run_error : SalvageError → RunError
+salvage_run_error salvage.OutOfMemory = OutOfMemory
+salvage_run_error e = Salvage e

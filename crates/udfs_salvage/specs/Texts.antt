@@ -11,7 +11,7 @@ use Rattle.udfs_osta.specs.Escapes.{escaped}
 use Rattle.udfs_osta.specs.declared.labels.Label.{Label}
 use Rattle.udfs_osta.specs.declared.labels.Label.TheVariants as label
 use Rattle.udfs_volume.specs.Answers.{Answer, found, holes, faulty}
-use Rattle.udfs_volume.specs.FaultNames.{fault_name}
+use Rattle.udfs_volume.specs.FaultNames.{volume_fault_name}
 use Rattle.udfs_volume.specs.Layout.{Partition, PartitionMap, type1, sparable}
 use Rattle.udfs_volume.specs.declared.faults.VolumeFault.{VolumeFault}
 use Rattle.udfs_volume.specs.declared.faults.VolumeFault.TheVariants as fault
@@ -24,23 +24,23 @@ line text = text ++ 10 ∷ []
 -- ---- the volume
 
 -- the number of a volume's fault
-abbrev pub fault_number : VolumeFault → ℕ
-fault_number fault.NoAnchor = 1
-fault_number fault.Extents = 2
-fault_number fault.Pointer = 3
-fault_number fault.NoLogicalVolume = 4
-fault_number fault.Domain = 5
-fault_number fault.BlockSize = 6
-fault_number fault.MapCount = 7
-fault_number fault.MapKind = 8
-fault_number fault.NoPartition = 9
-fault_number fault.Contents = 10
-fault_number fault.PartitionRange = 11
-fault_number fault.SparingTag = 12
-fault_number fault.SparingShape = 13
-fault_number fault.SparingOrder = 14
-fault_number fault.MappedRange = 15
-fault_number fault.FileSet = 16
+abbrev pub volume_fault_number : VolumeFault → ℕ
+volume_fault_number fault.NoAnchor = 1
+volume_fault_number fault.Extents = 2
+volume_fault_number fault.Pointer = 3
+volume_fault_number fault.NoLogicalVolume = 4
+volume_fault_number fault.Domain = 5
+volume_fault_number fault.BlockSize = 6
+volume_fault_number fault.MapCount = 7
+volume_fault_number fault.MapKind = 8
+volume_fault_number fault.NoPartition = 9
+volume_fault_number fault.Contents = 10
+volume_fault_number fault.PartitionRange = 11
+volume_fault_number fault.SparingTag = 12
+volume_fault_number fault.SparingShape = 13
+volume_fault_number fault.SparingOrder = 14
+volume_fault_number fault.MappedRange = 15
+volume_fault_number fault.FileSet = 16
 
 -- the revision, as it is printed
 unfoldable pub revision_text : ℕ → List ℕ
@@ -51,13 +51,13 @@ abbrev pub open_text : ℕ → List ℕ
 open_text revision = codes "volume ok revision " ++ revision_text revision ++ codes " map"
 
 -- a space before each
-abbrev pub map_text : PartitionMap → List ℕ
-map_text type1 = codes " type1"
-map_text (sparable packet size tables) = codes " sparable " ++ decimal packet
+abbrev pub partition_map_text : PartitionMap → List ℕ
+partition_map_text type1 = codes " type1"
+partition_map_text (sparable packet size tables) = codes " sparable " ++ decimal packet
 
 -- the names of the maps, each behind a space
 abbrev pub map_texts : List Partition → List ℕ
-map_texts partitions = flat_map (λ p. map_text p.kind) partitions
+map_texts partitions = flat_map (λ p. partition_map_text p.kind) partitions
 
 -- a space before each
 abbrev pub block_texts : List ℕ → List ℕ
@@ -67,7 +67,7 @@ block_texts blocks = flat_map (λ n. codes " " ++ decimal n) blocks
 abbrev pub volume_line : Answer Found → List ℕ
 volume_line (found f) = line (open_text f.layout.revision ++ map_texts f.layout.partitions)
 volume_line (holes blocks) = line (codes "volume holes" ++ block_texts blocks)
-volume_line (faulty f) = line (codes "volume fault " ++ decimal (fault_number f) ++ codes " " ++ fault_name f)
+volume_line (faulty f) = line (codes "volume fault " ++ decimal (volume_fault_number f) ++ codes " " ++ volume_fault_name f)
 
 -- ---- the lines before and behind it
 

@@ -10,7 +10,7 @@ ghost use Rattle.udfs_volume.specs.Parts.{map_now};
 ghost use Rattle.udfs_salvage.specs.Found.{found_now, volume_now};
 ghost use Rattle.udfs_salvage.specs.Reports.{report_now};
 ghost use Rattle.udfs_salvage.specs.JsonNodes.{list_data};
-ghost use Rattle.udfs_salvage.specs.JsonReports.{json_text, label_data, label_of, map_name, name_data, packet_of, put_maps, put_packet, report_data, reread_data, state_data, state_name, volume_data};
+ghost use Rattle.udfs_salvage.specs.JsonReports.{json_text, label_data, label_data_of, map_name, name_data, packet_length_of, put_maps, put_packet, report_data, reread_data, state_data, state_name, volume_data};
 
 use crate::json_nodes::{all_unnamed_value, blocks_value, nodes_value};
 use crate::lines::{fault_number, has_two, revision_name};
@@ -53,7 +53,7 @@ fn maps_value(alloc: Global, partitions: &[Partition]) -> Result<Value, AllocErr
 
 /// The packet length of the first sparable map.
 fn packet_of(partitions: &[Partition]) -> Option<u16>
-    ensures { result ≡ packet_of (map partition_now partitions.now) }
+    ensures { result ≡ packet_length_of (map partition_now partitions.now) }
 {
     for partition in partitions {
         if let PartitionMap::Sparable(map) = &partition.kind {
@@ -192,7 +192,7 @@ fn label_value(alloc: Global, label: &Label) -> Result<Value, AllocError>
 
 /// The label, where the volume opens.
 fn label_in(alloc: Global, volume: &Volume) -> Result<Value, AllocError>
-    ensures { IfOk result (λ v. view v ≡ label_of (volume_now volume.now)) }
+    ensures { IfOk result (λ v. view v ≡ label_data_of (volume_now volume.now)) }
 {
     match volume {
         Volume::Open(opened) => label_value(alloc, &opened.parts.label),

@@ -1,7 +1,7 @@
 //! Laws of reports, each the contract of a function that does nothing: what [`crate::salvage`] says of the report that it
 //! answers holds of every report that there is.
 ghost use Rattle.udfs_salvage.specs.Headline.{OneReport, OneText, ReportsKeepIt, SomeReport};
-ghost use Rattle.udfs_salvage.specs.KnownEnough.{EachRereadSuffices, MetIsWhole, MoreStaysWhole};
+ghost use Rattle.udfs_salvage.specs.KnownEnough.{EachRereadSuffices, MetIsReportedWhole, MoreStaysWhole};
 
 /// A table has at most one report: what is found, the nodes, the entries that no name leads to, and the list to read again.
 pub fn one_report()
@@ -26,7 +26,7 @@ pub fn reports_keep_it()
 /// For every table and every lawful volume that agrees with it, a node of the volume's tree, of each needed group of which
 /// a block is known, is reported whole, with the tree's kind, size, stamp and bytes.
 pub fn met_is_whole()
-    ensures { MetIsWhole }
+    ensures { MetIsReportedWhole }
 {}
 
 /// So what is whole stays whole, with the same path and bytes, in the report of each table that agrees with the volume,

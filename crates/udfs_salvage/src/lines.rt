@@ -7,7 +7,7 @@ ghost use Rattle.udfs_volume.specs.Answers.{found, holes, faulty};
 ghost use Rattle.udfs_volume.specs.LayoutParts.{partition_now};
 ghost use Rattle.udfs_volume.specs.Parts.{map_now};
 ghost use Rattle.udfs_salvage.specs.Found.{found_now, volume_now};
-ghost use Rattle.udfs_salvage.specs.Texts.{block_texts, count_line, end_line, fault_number, first_line, has_two, head_text, label_line, label_lines, map_text, map_texts, open_text, reread_line, revision_text, volume_line};
+ghost use Rattle.udfs_salvage.specs.Texts.{block_texts, count_line, end_line, volume_fault_number, first_line, has_two, head_text, label_line, label_lines, partition_map_text, map_texts, open_text, reread_line, revision_text, volume_line};
 
 use crate::volumes::{OpenVolume, Volume};
 use std::fmt::Write;
@@ -48,7 +48,7 @@ fn push_counts(text: &mut String, table: &BlockTable) -> Result<(), OutOfMemory>
 
 /// A partition's map, a space before it.
 fn push_map(text: &mut String, kind: &PartitionMap) -> Result<(), OutOfMemory>
-    ensures { OnOk result (string_bytes text.new ≡ string_bytes text.old ++ map_text (map_now kind.now)) }
+    ensures { OnOk result (string_bytes text.new ≡ string_bytes text.old ++ partition_map_text (map_now kind.now)) }
 {
     match kind {
         PartitionMap::Type1 => text.push_str(" type1"),
@@ -81,7 +81,7 @@ fn push_blocks(text: &mut String, blocks: &[u32]) -> Result<(), OutOfMemory>
 
 /// The number of a fault.
 pub(crate) fn fault_number(fault: VolumeFault) -> u8
-    ensures { result ≡ fault_number fault }
+    ensures { result ≡ volume_fault_number fault }
 {
     fault as u8
 }

@@ -2,7 +2,7 @@
 
 ghost use Rattle.std.specs.Prelude.{◌≡◌, ◌++◌, ◌∷◌, [], ℕ, OnOk, Some};
 ghost use Rattle.std.specs.String.{string_bytes};
-ghost use Rattle.udfs_salvage.specs.NodeTexts.{hole_line, kind_name, kind_text, missing_line, names_text, node_fault_number, node_line, path_name, path_text, place_text, size_text, standing_name, standing_text, time_text, told_text, unnamed_line};
+ghost use Rattle.udfs_salvage.specs.NodeTexts.{hole_line, kind_name, kind_text, missing_line, names_text, node_fault_number, node_line, path_name, path_text, place_text, size_text, standing_name, standing_text, stamp_column, told_text, unnamed_line};
 
 use std::fmt::Write;
 use udfs_file::{Kind, NodeFault};
@@ -72,7 +72,7 @@ fn push_size(text: &mut String, size: Option<u64>) -> Result<(), OutOfMemory>
 
 /// A time, a space before it.
 fn push_time(text: &mut String, stamp: Option<Stamp>) -> Result<(), OutOfMemory>
-    ensures { OnOk result (string_bytes text.new ≡ string_bytes text.old ++ time_text stamp) }
+    ensures { OnOk result (string_bytes text.new ≡ string_bytes text.old ++ stamp_column stamp) }
 {
     match stamp {
         None => text.push_str(" -"),

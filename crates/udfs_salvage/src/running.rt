@@ -7,7 +7,7 @@ ghost use Rattle.udfs_reading.specs.Answers.{IsOfFile};
 ghost use Rattle.udfs_reading.specs.Several.{AllTell, InputFails, IsFirstFaulty};
 ghost use Rattle.udfs_reading.specs.declared.inputs.InputError.{InputError};
 ghost use Rattle.udfs_reading.specs.declared.error.ReadingFault.{ReadingFault};
-ghost use Rattle.udfs_salvage.specs.Running.{AnswersFor, EndsEarly, IfNoInput, IfRead, IsRefusedFor, Names, OfJoin, RefusesWith, run_error_of, run_refusal_of};
+ghost use Rattle.udfs_salvage.specs.Running.{AnswersFor, EndsEarly, IfNoInput, IfRead, IsRefusedFor, Names, OfJoin, RefusesWith, run_error_of, salvage_run_error};
 ghost use Rattle.udfs_salvage.specs.declared.errors.SalvageError.{SalvageError};
 
 use crate::errors::{RunError, SalvageError};
@@ -29,7 +29,7 @@ fn run_error(error: InputError) -> RunError
 
 /// Why a table has no report as a run tells it.
 fn run_refusal(error: SalvageError) -> RunError
-    ensures { result ≡ run_refusal_of error }
+    ensures { result ≡ salvage_run_error error }
 {
     match error {
         SalvageError::OutOfMemory => RunError::OutOfMemory,

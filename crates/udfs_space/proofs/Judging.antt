@@ -9,7 +9,7 @@ use Rattle.udfs_volume.specs.declared.faults.VolumeFault.TheVariants.{SparingTag
 use Rattle.udfs_volume.specs.Sequence.{Bytes}
 use Rattle.udfs_volume.specs.Answers.{unless_fault, found, faulty}
 use Rattle.udfs_space.specs.Parts.{entries_fault}
-use Rattle.udfs_space.specs.Sparing.{entries, entry_count, entry_of, is_bad_original, is_sparing_table, sparing_fault, spared_from, spared_in}
+use Rattle.udfs_space.specs.Sparing.{entries, entry_count, sparing_entry_of, is_bad_original, is_sparing_table, sparing_fault, spared_from, spared_in}
 
 fault_by : (a b c : Bool) (later : Option VolumeFault) → a ≡ true → b ≡ false → cond (not a) (Some SparingTag) (cond (b || c) (Some SparingShape) later) ≡ cond c (Some SparingShape) later
 fault_by true true c later p q = absurd (let z : ⊥ = cc in z)
@@ -33,5 +33,5 @@ pub count_is : (bytes content two : Bytes) (count : ℕ) → content ≡ drop 16
 count_is bytes content two count p q r = r ∙ ap (little_number 2) (q ∙ ap (drop 32) p)
 
 pub entries_are : (bytes content two : Bytes) (count : ℕ) (items : List SparingEntry) → content ≡ drop 16 bytes → two ≡ drop 32 content → count ≡ little_number 2 two
-    → items ≡ map (λ i. entry_of (drop (bp (56 + 8 * i)) content)) (range_with_len 0 count) → items ≡ entries (drop 16 bytes)
-entries_are bytes content two count items p q r e = e ∙ (λ j. map (λ i. entry_of (drop (bp (56 + 8 * i)) (p j))) (range_with_len 0 (count_is bytes content two count p q r j)))
+    → items ≡ map (λ i. sparing_entry_of (drop (bp (56 + 8 * i)) content)) (range_with_len 0 count) → items ≡ entries (drop 16 bytes)
+entries_are bytes content two count items p q r e = e ∙ (λ j. map (λ i. sparing_entry_of (drop (bp (56 + 8 * i)) (p j))) (range_with_len 0 (count_is bytes content two count p q r j)))

@@ -17,7 +17,7 @@ use Rattle.udfs_volume.proofs.PublicLaws.{layout_is_bounded}
 use Rattle.udfs_space.proofs.Facts.{and_then-found, complete-known, found_same, known_is, unless_fault-found}
 use Rattle.udfs_space.specs.Laws.{PlaceLaw}
 use Rattle.udfs_space.specs.declared.entries.SparingEntry.{SparingEntry}
-use Rattle.udfs_space.specs.Sparing.{Span, Space, Spared, spared, spared_unless, spared_by, spared_in, unread, is_used, is_sparing_table, is_misshapen, passes_end, is_out_of_order, entries, copies, place_of, sparing_fault, packet_of, span_of, span, spans, space, table_bytes}
+use Rattle.udfs_space.specs.Sparing.{Span, Space, Spared, spared, spared_unless, spared_by, spared_in, unread, is_used, is_sparing_table, is_misshapen, passes_end, is_out_of_order, entries, copies, place_of, sparing_fault, packet_of, span_of, span, spans, space, sparing_table_bytes}
 use Rattle.udfs_space.specs.Places.{place, place_in, place_by, placed_at}
 
 fits_if : (o : Bool) (a b : ℕ) → (o || nat_lt a b) ≡ false → b ≤ a
@@ -61,7 +61,7 @@ spared_fit T last type1 sp e = λ p x f. absurd (let same : [] ≡ sp = found_sa
 spared_fit T last (sparable packet size tables) sp e = go (unread T tables (blocks_in size)) e
   where
     table : Bytes
-    table = table_bytes T size tables
+    table = sparing_table_bytes T size tables
 
     valid : Bool
     valid = is_valid table (place_of (first_known T (copies tables 0))) 0

@@ -14,7 +14,7 @@ use Rattle.udfs_volume.proofs.PublicLaws.{layout_is_bounded}
 use Rattle.udfs_space.proofs.Facts.{and_then-found, found_same, unless_fault-found}
 use Rattle.udfs_space.specs.Laws.{SoundSpace}
 use Rattle.udfs_space.specs.Parts.{AreSound, IsSoundEntry, IsSound}
-use Rattle.udfs_space.specs.Sparing.{Span, Spared, spared, spared_unless, spared_by, spared_in, unread, is_bad_original, is_sparing_table, entries, entry_count, copies, place_of, sparing_fault, packet_of, span_of, span, spans, space, table_bytes}
+use Rattle.udfs_space.specs.Sparing.{Span, Spared, spared, spared_unless, spared_by, spared_in, unread, is_bad_original, is_sparing_table, entries, entry_count, copies, place_of, sparing_fault, packet_of, span_of, span, spans, space, sparing_table_bytes}
 use Rattle.udfs_space.proofs.Judging.{sparing_fault-entries}
 use Rattle.udfs_space.proofs.PlaceLaw.{spans_each, has_packet, included}
 use Rattle.udfs_space.proofs.SoundEntries.{sound_entries}
@@ -40,7 +40,7 @@ spared_sound T last type1 sp l e = subst (AreSound 1) (found_same [] sp e) (none
 spared_sound T last (sparable packet size tables) sp l e = go (unread T tables (blocks_in size)) e
   where
     table : Bytes
-    table = table_bytes T size tables
+    table = sparing_table_bytes T size tables
 
     valid : Bool
     valid = is_valid table (place_of (first_known T (copies tables 0))) 0

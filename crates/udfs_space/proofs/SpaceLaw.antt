@@ -18,7 +18,7 @@ use Rattle.udfs_volume.specs.Laws.IsAnswerOf.{unread as unread_answer}
 use Rattle.udfs_lattice.proofs.PublicLaws.{ascending_includes, complete_agrees}
 use Rattle.udfs_volume.proofs.PublicLaws.{layout_is_bounded}
 use Rattle.udfs_space.proofs.Facts.{and_then-found, complete-known, found_same, known_is, true_false, unless_fault-found, Includes-from_filter, Includes-map}
-use Rattle.udfs_space.specs.Sparing.{Span, Space, Spared, copies, unread, piece, place_of, table_bytes, spared_by, spared_from, spared_in, sparing_fault, spared_unless, spared, span_of, span, spans, space}
+use Rattle.udfs_space.specs.Sparing.{Span, Space, Spared, copies, unread, piece, place_of, sparing_table_bytes, spared_by, spared_from, spared_in, sparing_fault, spared_unless, spared, span_of, span, spans, space}
 use Rattle.udfs_space.specs.Standard.{table_at, first_table}
 use Rattle.udfs_space.specs.Laws.{StandardSpace, AreTheSameTables, SparingAgrees, IsTableGroup, IsSparingGroup, SpaceLaw}
 use Rattle.udfs_space.proofs.JoinedBlocks.{joined, joined_is, from_place, AreFull, Same, same_joined, same_behind, same_mixed}
@@ -65,7 +65,7 @@ record TableIs (T : Blocks) (V : Volume) (size : ℕ) (tables : List ℕ) : Type
   pub from : ℕ
   pub is_table : Includes tables from
   pub place : place_of (first_known T (copies tables 0)) ≡ from
-  pub bytes : table_bytes T size tables ≡ table_at V size from
+  pub bytes : sparing_table_bytes T size tables ≡ table_at V size from
 
 blocks_from : (size : ℕ) → 56 ≤ size → (m : ℕ) × (blocks_in size ≡ suc m)
 blocks_from size h = go ((size + 2047) / 2048) (at_least size h)
@@ -131,7 +131,7 @@ table_is T V N packet size tables hv b same pick = with_blocks (blocks_from size
         all : Same h (row q) 0 (suc m) size
         all = (ap (take size) (h_is 0 first), rest)
 
-        bytes : table_bytes T size tables ≡ table_at V size q
+        bytes : sparing_table_bytes T size tables ≡ table_at V size q
         bytes = ap (λ x. take size (flat_map h (range_with_len 0 x))) e ∙ joined_is h 0 (suc m) size h_full
             ∙ same_joined h (row q) 0 (suc m) size all ∙ sym (copy_is (suc m) e q first.is_table)
 

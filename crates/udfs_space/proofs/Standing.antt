@@ -8,7 +8,7 @@ use Rattle.udfs_space.proofs.Facts.{le_or_lt, true_false}
 use Rattle.udfs_space.specs.declared.entries.SparingEntry.{SparingEntry}
 use Rattle.udfs_space.specs.Laws.{OldPlaceLaw, PlacingLaw}
 use Rattle.udfs_space.specs.Parts.{IsSound, IsSoundEntry, Rises}
-use Rattle.udfs_space.specs.Places.{IsSparedBy, StandsAt, StandsIn, entry_at, length_of, place, place_by, place_in, placed_at, size_of}
+use Rattle.udfs_space.specs.Places.{IsSparedBy, StandsAt, StandsIn, sparing_entry_at, length_of, place, place_by, place_in, placed_at, span_size}
 use Rattle.udfs_space.specs.Sparing.{Space, Span, Spared}
 
 -- ---- arithmetic of packets
@@ -102,27 +102,27 @@ spared_first s b e h w = let m : e.original % s.packet ≡ 0 = (of_each (IsSound
 some_same : {A : Type 0} (x y : A) → Some x ≡ Some y → x ≡ y
 some_same x y q = cc
 
-in_range : (s : Span) (b n : ℕ) → place_in s b ≡ Some n → (b < s.size) × (n ≡ place_at s b (entry_at s (b - b % s.packet)))
+in_range : (s : Span) (b n : ℕ) → place_in s b ≡ Some n → (b < s.size) × (n ≡ place_at s b (sparing_entry_at s (b - b % s.packet)))
 in_range s b n e = go (nat_lt b s.size) refl e
   where
     less : (a b : ℕ) → nat_lt a b ≡ true → a < b
     less a b h = grind arith
 
-    go : (x : Bool) → nat_lt b s.size ≡ x → cond x (Some (place_at s b (entry_at s (b - b % s.packet)))) None ≡ Some n → (b < s.size) × (n ≡ place_at s b (entry_at s (b - b % s.packet)))
-    go true x q = (less b s.size x, sym (some_same (place_at s b (entry_at s (b - b % s.packet))) n q))
+    go : (x : Bool) → nat_lt b s.size ≡ x → cond x (Some (place_at s b (sparing_entry_at s (b - b % s.packet)))) None ≡ Some n → (b < s.size) × (n ≡ place_at s b (sparing_entry_at s (b - b % s.packet)))
+    go true x q = (less b s.size x, sym (some_same (place_at s b (sparing_entry_at s (b - b % s.packet))) n q))
     go false x q = absurd (let z : ⊥ = cc in z)
 
-pub place_in-size : (s : Span) (b : ℕ) → b < s.size → place_in s b ≡ Some (place_at s b (entry_at s (b - b % s.packet)))
-place_in-size s b l = ap (λ x. cond x (Some (place_at s b (entry_at s (b - b % s.packet)))) None) (lt_if b s.size l)
+pub place_in-size : (s : Span) (b : ℕ) → b < s.size → place_in s b ≡ Some (place_at s b (sparing_entry_at s (b - b % s.packet)))
+place_in-size s b l = ap (λ x. cond x (Some (place_at s b (sparing_entry_at s (b - b % s.packet)))) None) (lt_if b s.size l)
   where
     lt_if : (a b : ℕ) → a < b → nat_lt a b ≡ true
     lt_if a b h = grind arith
 
 pub stands : (s : Span) (b n : ℕ) → IsSound s → place_in s b ≡ Some n → StandsAt s b n
-stands s b n h e = let r : (b < s.size) × (n ≡ place_at s b (entry_at s (b - b % s.packet))) = in_range s b n e in
-    (r.0, go (entry_at s (b - b % s.packet)) refl r.1)
+stands s b n h e = let r : (b < s.size) × (n ≡ place_at s b (sparing_entry_at s (b - b % s.packet))) = in_range s b n e in
+    (r.0, go (sparing_entry_at s (b - b % s.packet)) refl r.1)
   where
-    go : (o : Option SparingEntry) → entry_at s (b - b % s.packet) ≡ o → n ≡ place_at s b (entry_at s (b - b % s.packet))
+    go : (o : Option SparingEntry) → sparing_entry_at s (b - b % s.packet) ≡ o → n ≡ place_at s b (sparing_entry_at s (b - b % s.packet))
         → ((e : SparingEntry) × IsSparedBy s b e × (n ≡ e.mapped + (b - e.original))) ⊎ (((e : SparingEntry) → ¬ IsSparedBy s b e) × (n ≡ s.start + b))
     go None q p = inr (
       (λ x w. let f : (x.original ≡ b - b % s.packet) × (b % s.packet ≡ b - x.original) = spared_first s b x h w in
@@ -136,16 +136,16 @@ stands s b n h e = let r : (b < s.size) × (n ≡ place_at s b (entry_at s (b - 
 pub stood : (s : Span) (b n : ℕ) → IsSound s → StandsAt s b n → place_in s b ≡ Some n
 stood s b n h w = place_in-size s b w.0 ∙ ap Some (go w.1)
   where
-    none_if : (o : Option SparingEntry) → entry_at s (b - b % s.packet) ≡ o → ((e : SparingEntry) → ¬ IsSparedBy s b e) → entry_at s (b - b % s.packet) ≡ None
+    none_if : (o : Option SparingEntry) → sparing_entry_at s (b - b % s.packet) ≡ o → ((e : SparingEntry) → ¬ IsSparedBy s b e) → sparing_entry_at s (b - b % s.packet) ≡ None
     none_if None q all = q
     none_if (Some x) q all = let i : Includes s.spared x × (x.original ≡ b - b % s.packet) = find-is s.spared (b - b % s.packet) x q in
         absurd (all x (spares s b x h i.0 i.1).0)
 
     go : ((e : SparingEntry) × IsSparedBy s b e × (n ≡ e.mapped + (b - e.original))) ⊎ (((e : SparingEntry) → ¬ IsSparedBy s b e) × (n ≡ s.start + b))
-        → place_at s b (entry_at s (b - b % s.packet)) ≡ n
+        → place_at s b (sparing_entry_at s (b - b % s.packet)) ≡ n
     go (inl (x, i, p)) = let f : (x.original ≡ b - b % s.packet) × (b % s.packet ≡ b - x.original) = spared_first s b x h i in
         ap (place_at s b) (find-included s.spared (b - b % s.packet) x h.spared.rises i.0 f.0) ∙ ap (λ k. x.mapped + k) f.1 ∙ sym p
-    go (inr (all, p)) = ap (place_at s b) (none_if (entry_at s (b - b % s.packet)) refl all) ∙ sym p
+    go (inr (all, p)) = ap (place_at s b) (none_if (sparing_entry_at s (b - b % s.packet)) refl all) ∙ sym p
 
 pub within : (s : Span) (b n : ℕ) → IsSound s → place_in s b ≡ Some n → n ≤ 4194303
 within s b n h e = go (stands s b n h e)
@@ -173,17 +173,17 @@ absent space r b l = go (slice_get space r) l
     not_lt : (a b : ℕ) → b ≤ a → nat_lt a b ≡ false
     not_lt a b h = grind arith
 
-    go : (o : Option Span) → size_of o ≤ b → place_by o b ≡ None
+    go : (o : Option Span) → span_size o ≤ b → place_by o b ≡ None
     go None l = refl
-    go (Some s) l = ap (λ x. cond x (Some (place_at s b (entry_at s (b - b % s.packet)))) None) (not_lt b s.size l)
+    go (Some s) l = ap (λ x. cond x (Some (place_at s b (sparing_entry_at s (b - b % s.packet)))) None) (not_lt b s.size l)
 
 pub present : (space : Space) (r b : ℕ) → b < length_of space r → (n : ℕ) × (place space r b ≡ Some n)
 unfolding place
 present space r b l = go (slice_get space r) l
   where
-    go : (o : Option Span) → b < size_of o → (n : ℕ) × (place_by o b ≡ Some n)
+    go : (o : Option Span) → b < span_size o → (n : ℕ) × (place_by o b ≡ Some n)
     go None l = absurd (let z : ⊥ = omega (arith, l) in z)
-    go (Some s) l = (place_at s b (entry_at s (b - b % s.packet)), place_in-size s b l)
+    go (Some s) l = (place_at s b (sparing_entry_at s (b - b % s.packet)), place_in-size s b l)
 
 pub exists : (space : Space) (r b : ℕ) (p : Option ℕ) → p ≡ place space r b → (IsSome p ↔ (b < length_of space r))
 exists space r b p e = (λ i. go (le_or_lt (length_of space r) b) i, λ l. let q : (n : ℕ) × (place space r b ≡ Some n) = present space r b l in subst IsSome (sym (e ∙ q.1)) (some_is q.0))

@@ -9,7 +9,7 @@ use Rattle.udfs_volume.specs.Laws.{AreBounded}
 use Rattle.udfs_volume.specs.Layout.{Partition, type1, sparable, blocks_in}
 use Rattle.udfs_volume.specs.Sequence.{Bytes}
 use Rattle.udfs_space.specs.Parts.{FitAll}
-use Rattle.udfs_space.specs.Sparing.{Spared, copies, packet_of, place_of, span, spared, spared_by, spared_from, spared_unless, table_bytes, unread}
+use Rattle.udfs_space.specs.Sparing.{Spared, copies, packet_of, place_of, span, spared, spared_by, spared_from, spared_unless, sparing_table_bytes, unread}
 
 unless-holes : (tables ks : List ℕ) (a : Answer Spared) (h : List ℕ) → ks ≢ [] → h ≡ ascending (flat_map (copies tables) ks) → spared_unless tables ks a ≡ holes h
 unless-holes tables [] a h n e = absurd (n refl)
@@ -20,7 +20,7 @@ pub spared-holes : (b : Blocks) (last packet size : ℕ) (tables h : List ℕ) �
 unfolding spared
 spared-holes b last packet size tables h n e = unless-holes tables (unread b tables (blocks_in size)) (spared_by b last packet size tables) h n e
 
-pub spared-read : (b : Blocks) (last packet size : ℕ) (tables : List ℕ) (bytes : Bytes) (place : ℕ) → unread b tables (blocks_in size) ≡ [] → bytes ≡ table_bytes b size tables
+pub spared-read : (b : Blocks) (last packet size : ℕ) (tables : List ℕ) (bytes : Bytes) (place : ℕ) → unread b tables (blocks_in size) ≡ [] → bytes ≡ sparing_table_bytes b size tables
     → length bytes ≡ size → place ≡ place_of (first_known b (copies tables 0))
     → spared_from last packet (length bytes) (is_valid bytes place 0) (drop 16 bytes) ≡ spared b last (sparable packet size tables)
 unfolding spared

@@ -14,10 +14,10 @@ use Rattle.udfs_space.proofs.Facts.{found_same}
 use Rattle.udfs_space.specs.declared.spaces.Space as code_space
 use Rattle.udfs_space.specs.Laws.{IsLawfulSparing, IsSparingGroup}
 use Rattle.std.specs.Prelude.{flat_map, ⊤}
-use Rattle.udfs_space.specs.Sparing.{Space, Spared, copies, place_of, table_bytes, space, span, spans, spared, spared_by, spared_from, spared_unless, sparing_fault, span_of, spared_in}
+use Rattle.udfs_space.specs.Sparing.{Space, Spared, copies, place_of, sparing_table_bytes, space, span, spans, spared, spared_by, spared_from, spared_unless, sparing_fault, span_of, spared_in}
 use Rattle.udfs_space.specs.Sparing.{unread as unread_in}
 use Rattle.udfs_space.specs.Standard.{standard_space}
-use Rattle.udfs_space.specs.Told.{ArePlacesUpTo, IsSpaceOf, TellsLawful}
+use Rattle.udfs_space.specs.Told.{ArePlacesUpTo, IsSpaceOf, TellsLawfulSpace}
 use Rattle.udfs_space.proofs.PlaceLaw.{place_law, places_up_to}
 use Rattle.udfs_space.proofs.SpaceLaw.{space_law, standard_space_law}
 
@@ -39,7 +39,7 @@ no_fault_of : (T : Blocks) (V : Volume) (N : ℕ) (l : Layout) (f : VolumeFault)
 no_fault_of T V N l f lw is (the_same e known) = let q : space (complete V N) l ≡ found lw.placed.0 = lw.placed.1 in cc
 no_fault_of T V N l f lw is (unread listed e lists) = cc
 
-tells_lawful : (T : Blocks) (l : Layout) (seen : Seen code_space.Space) → Sees (λ s. s) seen (space T l) → TellsLawful T l seen
+tells_lawful : (T : Blocks) (l : Layout) (seen : Seen code_space.Space) → Sees (λ s. s) seen (space T l) → TellsLawfulSpace T l seen
 tells_lawful T l (Got got) s V N hv hl lw a = got_of T V N l got hv hl lw a s (space_law T V N l hv hl lw a)
 tells_lawful T l (Holes blocks) s V N hv hl lw a = holes_of T V N l blocks.items lw s (space_law T V N l hv hl lw a)
 tells_lawful T l (Fault fault) s V N hv hl lw a = no_fault_of T V N l fault lw s (space_law T V N l hv hl lw a)
@@ -78,7 +78,7 @@ spared_rises : (T : Blocks) (last : ℕ) (m : PartitionMap) → Rises (spared T 
 unfolding spared
 spared_rises T last type1 = tt
 spared_rises T last (sparable packet size tables) = unless_rises tables (unread_in T tables (blocks_in size)) (spared_by T last packet size tables) (from_rises last packet size
-    (is_valid (table_bytes T size tables) (place_of (first_known T (copies tables 0))) 0) (drop 16 (table_bytes T size tables)))
+    (is_valid (sparing_table_bytes T size tables) (place_of (first_known T (copies tables 0))) 0) (drop 16 (sparing_table_bytes T size tables)))
 
 spans_rise : (T : Blocks) (last : ℕ) (ps : List Partition) → Rises (spans T last ps)
 spans_rise T last [] = tt
@@ -97,7 +97,7 @@ got_up_to T l (Fault fault) bounds s = tt
 got_up_to T l OutOfMemory bounds s = tt
 
 pub space_clauses : (T : Blocks) (l : Layout) (seen : Seen code_space.Space) → IsBounded l.last l → Sees (λ s. s) seen (space T l)
-    → record { value : Sees (λ s. s) seen (space T l); lawful : TellsLawful T l seen; rising : HolesRise seen; within : IfGot seen (ArePlacesUpTo l.last) }
+    → record { value : Sees (λ s. s) seen (space T l); lawful : TellsLawfulSpace T l seen; rising : HolesRise seen; within : IfGot seen (ArePlacesUpTo l.last) }
 space_clauses T l seen bounds s = record {
   value = s;
   lawful = tells_lawful T l seen s;

@@ -17,8 +17,8 @@ use Rattle.udfs_space.specs.declared.entries.SparingEntry.{SparingEntry}
 use Rattle.udfs_space.specs.Sparing.{Space, Span}
 
 -- the entry of the packet that begins at a logical block
-abbrev pub entry_at : Span → ℕ → Option SparingEntry
-entry_at span first = find (λ e. nat_eq e.original first) span.spared
+abbrev pub sparing_entry_at : Span → ℕ → Option SparingEntry
+sparing_entry_at span first = find (λ e. nat_eq e.original first) span.spared
 
 -- where a block stands: in the packet that its own was mapped to, or directly
 abbrev pub placed_at : Option SparingEntry → ℕ → ℕ → ℕ
@@ -28,7 +28,7 @@ placed_at (Some e) direct offset = e.mapped + offset
 -- a block of a spared packet stands where the packet is mapped, and every other one behind the start
 abbrev pub place_in : Span → ℕ → Option ℕ
 place_in span b = let offset = b % span.packet in cond (nat_lt b span.size)
-    (Some (placed_at (entry_at span (b - offset)) (span.start + b) offset)) None
+    (Some (placed_at (sparing_entry_at span (b - offset)) (span.start + b) offset)) None
 
 -- where a block of a partition stands, if there is such a partition
 abbrev pub place_by : Option Span → ℕ → Option ℕ
@@ -54,13 +54,13 @@ abbrev pub StandsIn : Space → ℕ → ℕ → ℕ → Type 0
 StandsIn space reference b n = (span : Span) × (slice_get space reference ≡ Some span) × StandsAt span b n
 
 -- how many blocks a partition has, if it is there
-abbrev pub size_of : Option Span → ℕ
-size_of None = 0
-size_of (Some span) = span.size
+abbrev pub span_size : Option Span → ℕ
+span_size None = 0
+span_size (Some span) = span.size
 
 -- the number of logical blocks of a partition, and 0 where there is no such partition
 abbrev pub length_of : Space → ℕ → ℕ
-length_of space reference = size_of (slice_get space reference)
+length_of space reference = span_size (slice_get space reference)
 
 -- A volume as the layers above see it.
 pub record View : Type 0 where

@@ -6,7 +6,7 @@ use Rattle.std.specs.List.{range_with_len, list_any}
 use Rattle.std.specs.Str.{bytes_eq}
 use Rattle.udfs_lattice.specs.Volumes.{Blocks, first_known, ascending}
 use Rattle.udfs_volume.specs.Sequence.{Bytes}
-use Rattle.udfs_tag.specs.Fields.{uint16_at, uint32_at, regid_at, filled}
+use Rattle.udfs_tag.specs.Fields.{uint16_at, uint32_at, regid_at, zero_filled}
 use Rattle.udfs_tag.specs.Faults.{is_within, first_fault}
 use Rattle.udfs_tag.specs.Tags.{is_valid}
 use Rattle.udfs_volume.specs.Answers.{Answer, found, holes, and_then, unless_fault}
@@ -49,8 +49,8 @@ place_of None = 0
 place_of (Some known) = known.0
 
 -- the table's bytes: of each of its blocks the first copy that is known
-abbrev pub table_bytes : Blocks → ℕ → List ℕ → Bytes
-table_bytes blocks size tables =
+abbrev pub sparing_table_bytes : Blocks → ℕ → List ℕ → Bytes
+sparing_table_bytes blocks size tables =
     take size (flat_map (λ k. piece (first_known blocks (copies tables k))) (range_with_len 0 (blocks_in size)))
 
 -- the number of entries (2.2.11: reallocation table length)
@@ -58,12 +58,12 @@ abbrev pub entry_count : Bytes → ℕ
 entry_count content = uint16_at content (bp 48)
 
 -- an entry: the first logical block of a packet and the block to which it is mapped
-abbrev pub entry_of : Bytes → SparingEntry
-entry_of bytes = record { original = uint32_at bytes 0; mapped = uint32_at bytes 4 }
+abbrev pub sparing_entry_of : Bytes → SparingEntry
+sparing_entry_of bytes = record { original = uint32_at bytes 0; mapped = uint32_at bytes 4 }
 
 -- the entries of a table, whose bytes are those behind its tag
 abbrev pub entries : Bytes → List SparingEntry
-entries content = map (λ i. entry_of (drop (bp (56 + 8 * i)) content)) (range_with_len 0 (entry_count content))
+entries content = map (λ i. sparing_entry_of (drop (bp (56 + 8 * i)) content)) (range_with_len 0 (entry_count content))
 
 -- below FFFFFFF0 stands a packet, FFFFFFF0 is defective and FFFFFFFF available
 abbrev pub is_used : SparingEntry → Bool
@@ -86,7 +86,7 @@ is_out_of_order (e ∷ f ∷ rest) = breaks_order e f || is_out_of_order (f ∷ 
 
 -- the identifier of a sparing table stands behind the tag, which is valid
 abbrev pub is_sparing_table : Bool → Bytes → Bool
-is_sparing_table valid content = valid && bytes_eq (regid_at content (bp 16)).name (filled 23 (codes "*UDF Sparing Table"))
+is_sparing_table valid content = valid && bytes_eq (regid_at content (bp 16)).name (zero_filled 23 (codes "*UDF Sparing Table"))
 
 -- the entries pass the size, or an original is none that there may be
 abbrev pub is_misshapen : ℕ → ℕ → Bytes → Bool
@@ -116,7 +116,7 @@ spared_from last packet size valid content = unless_fault (sparing_fault last pa
 
 -- What a table whose every block is known in some copy gives. Its tag is that of the copy whose block 0 was taken.
 abbrev pub spared_by : Blocks → ℕ → ℕ → ℕ → List ℕ → Answer Spared
-spared_by blocks last packet size tables = let table = table_bytes blocks size tables in
+spared_by blocks last packet size tables = let table = sparing_table_bytes blocks size tables in
     spared_from last packet size (is_valid table (place_of (first_known blocks (copies tables 0))) 0) (drop 16 table)
 
 -- where blocks of the table are known in no copy, all their copies have to be read

@@ -1,7 +1,7 @@
 -- What a call tells of a lawful volume of which a part is known.
 --     IsSpaceOf volume last blocks l got    the volume's places, as the standard reads them
 --     ArePlacesUpTo last space              each place is at most the last block
---     TellsLawful blocks l seen             of each lawful volume: its places, or all copies of an unread block
+--     TellsLawfulSpace blocks l seen             of each lawful volume: its places, or all copies of an unread block
 use Rattle.std.specs.Prelude.{◌≡◌, ◌≤◌, ⊤, ℕ, List, [], Some}
 use Rattle.udfs_lattice.specs.Volumes.{Blocks, Includes, Volume, IsVolume, Agrees, complete, IsKnownAt}
 use Rattle.udfs_volume.specs.declared.seen.Seen.{Seen}
@@ -24,16 +24,16 @@ pub record IsSpaceOf (volume : Volume) (last : ℕ) (blocks : Blocks) (l : Layou
   pub part : IsPartOf (view blocks got) (view (complete volume last) got)
 
 -- a lawful volume has no fault
-abbrev pub IsToldOf : Volume → ℕ → Blocks → Layout → Seen code_space.Space → Type 0
-IsToldOf volume last blocks l (Got got) = IsSpaceOf volume last blocks l got
-IsToldOf volume last blocks l (Holes listed) = ListsGroup blocks [] [] (IsSparingGroup l.partitions) listed.items
-IsToldOf volume last blocks l (Fault fault) = ⊥
-IsToldOf volume last blocks l OutOfMemory = ⊤
+abbrev pub IsSpaceTold : Volume → ℕ → Blocks → Layout → Seen code_space.Space → Type 0
+IsSpaceTold volume last blocks l (Got got) = IsSpaceOf volume last blocks l got
+IsSpaceTold volume last blocks l (Holes listed) = ListsGroup blocks [] [] (IsSparingGroup l.partitions) listed.items
+IsSpaceTold volume last blocks l (Fault fault) = ⊥
+IsSpaceTold volume last blocks l OutOfMemory = ⊤
 
 -- for each lawful volume that agrees with the table, what is answered is told of it
-abbrev pub TellsLawful : Blocks → Layout → Seen code_space.Space → Type 0
-TellsLawful blocks l seen = (volume : Volume) (last : ℕ) → IsVolume volume last → layout (complete volume last) last ≡ found l
-    → IsLawfulSparing volume last l → Agrees blocks volume last → IsToldOf volume last blocks l seen
+abbrev pub TellsLawfulSpace : Blocks → Layout → Seen code_space.Space → Type 0
+TellsLawfulSpace blocks l seen = (volume : Volume) (last : ℕ) → IsVolume volume last → layout (complete volume last) last ≡ found l
+    → IsLawfulSparing volume last l → Agrees blocks volume last → IsSpaceTold volume last blocks l seen
 
 -- each place is a block of the volume
 abbrev pub ArePlacesUpTo : ℕ → Space → Type 0

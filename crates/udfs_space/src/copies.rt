@@ -5,7 +5,7 @@ ghost use Rattle.udfs_lattice.specs.Tables.{state_of};
 ghost use Rattle.udfs_lattice.specs.Volumes.{ascending, first_known};
 ghost use Rattle.udfs_volume.specs.Layout.{blocks_in};
 ghost use Rattle.udfs_space.specs.Parts.{FitAll, copy_now};
-ghost use Rattle.udfs_space.specs.Sparing.{copies, place_of, table_bytes, unread};
+ghost use Rattle.udfs_space.specs.Sparing.{copies, place_of, sparing_table_bytes, unread};
 
 use crate::ascending::ascending;
 use std::alloc::{AllocError, Global};
@@ -55,7 +55,7 @@ pub(crate) fn table_bytes(
         (unread (state_of table.now) map.now.tables.items (blocks_in map.now.size) ≢ [])
         (λ bytes. unread (state_of table.now) map.now.tables.items (blocks_in map.now.size) ≡ [])) }
     ensures value { IfOk result (λ read. MatchOption read (Unit {0})
-        (λ bytes. bytes.items ≡ table_bytes (state_of table.now) map.now.size map.now.tables.items)) }
+        (λ bytes. bytes.items ≡ sparing_table_bytes (state_of table.now) map.now.size map.now.tables.items)) }
     ensures size { IfOk result (λ read. MatchOption read (Unit {0}) (λ bytes. length bytes.items ≡ map.now.size)) }
 {
     let mut bytes = Vec::new(alloc);

@@ -6,7 +6,7 @@ ghost use Rattle.udfs_tag.specs.Tags.{is_valid};
 ghost use Rattle.udfs_volume.specs.Layout.{bp};
 ghost use Rattle.udfs_volume.specs.Seen.{IfGot, Sees};
 ghost use Rattle.udfs_space.specs.Parts.{AreSound, entries_fault};
-ghost use Rattle.udfs_space.specs.Sparing.{breaks_order, entry_of, is_bad_original, is_out_of_order, is_sparing_table, is_used, passes_end, spared_from};
+ghost use Rattle.udfs_space.specs.Sparing.{breaks_order, sparing_entry_of, is_bad_original, is_out_of_order, is_sparing_table, is_used, passes_end, spared_from};
 
 use byteorder::{ByteOrder, LittleEndian};
 use std::alloc::{AllocError, Global};
@@ -27,7 +27,7 @@ impl SparingEntry {
     /// Reads the 8 bytes at the front.
     pub fn read(bytes: &[u8]) -> Self
         requires { 8 ≤ length bytes.now }
-        ensures { result ≡ entry_of bytes.now }
+        ensures { result ≡ sparing_entry_of bytes.now }
     {
         SparingEntry {
             original: LittleEndian::read_u32(bytes),
@@ -89,7 +89,7 @@ fn is_sparing_table(bytes: &[u8], place: u32) -> bool
 /// So many entries of the table whose bytes behind the tag these are.
 fn entries(alloc: Global, content: &[u8], count: u16) -> Result<Vec<SparingEntry>, AllocError>
     requires { 40 + 8 * count ≤ length content.now }
-    ensures { IfOk result (λ read. read.items ≡ map (λ i. entry_of (drop (bp (56 + 8 * i)) content.now)) (range_with_len 0 count)) }
+    ensures { IfOk result (λ read. read.items ≡ map (λ i. sparing_entry_of (drop (bp (56 + 8 * i)) content.now)) (range_with_len 0 count)) }
 {
     let mut entries = Vec::new(alloc);
     for i in 0..count {

@@ -9,7 +9,7 @@ ghost use Rattle.udfs_volume.specs.Seen.{HolesRise, IfGot, Sees};
 ghost use Rattle.udfs_space.specs.Parts.{IsSound};
 ghost use Rattle.udfs_space.specs.Places.{StandsIn, block_at, block_now, is_past, length_of, place, view};
 ghost use Rattle.udfs_space.specs.Sparing.{Span, space, spans};
-ghost use Rattle.udfs_space.specs.Told.{ArePlacesUpTo, TellsLawful};
+ghost use Rattle.udfs_space.specs.Told.{ArePlacesUpTo, TellsLawfulSpace};
 
 use crate::spans::Span;
 use std::alloc::{AllocError, Global};
@@ -81,7 +81,7 @@ impl Space {
         requires to { parts.now.last ≤ 4194303 }
         requires bounded { IsBounded parts.now.last (parts_now parts.now) }
         ensures value { Sees (λ s. s) result (space (state_of table.now) (parts_now parts.now)) }
-        ensures lawful { TellsLawful (state_of table.now) (parts_now parts.now) result }
+        ensures lawful { TellsLawfulSpace (state_of table.now) (parts_now parts.now) result }
         ensures rising { HolesRise result }
         ensures within { IfGot result (ArePlacesUpTo parts.now.last) }
     {

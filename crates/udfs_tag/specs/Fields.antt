@@ -3,7 +3,7 @@
 --     uint8_at, uint16_at, uint32_at, uint64_at        the number at a byte position
 --     extent_ad_of, short_ad_of, long_ad_of, regid_of  the record at the front of bytes
 --     extent_ad_at, short_ad_at, long_ad_at, regid_at  the record at a byte position
---     filled n text                                    a short text with zero bytes after it
+--     zero_filled n text                                    a short text with zero bytes after it
 use Rattle.std.specs.Prelude.{ℕ, ◌-◌, ◌/◌, ◌%◌, ◌^◌, List, ◌++◌, length, take, drop, replicate, slice_index}
 use Rattle.byteorder.specs.Endian.{little_number}
 use Rattle.udfs_tag.specs.declared.layouts.ExtentAd.{ExtentAd}
@@ -73,5 +73,5 @@ abbrev pub regid_at : List ℕ → ℕ → RegId
 regid_at bytes at = regid_of (drop at bytes)
 
 -- a short text, with zero bytes up to n
-abbrev pub filled : ℕ → List ℕ → List ℕ
-filled n text = text ++ replicate (n - length text) 0
+abbrev pub zero_filled : ℕ → List ℕ → List ℕ
+zero_filled n text = text ++ replicate (n - length text) 0

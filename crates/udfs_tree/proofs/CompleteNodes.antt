@@ -5,7 +5,7 @@ use Rattle.udfs_lattice.specs.declared.facts.Fact.TheVariants.{Known}
 use Rattle.udfs_tag.specs.declared.layouts.LongAd.{LongAd}
 use Rattle.udfs_volume.specs.Sequence.{Bytes}
 use Rattle.udfs_space.specs.Places.{View, IsPartOf}
-use Rattle.udfs_file.specs.Complete.{IsWhole, as_cells}
+use Rattle.udfs_file.specs.Complete.{IsComplete, as_cells}
 use Rattle.udfs_file.specs.Standard.{Located}
 use Rattle.udfs_file.specs.declared.cells.Cell.{Cell}
 use Rattle.udfs_walk.specs.NodeFields.{NodeFields}
@@ -21,7 +21,7 @@ use Rattle.udfs_tree.proofs.Settings.{Setting, setting, Here, here_all, tree_her
 use Rattle.udfs_tree.proofs.Listed.{path_is, Stands, stands, Placed, placed}
 
 -- a complete view is part of itself
-part_of_itself : (all : View) (blocks : PartitionBlocks) → IsWhole all blocks → IsPartOf all all
+part_of_itself : (all : View) (blocks : PartitionBlocks) → IsComplete all blocks → IsPartOf all all
 part_of_itself all blocks c = record {
   partitions = refl;
   places = λ r b. refl;
@@ -45,7 +45,7 @@ has_here : (all : View) (blocks : PartitionBlocks) (root : LongAd) (w : Walked) 
 has_here all blocks root w h = record { fields = h.at.fields; is_entry = h.at.is_entry; has_body = h.at.has_body }
 
 -- the file at the end of a route is one of the tree
-pub route_in_tree : (all : View) (blocks : PartitionBlocks) → IsWhole all blocks → (root : LongAd) → IsLawfulTree all root → (route : Route) (w : Walked) → walked all root route ≡ Some w
+pub route_in_tree : (all : View) (blocks : PartitionBlocks) → IsComplete all blocks → (root : LongAd) → IsLawfulTree all root → (route : Route) (w : Walked) → walked all root route ≡ Some w
     → (file : TreeFile) × InTree blocks root w.path file
 route_in_tree all blocks c root l route w walks = (h.file.file, tree_here all all blocks root s w h)
   where

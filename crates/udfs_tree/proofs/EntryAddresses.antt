@@ -9,7 +9,7 @@ use Rattle.udfs_tag.specs.Faults.{first_fault}
 use Rattle.udfs_volume.specs.Sequence.{Bytes}
 use Rattle.udfs_space.specs.Places.{View}
 use Rattle.udfs_file.specs.Addresses.{address_fault}
-use Rattle.udfs_file.specs.Complete.{IsWhole}
+use Rattle.udfs_file.specs.Complete.{IsComplete}
 use Rattle.udfs_file.specs.Entries.{EntryFields, entry_fault, entry_of}
 use Rattle.udfs_file.specs.declared.faults.NodeFault.{NodeFault}
 use Rattle.udfs_file.specs.declared.faults.NodeFault.TheVariants.{Reference, Range}
@@ -41,7 +41,7 @@ pub record TargetIs (blocks : PartitionBlocks) (a : LongAd) (e : EntryFields) : 
   pub sound : entry_fault bytes a.block ≡ None
   pub fields : entry_of bytes ≡ e
 
-pub target_is : (all : View) (blocks : PartitionBlocks) → IsWhole all blocks → (a : LongAd) (e : EntryFields) → target all a ≡ entry e → TargetIs blocks a e
+pub target_is : (all : View) (blocks : PartitionBlocks) → IsComplete all blocks → (a : LongAd) (e : EntryFields) → target all a ≡ entry e → TargetIs blocks a e
 unfolding target
 target_is all blocks w a e t = go (address_fault all a) refl (all.place a.reference a.block) refl t
   where

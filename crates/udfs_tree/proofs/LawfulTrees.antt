@@ -7,8 +7,8 @@ use Rattle.std.proofs.lemmas.List.{append_assoc, length-append, length-map}
 use Rattle.udfs_lattice.specs.Volumes.{Includes}
 use Rattle.udfs_tag.specs.declared.layouts.LongAd.{LongAd}
 use Rattle.udfs_space.specs.Places.{View}
-use Rattle.udfs_file.specs.Complete.{AreShort, IsWhole}
-use Rattle.udfs_file.specs.Fronts.{directory, entries_of, listed_entries}
+use Rattle.udfs_file.specs.Complete.{AreShort, IsComplete}
+use Rattle.udfs_file.specs.Fronts.{directory, directory_entries, listed_entries}
 use Rattle.udfs_file.specs.Identifiers.{Identifier}
 use Rattle.udfs_file.specs.Standard.{IsDirectoryBody}
 use Rattle.udfs_file.specs.declared.directories.DirEntry.{DirEntry}
@@ -34,7 +34,7 @@ record End (all : View) (blocks : PartitionBlocks) (root : LongAd) (path : Path)
   whole : WholeAt all w
   file : IsReadFile blocks w.address whole.fields whole.cs
 
-end_at : (all : View) (blocks : PartitionBlocks) → IsWhole all blocks → (root : LongAd) → IsLawfulTree all root → (path : Path) (a : LongAd) → Leads blocks root path a → End all blocks root path a
+end_at : (all : View) (blocks : PartitionBlocks) → IsComplete all blocks → (root : LongAd) → IsLawfulTree all root → (path : Path) (a : LongAd) → Leads blocks root path a → End all blocks root path a
 end_at all blocks c root l path a leads = record { route = u.route; w = u.end; walks = u.leads; path_is = u.path_is; at = u.address_is; whole = x; file = file_at all blocks c u.end x }
   where
     u : IsRouteTo all root path a
@@ -43,18 +43,18 @@ end_at all blocks c root l path a leads = record { route = u.route; w = u.end; w
     x : WholeAt all u.end
     x = whole_at all u.end (l.nodes u.route u.end u.leads)
 
-files : (all : View) (blocks : PartitionBlocks) → IsWhole all blocks → (root : LongAd) → IsLawfulTree all root → (path : Path) (a : LongAd) → Leads blocks root path a → (file : TreeFile) × IsFileAt blocks a file
+files : (all : View) (blocks : PartitionBlocks) → IsComplete all blocks → (root : LongAd) → IsLawfulTree all root → (path : Path) (a : LongAd) → Leads blocks root path a → (file : TreeFile) × IsFileAt blocks a file
 files all blocks c root l path a leads = (e.file.file, subst (λ z. IsFileAt blocks z e.file.file) e.at e.file.is_file)
   where
     e : End all blocks root path a
     e = end_at all blocks c root l path a leads
 
 -- a directory there
-directory_of : (all : View) (blocks : PartitionBlocks) → IsWhole all blocks → (w : Walked) (x : WholeAt all w) → IsReadFile blocks w.address x.fields x.cs → (file : TreeFile) → IsFileAt blocks w.address file
+directory_of : (all : View) (blocks : PartitionBlocks) → IsComplete all blocks → (w : Walked) (x : WholeAt all w) → IsReadFile blocks w.address x.fields x.cs → (file : TreeFile) → IsFileAt blocks w.address file
     → file.fields.kind ≡ Directory → x.fields.kind ≡ Directory
 directory_of all blocks c w x f file is k = sym (ap (λ z. z.kind) f.fields) ∙ sym (ap (λ z. z.fields.kind) (f.only file is)) ∙ k
 
-directories : (all : View) (blocks : PartitionBlocks) → IsWhole all blocks → (root : LongAd) → IsLawfulTree all root → (path : Path) (a : LongAd) (file : TreeFile) → Leads blocks root path a → IsFileAt blocks a file
+directories : (all : View) (blocks : PartitionBlocks) → IsComplete all blocks → (root : LongAd) → IsLawfulTree all root → (path : Path) (a : LongAd) (file : TreeFile) → Leads blocks root path a → IsFileAt blocks a file
     → file.fields.kind ≡ Directory → (ids : List Identifier) × IsDirectoryBody file.body ids × AreShort ids
 directories all blocks c root l path a file leads is kind = ((directory e.whole.cs).identifiers, subst (λ z. IsDirectoryBody z.body (directory e.whole.cs).identifiers) same r.is_directory.body, descriptors_are_short e.whole.cs)
   where
@@ -74,9 +74,9 @@ directories all blocks c root l path a file leads is kind = ((directory e.whole.
     same = e.file.only r.is_directory.file r.is_directory.is_file ∙ sym (e.file.only file here)
 
 -- ---- names differ
-names : (all : View) (blocks : PartitionBlocks) → IsWhole all blocks → (root : LongAd) → IsLawfulTree all root → (path : Path) (a : LongAd) (ids : List Identifier) → Leads blocks root path a → IsDirectoryAt blocks a ids
+names : (all : View) (blocks : PartitionBlocks) → IsComplete all blocks → (root : LongAd) → IsLawfulTree all root → (path : Path) (a : LongAd) (ids : List Identifier) → Leads blocks root path a → IsDirectoryAt blocks a ids
     → AllPairs (λ d e. d.name ≢ e.name) (listed_entries ids)
-names all blocks c root l path a ids leads is = subst (λ z. AllPairs (λ d e. d.name ≢ e.name) (listed_entries z)) (sym (r.only ids here)) (go (is_deep e.w) refl (entries_of e.whole.cs) refl)
+names all blocks c root l path a ids leads is = subst (λ z. AllPairs (λ d e. d.name ≢ e.name) (listed_entries z)) (sym (r.only ids here)) (go (is_deep e.w) refl (directory_entries e.whole.cs) refl)
   where
     e : End all blocks root path a
     e = end_at all blocks c root l path a leads
@@ -93,7 +93,7 @@ names all blocks c root l path a ids leads is = subst (λ z. AllPairs (λ d e. d
     r : IsReadDirectoryAt blocks e.w.address (directory e.whole.cs).identifiers
     r = directory_at_law all blocks c e.w.address e.whole.fields e.whole.cs e.whole.is_entry e.whole.has_body k o.ends
 
-    go : (b : Bool) → is_deep e.w ≡ b → (es : List DirEntry) → entries_of e.whole.cs ≡ es → AllPairs (λ d e. d.name ≢ e.name) (entries_of e.whole.cs)
+    go : (b : Bool) → is_deep e.w ≡ b → (es : List DirEntry) → directory_entries e.whole.cs ≡ es → AllPairs (λ d e. d.name ≢ e.name) (directory_entries e.whole.cs)
     go false q es p = subst (AllPairs (λ d e. d.name ≢ e.name)) (entries_are all e.w e.whole false Directory q k) (l.distinct e.route e.w e.walks)
     go true q [] p = subst (AllPairs (λ d e. d.name ≢ e.name)) (sym p) (λ i j d m n. absurd (let z : ⊥ = omega (arith, n) in z))
     go true q (x ∷ es) p = absurd (let z : true ≡ false = sym q ∙ o.room x (subst (λ y. Includes y x) (sym p) (inl refl)) in let y : ⊥ = cc in y)
@@ -119,7 +119,7 @@ most_names all (j ∷ js) w end e h = go (step_inv all w j js end e) (λ d. most
     go s ih = ih s.entry s.then (let n : length (below w s.entry).path ≡ length w.path + 1 = length-append w.path (s.entry.name ∷ []) in
         let q : length w.path < 64 = not_deep (length w.path) (shallow all w j s.entry s.at) in omega (arith, n, q))
 
-depth : (all : View) (blocks : PartitionBlocks) → IsWhole all blocks → (root : LongAd) → IsLawfulTree all root → (path : Path) (a : LongAd) → Leads blocks root path a → length path ≤ 64
+depth : (all : View) (blocks : PartitionBlocks) → IsComplete all blocks → (root : LongAd) → IsLawfulTree all root → (path : Path) (a : LongAd) → Leads blocks root path a → length path ≤ 64
 unfolding walked
 depth all blocks c root l path a leads = subst (λ z. length z ≤ 64) e.path_is (most_names all e.route (at_root root) e.w e.walks (omega arith))
   where
@@ -169,7 +169,7 @@ any_in p (y ∷ xs) x (inr i) e = ap (λ z. p y || z) (any_in p xs x i e) ∙ go
 icb_same : (x : Icb) → is_icb x x ≡ true
 icb_same x = λ i. eq-eqb x.0 x.0 refl i && eq-eqb x.1 x.1 refl i
 
-no_loop : (all : View) (blocks : PartitionBlocks) → IsWhole all blocks → (root : LongAd) → IsLawfulTree all root → (path : Path) (a b : LongAd) (name : List ℕ) (more : Path) → Leads blocks root path a → Leads blocks a (name ∷ more) b
+no_loop : (all : View) (blocks : PartitionBlocks) → IsComplete all blocks → (root : LongAd) → IsLawfulTree all root → (path : Path) (a b : LongAd) (name : List ℕ) (more : Path) → Leads blocks root path a → Leads blocks a (name ∷ more) b
     → icb_of b ≢ icb_of a
 unfolding walked
 no_loop all blocks c root l path a b name more leads on same = go second.route refl
@@ -243,7 +243,7 @@ is_some (Some v) w e = refl
 le_or_lt : (a b : ℕ) → (a ≤ b) ⊎ (b < a)
 le_or_lt a b = grind arith
 
-few : (all : View) (blocks : PartitionBlocks) → IsWhole all blocks → (root : LongAd) → IsLawfulTree all root → (paths : Paths) → StandOnce paths → ((path : Path) → Includes paths path → LeadsOn blocks root path) → length paths ≤ 65536
+few : (all : View) (blocks : PartitionBlocks) → IsComplete all blocks → (root : LongAd) → IsLawfulTree all root → (paths : Paths) → StandOnce paths → ((path : Path) → Includes paths path → LeadsOn blocks root path) → length paths ≤ 65536
 few all blocks c root l paths once each = go (le_or_lt (length w.0) 65536)
   where
     w : (walks : List Walked) × IsWalk all root walks
@@ -276,7 +276,7 @@ few all blocks c root l paths once each = go (le_or_lt (length w.0) 65536)
     go (inl h) = let n : length paths ≤ length (map (λ v. v.path) w.0) = no_more paths (map (λ v. v.path) w.0) once inside in let m : length (map (λ v. v.path) w.0) ≡ length w.0 = length-map w.0 (λ v. v.path) in omega (arith, h, n, m)
     go (inr h) = absurd (l.limit (more_routes all root w.0 65536 w.1 h))
 
-pub lawful_is_sound : (all : View) (blocks : PartitionBlocks) → IsWhole all blocks → (root : LongAd) → IsLawfulTree all root → IsSoundTree blocks root
+pub lawful_is_sound : (all : View) (blocks : PartitionBlocks) → IsComplete all blocks → (root : LongAd) → IsLawfulTree all root → IsSoundTree blocks root
 lawful_is_sound all blocks c root l = record {
   files = files all blocks c root l;
   directories = directories all blocks c root l;

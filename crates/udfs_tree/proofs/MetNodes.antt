@@ -8,7 +8,7 @@ use Rattle.udfs_tag.specs.declared.layouts.LongAd.{LongAd}
 use Rattle.udfs_space.specs.Places.{View, IsPartOf}
 use Rattle.udfs_file.specs.Entries.{EntryFields}
 use Rattle.udfs_file.specs.Bodies.{body, IsNeededFor}
-use Rattle.udfs_file.specs.Fronts.{directory, listed_entries, entries_of}
+use Rattle.udfs_file.specs.Fronts.{directory, listed_entries, directory_entries}
 use Rattle.udfs_file.specs.Laws.{IsBeginningOf, IsMissingAt, IsClearTo, IsPartialBody, end_of}
 use Rattle.udfs_file.specs.declared.cells.Cell.{Cell}
 use Rattle.udfs_file.specs.declared.directories.DirEntry.{DirEntry}
@@ -86,7 +86,7 @@ icb_known some all blocks root s route w walks e t group x = (x.is.0, subst (λ 
 -- An entry to which a route goes on over the table.
 pub record GoesPart (some all : View) (p : IsPartOf some all) (w : Walked) (x : WholeAt all w) (d : DirEntry) : Type 0 where
   pub kind : x.fields.kind ≡ Directory
-  pub inside : Includes (entries_of (part_at some all p w x).part) d
+  pub inside : Includes (directory_entries (part_at some all p w x).part) d
 
 pub goes_part : (some all : View) (p : IsPartOf some all) (w : Walked) (x : WholeAt all w) (j : ℕ) (d : DirEntry) → slice_get (entries_below some w) j ≡ Some d → GoesPart some all p w x d
 unfolding entries_below
@@ -96,7 +96,7 @@ goes_part some all p w x j d k = by (is_loop w || is_deep w) k
     part = part_at some all p w x
 
     by_kind : (k : Kind) → x.fields.kind ≡ k → slice_get (kind_entries k (body some w.address.reference w.address.block x.fields)) j ≡ Some d → GoesPart some all p w x d
-    by_kind Directory e q = record { kind = e; inside = get_includes (entries_of part.part) j d (ap (λ z. slice_get (entries_in z) j) (sym part.is) ∙ q) }
+    by_kind Directory e q = record { kind = e; inside = get_includes (directory_entries part.part) j d (ap (λ z. slice_get (entries_in z) j) (sym part.is) ∙ q) }
     by_kind File e q = absurd (let z : ⊥ = cc in z)
     by_kind Link e q = absurd (let z : ⊥ = cc in z)
     by_kind (Other t) e q = absurd (let z : ⊥ = cc in z)
@@ -136,10 +136,10 @@ clear_before some all blocks root s w h name on ids is_dir end ends = subst (IsC
     r : IsReadDirectoryAt blocks w.address (directory h.at.cs).identifiers
     r = directory_at_law all blocks s.is_whole w.address h.at.fields h.at.cs h.at.is_entry h.at.has_body goes.kind o.ends
 
-    inside : Includes (entries_of h.at.cs) on.entry
+    inside : Includes (directory_entries h.at.cs) on.entry
     inside = subst (λ z. Includes (listed_entries z) on.entry) (sym whole_is) (listed_in x.front (x.back ++ more.0) x.id on.entry x.is_listed)
 
-    below_are : entries_below all w ≡ entries_of h.at.cs
+    below_are : entries_below all w ≡ directory_entries h.at.cs
     below_are = entries_are all w h.at false Directory (o.room on.entry inside) goes.kind
 
     differ : Differ (listed_entries (x.front ++ x.id ∷ (x.back ++ more.0)))

@@ -8,9 +8,9 @@ use Rattle.udfs_tag.specs.declared.layouts.LongAd.{LongAd}
 use Rattle.udfs_space.specs.Places.{View, IsPartOf}
 use Rattle.udfs_file.specs.Addresses.{address_fault}
 use Rattle.udfs_file.specs.Bodies.{body}
-use Rattle.udfs_file.specs.Fronts.{directory, entries_of, fault_in}
+use Rattle.udfs_file.specs.Fronts.{directory, directory_entries, fault_in}
 use Rattle.udfs_file.specs.Laws.{IsBeginningOf, IsPartialBody}
-use Rattle.udfs_file.specs.Complete.{IsWhole}
+use Rattle.udfs_file.specs.Complete.{IsComplete}
 use Rattle.udfs_file.specs.declared.cells.Cell.{Cell}
 use Rattle.udfs_file.specs.declared.directories.DirEntry.{DirEntry}
 use Rattle.udfs_file.specs.Identifiers.{Rest}
@@ -22,7 +22,7 @@ use Rattle.udfs_file.proofs.PublicLaws.{partial_bodies}
 use Rattle.udfs_walk.specs.Targets.{Target, unread, entry, target_in, target_at, target}
 use Rattle.udfs_walk.specs.Routes.{Route, Walked, at_root, below, is_loop, is_deep, entries_in, kind_entries, target_entries, entries_below, walk_from, walked, HasMoreRoutes}
 use Rattle.udfs_walk.specs.Nodes.{entry_standing, node_at, node}
-use Rattle.udfs_walk.specs.Standings.{missing_blocks, runs_from, torn_or_whole, cells_standing, depth_or, unless_fault, kind_standing, body_standing}
+use Rattle.udfs_walk.specs.Standings.{missing_blocks, runs_from, torn_or_whole, cells_standing, depth_or, standing_or_fault, kind_standing, body_standing}
 use Rattle.udfs_walk.specs.declared.standings.Standing.{Standing}
 use Rattle.udfs_walk.specs.declared.standings.Standing.TheVariants.{Loop, Fault}
 use Rattle.udfs_tree.specs.Trees.{PartitionBlocks}
@@ -79,7 +79,7 @@ entries_begin some all p w x = by_loop (is_loop w || is_deep w)
 
     by_kind : (k : Kind) → IsBeginningOf (entries some k) (entries all k)
     by_kind Directory = subst (λ z. IsBeginningOf (entries_in z) (entries_in (body all w.address.reference w.address.block x.fields))) (sym part.is)
-        (subst (λ z. IsBeginningOf (entries_of part.part) (entries_in z)) (sym x.has_body) part.inside.entries)
+        (subst (λ z. IsBeginningOf (directory_entries part.part) (entries_in z)) (sym x.has_body) part.inside.entries)
     by_kind File = ([], refl)
     by_kind Link = ([], refl)
     by_kind (Other t) = ([], refl)
@@ -142,7 +142,7 @@ not_deep true [] s h = refl
 not_deep true (e ∷ es) s h = absurd (let q : true ≡ false = h e (inl refl) in let z : ⊥ = cc in z)
 not_deep false es s h = refl
 
-not_wrong : (r : Rest) (s : Standing) → ((f : NodeFault) → r ≢ Wrong f) → unless_fault (fault_in r) s ≡ s
+not_wrong : (r : Rest) (s : Standing) → ((f : NodeFault) → r ≢ Wrong f) → standing_or_fault (fault_in r) s ≡ s
 not_wrong Nothing s h = refl
 not_wrong (Stopped n) s h = refl
 not_wrong (Wrong f) s h = absurd (h f refl)
@@ -153,7 +153,7 @@ pub data NodePart (some all : View) (p : IsPartOf some all) (w : Walked) (x : Wh
       → NodePart some all p w x
   node_read : target some w.address ≡ entry x.fields → (node some w).standing ≡ cells_standing (part_at some all p w x).part → NodePart some all p w x
 
-pub node_part : (some all : View) (blocks : PartitionBlocks) (p : IsPartOf some all) → IsWhole all blocks → (w : Walked) (x : WholeAt all w) → NodePart some all p w x
+pub node_part : (some all : View) (blocks : PartitionBlocks) (p : IsPartOf some all) → IsComplete all blocks → (w : Walked) (x : WholeAt all w) → NodePart some all p w x
 unfolding node
 node_part some all blocks p c w x = by_target (target_part some all p w.address)
   where
@@ -164,9 +164,9 @@ node_part some all blocks p c w x = by_target (target_part some all p w.address)
     part = part_at some all p w x
 
     of_directory : Open all w x → kind_standing Directory deep part.part ≡ cells_standing part.part
-    of_directory o = not_wrong (directory part.part).rest (depth_or deep (entries_of part.part) (cells_standing part.part)) (part.inside.no_fault o.ends)
-        ∙ not_deep deep (entries_of part.part) (cells_standing part.part)
-        (λ d i. o.room d (subst (λ z. Includes z d) (sym part.inside.entries.1) (includes_begin (entries_of part.part) part.inside.entries.0 d i)))
+    of_directory o = not_wrong (directory part.part).rest (depth_or deep (directory_entries part.part) (cells_standing part.part)) (part.inside.no_fault o.ends)
+        ∙ not_deep deep (directory_entries part.part) (cells_standing part.part)
+        (λ d i. o.room d (subst (λ z. Includes z d) (sym part.inside.entries.1) (includes_begin (directory_entries part.part) part.inside.entries.0 d i)))
 
     by_kind : (k : Kind) → x.fields.kind ≡ k → kind_standing k deep part.part ≡ cells_standing part.part
     by_kind Directory e = of_directory (open_at all blocks c w x e)
@@ -184,7 +184,7 @@ node_part some all blocks p c w x = by_target (target_part some all p w.address)
     by_target (target_unread n e u t) = node_unread n e u t
 
 -- no node of a part has a fault, and none is a loop
-pub good_node : (some all : View) (blocks : PartitionBlocks) → IsPartOf some all → IsWhole all blocks → (w : Walked) → WholeAt all w → HasNoFault (node some w)
+pub good_node : (some all : View) (blocks : PartitionBlocks) → IsPartOf some all → IsComplete all blocks → (w : Walked) → WholeAt all w → HasNoFault (node some w)
 unfolding node
 good_node some all blocks p c w x = go (node_part some all blocks p c w x)
   where

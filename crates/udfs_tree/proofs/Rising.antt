@@ -7,9 +7,9 @@ use Rattle.udfs_tag.specs.declared.layouts.LongAd.{LongAd}
 use Rattle.udfs_space.specs.Places.{View, IsPartOf}
 use Rattle.udfs_file.specs.Entries.{EntryFields}
 use Rattle.udfs_file.specs.Bodies.{cells, body, IsNeededFor}
-use Rattle.udfs_file.specs.Fronts.{directory, entries_of, listed_entries}
+use Rattle.udfs_file.specs.Fronts.{directory, directory_entries, listed_entries}
 use Rattle.udfs_file.specs.Laws.{IsBeginningOf, IsClearTo, IsPartialBody, end_of}
-use Rattle.udfs_file.specs.Complete.{IsWhole}
+use Rattle.udfs_file.specs.Complete.{IsComplete}
 use Rattle.udfs_file.specs.declared.cells.Cell.{Cell}
 use Rattle.udfs_file.specs.declared.directories.DirEntry.{DirEntry}
 use Rattle.udfs_file.specs.Identifiers.{Identifier}
@@ -29,7 +29,7 @@ use Rattle.udfs_tree.proofs.WholeRoutes.{WholeAt, whole_at, file_at, Open, open_
 
 -- the entries of a directory that is read
 entries_here : (v : View) (w : Walked) (e : EntryFields) (cs : List Cell) → target v w.address ≡ entry e → is_loop w ≡ false → is_deep w ≡ false
-    → e.kind ≡ Directory → body v w.address.reference w.address.block e ≡ cells cs → entries_below v w ≡ entries_of cs
+    → e.kind ≡ Directory → body v w.address.reference w.address.block e ≡ cells cs → entries_below v w ≡ directory_entries cs
 unfolding entries_below
 entries_here v w e cs t l deep k b = (λ i. cond (l i || deep i) [] (target_entries v w.address (t i)))
     ∙ ap (λ z. kind_entries z (body v w.address.reference w.address.block e)) k ∙ ap entries_in b
@@ -82,7 +82,7 @@ pub data Risen (some all : View) (blocks : PartitionBlocks) (w : Walked) (names 
       → (route : Route) (end : Walked) → walk_from some w route ≡ Some end → Includes (missing_of (node some end).standing) n → Risen some all blocks w names address
 
 -- by the names: at each directory the ICB's block is not known, a cell before the end of the name's descriptor is missing, or the name leads on
-pub rise : (some all : View) (blocks : PartitionBlocks) → IsPartOf some all → IsWhole all blocks → (names : List (List ℕ)) (w : Walked) (address : LongAd)
+pub rise : (some all : View) (blocks : PartitionBlocks) → IsPartOf some all → IsComplete all blocks → (names : List (List ℕ)) (w : Walked) (address : LongAd)
     → AllWhole all w → Leads blocks w.address names address → Risen some all blocks w names address
 rise some all blocks p c [] w address h e = arrives [] w refl (sym (append-nil w.path)) e
 rise some all blocks p c (name ∷ names) w address h (ids, d, is_dir, i, named, leads) =
@@ -106,7 +106,7 @@ rise some all blocks p c (name ∷ names) w address h (ids, d, is_dir, i, named,
         fields : dir.is_directory.file.fields ≡ x.fields
         fields = ap (λ z. z.fields) (f.only dir.is_directory.file dir.is_directory.is_file) ∙ f.fields
 
-        inside : Includes (entries_of x.cs) d
+        inside : Includes (directory_entries x.cs) d
         inside = subst (λ z. Includes (listed_entries z) d) (dir.only ids is_dir) i
 
         l : Splits (directory x.cs).identifiers d
@@ -146,11 +146,11 @@ rise some all blocks p c (name ∷ names) w address h (ids, d, is_dir, i, named,
             reached : (more : List Identifier) × ((directory part.part).identifiers ≡ l.front ++ l.id ∷ more)
             reached = part.inside.reached l.front l.back l.id l.splits clear
 
-            there : Includes (entries_of part.part) d
+            there : Includes (directory_entries part.part) d
             there = subst (λ z. Includes (listed_entries z) d) (sym reached.1) (listed_in l.front reached.0 l.id d l.is_listed)
 
-            at : (j : ℕ) × (slice_get (entries_of part.part) j ≡ Some d)
-            at = includes_get (entries_of part.part) d there
+            at : (j : ℕ) × (slice_get (directory_entries part.part) j ≡ Some d)
+            at = includes_get (directory_entries part.part) d there
 
             get : slice_get (entries_below some w) at.0 ≡ Some d
             get = ap (λ z. slice_get z at.0) (entries_here some w x.fields part.part is_entry x.no_loop (o.room d inside) kind part.is) ∙ at.1

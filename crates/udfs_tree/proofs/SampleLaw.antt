@@ -3,7 +3,7 @@ use Rattle.std.proofs.Common.{◌≡◌, ◌≢◌, refl, sym, ◌∙◌, ap, su
 use Rattle.std.specs.Prelude.{zero, suc, AllPairs, IsSome}
 use Rattle.udfs_lattice.specs.Volumes.{Includes}
 use Rattle.udfs_space.specs.Places.{View}
-use Rattle.udfs_file.specs.Sample.{named, sample_root, sample_view}
+use Rattle.udfs_file.specs.Sample.{entry_named, sample_root, sample_view}
 use Rattle.udfs_file.specs.declared.directories.DirEntry.{DirEntry}
 use Rattle.udfs_walk.specs.Routes.{Route, Walked, below, entries_below, walk_from, walked, IsWalk}
 use Rattle.udfs_walk.specs.Nodes.{node}
@@ -39,10 +39,10 @@ they_end (j ∷ js) w h = go j s.entry (ap (λ z. slice_get z j) (sym sample_nod
     s : Step all top j js w
     s = step_inv all top j js w h
 
-    go : (j : ℕ) (d : DirEntry) → slice_get (named 0x41 3 ∷ named 0x42 4 ∷ []) j ≡ Some d → walk_from all (below top d) js ≡ Some w → Includes ends (j ∷ js, w)
-    go zero d e h = let q : named 0x41 3 ≡ d = cc in let x : (js ≡ []) × (at_a ≡ w) = leaf at_a sample_nodes_are_whole.below_a js w (subst (λ z. walk_from all (below top z) js ≡ Some w) (sym q) h) in
+    go : (j : ℕ) (d : DirEntry) → slice_get (entry_named 0x41 3 ∷ entry_named 0x42 4 ∷ []) j ≡ Some d → walk_from all (below top d) js ≡ Some w → Includes ends (j ∷ js, w)
+    go zero d e h = let q : entry_named 0x41 3 ≡ d = cc in let x : (js ≡ []) × (at_a ≡ w) = leaf at_a sample_nodes_are_whole.below_a js w (subst (λ z. walk_from all (below top z) js ≡ Some w) (sym q) h) in
         inr (inl (λ i. (0 ∷ sym x.0 i, x.1 i)))
-    go (suc zero) d e h = let q : named 0x42 4 ≡ d = cc in let x : (js ≡ []) × (at_b ≡ w) = leaf at_b sample_nodes_are_whole.below_b js w (subst (λ z. walk_from all (below top z) js ≡ Some w) (sym q) h) in
+    go (suc zero) d e h = let q : entry_named 0x42 4 ≡ d = cc in let x : (js ≡ []) × (at_b ≡ w) = leaf at_b sample_nodes_are_whole.below_b js w (subst (λ z. walk_from all (below top z) js ≡ Some w) (sym q) h) in
         inr (inr (inl (λ i. (1 ∷ sym x.0 i, x.1 i))))
     go (suc (suc j)) d e h = absurd (let z : ⊥ = cc in z)
 
@@ -52,7 +52,7 @@ each_end P r a b route w (inr (inl e)) = subst (λ z. P z.1) e a
 each_end P r a b route w (inr (inr (inl e))) = subst (λ z. P z.1) e b
 each_end P r a b route w (inr (inr (inr e))) = absurd e
 
-names_differ : AllPairs (λ d e. d.name ≢ e.name) (named 0x41 3 ∷ named 0x42 4 ∷ [])
+names_differ : AllPairs (λ d e. d.name ≢ e.name) (entry_named 0x41 3 ∷ entry_named 0x42 4 ∷ [])
 names_differ zero zero d l m n = absurd (let z : ⊥ = omega (arith, l) in z)
 names_differ zero (suc zero) d l m n = let e : 65 ≡ 66 = ap head n in let z : ⊥ = omega (arith, e) in z
   where

@@ -2,7 +2,7 @@
 use Rattle.std.proofs.Common.{◌≡◌, sym, ◌∙◌, ap, ℕ, List, Some}
 use Rattle.udfs_tag.specs.declared.layouts.LongAd.{LongAd}
 use Rattle.udfs_space.specs.Places.{View, IsPartOf}
-use Rattle.udfs_file.specs.Complete.{IsWhole}
+use Rattle.udfs_file.specs.Complete.{IsComplete}
 use Rattle.udfs_file.specs.Laws.{IsPartialBody}
 use Rattle.udfs_walk.specs.Routes.{Route, Walked, walked}
 use Rattle.udfs_tree.specs.Trees.{PartitionBlocks, Leads, InTree}
@@ -14,11 +14,11 @@ use Rattle.udfs_tree.proofs.PartRoutes.{part_at, part_route}
 -- a part of a complete view with a lawful tree; routes are the paths of the tree
 pub record Setting (some all : View) (blocks : PartitionBlocks) (root : LongAd) : Type 0 where
   pub part : IsPartOf some all
-  pub is_whole : IsWhole all blocks
+  pub is_whole : IsComplete all blocks
   pub lawful : IsLawfulTree all root
   pub routes : RoutesArePaths all blocks root
 
-pub setting : (some all : View) (blocks : PartitionBlocks) → IsPartOf some all → IsWhole all blocks → (root : LongAd) → IsLawfulTree all root → Setting some all blocks root
+pub setting : (some all : View) (blocks : PartitionBlocks) → IsPartOf some all → IsComplete all blocks → (root : LongAd) → IsLawfulTree all root → Setting some all blocks root
 setting some all blocks p c root l = record { part = p; is_whole = c; lawful = l; routes = route_law all blocks c root l.nodes }
 
 -- the end of a route, which the complete view has too

@@ -7,7 +7,7 @@ use Rattle.udfs_tag.specs.declared.layouts.LongAd.{LongAd}
 use Rattle.udfs_space.specs.Places.{View, IsPartOf}
 use Rattle.udfs_file.specs.Bodies.{IsNeededFor}
 use Rattle.udfs_file.specs.Laws.{IsPartialBody}
-use Rattle.udfs_file.specs.Complete.{IsWhole}
+use Rattle.udfs_file.specs.Complete.{IsComplete}
 use Rattle.udfs_file.specs.declared.cells.Cell.{Cell}
 use Rattle.udfs_walk.specs.NodeFields.{NodeFields}
 use Rattle.udfs_walk.specs.Nodes.{node}
@@ -35,7 +35,7 @@ unfolding cells_standing
 whole_cells cs e = ap (λ z. torn_or_whole z (runs_from 0 cs)) (ap ascending e)
 
 -- by the route that its names rise to, and the cells at its end; or by the block that stops them
-pub settle : (some all : View) (blocks : PartitionBlocks) → IsPartOf some all → IsWhole all blocks → (root : LongAd) → IsLawfulTree all root → (nodes : List NodeFields) → AreNodes some root nodes
+pub settle : (some all : View) (blocks : PartitionBlocks) → IsPartOf some all → IsComplete all blocks → (root : LongAd) → IsLawfulTree all root → (nodes : List NodeFields) → AreNodes some root nodes
     → (path : List (List ℕ)) (file : TreeFile) → InTree blocks root path file → IsListedWhole some root nodes path file ⊎ HoldsWanted some all blocks root path (reread nodes)
 unfolding walked
 settle some all blocks p c root lawful nodes listed path file t = by_rise (rise some all blocks p c path (at_root root) t.address lawful.nodes t.leads)

@@ -12,9 +12,9 @@ use Rattle.udfs_volume.specs.Sequence.{Bytes}
 use Rattle.udfs_space.specs.Places.{View}
 use Rattle.udfs_file.specs.Addresses.{address_fault}
 use Rattle.udfs_file.specs.Bodies.{Body, cells, body}
-use Rattle.udfs_file.specs.Complete.{AreShort, HasPartitions, IsWhole, as_cells}
+use Rattle.udfs_file.specs.Complete.{AreShort, HasPartitions, IsComplete, as_cells}
 use Rattle.udfs_file.specs.Entries.{EntryFields, entry_of}
-use Rattle.udfs_file.specs.Fronts.{directory, entries_of, fault_in, listed_entries}
+use Rattle.udfs_file.specs.Fronts.{directory, directory_entries, fault_in, listed_entries}
 use Rattle.udfs_file.specs.Identifiers.{Identifier, Nothing}
 use Rattle.udfs_file.specs.Standard.{Located, IsDirectoryBody}
 use Rattle.udfs_file.specs.declared.cells.Cell.{Cell}
@@ -25,7 +25,7 @@ use Rattle.udfs_file.specs.declared.faults.NodeFault.TheVariants.{Reference, Ran
 use Rattle.udfs_file.proofs.PublicLaws.{standard_bodies_are_read, standard_directories_are_read}
 use Rattle.udfs_walk.specs.Nodes.{node, node_at}
 use Rattle.udfs_walk.specs.Routes.{Route, Walked, at_root, below, entries_below, is_deep, is_loop, walk_from, walked, HasMoreRoutes}
-use Rattle.udfs_walk.specs.Standings.{body_standing, cells_standing, depth_or, kind_standing, missing_blocks, runs_from, torn_or_whole, unless_fault}
+use Rattle.udfs_walk.specs.Standings.{body_standing, cells_standing, depth_or, kind_standing, missing_blocks, runs_from, torn_or_whole, standing_or_fault}
 use Rattle.udfs_walk.specs.Targets.{Icb, icb_of, is_icb, Target, entry, entry_unless, target, target_at, target_in}
 use Rattle.udfs_walk.specs.declared.standings.Standing.{Standing}
 use Rattle.udfs_walk.specs.declared.standings.Standing.TheVariants.{Whole, Loop}
@@ -44,7 +44,7 @@ leads_append blocks a b c (name ∷ p) q (ids, d, is, i, named, l) h = (ids, d, 
 
 -- ---- the file at an address
 -- the entry that the standard finds is the one at the address
-target_back : (all : View) (blocks : PartitionBlocks) → IsWhole all blocks → HasPartitions all → (a : LongAd) (file : TreeFile) → IsFileAt blocks a file → target all a ≡ entry file.fields
+target_back : (all : View) (blocks : PartitionBlocks) → IsComplete all blocks → HasPartitions all → (a : LongAd) (file : TreeFile) → IsFileAt blocks a file → target all a ≡ entry file.fields
 unfolding target
 target_back all blocks w has a file x = go (all.place a.reference a.block) refl
   where
@@ -114,7 +114,7 @@ no_loop_at blocks root s w way = none_any (is_icb (icb_of w.address)) w.above (�
 
 kind_whole : (blocks : PartitionBlocks) (root : LongAd) → IsSoundTree blocks root → (w : Walked) → Way blocks root w → (file : TreeFile) → IsFileAt blocks w.address file
     → (k : Kind) → file.fields.kind ≡ k → kind_standing k (is_deep w) (as_cells file.body) ≡ Whole
-kind_whole blocks root s w way file is Directory e = ap (λ r. unless_fault (fault_in r) (depth_or (is_deep w) (entries_of cs) (cells_standing cs))) read.1
+kind_whole blocks root s w way file is Directory e = ap (λ r. standing_or_fault (fault_in r) (depth_or (is_deep w) (directory_entries cs) (cells_standing cs))) read.1
     ∙ (λ i. depth_or (is_deep w) (listed_entries (read.0 i)) (cells_whole file.body i)) ∙ shallow (is_deep w) refl (listed_entries d.0) (λ x j. j)
   where
     cs : List Cell
@@ -142,7 +142,7 @@ kind_whole blocks root s w way file is Link e = cells_whole file.body
 kind_whole blocks root s w way file is (Other t) e = cells_whole file.body
 kind_whole blocks root s w way file is Unread e = cells_whole file.body
 
-whole_here : (all : View) (blocks : PartitionBlocks) → IsWhole all blocks → HasPartitions all → (root : LongAd) → IsSoundTree blocks root → (w : Walked) → Way blocks root w → (node all w).standing ≡ Whole
+whole_here : (all : View) (blocks : PartitionBlocks) → IsComplete all blocks → HasPartitions all → (root : LongAd) → IsSoundTree blocks root → (w : Walked) → Way blocks root w → (node all w).standing ≡ Whole
 unfolding node
 whole_here all blocks c has root s w way = (λ i. (node_at all w (target_back all blocks c has w.address file is i)).standing)
     ∙ (λ i. cond (no_loop_at blocks root s w way i) Loop (body_standing file.fields.kind (is_deep w) (body_is i)))
@@ -172,9 +172,9 @@ in_either (z ∷ xs) y x (inr i) = go (in_either xs y x i)
     go (inr p) = inr p
 
 -- the entry leads on
-steps : (all : View) (blocks : PartitionBlocks) → IsWhole all blocks → (w : Walked) → WholeAt all w → (j : ℕ) (d : DirEntry) → slice_get (entries_below all w) j ≡ Some d
+steps : (all : View) (blocks : PartitionBlocks) → IsComplete all blocks → (w : Walked) → WholeAt all w → (j : ℕ) (d : DirEntry) → slice_get (entries_below all w) j ≡ Some d
     → Leads blocks w.address (d.name ∷ []) d.icb
-steps all blocks c w x j d at = ((directory x.cs).identifiers, d, r.is_directory, get_includes (entries_of x.cs) j d g.is, refl, refl)
+steps all blocks c w x j d at = ((directory x.cs).identifiers, d, r.is_directory, get_includes (directory_entries x.cs) j d g.is, refl, refl)
   where
     g : Goes all w x j d
     g = goes all w x j d at
@@ -203,7 +203,7 @@ way_on blocks root w d way l = record {
     }
     go icb (inr p) = record { path = w.path; at = w.address; leads = way.leads; name = d.name; more = []; on = l; is = p }
 
-way_to : (all : View) (blocks : PartitionBlocks) → IsWhole all blocks → HasPartitions all → (root : LongAd) → IsSoundTree blocks root → (route : Route) (w end : Walked) → Way blocks root w
+way_to : (all : View) (blocks : PartitionBlocks) → IsComplete all blocks → HasPartitions all → (root : LongAd) → IsSoundTree blocks root → (route : Route) (w end : Walked) → Way blocks root w
     → walk_from all w route ≡ Some end → Way blocks root end
 way_to all blocks c has root s [] w end way e = let same : w ≡ end = cc in subst (Way blocks root) same way
 way_to all blocks c has root s (j ∷ js) w end way e = go (step_inv all w j js end e) (λ d. way_to all blocks c has root s js (below w d) end)
@@ -211,18 +211,18 @@ way_to all blocks c has root s (j ∷ js) w end way e = go (step_inv all w j js 
     go : Step all w j js end → ((d : DirEntry) → Way blocks root (below w d) → walk_from all (below w d) js ≡ Some end → Way blocks root end) → Way blocks root end
     go t ih = ih t.entry (way_on blocks root w t.entry way (steps all blocks c w (whole_at all w (whole_here all blocks c has root s w way)) j t.entry t.at)) t.then
 
-way_of : (all : View) (blocks : PartitionBlocks) → IsWhole all blocks → HasPartitions all → (root : LongAd) → IsSoundTree blocks root → (route : Route) (w : Walked) → walked all root route ≡ Some w → Way blocks root w
+way_of : (all : View) (blocks : PartitionBlocks) → IsComplete all blocks → HasPartitions all → (root : LongAd) → IsSoundTree blocks root → (route : Route) (w : Walked) → walked all root route ≡ Some w → Way blocks root w
 unfolding walked
 way_of all blocks c has root s route w e = way_to all blocks c has root s route (at_root root) w (record { leads = refl; above = λ icb i. absurd i }) e
 
 -- ---- all of them
-are_whole : (all : View) (blocks : PartitionBlocks) → IsWhole all blocks → HasPartitions all → (root : LongAd) → IsSoundTree blocks root → AreWhole all root
+are_whole : (all : View) (blocks : PartitionBlocks) → IsComplete all blocks → HasPartitions all → (root : LongAd) → IsSoundTree blocks root → AreWhole all root
 are_whole all blocks c has root s route w e = whole_here all blocks c has root s w (way_of all blocks c has root s route w e)
 
 none_pairs : AllPairs (λ (d e : DirEntry). d.name ≢ e.name) []
 none_pairs i j d l m = absurd (let z : ⊥ = omega (arith, m) in z)
 
-are_distinct : (all : View) (blocks : PartitionBlocks) → IsWhole all blocks → HasPartitions all → (root : LongAd) → IsSoundTree blocks root → AreDistinct all root
+are_distinct : (all : View) (blocks : PartitionBlocks) → IsComplete all blocks → HasPartitions all → (root : LongAd) → IsSoundTree blocks root → AreDistinct all root
 are_distinct all blocks c has root s route w e = go (is_deep w) refl x.fields.kind refl
   where
     way : Way blocks root w
@@ -234,7 +234,7 @@ are_distinct all blocks c has root s route w e = go (is_deep w) refl x.fields.ki
     by : (b : Bool) (k : Kind) → is_deep w ≡ b → x.fields.kind ≡ k → AllPairs (λ d e. d.name ≢ e.name) (cond b [] (entries_by k x.cs)) → AllPairs (λ d e. d.name ≢ e.name) (entries_below all w)
     by b k p q = subst (AllPairs (λ d e. d.name ≢ e.name)) (sym (entries_are all w x b k p q))
 
-    listed : x.fields.kind ≡ Directory → AllPairs (λ d e. d.name ≢ e.name) (entries_of x.cs)
+    listed : x.fields.kind ≡ Directory → AllPairs (λ d e. d.name ≢ e.name) (directory_entries x.cs)
     listed k = s.names w.path w.address (directory x.cs).identifiers way.leads
         (directory_at_law all blocks c w.address x.fields x.cs x.is_entry x.has_body k (open_at all blocks c w x k).ends).is_directory
 
@@ -255,7 +255,7 @@ end_of_route : (o : Option Walked) → IsSome o → (w : Walked) × (o ≡ Some 
 end_of_route None h = absurd (let z : ⊥ = cc in z)
 end_of_route (Some w) h = (w, refl)
 
-not_more : (all : View) (blocks : PartitionBlocks) → IsWhole all blocks → HasPartitions all → (root : LongAd) → IsSoundTree blocks root → HasMoreRoutes all root 65536 → ⊥
+not_more : (all : View) (blocks : PartitionBlocks) → IsComplete all blocks → HasPartitions all → (root : LongAd) → IsSoundTree blocks root → HasMoreRoutes all root 65536 → ⊥
 unfolding path_of
 not_more all blocks c has root s m = let h : length paths ≤ 65536 = s.few paths once each in let n : length paths ≡ length m.routes = length-map m.routes path_at in let q : 65536 < length m.routes = m.more in omega (arith, h, n, q)
   where
@@ -311,5 +311,5 @@ not_more all blocks c has root s m = let h : length paths ≤ 65536 = s.few path
         by (j, e) = let x : (route : Route) × (slice_get m.routes j ≡ Some route) × (path ≡ path_at route) = map_get path_at m.routes j path e in
             subst (LeadsOn blocks root) (sym x.2) (leads j x.0 x.1)
 
-pub sound_is_lawful : (all : View) (blocks : PartitionBlocks) → IsWhole all blocks → HasPartitions all → (root : LongAd) → IsSoundTree blocks root → IsLawfulTree all root
+pub sound_is_lawful : (all : View) (blocks : PartitionBlocks) → IsComplete all blocks → HasPartitions all → (root : LongAd) → IsSoundTree blocks root → IsLawfulTree all root
 sound_is_lawful all blocks c has root s = record { nodes = are_whole all blocks c has root s; distinct = are_distinct all blocks c has root s; limit = not_more all blocks c has root s }

@@ -7,7 +7,7 @@ use Rattle.udfs_tag.specs.declared.layouts.LongAd.{LongAd}
 use Rattle.udfs_space.specs.Places.{View, IsPartOf}
 use Rattle.udfs_file.specs.Bodies.{IsNeededFor}
 use Rattle.udfs_file.specs.Laws.{IsPartialBody}
-use Rattle.udfs_file.specs.Complete.{IsWhole}
+use Rattle.udfs_file.specs.Complete.{IsComplete}
 use Rattle.udfs_walk.specs.NodeFields.{NodeFields}
 use Rattle.udfs_walk.specs.Nodes.{node}
 use Rattle.udfs_walk.specs.Rereads.{missing_of, reread}
@@ -50,7 +50,7 @@ pub record IsMissedFor (some all : View) (blocks : PartitionBlocks) (root : Long
   pub needs : Needs all blocks root w.path (n ∷ [])
 
 -- it is the ICB's block, or that of a missing cell
-pub missed_for : (some all : View) (blocks : PartitionBlocks) → IsPartOf some all → IsWhole all blocks → (root : LongAd) → IsLawfulTree all root → (n : ℕ) (m : IsMissed some root n)
+pub missed_for : (some all : View) (blocks : PartitionBlocks) → IsPartOf some all → IsComplete all blocks → (root : LongAd) → IsLawfulTree all root → (n : ℕ) (m : IsMissed some root n)
     → IsMissedFor some all blocks root m.end n
 missed_for some all blocks p c root lawful n m = by_node (node_part some all blocks s.part s.is_whole w h.at)
   where
@@ -111,7 +111,7 @@ no_member [] h = refl
 no_member (x ∷ xs) h = absurd (h x (inl refl))
 
 -- a node that misses a block is not listed whole
-not_whole : (some all : View) (blocks : PartitionBlocks) → IsPartOf some all → IsWhole all blocks → (root : LongAd) → IsLawfulTree all root → (nodes : List NodeFields) → AreNodes some root nodes
+not_whole : (some all : View) (blocks : PartitionBlocks) → IsPartOf some all → IsComplete all blocks → (root : LongAd) → IsLawfulTree all root → (nodes : List NodeFields) → AreNodes some root nodes
     → (n : ℕ) (m : IsMissed some root n) (file : TreeFile) → ¬ IsListedWhole some root nodes m.end.path file
 not_whole some all blocks p c root lawful nodes listed n m file (i, n', cs, get, path, cells_at, is_as) =
     subst (λ z. Includes (missing_of z) n) (ap (λ z. (node some z).standing) same ∙ ap (λ z. z.standing) (sym e.is) ∙ is_as.standing) m.misses

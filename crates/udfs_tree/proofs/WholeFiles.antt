@@ -6,7 +6,7 @@ use Rattle.udfs_file.specs.Entries.{EntryFields, entry_of}
 use Rattle.udfs_file.specs.Bodies.{cells, body}
 use Rattle.udfs_file.specs.Fronts.{directory}
 use Rattle.udfs_file.specs.Standard.{IsBodyOf, IsDirectoryBody}
-use Rattle.udfs_file.specs.Complete.{IsWhole, as_cells, IsReadBody, IsReadDirectory}
+use Rattle.udfs_file.specs.Complete.{IsComplete, as_cells, IsReadBody, IsReadDirectory}
 use Rattle.udfs_file.specs.declared.cells.Cell.{Cell}
 use Rattle.udfs_file.specs.Identifiers.{Identifier}
 use Rattle.udfs_file.specs.Identifiers.{Nothing}
@@ -24,7 +24,7 @@ pub record IsReadFile (blocks : PartitionBlocks) (a : LongAd) (e : EntryFields) 
   pub body : cs ≡ as_cells file.body
   pub only : (other : TreeFile) → IsFileAt blocks a other → other ≡ file
 
-pub entry_law : (all : View) (blocks : PartitionBlocks) → IsWhole all blocks → (a : LongAd) (e : EntryFields) (cs : List Cell)
+pub entry_law : (all : View) (blocks : PartitionBlocks) → IsComplete all blocks → (a : LongAd) (e : EntryFields) (cs : List Cell)
     → target all a ≡ entry e → body all a.reference a.block e ≡ cells cs → IsReadFile blocks a e cs
 entry_law all blocks w a e cs t k = record {
   file = file;
@@ -57,7 +57,7 @@ pub record IsReadDirectoryAt (blocks : PartitionBlocks) (a : LongAd) (ids : List
   pub is_directory : IsDirectoryAt blocks a ids
   pub only : (others : List Identifier) → IsDirectoryAt blocks a others → others ≡ ids
 
-pub directory_at_law : (all : View) (blocks : PartitionBlocks) → IsWhole all blocks → (a : LongAd) (e : EntryFields) (cs : List Cell)
+pub directory_at_law : (all : View) (blocks : PartitionBlocks) → IsComplete all blocks → (a : LongAd) (e : EntryFields) (cs : List Cell)
     → target all a ≡ entry e → body all a.reference a.block e ≡ cells cs → e.kind ≡ Directory → (directory cs).rest ≡ Nothing
     → IsReadDirectoryAt blocks a (directory cs).identifiers
 directory_at_law all blocks w a e cs t k is_dir ends = record {

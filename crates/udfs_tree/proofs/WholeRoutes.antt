@@ -7,8 +7,8 @@ use Rattle.udfs_tag.specs.declared.layouts.LongAd.{LongAd}
 use Rattle.udfs_space.specs.Places.{View}
 use Rattle.udfs_file.specs.Entries.{EntryFields}
 use Rattle.udfs_file.specs.Bodies.{Body, cells, faulty_body, body}
-use Rattle.udfs_file.specs.Fronts.{directory, entries_of, listed_entries, fault_in}
-use Rattle.udfs_file.specs.Complete.{IsWhole}
+use Rattle.udfs_file.specs.Fronts.{directory, directory_entries, listed_entries, fault_in}
+use Rattle.udfs_file.specs.Complete.{IsComplete}
 use Rattle.udfs_file.specs.declared.cells.Cell.{Cell}
 use Rattle.udfs_file.specs.declared.directories.DirEntry.{DirEntry}
 use Rattle.udfs_file.specs.Identifiers.{Rest}
@@ -19,7 +19,7 @@ use Rattle.udfs_file.proofs.PublicLaws.{complete_directory_never_stops}
 use Rattle.udfs_walk.specs.Targets.{Target, bad, unread, entry, target}
 use Rattle.udfs_walk.specs.Routes.{Route, Walked, at_root, below, is_loop, is_deep, entries_in, kind_entries, target_entries, entries_below, walk_from, walked}
 use Rattle.udfs_walk.specs.Nodes.{node_at, node}
-use Rattle.udfs_walk.specs.Standings.{cells_standing, depth_or, unless_fault, kind_standing, body_standing}
+use Rattle.udfs_walk.specs.Standings.{cells_standing, depth_or, standing_or_fault, kind_standing, body_standing}
 use Rattle.udfs_walk.specs.declared.standings.Standing.{Standing}
 use Rattle.udfs_walk.specs.declared.standings.Standing.TheVariants.{Whole, Loop, Fault}
 use Rattle.udfs_tree.specs.Trees.{PartitionBlocks, Leads}
@@ -56,21 +56,21 @@ whole_at all w e = by_target (target all w.address) refl e
     by_target (entry f) t s = by_loop f t (is_loop w) refl s
 
 -- the file at a whole node
-pub file_at : (all : View) (blocks : PartitionBlocks) → IsWhole all blocks → (w : Walked) (x : WholeAt all w) → IsReadFile blocks w.address x.fields x.cs
+pub file_at : (all : View) (blocks : PartitionBlocks) → IsComplete all blocks → (w : Walked) (x : WholeAt all w) → IsReadFile blocks w.address x.fields x.cs
 file_at all blocks h w x = entry_law all blocks h w.address x.fields x.cs x.is_entry x.has_body
 
 -- a whole directory has no fault, and its path is not too long for its entries
 pub record Open (all : View) (w : Walked) (x : WholeAt all w) : Type 0 where
   pub ends : (directory x.cs).rest ≡ Nothing
-  pub room : (d : DirEntry) → Includes (entries_of x.cs) d → is_deep w ≡ false
+  pub room : (d : DirEntry) → Includes (directory_entries x.cs) d → is_deep w ≡ false
 
-pub open_at : (all : View) (blocks : PartitionBlocks) → IsWhole all blocks → (w : Walked) (x : WholeAt all w) → x.fields.kind ≡ Directory → Open all w x
-open_at all blocks h w x k = record { ends = ends (directory x.cs).rest refl; room = λ d i. room (is_deep w) (entries_of x.cs) d i depth }
+pub open_at : (all : View) (blocks : PartitionBlocks) → IsComplete all blocks → (w : Walked) (x : WholeAt all w) → x.fields.kind ≡ Directory → Open all w x
+open_at all blocks h w x k = record { ends = ends (directory x.cs).rest refl; room = λ d i. room (is_deep w) (directory_entries x.cs) d i depth }
   where
     inner : Standing
-    inner = depth_or (is_deep w) (entries_of x.cs) (cells_standing x.cs)
+    inner = depth_or (is_deep w) (directory_entries x.cs) (cells_standing x.cs)
 
-    stands : unless_fault (fault_in (directory x.cs).rest) inner ≡ Whole
+    stands : standing_or_fault (fault_in (directory x.cs).rest) inner ≡ Whole
     stands = ap (λ z. kind_standing z (is_deep w) x.cs) (sym k) ∙ x.standing
 
     f : IsReadFile blocks w.address x.fields x.cs
@@ -79,10 +79,10 @@ open_at all blocks h w x k = record { ends = ends (directory x.cs).rest refl; ro
     ends : (r : Rest) → (directory x.cs).rest ≡ r → (directory x.cs).rest ≡ Nothing
     ends Nothing e = e
     ends (Stopped n) e = absurd (complete_directory_never_stops f.file.body n (ap (λ z. (directory z).rest) (sym f.body) ∙ e))
-    ends (Wrong y) e = absurd (let t : Fault y ≡ Whole = sym (ap (λ r. unless_fault (fault_in r) inner) e) ∙ stands in let z : ⊥ = cc in z)
+    ends (Wrong y) e = absurd (let t : Fault y ≡ Whole = sym (ap (λ r. standing_or_fault (fault_in r) inner) e) ∙ stands in let z : ⊥ = cc in z)
 
     depth : inner ≡ Whole
-    depth = sym (ap (λ r. unless_fault (fault_in r) inner) (ends (directory x.cs).rest refl)) ∙ stands
+    depth = sym (ap (λ r. standing_or_fault (fault_in r) inner) (ends (directory x.cs).rest refl)) ∙ stands
 
     room : (b : Bool) (es : List DirEntry) (d : DirEntry) → Includes es d → depth_or b es (cells_standing x.cs) ≡ Whole → b ≡ false
     room true [] d i q = absurd i
@@ -90,7 +90,7 @@ open_at all blocks h w x k = record { ends = ends (directory x.cs).rest refl; ro
     room false es d i q = refl
 
 abbrev pub entries_by : Kind → List Cell → List DirEntry
-entries_by Directory cs = entries_of cs
+entries_by Directory cs = directory_entries cs
 entries_by File cs = []
 entries_by Link cs = []
 entries_by (Other t) cs = []
@@ -111,7 +111,7 @@ entries_are all w x b k eb ek = (λ i. cond (x.no_loop i || eb i) [] (target_ent
 -- An entry to which a route goes on.
 pub record Goes (all : View) (w : Walked) (x : WholeAt all w) (j : ℕ) (d : DirEntry) : Type 0 where
   pub kind : x.fields.kind ≡ Directory
-  pub is : slice_get (entries_of x.cs) j ≡ Some d
+  pub is : slice_get (directory_entries x.cs) j ≡ Some d
 
 pub goes : (all : View) (w : Walked) (x : WholeAt all w) (j : ℕ) (d : DirEntry) → slice_get (entries_below all w) j ≡ Some d → Goes all w x j d
 goes all w x j d e = go (is_deep w) refl x.fields.kind refl
@@ -165,7 +165,7 @@ record Down (blocks : PartitionBlocks) (w end : Walked) : Type 0 where
   path : end.path ≡ w.path ++ names
   leads : Leads blocks w.address names end.address
 
-down : (all : View) (blocks : PartitionBlocks) → IsWhole all blocks → (route : Route) (w end : Walked) → AllWhole all w → walk_from all w route ≡ Some end → Down blocks w end
+down : (all : View) (blocks : PartitionBlocks) → IsComplete all blocks → (route : Route) (w end : Walked) → AllWhole all w → walk_from all w route ≡ Some end → Down blocks w end
 down all blocks c [] w end h e = let same : w ≡ end = cc in record { names = []; path = ap (λ z. z.path) (sym same) ∙ sym (append-nil w.path); leads = ap (λ z. z.address) same }
 down all blocks c (j ∷ js) w end h e = go (step_inv all w j js end e) (whole_at all w (h [] w refl)) (λ d. down all blocks c js (below w d) end)
   where
@@ -178,7 +178,7 @@ down all blocks c (j ∷ js) w end h e = go (step_inv all w j js end e) (whole_a
         record {
           names = d.name ∷ t.names;
           path = t.path ∙ append_assoc w.path (d.name ∷ []) t.names;
-          leads = ((directory x.cs).identifiers, d, r.is_directory, get_includes (entries_of x.cs) j d g.is, refl, t.leads);
+          leads = ((directory x.cs).identifiers, d, r.is_directory, get_includes (directory_entries x.cs) j d g.is, refl, t.leads);
         }
 
 -- a route for names
@@ -189,7 +189,7 @@ pub record Up (all : View) (w : Walked) (names : List (List ℕ)) (address : Lon
   pub path : end.path ≡ w.path ++ names
   pub at : end.address ≡ address
 
-pub up : (all : View) (blocks : PartitionBlocks) → IsWhole all blocks → (names : List (List ℕ)) (w : Walked) (address : LongAd) → AllWhole all w → Leads blocks w.address names address → Up all w names address
+pub up : (all : View) (blocks : PartitionBlocks) → IsComplete all blocks → (names : List (List ℕ)) (w : Walked) (address : LongAd) → AllWhole all w → Leads blocks w.address names address → Up all w names address
 up all blocks c [] w address h e = record { route = []; end = w; walks = refl; path = sym (append-nil w.path); at = e }
 up all blocks c (name ∷ names) w address h (ids, d, is_dir, i, named, leads) = go (whole_at all w (h [] w refl)) (λ below_whole. up all blocks c names (below w d) address below_whole leads)
   where
@@ -214,11 +214,11 @@ up all blocks c (name ∷ names) w address h (ids, d, is_dir, i, named, leads) =
         r : IsReadDirectoryAt blocks w.address (directory x.cs).identifiers
         r = directory_at_law all blocks c w.address x.fields x.cs x.is_entry x.has_body kind o.ends
 
-        inside : Includes (entries_of x.cs) d
+        inside : Includes (directory_entries x.cs) d
         inside = subst (λ z. Includes (listed_entries z) d) (r.only ids is_dir) i
 
-        at : (j : ℕ) × (slice_get (entries_of x.cs) j ≡ Some d)
-        at = includes_get (entries_of x.cs) d inside
+        at : (j : ℕ) × (slice_get (directory_entries x.cs) j ≡ Some d)
+        at = includes_get (directory_entries x.cs) d inside
 
         get : slice_get (entries_below all w) at.0 ≡ Some d
         get = ap (λ z. slice_get z at.0) (entries_are all w x false Directory (o.room d inside) kind) ∙ at.1
@@ -328,7 +328,7 @@ pub record RoutesArePaths (all : View) (blocks : PartitionBlocks) (root : LongAd
       → v.path ≡ w.path → r ≡ s
 
 -- routes are the paths of the tree; where the names of each directory differ, each path is one route
-pub route_law : (all : View) (blocks : PartitionBlocks) → IsWhole all blocks → (root : LongAd) → AreWhole all root → RoutesArePaths all blocks root
+pub route_law : (all : View) (blocks : PartitionBlocks) → IsComplete all blocks → (root : LongAd) → AreWhole all root → RoutesArePaths all blocks root
 unfolding walked
 route_law all blocks c root h = record {
   is_path = λ route w e. let d : Down blocks (at_root root) w = down all blocks c route (at_root root) w h e in

@@ -5,7 +5,7 @@ use Rattle.std.specs.Prelude.{◌≡◌, ◌⊎◌, ◌↔◌, ℕ, List, [], So
 use Rattle.udfs_lattice.specs.Volumes.{Includes, IsUnread}
 use Rattle.udfs_tag.specs.declared.layouts.LongAd.{LongAd}
 use Rattle.udfs_space.specs.Places.{View, IsPartOf}
-use Rattle.udfs_file.specs.Complete.{IsWhole}
+use Rattle.udfs_file.specs.Complete.{IsComplete}
 use Rattle.udfs_file.specs.declared.cells.Cell.{Cell}
 use Rattle.udfs_walk.specs.NodeFields.{NodeFields}
 use Rattle.udfs_walk.specs.Rereads.{reread}
@@ -22,7 +22,7 @@ IsListedWhole v root nodes path file = (index : ℕ) × (n : NodeFields) × (cs 
 
 -- for any lawful tree, of any part of its view, and of the nodes of that part
 abbrev pub OverParts : (View → View → PartitionBlocks → LongAd → List NodeFields → Type 0) → Type 0
-OverParts Holds = (some all : View) (blocks : PartitionBlocks) → IsPartOf some all → IsWhole all blocks → (root : LongAd) → IsLawfulTree all root
+OverParts Holds = (some all : View) (blocks : PartitionBlocks) → IsPartOf some all → IsComplete all blocks → (root : LongAd) → IsLawfulTree all root
     → (nodes : List NodeFields) → AreNodes some root nodes → Holds some all blocks root nodes
 
 -- where of each needed group a block is known, the file is listed as whole

@@ -10,7 +10,7 @@
 use Rattle.std.specs.Prelude.{◌≡◌, ◌⊎◌, ℕ, List, [], Some, slice_get}
 use Rattle.udfs_tag.specs.declared.layouts.LongAd.{LongAd}
 use Rattle.udfs_space.specs.Places.{View, IsPartOf}
-use Rattle.udfs_file.specs.Complete.{IsWhole}
+use Rattle.udfs_file.specs.Complete.{IsComplete}
 use Rattle.udfs_file.specs.declared.cells.Cell.{Cell}
 use Rattle.udfs_walk.specs.NodeFields.{NodeFields}
 use Rattle.udfs_walk.specs.Routes.{HasMoreRoutes}
@@ -40,7 +40,7 @@ pub record AreTheTree (all : View) (blocks : PartitionBlocks) (root : LongAd) (n
 
 -- over a complete view with a lawful tree the nodes are the tree, each file once, all whole
 abbrev pub CompleteNodes : Type 0
-CompleteNodes = (all : View) (blocks : PartitionBlocks) → IsWhole all blocks → (root : LongAd) → IsLawfulTree all root
+CompleteNodes = (all : View) (blocks : PartitionBlocks) → IsComplete all blocks → (root : LongAd) → IsLawfulTree all root
     → (nodes : List NodeFields) → AreNodes all root nodes → AreTheTree all blocks root nodes
 
 -- nothing is told of the node, or it is told as the file, with the file's bytes outside its holes
@@ -58,27 +58,27 @@ pub record IsNodeOf (some all : View) (blocks : PartitionBlocks) (root : LongAd)
 
 -- over a part of it each node is a file of the tree, told as the tree has it
 abbrev pub PartialNodes : Type 0
-PartialNodes = (some all : View) (blocks : PartitionBlocks) → IsPartOf some all → IsWhole all blocks → (root : LongAd) → IsLawfulTree all root
+PartialNodes = (some all : View) (blocks : PartitionBlocks) → IsPartOf some all → IsComplete all blocks → (root : LongAd) → IsLawfulTree all root
     → (nodes : List NodeFields) → AreNodes some root nodes → (index : ℕ) (n : NodeFields) → slice_get nodes index ≡ Some n → IsNodeOf some all blocks root index n
 
 -- no two nodes have one path
 abbrev pub OncePerPath : Type 0
-OncePerPath = (some all : View) (blocks : PartitionBlocks) → IsPartOf some all → IsWhole all blocks → (root : LongAd) → IsLawfulTree all root
+OncePerPath = (some all : View) (blocks : PartitionBlocks) → IsPartOf some all → IsComplete all blocks → (root : LongAd) → IsLawfulTree all root
     → (nodes : List NodeFields) → AreNodes some root nodes → HasPathsOnce nodes
 
 -- a part has no more routes than the whole
 abbrev pub FewerRoutes : Type 0
-FewerRoutes = (some all : View) (blocks : PartitionBlocks) → IsPartOf some all → IsWhole all blocks → (root : LongAd) → IsLawfulTree all root
+FewerRoutes = (some all : View) (blocks : PartitionBlocks) → IsPartOf some all → IsComplete all blocks → (root : LongAd) → IsLawfulTree all root
     → (count : ℕ) → HasMoreRoutes some root count → HasMoreRoutes all root count
 
 -- a path of a lawful tree leads to one file
 abbrev pub OneFile : Type 0
-OneFile = (all : View) (blocks : PartitionBlocks) → IsWhole all blocks → (root : LongAd) → IsLawfulTree all root
+OneFile = (all : View) (blocks : PartitionBlocks) → IsComplete all blocks → (root : LongAd) → IsLawfulTree all root
     → (path : List (List ℕ)) (file other : TreeFile) → InTree blocks root path file → InTree blocks root path other → other ≡ file
 
 -- the root of a lawful tree is a file of it
 abbrev pub RootInTree : Type 0
-RootInTree = (all : View) (blocks : PartitionBlocks) → IsWhole all blocks → (root : LongAd) → IsLawfulTree all root
+RootInTree = (all : View) (blocks : PartitionBlocks) → IsComplete all blocks → (root : LongAd) → IsLawfulTree all root
     → (file : TreeFile) × InTree blocks root [] file
 
 -- the cells of the node at a place of the list are one list

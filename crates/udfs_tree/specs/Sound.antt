@@ -5,7 +5,7 @@ use Rattle.std.specs.Prelude.{◌≡◌, ◌≢◌, ◌≤◌, ◌↔◌, ℕ, L
 use Rattle.udfs_lattice.specs.Volumes.{Includes}
 use Rattle.udfs_tag.specs.declared.layouts.LongAd.{LongAd}
 use Rattle.udfs_space.specs.Places.{View}
-use Rattle.udfs_file.specs.Complete.{AreShort, HasPartitions, IsWhole}
+use Rattle.udfs_file.specs.Complete.{AreShort, HasPartitions, IsComplete}
 use Rattle.udfs_file.specs.Fronts.{listed_entries}
 use Rattle.udfs_file.specs.Identifiers.{Identifier}
 use Rattle.udfs_file.specs.Standard.{IsDirectoryBody}
@@ -45,4 +45,4 @@ pub record IsSoundTree (blocks : PartitionBlocks) (root : LongAd) : Type 0 where
 
 -- over a complete view, a tree is sound exactly if it is lawful: all its nodes are whole
 abbrev pub SoundIsLawful : Type 0
-SoundIsLawful = (all : View) (blocks : PartitionBlocks) → IsWhole all blocks → HasPartitions all → (root : LongAd) → IsSoundTree blocks root ↔ IsLawfulTree all root
+SoundIsLawful = (all : View) (blocks : PartitionBlocks) → IsComplete all blocks → HasPartitions all → (root : LongAd) → IsSoundTree blocks root ↔ IsLawfulTree all root

@@ -8,7 +8,7 @@ use Rattle.std.proofs.lemmas.List.{length-map}
 use Rattle.std.proofs.lemmas.List.FromFn.{length-map-range_with_len}
 use Rattle.udfs_volume.specs.Sequence.{Bytes, Descriptor, sequence}
 use Rattle.udfs_lattice.specs.Volumes.{Blocks, Includes}
-use Rattle.udfs_tag.specs.Fields.{uint8_at, uint16_at, uint32_at, long_ad_at, part, regid_at, filled}
+use Rattle.udfs_tag.specs.Fields.{uint8_at, uint16_at, uint32_at, long_ad_at, part, regid_at, zero_filled}
 use Rattle.udfs_tag.specs.Faults.{is_within}
 use Rattle.udfs_osta.specs.Labels.{label_of}
 use Rattle.udfs_volume.specs.Answers.{Answer, found, holes, faulty, and_then, unless_fault}
@@ -174,7 +174,7 @@ third_fault f g h i false false false d e = refl
 count_is : (last : ℕ) (lv : Descriptor) → volume_fault last lv ≡ None → (map_count lv ≡ 1) ⊎ (map_count lv ≡ 2)
 count_is last lv e = go (either_if (nat_eq (map_count lv) 1) (nat_eq (map_count lv) 2) (not-false (nat_eq (map_count lv) 1 || nat_eq (map_count lv) 2)
     (third_fault Domain BlockSize MapCount MapKind
-    (not (bytes_eq ((regid_at lv.content (bp 216)).name) (filled 23 (codes "*OSTA UDF Compliant"))) || not (nat_eq (uint16_at lv.content (bp 240)) 0x0150 || nat_eq (uint16_at lv.content (bp 240)) 0x0201))
+    (not (bytes_eq ((regid_at lv.content (bp 216)).name) (zero_filled 23 (codes "*OSTA UDF Compliant"))) || not (nat_eq (uint16_at lv.content (bp 240)) 0x0150 || nat_eq (uint16_at lv.content (bp 240)) 0x0201))
     (not (nat_eq (uint32_at lv.content (bp 212)) 2048)) (not (nat_eq (map_count lv) 1 || nat_eq (map_count lv) 2)) (is_none (the_maps last lv)) e)))
   where
     go : (nat_eq (map_count lv) 1 ≡ true) ⊎ (nat_eq (map_count lv) 2 ≡ true) → (map_count lv ≡ 1) ⊎ (map_count lv ≡ 2)

@@ -15,7 +15,7 @@ use Rattle.udfs_volume.specs.LayoutParts.{parts_now}
 use Rattle.udfs_volume.specs.Sequences.{sequence_now}
 use Rattle.udfs_volume.specs.declared.descriptors.Sequence as code_sequence
 use Rattle.udfs_volume.specs.Laws.{IsLawfulLayout, IsSequenceGroup, ListsGroup, IsAnswerOf, the_same, unread, IsBounded, valid_anchors}
-use Rattle.udfs_volume.specs.Told.{IsLayoutOf, TellsLawful}
+use Rattle.udfs_volume.specs.Told.{IsLayoutOf, TellsLawfulLayout}
 use Rattle.udfs_volume.proofs.LayoutSteps.{layout-holes, layout_faulty, layout-read}
 use Rattle.udfs_volume.proofs.LayoutLaw.{layout_law}
 use Rattle.udfs_volume.proofs.StandardLaw.{standard_layout_law}
@@ -47,7 +47,7 @@ no_fault_of T V N f lw is (unread listed e lists) = cc
 pub no_fault : (T : Blocks) (N : ℕ) (f : VolumeFault) → layout T N ≡ faulty f → (V : Volume) → IsVolume V N → IsLawfulLayout V N → Agrees T V N → ⊥
 no_fault T N f is V hv lw a = no_fault_of T V N f lw is (layout_law T V N hv lw a)
 
-pub tells_lawful : (T : Blocks) (N : ℕ) (seen : Seen VolumeParts) → Sees parts_now seen (layout T N) → TellsLawful T N seen
+pub tells_lawful : (T : Blocks) (N : ℕ) (seen : Seen VolumeParts) → Sees parts_now seen (layout T N) → TellsLawfulLayout T N seen
 tells_lawful T N (Got parts) s V hv lw a = got_of T V N (parts_now parts) hv lw s (layout_law T V N hv lw a)
 tells_lawful T N (Holes blocks) s V hv lw a = holes_of T V N blocks.items lw s (layout_law T V N hv lw a)
 tells_lawful T N (Fault fault) s V hv lw a = no_fault_of T V N fault lw s (layout_law T V N hv lw a)
@@ -134,7 +134,7 @@ early_of_layout T N f early e = early_from N f early (sequence T N) e
 abbrev pub LayoutClauses : Blocks → ℕ → Seen VolumeParts → Type 0
 LayoutClauses T last seen = record {
   value : Sees parts_now seen (layout T last);
-  lawful : TellsLawful T last seen;
+  lawful : TellsLawfulLayout T last seen;
   bounded : IfGot seen (λ parts. IsBounded last (parts_now parts));
   rising : HolesRise seen;
   no_anchor : Tells NoAnchor seen (layout T last);

@@ -1,5 +1,5 @@
 -- The layout of a volume: its prevailing descriptors (ECMA-167 3/8.4.3, 3/10.5, 3/10.6; UDF 2.2.4).
---     prevailing number ds       the first descriptor whose number no other passes
+--     prevailing sequence_number ds       the first descriptor whose sequence_number no other passes
 --     layout blocks last         revision, label, partitions and the file set's address
 use Rattle.std.specs.Prelude.{ℕ, zero, suc, ◌+◌, ◌-◌, ◌*◌, ◌/◌, Bool, true, false, not, List, [], ◌∷◌, length, drop, map, filter, cond, nat_eq, nat_le, nat_lt, ◌&&◌, ◌||◌, Option, Some, None, find, codes, is_none, option_map}
 use Rattle.std.specs.List.{range_with_len, list_all, list_any}
@@ -7,7 +7,7 @@ use Rattle.std.specs.Str.{bytes_eq}
 use Rattle.udfs_lattice.specs.Volumes.{Blocks}
 use Rattle.udfs_volume.specs.Sequence.{Bytes, Descriptor, sequence}
 use Rattle.udfs_tag.specs.declared.layouts.LongAd.{LongAd}
-use Rattle.udfs_tag.specs.Fields.{uint8_at, uint16_at, uint32_at, long_ad_at, part, regid_at, filled}
+use Rattle.udfs_tag.specs.Fields.{uint8_at, uint16_at, uint32_at, long_ad_at, part, regid_at, zero_filled}
 use Rattle.udfs_tag.specs.Faults.{is_within, first_fault}
 use Rattle.udfs_osta.specs.declared.labels.Label.{Label}
 use Rattle.udfs_osta.specs.Labels.{label_of}
@@ -19,13 +19,13 @@ use Rattle.udfs_volume.specs.declared.faults.VolumeFault.TheVariants.{NoLogicalV
 abbrev pub bp : ℕ → ℕ
 bp position = position - 16
 
--- both descriptors have their sequence number at 16
-abbrev pub number : Descriptor → ℕ
-number d = uint32_at d.content (bp 16)
+-- both descriptors have their sequence sequence_number at 16
+abbrev pub sequence_number : Descriptor → ℕ
+sequence_number d = uint32_at d.content (bp 16)
 
--- the first descriptor whose sequence number no other passes
+-- the first descriptor whose sequence sequence_number no other passes
 abbrev pub prevailing : List Descriptor → Option Descriptor
-prevailing ds = find (λ d. list_all (λ other. nat_le (number other) (number d)) ds) ds
+prevailing ds = find (λ d. list_all (λ other. nat_le (sequence_number other) (sequence_number d)) ds) ds
 
 -- the descriptors with this tag identifier
 abbrev pub with_identifier : ℕ → List Descriptor → List Descriptor
@@ -35,11 +35,11 @@ with_identifier id ds = filter (λ d. nat_eq d.identifier id) ds
 abbrev pub logical_volume : List Descriptor → Option Descriptor
 logical_volume ds = prevailing (with_identifier 6 ds)
 
--- the number of a partition descriptor (ECMA-167 3/10.5.4)
+-- the sequence_number of a partition descriptor (ECMA-167 3/10.5.4)
 abbrev pub partition_number : Descriptor → ℕ
 partition_number d = uint16_at d.content (bp 22)
 
--- the prevailing partition descriptor of this number (ECMA-167 3/10.5)
+-- the prevailing partition descriptor of this sequence_number (ECMA-167 3/10.5)
 abbrev pub partition : ℕ → List Descriptor → Option Descriptor
 partition n ds = prevailing (filter (λ d. nat_eq (partition_number d) n) (with_identifier 5 ds))
 
@@ -74,7 +74,7 @@ is_type1 bytes = nat_eq (uint8_at bytes 0) 1 && nat_eq (uint8_at bytes 1) 6
 -- whether a partition map is a sparable one of type 2 (UDF 2.2.9)
 abbrev pub is_sparable : Bytes → Bool
 is_sparable bytes = nat_eq (uint8_at bytes 0) 2 && nat_eq (uint8_at bytes 1) 64
-    && bytes_eq ((regid_at bytes 4).name) (filled 23 (codes "*UDF Sparable Partition"))
+    && bytes_eq ((regid_at bytes 4).name) (zero_filled 23 (codes "*UDF Sparable Partition"))
 
 -- where a sparable map says that its sparing tables stand
 abbrev pub table_places : Bytes → List ℕ
@@ -94,7 +94,7 @@ are_within last size places = list_all (λ place. nat_le (place + blocks_in size
 abbrev pub are_tables : ℕ → Bytes → Bool
 are_tables last bytes = has_numbers bytes && are_within last (uint32_at bytes 44) (table_places bytes)
 
--- A map and the number of its partition.
+-- A map and the sequence_number of its partition.
 abbrev pub NumberedMap : Type 0
 NumberedMap = PartitionMap × ℕ
 
@@ -148,7 +148,7 @@ the_maps last lv = unless_repeated (read_maps last (map_count lv) (uint32_at lv.
 
 -- whether the domain is that of OSTA UDF (UDF 2.2.4.3)
 abbrev pub has_domain : Descriptor → Bool
-has_domain lv = bytes_eq (regid_at lv.content (bp 216)).name (filled 23 (codes "*OSTA UDF Compliant"))
+has_domain lv = bytes_eq (regid_at lv.content (bp 216)).name (zero_filled 23 (codes "*OSTA UDF Compliant"))
 
 -- whether the revision is 1.50 or 2.01, as the domain's suffix tells it
 abbrev pub has_revision : Descriptor → Bool
@@ -179,8 +179,8 @@ described ds (m ∷ ms) = before_described m.0 (partition m.1 ds) (described ds 
 
 -- whether the partition's contents are those of ECMA-167, second or third edition (ECMA-167 3/10.5.5)
 abbrev pub has_contents : Described → Bool
-has_contents p = bytes_eq ((regid_at (p.1).content (bp 24)).name) (filled 23 (codes "+NSR02"))
-    || bytes_eq ((regid_at (p.1).content (bp 24)).name) (filled 23 (codes "+NSR03"))
+has_contents p = bytes_eq ((regid_at (p.1).content (bp 24)).name) (zero_filled 23 (codes "+NSR02"))
+    || bytes_eq ((regid_at (p.1).content (bp 24)).name) (zero_filled 23 (codes "+NSR03"))
 
 -- the partition that a map and a descriptor describe
 abbrev pub partition_of : Described → Partition

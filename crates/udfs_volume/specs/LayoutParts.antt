@@ -1,7 +1,7 @@
 -- The layout of the code, as the definitions have it.
 use Rattle.std.specs.Prelude.{ℕ, Bool, List, [], ◌∷◌, map, not, nat_eq, nat_lt, nat_le, ◌||◌, ◌&&◌, ◌+◌, codes}
 use Rattle.std.specs.Str.{bytes_eq}
-use Rattle.udfs_tag.specs.Fields.{uint32_at, regid_at, filled}
+use Rattle.udfs_tag.specs.Fields.{uint32_at, regid_at, zero_filled}
 use Rattle.udfs_volume.specs.declared.faults.VolumeFault.{VolumeFault}
 use Rattle.udfs_volume.specs.declared.faults.VolumeFault.TheVariants.{Domain, BlockSize, MapCount}
 use Rattle.udfs_volume.specs.declared.layouts.Partition as code_partition
@@ -40,8 +40,8 @@ field_tests lv =
 
 -- whether a partition descriptor's contents are those of ECMA-167, second or third edition
 abbrev pub has_contents_of : Descriptor → Bool
-has_contents_of d = bytes_eq (regid_at d.content (bp 24)).name (filled 23 (codes "+NSR02"))
-    || bytes_eq (regid_at d.content (bp 24)).name (filled 23 (codes "+NSR03"))
+has_contents_of d = bytes_eq (regid_at d.content (bp 24)).name (zero_filled 23 (codes "+NSR02"))
+    || bytes_eq (regid_at d.content (bp 24)).name (zero_filled 23 (codes "+NSR03"))
 
 -- whether a range has a block and lies within the volume
 abbrev pub is_range : ℕ → ℕ → ℕ → Bool

@@ -1,6 +1,6 @@
 -- What a call tells of a lawful volume of which a part is known.
 --     IsLayoutOf volume blocks last got     the volume's layout, as the standard reads it
---     TellsLawful blocks last seen          of each lawful volume: its layout, or all of an unread group
+--     TellsLawfulLayout blocks last seen          of each lawful volume: its layout, or all of an unread group
 use Rattle.std.specs.Prelude.{◌≡◌, ⊤, ℕ, List, Some}
 use Rattle.udfs_lattice.specs.Volumes.{Blocks, Includes, Volume, IsVolume, Agrees, complete, IsKnownAt}
 use Rattle.udfs_volume.specs.declared.layouts.VolumeParts.{VolumeParts}
@@ -20,14 +20,14 @@ pub record IsLayoutOf (volume : Volume) (blocks : Blocks) (last : ℕ) (got : La
   pub known : (group : List ℕ) → IsSequenceGroup volume last group → (n : ℕ) × Includes group n × IsKnownAt blocks n
 
 -- a lawful volume has no fault
-abbrev pub IsToldOf : Volume → Blocks → ℕ → Seen VolumeParts → Type 0
-IsToldOf volume blocks last (Got parts) = IsLayoutOf volume blocks last (parts_now parts)
-IsToldOf volume blocks last (Holes listed) =
+abbrev pub IsLayoutTold : Volume → Blocks → ℕ → Seen VolumeParts → Type 0
+IsLayoutTold volume blocks last (Got parts) = IsLayoutOf volume blocks last (parts_now parts)
+IsLayoutTold volume blocks last (Holes listed) =
     ListsGroup blocks (valid_anchors volume last) (anchor_places last) (IsSequenceGroup volume last) listed.items
-IsToldOf volume blocks last (Fault fault) = ⊥
-IsToldOf volume blocks last OutOfMemory = ⊤
+IsLayoutTold volume blocks last (Fault fault) = ⊥
+IsLayoutTold volume blocks last OutOfMemory = ⊤
 
 -- for each lawful volume that agrees with the table, what is answered is told of it
-abbrev pub TellsLawful : Blocks → ℕ → Seen VolumeParts → Type 0
-TellsLawful blocks last seen = (volume : Volume) → IsVolume volume last → IsLawfulLayout volume last → Agrees blocks volume last
-    → IsToldOf volume blocks last seen
+abbrev pub TellsLawfulLayout : Blocks → ℕ → Seen VolumeParts → Type 0
+TellsLawfulLayout blocks last seen = (volume : Volume) → IsVolume volume last → IsLawfulLayout volume last → Agrees blocks volume last
+    → IsLayoutTold volume blocks last seen

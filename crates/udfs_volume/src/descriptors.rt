@@ -3,7 +3,7 @@
 ghost use Rattle.std.specs.Prelude.{◌≡◌, ◌≤◌, ◌+◌, length, drop, map, option_map};
 ghost use Rattle.std.specs.Str.{bytes_eq};
 ghost use Rattle.udfs_tag.specs.Fields.{regid_of, uint16_at, uint32_at};
-ghost use Rattle.udfs_volume.specs.Layout.{bp, logical_volume, number, partition, partition_number};
+ghost use Rattle.udfs_volume.specs.Layout.{bp, logical_volume, sequence_number, partition, partition_number};
 ghost use Rattle.udfs_volume.specs.Prevailing.{best_of, later_of};
 ghost use Rattle.udfs_volume.specs.Sequences.{descriptor_now, sequence_now};
 
@@ -60,7 +60,7 @@ impl<'a> Descriptor<'a> {
 
     /// The volume descriptor sequence number (ECMA-167 3/10.5.2, 3/10.6.2).
     pub fn number(&self) -> u32
-        ensures { result ≡ number (descriptor_now self.now) }
+        ensures { result ≡ sequence_number (descriptor_now self.now) }
     {
         self.uint32(16)
     }

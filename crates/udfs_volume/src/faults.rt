@@ -1,7 +1,7 @@
 //! What is wrong with a volume.
 
 ghost use Rattle.std.specs.Prelude.{Some};
-ghost use Rattle.udfs_volume.specs.FaultNames.{fault_name};
+ghost use Rattle.udfs_volume.specs.FaultNames.{volume_fault_name};
 
 use std::error::Error;
 use std::fmt;
@@ -47,7 +47,7 @@ pub enum VolumeFault {
 
 /// The fault's name, as a report prints it.
 impl fmt::Display for VolumeFault {
-    ghost output = { λ fault. Some (fault_name fault) };
+    ghost output = { λ fault. Some (volume_fault_name fault) };
 
     fn fmt<W: fmt::Write>(&self, f: &mut fmt::Formatter<W>) -> fmt::Result {
         f.write_str(match self {

@@ -10,7 +10,7 @@ ghost use Rattle.udfs_volume.specs.LayoutParts.{described_now, field_tests, has_
 ghost use Rattle.udfs_osta.specs.Labels.{label_of};
 ghost use Rattle.udfs_volume.specs.Laws.{IsBounded};
 ghost use Rattle.udfs_volume.specs.Seen.{Sees, HolesRise, IfGot, Tells};
-ghost use Rattle.udfs_volume.specs.Told.{TellsLawful};
+ghost use Rattle.udfs_volume.specs.Told.{TellsLawfulLayout};
 ghost use Rattle.udfs_volume.specs.Parts.{numbered_now};
 ghost use Rattle.udfs_volume.specs.Sequences.{descriptor_now, sequence_now};
 
@@ -258,7 +258,7 @@ pub fn layout(alloc: Global, table: &BlockTable, last: u32) -> Seen<VolumeParts>
     requires from { 513 ≤ last }
     requires to { last ≤ 4194303 }
     ensures value { Sees parts_now result (layout (state_of table.now) last) }
-    ensures lawful { TellsLawful (state_of table.now) last result }
+    ensures lawful { TellsLawfulLayout (state_of table.now) last result }
     ensures bounded { IfGot result (λ parts. IsBounded last (parts_now parts)) }
     ensures rising { HolesRise result }
     ensures no_anchor { Tells VolumeFault.NoAnchor result (layout (state_of table.now) last) }

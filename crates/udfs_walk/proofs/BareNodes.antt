@@ -8,7 +8,7 @@ use Rattle.udfs_space.specs.Sparing.{Space}
 use Rattle.udfs_space.specs.Places.{View}
 use Rattle.udfs_file.specs.Bodies.{Body, body, cells, faulty_body}
 use Rattle.udfs_file.specs.Entries.{EntryFields}
-use Rattle.udfs_file.specs.Fronts.{directory, entries_of, fault_in}
+use Rattle.udfs_file.specs.Fronts.{directory, directory_entries, fault_in}
 use Rattle.udfs_file.specs.declared.cells.Cell.{Cell}
 use Rattle.udfs_file.specs.declared.directories.DirEntry.{DirEntry}
 use Rattle.udfs_file.specs.declared.faults.Kind.{Kind}
@@ -20,7 +20,7 @@ use Rattle.udfs_walk.specs.TornFields.{TornFields}
 use Rattle.udfs_walk.specs.Nodes.{entry_standing, node, node_at, told}
 use Rattle.udfs_walk.specs.Frames.{FrameFields, IsTaken}
 use Rattle.udfs_walk.specs.Routes.{Walked, inside, is_deep, is_loop}
-use Rattle.udfs_walk.specs.Standings.{body_standing, cells_standing, depth_or, kind_standing, unless_fault}
+use Rattle.udfs_walk.specs.Standings.{body_standing, cells_standing, depth_or, kind_standing, standing_or_fault}
 use Rattle.udfs_walk.specs.Targets.{Icb, Target, bad, unread, entry, icb_of, is_icb, target}
 use Rattle.udfs_walk.specs.UnnamedEntries.{address_of, entry_alone, icbs_in, names, unnamed, unnamed_at, unnamed_with}
 use Rattle.udfs_walk.specs.declared.answers.Unnamed.{Unnamed}
@@ -41,12 +41,12 @@ deep_again true [] s lists h = again s lists h
 deep_again false es s lists h = again s lists h
 
 listed_again : (o : Option NodeFault) (deep : Bool) (es : List DirEntry) (s : Standing) (lists : TornFields) → lists ≡ lists_of s
-    → with_lists lists (bare (unless_fault o (depth_or deep es s))) ≡ unless_fault o (depth_or deep es s)
+    → with_lists lists (bare (standing_or_fault o (depth_or deep es s))) ≡ standing_or_fault o (depth_or deep es s)
 listed_again None deep es s lists h = deep_again deep es s lists h
 listed_again (Some f) deep es s lists h = refl
 
 kind_again : (k : Kind) (deep : Bool) (cs : List Cell) (lists : TornFields) → lists ≡ lists_of (cells_standing cs) → with_lists lists (bare (kind_standing k deep cs)) ≡ kind_standing k deep cs
-kind_again kind.Directory deep cs lists h = listed_again (fault_in (directory cs).rest) deep (entries_of cs) (cells_standing cs) lists h
+kind_again kind.Directory deep cs lists h = listed_again (fault_in (directory cs).rest) deep (directory_entries cs) (cells_standing cs) lists h
 kind_again kind.File deep cs lists h = again (cells_standing cs) lists h
 kind_again kind.Link deep cs lists h = again (cells_standing cs) lists h
 kind_again (kind.Other t) deep cs lists h = again (cells_standing cs) lists h

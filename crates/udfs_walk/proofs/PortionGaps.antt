@@ -13,11 +13,11 @@ use Rattle.udfs_file.specs.Pieces.{byte_cells}
 use Rattle.udfs_file.specs.Portions.{AreUnread, GivesPortion, IsFirst, IsPortion, portion_count}
 use Rattle.udfs_walk.specs.BlockRuns.{blocks_of, run_blocks}
 use Rattle.udfs_walk.specs.declared.block_runs.BlockRun.{BlockRun}
-use Rattle.udfs_walk.specs.Gaps.{AreBytes, AreGapsOf, GapFields, IsPassed, Leaves, runs_open}
+use Rattle.udfs_walk.specs.Gaps.{AreKnownCells, AreGapsOf, GapFields, IsPassed, Leaves, runs_open}
 use Rattle.udfs_walk.specs.Standings.{missing_blocks, runs_from}
 use Rattle.udfs_walk.proofs.RunLemmas.{leaves_all, leaves_more, missing_passes, none_passes}
 
-zeros_are : (k : ℕ) → AreBytes (replicate k (Byte 0 None))
+zeros_are : (k : ℕ) → AreKnownCells (replicate k (Byte 0 None))
 zeros_are zero = tt
 zeros_are (suc k) = (tt, zeros_are k)
 
@@ -31,7 +31,7 @@ unfolding blocks_of
 blocks_more [] r = append-nil (run_blocks r)
 blocks_more (x ∷ xs) r = ap (λ z. run_blocks x ++ z) (blocks_more xs r) ∙ sym (append_assoc (run_blocks x) (blocks_of xs) (run_blocks r))
 
-pub bytes_are : (holder : Option ℕ) (bytes : List ℕ) → AreBytes (byte_cells holder bytes)
+pub bytes_are : (holder : Option ℕ) (bytes : List ℕ) → AreKnownCells (byte_cells holder bytes)
 bytes_are holder [] = tt
 bytes_are holder (x ∷ xs) = (tt, bytes_are holder xs)
 
@@ -113,11 +113,11 @@ passed_all all rest old new e p m r s o = subst (λ x. IsPassed all x new) (ap (
     }
 
 -- ---- what a portion says of its cells
-pub portion_bytes : (p : Portion) (b : Bor (List ℕ)) (cs : List Cell) → p ≡ Bytes b → IsPortion p cs → AreBytes cs
-portion_bytes p b cs e i = let h : (holder : Option ℕ) × (cs ≡ byte_cells holder b.now) = subst (λ z. IsPortion z cs) e i in subst AreBytes (sym h.1) (bytes_are h.0 b.now)
+pub portion_bytes : (p : Portion) (b : Bor (List ℕ)) (cs : List Cell) → p ≡ Bytes b → IsPortion p cs → AreKnownCells cs
+portion_bytes p b cs e i = let h : (holder : Option ℕ) × (cs ≡ byte_cells holder b.now) = subst (λ z. IsPortion z cs) e i in subst AreKnownCells (sym h.1) (bytes_are h.0 b.now)
 
-pub portion_zeros : (p : Portion) (n : ℕ) (cs : List Cell) → p ≡ Zeros n → IsPortion p cs → AreBytes cs
-portion_zeros p n cs e i = let h : cs ≡ replicate n (Byte 0 None) = subst (λ z. IsPortion z cs) e i in subst AreBytes (sym h) (zeros_are n)
+pub portion_zeros : (p : Portion) (n : ℕ) (cs : List Cell) → p ≡ Zeros n → IsPortion p cs → AreKnownCells cs
+portion_zeros p n cs e i = let h : cs ≡ replicate n (Byte 0 None) = subst (λ z. IsPortion z cs) e i in subst AreKnownCells (sym h) (zeros_are n)
 
 pub started : (all s : List Cell) (g : GapFields) → s ≡ all → Leaves all s g g
 started all s g e = subst (λ z. Leaves all z g g) (sym e) (leaves_all all g)

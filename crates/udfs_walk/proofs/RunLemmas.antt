@@ -8,10 +8,10 @@ use Rattle.udfs_file.specs.declared.cells.Cell.{Cell}
 use Rattle.udfs_file.specs.declared.cells.Cell.TheVariants.{Byte, Gap}
 use Rattle.udfs_walk.specs.declared.standings.Standing.TheVariants.{Whole, Torn}
 use Rattle.udfs_walk.specs.Standings.{cells_standing, missing_blocks, runs_from, torn_or_whole, with_hole}
-use Rattle.udfs_walk.specs.Gaps.{AreBytes, AreGapsOf, GapFields, IsPassed, Leaves, closed, runs_open}
+use Rattle.udfs_walk.specs.Gaps.{AreKnownCells, AreGapsOf, GapFields, IsPassed, Leaves, closed, runs_open}
 
 -- ---- blocks
-bytes_blocks : (cs rest : List Cell) → AreBytes cs → missing_blocks (cs ++ rest) ≡ missing_blocks rest
+bytes_blocks : (cs rest : List Cell) → AreKnownCells cs → missing_blocks (cs ++ rest) ≡ missing_blocks rest
 bytes_blocks [] rest h = refl
 bytes_blocks (Byte x b ∷ cs) rest h = bytes_blocks cs rest h.1
 bytes_blocks (Gap m ∷ cs) rest h = absurd h.0
@@ -60,7 +60,7 @@ once : (xs : List ℕ) (k n : ℕ) (rest : List ℕ) → ascending (xs ++ (repli
 once xs k n rest = behind xs (replicate (suc k) n ++ rest) (n ∷ rest) (same_again k n rest) ∙ ap ascending (sym (append_assoc xs (n ∷ []) rest))
 
 -- ---- runs
-bytes_runs : (s : ℕ) (cs rest : List Cell) → AreBytes cs → runs_from s (cs ++ rest) ≡ runs_from (s + length cs) rest
+bytes_runs : (s : ℕ) (cs rest : List Cell) → AreKnownCells cs → runs_from s (cs ++ rest) ≡ runs_from (s + length cs) rest
 bytes_runs s [] rest h = ap (λ n. runs_from n rest) (let e : s ≡ s + 0 = omega arith in e)
 bytes_runs s (Byte x b ∷ cs) rest h = bytes_runs (s + 1) cs rest h.1 ∙ ap (λ n. runs_from n rest) (let e : s + 1 + length cs ≡ s + suc (length cs) = omega arith in e)
 bytes_runs s (Gap m ∷ cs) rest h = absurd h.0
@@ -134,7 +134,7 @@ missing_passes n cs old new k h l m r s o whole later p = record {
       ∙ (λ i. sym r i ++ runs_open (sym s i) (sym o i) later);
 }
 
-closes : (s k : ℕ) (cs later : List Cell) (j : ℕ) → AreBytes cs → length cs ≡ suc j → runs_open s k (cs ++ later) ≡ closed s k (runs_from (s + (k + suc j)) later)
+closes : (s k : ℕ) (cs later : List Cell) (j : ℕ) → AreKnownCells cs → length cs ≡ suc j → runs_open s k (cs ++ later) ≡ closed s k (runs_from (s + (k + suc j)) later)
 closes s k [] later j h l = absurd (let z : ⊥ = omega (arith, l) in z)
 closes s k (Byte x b ∷ cs) later j h l = close s k x b (cs ++ later)
     ∙ ap (closed s k) (bytes_runs (s + k + 1) cs later h.1 ∙ ap (λ n. runs_from n later) (let e : s + k + 1 + length cs ≡ s + (k + suc j) = omega (arith, l) in e))
@@ -144,7 +144,7 @@ pub holes_closed : (holes : List (ℕ × ℕ)) (s k : ℕ) (runs : List (ℕ × 
 holes_closed holes s zero runs = ap (λ x. x ++ runs) (sym (append-nil holes))
 holes_closed holes s (suc k) runs = sym (append_assoc holes ((s, suc k) ∷ []) runs)
 
-pub known_passes : (cs : List Cell) (old new : GapFields) (j : ℕ) → AreBytes cs → length cs ≡ suc j → new.missing ≡ old.missing
+pub known_passes : (cs : List Cell) (old new : GapFields) (j : ℕ) → AreKnownCells cs → length cs ≡ suc j → new.missing ≡ old.missing
     → new.holes ≡ old.holes ++ closed old.start old.grown [] → new.start ≡ old.start + (old.grown + suc j) → new.grown ≡ 0 → Leaves cs [] old new
 unfolding Leaves
 known_passes cs old new j h l m r s o whole later p = record {
@@ -172,7 +172,7 @@ unfolding Leaves
 leaves_all all g whole later p = p
 
 -- ---- by any number of cells that is not 0
-pub some_known : (cs : List Cell) (old new : GapFields) (k : ℕ) → AreBytes cs → length cs ≡ k → 0 < k → new.missing ≡ old.missing
+pub some_known : (cs : List Cell) (old new : GapFields) (k : ℕ) → AreKnownCells cs → length cs ≡ k → 0 < k → new.missing ≡ old.missing
     → new.holes ≡ old.holes ++ closed old.start old.grown [] → new.start ≡ old.start + old.grown + k → new.grown ≡ 0 → Leaves cs [] old new
 some_known cs old new k h l p m r s o = let e : k ≡ suc (k - 1) = omega (arith, p) in
     known_passes cs old new (k - 1) h (l ∙ e) m r (let q : new.start ≡ old.start + (old.grown + suc (k - 1)) = omega (arith, s, e) in q) o

@@ -11,7 +11,7 @@ use Rattle.udfs_file.proofs.PublicLaws.{sample_files_are_read}
 use Rattle.udfs_walk.specs.Nodes.{node, node_at}
 use Rattle.udfs_walk.specs.Routes.{Walked, entries_below, is_deep, is_loop, kind_entries, target_entries}
 use Rattle.udfs_walk.specs.Sample.{AreSampleNodes, at_a, at_b, top}
-use Rattle.udfs_walk.specs.Standings.{body_standing, cells_standing, depth_or, unless_fault}
+use Rattle.udfs_walk.specs.Standings.{body_standing, cells_standing, depth_or, standing_or_fault}
 use Rattle.udfs_walk.specs.Targets.{entry, entry_unless, target, target_at}
 use Rattle.udfs_walk.specs.declared.standings.Standing.TheVariants.{Whole, Loop}
 
@@ -48,7 +48,7 @@ all_of_b = refl
 pub sample_nodes : AreSampleNodes
 sample_nodes = record {
   whole_root = standing_is top _ root_cells sample_files_are_read.root refl
-      ∙ (λ i. unless_fault (fault_in (sample_files_are_read.no_rest i)) (depth_or false (sample_files_are_read.entries i) (all_of_root i)));
+      ∙ (λ i. standing_or_fault (fault_in (sample_files_are_read.no_rest i)) (depth_or false (sample_files_are_read.entries i) (all_of_root i)));
   below_root = entries_are top _ root_cells sample_files_are_read.root refl refl ∙ sample_files_are_read.entries;
   whole_a = standing_is at_a _ a_cells sample_files_are_read.a refl ∙ all_of_a;
   below_a = entries_are at_a _ a_cells sample_files_are_read.a refl refl;

@@ -43,9 +43,9 @@ IsGapOf n (Byte x holder) = ⊥
 IsGapOf n (Gap m) = m ≡ n
 
 -- all cells are known
-abbrev pub AreBytes : List Cell → Type 0
-AreBytes [] = ⊤
-AreBytes (c ∷ cs) = IsByte c × AreBytes cs
+abbrev pub AreKnownCells : List Cell → Type 0
+AreKnownCells [] = ⊤
+AreKnownCells (c ∷ cs) = IsByte c × AreKnownCells cs
 
 -- all cells are missing with this block
 abbrev pub AreGapsOf : ℕ → List Cell → Type 0

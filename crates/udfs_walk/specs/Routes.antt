@@ -9,7 +9,7 @@ use Rattle.udfs_lattice.specs.Volumes.{Includes}
 use Rattle.udfs_tag.specs.declared.layouts.LongAd.{LongAd}
 use Rattle.udfs_space.specs.Places.{View}
 use Rattle.udfs_file.specs.Bodies.{Body, cells, faulty_body, body}
-use Rattle.udfs_file.specs.Fronts.{entries_of}
+use Rattle.udfs_file.specs.Fronts.{directory_entries}
 use Rattle.udfs_file.specs.declared.directories.DirEntry.{DirEntry}
 use Rattle.udfs_file.specs.declared.faults.Kind.{Kind}
 use Rattle.udfs_file.specs.declared.faults.Kind.TheVariants.{Directory}
@@ -45,7 +45,7 @@ is_deep w = nat_le 64 (length w.path)
 
 -- the entries of a directory's body; a faulty body has none
 abbrev pub entries_in : Body → List DirEntry
-entries_in (cells cs) = entries_of cs
+entries_in (cells cs) = directory_entries cs
 entries_in (faulty_body fault) = []
 
 -- the entries of a directory; what is none has none

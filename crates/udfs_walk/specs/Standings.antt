@@ -5,7 +5,7 @@
 use Rattle.std.specs.Prelude.{ℕ, ◌+◌, Bool, true, false, List, [], ◌∷◌, cond, nat_eq, Option, Some, None}
 use Rattle.udfs_lattice.specs.Volumes.{ascending}
 use Rattle.udfs_file.specs.Bodies.{Body, cells, faulty_body}
-use Rattle.udfs_file.specs.Fronts.{directory, entries_of, fault_in}
+use Rattle.udfs_file.specs.Fronts.{directory, directory_entries, fault_in}
 use Rattle.udfs_file.specs.declared.cells.Cell.{Cell}
 use Rattle.udfs_file.specs.declared.cells.Cell.TheVariants.{Byte, Gap}
 use Rattle.udfs_file.specs.declared.directories.DirEntry.{DirEntry}
@@ -49,13 +49,13 @@ depth_or true [] standing = standing
 depth_or false es standing = standing
 
 -- a standing, unless there is a fault
-abbrev pub unless_fault : Option NodeFault → Standing → Standing
-unless_fault None standing = standing
-unless_fault (Some f) standing = Fault f
+abbrev pub standing_or_fault : Option NodeFault → Standing → Standing
+standing_or_fault None standing = standing
+standing_or_fault (Some f) standing = Fault f
 
 -- of a directory, a fault of what it lists comes first
 abbrev pub directory_standing : Bool → List Cell → Standing
-directory_standing is_deep cs = unless_fault (fault_in (directory cs).rest) (depth_or is_deep (entries_of cs) (cells_standing cs))
+directory_standing is_deep cs = standing_or_fault (fault_in (directory cs).rest) (depth_or is_deep (directory_entries cs) (cells_standing cs))
 
 -- the standing of a directory, and of what is none
 abbrev pub kind_standing : Kind → Bool → List Cell → Standing

@@ -5,7 +5,7 @@ ghost use Rattle.udfs_space.specs.Views.{view_now};
 ghost use Rattle.udfs_file.specs.Stretches.{cells_of};
 ghost use Rattle.udfs_file.specs.Portions.{AreUnread, IsPortion, portion_count};
 ghost use Rattle.udfs_file.specs.declared.cells.Cell.{Cell};
-ghost use Rattle.udfs_walk.specs.Gaps.{AreBytes, IsPassed, Leaves, closed};
+ghost use Rattle.udfs_walk.specs.Gaps.{AreKnownCells, IsPassed, Leaves, closed};
 ghost use Rattle.udfs_walk.specs.Standings.{cells_standing};
 
 use crate::block_runs::{BlockRun, ascending};
@@ -58,7 +58,7 @@ impl Gaps {
     /// Goes through so many known cells.
     fn pass_known(&mut self, count: u64) -> Result<(), AllocError>
         requires { self.old.start + self.old.grown + count < 2 ^ 64 }
-        ensures passes { IfOk result (λ done. (cs : List Cell) → AreBytes cs → length cs ≡ count → Leaves cs [] self.old self.new) }
+        ensures passes { IfOk result (λ done. (cs : List Cell) → AreKnownCells cs → length cs ≡ count → Leaves cs [] self.old self.new) }
         ensures place { IfOk result (λ done. self.new.start + self.new.grown ≡ self.old.start + self.old.grown + count) }
     {
         if count == 0 {

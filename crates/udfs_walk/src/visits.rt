@@ -6,9 +6,9 @@ ghost use Rattle.udfs_space.specs.Views.{view_now};
 ghost use Rattle.udfs_file.specs.Stretches.{IsStanding, cells_of};
 ghost use Rattle.udfs_file.specs.Entries.{entry_of};
 ghost use Rattle.udfs_file.specs.Bodies.{body, cells};
-ghost use Rattle.udfs_file.specs.Fronts.{IsEndOf, IsFrontOf, directory, entries_of, fault_in};
+ghost use Rattle.udfs_file.specs.Fronts.{IsEndOf, IsFrontOf, directory, directory_entries, fault_in};
 ghost use Rattle.udfs_file.specs.declared.cells.Cell.{Cell};
-ghost use Rattle.udfs_walk.specs.Standings.{body_standing, depth_or, kind_standing, unless_fault};
+ghost use Rattle.udfs_walk.specs.Standings.{body_standing, depth_or, kind_standing, standing_or_fault};
 ghost use Rattle.udfs_walk.specs.Targets.{Icb, icb_of, is_icb};
 ghost use Rattle.udfs_walk.specs.Routes.{kind_entries, entries_below};
 ghost use Rattle.udfs_walk.specs.Nodes.{node, told, untold};
@@ -51,7 +51,7 @@ fn is_loop(address: LongAd, above: &[(u16, u32)]) -> bool
 /// The standing of a directory that ends so, where its cells alone would have this one.
 fn ended(end: DirEnd, is_deep: bool, standing: Standing) -> Standing
     ensures { (cs : List Cell) → IsEndOf end cs
-        → result ≡ unless_fault (fault_in (directory cs).rest) (depth_or is_deep (entries_of cs) standing) }
+        → result ≡ standing_or_fault (fault_in (directory cs).rest) (depth_or is_deep (directory_entries cs) standing) }
 {
     match end.fault {
         Some(fault) => Standing::Fault(fault),
@@ -120,8 +120,8 @@ pub(crate) fn standing_told(
 
 /// What a directory's front tells, where its cells alone would have this standing.
 fn listed(front: DirFront, standing: Standing) -> Told
-    ensures standing { (cs : List Cell) → IsFrontOf front cs → result.standing ≡ unless_fault (fault_in (directory cs).rest) standing }
-    ensures entries { (cs : List Cell) → IsFrontOf front cs → result.entries.items ≡ entries_of cs }
+    ensures standing { (cs : List Cell) → IsFrontOf front cs → result.standing ≡ standing_or_fault (fault_in (directory cs).rest) standing }
+    ensures entries { (cs : List Cell) → IsFrontOf front cs → result.entries.items ≡ directory_entries cs }
 {
     let DirFront { entries, fault, .. } = front;
     let standing = match fault {

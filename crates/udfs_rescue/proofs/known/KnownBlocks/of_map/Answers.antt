@@ -1,7 +1,7 @@
 use Rattle.std.specs.Prelude.{◌↔◌}
 use Rattle.std.proofs.Common.{◌≡◌, ℕ, ◌<◌, ◌≤◌, List, Ok, Err, subst, sym, ap, ◌∙◌, arith}
 use Rattle.udfs_rescue.specs.declared.known.BlockRange.{BlockRange}
-use Rattle.udfs_rescue.specs.Known.{RiseFrom, InRanges, IsKnown, EndWithin, AreBlocks, judged, blocks_in}
+use Rattle.udfs_rescue.specs.Known.{RiseFrom, InRanges, IsKnown, EndWithin, AreBlocks, judged, block_count}
 use Rattle.udfs_rescue.proofs.Judged.{judged_ok, judged_err, within_all, too_high}
 use Rattle.udfs_rescue.proofs.known.KnownBlocks.of_map.Goals as goal
 
