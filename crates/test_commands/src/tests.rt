@@ -11,5 +11,6 @@ mod pairs;
 mod refusals;
 mod reporting;
 mod rereading;
+mod sparing;
 mod versions;
 mod words;

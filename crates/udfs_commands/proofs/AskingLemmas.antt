@@ -1,5 +1,5 @@
 -- One more input behind others, and words that make no pair.
-use Rattle.std.proofs.Common.{◌≡◌, ◌<◌, ◌+◌, ℕ, List, [], ◌∷◌, ◌++◌, length, map, ap, refl, arith}
+use Rattle.std.proofs.Common.{◌≡◌, ◌<◌, ℕ, List, [], ◌∷◌, ◌++◌, length, map, ap, refl, arith}
 use Rattle.udfs_commands.specs.declared.sources.InputPath.{InputPath}
 use Rattle.udfs_commands.specs.Asking.{Asked, asked_for, pairs_of}
 

@@ -1,5 +1,5 @@
 -- One more path has its source.
-use Rattle.std.proofs.Common.{◌≡◌, ◌<◌, ◌⊎◌, arith, slice_index_or, ℕ, zero, suc, List, [], ◌∷◌, ◌++◌, Option, Some, None, length, slice_get, ap, inl, inr, refl, sym, subst, ◌∙◌}
+use Rattle.std.proofs.Common.{◌≡◌, ◌<◌, ◌⊎◌, arith, slice_index_or, ℕ, zero, suc, List, [], ◌∷◌, ◌++◌, Option, Some, length, slice_get, ap, inl, inr, refl, subst}
 use Rattle.udfs_commands.specs.Keeping.{Opens}
 use Rattle.udfs_commands.specs.Sources.{IsOpened}
 use Rattle.udfs_commands.specs.declared.sources.InputPath.{InputPath}

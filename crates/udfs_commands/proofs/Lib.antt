@@ -1,3 +1,4 @@
 pub mod AskingLemmas
+pub mod GuardingLemmas
 pub mod KeepingLemmas
 mod PutNodes

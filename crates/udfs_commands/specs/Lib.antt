@@ -5,4 +5,5 @@ pub mod Rereading
 pub mod JsonRuns
 pub mod Asking
 pub mod Keeping
+pub mod Guarding
 pub mod Sources

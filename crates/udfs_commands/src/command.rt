@@ -1,13 +1,14 @@
 //! The program as a function: words and files in, a status out.
 
-ghost use Rattle.std.specs.Prelude.{◌≡◌, ◌≢◌, ◌⊎◌, ℕ, Bool, List, Some, None, Ok, IfOk, IfErr, OnOk, OnErr, codes, cond, length, map};
+ghost use Rattle.std.specs.Prelude.{◌≡◌, ◌≢◌, ◌⊎◌, ℕ, Bool, true, false, List, Some, None, Ok, IfOk, IfErr, IsErrOf, OnOk, OnErr, codes, cond, length, map};
 ghost use Rattle.clap.specs.Matches.{found_of, one_text};
 ghost use Rattle.udfs_lattice.specs.Tables.{Table};
 ghost use Rattle.udfs_lattice.specs.Records.{join_all};
 ghost use Rattle.udfs_files.specs.Disk.{Fails, Goes};
 ghost use Rattle.udfs_salvage.specs.declared.extraction.Fill.{Fill};
-ghost use Rattle.udfs_commands.specs.Asking.{IsLast, IsPicked, asked_for, asked_inputs, folder_text, out_text};
+ghost use Rattle.udfs_commands.specs.Asking.{IsLast, IsPicked, asked_for, asked_inputs, folder_text, input_texts, out_text, pair_texts};
 ghost use Rattle.udfs_commands.specs.Extracting.{ExtractsAll, IsIn, IsPut, Spares, Stay};
+ghost use Rattle.udfs_commands.specs.Guarding.{IsFree, IsSpared};
 ghost use Rattle.udfs_commands.specs.JsonRuns.{PrintsAs};
 ghost use Rattle.udfs_commands.specs.Keeping.{IsKept, IsTaken, Joined, OfPaths};
 ghost use Rattle.udfs_commands.specs.declared.sources.AnySource.{AnySource};
@@ -20,13 +21,15 @@ ghost use Rattle.udfs_commands.specs.declared.report.Form.{Form};
 use crate::asking::asked_inputs;
 use crate::extract::extract;
 use crate::files::Files;
+use crate::guard::{Outlook, look_at};
+use crate::inputs::joined;
 use crate::merge::{Version, merge};
 use crate::printing::send;
 use crate::refusal::Refusal;
 use crate::report::{Form, report_as};
 use crate::reread::reread;
 use crate::sources::{AnySource, InputPath};
-use crate::words::{FILL, JSON, LAST, OUT, TO, V1, grammar, has_pairs};
+use crate::words::{FILL, FORCE, INPUTS, JSON, LAST, OUT, PAIRS, TO, V1, grammar, has_pairs};
 use clap::error::ErrorKind;
 use clap::{ArgMatches, Error};
 use std::alloc::{AllocError, Global};
@@ -100,8 +103,22 @@ fn merge_words<F: Files>(
         ((F.tells → IsKept (F.holds files.new) (F.may_leave files.new) (F.real files.old (out_text (found_of words.now))) (table_file version (join_all tables)))
         ⊎ (F.in_place files.old (out_text (found_of words.now)) × IsTaken F.Output.contents (table_file version (join_all tables))))) }
     ensures untouched { IfErr result (λ refusal. refusal ≢ Refusal.Output → refusal ≢ Refusal.Unkept → files.new ≡ files.old) }
+    // It takes the place of no pass that is no input, but by force, and never that of an image or a mapfile of the inputs.
+    ensures free { OnOk result ((force : Bool) × IsPicked (found_of words.now) (codes "force") true false force ×
+        (F.tells → IsFree (F.holds files.old) (F.real files.old) (F.shut files.old) (F.in_place files.old) (input_texts (found_of words.now)) (pair_texts (found_of words.now)) force (out_text (found_of words.now)))) }
+    ensures spared { IsErrOf result Refusal.Spared → (force : Bool) × IsPicked (found_of words.now) (codes "force") true false force ×
+        (F.tells → IsSpared (F.holds files.old) (F.real files.old) (F.shut files.old) (input_texts (found_of words.now)) (pair_texts (found_of words.now)) force (out_text (found_of words.now))) }
 {
-    let inputs = asked_inputs(alloc, words)?;
+    let Ok(inputs) = asked_inputs(alloc, words) else {
+        return Err(Refusal::Memory(AllocError));
+    };
+    let force = asked_force(words);
+    match asked_outlook(alloc, words, force, files) {
+        Ok(Outlook::Free) => {}
+        Ok(Outlook::Spared) => return Err(Refusal::Spared),
+        Ok(Outlook::Unknown) => return Err(unwritten(alloc, inputs.as_slice(), files)),
+        Err(AllocError) => return Err(Refusal::Memory(AllocError)),
+    }
     match merge(
         alloc,
         inputs.as_slice(),
@@ -112,6 +129,40 @@ fn merge_words<F: Files>(
         Ok(()) => Ok(()),
         Err(refusal) => Err(refusal),
     }
+}
+
+/// What is known of the output that the words after `merge` ask for.
+fn asked_outlook<F: Files>(
+    alloc: Global,
+    words: &ArgMatches<'_>,
+    force: bool,
+    files: &F,
+) -> Result<Outlook, AllocError>
+    ensures free { IfOk result (λ found. found ≡ Outlook.Free → F.tells → IsFree (F.holds files.now) (F.real files.now) (F.shut files.now) (F.in_place files.now) (input_texts (found_of words.now)) (pair_texts (found_of words.now)) force (out_text (found_of words.now))) }
+    ensures spared { IfOk result (λ found. found ≡ Outlook.Spared → F.tells → IsSpared (F.holds files.now) (F.real files.now) (F.shut files.now) (input_texts (found_of words.now)) (pair_texts (found_of words.now)) force (out_text (found_of words.now))) }
+    ensures unknown { IfOk result (λ found. found ≡ Outlook.Unknown → F.shut files.now (out_text (found_of words.now)) ⊎ Fails F.Input.faults) }
+{
+    let inputs = words.get_strs(INPUTS).unwrap_or(&[]);
+    let parts = words.get_strs(PAIRS).unwrap_or(&[]);
+    let found = look_at(alloc, inputs, parts, force, asked_out(words), files)?;
+    Ok(found)
+}
+
+/// What is said of an output that could not be looked at: the inputs are judged before it.
+fn unwritten<F: Files>(alloc: Global, inputs: &[InputPath<'_>], files: &F) -> Refusal
+    ensures { (result ≢ Refusal.Unkept) × (result ≢ Refusal.Spared) }
+{
+    match joined(alloc, inputs, files) {
+        Ok(_) => Refusal::Output,
+        Err(refusal) => refusal,
+    }
+}
+
+/// Whether the words after `merge` ask to write over a reading that is no input.
+fn asked_force(words: &ArgMatches<'_>) -> bool
+    ensures { IsPicked (found_of words.now) (codes "force") true false result }
+{
+    words.get_flag(FORCE)
 }
 
 /// The path of the output among the words after `merge`. The grammar asks for it.

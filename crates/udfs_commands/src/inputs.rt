@@ -18,7 +18,7 @@ pub fn joined<F: Files>(
     files: &F,
 ) -> Result<BlockTable, Refusal>
     ensures by_path { IfOk result (λ table. OfPaths (λ path. F.holds files.now (F.real files.now path)) (⟦<AnySource<F::Input, F::Image> as Source>⟧.remaining) inputs.now (λ t. table ≡ t)) }
-    ensures told { IfErr result (λ refusal. (refusal ≢ Refusal.Output) × (refusal ≢ Refusal.Unkept)) }
+    ensures told { IfErr result (λ refusal. (refusal ≢ Refusal.Output) × (refusal ≢ Refusal.Unkept) × (refusal ≢ Refusal.Spared)) }
 {
     let mut sources = match open_all(alloc, inputs, files) {
         Ok(sources) => sources,

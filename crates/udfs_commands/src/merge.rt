@@ -62,6 +62,7 @@ pub fn merge<F: Files>(
     ensures refused { IsErrOf result Refusal.Output → F.tells → (F.in_place files.old out.now → ⊥) → F.holds files.new (F.real files.old out.now) ≡ F.holds files.old (F.real files.old out.now) }
     // It is refused only for a fault.
     ensures cause { IfErr result (λ refusal. (refusal ≡ Refusal.Output) ⊎ (refusal ≡ Refusal.Unkept) → F.shut files.old out.now ⊎ Fails F.faults ⊎ Fails F.Output.faults) }
+    ensures told { IfErr result (λ refusal. refusal ≢ Refusal.Spared) }
 {
     let table = match joined(alloc, inputs, files) {
         Ok(table) => table,

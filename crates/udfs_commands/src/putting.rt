@@ -24,6 +24,7 @@ pub fn put_file<F: Files, C: Content>(
     ensures untouched { IfErr result (λ refusal. refusal ≢ Refusal.Output → refusal ≢ Refusal.Unkept → files.new ≡ files.old) }
     ensures refused { IsErrOf result Refusal.Output → F.tells → (F.in_place files.old out.now → ⊥) → F.holds files.new (F.real files.old out.now) ≡ F.holds files.old (F.real files.old out.now) }
     ensures cause { IfErr result (λ refusal. (refusal ≡ Refusal.Output) ⊎ (refusal ≡ Refusal.Unkept) → F.shut files.old out.now ⊎ Fails F.faults ⊎ Fails F.Output.faults) }
+    ensures told { IfErr result (λ refusal. refusal ≢ Refusal.Spared) }
 {
     let target = match files.resolve(alloc, out) {
         Ok(Ok(target)) => target,

@@ -32,6 +32,10 @@ pub enum Refusal {
     #[error("cannot write output")]
     Output,
 
+    /// The output would take the place of an image or a mapfile of the inputs, or of a reading that is none of them. Nothing was read.
+    #[error("cannot write output")]
+    Spared,
+
     /// The output is in its place, whole, but its folder could not be synced: a power cut may bring the old one back.
     #[error("cannot write output\n  the new file is in its place, whole, but a power cut may bring the old one back")]
     Unkept,

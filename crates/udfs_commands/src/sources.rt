@@ -118,7 +118,7 @@ pub fn open_all<F: Files>(
 ) -> Result<Vec<AnySource<F::Input, F::Image>>, Refusal>
     ensures each { IfOk result (λ sources. vec_len sources ≡ length paths.now) }
     ensures opened { IfOk result (λ sources. Opens (λ path. F.holds files.now (F.real files.now path)) (⟦<AnySource<F::Input, F::Image> as Source>⟧.remaining) paths.now sources.items) }
-    ensures told { IfErr result (λ refusal. (refusal ≢ Refusal.Output) × (refusal ≢ Refusal.Unkept)) }
+    ensures told { IfErr result (λ refusal. (refusal ≢ Refusal.Output) × (refusal ≢ Refusal.Unkept) × (refusal ≢ Refusal.Spared)) }
     ensures named { IfErr result (λ refusal. (input : ℕ) → refusal ≡ Refusal.Open input → (0 < input) × (input ≤ length paths.now)) }
 {
     let mut sources = Vec::new(alloc);
@@ -137,7 +137,7 @@ pub fn open_all<F: Files>(
 /// Why a pair was refused: its own reason, with the number of the input.
 fn refused_pair(input: usize, fault: PairFault) -> Refusal
     ensures value { result ≡ refused_pair input fault }
-    ensures told { (result ≢ Refusal.Output) × (result ≢ Refusal.Unkept) }
+    ensures told { (result ≢ Refusal.Output) × (result ≢ Refusal.Unkept) × (result ≢ Refusal.Spared) }
 {
     match fault {
         PairFault::Line(fault) => Refusal::Mapfile(input, fault),
@@ -150,7 +150,7 @@ fn refused_pair(input: usize, fault: PairFault) -> Refusal
 /// Why the inputs were not joined: a pair that was refused has its own reason.
 pub fn refusal_for<R: Source, I: Image>(sources: &[AnySource<R, I>], error: InputError) -> Refusal
     ensures value { result ≡ refusal_for (slice_get sources.now (error.input - 1)) error }
-    ensures told { (result ≢ Refusal.Output) × (result ≢ Refusal.Unkept) }
+    ensures told { (result ≢ Refusal.Output) × (result ≢ Refusal.Unkept) × (result ≢ Refusal.Spared) }
 {
     match sources.get(error.input.saturating_sub(1)) {
         Some(AnySource::Refused(fault, _)) => refused_pair(error.input, *fault),
@@ -164,7 +164,7 @@ pub fn join_sources<R: Source, I: Image>(
     sources: &mut [AnySource<R, I>],
 ) -> Result<BlockTable, Refusal>
     ensures table { IfOk result (λ table. (ts : List Table) × TablesAre (⟦<AnySource<R, I> as Source>⟧.remaining) sources.old ts × (table ≡ join_all ts)) }
-    ensures told { IfErr result (λ refusal. (refusal ≢ Refusal.Output) × (refusal ≢ Refusal.Unkept)) }
+    ensures told { IfErr result (λ refusal. (refusal ≢ Refusal.Output) × (refusal ≢ Refusal.Unkept) × (refusal ≢ Refusal.Spared)) }
 {
     match join_inputs(alloc, &mut *sources) {
         Ok(table) => Ok(table),

@@ -12,6 +12,9 @@ pub const PAIRS: &str = "ddrescue";
 /// The output file's id among the matches.
 pub const OUT: &str = "out";
 
+/// The id of the flag for writing over a reading that is no input.
+pub const FORCE: &str = "force";
+
 /// The last block's id among the matches.
 pub const LAST: &str = "last";
 
@@ -45,9 +48,10 @@ pub fn grammar<'a>(alloc: Global, pairs: bool) -> Result<Command<'a>, AllocError
         .subcommand(extract(alloc, pairs)?)
 }
 
-/// `merge [--v1] --out FILE IN...`
+/// `merge [--v1] [--force] --out FILE IN...`
 fn merge<'a>(alloc: Global, pairs: bool) -> Result<Command<'a>, AllocError> {
     let out = Arg::new(alloc, OUT)
+        .short('o')
         .long("out")
         .value_name("FILE")
         .help("The table file to write, over an old one")
@@ -57,10 +61,15 @@ fn merge<'a>(alloc: Global, pairs: bool) -> Result<Command<'a>, AllocError> {
         .long("v1")
         .help("Write the table file in version 1, the old form")
         .action(ArgAction::SetTrue);
+    let force = Arg::new(alloc, FORCE)
+        .long("force")
+        .help("Write over a reading that is none of the inputs")
+        .action(ArgAction::SetTrue);
     Command::new(alloc, "merge")
         .about("Joins readings and table files into one table file")
         .arg(out)?
         .arg(v1)?
+        .arg(force)?
         .arg(pair_inputs(alloc))?
         .arg(inputs(alloc, pairs))
 }

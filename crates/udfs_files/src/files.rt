@@ -120,6 +120,7 @@ pub trait Files {
     fn resolve(&self, alloc: Global, path: &str) -> Result<Result<Target, DeviceFault>, AllocError>
         ensures leads { IfOk result (λ found. IfOk found (λ target. tells → string_bytes target.path ≡ real self.now path.now)) }
         ensures other { IfOk result (λ found. IfOk found (λ target. target.kind ≡ Kind.Other → in_place self.now path.now)) }
+        ensures absent { IfOk result (λ found. IfOk found (λ target. target.kind ≡ Kind.Absent → tells → holds self.now (real self.now path.now) ≡ Some None)) }
         ensures fails { IfOk result (λ found. OnErr found (shut self.now path.now)) };
 
     /// Makes a file to be written, at a path that nothing has. Until it is handed to `sync`, a crash may leave anything there.

@@ -1,6 +1,6 @@
 //! Files in memory that can crash. What is kept is the log of the calls, and what the files hold is read from it.
 
-ghost use Rattle.std.specs.Prelude.{◌≡◌, ℕ, List, Option, length, Some, None, IfOk, OnOk, OnErr, IsErr, [], ◌∷◌, take, ◌≤◌, bytes_eq, ⊤};
+ghost use Rattle.std.specs.Prelude.{◌≡◌, ℕ, List, Option, length, true, Some, None, IfOk, OnOk, OnErr, IsErr, [], ◌∷◌, take, ◌≤◌, bytes_eq, ⊤};
 ghost use Rattle.udfs_memory.specs.Log.{held, kept, outcome, outcome_since, found_of};
 ghost use Rattle.udfs_memory.specs.Survivors.{lost, lost_may_be, option_now, beside};
 ghost use Rattle.udfs_memory.specs.Laws.{counts_now as log_counts_now, only_now as log_only_now};
@@ -191,7 +191,9 @@ impl Memory {
     }
 
     /// Whether no file has this path, finished or not.
-    pub fn is_absent(&self, path: &str) -> bool {
+    pub fn is_absent(&self, path: &str) -> bool
+        ensures { result ≡ true → held self.now.log.items path.now ≡ Some None }
+    {
         matches!(find(&self.log, path.as_bytes()), Found::Absent)
     }
 

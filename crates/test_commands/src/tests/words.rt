@@ -24,6 +24,16 @@ fn help_and_version_go_to_standard_output(rt: HostRuntime) -> Result<(), Fail> {
         (
             "merge --help",
             "Joins readings and table files into one table file",
+            "-o, --out <FILE>",
+        ),
+        (
+            "merge --help",
+            "Joins readings and table files into one table file",
+            "--force",
+        ),
+        (
+            "merge --help",
+            "Joins readings and table files into one table file",
             "<IN>...",
         ),
         (

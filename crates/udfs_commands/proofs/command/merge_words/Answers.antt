@@ -1,15 +1,13 @@
-use Rattle.std.proofs.Common.{◌≡◌, ◌⊎◌, List, ℕ, map, subst, rules}
-use Rattle.clap.specs.Matches.{found_of}
+use Rattle.std.proofs.Common.{◌⊎◌, List, ℕ, subst, rules}
 use Rattle.udfs_lattice.specs.Records.{join_all}
-use Rattle.udfs_commands.specs.Asking.{asked_for, asked_inputs}
 use Rattle.udfs_commands.specs.Keeping.{IsKept, IsTaken}
 use Rattle.udfs_commands.specs.Spelling.{table_file}
 use Rattle.udfs_commands.proofs.command.merge_words.Goals as goal
 
-pub returns-in-Ok-clause-written : goal.returns-in-Ok-clause-written
-returns-in-Ok-clause-written g c =
+pub returns-in-Ok-merge-clause-written : goal.returns-in-Ok-merge-clause-written
+returns-in-Ok-merge-clause-written g c =
     let F = g.F.Files in
-    let w = c.in-Ok.ensures.written in (
+    let w = c.in-Ok-merge.ensures.written in (
       c.asked_version.result,
       _,
       w.0,

@@ -1,4 +1,4 @@
-use Rattle.std.proofs.Common.{◌≡◌, ◌++◌, ◌∷◌, [], Some, length, slice_get, rules, subst, sym}
+use Rattle.std.proofs.Common.{◌≡◌, ◌++◌, ◌∷◌, [], length, rules}
 use Rattle.udfs_commands.proofs.KeepingLemmas.{opens_more, at_place}
 use Rattle.udfs_commands.proofs.sources.open_all.Goals as goal
 

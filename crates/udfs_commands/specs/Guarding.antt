@@ -1,0 +1,46 @@
+-- What an output may not take the place of.
+--     begins kind bytes          the bytes begin with these
+--     SomeLeads, NoneLeads       one of some paths leads to a place, or none
+--     IsFree                     an output takes the place of no image, no mapfile and no reading, but of a reading that is an input, or by force
+--     IsSpared                   why an output is refused
+use Rattle.std.specs.Prelude.{◌≡◌, ◌≢◌, ◌⊎◌, ⊤, ℕ, List, [], ◌∷◌, Bool, true, false, Option, Some, IfSome, codes, nat_eq, if◌then◌else◌}
+
+abbrev pub begins : List ℕ → List ℕ → Bool
+begins [] bytes = true
+begins (k ∷ kind) [] = false
+begins (k ∷ kind) (b ∷ bytes) = if nat_eq k b then begins kind bytes else false
+
+-- what is at a path begins so, where that is told
+abbrev pub MayBegin : List ℕ → Option (Option (List ℕ)) → Type 0
+MayBegin kind held = IfSome held (λ file. (bytes : List ℕ) × (file ≡ Some bytes) × (begins kind bytes ≡ true))
+
+-- no file that begins so is at a path
+abbrev pub BeginsOtherwise : List ℕ → Option (Option (List ℕ)) → Type 0
+BeginsOtherwise kind held = (bytes : List ℕ) → held ≡ Some (Some bytes) → begins kind bytes ≡ false
+
+abbrev pub SomeLeads : (List ℕ → List ℕ) → List ℕ → List (List ℕ) → Type 0
+SomeLeads real place [] = ⊥
+SomeLeads real place (path ∷ paths) = (real path ≡ place) ⊎ SomeLeads real place paths
+
+-- but for those that may fail to open
+abbrev pub NoneLeads : (List ℕ → Type 0) → (List ℕ → List ℕ) → List ℕ → List (List ℕ) → Type 0
+NoneLeads shut real place [] = ⊤
+NoneLeads shut real place (path ∷ paths) = (shut path ⊎ (real path ≢ place)) × NoneLeads shut real place paths
+
+-- the first eight bytes of a reading
+abbrev pub reading_kind : List ℕ
+reading_kind = codes "UDFREAD1"
+
+-- `files` are the inputs that are files, and `parts` the images and mapfiles among the inputs
+pub record IsFree (holds : List ℕ → Option (Option (List ℕ))) (real : List ℕ → List ℕ) (shut in_place : List ℕ → Type 0) (files parts : List (List ℕ)) (force : Bool) (out : List ℕ) : Type 0 where
+  pub apart : NoneLeads shut real (real out) parts
+  pub no_pass : force ≡ false → (in_place out → ⊥) → SomeLeads real (real out) files ⊎ BeginsOtherwise reading_kind (holds (real out))
+
+-- a reading that is no input is there
+pub record IsOtherReading (holds : List ℕ → Option (Option (List ℕ))) (real : List ℕ → List ℕ) (shut : List ℕ → Type 0) (files : List (List ℕ)) (force : Bool) (out : List ℕ) : Type 0 where
+  pub unforced : force ≡ false
+  pub no_input : NoneLeads shut real (real out) files
+  pub reading : MayBegin reading_kind (holds (real out))
+
+abbrev pub IsSpared : (List ℕ → Option (Option (List ℕ))) → (List ℕ → List ℕ) → (List ℕ → Type 0) → List (List ℕ) → List (List ℕ) → Bool → List ℕ → Type 0
+IsSpared holds real shut files parts force out = SomeLeads real (real out) parts ⊎ IsOtherReading holds real shut files force out

@@ -1,0 +1,126 @@
+//! What an output may not take the place of: a pass can not be had again.
+
+ghost use Rattle.std.specs.Prelude.{◌≡◌, ◌≢◌, ◌⊎◌, ℕ, List, true, false, Some, IfOk, OnErr, map};
+ghost use Rattle.udfs_files.specs.Disk.{Fails};
+ghost use Rattle.udfs_commands.specs.Guarding.{BeginsOtherwise, IsFree, IsSpared, MayBegin, NoneLeads, SomeLeads, begins};
+
+use crate::files::Files;
+use std::alloc::{AllocError, Global};
+use udfs_files::Kind;
+use udfs_reading::{DeviceFault, Source};
+
+/// The first eight bytes of a reading.
+const READING: &[u8] = b"UDFREAD1";
+
+/// Whether what a source has left begins with these bytes. It reads one at a time, and no more than it needs.
+fn begins_so<R: Source>(source: &mut R, kind: &[u8]) -> Result<bool, DeviceFault>
+    ensures begins { IfOk result (λ so. (bytes : List ℕ) → R.remaining source.old ≡ Some bytes → so ≡ begins kind.now bytes) }
+    ensures fault { OnErr result (Fails R.faults) }
+{
+    match kind {
+        [] => Ok(true),
+        [first, rest @ ..] => {
+            let mut byte = [0u8; 1];
+            match source.read(&mut byte) {
+                Ok(0) => Ok(false),
+                Ok(_) if byte[0] != *first => Ok(false),
+                Ok(_) => begins_so(source, rest),
+                Err(fault) => Err(fault),
+            }
+        }
+    }
+}
+
+/// Whether the file at a path begins with these bytes.
+pub fn is_kind<F: Files>(path: &str, kind: &[u8], files: &F) -> Result<bool, DeviceFault>
+    ensures yes { IfOk result (λ so. so ≡ true → MayBegin kind.now (F.holds files.now (F.real files.now path.now))) }
+    ensures no { IfOk result (λ so. so ≡ false → BeginsOtherwise kind.now (F.holds files.now (F.real files.now path.now))) }
+    ensures fault { OnErr result (F.shut files.now path.now ⊎ Fails F.Input.faults) }
+{
+    match files.open(path) {
+        Ok(mut file) => match begins_so(&mut file, kind) {
+            Ok(so) => Ok(so),
+            Err(fault) => Err(fault),
+        },
+        Err(fault) => Err(fault),
+    }
+}
+
+/// Whether a path leads to this place.
+fn leads_to<F: Files>(alloc: Global, path: &str, place: &str, files: &F) -> Result<bool, AllocError>
+    ensures yes { IfOk result (λ leads. leads ≡ true → F.tells → F.real files.now path.now ≡ place.now) }
+    ensures no { IfOk result (λ leads. leads ≡ false → F.tells → F.shut files.now path.now ⊎ (F.real files.now path.now ≢ place.now)) }
+{
+    match files.resolve(alloc, path)? {
+        Ok(target) => Ok(target.path.as_str() == place),
+        Err(DeviceFault) => Ok(false),
+    }
+}
+
+/// Whether one of these paths leads to this place.
+pub fn is_among<F: Files>(
+    alloc: Global,
+    paths: &[&str],
+    place: &str,
+    files: &F,
+) -> Result<bool, AllocError>
+    ensures yes { IfOk result (λ found. found ≡ true → F.tells → SomeLeads (F.real files.now) place.now (map (λ path. path.now) paths.now)) }
+    ensures no { IfOk result (λ found. found ≡ false → F.tells → NoneLeads (F.shut files.now) (F.real files.now) place.now (map (λ path. path.now) paths.now)) }
+{
+    match paths {
+        [] => Ok(false),
+        [first, rest @ ..] => {
+            if leads_to(alloc, first, place, files)? {
+                return Ok(true);
+            }
+            match is_among(alloc, rest, place, files) {
+                Ok(found) => Ok(found),
+                Err(AllocError) => Err(AllocError),
+            }
+        }
+    }
+}
+
+/// What is known of an output before an input is read.
+#[derive(Clone, Copy, PartialEq, Eq)]
+pub enum Outlook {
+    /// It may be written.
+    Free,
+    /// What is there is not to be written over.
+    Spared,
+    /// Its path leads nowhere, or what is there could not be read.
+    Unknown,
+}
+
+/// What is known of an output: it is spared where it is an image or a mapfile of the inputs, and without `force` also where it begins as a reading does
+/// and is none of the inputs that are files.
+pub fn look_at<F: Files>(
+    alloc: Global,
+    inputs: &[&str],
+    parts: &[&str],
+    force: bool,
+    out: &str,
+    files: &F,
+) -> Result<Outlook, AllocError>
+    ensures free { IfOk result (λ found. found ≡ Outlook.Free → F.tells → IsFree (F.holds files.now) (F.real files.now) (F.shut files.now) (F.in_place files.now) (map (λ path. path.now) inputs.now) (map (λ path. path.now) parts.now) force out.now) }
+    ensures spared { IfOk result (λ found. found ≡ Outlook.Spared → F.tells → IsSpared (F.holds files.now) (F.real files.now) (F.shut files.now) (map (λ path. path.now) inputs.now) (map (λ path. path.now) parts.now) force out.now) }
+    ensures unknown { IfOk result (λ found. found ≡ Outlook.Unknown → F.shut files.now out.now ⊎ Fails F.Input.faults) }
+{
+    let Ok(target) = files.resolve(alloc, out)? else {
+        return Ok(Outlook::Unknown);
+    };
+    if is_among(alloc, parts, target.path.as_str(), files)? {
+        return Ok(Outlook::Spared);
+    }
+    if force || target.kind != Kind::Regular {
+        return Ok(Outlook::Free);
+    }
+    if is_among(alloc, inputs, target.path.as_str(), files)? {
+        return Ok(Outlook::Free);
+    }
+    match is_kind(out, READING, files) {
+        Ok(false) => Ok(Outlook::Free),
+        Ok(true) => Ok(Outlook::Spared),
+        Err(DeviceFault) => Ok(Outlook::Unknown),
+    }
+}
