@@ -57,6 +57,11 @@ Progress-stop old middle new whole first rest p a = record {
   appended = a.appended ∙ ap (λ x. x ++ a.part) p.so_far ∙ append_assoc old p.done a.part;
 }
 
+-- a refusal in what is left
+pub Progress-cut : (old middle new whole rest : List ℕ) → Progress old middle whole rest → AppendsPart middle new rest → AppendsPart old new whole
+Progress-cut old middle new whole rest p a =
+    Progress-stop old middle new whole rest [] (record { done = p.done; so_far = p.so_far; left = ap (λ x. p.done ++ x) (append-nil rest) ∙ p.left }) a
+
 pub Progress-end : (old new whole : List ℕ) → Progress old new whole [] → new ≡ old ++ whole
 Progress-end old new whole p = p.so_far ∙ ap (λ x. old ++ x) (sym (append-nil p.done) ∙ p.left)
 

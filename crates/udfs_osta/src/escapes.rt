@@ -1,6 +1,6 @@
 //! The escaped form of a name.
 
-ghost use Rattle.std.specs.Prelude.{◌≡◌, ℕ, ◌<◌, ◌≤◌, ◌++◌, List, length, slice_index, true, false, Ok, OnOk, OnErr, IfOk};
+ghost use Rattle.std.specs.Prelude.{◌≡◌, ℕ, ◌<◌, ◌≤◌, ◌++◌, List, length, drop, take, slice_index, true, false, Ok, OnOk, OnErr, IfOk};
 ghost use Rattle.std.specs.String.{string_bytes};
 ghost use Rattle.std.specs.Str.{IsAscii, encode_utf8_all};
 ghost use Rattle.std.specs.Char.Utf16.{surrogate_pair_char};
@@ -104,6 +104,55 @@ fn write_front(units: &[u16], text: &mut String) -> Result<usize, OutOfMemory>
     }
 }
 
+/// How many characters go out at once.
+const PIECE: usize = 64;
+
+/// The byte that is written for a unit that stands for itself in one byte.
+fn plain_byte(unit: u16) -> Option<u8>
+    ensures { SomeIff result ((must_escape unit ≡ false) × (unit < 128)) unit }
+{
+    match unit {
+        0x20..=0x2e | 0x30..=0x5b | 0x5d..=0x7e => Some(unit as u8),
+        _ => None,
+    }
+}
+
+/// Takes the units at the front that stand for themselves in one byte, as many as there is room for, and says how many.
+fn take_plain(units: &[u16], piece: &mut [u8; PIECE]) -> usize
+    ensures room { result ≤ 64 }
+    ensures fits { result ≤ length units.now }
+    ensures plain { (k : ℕ) → k < result → (must_escape (slice_index units.now k) ≡ false) × (slice_index units.now k < 128) }
+    ensures bytes { take result piece.new ≡ take result units.now }
+{
+    let mut count = 0;
+    while count < PIECE && count < units.len() {
+        let Some(byte) = plain_byte(units[count]) else {
+            break;
+        };
+        piece[count] = byte;
+        count += 1;
+    }
+    count
+}
+
+/// Appends some units at the front, and says how many: those that stand for themselves in one byte go out in one piece.
+fn write_part(units: &[u16], text: &mut String) -> Result<usize, OutOfMemory>
+    requires { 0 < length units.now }
+    ensures some { IfOk result (λ n. 0 < n) }
+    ensures fits { IfOk result (λ n. n ≤ length units.now) }
+    ensures ok { IfOk result (λ n. (part : List ℕ) × (encode_utf8_all (shown units.now) ≡ part ++ encode_utf8_all (shown (drop n units.now)))
+        × (string_bytes text.new ≡ string_bytes text.old ++ part)) }
+    ensures err { OnErr result (AppendsPart (string_bytes text.old) (string_bytes text.new) (encode_utf8_all (shown units.now))) }
+{
+    let mut piece = [0; PIECE];
+    let count = take_plain(units, &mut piece);
+    if count == 0 {
+        return write_front(units, text);
+    }
+    push_ascii(text, &piece[..count])?;
+    Ok(count)
+}
+
 /// The name is `.` or `..`.
 pub(crate) fn is_dots(units: &[u16]) -> bool
     ensures { result ≡ is_dots units.now }
@@ -118,7 +167,7 @@ pub(crate) fn write_units(units: &[u16], text: &mut String) -> Result<(), OutOfM
 {
     let mut rest = units;
     while !rest.is_empty() {
-        let count = write_front(rest, text)?;
+        let count = write_part(rest, text)?;
         let (_, others) = rest.split_at(count);
         rest = others;
     }

@@ -16,8 +16,6 @@ pub(crate) fn push_ascii(text: &mut String, bytes: &[u8]) -> Result<(), OutOfMem
     ensures ok { OnOk result (string_bytes text.new ≡ string_bytes text.old ++ bytes.now) }
     ensures err { OnErr result (AppendsPart (string_bytes text.old) (string_bytes text.new) bytes.now) }
 {
-    for byte in bytes {
-        text.push(char::from(*byte))?;
-    }
-    Ok(())
+    let ascii = str::from_utf8(bytes).unwrap();
+    text.push_str(ascii)
 }

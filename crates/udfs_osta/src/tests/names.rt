@@ -19,8 +19,12 @@ fn fault_of(rt: &HostRuntime, bytes: &[u8]) -> Option<NameFault> {
 
 #[test]
 fn names_of_one_byte_a_unit(rt: HostRuntime) -> Result<(), Fail> {
-    let cases: [(&[u8], &str); 8] = [
+    let cases: [(&[u8], &str); 9] = [
         (b"\x08A file.txt", "A file.txt"),
+        (
+            b"\x080123456789012345678901234567890123456789012345678901234567890123456789/abcabcabcabcabcabcabcabcabcabcabcabcabcabcabcabcabcabcabcabcabcabcabcabcabcabcabcabcabcabc",
+            "0123456789012345678901234567890123456789012345678901234567890123456789\\u002Fabcabcabcabcabcabcabcabcabcabcabcabcabcabcabcabcabcabcabcabcabcabcabcabcabcabcabcabcabcabc",
+        ),
         (b"\x08..", "\\u002E\\u002E"),
         (b"\x08.", "\\u002E"),
         (b"\x08...", "..."),
