@@ -34,6 +34,7 @@ unfolding volume_of
 finds maps = ap (λ x. and_then x (placed (blocks maps))) (lawful_layout maps).layout_is
     ∙ ap (λ x. and_then x (rooted (blocks maps) (sample_layout maps))) (sample_places_are_lawful maps (sample_contents maps)).0
     ∙ ap (λ x. and_then x (λ root. found (record { layout = sample_layout maps; space = sample_space maps; root = root }))) (sample_file_set_is_found maps).1
+
 sample_is_whole : (maps : Maps) → AllIsWhole (volume maps) 600
 sample_is_whole maps = record {
   is_volume = record {
@@ -52,8 +53,13 @@ sample_is_lawful maps = lawful_by (volume maps) 600 (sample_is_whole maps)
 -- the file B stands in it, in the last of its partitions
 pub some_lawful : SomeLawful
 unfolding sample_is_whole
-some_lawful maps = (volume maps, 600, sample_is_lawful maps, (sample_layout maps, (lawful_layout maps).layout_is, refl),
-    (0x42 ∷ [], h.b.0, in_volume (volume maps) 600 (sample_found maps) r ((0x42 ∷ []) ∷ []) h.b.0 h.b.1))
+some_lawful maps = (
+  volume maps,
+  600,
+  sample_is_lawful maps,
+  (sample_layout maps, (lawful_layout maps).layout_is, refl),
+  (0x42 ∷ [], h.b.0, in_volume (volume maps) 600 (sample_found maps) r ((0x42 ∷ []) ∷ []) h.b.0 h.b.1),
+)
   where
     r : ReadAs (volume maps) 600 (sample_found maps)
     r = open_as (volume maps) 600 (sample_is_whole maps).is_volume

@@ -110,7 +110,10 @@ lawful_tree maps = record {
 }
 
 pub sample_tree_law : SampleTree
-sample_tree_law maps = (lawful_tree maps, λ blocks c. record {
-  a = route_in_tree (all maps) blocks c sample_root (lawful_tree maps) (0 ∷ []) at_a (to_a maps);
-  b = route_in_tree (all maps) blocks c sample_root (lawful_tree maps) (1 ∷ []) (at_b maps) (to_b maps);
-})
+sample_tree_law maps = (
+  lawful_tree maps,
+  λ blocks c. record {
+    a = route_in_tree (all maps) blocks c sample_root (lawful_tree maps) (0 ∷ []) at_a (to_a maps);
+    b = route_in_tree (all maps) blocks c sample_root (lawful_tree maps) (1 ∷ []) (at_b maps) (to_b maps);
+  },
+)
