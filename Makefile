@@ -3,13 +3,14 @@
 #   make demo       the same, and then runs it on the readings of examples/
 #   make test       judges the whole repository from nothing, as the gate does, and then tries what make hostile tries, and
 #                   goes from a damaged disc to its files with GNU ddrescue where it is installed
-#   make hostile    refuses each allocation of many runs in turn, and changes each byte of the sample discs' descriptors
+#   make hostile    refuses each allocation of many runs in turn, makes each system call of the program's runs fail or ends it there,
+#                   and changes each byte of the sample discs' descriptors
 #   make try        tries the built program on this machine's own files and devices, and with GNU ddrescue where it is installed
 #   make install    puts the program, its man page and its completions below PREFIX; make uninstall takes them away
 #   make clean      removes all that was made
 #   make dist       a tar of the sources, and one of the built program, in out/
 #   make deb        a Debian package of the built program in out/, looked at, installed, run and removed in a scratch root
-#   make bench      measures merge against cp and extract against cp -r of the same files, report against reading its input in,
+#   make bench      measures merge against cp, and of an image against its reading, extract against cp -r of the same files, report against reading its input in,
 #                   the CRC against the plain byte table in Rust, the table of blocks against an ordered map and plain copying,
 #                   places a second, and report of volumes that are made to take time or memory
 #   make examples   writes the example readings anew
@@ -75,6 +76,7 @@ test: have-rt
 hostile: all
 	@$(MAKE) -s --no-print-directory $(TRIES)
 	@tools/refuse-memory $(TRIES) $(PROGRAM)
+	@tools/inject $(PROGRAM)
 	@tools/mutate $(TRIES)
 
 try: all
@@ -109,6 +111,7 @@ deb: all
 
 bench: all
 	@bench/merge --program $(PROGRAM) $(BENCH)
+	@bench/rescue --program $(PROGRAM)
 	@bench/report --program $(PROGRAM)
 	@bench/extract --program $(PROGRAM)
 	@bench/crc

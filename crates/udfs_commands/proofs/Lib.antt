@@ -2,3 +2,5 @@ pub mod AskingLemmas
 pub mod GuardingLemmas
 pub mod KeepingLemmas
 mod PutNodes
+pub mod GrammarLemmas
+pub mod ObeyingLemmas

@@ -15,7 +15,7 @@ use Rattle.udfs_walk.specs.declared.standings.Standing.TheVariants as standing
 use Rattle.udfs_salvage.specs.Extraction.{is_offered}
 use Rattle.udfs_salvage.specs.Reports.{Report}
 use Rattle.udfs_salvage.specs.declared.extraction.Fill.{Fill}
-use Rattle.udfs_commands.specs.Extracting.{Each, IsIn, IsPut, IsSafe, Spares, Stay, Tells, TellsOn, all_good, deed, fate_line, fate_lines, is_good}
+use Rattle.udfs_commands.specs.Extracting.{Each, IsIn, IsPut, IsSafe, Spares, Stay, TellsLines, TellsOn, all_good, deed, fate_line, fate_lines, is_good}
 use Rattle.udfs_commands.specs.Keeping.{IsKept}
 use Rattle.udfs_commands.specs.declared.extract.Deed.TheVariants.{Folder, File, Skip}
 use Rattle.udfs_commands.specs.declared.extract.Fate.{Fate}
@@ -164,7 +164,7 @@ good_more fates fate = elim (cases_Bool (is_good fate)) [ inl good ↦ same fate
       | inr is ↦ ap (λ b. if b then all_good (fs ++ fate ∷ []) else false) is
     ]
 
-pub tells_more : (heard : Bool) (old mid new : Option (List ℕ)) (i j k : ℕ) (text more : List ℕ) → Tells true old mid i j text → Tells heard mid new j k more → Tells heard old new i k (text ++ more)
+pub tells_more : (heard : Bool) (old mid new : Option (List ℕ)) (i j k : ℕ) (text more : List ℕ) → TellsLines true old mid i j text → TellsLines heard mid new j k more → TellsLines heard old new i k (text ++ more)
 tells_more true old mid new i j k text more one two = record { given = Appends-trans _ _ _ _ _ one.given two.given; kept = two.kept ∙ one.kept }
 tells_more false old mid new i j k text more one two = record {
   out = text ++ two.out;
@@ -174,9 +174,9 @@ tells_more false old mid new i j k text more one two = record {
   moved = two.moved ∙ ap (λ n. (n + 1) % 2 ^ 64) one.kept;
 }
 
-pub tells_on : (before still : Bool) (old mid new : Option (List ℕ)) (i j k : ℕ) (text more : List ℕ) → Tells before old mid i j text → TellsOn before still mid new j k more → Tells still old new i k (text ++ more)
+pub tells_on : (before still : Bool) (old mid new : Option (List ℕ)) (i j k : ℕ) (text more : List ℕ) → TellsLines before old mid i j text → TellsOn before still mid new j k more → TellsLines still old new i k (text ++ more)
 tells_on true still old mid new i j k text more one two = tells_more still old mid new i j k text more one two
-tells_on false still old mid new i j k text more one two = subst (λ b. Tells b old new i k (text ++ more)) (sym two.0) (record {
+tells_on false still old mid new i j k text more one two = subst (λ b. TellsLines b old new i k (text ++ more)) (sym two.0) (record {
   out = one.out;
   rest = one.rest ++ more;
   given = subst (λ m. Appends old m one.out) (sym two.1) one.given;

@@ -114,19 +114,19 @@ Each P index [] (fate ∷ fates) = ⊥
 Each P index (n ∷ ns) (fate ∷ fates) = P index n fate × Each P (suc index) ns fates
 
 -- all of the lines were written; or a beginning, and then the sink failed
-abbrev pub Tells : Bool → Option (List ℕ) → Option (List ℕ) → ℕ → ℕ → List ℕ → Type 0
-Tells true old new i j text = Wrote old new i j text
-Tells false old new i j text = WriteFailed old new i j text
+abbrev pub TellsLines : Bool → Option (List ℕ) → Option (List ℕ) → ℕ → ℕ → List ℕ → Type 0
+TellsLines true old new i j text = Wrote old new i j text
+TellsLines false old new i j text = WriteFailed old new i j text
 
 -- more lines, where all before them were written; and else none
 abbrev pub TellsOn : Bool → Bool → Option (List ℕ) → Option (List ℕ) → ℕ → ℕ → List ℕ → Type 0
-TellsOn true still old new i j text = Tells still old new i j text
+TellsOn true still old new i j text = TellsLines still old new i j text
 TellsOn false still old new i j text = (still ≡ false) × (new ≡ old) × (j ≡ i)
 
 -- the nodes behind the root, as far as there are fates, and what was told of them
 pub record Puts (P : ℕ → NodeFields → Fate → Type 0) (nodes : List NodeFields) (old new : Option (List ℕ)) (i j : ℕ) (heard : Bool) (fates : List Fate) : Type 0 where
   pub each : Each P 1 (drop 1 nodes) fates
-  pub lines : Tells heard old new i j (fate_lines (drop 1 nodes) fates)
+  pub lines : TellsLines heard old new i j (fate_lines (drop 1 nodes) fates)
 
 -- all of them have their fates, and it is good where none failed and all nodes are whole
 pub record PutsAll (P : ℕ → NodeFields → Fate → Type 0) (nodes : List NodeFields) (old new : Option (List ℕ)) (i j : ℕ) (good : Bool) : Type 0 where

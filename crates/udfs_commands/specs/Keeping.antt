@@ -9,14 +9,14 @@ use Rattle.udfs_files.specs.Disk.{Disk, Same, Replaced}
 use Rattle.udfs_lattice.specs.Tables.{Table}
 use Rattle.udfs_lattice.specs.Records.{join_all}
 use Rattle.udfs_reading.specs.Several.{TablesAre}
-use Rattle.udfs_commands.specs.Sources.{IsOpened}
+use Rattle.udfs_commands.specs.Sources.{IsPathOpened}
 use Rattle.udfs_commands.specs.Spelling.{table_file}
 use Rattle.udfs_commands.specs.declared.sources.InputPath.{InputPath}
 use Rattle.udfs_commands.specs.declared.merge.Version.{Version}
 
 -- the source at each place has what the path at that place leads to, where that is told
 abbrev pub Opens : {R : Type 0} → (List ℕ → Option (Option (List ℕ))) → (R → Option (List ℕ)) → List InputPath → List R → Type 0
-Opens {R} found remaining paths sources = (k : ℕ) (path : InputPath) (source : R) → slice_get paths k ≡ Some path → slice_get sources k ≡ Some source → IsOpened found path (remaining source)
+Opens {R} found remaining paths sources = (k : ℕ) (path : InputPath) (source : R) → slice_get paths k ≡ Some path → slice_get sources k ≡ Some source → IsPathOpened found path (remaining source)
 
 -- the sources of these paths have the tables
 pub record Joined {R : Type 0} (found : List ℕ → Option (Option (List ℕ))) (remaining : R → Option (List ℕ)) (paths : List InputPath) (tables : List Table) : Type 0 where

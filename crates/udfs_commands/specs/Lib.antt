@@ -7,3 +7,5 @@ pub mod Asking
 pub mod Keeping
 pub mod Guarding
 pub mod Sources
+pub mod Grammar
+pub mod Obeying

@@ -1,6 +1,6 @@
 -- Inputs of both kinds as sources, and the paths that they come from.
 --     left_in file pair source      the bytes that a source has left
---     IsOpened found left path x    the source has what its path leads to
+--     IsPathOpened found left path x    the source has what its path leads to
 use Rattle.std.specs.Prelude.{◌≡◌, ◌⊎◌, ℕ, List, [], Option, Some, IfSome}
 use Rattle.udfs_rescue.specs.declared.pair.Pair.{Pair}
 use Rattle.udfs_rescue.specs.Opening.{IsReadingOf}
@@ -33,5 +33,5 @@ HasItsPath found (path.File p) left = IfSome (found p.now) (λ held. left ≡ he
 HasItsPath found (path.Pair image map) left = IsOpenedPair found image.now map.now left
 
 -- what is left is what the path leads to, where that is told
-pub record IsOpened (found : List ℕ → Option (Option (List ℕ))) (path : InputPath) (left : Option (List ℕ)) : Type 0 where
+pub record IsPathOpened (found : List ℕ → Option (Option (List ℕ))) (path : InputPath) (left : Option (List ℕ)) : Type 0 where
   pub has : HasItsPath found path left

@@ -1,6 +1,6 @@
 //! The program as a function: words and files in, a status out.
 
-ghost use Rattle.std.specs.Prelude.{◌≡◌, ◌≢◌, ◌⊎◌, ℕ, Bool, true, false, List, Some, None, Ok, IfOk, IfErr, IsErrOf, OnOk, OnErr, codes, cond, length, map};
+ghost use Rattle.std.specs.Prelude.{◌≡◌, ◌≢◌, ◌⊎◌, ℕ, Bool, true, false, List, Some, None, Ok, IfOk, IfErr, IfSome, IsErrOf, OnOk, OnErr, codes, cond, length, map};
 ghost use Rattle.clap.specs.Matches.{found_of, one_text};
 ghost use Rattle.udfs_lattice.specs.Tables.{Table};
 ghost use Rattle.udfs_lattice.specs.Records.{join_all};
@@ -14,6 +14,10 @@ ghost use Rattle.udfs_commands.specs.Keeping.{IsKept, IsTaken, Joined, OfPaths};
 ghost use Rattle.udfs_commands.specs.declared.sources.AnySource.{AnySource};
 ghost use Rattle.udfs_commands.specs.declared.sources.InputPath.{InputPath};
 ghost use Rattle.udfs_commands.specs.Rereading.{PrintsNumbers};
+ghost use Rattle.clap.specs.declared.parser.matches.Found.{Found};
+ghost use Rattle.std.specs.String.{string_bytes};
+ghost use Rattle.clap.specs.Words.{kind_of};
+ghost use Rattle.udfs_commands.specs.Obeying.{Asks, GrammarTakes, IsAsked};
 ghost use Rattle.udfs_commands.specs.Spelling.{table_file};
 ghost use Rattle.udfs_commands.specs.declared.merge.Version.{Version};
 ghost use Rattle.udfs_commands.specs.declared.report.Form.{Form};
@@ -55,6 +59,26 @@ pub fn run<F: Files, O: Sink, E: Sink>(
 ) -> u8
     ensures status { (result ≡ 0) ⊎ (result ≡ 1) ⊎ (result ≡ 2) }
     ensures silent { result ≢ 2 → err.new ≡ err.old }
+    ensures merge { GrammarTakes (map string_bytes words.now) → Asks (map string_bytes words.now) (codes "merge") → result ≢ 2 → (result ≡ 0) × (found : Found) × IsAsked (map string_bytes words.now) (codes "merge") found ×
+        ((version : Version) × (inputs : List InputPath) × (tables : List Table) × IsPicked found (codes "v1") Version.One Version.Two version ×
+        (map asked_for inputs ≡ asked_inputs found) × Joined (λ path. F.holds files.old (F.real files.old path)) (⟦<AnySource<F::Input, F::Image> as Source>⟧.remaining) inputs tables ×
+        ((F.tells → IsKept (F.holds files.new) (F.may_leave files.new) (F.real files.old (out_text found)) (table_file version (join_all tables)))
+        ⊎ (F.in_place files.old (out_text found) × IsTaken F.Output.contents (table_file version (join_all tables))))) × ((force : Bool) × IsPicked found (codes "force") true false force ×
+        (F.tells → IsFree (F.holds files.old) (F.real files.old) (F.shut files.old) (F.in_place files.old) (input_texts found) (pair_texts found) force (out_text found))) }
+    ensures report { GrammarTakes (map string_bytes words.now) → Asks (map string_bytes words.now) (codes "report") → result ≢ 2 → (whole : Bool) × (result ≡ cond whole 0 1) × (found : Found) × IsAsked (map string_bytes words.now) (codes "report") found ×
+        ((form : Form) × (last : ℕ) × (inputs : List InputPath) × (map asked_for inputs ≡ asked_inputs found) ×
+        IsPicked found (codes "json") Form.Json Form.Text form × IsLast found last ×
+        OfPaths (λ path. F.holds files.old (F.real files.old path)) (⟦<AnySource<F::Input, F::Image> as Source>⟧.remaining) inputs (PrintsAs form last (O.contents out.old) (O.contents out.new) (O.faults out.old) (O.faults out.new) whole)) }
+    ensures reread { GrammarTakes (map string_bytes words.now) → Asks (map string_bytes words.now) (codes "reread") → result ≢ 2 → (whole : Bool) × (result ≡ cond whole 0 1) × (found : Found) × IsAsked (map string_bytes words.now) (codes "reread") found ×
+        ((last : ℕ) × (inputs : List InputPath) × (map asked_for inputs ≡ asked_inputs found) ×
+        IsLast found last × OfPaths (λ path. F.holds files.old (F.real files.old path)) (⟦<AnySource<F::Input, F::Image> as Source>⟧.remaining) inputs
+        (PrintsNumbers last (O.contents out.old) (O.contents out.new) (O.faults out.old) (O.faults out.new) whole)) }
+    ensures extract { GrammarTakes (map string_bytes words.now) → Asks (map string_bytes words.now) (codes "extract") → result ≢ 2 → (good : Bool) × (result ≡ cond good 0 1) × (found : Found) × IsAsked (map string_bytes words.now) (codes "extract") found ×
+        ((fill : Fill) × (last : ℕ) × (inputs : List InputPath) × (map asked_for inputs ≡ asked_inputs found) ×
+        IsPicked found (codes "fill") (Fill.Byte 0) Fill.Refuse fill × IsLast found last ×
+        OfPaths (λ path. F.holds files.old (F.real files.old path)) (⟦<AnySource<F::Input, F::Image> as Source>⟧.remaining) inputs
+        (ExtractsAll (λ table told. IsPut F.tells (Fails F.faults ⊎ Fails F.Output.faults) table told fill (folder_text found) (F.holds files.new) (F.moment files.new) (F.left_since files.new))
+        files.old files.new last (O.contents out.old) (O.contents out.new) (O.faults out.old) (O.faults out.new) good)) }
 {
     let command = match grammar(alloc, has_pairs(words)) {
         Ok(command) => command,
@@ -64,18 +88,55 @@ pub fn run<F: Files, O: Sink, E: Sink>(
         Ok(matches) => matches,
         Err(error) => return show(alloc, &error, out, err),
     };
-    let outcome = match matches.subcommand() {
-        Some(("merge", words)) => match merge_words(alloc, words, files) {
+    let (name, words) = match matches.subcommand() {
+        Some(found) => found,
+        // The grammar asks for a command.
+        None => return 2,
+    };
+    match obey(alloc, name, words, files, out) {
+        Some(outcome) => finish(alloc, outcome, err),
+        // The grammar has no other command.
+        None => 2,
+    }
+}
+
+/// Does what the words after a command's name ask for, if there is a command of this name.
+fn obey<F: Files, O: Sink>(
+    alloc: Global,
+    name: &str,
+    words: &ArgMatches<'_>,
+    files: &mut F,
+    out: &mut O,
+) -> Option<Result<bool, Refusal>>
+    ensures done { name.now ≡ codes "merge" → IfSome result (λ outcome. IfOk outcome (λ whole. whole ≡ true)) }
+    ensures merge { name.now ≡ codes "merge" → IfSome result (λ outcome. OnOk outcome ((version : Version) × (inputs : List InputPath) × (tables : List Table) × IsPicked (found_of words.now) (codes "v1") Version.One Version.Two version ×
+        (map asked_for inputs ≡ asked_inputs (found_of words.now)) × Joined (λ path. F.holds files.old (F.real files.old path)) (⟦<AnySource<F::Input, F::Image> as Source>⟧.remaining) inputs tables ×
+        ((F.tells → IsKept (F.holds files.new) (F.may_leave files.new) (F.real files.old (out_text (found_of words.now))) (table_file version (join_all tables)))
+        ⊎ (F.in_place files.old (out_text (found_of words.now)) × IsTaken F.Output.contents (table_file version (join_all tables)))))) }
+    ensures free { name.now ≡ codes "merge" → IfSome result (λ outcome. OnOk outcome ((force : Bool) × IsPicked (found_of words.now) (codes "force") true false force ×
+        (F.tells → IsFree (F.holds files.old) (F.real files.old) (F.shut files.old) (F.in_place files.old) (input_texts (found_of words.now)) (pair_texts (found_of words.now)) force (out_text (found_of words.now))))) }
+    ensures report { name.now ≡ codes "report" → IfSome result (λ outcome. IfOk outcome (λ whole. (form : Form) × (last : ℕ) × (inputs : List InputPath) × (map asked_for inputs ≡ asked_inputs (found_of words.now)) ×
+        IsPicked (found_of words.now) (codes "json") Form.Json Form.Text form × IsLast (found_of words.now) last ×
+        OfPaths (λ path. F.holds files.old (F.real files.old path)) (⟦<AnySource<F::Input, F::Image> as Source>⟧.remaining) inputs (PrintsAs form last (O.contents out.old) (O.contents out.new) (O.faults out.old) (O.faults out.new) whole))) }
+    ensures reread { name.now ≡ codes "reread" → IfSome result (λ outcome. IfOk outcome (λ whole. (last : ℕ) × (inputs : List InputPath) × (map asked_for inputs ≡ asked_inputs (found_of words.now)) ×
+        IsLast (found_of words.now) last × OfPaths (λ path. F.holds files.old (F.real files.old path)) (⟦<AnySource<F::Input, F::Image> as Source>⟧.remaining) inputs
+        (PrintsNumbers last (O.contents out.old) (O.contents out.new) (O.faults out.old) (O.faults out.new) whole))) }
+    ensures extract { name.now ≡ codes "extract" → IfSome result (λ outcome. IfOk outcome (λ good. (fill : Fill) × (last : ℕ) × (inputs : List InputPath) × (map asked_for inputs ≡ asked_inputs (found_of words.now)) ×
+        IsPicked (found_of words.now) (codes "fill") (Fill.Byte 0) Fill.Refuse fill × IsLast (found_of words.now) last ×
+        OfPaths (λ path. F.holds files.old (F.real files.old path)) (⟦<AnySource<F::Input, F::Image> as Source>⟧.remaining) inputs
+        (ExtractsAll (λ table told. IsPut F.tells (Fails F.faults ⊎ Fails F.Output.faults) table told fill (folder_text (found_of words.now)) (F.holds files.new) (F.moment files.new) (F.left_since files.new))
+        files.old files.new last (O.contents out.old) (O.contents out.new) (O.faults out.old) (O.faults out.new) good))) }
+{
+    match name {
+        "merge" => Some(match merge_words(alloc, words, files) {
             Ok(()) => Ok(true),
             Err(refusal) => Err(refusal),
-        },
-        Some(("report", words)) => report_words(alloc, words, files, out),
-        Some(("reread", words)) => reread_words(alloc, words, files, out),
-        Some(("extract", words)) => extract_words(alloc, words, files, out),
-        // The grammar asks for a command and has no other.
-        _ => return 2,
-    };
-    finish(alloc, outcome, err)
+        }),
+        "report" => Some(report_words(alloc, words, files, out)),
+        "reread" => Some(reread_words(alloc, words, files, out)),
+        "extract" => Some(extract_words(alloc, words, files, out)),
+        _ => None,
+    }
 }
 
 /// The exit status of a command that is done, with or without something lacking, or refused.
@@ -300,6 +361,7 @@ pub fn refuse_words<E: Sink>(wants_memory: bool, err: &mut E) -> u8
 fn show<O: Sink, E: Sink>(alloc: Global, error: &Error, out: &mut O, err: &mut E) -> u8
     ensures status { (result ≡ 0) ⊎ (result ≡ 2) }
     ensures silent { result ≡ 0 → err.new ≡ err.old }
+    ensures memory { kind_of error.now ≡ ErrorKind.OutOfMemory → result ≡ 2 }
 {
     if error.kind() == ErrorKind::OutOfMemory {
         return refuse(alloc, &Refusal::Memory(AllocError), err);

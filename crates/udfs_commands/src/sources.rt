@@ -6,7 +6,7 @@ ghost use Rattle.udfs_lattice.specs.Tables.{Table};
 ghost use Rattle.udfs_reading.specs.Several.{TablesAre};
 ghost use Rattle.udfs_commands.specs.Keeping.{Opens};
 ghost use Rattle.udfs_commands.specs.Refusing.{refused_pair, refusal_for};
-ghost use Rattle.udfs_commands.specs.Sources.{left_in, faults_in, IsOpened};
+ghost use Rattle.udfs_commands.specs.Sources.{left_in, faults_in, IsPathOpened};
 
 use crate::files::Files;
 use crate::refusal::Refusal;
@@ -58,7 +58,7 @@ fn open_file<F: Files>(
     number: usize,
     files: &F,
 ) -> Result<AnySource<F::Input, F::Image>, Refusal>
-    ensures opened { IfOk result (λ source. IsOpened (λ path. F.holds files.now (F.real files.now path)) (InputPath.File path.entry) (⟦<AnySource<F::Input, F::Image> as Source>⟧.remaining source)) }
+    ensures opened { IfOk result (λ source. IsPathOpened (λ path. F.holds files.now (F.real files.now path)) (InputPath.File path.entry) (⟦<AnySource<F::Input, F::Image> as Source>⟧.remaining source)) }
     ensures told { IfErr result (λ refusal. refusal ≡ Refusal.Open number) }
 {
     match files.open(path) {
@@ -75,7 +75,7 @@ fn open_both<F: Files>(
     number: usize,
     files: &F,
 ) -> Result<AnySource<F::Input, F::Image>, Refusal>
-    ensures opened { IfOk result (λ source. IsOpened (λ path. F.holds files.now (F.real files.now path)) (InputPath.Pair image.entry map.entry) (⟦<AnySource<F::Input, F::Image> as Source>⟧.remaining source)) }
+    ensures opened { IfOk result (λ source. IsPathOpened (λ path. F.holds files.now (F.real files.now path)) (InputPath.Pair image.entry map.entry) (⟦<AnySource<F::Input, F::Image> as Source>⟧.remaining source)) }
     ensures told { IfErr result (λ refusal. refusal ≢ Refusal.Open number → refusal ≡ Refusal.Memory alloc_error) }
 {
     let Ok(image) = files.open_image(image) else {
@@ -98,7 +98,7 @@ fn open_one<F: Files>(
     number: usize,
     files: &F,
 ) -> Result<AnySource<F::Input, F::Image>, Refusal>
-    ensures opened { IfOk result (λ source. IsOpened (λ path. F.holds files.now (F.real files.now path)) path.entry (⟦<AnySource<F::Input, F::Image> as Source>⟧.remaining source)) }
+    ensures opened { IfOk result (λ source. IsPathOpened (λ path. F.holds files.now (F.real files.now path)) path.entry (⟦<AnySource<F::Input, F::Image> as Source>⟧.remaining source)) }
     ensures told { IfErr result (λ refusal. refusal ≢ Refusal.Open number → refusal ≡ Refusal.Memory alloc_error) }
 {
     match path {

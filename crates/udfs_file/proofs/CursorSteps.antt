@@ -2,7 +2,7 @@
 use Rattle.std.proofs.Common.{◌≡◌, sym, ◌∙◌, ap, subst, List, [], ◌∷◌, drop}
 use Rattle.udfs_file.specs.Fronts.{ReadsAs, directory, step}
 use Rattle.udfs_file.specs.Identifiers.{Identifier, Rest, AtRest, Nothing, Stopped, Wrong}
-use Rattle.udfs_file.specs.Steps.{Goes, IsDescriptor, IsStep, bytes_of}
+use Rattle.udfs_file.specs.Steps.{StepsTo, IsDescriptor, IsStep, bytes_of}
 use Rattle.udfs_file.specs.declared.cells.Cell.{Cell}
 use Rattle.udfs_file.specs.declared.cursors.Step.{Step}
 use Rattle.udfs_file.specs.declared.cursors.Step.TheVariants.{Id, Stop, Fault, End}
@@ -11,7 +11,7 @@ use Rattle.udfs_file.proofs.Readings.{directory_reads, reads_law}
 rest_alone : (cs : List Cell) (rest : Rest) → step cs ≡ AtRest rest → ((directory cs).identifiers ≡ []) × ((directory cs).rest ≡ rest)
 rest_alone cs rest e = (reads_law cs [] rest).0 e
 
-pub goes : (before after : List Cell) (told : Step) → IsStep before told after → Goes (directory before) told (directory after)
+pub goes : (before after : List Cell) (told : Step) → IsStep before told after → StepsTo (directory before) told (directory after)
 goes before after (Id view) s = (id, d, t.0, t.1)
   where
     id : Identifier

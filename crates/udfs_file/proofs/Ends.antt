@@ -12,7 +12,7 @@ use Rattle.udfs_file.specs.declared.cursors.Step.TheVariants.{Id}
 use Rattle.udfs_file.specs.declared.pieces.Pieces.{Pieces}
 use Rattle.udfs_file.specs.Identifiers.{Identifier, Rest, Step, AtRest, One}
 use Rattle.udfs_file.specs.Fronts.{directory, directory_entries, entry_with, identifier_in, is_listed, listed_entries, missing_in, fault_in, IsEndOf}
-use Rattle.udfs_file.specs.Steps.{Goes, IsDescriptor, bytes_of}
+use Rattle.udfs_file.specs.Steps.{StepsTo, IsDescriptor, bytes_of}
 use Rattle.udfs_file.proofs.FrontLemmas.{listed_in}
 
 -- whether there is an entry among these descriptors
@@ -58,7 +58,7 @@ or_true : (a : Bool) → (a || true) ≡ true
 or_true true = refl
 or_true false = refl
 
-next : (cells left behind : List Cell) (so_far : Bool) (view : Pieces) → IsEnding cells left so_far → Goes (directory left) (Id view) (directory behind)
+next : (cells left behind : List Cell) (so_far : Bool) (view : Pieces) → IsEnding cells left so_far → StepsTo (directory left) (Id view) (directory behind)
     → IsEnding cells behind (so_far || is_listed (bytes_of view))
 next cells left behind so_far view f g = record {
   lists = or_assoc so_far (is_listed (bytes_of view)) (nat_lt 0 (length (directory_entries behind)))
@@ -74,15 +74,15 @@ next cells left behind so_far view f g = record {
     d : IsDescriptor (bytes_of view) id
     d = g.1
 
-pub ending_listed : (cells left behind : List Cell) (so_far : Bool) (told : cursor.Step) (view : Pieces) → IsEnding cells left so_far → Goes (directory left) told (directory behind)
+pub ending_listed : (cells left behind : List Cell) (so_far : Bool) (told : cursor.Step) (view : Pieces) → IsEnding cells left so_far → StepsTo (directory left) told (directory behind)
     → told ≡ Id view → is_listed (bytes_of view) ≡ true → IsEnding cells behind true
 ending_listed cells left behind so_far told view f g t e = subst (IsEnding cells behind) (ap (λ b. so_far || b) e ∙ or_true so_far)
-    (next cells left behind so_far view f (subst (λ (s : cursor.Step). Goes (directory left) s (directory behind)) t g))
+    (next cells left behind so_far view f (subst (λ (s : cursor.Step). StepsTo (directory left) s (directory behind)) t g))
 
-pub ending_unlisted : (cells left behind : List Cell) (so_far : Bool) (told : cursor.Step) (view : Pieces) → IsEnding cells left so_far → Goes (directory left) told (directory behind)
+pub ending_unlisted : (cells left behind : List Cell) (so_far : Bool) (told : cursor.Step) (view : Pieces) → IsEnding cells left so_far → StepsTo (directory left) told (directory behind)
     → told ≡ Id view → is_listed (bytes_of view) ≡ false → IsEnding cells behind so_far
 ending_unlisted cells left behind so_far told view f g t e = subst (IsEnding cells behind) (ap (λ b. so_far || b) e ∙ or_false so_far)
-    (next cells left behind so_far view f (subst (λ (s : cursor.Step). Goes (directory left) s (directory behind)) t g))
+    (next cells left behind so_far view f (subst (λ (s : cursor.Step). StepsTo (directory left) s (directory behind)) t g))
 
 -- where no descriptor is left, it has ended
 pub ended : (cells left : List Cell) (so_far : Bool) (end : DirEnd) (rest : Rest) → IsEnding cells left so_far → (directory left).identifiers ≡ [] → (directory left).rest ≡ rest

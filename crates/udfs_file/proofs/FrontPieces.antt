@@ -8,7 +8,7 @@ use Rattle.udfs_file.specs.CellsLeft.{IsInFirst, IsSettled, cells_left, room, ro
 use Rattle.udfs_file.specs.declared.cells.Cells.{Cells}
 use Rattle.udfs_file.specs.Fronts.{first_missing, holder_of, value}
 use Rattle.udfs_file.specs.Pieces.{BeginsBlock, Starts, byte_cells, rest_in_block}
-use Rattle.udfs_file.specs.Stretches.{FillsBlocks, IsLast, LieInBlocks, stretch_count, cells_of}
+use Rattle.udfs_file.specs.Stretches.{FillsBlocks, IsLastStretch, LieInBlocks, stretch_count, cells_of}
 use Rattle.udfs_file.specs.declared.cells.Cell.{Cell}
 use Rattle.udfs_file.specs.declared.cells.Cell.TheVariants.{Gap}
 use Rattle.udfs_file.specs.declared.stretches.Stretch.{Stretch}
@@ -39,7 +39,7 @@ starts_then [] p k i e = tt
 starts_then (s ∷ ss) p k i e = starts_behind s ss p k i.0 e
 
 -- ---- the second piece is enough
-room_last : (s : Stretch) (p left : ℕ) → BeginsBlock s p → IsLast s → p < stretch_count s → left < 2048 → left ≤ stretch_count s - p → left ≤ rest_in_block s p
+room_last : (s : Stretch) (p left : ℕ) → BeginsBlock s p → IsLastStretch s → p < stretch_count s → left < 2048 → left ≤ stretch_count s - p → left ≤ rest_in_block s p
 room_last (Recorded run n) p left (inl b) l h m t = omega (arith, b, h, m, t)
 room_last (Recorded run n) p left (inr b) (inl l) h m t = omega (arith, b, l, h, m, t)
 room_last (Recorded run n) p left (inr b) (inr l) h m t = omega (arith, b, l, h, m, t)

@@ -16,7 +16,7 @@ use Rattle.udfs_file.specs.Identifiers.{Rest}
 use Rattle.udfs_file.specs.Identifiers.{Nothing, Stopped, Wrong}
 use Rattle.udfs_file.specs.Identifiers.{Step}
 use Rattle.udfs_file.specs.Identifiers.{AtRest, One}
-use Rattle.udfs_file.specs.Laws.{IsCellOf, IsMissingAt, end_of, IsClearTo, IsPartialDirectory}
+use Rattle.udfs_file.specs.Laws.{IsCellOf, IsMissingAt, descriptor_end, IsClearTo, IsPartialDirectory}
 use Rattle.udfs_file.specs.declared.faults.NodeFault.{NodeFault}
 use Rattle.udfs_file.specs.declared.faults.NodeFault.TheVariants.{Cut, IdentifierTag}
 use Rattle.udfs_file.proofs.BodyFrom.{le_or_lt}
@@ -217,7 +217,7 @@ abbrev next : ℕ → List Cell → ℕ → DirectoryText
 next n cs size = read_from n (drop size cs)
 
 reach : (n : ℕ) (xs ys : List Cell) → AllZip IsCellOf xs ys → (front back : List Identifier) (id : Identifier) → ids n ys ≡ front ++ id ∷ back
-    → IsClearTo xs (end_of front id) → (more : List Identifier) × (ids n xs ≡ front ++ id ∷ more)
+    → IsClearTo xs (descriptor_end front id) → (more : List Identifier) × (ids n xs ≡ front ++ id ∷ more)
 reach zero xs ys h front back id e clear = nil_cons id front back e
 reach (suc n) xs ys h front back id e clear = go (λ k. reach n (drop k xs) (drop k ys) (AllZip-drop k xs ys h)) (step ys) refl e
   where
@@ -227,36 +227,36 @@ reach (suc n) xs ys h front back id e clear = go (λ k. reach n (drop k xs) (dro
     first : (i : Identifier) → step ys ≡ One i → IsClearTo xs i.size → ids (suc n) xs ≡ i ∷ (next n xs i.size).identifiers
     first i s c = ap (λ t. (read_on t (next n xs)).identifiers) (step_clear xs ys h i s c)
 
-    at : ((k : ℕ) → (front back : List Identifier) (id : Identifier) → ids n (drop k ys) ≡ front ++ id ∷ back → IsClearTo (drop k xs) (end_of front id)
+    at : ((k : ℕ) → (front back : List Identifier) (id : Identifier) → ids n (drop k ys) ≡ front ++ id ∷ back → IsClearTo (drop k xs) (descriptor_end front id)
         → (more : List Identifier) × (ids n (drop k xs) ≡ front ++ id ∷ more))
-        → (i : Identifier) → step ys ≡ One i → (f : List Identifier) → i ∷ (next n ys i.size).identifiers ≡ f ++ id ∷ back → IsClearTo xs (end_of f id)
+        → (i : Identifier) → step ys ≡ One i → (f : List Identifier) → i ∷ (next n ys i.size).identifiers ≡ f ++ id ∷ back → IsClearTo xs (descriptor_end f id)
         → (more : List Identifier) × (ids (suc n) xs ≡ f ++ id ∷ more)
     at ih i s [] q c = let same : i ≡ id = cons_head i id (next n ys i.size).identifiers back q in
         ((next n xs i.size).identifiers, first i s (subst (λ x. IsClearTo xs x.size) (sym same) c) ∙ ap (λ x. x ∷ (next n xs i.size).identifiers) same)
     at ih i s (j ∷ js) q c = let same : i ≡ j = cons_head i j (next n ys i.size).identifiers (js ++ id ∷ back) q in
-        let c' : IsClearTo xs (i.size + end_of js id) = subst (λ x. IsClearTo xs (x.size + end_of js id)) (sym same) c in
-        let r : (more : List Identifier) × (ids n (drop i.size xs) ≡ js ++ id ∷ more) = ih i.size js back id (cons_tail i j (next n ys i.size).identifiers (js ++ id ∷ back) q) (clear_drop i.size (end_of js id) xs c') in
+        let c' : IsClearTo xs (i.size + descriptor_end js id) = subst (λ x. IsClearTo xs (x.size + descriptor_end js id)) (sym same) c in
+        let r : (more : List Identifier) × (ids n (drop i.size xs) ≡ js ++ id ∷ more) = ih i.size js back id (cons_tail i j (next n ys i.size).identifiers (js ++ id ∷ back) q) (clear_drop i.size (descriptor_end js id) xs c') in
         (r.0, first i s (λ k l. c' k (omega arith)) ∙ (λ t. same t ∷ r.1 t))
 
-    go : ((k : ℕ) → (front back : List Identifier) (id : Identifier) → ids n (drop k ys) ≡ front ++ id ∷ back → IsClearTo (drop k xs) (end_of front id)
+    go : ((k : ℕ) → (front back : List Identifier) (id : Identifier) → ids n (drop k ys) ≡ front ++ id ∷ back → IsClearTo (drop k xs) (descriptor_end front id)
         → (more : List Identifier) × (ids n (drop k xs) ≡ front ++ id ∷ more))
         → (t : Step) → step ys ≡ t → (read_on (step ys) (next n ys)).identifiers ≡ front ++ id ∷ back
         → (more : List Identifier) × (ids (suc n) xs ≡ front ++ id ∷ more)
     go ih (AtRest r) s q = nil_cons id front back (sym (ap (λ t. (read_on t (next n ys)).identifiers) s) ∙ q)
     go ih (One i) s q = at ih i s front (sym (ap (λ t. (read_on t (next n ys)).identifiers) s) ∙ q) clear
 
-clears : (n : ℕ) (xs : List Cell) (front back : List Identifier) (id : Identifier) → ids n xs ≡ front ++ id ∷ back → IsClearTo xs (end_of front id)
+clears : (n : ℕ) (xs : List Cell) (front back : List Identifier) (id : Identifier) → ids n xs ≡ front ++ id ∷ back → IsClearTo xs (descriptor_end front id)
 clears zero xs front back id e = nil_cons id front back e
 clears (suc n) xs front back id e = go (λ k. clears n (drop k xs)) (step xs) refl e
   where
-    at : ((k : ℕ) → (front back : List Identifier) (id : Identifier) → ids n (drop k xs) ≡ front ++ id ∷ back → IsClearTo (drop k xs) (end_of front id))
-        → (i : Identifier) → IsClearTo xs i.size → (f : List Identifier) → i ∷ (next n xs i.size).identifiers ≡ f ++ id ∷ back → IsClearTo xs (end_of f id)
+    at : ((k : ℕ) → (front back : List Identifier) (id : Identifier) → ids n (drop k xs) ≡ front ++ id ∷ back → IsClearTo (drop k xs) (descriptor_end front id))
+        → (i : Identifier) → IsClearTo xs i.size → (f : List Identifier) → i ∷ (next n xs i.size).identifiers ≡ f ++ id ∷ back → IsClearTo xs (descriptor_end f id)
     at ih i c [] q = subst (λ x. IsClearTo xs x.size) (cons_head i id (next n xs i.size).identifiers back q) c
-    at ih i c (j ∷ js) q = subst (λ x. IsClearTo xs (x.size + end_of js id)) (cons_head i j (next n xs i.size).identifiers (js ++ id ∷ back) q)
-        (clear_from i.size (end_of js id) xs c (ih i.size js back id (cons_tail i j (next n xs i.size).identifiers (js ++ id ∷ back) q)))
+    at ih i c (j ∷ js) q = subst (λ x. IsClearTo xs (x.size + descriptor_end js id)) (cons_head i j (next n xs i.size).identifiers (js ++ id ∷ back) q)
+        (clear_from i.size (descriptor_end js id) xs c (ih i.size js back id (cons_tail i j (next n xs i.size).identifiers (js ++ id ∷ back) q)))
 
-    go : ((k : ℕ) → (front back : List Identifier) (id : Identifier) → ids n (drop k xs) ≡ front ++ id ∷ back → IsClearTo (drop k xs) (end_of front id))
-        → (t : Step) → step xs ≡ t → (read_on (step xs) (next n xs)).identifiers ≡ front ++ id ∷ back → IsClearTo xs (end_of front id)
+    go : ((k : ℕ) → (front back : List Identifier) (id : Identifier) → ids n (drop k xs) ≡ front ++ id ∷ back → IsClearTo (drop k xs) (descriptor_end front id))
+        → (t : Step) → step xs ≡ t → (read_on (step xs) (next n xs)).identifiers ≡ front ++ id ∷ back → IsClearTo xs (descriptor_end front id)
     go ih (AtRest r) s q = nil_cons id front back (sym (ap (λ t. (read_on t (next n xs)).identifiers) s) ∙ q)
     go ih (One i) s q = at ih i (clear_take i.size xs (step_one xs i s).clean) front (sym (ap (λ t. (read_on t (next n xs)).identifiers) s) ∙ q)
 

@@ -14,8 +14,8 @@ use Rattle.udfs_file.specs.Bodies.{cells, faulty_body, body}
 use Rattle.udfs_file.specs.Entries.{EntryFields}
 use Rattle.udfs_file.specs.Complete.{as_cells}
 use Rattle.udfs_file.specs.Fronts.{first_missing, value, holder_of, identifier_size, or_stop, checked_identifier, sized_identifier, step, DirectoryText, read_on, read_from, directory, listed_entries, directory_entries, missing_in, fault_in, IsFrontOf}
-use Rattle.udfs_file.specs.Laws.{IsCellOf, IsBeginningOf, IsClearTo, end_of, IsPartialBody, IsPartialDirectory, IsPartialFileSet, known, unread}
-use Rattle.udfs_file.specs.Stretches.{cells_of, Gives}
+use Rattle.udfs_file.specs.Laws.{IsCellOf, IsBeginningOf, IsClearTo, descriptor_end, IsPartialBody, IsPartialDirectory, IsPartialFileSet, known, unread}
+use Rattle.udfs_file.specs.Stretches.{cells_of, GivesStretches}
 use Rattle.udfs_file.specs.Told.{IsRootOf, TellsFileSet, IsToldBody, TellsBody, TellsFront}
 use Rattle.udfs_file.specs.declared.cells.Cell.{Cell}
 use Rattle.udfs_file.specs.declared.cells.Cell.TheVariants.{Byte, Gap}
@@ -63,7 +63,7 @@ tells_file_set some a told s m all p root e =
     }
 
 -- ---- a body
-tells_body : (some : View) (r b : ℕ) (entry : EntryFields) (told : Result (List Stretch) WalkError) → Gives some told (body some r b entry)
+tells_body : (some : View) (r b : ℕ) (entry : EntryFields) (told : Result (List Stretch) WalkError) → GivesStretches some told (body some r b entry)
     → TellsBody some r b entry told
 tells_body some r b entry (Ok stretches) g all p whole e =
     let law : IsPartialBody some all r b entry whole = partial_bodies some all p r b entry whole e in
@@ -83,9 +83,9 @@ NoWant (Ok ss) = ⊤
 NoWant (Err (walk_error.Fault f)) = ⊤
 NoWant (Err walk_error.OutOfMemory) = ⊥
 
-pub body_clauses : (some : View) (r b : ℕ) (entry : EntryFields) (told : Result (List Stretch) WalkError) (Stored : Type 0) → Gives some told (body some r b entry)
+pub body_clauses : (some : View) (r b : ℕ) (entry : EntryFields) (told : Result (List Stretch) WalkError) (Stored : Type 0) → GivesStretches some told (body some r b entry)
     → (told ≡ Err walk_error.OutOfMemory → Stored)
-    → record { value : Gives some told (body some r b entry); complete : TellsBody some r b entry told; memory : told ≡ Err walk_error.OutOfMemory → Stored }
+    → record { value : GivesStretches some told (body some r b entry); complete : TellsBody some r b entry told; memory : told ≡ Err walk_error.OutOfMemory → Stored }
 body_clauses some r b entry told Stored g m = record { value = g; complete = tells_body some r b entry told g; memory = m }
 
 pub never : (told : Result (List Stretch) WalkError) (Stored : Type 0) → NoWant told → told ≡ Err walk_error.OutOfMemory → Stored
@@ -209,14 +209,14 @@ tells_front part front f whole h = record {
     ids = part_ids part whole h
 
     clear : (before behind : List Identifier) (id : Identifier) → (directory whole).identifiers ≡ before ++ id ∷ behind
-        → length (listed_entries before) < length front.entries.items → IsClearTo part (end_of before id)
+        → length (listed_entries before) < length front.entries.items → IsClearTo part (descriptor_end before id)
     clear before behind id e l =
         let on : (more : List Identifier) × ((directory part).identifiers ≡ before ++ id ∷ more) = reads_on (directory part).identifiers ids.0 before behind id (sym ids.1 ∙ e)
         (subst (λ es. length (listed_entries before) < length es) f.entries l) in
         law.clear before on.0 id on.1
 
     listed : (before behind : List Identifier) (id : Identifier) (entry : DirEntry) → (directory whole).identifiers ≡ before ++ id ∷ behind → id.listed ≡ Some entry
-        → IsClearTo part (end_of before id) → length (listed_entries before) < length front.entries.items
+        → IsClearTo part (descriptor_end before id) → length (listed_entries before) < length front.entries.items
     listed before behind id entry e l c =
         let on : (more : List Identifier) × ((directory part).identifiers ≡ before ++ id ∷ more) = law.reached before behind id e c in
         subst (λ es. length (listed_entries before) < length es) (sym (f.entries ∙ ap listed_entries on.1)) (more_listed before on.0 id entry l)

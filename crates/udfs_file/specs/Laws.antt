@@ -34,9 +34,9 @@ abbrev pub IsMissingAt : List Cell → ℕ → Type 0
 IsMissingAt cs k = (n : ℕ) × (slice_get cs k ≡ Some (Gap n))
 
 -- where the descriptor behind these ends
-abbrev pub end_of : List Identifier → Identifier → ℕ
-end_of [] id = id.size
-end_of (first ∷ ids) id = first.size + end_of ids id
+abbrev pub descriptor_end : List Identifier → Identifier → ℕ
+descriptor_end [] id = id.size
+descriptor_end (first ∷ ids) id = first.size + descriptor_end ids id
 
 -- no cell before this one is missing
 abbrev pub IsClearTo : List Cell → ℕ → Type 0
@@ -50,9 +50,9 @@ pub record IsPartialDirectory (part whole : List Cell) : Type 0 where
   pub no_fault : (directory whole).rest ≡ Nothing → (f : NodeFault) → (directory part).rest ≢ Wrong f
   -- a descriptor of the whole is read exactly if no cell before its end is missing
   pub reached : (front back : List Identifier) (id : Identifier) → (directory whole).identifiers ≡ front ++ id ∷ back
-      → IsClearTo part (end_of front id) → (more : List Identifier) × ((directory part).identifiers ≡ front ++ id ∷ more)
+      → IsClearTo part (descriptor_end front id) → (more : List Identifier) × ((directory part).identifiers ≡ front ++ id ∷ more)
   pub clear : (front back : List Identifier) (id : Identifier) → (directory part).identifiers ≡ front ++ id ∷ back
-      → IsClearTo part (end_of front id)
+      → IsClearTo part (descriptor_end front id)
 
 -- the file set's block is known, and it names the same root; or it is the one hole, and it is not known
 pub data IsPartialFileSet (some : View) (n : ℕ) (a root : LongAd) : Type 0 where

@@ -2,7 +2,7 @@
 --     byte_cells holder bytes      the cells with these bytes, which one logical block holds, or none
 --     IsPieceOf piece cells        all cells are bytes of one block, or the first is missing
 --     Starts passed stretches      a block or a stretch begins there
---     IsTaken front cells          the bytes of all cells in two pieces, or the first missing block
+--     IsFrontTaken front cells          the bytes of all cells in two pieces, or the first missing block
 use Rattle.std.specs.Prelude.{◌≡◌, ◌⊎◌, ⊤, ℕ, ◌+◌, ◌-◌, ◌%◌, ◌<◌, ◌≤◌, min, List, [], ◌∷◌, ◌++◌, length, map, Option, Some, None}
 use Rattle.udfs_file.specs.declared.cells.Cell.{Cell}
 use Rattle.udfs_file.specs.declared.cells.Cell.TheVariants.{Byte, Gap}
@@ -55,6 +55,6 @@ pub record ShowsBytes (view : Pieces) (cells : List Cell) : Type 0 where
   pub holder : holder_of cells ≡ view.holder
 
 -- what was taken from the front of the cells: their bytes, or the first missing block
-abbrev pub IsTaken : Front → List Cell → Type 0
-IsTaken (front.Bytes view) cells = ShowsBytes view cells
-IsTaken (front.Gap n) cells = first_missing cells ≡ Some n
+abbrev pub IsFrontTaken : Front → List Cell → Type 0
+IsFrontTaken (front.Bytes view) cells = ShowsBytes view cells
+IsFrontTaken (front.Gap n) cells = first_missing cells ≡ Some n

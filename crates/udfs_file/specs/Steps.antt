@@ -2,7 +2,7 @@
 --     bytes_of view            the bytes of both pieces
 --     StepIs told step         what is told is this step of the definition
 --     IsStep before told after what stood next, and what is left behind it
---     Goes before told after   the same of the list of all descriptors and what ends it
+--     StepsTo before told after   the same of the list of all descriptors and what ends it
 use Rattle.std.specs.Prelude.{◌≡◌, ◌≤◌, ℕ, List, [], ◌∷◌, ◌++◌, length, drop, Option}
 use Rattle.udfs_file.specs.Fronts.{DirectoryText, identifier_in, step}
 use Rattle.udfs_file.specs.Identifiers.{Identifier, Rest, Nothing, Stopped, Wrong, AtRest, One}
@@ -44,11 +44,11 @@ pub record IsStep (before : List Cell) (told : Step) (after : List Cell) : Type 
   pub behind : after ≡ left_behind told before
 
 -- the first descriptor, and then those that are left; or the rest alone, and it stays so
-abbrev pub Goes : DirectoryText → Step → DirectoryText → Type 0
-Goes before (Id view) after = (id : Identifier) × IsDescriptor (bytes_of view) id × (before.identifiers ≡ id ∷ after.identifiers) × (before.rest ≡ after.rest)
-Goes before (Stop n) after = (before.identifiers ≡ []) × (before.rest ≡ Stopped n) × (after ≡ before)
-Goes before (Fault fault) after = (before.identifiers ≡ []) × (before.rest ≡ Wrong fault) × (after ≡ before)
-Goes before End after = (before.identifiers ≡ []) × (before.rest ≡ Nothing) × (after ≡ before)
+abbrev pub StepsTo : DirectoryText → Step → DirectoryText → Type 0
+StepsTo before (Id view) after = (id : Identifier) × IsDescriptor (bytes_of view) id × (before.identifiers ≡ id ∷ after.identifiers) × (before.rest ≡ after.rest)
+StepsTo before (Stop n) after = (before.identifiers ≡ []) × (before.rest ≡ Stopped n) × (after ≡ before)
+StepsTo before (Fault fault) after = (before.identifiers ≡ []) × (before.rest ≡ Wrong fault) × (after ≡ before)
+StepsTo before End after = (before.identifiers ≡ []) × (before.rest ≡ Nothing) × (after ≡ before)
 
 -- this is the entry of the descriptor in these bytes, if they are one
 abbrev pub IsListedIn : List ℕ → Option DirEntry → Type 0

@@ -2,7 +2,7 @@
 --     stretch_cells view s       the cells of a stretch
 --     cells_of view ss           the cells of stretches, one after the other
 --     LieInBlocks ss             all but the last fill their blocks
---     Gives view result whole    what is answered is what the definition says
+--     GivesStretches view result whole    what is answered is what the definition says
 use Rattle.std.specs.Prelude.{◌≡◌, ◌⊎◌, ⊤, ◌+◌, ◌%◌, ◌<◌, ◌≤◌, Bool, false, length, ℕ, List, [], ◌∷◌, map, flat_map, replicate, Some, None, Result, Ok, Err}
 use Rattle.std.specs.List.{range_with_len}
 use Rattle.udfs_tag.specs.declared.layouts.LongAd.{LongAd}
@@ -36,10 +36,10 @@ stretch_count (Zeros count) = count
 stretch_count (Missing n count) = count
 
 -- the last stretch begins a block, or lies in one
-abbrev pub IsLast : Stretch → Type 0
-IsLast (Recorded run count) = (run.offset ≡ 0) ⊎ (run.offset + count ≤ 2048)
-IsLast (Zeros count) = ⊤
-IsLast (Missing n count) = ⊤
+abbrev pub IsLastStretch : Stretch → Type 0
+IsLastStretch (Recorded run count) = (run.offset ≡ 0) ⊎ (run.offset + count ≤ 2048)
+IsLastStretch (Zeros count) = ⊤
+IsLastStretch (Missing n count) = ⊤
 
 -- a stretch before the last begins a block and fills its blocks, and no byte of it is missing
 abbrev pub FillsBlocks : Stretch → Type 0
@@ -50,7 +50,7 @@ FillsBlocks (Missing n count) = ⊥
 -- so at most 2048 bytes side by side lie in one block, or in the end of one and the beginning of the next
 abbrev pub LieInBlocks : List Stretch → Type 0
 LieInBlocks [] = ⊤
-LieInBlocks (s ∷ []) = IsLast s
+LieInBlocks (s ∷ []) = IsLastStretch s
 LieInBlocks (s ∷ next ∷ ss) = FillsBlocks s × LieInBlocks (next ∷ ss)
 
 -- a taken extent as a stretch, or its fault
@@ -58,7 +58,7 @@ pub record IsExtent (view : View) (size c : ℕ) (d : LongAd) (s : Stretch) : Ty
   pub no_fault : extent_fault view size (c, d) ≡ None
   pub cells : stretch_cells view s ≡ extent_cells view size (c, d)
   pub count : stretch_count s ≡ cells_in size (c, d)
-  pub last : IsLast s
+  pub last : IsLastStretch s
   pub fills : c + stretch_count s < size → FillsBlocks s
 
 -- an extent was read as its stretch, or refused for its first fault
@@ -85,10 +85,10 @@ FitsArea (Unread n) = Unit {0}
 FitsArea (Broken fault) = Unit {0}
 
 -- what is answered is what the definition says; memory may be wanted whatever it says
-abbrev pub Gives : View → Result (List Stretch) WalkError → Body → Type 0
-Gives view (Ok stretches) whole = whole ≡ cells (cells_of view stretches)
-Gives view (Err (Fault fault)) whole = whole ≡ faulty_body fault
-Gives view (Err OutOfMemory) whole = Unit {0}
+abbrev pub GivesStretches : View → Result (List Stretch) WalkError → Body → Type 0
+GivesStretches view (Ok stretches) whole = whole ≡ cells (cells_of view stretches)
+GivesStretches view (Err (Fault fault)) whole = whole ≡ faulty_body fault
+GivesStretches view (Err OutOfMemory) whole = Unit {0}
 
 -- the body that the descriptors in this area begin
 unfoldable pub listed_body : View → ℕ → ℕ → ℕ → List ℕ → Body

@@ -17,7 +17,7 @@ use Rattle.udfs_file.specs.Bodies.{cells, body, IsNeededFor}
 use Rattle.udfs_file.specs.Complete.{IsComplete, IsReadBody, IsReadDirectory, IsReadFileSet, as_cells}
 use Rattle.udfs_file.specs.Entries.{EntryFields}
 use Rattle.udfs_file.specs.Fronts.{directory, directory_entries, listed_entries}
-use Rattle.udfs_file.specs.Laws.{ArePartOf, IsBeginningOf, IsCellOf, IsClearTo, IsMissingAt, end_of}
+use Rattle.udfs_file.specs.Laws.{ArePartOf, IsBeginningOf, IsCellOf, IsClearTo, IsMissingAt, descriptor_end}
 use Rattle.udfs_file.specs.Standard.{Located}
 use Rattle.udfs_file.specs.Stretches.{cells_of}
 use Rattle.udfs_file.specs.declared.cells.Cell.{Cell}
@@ -75,7 +75,7 @@ pub record IsFrontPart (part whole : List Cell) (front : DirFront) : Type 0 wher
   -- an entry is among them exactly if no cell before the end of its descriptor is missing
   pub reached : (before behind : List Identifier) (id : Identifier) (entry : DirEntry)
       → (directory whole).identifiers ≡ before ++ id ∷ behind → id.listed ≡ Some entry
-      → (length (listed_entries before) < length front.entries.items) ↔ IsClearTo part (end_of before id)
+      → (length (listed_entries before) < length front.entries.items) ↔ IsClearTo part (descriptor_end before id)
   -- the block that ended it is one that a missing cell names
   pub stopped : (n : ℕ) → front.missing ≡ Some n → (k : ℕ) × (slice_get part k ≡ Some (Gap n))
   -- where the whole has no fault, it has none, and its entries are all of them unless a missing block ended it

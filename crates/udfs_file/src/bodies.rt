@@ -35,7 +35,7 @@ impl Model for Body {
 }
 
 impl Body {
-    ghost use Rattle.udfs_file.specs.Stretches.{Gives, LieInBlocks, listed_body, IsStanding};
+    ghost use Rattle.udfs_file.specs.Stretches.{GivesStretches, LieInBlocks, listed_body, IsStanding};
     ghost use Rattle.udfs_file.specs.Entries.{entry_of};
     ghost use Rattle.udfs_file.specs.Bodies.{body};
     ghost use Rattle.udfs_file.specs.Told.{TellsBody};
@@ -80,7 +80,7 @@ impl Body {
         b: u32,
     ) -> Result<Body, WalkError>
         requires { IsStanding (view (state_of table.now) space.now) reference b entry.now }
-        ensures value { Gives (view (state_of table.now) space.now) result (body (view (state_of table.now) space.now) reference b (entry_of entry.now)) }
+        ensures value { GivesStretches (view (state_of table.now) space.now) result (body (view (state_of table.now) space.now) reference b (entry_of entry.now)) }
         ensures complete { TellsBody (view (state_of table.now) space.now) reference b (entry_of entry.now) result }
         ensures memory { result ≡ Err WalkError.OutOfMemory → ((entry_of entry.now).form ≡ 3) ⊎ (0 < (entry_of entry.now).size) }
     {
@@ -120,7 +120,7 @@ impl Body {
         area: &[u8],
     ) -> Result<Body, WalkError>
         requires { length area.now ≤ 2048 }
-        ensures value { Gives (view_now view.entry) result
+        ensures value { GivesStretches (view_now view.entry) result
             (listed_body (view_now view.entry) form reference size area.now) }
         ensures memory { result ≡ Err WalkError.OutOfMemory → 0 < size }
     {

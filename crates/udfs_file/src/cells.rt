@@ -4,7 +4,7 @@ ghost use Rattle.std.specs.Prelude.{◌≡◌, ℕ, ◌≤◌, ◌<◌, ◌+◌,
 ghost use Rattle.udfs_space.specs.Places as places;
 ghost use Rattle.udfs_file.specs.Stretches.{LieInBlocks, cells_of};
 ghost use Rattle.udfs_file.specs.CellsLeft.{cells_left, IsSettled, room};
-ghost use Rattle.udfs_file.specs.Pieces.{FitsPiece, IsPieceOf, IsTaken, Starts};
+ghost use Rattle.udfs_file.specs.Pieces.{FitsPiece, IsPieceOf, IsFrontTaken, Starts};
 
 use crate::pieces::{Front, Piece, Pieces, stretch_piece};
 use crate::stretches::Stretch;
@@ -101,7 +101,7 @@ impl<'a> Cells<'a> {
         requires block { want ≤ 2048 }
         requires there { want ≤ length (cells_left self.now) }
         requires lies { LieInBlocks self.now.stretches.now }
-        ensures { IsTaken result (take want (cells_left self.now)) }
+        ensures { IsFrontTaken result (take want (cells_left self.now)) }
     {
         let ahead = self.settled();
         let (first, holder) = match ahead.first_piece(want) {

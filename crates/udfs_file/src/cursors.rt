@@ -9,7 +9,7 @@ ghost use Rattle.udfs_osta.specs.Names.{fault_of, units_of};
 ghost use Rattle.udfs_file.specs.CellsLeft.{cells_left};
 ghost use Rattle.udfs_file.specs.Fronts.{checked_identifier, directory, identifier_in, identifier_size, is_listed, sized_identifier, step};
 ghost use Rattle.udfs_file.specs.Stretches.{LieInBlocks, cells_of};
-ghost use Rattle.udfs_file.specs.Steps.{Goes, IsStep, StepIs, bytes_of};
+ghost use Rattle.udfs_file.specs.Steps.{StepsTo, IsStep, StepIs, bytes_of};
 
 use crate::bodies::Body;
 use crate::cells::Cells;
@@ -228,7 +228,7 @@ impl<'a> Cursor<'a> {
     #[tactic(auto, using(crate::proofs::CursorSteps::goes))]
     pub fn next(&mut self) -> Step<'a>
         ensures step { IsStep self.old result self.new }
-        ensures directory { Goes (directory self.old) result (directory self.new) }
+        ensures directory { StepsTo (directory self.old) result (directory self.new) }
     {
         let step = ahead(&self.cells);
         if let Step::Id(view) = step {

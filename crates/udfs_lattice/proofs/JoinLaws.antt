@@ -1,27 +1,15 @@
 -- The join of several tables depends on the set of them alone.
-use Rattle.std.specs.Prelude.{◌≡◌, ◌⊎◌, ℕ, ◌==◌, Bool, true, false, cond, List, [], ◌∷◌, ◌++◌, map, Contains, refl}
-use Rattle.std.proofs.Common.{sym, ap, subst, ◌∙◌, inl, inr, ⊎_elim, arith}
+use Rattle.std.specs.Prelude.{◌≡◌, ℕ, ◌==◌, Bool, true, false, cond, List, [], ◌∷◌, ◌++◌, map, refl}
+use Rattle.std.proofs.Common.{sym, ap, subst, ◌∙◌, inl, inr, ⊎_elim}
 use Rattle.std.proofs.lemmas.Bool.{eqb-true}
 use Rattle.udfs_lattice.specs.declared.facts.Fact.TheVariants.{Unknown}
 use Rattle.udfs_lattice.specs.Laws.{ForgettingCommutes}
-use Rattle.std.proofs.lemmas.List.Elements.{Contains-append_cases, Contains-append_left, Contains-append_right, Contains-push, Contains-push_cases}
 use Rattle.udfs_lattice.specs.States.{State, IsBelow, IsBelow-trans, join_of}
 use Rattle.udfs_lattice.specs.Tables.{Table, state_of, empty_table, join_tables, IsTableBelow}
 use Rattle.udfs_lattice.specs.TableLaws.{state_of-empty, state_of-join_tables, same_table, join_tables-assoc, join_tables-comm, IsTableBelow-join_tables, IsTableBelow-second, join_tables-least, IsTableBelow-antisym}
+use Rattle.udfs_lattice.specs.Volumes.{Includes}
 use Rattle.udfs_lattice.specs.Records.{Record, table_of, join_all, IsLeastAbove, SameTables, all_records}
 use Rattle.udfs_lattice.proofs.RecordLaws.{table_of-append}
-
-nothing : (x : Table) → Contains [] x → ⊥
-nothing x h = omega arith
-
-cons_cases : (r : Table) (rs : List Table) (x : Table) → Contains (r ∷ rs) x → (r ≡ x) ⊎ Contains rs x
-cons_cases r rs x h = ⊎_elim (λ a. inl (⊎_elim (λ e. absurd (nothing x e)) (λ e. e) (Contains-push_cases [] r x a))) (λ b. inr b) (Contains-append_cases (r ∷ []) rs x h)
-
-cons_head : (r : Table) (rs : List Table) → Contains (r ∷ rs) r
-cons_head r rs = Contains-append_left (r ∷ []) rs r (Contains-push [] r)
-
-cons_tail : (r : Table) (rs : List Table) (x : Table) → Contains rs x → Contains (r ∷ rs) x
-cons_tail r rs x h = Contains-append_right (r ∷ []) rs x h
 
 below_trans : (t u v : Table) → IsTableBelow t u → IsTableBelow u v → IsTableBelow t v
 below_trans t u v h k n = IsBelow-trans (state_of t n) (state_of u n) (state_of v n) (h n) (k n)
@@ -30,15 +18,15 @@ empty_below : (t : Table) → IsTableBelow empty_table t
 empty_below t n = subst (λ (s : State). IsBelow s (state_of t n)) (sym (state_of-empty n)) tt
 
 pub join_all-least : (ts : List Table) → IsLeastAbove ts (join_all ts)
-join_all-least [] = record { above = λ t h. absurd (nothing t h); least = λ v h. empty_below v }
+join_all-least [] = record { above = λ t h. absurd h; least = λ v h. empty_below v }
 join_all-least (x ∷ ts) =
     let rest = join_all-least ts in
     record {
       above = λ t h. ⊎_elim
           (λ (e : x ≡ t). subst (λ (u : Table). IsTableBelow u (join_tables x (join_all ts))) e (IsTableBelow-join_tables x (join_all ts)))
-          (λ (k : Contains ts t). below_trans t (join_all ts) (join_tables x (join_all ts)) (rest.above t k) (IsTableBelow-second x (join_all ts)))
-          (cons_cases x ts t h);
-      least = λ v h. join_tables-least x (join_all ts) v (h x (cons_head x ts)) (rest.least v (λ t k. h t (cons_tail x ts t k)));
+          (λ (k : Includes ts t). below_trans t (join_all ts) (join_tables x (join_all ts)) (rest.above t k) (IsTableBelow-second x (join_all ts)))
+          h;
+      least = λ v h. join_tables-least x (join_all ts) v (h x (inl refl)) (rest.least v (λ t k. h t (inr k)));
     }
 
 pub join_all-same : (ts us : List Table) → SameTables ts us → join_all ts ≡ join_all us

@@ -8,6 +8,7 @@ pub mod PacketRanks
 pub mod PacketStates
 pub mod PacketTables
 pub mod PacketWrites
+pub mod Inclusion
 pub mod RecordLaws
 pub mod EntryLaws
 pub mod JoinLaws

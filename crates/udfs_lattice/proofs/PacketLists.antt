@@ -17,7 +17,7 @@ use Rattle.udfs_lattice.specs.Tables.{Table, state_of, entries_of, known_count, 
 use Rattle.udfs_lattice.specs.TableLaws.{same_table, state_of-empty}
 use Rattle.udfs_lattice.specs.Records.{table_of_entries, IsEntry, RisesFrom}
 use Rattle.udfs_lattice.specs.Packets.{IsPacketTable, IsFirstLeft, entries_left}
-use Rattle.udfs_lattice.specs.PacketTables.{found_packet, packet_at, table_packets, IsPacketFound, ArePackets, IsPacketMap, block_entry, block_entries, entries_of_packets, IsFound}
+use Rattle.udfs_lattice.specs.PacketTables.{found_packet, packet_at, table_packets, IsPacketFound, ArePackets, IsPacketMap, block_entry, block_entries, entries_of_packets, IsEntryFound}
 use Rattle.udfs_lattice.proofs.EntryLaws.{state_of-cons, entries_of-rising, few_entries}
 use Rattle.udfs_lattice.proofs.PacketEntries.{rises_lower, rises-entries_from, entries_of-packet, places-packet, table_of_entries-packet, IsTable-packet}
 use Rattle.udfs_lattice.proofs.PacketTables.{state_of-table_packets, is_at-nat}
@@ -209,7 +209,7 @@ few_counted test m h =
     omega arith
 
 -- ---- the first entry of several packets
-pub found_first : (all now rest : List (ℕ × Table)) (k : ℕ) (t : Table) (i : ℕ) (s : State) → entries_of_packets all ≡ entries_of_packets now → All (λ (p : ℕ × Table). p.0 < 131072) now → now ≡ (k, t) ∷ rest → IsFirstLeft t 0 (i, s) → IsFound all k t i s rest
+pub found_first : (all now rest : List (ℕ × Table)) (k : ℕ) (t : Table) (i : ℕ) (s : State) → entries_of_packets all ≡ entries_of_packets now → All (λ (p : ℕ × Table). p.0 < 131072) now → now ≡ (k, t) ∷ rest → IsFirstLeft t 0 (i, s) → IsEntryFound all k t i s rest
 found_first all now rest k t i s same small is first = record {
   number = All-head (λ (p : ℕ × Table). p.0 < 131072) (k, t) rest (subst (All (λ (p : ℕ × Table). p.0 < 131072)) is small);
   place = first.0;

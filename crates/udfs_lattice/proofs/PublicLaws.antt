@@ -1,7 +1,9 @@
 -- The laws of this crate that proofs above it use. Each has the statement of its name, which the function named before it in
 -- src/laws.rt ensures.
-use Rattle.std.proofs.Common.{◌+◌, ◌≤◌, length, arith}
-use Rattle.udfs_lattice.specs.Laws.{AscendingIncludes, CompleteAgrees, CompleteKnows, EntriesRise, EntriesMakeTable, EntriesTellStates, RisingAreEntries, RisingMakeTable, FewEntries, SetMakesTable, TablesMakeJoin, RecordsMakeJoin, RecordAdded, EntryAdded, TableAdded, EntryBefore}
+use Rattle.std.proofs.Common.{List, ◌+◌, ◌≤◌, length, arith}
+use Rattle.udfs_lattice.specs.Laws.{IncludedIsContained, AscendingIncludes, CompleteAgrees, CompleteKnows, EntriesRise, EntriesMakeTable, EntriesTellStates, RisingAreEntries, RisingMakeTable, FewEntries, SetMakesTable, TablesMakeJoin, RecordsMakeJoin, RecordAdded, EntryAdded, TableAdded, EntryBefore}
+use Rattle.udfs_lattice.specs.Records.{Record, IsTableOf, table_of}
+use Rattle.udfs_lattice.proofs.Inclusion as inclusion
 use Rattle.udfs_lattice.proofs.VolumeLaws as volumes
 use Rattle.udfs_lattice.proofs.EntryLaws as entries
 use Rattle.udfs_lattice.proofs.EntryStates as states
@@ -14,6 +16,14 @@ complete_agrees = volumes.complete_agrees
 
 pub complete_knows : CompleteKnows
 complete_knows = volumes.complete_knows
+
+-- table_of_records
+pub table_is_of_records : (rs : List Record) → IsTableOf rs (table_of rs)
+table_is_of_records = records.IsTableOf-table_of
+
+-- inclusion_is_by_place
+pub included_is_contained : {A : Type 0} → IncludedIsContained A
+included_is_contained = inclusion.included_is_contained
 
 -- ascending_has_the_same_numbers
 pub ascending_includes : AscendingIncludes

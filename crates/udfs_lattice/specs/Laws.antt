@@ -2,6 +2,7 @@
 -- of two tables are in TableLaws.
 --     CompleteAgrees       the table that knows all of a volume agrees with it
 --     CompleteKnows        and knows exactly the blocks up to the last one, with the volume's bytes
+--     IncludedIsContained  that x is one of xs says that it stands at some place of xs
 --     AscendingIncludes    the ascending list of some numbers has these numbers
 --     EntriesRise          the entries of a table rise
 --     EntriesMakeTable     and the table is that of its entries
@@ -17,12 +18,16 @@
 --     SettlingCommutes         and so with the blocks in conflict
 --     NamedAreIncluded     a block is named where it is one of the list
 --     RecordAdded, EntryAdded, TableAdded, EntryBefore       one more is joined in
-use Rattle.std.specs.Prelude.{◌≡◌, ◌≢◌, ◌↔◌, ◌≤◌, ◌==◌, ℕ, true, List, [], ◌∷◌, ◌++◌, cond, length, map}
+use Rattle.std.specs.Prelude.{◌≡◌, ◌≢◌, ◌↔◌, ◌≤◌, ◌==◌, ℕ, true, List, [], ◌∷◌, ◌++◌, cond, length, map, Contains}
 use Rattle.udfs_lattice.specs.declared.facts.Fact.TheVariants.{Unknown, Known, Conflict}
 use Rattle.udfs_lattice.specs.States.{State, join_of}
 use Rattle.udfs_lattice.specs.Tables.{Table, state_of, entries_of, join_tables, one_entry, one_record, IsTable, IsForgotten, AreForgotten, IsWithoutConflicts, is_named}
 use Rattle.udfs_lattice.specs.Records.{Record, SameRecords, SameTables, all_records, join_all, table_of, table_of_entries, RisesFrom}
 use Rattle.udfs_lattice.specs.Volumes.{Includes, Volume, Agrees, ascending, complete}
+
+-- x is one of xs exactly where it stands at some place of xs
+abbrev pub IncludedIsContained : Type 0 → Type 0
+IncludedIsContained A = (xs : List A) (x : A) → Includes xs x ↔ Contains xs x
 
 -- the table that knows all of a volume agrees with it
 abbrev pub CompleteAgrees : Type 0

@@ -81,7 +81,7 @@ abbrev pub AreEntries : Option (ℕ × Bor Table) → List (ℕ × Table) → Ty
 AreEntries here ps = IsHere here × All (λ (e : ℕ × Table). e.0 < 131072) ps
 
 -- the first entry of the packets is at this place of the packet k, and `rest` are the packets after it
-pub record IsFound (packets : List (ℕ × Table)) (k : ℕ) (t : Table) (i : ℕ) (s : State) (rest : List (ℕ × Table)) : Type 0 where
+pub record IsEntryFound (packets : List (ℕ × Table)) (k : ℕ) (t : Table) (i : ℕ) (s : State) (rest : List (ℕ × Table)) : Type 0 where
   pub number : k < 131072
   pub place : i < 32
   pub entries : entries_of_packets packets ≡ (k * 32 + i, s) ∷ (block_entries k (entries_left t (i + 1)) ++ entries_of_packets rest)

@@ -1,7 +1,7 @@
 //! Laws of tables, each the contract of a function that does nothing.
 ghost use Rattle.std.specs.Prelude.{◌≡◌, ◌⊎◌, ◌↔◌, ◌≤◌, ℕ, List, map};
 ghost use Rattle.udfs_lattice.specs.declared.facts.Fact.TheVariants.{Known, Conflict};
-ghost use Rattle.udfs_lattice.specs.Laws.{AscendingIncludes, CompleteAgrees, CompleteKnows, EntriesMakeTable, EntriesRise, EntriesTellStates, EntryAdded, EntryBefore, FewEntries, RecordAdded, ForgettingAllCommutes, ForgettingCommutes, NamedAreIncluded, RecordsMakeJoin, RisingAreEntries, RisingMakeTable, SetMakesTable, SettlingCommutes, TableAdded, TablesMakeJoin};
+ghost use Rattle.udfs_lattice.specs.Laws.{IncludedIsContained, AscendingIncludes, CompleteAgrees, CompleteKnows, EntriesMakeTable, EntriesRise, EntriesTellStates, EntryAdded, EntryBefore, FewEntries, RecordAdded, ForgettingAllCommutes, ForgettingCommutes, NamedAreIncluded, RecordsMakeJoin, RisingAreEntries, RisingMakeTable, SetMakesTable, SettlingCommutes, TableAdded, TablesMakeJoin};
 ghost use Rattle.udfs_lattice.specs.Records.{Record, IsTableOf, SameRecords, table_of, table_of_entries, RisesFrom, join_all, IsLeastAbove, SameTables, all_records};
 ghost use Rattle.udfs_lattice.specs.States.{State};
 ghost use Rattle.udfs_lattice.specs.Volumes.{Volume, Agrees, Includes, complete, ascending};
@@ -60,6 +60,13 @@ pub fn complete_volume_agrees()
     ensures knows { CompleteKnows }
     ensures above { (t u : Table) (n : ℕ) (bytes : List ℕ) → IsTableBelow t u → state_of t n ≡ Known bytes →
         (state_of u n ≡ Known bytes) ⊎ (state_of u n ≡ Conflict) }
+{}
+
+/// That something is one of a list says that it stands at some place of it, as the standard library has it.
+pub fn inclusion_is_by_place()
+    ensures blocks { IncludedIsContained ℕ }
+    ensures records { IncludedIsContained Record }
+    ensures tables { IncludedIsContained Table }
 {}
 
 /// The ascending list of some numbers has these numbers and no other.

@@ -6,7 +6,7 @@ ghost use Rattle.udfs_lattice.specs.States.{fact_now, entry_now};
 ghost use Rattle.udfs_lattice.specs.Tables.{state_of, entries_of, known_count, conflict_count, empty_table, one_record, one_entry, join_tables, IsStateAt, IsTable, IsTableBelow, IsForgotten, AreForgotten, IsWithoutConflicts};
 ghost use Rattle.udfs_lattice.specs.TableLaws.{join_tables-comm, join_tables-assoc, join_tables-idem, IsTableBelow-join_tables, join_tables-least};
 ghost use Rattle.udfs_lattice.specs.Packets.{IsPacketTable};
-ghost use Rattle.udfs_lattice.specs.PacketTables.{one_packet, IsUnknownPacket, IsFound, IsSettledIn, entries_of_packets};
+ghost use Rattle.udfs_lattice.specs.PacketTables.{one_packet, IsUnknownPacket, IsEntryFound, IsSettledIn, entries_of_packets};
 ghost use Rattle.udfs_lattice.specs.declared.facts.Fact.TheVariants.{Unknown};
 
 use crate::error::TableError;
@@ -313,7 +313,7 @@ struct Found<'a> {
 /// The first entry of the packets that are left, of which its own is taken.
 fn first_entry<'a>(packets: &mut Iter<'a, u32, Packet>) -> Option<Found<'a>>
     requires { All (λ e. e.0 < 131072) packets.old }
-    ensures some { IfSome result (λ f. IsFound packets.old f.number f.packet.now f.place (fact_now f.fact) packets.new) }
+    ensures some { IfSome result (λ f. IsEntryFound packets.old f.number f.packet.now f.place (fact_now f.fact) packets.new) }
     ensures none { IfNone result ((entries_of_packets packets.old ≡ []) × (entries_of_packets packets.new ≡ [])) }
     ensures later { All (λ e. e.0 < 131072) packets.new }
 {

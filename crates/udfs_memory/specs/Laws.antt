@@ -3,13 +3,13 @@ use Rattle.std.specs.Prelude.{◌≡◌, ◌⊎◌, ℕ, ◌≤◌, List, [], �
 use Rattle.std.proofs.Common.{inl, inr, arith}
 use Rattle.udfs_files.specs.Disk.{Disk}
 use Rattle.udfs_memory.specs.declared.memory.Event.{Event}
-use Rattle.udfs_memory.specs.Log.{outcome, outcome_since}
+use Rattle.udfs_memory.specs.Log.{crash_outcome, outcome_since}
 
-pub counts_now : (es : List Event) (t : ℕ) (c : Disk) → outcome es c → outcome_since es t c
+pub counts_now : (es : List Event) (t : ℕ) (c : Disk) → crash_outcome es c → outcome_since es t c
 counts_now [] t c now = now
 counts_now (e ∷ es) t c now = inl now
 
-pub only_now : (es : List Event) (c : Disk) → outcome_since es (length es) c → outcome es c
+pub only_now : (es : List Event) (c : Disk) → outcome_since es (length es) c → crash_outcome es c
 only_now [] c left = left
 only_now (e ∷ es) c (inl now) = now
 only_now (e ∷ es) c (inr before) = absurd (omega (arith, before.0))

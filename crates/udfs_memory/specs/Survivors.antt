@@ -6,7 +6,7 @@ use Rattle.std.proofs.lemmas.Slice.Eq.{bytes_eq-Decides}
 use Rattle.udfs_files.specs.Disk.{Disk, SameBut, Moved, After, folder_of}
 use Rattle.udfs_memory.specs.declared.memory.Event.{Event}
 use Rattle.udfs_memory.specs.declared.memory.Event.TheVariants.{Begun, Written, Renamed, Removed, Named}
-use Rattle.udfs_memory.specs.Log.{held, kept, outcome}
+use Rattle.udfs_memory.specs.Log.{held, may_be_kept, crash_outcome}
 
 -- bytes as they are now, if there are any
 abbrev pub option_now : Option (Bor (List ℕ)) → Option (List ℕ)
@@ -44,26 +44,26 @@ decide p q = ⊎_elim (λ t. inl (t, (bytes_eq-Decides p q).0 t)) (λ f. inr (f,
 abbrev best : List Event → Disk
 best es p = or_none (held es p)
 
-kept_best : (es : List Event) (p : List ℕ) → kept es p (best es p)
+kept_best : (es : List Event) (p : List ℕ) → may_be_kept es p (best es p)
 kept_best [] p = refl
 kept_best (Begun q ∷ es) p = elim (decide p q.items) [
   | inl hit ↦ inl hit.1
-  | inr miss ↦ subst (λ b. kept (Begun q ∷ es) p (or_none (if b then None else held es p))) (sym miss.0) (inr (kept_best es p))
+  | inr miss ↦ subst (λ b. may_be_kept (Begun q ∷ es) p (or_none (if b then None else held es p))) (sym miss.0) (inr (kept_best es p))
 ]
 kept_best (Written q bytes ∷ es) p = elim (decide p q.items) [
-  | inl hit ↦ subst (λ b. kept (Written q bytes ∷ es) p (or_none (if b then Some (Some bytes.items) else held es p))) (sym hit.0) (inl (hit.1, refl))
-  | inr miss ↦ subst (λ b. kept (Written q bytes ∷ es) p (or_none (if b then Some (Some bytes.items) else held es p))) (sym miss.0) (inr (miss.1, kept_best es p))
+  | inl hit ↦ subst (λ b. may_be_kept (Written q bytes ∷ es) p (or_none (if b then Some (Some bytes.items) else held es p))) (sym hit.0) (inl (hit.1, refl))
+  | inr miss ↦ subst (λ b. may_be_kept (Written q bytes ∷ es) p (or_none (if b then Some (Some bytes.items) else held es p))) (sym miss.0) (inr (miss.1, kept_best es p))
 ]
 kept_best (Renamed from to ∷ es) p = elim (decide p to.items) [
-  | inl hit ↦ subst (λ b. kept (Renamed from to ∷ es) p (or_none (if b then held es from.items else if bytes_eq p from.items then Some None else held es p))) (sym hit.0) (inl (hit.1, kept_best es from.items))
-  | inr miss ↦ subst (λ b. kept (Renamed from to ∷ es) p (or_none (if b then held es from.items else if bytes_eq p from.items then Some None else held es p))) (sym miss.0) (elim (decide p from.items) [
-    | inl hit ↦ subst (λ b. kept (Renamed from to ∷ es) p (or_none (if b then Some None else held es p))) (sym hit.0) (inr (inl (hit.1, miss.1, refl)))
-    | inr apart ↦ subst (λ b. kept (Renamed from to ∷ es) p (or_none (if b then Some None else held es p))) (sym apart.0) (inr (inr (apart.1, miss.1, kept_best es p)))
+  | inl hit ↦ subst (λ b. may_be_kept (Renamed from to ∷ es) p (or_none (if b then held es from.items else if bytes_eq p from.items then Some None else held es p))) (sym hit.0) (inl (hit.1, kept_best es from.items))
+  | inr miss ↦ subst (λ b. may_be_kept (Renamed from to ∷ es) p (or_none (if b then held es from.items else if bytes_eq p from.items then Some None else held es p))) (sym miss.0) (elim (decide p from.items) [
+    | inl hit ↦ subst (λ b. may_be_kept (Renamed from to ∷ es) p (or_none (if b then Some None else held es p))) (sym hit.0) (inr (inl (hit.1, miss.1, refl)))
+    | inr apart ↦ subst (λ b. may_be_kept (Renamed from to ∷ es) p (or_none (if b then Some None else held es p))) (sym apart.0) (inr (inr (apart.1, miss.1, kept_best es p)))
   ])
 ]
 kept_best (Removed q ∷ es) p = elim (decide p q.items) [
-  | inl hit ↦ subst (λ b. kept (Removed q ∷ es) p (or_none (if b then Some None else held es p))) (sym hit.0) (inl (hit.1, refl))
-  | inr miss ↦ subst (λ b. kept (Removed q ∷ es) p (or_none (if b then Some None else held es p))) (sym miss.0) (inr (miss.1, kept_best es p))
+  | inl hit ↦ subst (λ b. may_be_kept (Removed q ∷ es) p (or_none (if b then Some None else held es p))) (sym hit.0) (inl (hit.1, refl))
+  | inr miss ↦ subst (λ b. may_be_kept (Removed q ∷ es) p (or_none (if b then Some None else held es p))) (sym miss.0) (inr (miss.1, kept_best es p))
 ]
 kept_best (Named q ∷ es) p = kept_best es p
 
@@ -74,8 +74,8 @@ elsewhere : (these : List ℕ → Bool) (h d : Disk) (p : List ℕ) → these p 
 elsewhere these h d p is = ap (λ b. if b then h p else d p) is
 
 -- these paths are brought to the disk, past a call that leaves anything at another
-commit_past : (es : List Event) (these : List ℕ → Bool) (own : List ℕ) (v : Disk) → ((q : List ℕ) → q ≢ own → v q ≡ best es q) → ((d : Disk) → outcome es d → outcome es (brought these (best es) d))
-    → (d : Disk) → After (outcome es) (SameBut own) d → After (outcome es) (SameBut own) (brought these v d)
+commit_past : (es : List Event) (these : List ℕ → Bool) (own : List ℕ) (v : Disk) → ((q : List ℕ) → q ≢ own → v q ≡ best es q) → ((d : Disk) → crash_outcome es d → crash_outcome es (brought these (best es) d))
+    → (d : Disk) → After (crash_outcome es) (SameBut own) d → After (crash_outcome es) (SameBut own) (brought these v d)
 commit_past es these own v is earlier d left = (
   brought these (best es) left.0,
   earlier left.0 left.1,
@@ -85,7 +85,7 @@ commit_past es these own v is earlier d left = (
   ],
 )
 
-commit : (es : List Event) (these : List ℕ → Bool) (d : Disk) → outcome es d → outcome es (brought these (best es) d)
+commit : (es : List Event) (these : List ℕ → Bool) (d : Disk) → crash_outcome es d → crash_outcome es (brought these (best es) d)
 commit [] these d left = λ p. elim (cases_Bool (these p)) [ inl here ↦ there these (best []) d p here | inr far ↦ elsewhere these (best []) d p far ∙ left p ]
 commit (Begun own ∷ es) these d left = commit_past es these own.items (best (Begun own ∷ es)) (λ q other. elim (decide q own.items) [ inl hit ↦ absurd (other hit.1) | inr miss ↦ ap (λ b. or_none (if b then None else held es q)) miss.0 ]) (commit es these) d left
 commit (Written own bytes ∷ es) these d left = commit_past es these own.items (best (Written own bytes ∷ es)) (λ q other. elim (decide q own.items) [ inl hit ↦ absurd (other hit.1) | inr miss ↦ ap (λ b. or_none (if b then Some (Some bytes.items) else held es q)) miss.0 ]) (commit es these) d left
@@ -105,22 +105,22 @@ commit (Renamed from to ∷ es) these d left =
           | inr far ↦ elsewhere these v d p far ∙ left.2.others p not_from not_to ∙ sym (elsewhere these (best es) left.0 p far)
         ];
         target = elim (cases_Bool (these to.items)) [
-          | inl here ↦ inr (subst (kept es from.items) (sym (there these v d to.items here ∙ new)) (kept_best es from.items))
+          | inl here ↦ inr (subst (may_be_kept es from.items) (sym (there these v d to.items here ∙ new)) (kept_best es from.items))
           | inr far ↦
               let stays : brought these v d to.items ≡ d to.items = elsewhere these v d to.items far in
-              ⊎_elim (λ same. inl (stays ∙ same ∙ sym (elsewhere these (best es) left.0 to.items far))) (λ moved. inr (subst (kept es from.items) (sym stays) moved)) left.2.target
+              ⊎_elim (λ same. inl (stays ∙ same ∙ sym (elsewhere these (best es) left.0 to.items far))) (λ moved. inr (subst (may_be_kept es from.items) (sym stays) moved)) left.2.target
         ];
       },
     )
 commit (Named own ∷ es) these d left = (
   commit es these d left.0,
   λ p is. elim (cases_Bool (these p)) [
-    | inl here ↦ subst (kept es p) (sym (there these (best es) d p here)) (kept_best es p)
-    | inr far ↦ subst (kept es p) (sym (elsewhere these (best es) d p far)) (left.1 p is)
+    | inl here ↦ subst (may_be_kept es p) (sym (there these (best es) d p here)) (kept_best es p)
+    | inr far ↦ subst (may_be_kept es p) (sym (elsewhere these (best es) d p far)) (left.1 p is)
   ],
 )
 
-pub lost_may_be : (es : List Event) → outcome es (lost es)
+pub lost_may_be : (es : List Event) → crash_outcome es (lost es)
 lost_may_be [] = λ p. refl
 lost_may_be (Begun q ∷ es) = (lost es, lost_may_be es, λ p other. refl)
 lost_may_be (Written q bytes ∷ es) = (lost es, lost_may_be es, λ p other. refl)
@@ -129,5 +129,5 @@ lost_may_be (Renamed from to ∷ es) = (lost es, lost_may_be es, record { others
 lost_may_be (Named q ∷ es) = (
   commit es (beside q.items) (lost es) (lost_may_be es),
   λ p is.
-      subst (kept es p) (sym (there (beside q.items) (best es) (lost es) p ((bytes_eq-Decides (folder_of p) (folder_of q.items)).1 is))) (kept_best es p),
+      subst (may_be_kept es p) (sym (there (beside q.items) (best es) (lost es) p ((bytes_eq-Decides (folder_of p) (folder_of q.items)).1 is))) (kept_best es p),
 )

@@ -1,7 +1,7 @@
 //! Files in memory that can crash. What is kept is the log of the calls, and what the files hold is read from it.
 
 ghost use Rattle.std.specs.Prelude.{◌≡◌, ℕ, List, Option, length, true, Some, None, IfOk, OnOk, OnErr, IsErr, [], ◌∷◌, take, ◌≤◌, bytes_eq, ⊤};
-ghost use Rattle.udfs_memory.specs.Log.{held, kept, outcome, outcome_since, found_of};
+ghost use Rattle.udfs_memory.specs.Log.{held, may_be_kept, crash_outcome, outcome_since, search_result};
 ghost use Rattle.udfs_memory.specs.Survivors.{lost, lost_may_be, option_now, beside};
 ghost use Rattle.udfs_memory.specs.Laws.{counts_now as log_counts_now, only_now as log_only_now};
 ghost use Rattle.udfs_files.specs.Disk.{folder_of, has_slash};
@@ -46,7 +46,7 @@ fn is_same(a: &[u8], b: &[u8]) -> bool
 }
 
 fn find<'a>(log: &'a [Event], path: &'a [u8]) -> Found<'a>
-    ensures { found_of result ≡ held log.now path.now }
+    ensures { search_result result ≡ held log.now path.now }
 {
     match log {
         [] => Found::Absent,
@@ -311,9 +311,9 @@ impl Files for Memory {
 
     ghost shut = { λ _ _. ⊤ };
 
-    ghost kept = { λ m p c. kept m.log.items p c };
+    ghost kept = { λ m p c. may_be_kept m.log.items p c };
 
-    ghost may_leave = { λ m c. outcome m.log.items c };
+    ghost may_leave = { λ m c. crash_outcome m.log.items c };
 
     ghost moment = { λ m. length m.log.items };
 

@@ -2,7 +2,7 @@
 use Rattle.std.proofs.Common.{◌≡◌, ℕ, List, [], ◌++◌, cond, take, drop, refl, sym, ap, ◌∙◌}
 use Rattle.std.specs.Prelude.{Result, Ok, Err, is_ok, OnOk, OnErr}
 use Rattle.std.proofs.lemmas.List.{append_assoc, append-nil, take-append-drop}
-use Rattle.udfs_osta.specs.Texts.{AppendsPart, Progress}
+use Rattle.udfs_osta.specs.Texts.{AppendsPart, IsPartWritten}
 
 pub at_err : {T E P : Type 0} (r : Result T E) → P → OnErr r P
 at_err (Ok x) p = tt
@@ -36,17 +36,17 @@ AppendsPart-next old middle new first rest e a = record {
 }
 
 -- a loop that appends piece by piece: its start, a step, a refusal in a step, and its end
-pub Progress-start : (old whole : List ℕ) → Progress old old whole whole
+pub Progress-start : (old whole : List ℕ) → IsPartWritten old old whole whole
 Progress-start old whole = record { done = []; so_far = sym (append-nil old); left = refl }
 
-pub Progress-step : (old middle new whole first rest : List ℕ) → Progress old middle whole (first ++ rest) → new ≡ middle ++ first → Progress old new whole rest
+pub Progress-step : (old middle new whole first rest : List ℕ) → IsPartWritten old middle whole (first ++ rest) → new ≡ middle ++ first → IsPartWritten old new whole rest
 Progress-step old middle new whole first rest p e = record {
   done = p.done ++ first;
   so_far = e ∙ ap (λ x. x ++ first) p.so_far ∙ append_assoc old p.done first;
   left = append_assoc p.done first rest ∙ p.left;
 }
 
-pub Progress-stop : (old middle new whole first rest : List ℕ) → Progress old middle whole (first ++ rest) → AppendsPart middle new first → AppendsPart old new whole
+pub Progress-stop : (old middle new whole first rest : List ℕ) → IsPartWritten old middle whole (first ++ rest) → AppendsPart middle new first → AppendsPart old new whole
 Progress-stop old middle new whole first rest p a = record {
   part = p.done ++ a.part;
   more = a.more ++ rest;
@@ -58,11 +58,11 @@ Progress-stop old middle new whole first rest p a = record {
 }
 
 -- a refusal in what is left
-pub Progress-cut : (old middle new whole rest : List ℕ) → Progress old middle whole rest → AppendsPart middle new rest → AppendsPart old new whole
+pub Progress-cut : (old middle new whole rest : List ℕ) → IsPartWritten old middle whole rest → AppendsPart middle new rest → AppendsPart old new whole
 Progress-cut old middle new whole rest p a =
     Progress-stop old middle new whole rest [] (record { done = p.done; so_far = p.so_far; left = ap (λ x. p.done ++ x) (append-nil rest) ∙ p.left }) a
 
-pub Progress-end : (old new whole : List ℕ) → Progress old new whole [] → new ≡ old ++ whole
+pub Progress-end : (old new whole : List ℕ) → IsPartWritten old new whole [] → new ≡ old ++ whole
 Progress-end old new whole p = p.so_far ∙ ap (λ x. old ++ x) (sym (append-nil p.done) ∙ p.left)
 
 -- a text that a last `push` or `push_str` ends, where what comes before it is there

@@ -1,4 +1,5 @@
 -- What an escaped name never is and never holds.
+use Rattle.std.specs.Fmt.{digit_glyph}
 use Rattle.std.proofs.Common.{◌≡◌, ℕ, ◌+◌, ◌/◌, ◌%◌, ◌<◌, ◌≤◌, ◌&&◌, ◌==◌, nat_lt, true, false, ltb, eq-eqb, length-append, List, [], ◌∷◌, ◌++◌, length, refl, sym, subst, ◌∙◌, arith}
 use Rattle.std.specs.List.{flat_map, list_all}
 use Rattle.std.specs.Str.{encode_utf8_all}
@@ -6,7 +7,7 @@ use Rattle.std.specs.Char.Utf16.{is_high_surrogate, is_low_surrogate, surrogate_
 use Rattle.std.proofs.lemmas.Bool.{false≢true}
 use Rattle.std.proofs.lemmas.Bool.Decides.{nat_tests}
 use lib.Utf8.{encode}
-use Rattle.udfs_osta.specs.Escapes.{hex_digit, escape, must_escape, shown_unit, shown, is_dots, escaped}
+use Rattle.udfs_osta.specs.Escapes.{escape, must_escape, shown_unit, shown, is_dots, escaped}
 use Rattle.udfs_osta.specs.Parts.{IsPlain, AllPlain, IsPathPart}
 use Rattle.udfs_osta.proofs.Choices.{chosen, and_true}
 
@@ -14,7 +15,7 @@ AllPlain-append : (xs ys : List ℕ) → AllPlain xs → AllPlain ys → AllPlai
 AllPlain-append [] ys h k = k
 AllPlain-append (x ∷ xs) ys h k = (h.0, AllPlain-append xs ys h.1 k)
 
-hex_plain : (n : ℕ) → IsPlain (hex_digit n)
+hex_plain : (n : ℕ) → IsPlain (digit_glyph true n)
 hex_plain n = chosen IsPlain (nat_lt n 10) (48 + n) (55 + n) (λ e. (omega arith, λ s. omega arith)) (λ e. let h : 10 ≤ n = grind (arith, nat_tests) in (omega arith, λ s. omega arith))
 
 escape_plain : (u : ℕ) → AllPlain (escape u)

@@ -1,4 +1,5 @@
 -- An escaped form tells the units: the characters are read back, and no two lists of characters have one UTF-8.
+use Rattle.std.specs.Fmt.{digit_glyph}
 use Rattle.std.proofs.Common.{◌≡◌, ℕ, zero, suc, ◌+◌, ◌-◌, ◌*◌, ◌/◌, ◌%◌, ◌<◌, ◌≤◌, ◌^◌, ◌&&◌, ◌==◌, nat_lt, true, false, cond, List, [], ◌∷◌, ◌++◌, refl, sym, ap, ◌∙◌, arith}
 use Rattle.std.specs.Prelude.{slice_index}
 use Rattle.std.specs.List.{flat_map}
@@ -9,7 +10,7 @@ use Rattle.std.proofs.lemmas.List.Elements.{recursion_from_All}
 use Rattle.std.specs.List.{AllByRecursion}
 use Rattle.std.proofs.lemmas.Bool.Decides.{nat_tests}
 use Rattle.udfs_osta.specs.Names.{AreUnits}
-use Rattle.udfs_osta.specs.Escapes.{hex_digit, escape, must_escape, shown_unit, shown, is_dots, escaped}
+use Rattle.udfs_osta.specs.Escapes.{escape, must_escape, shown_unit, shown, is_dots, escaped}
 use Rattle.udfs_osta.proofs.Choices.{chosen}
 
 -- the value of an upper-case hexadecimal digit
@@ -35,11 +36,11 @@ told zero (c ∷ cs) =
     cond (c == 92) (escaped_unit cs ∷ told 5 cs) (cond (nat_lt c 0x1_0000) (c ∷ told zero cs) (high_of c ∷ low_of c ∷ told zero cs))
 told (suc n) (c ∷ cs) = told n cs
 
-hex_back : (n : ℕ) → n < 16 → hex_value (hex_digit n) ≡ n
+hex_back : (n : ℕ) → n < 16 → hex_value (digit_glyph true n) ≡ n
 hex_back n h = grind (arith, nat_tests)
 
 digits_back : (u : ℕ) → u < 2 ^ 16
-    → hex_value (hex_digit (u / 4096)) * 4096 + hex_value (hex_digit (u / 256 % 16)) * 256 + hex_value (hex_digit (u / 16 % 16)) * 16 + hex_value (hex_digit (u % 16)) ≡ u
+    → hex_value (digit_glyph true (u / 4096)) * 4096 + hex_value (digit_glyph true (u / 256 % 16)) * 256 + hex_value (digit_glyph true (u / 16 % 16)) * 16 + hex_value (digit_glyph true (u % 16)) ≡ u
 digits_back u h =
     rw (hex_back (u / 4096) (omega arith), hex_back (u / 256 % 16) (omega arith), hex_back (u / 16 % 16) (omega arith), hex_back (u % 16) (omega arith)) (omega arith)
 

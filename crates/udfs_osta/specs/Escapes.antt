@@ -1,19 +1,16 @@
 -- The escaped form of a name.
 --     escaped units        the escaped form, in UTF-8
-use Rattle.std.specs.Prelude.{ℕ, ◌+◌, ◌/◌, ◌%◌, ◌==◌, ◌&&◌, ◌||◌, Bool, nat_lt, nat_le, List, [], ◌∷◌, ◌++◌, length, if◌then◌else◌}
+use Rattle.std.specs.Fmt.{digit_glyph}
+use Rattle.std.specs.Prelude.{ℕ, true, ◌+◌, ◌/◌, ◌%◌, ◌==◌, ◌&&◌, ◌||◌, Bool, nat_lt, nat_le, List, [], ◌∷◌, ◌++◌, length, if◌then◌else◌}
 use Rattle.std.specs.List.{flat_map, list_all}
 use Rattle.std.specs.Str.{encode_utf8_all}
 use Rattle.std.specs.Char.Utf16.{is_high_surrogate, is_low_surrogate, surrogate_pair_char}
 
--- an upper-case hexadecimal digit
-abbrev pub hex_digit : ℕ → ℕ
-hex_digit n = if nat_lt n 10 then 48 + n else 55 + n
-
 -- `\uXXXX`
 abbrev pub escape : ℕ → List ℕ
 escape unit =
-    92 ∷ 117 ∷ hex_digit (unit / 4096) ∷ hex_digit (unit / 256 % 16) ∷ hex_digit (unit / 16 % 16)
-    ∷ hex_digit (unit % 16) ∷ []
+    92 ∷ 117 ∷ digit_glyph true (unit / 4096) ∷ digit_glyph true (unit / 256 % 16) ∷ digit_glyph true (unit / 16 % 16)
+    ∷ digit_glyph true (unit % 16) ∷ []
 
 -- controls, `/` (2F), `\` (5C) and surrogates: asked of a unit that is half of no pair
 abbrev pub must_escape : ℕ → Bool

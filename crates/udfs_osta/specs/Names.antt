@@ -41,9 +41,9 @@ fault_of (Ok units) = None
 fault_of (Err fault) = Some fault
 
 -- what is answered is what the bytes give, and memory is wanted for units alone: never where a fault is to be told
-abbrev pub Gives : Result (List ℕ) NameFault → Result (List ℕ) NameFault → Type 0
-Gives (Ok name) given = given ≡ Ok name
-Gives (Err OutOfMemory) given = IsOk given
-Gives (Err Empty) given = given ≡ Err Empty
-Gives (Err Compression) given = given ≡ Err Compression
-Gives (Err Odd) given = given ≡ Err Odd
+abbrev pub GivesUnits : Result (List ℕ) NameFault → Result (List ℕ) NameFault → Type 0
+GivesUnits (Ok name) given = given ≡ Ok name
+GivesUnits (Err OutOfMemory) given = IsOk given
+GivesUnits (Err Empty) given = given ≡ Err Empty
+GivesUnits (Err Compression) given = given ≡ Err Compression
+GivesUnits (Err Odd) given = given ≡ Err Odd

@@ -9,7 +9,7 @@ pub record AppendsPart (old new whole : List ℕ) : Type 0 where
   pub appended : new ≡ old ++ part
 
 -- new is old with what is done so far, and the rest makes it whole: where a writer stands on its way
-pub record Progress (old new whole rest : List ℕ) : Type 0 where
+pub record IsPartWritten (old new whole rest : List ℕ) : Type 0 where
   pub done : List ℕ
   pub so_far : new ≡ old ++ done
   pub left : done ++ rest ≡ whole

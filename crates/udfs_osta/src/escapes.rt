@@ -1,5 +1,6 @@
 //! The escaped form of a name.
 
+ghost use Rattle.std.specs.Fmt.{digit_glyph};
 ghost use Rattle.std.specs.Prelude.{◌≡◌, ℕ, ◌<◌, ◌≤◌, ◌++◌, List, length, drop, take, slice_index, true, false, Ok, OnOk, OnErr, IfOk};
 ghost use Rattle.std.specs.String.{string_bytes};
 ghost use Rattle.std.specs.Str.{IsAscii, encode_utf8_all};
@@ -9,7 +10,7 @@ ghost use Rattle.std.specs.Option.{SomeIff};
 ghost use Rattle.udfs_osta.specs.Parts.{IsPathPart};
 ghost use Rattle.udfs_osta.specs.Texts.{AppendsPart};
 ghost use Rattle.udfs_osta.specs.Names.{AreUnits, units_of};
-ghost use Rattle.udfs_osta.specs.Escapes.{hex_digit, escape, must_escape, shown_unit, shown, is_dots, escaped};
+ghost use Rattle.udfs_osta.specs.Escapes.{escape, must_escape, shown_unit, shown, is_dots, escaped};
 ghost use Rattle.udfs_osta.specs.Fronts.{begins_with_pair, front_len, front_chars};
 
 use crate::texts::{OutOfMemory, push_ascii};
@@ -17,7 +18,7 @@ use crate::texts::{OutOfMemory, push_ascii};
 /// A hexadecimal digit, in upper case.
 fn hex_byte(digit: u16) -> u8
     requires { digit < 16 }
-    ensures { result ≡ hex_digit digit }
+    ensures { result ≡ digit_glyph true digit }
 {
     if digit < 10 {
         b'0' + digit as u8

@@ -65,7 +65,7 @@ impl Clone for Name {
 }
 
 impl Name {
-    ghost use Rattle.udfs_osta.specs.Names.{Gives};
+    ghost use Rattle.udfs_osta.specs.Names.{GivesUnits};
     ghost use Rattle.udfs_osta.specs.Escapes.{escaped};
 
     /// Reads a name: a first byte of 8, and then one byte a unit, or of 16, and then two bytes a unit, the high byte
@@ -77,7 +77,7 @@ impl Name {
     /// [`NameFault::Compression`], nothing after it [`NameFault::Empty`], and an odd number of bytes after 16
     /// [`NameFault::Odd`]. Only bytes with none of these are answered by [`NameFault::OutOfMemory`].
     pub fn read(alloc: Global, bytes: &[u8]) -> Result<Name, NameFault>
-        ensures value { Gives result (units_of bytes.now) }
+        ensures value { GivesUnits result (units_of bytes.now) }
         ensures name { IfOk result (λ name. IsName name) }
         ensures fault { (fault : NameFault) → units_of bytes.now ≡ Err fault → result ≡ Err fault }
         ensures memory { result ≡ Err NameFault.OutOfMemory → IsOk (units_of bytes.now) }

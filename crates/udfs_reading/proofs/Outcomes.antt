@@ -19,7 +19,7 @@ use Rattle.udfs_reading.specs.PacketFile.{packet_magic, Packet, packet_bytes, pa
 use Rattle.udfs_reading.specs.PacketReading.{IsPacketFile, PacketsRise, table_of_packets, tables_v2, packet_format}
 use Rattle.udfs_reading.specs.declared.error.ReadingError.{ReadingError}
 use Rattle.udfs_reading.specs.Answers.{IsOfFile, TakesFile}
-use Rattle.udfs_reading.specs.Inputs.{IsUnnamed, unnamed, named, kind_by, files, tables, inputs}
+use Rattle.udfs_reading.specs.Inputs.{IsUnnamed, unnamed_kind, named, kind_by, files, tables, inputs}
 use Rattle.udfs_reading.proofs.JudgeHeader.{one_list, list_or_fault, one_fault}
 use Rattle.udfs_reading.proofs.JudgeRecords as records
 use Rattle.udfs_reading.proofs.JudgeEntries as entries
@@ -90,7 +90,7 @@ unnamed_more got rest Truncated number whole h = absurd (whole refl)
 unnamed_more got rest Magic number whole h = (let long = h.0 in omega (arith, length-append got rest), h.1)
 unnamed_more got rest _ number whole h = absurd h
 
-unnamed_laws : KindLaws unnamed
+unnamed_laws : KindLaws unnamed_kind
 unnamed_laws =
     record {
       one_file = λ bytes m n t u h k. absurd h;

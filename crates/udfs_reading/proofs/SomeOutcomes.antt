@@ -8,7 +8,7 @@ use Rattle.udfs_reading.specs.Kind.{AreBytes, HasOutcome}
 use Rattle.udfs_reading.specs.Reading.{reading_format, readings}
 use Rattle.udfs_reading.specs.TableReading.{table_format}
 use Rattle.udfs_reading.specs.PacketReading.{packet_format}
-use Rattle.udfs_reading.specs.Inputs.{unnamed, named, files}
+use Rattle.udfs_reading.specs.Inputs.{unnamed_kind, named, files}
 use Rattle.udfs_reading.proofs.Magics.{same_bytes, other_bytes}
 use Rattle.udfs_reading.proofs.SomeHeader.{some_outcome}
 use Rattle.udfs_reading.proofs.SomeReading as reading
@@ -21,7 +21,7 @@ same_or_not xs ys = ⊎_elim (λ e. inl (same_bytes xs ys e)) (λ e. inr (other_
 pub some_reading : (bytes : List ℕ) → AreBytes bytes → HasOutcome readings bytes
 some_reading bytes are = some_outcome reading_format reading.behind same_or_not bytes are
 
-unnamed_outcome : (bytes : List ℕ) → HasOutcome unnamed bytes
+unnamed_outcome : (bytes : List ℕ) → HasOutcome unnamed_kind bytes
 unnamed_outcome bytes = ⊎_elim (λ short. inr (Truncated, 0, (short, refl))) (λ long. inr (Magic, 0, (long, refl))) (cases_lt (length bytes) 8)
 
 named_outcome : (a b c : Bool) (bytes : List ℕ) → AreBytes bytes → HasOutcome (named a b c) bytes

@@ -19,15 +19,15 @@ IsUnnamed bytes Magic number = (8 ≤ length bytes) × (number ≡ 0)
 IsUnnamed bytes fault number = ⊥
 
 -- bytes that name no format: none of them is a file
-abbrev pub unnamed : Kind
-unnamed = record { IsFile = λ bytes count table. ⊥; IsFaulty = IsUnnamed }
+abbrev pub unnamed_kind : Kind
+unnamed_kind = record { IsFile = λ bytes count table. ⊥; IsFaulty = IsUnnamed }
 
 -- by whether the magic is a reading's, a table file's of version 1, and one's of version 2
 abbrev pub named : Bool → Bool → Bool → Kind
 named true v1 v2 = readings
 named false true v2 = tables_v1
 named false false true = tables_v2
-named false false false = unnamed
+named false false false = unnamed_kind
 
 -- the kind of file that these eight bytes name; `too` tells whether readings are accepted
 abbrev pub kind_by : Bool → List ℕ → Kind

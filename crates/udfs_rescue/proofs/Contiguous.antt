@@ -2,7 +2,7 @@
 use Rattle.std.proofs.Common.{◌≡◌, ℕ, ◌+◌, ◌^◌, ◌<◌, true, List, [], ◌∷◌, ◌++◌, Option, None, Some, refl, sym, ap, subst, ◌∙◌, arith}
 use Rattle.std.proofs.lemmas.Bool.Decides.{nat_tests}
 use Rattle.udfs_rescue.specs.declared.run.Run.{Run}
-use Rattle.udfs_rescue.specs.Runs.{RunsFrom, AreRuns, RunsTo, DueAfter, end_of}
+use Rattle.udfs_rescue.specs.Runs.{RunsFrom, AreRuns, RunsTo, DueAfter, end_of_runs}
 use Rattle.udfs_rescue.specs.Lines.{is_due}
 
 runs_more : (p e : ℕ) (rs : List Run) (r : Run) → RunsTo p rs e → r.at ≡ e → e + r.size < 2 ^ 63 → RunsTo p (rs ++ r ∷ []) (r.at + r.size)
@@ -17,7 +17,7 @@ are_runs : (p e : ℕ) (rs : List Run) → p < 2 ^ 63 → RunsTo p rs e → AreR
 are_runs p e [] fits h = tt
 are_runs p e (r ∷ rs) fits h = (omega (arith, h.0), subst (λ n. RunsFrom n (r ∷ rs)) (sym h.0) (runs_from p e (r ∷ rs) h))
 
-end_last : (rs : List Run) (r : Run) → end_of (rs ++ r ∷ []) ≡ Some (r.at + r.size)
+end_last : (rs : List Run) (r : Run) → end_of_runs (rs ++ r ∷ []) ≡ Some (r.at + r.size)
 end_last [] r = refl
 end_last (x ∷ []) r = refl
 end_last (x ∷ y ∷ xs) r = end_last (y ∷ xs) r
@@ -32,6 +32,6 @@ pub due_runs : (due : Option ℕ) (rs : List Run) → DueAfter due rs → AreRun
 due_runs None rs h = subst AreRuns (sym h) tt
 due_runs (Some e) rs h = are_runs h.1.0 e rs h.1.1 h.1.2
 
-pub due_end : (due : Option ℕ) (rs : List Run) → DueAfter due rs → due ≡ end_of rs
-due_end None rs h = ap end_of (sym h)
+pub due_end : (due : Option ℕ) (rs : List Run) → DueAfter due rs → due ≡ end_of_runs rs
+due_end None rs h = ap end_of_runs (sym h)
 due_end (Some e) rs h = sym h.0

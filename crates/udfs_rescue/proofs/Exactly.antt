@@ -7,7 +7,7 @@ use Rattle.udfs_rescue.specs.declared.run.RunStatus.TheVariants.{NonTried, NonTr
 use Rattle.udfs_rescue.specs.declared.known.BlockRange.{BlockRange}
 use Rattle.udfs_rescue.specs.Runs.{RunsFrom}
 use Rattle.udfs_rescue.specs.Known.{IsRescued, IsKnown, InRanges, RiseFrom}
-use Rattle.udfs_rescue.specs.Ranges.{range_of, goes_on_by, goes_on, ranges_from}
+use Rattle.udfs_rescue.specs.Ranges.{range_of, goes_on_by, joins_next, ranges_from}
 
 when_true : {A : Type 0} (t : Bool) (x y : A) → t ≡ true → cond t x y ≡ x
 when_true t x y e = ap (λ s. cond s x y) e
@@ -151,12 +151,12 @@ exact_step : (s p : ℕ) (r : Run) (rs : List Run) (n : ℕ) → s ≤ p → Run
     → Exact s (p + r.size) rs n (ranges_from s (p + r.size) rs) → Exact (p + r.size) (p + r.size) rs n (ranges_from (p + r.size) (p + r.size) rs)
     → Exact s p (r ∷ rs) n (ranges_from s p (r ∷ rs))
 exact_step s p r rs n o w (Goes t f) h g =
-    let same = when_true (goes_on r) (ranges_from s (p + r.size) rs) (range_of s p ++ ranges_from (p + r.size) (p + r.size) rs) t in (
+    let same = when_true (joins_next r) (ranges_from s (p + r.size) rs) (range_of s p ++ ranges_from (p + r.size) (p + r.size) rs) t in (
       λ k i m. goes_out s p r rs (2048 * n + i) w.0 f (h.0 (subst (λ l. InRanges l n) same k) i m),
       λ k. subst (λ l. InRanges l n) (sym same) (h.1 (λ i m. goes_in s p r rs (2048 * n + i) o w.0 (k i m))),
     )
 exact_step s p r rs n o w (Stops t halts some) h g =
-    let same = when_false (goes_on r) (ranges_from s (p + r.size) rs) (range_of s p ++ ranges_from (p + r.size) (p + r.size) rs) t in (
+    let same = when_false (joins_next r) (ranges_from s (p + r.size) rs) (range_of s p ++ ranges_from (p + r.size) (p + r.size) rs) t in (
       λ k i m. ⊎_elim (λ a. let v = from_range s p n a in inl (omega (arith, v.0), omega (arith, v.1))) (λ b. inr (inr (covered_behind (p + r.size) (2048 * n + i) rs (g.0 b i m))))
           (in_append (range_of s p) (ranges_from (p + r.size) (p + r.size) rs) n (subst (λ l. InRanges l n) same k)),
       λ k. subst (λ l. InRanges l n) (sym same) (⊎_elim (λ a. append_left (range_of s p) (ranges_from (p + r.size) (p + r.size) rs) n a) (λ b. append_right (range_of s p) (ranges_from (p + r.size) (p + r.size) rs) n (g.1 b))
@@ -186,9 +186,9 @@ rise_one false start end low h o = tt
 rise_step : (low s p : ℕ) (r : Run) (rs : List Run) → low ≤ (s + 2047) / 2048 → s ≤ p → Kind r.status r.size
     → RiseFrom low (ranges_from s (p + r.size) rs) → RiseFrom low (ranges_from (p + r.size) (p + r.size) rs) → RiseFrom (p / 2048) (ranges_from (p + r.size) (p + r.size) rs)
     → RiseFrom low (ranges_from s p (r ∷ rs))
-rise_step low s p r rs o q (Goes t f) h g k = subst (RiseFrom low) (sym (when_true (goes_on r) (ranges_from s (p + r.size) rs) (range_of s p ++ ranges_from (p + r.size) (p + r.size) rs) t)) h
+rise_step low s p r rs o q (Goes t f) h g k = subst (RiseFrom low) (sym (when_true (joins_next r) (ranges_from s (p + r.size) rs) (range_of s p ++ ranges_from (p + r.size) (p + r.size) rs) t)) h
 rise_step low s p r rs o q (Stops t halts some) h g k =
-    subst (RiseFrom low) (sym (when_false (goes_on r) (ranges_from s (p + r.size) rs) (range_of s p ++ ranges_from (p + r.size) (p + r.size) rs) t))
+    subst (RiseFrom low) (sym (when_false (joins_next r) (ranges_from s (p + r.size) rs) (range_of s p ++ ranges_from (p + r.size) (p + r.size) rs) t))
     (rise_front (ltb ((s + 2047) / 2048) (p / 2048)) ((s + 2047) / 2048) (p / 2048) low (ranges_from (p + r.size) (p + r.size) rs) (λ e. ltb-true _ _ e) o k g)
 
 pub rising : (low s p : ℕ) (rs : List Run) → low ≤ (s + 2047) / 2048 → s ≤ p → RiseFrom low (ranges_from s p rs)

@@ -13,3 +13,7 @@ pub mod PairLemmas
 mod ListLines
 mod ListPieces
 mod ImageText
+mod PairTables
+mod ReadBack
+mod ReadMaps
+mod ReadImages

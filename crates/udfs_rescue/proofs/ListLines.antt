@@ -8,7 +8,7 @@ use Rattle.udfs_rescue.specs.declared.list.ListError.{ListError}
 use Rattle.udfs_rescue.specs.declared.list.ListError.TheVariants as errors
 use Rattle.udfs_rescue.specs.Numbers.{digit, digits_from, decimal_of}
 use Rattle.udfs_rescue.specs.Lines.{lines_of, next_line, onto}
-use Rattle.udfs_rescue.specs.BlockLists.{without_return, up_to_last, block_number, with_last, with_lines, list_outcome, kept, TellsBody, Tells, StandsList, TakesLine, RefusesLine, RefusesList}
+use Rattle.udfs_rescue.specs.BlockLists.{without_return, up_to_last, block_number, with_last, with_lines, list_outcome, number_kept, TellsLineBody, TellsLine, StandsList, TakesLine, RefusesLine, RefusesList}
 use Rattle.udfs_rescue.proofs.StreamLemmas.{at_end, at_more, last_end}
 use Rattle.udfs_rescue.proofs.LineLemmas.{lines_first}
 
@@ -28,31 +28,31 @@ digits_push n b (c ∷ l) = either_digit (nat_lt (digit c) 10) b (digits_from 10
 some_none : {A : Type 0} (x : A) → Some x ≡ None → A → ⊥
 some_none x e y = absurd cc
 
-still_none : (b : ℕ) (o : Option ℕ) → None ≡ kept o → None ≡ kept (and_digit b o)
+still_none : (b : ℕ) (o : Option ℕ) → None ≡ number_kept o → None ≡ number_kept (and_digit b o)
 still_none b None e = refl
 still_none b (Some v) e = absurd cc
 
-no_digit : (b : ℕ) (o : Option ℕ) → nat_lt (digit b) 10 ≡ false → None ≡ kept (and_digit b o)
+no_digit : (b : ℕ) (o : Option ℕ) → nat_lt (digit b) 10 ≡ false → None ≡ number_kept (and_digit b o)
 no_digit b None e = refl
-no_digit b (Some v) e = ap (λ t. kept (cond t (Some (v * 10 + digit b)) None)) (sym e)
+no_digit b (Some v) e = ap (λ t. number_kept (cond t (Some (v * 10 + digit b)) None)) (sym e)
 
 some_is : (x y : ℕ) → Some x ≡ Some y → x ≡ y
 some_is x y e = cc
 
-one_digit : (b x d r : ℕ) (o : Option ℕ) → d ≡ digit b → nat_lt (digit b) 10 ≡ true → Some x ≡ kept o → r ≡ min (x * 10 + d) 4194304 → Some r ≡ kept (and_digit b o)
+one_digit : (b x d r : ℕ) (o : Option ℕ) → d ≡ digit b → nat_lt (digit b) 10 ≡ true → Some x ≡ number_kept o → r ≡ min (x * 10 + d) 4194304 → Some r ≡ number_kept (and_digit b o)
 one_digit b x d r None is small e sum = absurd cc
 one_digit b x d r (Some v) is small e sum =
     ap Some (let same : x ≡ min v 4194304 = some_is x (min v 4194304) e in let all : r ≡ min (v * 10 + digit b) 4194304 = omega (arith, same, sum, is) in all)
-    ∙ ap (λ t. kept (cond t (Some (v * 10 + digit b)) None)) (sym small)
+    ∙ ap (λ t. number_kept (cond t (Some (v * 10 + digit b)) None)) (sym small)
 
-pub number_none : (b : ℕ) (line : List ℕ) → None ≡ kept (digits_from 10 0 line) → None ≡ kept (digits_from 10 0 (line ++ b ∷ []))
-number_none b line e = still_none b (digits_from 10 0 line) e ∙ ap kept (sym (digits_push 0 b line))
+pub number_none : (b : ℕ) (line : List ℕ) → None ≡ number_kept (digits_from 10 0 line) → None ≡ number_kept (digits_from 10 0 (line ++ b ∷ []))
+number_none b line e = still_none b (digits_from 10 0 line) e ∙ ap number_kept (sym (digits_push 0 b line))
 
-pub number_other : (b : ℕ) (line : List ℕ) → nat_lt (digit b) 10 ≡ false → None ≡ kept (digits_from 10 0 (line ++ b ∷ []))
-number_other b line e = no_digit b (digits_from 10 0 line) e ∙ ap kept (sym (digits_push 0 b line))
+pub number_other : (b : ℕ) (line : List ℕ) → nat_lt (digit b) 10 ≡ false → None ≡ number_kept (digits_from 10 0 (line ++ b ∷ []))
+number_other b line e = no_digit b (digits_from 10 0 line) e ∙ ap number_kept (sym (digits_push 0 b line))
 
-pub number_more : (b x d r : ℕ) (line : List ℕ) → d ≡ digit b → nat_lt (digit b) 10 ≡ true → Some x ≡ kept (digits_from 10 0 line) → r ≡ min (x * 10 + d) 4194304 → Some r ≡ kept (digits_from 10 0 (line ++ b ∷ []))
-number_more b x d r line is small e sum = one_digit b x d r (digits_from 10 0 line) is small e sum ∙ ap kept (sym (digits_push 0 b line))
+pub number_more : (b x d r : ℕ) (line : List ℕ) → d ≡ digit b → nat_lt (digit b) 10 ≡ true → Some x ≡ number_kept (digits_from 10 0 line) → r ≡ min (x * 10 + d) 4194304 → Some r ≡ number_kept (digits_from 10 0 (line ++ b ∷ []))
+number_more b x d r line is small e sum = one_digit b x d r (digits_from 10 0 line) is small e sum ∙ ap number_kept (sym (digits_push 0 b line))
 
 -- ---- the CR at the end of a line
 return_off : (line : List ℕ) → without_return (line ++ 13 ∷ []) ≡ line
@@ -69,26 +69,26 @@ not_empty : (b : ℕ) (line : List ℕ) → false ≡ (length (line ++ b ∷ [])
 not_empty b [] = refl
 not_empty b (x ∷ l) = grind (arith, nat_tests)
 
-pub fresh_line : Tells true (Some 0) false []
+pub fresh_line : TellsLine true (Some 0) false []
 fresh_line = record { body = (refl, refl); whole = refl }
 
 -- where a CR came, it is a byte of the line now
-pub counted_return : (empty : Bool) (number : Option ℕ) (line : List ℕ) → Tells empty number true line → TellsBody false None line
+pub counted_return : (empty : Bool) (number : Option ℕ) (line : List ℕ) → TellsLine empty number true line → TellsLineBody false None line
 counted_return empty number line h =
-    subst (TellsBody false None) (sym h.whole) (not_empty 13 (without_return line), number_other 13 (without_return line) refl)
+    subst (TellsLineBody false None) (sym h.whole) (not_empty 13 (without_return line), number_other 13 (without_return line) refl)
 
-pub counted_none : (empty : Bool) (number : Option ℕ) (line : List ℕ) → Tells empty number false line → TellsBody empty number line
-counted_none empty number line h = subst (TellsBody empty number) (sym (h.whole ∙ append-nil (without_return line))) h.body
+pub counted_none : (empty : Bool) (number : Option ℕ) (line : List ℕ) → TellsLine empty number false line → TellsLineBody empty number line
+counted_none empty number line h = subst (TellsLineBody empty number) (sym (h.whole ∙ append-nil (without_return line))) h.body
 
-pub took_return : (empty : Bool) (number : Option ℕ) (line : List ℕ) → TellsBody empty number line → Tells empty number true (line ++ 13 ∷ [])
+pub took_return : (empty : Bool) (number : Option ℕ) (line : List ℕ) → TellsLineBody empty number line → TellsLine empty number true (line ++ 13 ∷ [])
 took_return empty number line h = record {
-  body = subst (TellsBody empty number) (sym (return_off line)) h;
+  body = subst (TellsLineBody empty number) (sym (return_off line)) h;
   whole = ap (λ l. l ++ 13 ∷ []) (sym (return_off line));
 }
 
-pub took_other : (b : ℕ) (number : Option ℕ) (line : List ℕ) → (b == 13) ≡ false → number ≡ kept (digits_from 10 0 (line ++ b ∷ [])) → Tells false number false (line ++ b ∷ [])
+pub took_other : (b : ℕ) (number : Option ℕ) (line : List ℕ) → (b == 13) ≡ false → number ≡ number_kept (digits_from 10 0 (line ++ b ∷ [])) → TellsLine false number false (line ++ b ∷ [])
 took_other b number line other h = record {
-  body = subst (TellsBody false number) (sym (other_stays b line other)) (not_empty b line, h);
+  body = subst (TellsLineBody false number) (sym (other_stays b line other)) (not_empty b line, h);
   whole = sym (append-nil _ ∙ other_stays b line other);
 }
 
@@ -107,31 +107,31 @@ above_last n h = grind (arith, nat_tests)
 up_to : (n : ℕ) → n ≤ 4194303 → nat_le n 4194303 ≡ true
 up_to n h = grind (arith, nat_tests)
 
-said_none : (o : Option ℕ) → None ≡ kept o → None ≡ up_to_last o
+said_none : (o : Option ℕ) → None ≡ number_kept o → None ≡ up_to_last o
 said_none None e = refl
 said_none (Some v) e = absurd cc
 
-said_above : (n : ℕ) (o : Option ℕ) → Some n ≡ kept o → 4194303 < n → None ≡ up_to_last o
+said_above : (n : ℕ) (o : Option ℕ) → Some n ≡ number_kept o → 4194303 < n → None ≡ up_to_last o
 said_above n None e h = refl
 said_above n (Some v) e h = let same : n ≡ min v 4194304 = some_is n (min v 4194304) e in ap (λ t. cond t (Some v) None) (sym (above_last v (omega (arith, same, h))))
 
-said_block : (n : ℕ) (o : Option ℕ) → Some n ≡ kept o → n ≤ 4194303 → Some n ≡ up_to_last o
+said_block : (n : ℕ) (o : Option ℕ) → Some n ≡ number_kept o → n ≤ 4194303 → Some n ≡ up_to_last o
 said_block n None e h = absurd cc
 said_block n (Some v) e h =
     let same : n ≡ min v 4194304 = some_is n (min v 4194304) e in
     let v_is : n ≡ v = omega (arith, same, h) in
     ap Some v_is ∙ ap (λ t. cond t (Some v) None) (sym (up_to v (omega (arith, v_is, h))))
 
-pub block_of_none : (number : Option ℕ) (body : List ℕ) → TellsBody true number body → None ≡ block_number body
+pub block_of_none : (number : Option ℕ) (body : List ℕ) → TellsLineBody true number body → None ≡ block_number body
 block_of_none number body h = ap block_number (sym (none_left body h.0))
 
-pub block_of_no_number : (body : List ℕ) → TellsBody false None body → None ≡ block_number body
+pub block_of_no_number : (body : List ℕ) → TellsLineBody false None body → None ≡ block_number body
 block_of_no_number body h = said_none (digits_from 10 0 body) h.1 ∙ ap up_to_last (sym (some_digits body h.0))
 
-pub block_above : (n : ℕ) (body : List ℕ) → TellsBody false (Some n) body → 4194303 < n → None ≡ block_number body
+pub block_above : (n : ℕ) (body : List ℕ) → TellsLineBody false (Some n) body → 4194303 < n → None ≡ block_number body
 block_above n body h above = said_above n (digits_from 10 0 body) h.1 above ∙ ap up_to_last (sym (some_digits body h.0))
 
-pub block_within : (n : ℕ) (body : List ℕ) → TellsBody false (Some n) body → n ≤ 4194303 → Some n ≡ block_number body
+pub block_within : (n : ℕ) (body : List ℕ) → TellsLineBody false (Some n) body → n ≤ 4194303 → Some n ≡ block_number body
 block_within n body h within = said_block n (digits_from 10 0 body) h.1 within ∙ ap up_to_last (sym (some_digits body h.0))
 
 -- ---- the lines
@@ -169,7 +169,7 @@ fails_end old says b errors.Io is h s rest = absurd h
 fails_end old says b (errors.Line n) is h s rest = s.left (b ∷ rest) ∙ at_line_end old.at old.numbers.items s.line rest b None is (h.0 s.line s.keeps) ∙ ap Err (sym h.1)
 
 pub stands_more : (old new : ListReader) (says : List ℕ → Result (List ℕ) ℕ) (b : ℕ) → (b ≡ 10 → ⊥) → new.numbers ≡ old.numbers → new.at ≡ old.at
-    → ((line : List ℕ) → Tells old.line.empty old.line.number old.line.returned line → Tells new.line.empty new.line.number new.line.returned (line ++ b ∷ []))
+    → ((line : List ℕ) → TellsLine old.line.empty old.line.number old.line.returned line → TellsLine new.line.empty new.line.number new.line.returned (line ++ b ∷ []))
     → StandsList old says → StandsList new (λ rest. says (b ∷ rest))
 stands_more old new says b e r n h s =
     record {
@@ -179,7 +179,7 @@ stands_more old new says b e r n h s =
           ∙ ap (λ m. with_lines m old.numbers.items (onto (s.line ++ b ∷ []) (lines_of rest))) (sym n) ∙ ap (λ m. with_lines new.at m.items (onto (s.line ++ b ∷ []) (lines_of rest))) (sym r);
     }
 
-pub stands_new : (r : ListReader) → r.at ≡ 1 → r.numbers.items ≡ [] → Tells r.line.empty r.line.number r.line.returned [] → StandsList r list_outcome
+pub stands_new : (r : ListReader) → r.at ≡ 1 → r.numbers.items ≡ [] → TellsLine r.line.empty r.line.number r.line.returned [] → StandsList r list_outcome
 stands_new r n v k =
     record {
       line = [];
@@ -202,11 +202,11 @@ with_none : (n : ℕ) (so_far line : List ℕ) → false ≡ (length line == 0) 
 with_none n so_far [] none is = absurd (false≢true none)
 with_none n so_far (b ∷ bs) none is = ap (λ (r : Option ℕ). elim r as (λ r. Result (List ℕ) ℕ) [ Some k ↦ Ok (so_far ++ k ∷ []) | None ↦ Err n ]) is
 
-pub finish_none : (old : ListReader) (says : List ℕ → Result (List ℕ) ℕ) (number : Option ℕ) (s : StandsList old says) → TellsBody true number s.line → says [] ≡ Ok old.numbers.items
+pub finish_none : (old : ListReader) (says : List ℕ → Result (List ℕ) ℕ) (number : Option ℕ) (s : StandsList old says) → TellsLineBody true number s.line → says [] ≡ Ok old.numbers.items
 finish_none old says number s h = at_last old says s ∙ ap (with_last old.at old.numbers.items) (none_left s.line h.0)
 
-pub finish_block : (old : ListReader) (says : List ℕ → Result (List ℕ) ℕ) (number : Option ℕ) (k : ℕ) (s : StandsList old says) → TellsBody false number s.line → block_number s.line ≡ Some k → says [] ≡ Ok (old.numbers.items ++ k ∷ [])
+pub finish_block : (old : ListReader) (says : List ℕ → Result (List ℕ) ℕ) (number : Option ℕ) (k : ℕ) (s : StandsList old says) → TellsLineBody false number s.line → block_number s.line ≡ Some k → says [] ≡ Ok (old.numbers.items ++ k ∷ [])
 finish_block old says number k s h is = at_last old says s ∙ with_some old.at k old.numbers.items s.line h.0 is
 
-pub finish_fails : (old : ListReader) (says : List ℕ → Result (List ℕ) ℕ) (number : Option ℕ) (s : StandsList old says) → TellsBody false number s.line → block_number s.line ≡ None → says [] ≡ Err old.at
+pub finish_fails : (old : ListReader) (says : List ℕ → Result (List ℕ) ℕ) (number : Option ℕ) (s : StandsList old says) → TellsLineBody false number s.line → block_number s.line ≡ None → says [] ≡ Err old.at
 finish_fails old says number s h is = at_last old says s ∙ with_none old.at old.numbers.items s.line h.0 is

@@ -1,4 +1,5 @@
 -- The text of a mapfile, one block after another.
+use Rattle.std.specs.Fmt.{digit_glyph}
 use Rattle.std.proofs.Common.{◌≡◌, ℕ, zero, suc, ◌+◌, ◌-◌, ◌*◌, ◌/◌, ◌%◌, ◌<◌, ◌≤◌, Bool, true, false, cond, List, [], ◌∷◌, ◌++◌, Option, length, get_or, eqb, refl, sym, ap, subst, ◌∙◌, append_assoc, append-nil, arith}
 use Rattle.std.proofs.lemmas.Bool.{eq-eqb, ne_eqb, eqb-true}
 use Rattle.std.specs.Io.KnownBytes.{Appends}
@@ -8,7 +9,7 @@ use Rattle.udfs_reading.proofs.PublicLaws.{passed_none, passed_then, failed_then
 use Rattle.udfs_rescue.specs.declared.run.Run.{Run}
 use Rattle.udfs_rescue.specs.declared.run.RunStatus.{RunStatus}
 use Rattle.udfs_rescue.specs.declared.run.RunStatus.TheVariants.{NonTried, Finished}
-use Rattle.udfs_rescue.specs.Writing.{wanted_status, status_byte, joined_run, block_run, runs_of_blocks, run_line, run_lines, hex_digit, hex_digits, places, position_text, gap}
+use Rattle.udfs_rescue.specs.Writing.{wanted_status, status_byte, joined_run, block_run, runs_of_blocks, run_line, run_lines, hex_digits, places, position_text, gap}
 use Rattle.udfs_rescue.specs.BlockSteps.{TakesRun}
 
 chosen : {A : Type 0} (t u : Bool) (x y : A) → t ≡ u → cond t x y ≡ cond u x y
@@ -149,20 +150,20 @@ fails_before y h = failed_more _ _ _ _ _ _ y h
 
 -- ---- digits
 
-digits_step : (k n : ℕ) → (k ≡ 0 → ⊥) → hex_digits k n ≡ hex_digits (k - 1) (n / 16) ++ hex_digit (n % 16) ∷ []
+digits_step : (k n : ℕ) → (k ≡ 0 → ⊥) → hex_digits k n ≡ hex_digits (k - 1) (n / 16) ++ digit_glyph true (n % 16) ∷ []
 digits_step zero n h = absurd (h refl)
 digits_step (suc k) n h =
     let less : k ≡ suc k - 1 = omega arith in
-    ap (λ (m : ℕ). hex_digits m (n / 16) ++ hex_digit (n % 16) ∷ []) less
+    ap (λ (m : ℕ). hex_digits m (n / 16) ++ digit_glyph true (n % 16) ∷ []) less
 
-pub digits_taken : {a b c : Option (List ℕ)} {i j l : ℕ} {p q r : List ℕ} (k n d : ℕ) → (k ≡ 0 → ⊥) → d ≡ hex_digit (n % 16) → Passed a b i j p q (hex_digits (k - 1) (n / 16)) → Passed b c j l q r (d ∷ []) → Passed a c i l p r (hex_digits k n)
+pub digits_taken : {a b c : Option (List ℕ)} {i j l : ℕ} {p q r : List ℕ} (k n d : ℕ) → (k ≡ 0 → ⊥) → d ≡ digit_glyph true (n % 16) → Passed a b i j p q (hex_digits (k - 1) (n / 16)) → Passed b c j l q r (d ∷ []) → Passed a c i l p r (hex_digits k n)
 digits_taken {a} {b} {c} {i} {j} {l} {p} {q} {r} k n d some e h g =
     subst (Passed a c i l p r) (ap (λ (m : ℕ). hex_digits (k - 1) (n / 16) ++ m ∷ []) e ∙ sym (digits_step k n some)) (taken h g)
 
 pub digits_fail : {a b : Option (List ℕ)} {i j : ℕ} {p : List ℕ} (k n : ℕ) → (k ≡ 0 → ⊥) → FailedPast a b i j p (hex_digits (k - 1) (n / 16)) → FailedPast a b i j p (hex_digits k n)
-digits_fail {a} {b} {i} {j} {p} k n some h = subst (FailedPast a b i j p) (sym (digits_step k n some)) (fails_before (hex_digit (n % 16) ∷ []) h)
+digits_fail {a} {b} {i} {j} {p} k n some h = subst (FailedPast a b i j p) (sym (digits_step k n some)) (fails_before (digit_glyph true (n % 16) ∷ []) h)
 
-pub digit_fails : {a b c : Option (List ℕ)} {i j l : ℕ} {p q : List ℕ} (k n d : ℕ) → (k ≡ 0 → ⊥) → d ≡ hex_digit (n % 16) → Passed a b i j p q (hex_digits (k - 1) (n / 16)) → FailedPast b c j l q (d ∷ []) → FailedPast a c i l p (hex_digits k n)
+pub digit_fails : {a b c : Option (List ℕ)} {i j l : ℕ} {p q : List ℕ} (k n d : ℕ) → (k ≡ 0 → ⊥) → d ≡ digit_glyph true (n % 16) → Passed a b i j p q (hex_digits (k - 1) (n / 16)) → FailedPast b c j l q (d ∷ []) → FailedPast a c i l p (hex_digits k n)
 digit_fails {a} {b} {c} {i} {j} {l} {p} {q} k n d some e h g =
     subst (FailedPast a c i l p) (ap (λ (m : ℕ). hex_digits (k - 1) (n / 16) ++ m ∷ []) e ∙ sym (digits_step k n some)) (fails h g)
 

@@ -10,7 +10,7 @@ use Rattle.udfs_rescue.specs.Words.{words}
 use Rattle.udfs_rescue.specs.Lines.{Progress, nothing, outcome, after_words, after_text, unlike, text_of, after_lines, with_first, onto, lines_of}
 use Rattle.udfs_rescue.specs.Held.{Keeps}
 use Rattle.udfs_rescue.specs.Views.{Refuses}
-use Rattle.udfs_rescue.specs.Stream.{Stands, EndsLine, LineFails}
+use Rattle.udfs_rescue.specs.Stream.{StandsFor, EndsLine, LineFails}
 use Rattle.udfs_rescue.proofs.HeldLemmas.{whole}
 use Rattle.udfs_rescue.proofs.LineLemmas.{onto_first, lines_first, line_ok, line_fails}
 
@@ -33,7 +33,7 @@ at_end line rest b e = ap (onto line) (chosen (eqb b 10) true ([] ∷ lines_of r
 pub at_more : (line rest : List ℕ) (b : ℕ) → (b ≡ 10 → ⊥) → onto line (lines_of (b ∷ rest)) ≡ onto (line ++ b ∷ []) (lines_of rest)
 at_more line rest b e = ap (onto line) (chosen (eqb b 10) false ([] ∷ lines_of rest) (with_first b (lines_of rest)) (ne_eqb b 10 e)) ∙ onto_first line b (lines_of rest)
 
-pub stands_end : (old new : MapReader) (says : List ℕ → Result (List Run) LineFault) (b : ℕ) → b ≡ 10 → EndsLine old new → Stands old says → Stands new (λ rest. says (b ∷ rest))
+pub stands_end : (old new : MapReader) (says : List ℕ → Result (List Run) LineFault) (b : ℕ) → b ≡ 10 → EndsLine old new → StandsFor old says → StandsFor new (λ rest. says (b ∷ rest))
 stands_end old new says b e h s =
     record {
       line = [];
@@ -42,7 +42,7 @@ stands_end old new says b e h s =
           ∙ ap (λ n. after_lines n new.runs (lines_of rest)) (sym h.next) ∙ ap (after_lines new.line new.runs) (lines_first rest);
     }
 
-pub fails_end : (old : MapReader) (says : List ℕ → Result (List Run) LineFault) (b : ℕ) (e : MapError) → b ≡ 10 → LineFails old e → Stands old says → (rest : List ℕ) → Refuses e (says (b ∷ rest))
+pub fails_end : (old : MapReader) (says : List ℕ → Result (List Run) LineFault) (b : ℕ) (e : MapError) → b ≡ 10 → LineFails old e → StandsFor old says → (rest : List ℕ) → Refuses e (says (b ∷ rest))
 fails_end old says b errors.OutOfMemory is h s rest = tt
 fails_end old says b errors.Io is h s rest = absurd h
 fails_end old says b (errors.Line f) is h s rest =
@@ -51,7 +51,7 @@ fails_end old says b (errors.Line f) is h s rest =
 
 pub stands_more : (old new : MapReader) (says : List ℕ → Result (List Run) LineFault) (b : ℕ) → (b ≡ 10 → ⊥) → new.runs ≡ old.runs → new.line ≡ old.line
     → ((line : List ℕ) → Keeps old.held.held.items old.held.comment old.held.blank line → Keeps new.held.held.items new.held.comment new.held.blank (line ++ b ∷ []))
-    → Stands old says → Stands new (λ rest. says (b ∷ rest))
+    → StandsFor old says → StandsFor new (λ rest. says (b ∷ rest))
 stands_more old new says b e r n h s =
     record {
       line = s.line ++ b ∷ [];
@@ -60,7 +60,7 @@ stands_more old new says b e r n h s =
           ∙ ap (λ m. after_lines m old.runs (onto (s.line ++ b ∷ []) (lines_of rest))) (sym n) ∙ ap (λ m. after_lines new.line m (onto (s.line ++ b ∷ []) (lines_of rest))) (sym r);
     }
 
-pub stands_new : (r : MapReader) → r.line ≡ 1 → r.runs ≡ record { begun = false; due = None; runs = [] } → Keeps r.held.held.items r.held.comment r.held.blank [] → Stands r outcome
+pub stands_new : (r : MapReader) → r.line ≡ 1 → r.runs ≡ record { begun = false; due = None; runs = [] } → Keeps r.held.held.items r.held.comment r.held.blank [] → StandsFor r outcome
 stands_new r n v k =
     record {
       line = [];
@@ -72,11 +72,11 @@ stands_new r n v k =
 pub last_end : (line : List ℕ) → onto line (lines_of []) ≡ line ∷ []
 last_end line = ap (λ l. l ∷ []) (append-nil line)
 
-pub finish_ok : (old new : MapReader) (says : List ℕ → Result (List Run) LineFault) → EndsLine old new → Stands old says → says [] ≡ Ok new.runs.runs
+pub finish_ok : (old new : MapReader) (says : List ℕ → Result (List Run) LineFault) → EndsLine old new → StandsFor old says → says [] ≡ Ok new.runs.runs
 finish_ok old new says h s =
     s.left [] ∙ line_ok old.line old.runs new.runs s.line _ [] (last_end s.line) (sym (cut old.runs (text_of s.line)) ∙ ap (after_text old.runs) (sym s.keeps.text) ∙ h.took)
 
-pub finish_fails : (old : MapReader) (says : List ℕ → Result (List Run) LineFault) (e : MapError) → LineFails old e → Stands old says → Refuses e (says [])
+pub finish_fails : (old : MapReader) (says : List ℕ → Result (List Run) LineFault) (e : MapError) → LineFails old e → StandsFor old says → Refuses e (says [])
 finish_fails old says errors.OutOfMemory h s = tt
 finish_fails old says errors.Io h s = absurd h
 finish_fails old says (errors.Line f) h s =

@@ -70,39 +70,39 @@ ReadsList (Err e) says = ListFails e says
 
 -- ---- a list that comes byte by byte (internal)
 
--- of a number above the last block only that is kept
-abbrev pub kept : Option ℕ → Option ℕ
-kept None = None
-kept (Some n) = Some (min n 4194304)
+-- of a number above the last block only that is number_kept
+abbrev pub number_kept : Option ℕ → Option ℕ
+number_kept None = None
+number_kept (Some n) = Some (min n 4194304)
 
 -- whether a line has no byte, and the number of its digits
-abbrev pub TellsBody : Bool → Option ℕ → List ℕ → Type 0
-TellsBody empty number body = (empty ≡ (length body == 0)) × (number ≡ kept (digits_from 10 0 body))
+abbrev pub TellsLineBody : Bool → Option ℕ → List ℕ → Type 0
+TellsLineBody empty number body = (empty ≡ (length body == 0)) × (number ≡ number_kept (digits_from 10 0 body))
 
--- what is kept of a line: the same without the CR at its end, and whether there is one
-pub record Tells (empty : Bool) (number : Option ℕ) (returned : Bool) (line : List ℕ) : Type 0 where
-  pub body : TellsBody empty number (without_return line)
+-- what is number_kept of a line: the same without the CR at its end, and whether there is one
+pub record TellsLine (empty : Bool) (number : Option ℕ) (returned : Bool) (line : List ℕ) : Type 0 where
+  pub body : TellsLineBody empty number (without_return line)
   pub whole : line ≡ without_return line ++ cond returned (13 ∷ []) []
 
 -- what the whole comes to, if these bytes follow, is what the reader stands for
 pub record StandsList (r : ListReader) (says : List ℕ → Result (List ℕ) ℕ) : Type 0 where
   pub line : List ℕ
-  pub keeps : Tells r.line.empty r.line.number r.line.returned line
+  pub keeps : TellsLine r.line.empty r.line.number r.line.returned line
   pub left : (rest : List ℕ) → says rest ≡ with_lines r.at r.numbers.items (onto line (lines_of rest))
 
 -- a line that LF ended was taken
 pub record TakesLine (old new : ListReader) : Type 0 where
   pub block : ℕ
-  pub took : (line : List ℕ) → Tells old.line.empty old.line.number old.line.returned line → block_number (without_return line) ≡ Some block
+  pub took : (line : List ℕ) → TellsLine old.line.empty old.line.number old.line.returned line → block_number (without_return line) ≡ Some block
   pub more : new.numbers.items ≡ old.numbers.items ++ block ∷ []
   pub next : new.at ≡ next_line old.at
-  pub fresh : Tells new.line.empty new.line.number new.line.returned []
+  pub fresh : TellsLine new.line.empty new.line.number new.line.returned []
 
 -- a line that LF ended is refused
 abbrev pub RefusesLine : ListReader → ListError → Type 0
 RefusesLine old errors.OutOfMemory = Unit {0}
 RefusesLine old errors.Io = ⊥
-RefusesLine old (errors.Line n) = ((line : List ℕ) → Tells old.line.empty old.line.number old.line.returned line → block_number (without_return line) ≡ None) × (n ≡ old.at)
+RefusesLine old (errors.Line n) = ((line : List ℕ) → TellsLine old.line.empty old.line.number old.line.returned line → block_number (without_return line) ≡ None) × (n ≡ old.at)
 
 -- why a list was not read, by what the source told and has left, and its counts of faults
 abbrev pub NoList : Option (List ℕ) → Option (List ℕ) → ℕ → ℕ → ListError → Type 0

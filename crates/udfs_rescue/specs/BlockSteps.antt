@@ -14,9 +14,9 @@ status_in (Wanted list) n = wanted_status list.now n
 status_in (Of table) n = table_status table.now n
 
 -- a list of wanted blocks rises
-abbrev pub Rises : Blocks → Type 0
-Rises (Wanted list) = IsNonDecreasing list.now
-Rises (Of table) = Unit {0}
+abbrev pub BlocksRise : Blocks → Type 0
+BlocksRise (Wanted list) = IsNonDecreasing list.now
+BlocksRise (Of table) = Unit {0}
 
 -- the lines that are complete were taken, and the run behind them is `after`
 pub record TakesRun (old new : Option (List ℕ)) (i j : ℕ) (held still : List ℕ) (before after next : Run) : Type 0 where

@@ -13,3 +13,4 @@ pub mod BlockSteps
 pub mod Opening
 pub mod BlockLists
 pub mod Images
+pub mod ReadBack

@@ -13,10 +13,10 @@ AreRuns [] = Unit {0}
 AreRuns (r ∷ rs) = (r.at < 2 ^ 63) × RunsFrom r.at (r ∷ rs)
 
 -- where the last run ends; there is no end without a run
-abbrev pub end_of : List Run → Option ℕ
-end_of [] = None
-end_of (r ∷ []) = Some (r.at + r.size)
-end_of (r ∷ s ∷ rs) = end_of (s ∷ rs)
+abbrev pub end_of_runs : List Run → Option ℕ
+end_of_runs [] = None
+end_of_runs (r ∷ []) = Some (r.at + r.size)
+end_of_runs (r ∷ s ∷ rs) = end_of_runs (s ∷ rs)
 
 -- the runs are contiguous from one position to another (internal)
 abbrev pub RunsTo : ℕ → List Run → ℕ → Type 0
@@ -26,4 +26,4 @@ RunsTo p (r ∷ rs) e = (r.at ≡ p) × (p + r.size < 2 ^ 63) × RunsTo (p + r.s
 -- where the next run is due, the runs so far end (internal)
 abbrev pub DueAfter : Option ℕ → List Run → Type 0
 DueAfter None rs = rs ≡ []
-DueAfter (Some e) rs = (end_of rs ≡ Some e) × ((p : ℕ) × (p < 2 ^ 63) × RunsTo p rs e)
+DueAfter (Some e) rs = (end_of_runs rs ≡ Some e) × ((p : ℕ) × (p < 2 ^ 63) × RunsTo p rs e)

@@ -11,7 +11,7 @@ use Rattle.udfs_rescue.specs.Held.{Keeps}
 use Rattle.udfs_rescue.specs.Views.{Refuses}
 
 -- what the whole comes to, if these bytes follow, is what the reader stands for
-pub record Stands (r : MapReader) (says : List ℕ → Result (List Run) LineFault) : Type 0 where
+pub record StandsFor (r : MapReader) (says : List ℕ → Result (List Run) LineFault) : Type 0 where
   pub line : List ℕ
   pub keeps : Keeps r.held.held.items r.held.comment r.held.blank line
   pub left : (rest : List ℕ) → says rest ≡ after_lines r.line r.runs (onto line (lines_of rest))

@@ -41,6 +41,6 @@ ReadFails errors.Io says = Unit {0}
 ReadFails e says = Refuses e says
 
 -- the outcome is this one, unless memory ran out or the device failed
-abbrev pub Reads : Result (List Run) MapError → Result (List Run) LineFault → Type 0
-Reads (Ok runs) says = says ≡ Ok runs
-Reads (Err e) says = ReadFails e says
+abbrev pub ReadsRuns : Result (List Run) MapError → Result (List Run) LineFault → Type 0
+ReadsRuns (Ok runs) says = says ≡ Ok runs
+ReadsRuns (Err e) says = ReadFails e says

@@ -1,5 +1,6 @@
 -- The text of a mapfile, by the status of each block.
-use Rattle.std.specs.Prelude.{ℕ, zero, suc, ◌+◌, ◌*◌, ◌/◌, ◌%◌, ◌^◌, List, [], ◌∷◌, ◌++◌, codes, nat_lt, ◌==◌, if◌then◌else◌}
+use Rattle.std.specs.Fmt.{digit_glyph}
+use Rattle.std.specs.Prelude.{ℕ, true, zero, suc, ◌+◌, ◌*◌, ◌/◌, ◌%◌, ◌^◌, List, [], ◌∷◌, ◌++◌, codes, nat_lt, ◌==◌, if◌then◌else◌}
 use Rattle.std.specs.List.{flat_map}
 use Rattle.udfs_lattice.specs.declared.facts.Fact.TheVariants.{Unknown, Known, Conflict}
 use Rattle.udfs_lattice.specs.States.{State}
@@ -27,7 +28,7 @@ table_status t n = state_status (state_of t n)
 
 -- ---- its runs
 
--- ? * / - +
+-- the byte ? * / - or +
 abbrev pub status_byte : RunStatus → ℕ
 status_byte NonTried = 63
 status_byte NonTrimmed = 42
@@ -51,14 +52,10 @@ runs_of_blocks status n (suc k) = joined_run (block_run status n) (runs_of_block
 
 -- ---- their text
 
--- a hexadecimal digit, in capitals
-abbrev pub hex_digit : ℕ → ℕ
-hex_digit d = if nat_lt d 10 then 48 + d else 55 + d
-
 -- the last so many hexadecimal digits of a number
 abbrev pub hex_digits : ℕ → ℕ → List ℕ
 hex_digits zero n = []
-hex_digits (suc k) n = hex_digits k (n / 16) ++ hex_digit (n % 16) ∷ []
+hex_digits (suc k) n = hex_digits k (n / 16) ++ digit_glyph true (n % 16) ∷ []
 
 -- eight digits, or one more where the number does not fit
 abbrev pub places : ℕ → ℕ

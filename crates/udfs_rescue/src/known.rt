@@ -4,7 +4,7 @@ ghost use Rattle.std.specs.Prelude.{◌≡◌, ◌++◌, ℕ, ◌+◌, ◌^◌, 
 ghost use Rattle.udfs_rescue.specs.Runs.{AreRuns, RunsFrom};
 ghost use Rattle.udfs_rescue.specs.Known.{IsKnown, InRanges, RiseFrom, AreBlocks, block_count, KnownFails, IsFirstOutside, judged, first_from};
 ghost use Rattle.udfs_rescue.specs.Blocks.{AreSome};
-ghost use Rattle.udfs_rescue.specs.Ranges.{range_of, goes_on, ranges_from};
+ghost use Rattle.udfs_rescue.specs.Ranges.{range_of, joins_next, ranges_from};
 
 use crate::mapfile::Mapfile;
 use crate::run::{Run, RunStatus};
@@ -58,7 +58,7 @@ fn push_range(ranges: &mut Vec<BlockRange>, from: u64, to: u64) -> Result<(), Al
 
 /// Whether the rescued bytes before the run go on after it: it is rescued, or has no byte.
 fn goes_on(run: &Run) -> bool
-    ensures { result ≡ goes_on run.now }
+    ensures { result ≡ joins_next run.now }
 {
     match run.status {
         RunStatus::Finished => true,

@@ -4,7 +4,7 @@ ghost use Rattle.std.specs.Prelude.{◌≡◌, ◌≢◌, ◌↔◌, ◌≤◌, 
 ghost use Rattle.udfs_reading.specs.Answers.{HadGiven};
 ghost use Rattle.udfs_rescue.specs.Numbers.{digits_from};
 ghost use Rattle.udfs_rescue.specs.declared.list.ListError.TheVariants.{Io};
-ghost use Rattle.udfs_rescue.specs.BlockLists.{block_number, without_return, list_outcome, kept, NoneWrongYet, ReadsList, ParsesList, RefusesList, TellsBody, Tells, StandsList, TakesLine, RefusesLine, GivesList};
+ghost use Rattle.udfs_rescue.specs.BlockLists.{block_number, without_return, list_outcome, number_kept, NoneWrongYet, ReadsList, ParsesList, RefusesList, TellsLineBody, TellsLine, StandsList, TakesLine, RefusesLine, GivesList};
 
 use crate::number::digit;
 use std::alloc::Global;
@@ -35,7 +35,7 @@ fn at_most(n: u64) -> u32
 
 /// The number behind one more digit.
 fn with_digit(number: Option<u32>, byte: u8) -> Option<u32>
-    ensures { (line : List ℕ) → number ≡ kept (digits_from 10 0 line) → result ≡ kept (digits_from 10 0 (line ++ byte ∷ [])) }
+    ensures { (line : List ℕ) → number ≡ number_kept (digits_from 10 0 line) → result ≡ number_kept (digits_from 10 0 (line ++ byte ∷ [])) }
 {
     let Some(number) = number else {
         return None;
@@ -58,7 +58,7 @@ struct ListLine {
 impl ListLine {
     /// Before the first byte.
     fn new() -> ListLine
-        ensures { Tells result.empty result.number result.returned [] }
+        ensures { TellsLine result.empty result.number result.returned [] }
     {
         ListLine {
             empty: true,
@@ -69,7 +69,7 @@ impl ListLine {
 
     /// A CR that no LF follows is a byte of the line.
     fn count_return(&mut self)
-        ensures { (line : List ℕ) → Tells self.old.empty self.old.number self.old.returned line → TellsBody self.new.empty self.new.number line }
+        ensures { (line : List ℕ) → TellsLine self.old.empty self.old.number self.old.returned line → TellsLineBody self.new.empty self.new.number line }
     {
         if self.returned {
             self.empty = false;
@@ -79,7 +79,7 @@ impl ListLine {
 
     /// Takes one more byte.
     fn take(&mut self, byte: u8)
-        ensures { (line : List ℕ) → Tells self.old.empty self.old.number self.old.returned line → Tells self.new.empty self.new.number self.new.returned (line ++ byte ∷ []) }
+        ensures { (line : List ℕ) → TellsLine self.old.empty self.old.number self.old.returned line → TellsLine self.new.empty self.new.number self.new.returned (line ++ byte ∷ []) }
     {
         self.count_return();
         if byte == b'\r' {
@@ -93,7 +93,7 @@ impl ListLine {
 
     /// The block that the line names, without a CR at its end.
     fn block(&self) -> Option<u32>
-        ensures { (body : List ℕ) → TellsBody self.now.empty self.now.number body → result ≡ block_number body }
+        ensures { (body : List ℕ) → TellsLineBody self.now.empty self.now.number body → result ≡ block_number body }
     {
         if self.empty {
             return None;

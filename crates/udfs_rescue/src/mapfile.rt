@@ -4,8 +4,8 @@ ghost use Rattle.std.specs.Prelude.{◌≡◌, ◌≢◌, ◌↔◌, ℕ, List, 
 ghost use Rattle.udfs_reading.specs.Answers.{HadGiven};
 ghost use Rattle.udfs_rescue.specs.declared.fault.MapError.TheVariants.{Io};
 ghost use Rattle.udfs_rescue.specs.Lines.{outcome, HasNoFaultYet};
-ghost use Rattle.udfs_rescue.specs.Runs.{AreRuns, DueAfter, end_of};
-ghost use Rattle.udfs_rescue.specs.Views.{Reads};
+ghost use Rattle.udfs_rescue.specs.Runs.{AreRuns, DueAfter, end_of_runs};
+ghost use Rattle.udfs_rescue.specs.Views.{ReadsRuns};
 ghost use Rattle.udfs_rescue.specs.Stream.{ReadsMap};
 
 use crate::fault::MapError;
@@ -75,7 +75,7 @@ impl Mapfile {
     /// has not ended after 2^64 - 1 reads. After an error the source is read no further.
     pub fn read<R: Source>(alloc: Global, source: &mut R) -> Result<Mapfile, MapError>
         // The runs, or the first fault, are those of the bytes.
-        ensures outcome { IfSome (R.remaining source.old) (λ bytes. Reads result (outcome bytes)) }
+        ensures outcome { IfSome (R.remaining source.old) (λ bytes. ReadsRuns result (outcome bytes)) }
         // It is the source that failed exactly where its count changed.
         ensures io { IsErrOf result Io ↔ (R.faults source.new ≢ R.faults source.old) }
         ensures kept { ¬ IsErrOf result Io → R.faults source.new ≡ R.faults source.old }
@@ -96,7 +96,7 @@ impl Mapfile {
 
     /// Where the last run ends, in bytes; `None` where there is no run.
     pub fn end(&self) -> Option<u64>
-        ensures { result ≡ end_of self.now }
+        ensures { result ≡ end_of_runs self.now }
     {
         self.end
     }

@@ -4,7 +4,7 @@ ghost use Rattle.std.specs.Prelude.{◌≡◌, ◌≢◌, ◌⊎◌, ◌↔◌, 
 ghost use Rattle.std.specs.Io.KnownBytes.{Keeps};
 ghost use Rattle.udfs_reading.specs.declared.error.ReadingFault.TheVariants.{Io};
 ghost use Rattle.udfs_rescue.specs.Known.{InRanges};
-ghost use Rattle.udfs_rescue.specs.Opening.{AreKnownOf, IsReadingOf, PairFails};
+ghost use Rattle.udfs_rescue.specs.Opening.{AreKnownOf, IsReadingOf, IsTableOfPair, PairFails};
 
 use crate::fault::{LineFault, MapError};
 use crate::image::Image;
@@ -83,6 +83,8 @@ pub fn open_pair<I: Image, M: Source>(
 where
     I: Drop,
     ensures reading { IfOk result (λ pair. IsReadingOf (I.bytes image) (M.remaining map.old) (⟦<Pair<I> as Source>⟧.remaining pair)) }
+    // It has no fault, and its table knows exactly these blocks, with the image's bytes.
+    ensures table { IfOk result (λ pair. IsTableOfPair (I.bytes image) (M.remaining map.old) (⟦<Pair<I> as Source>⟧.remaining pair)) }
     ensures fails { IfErr result (λ e. PairFails (I.bytes image) (M.remaining map.old) e) }
 {
     let known = match known_of(alloc, map) {

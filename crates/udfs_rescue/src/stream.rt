@@ -5,7 +5,7 @@ ghost use Rattle.udfs_rescue.specs.declared.fault.LineFault.{LineFault};
 ghost use Rattle.udfs_rescue.specs.declared.run.Run.{Run};
 ghost use Rattle.udfs_rescue.specs.Lines.{outcome};
 ghost use Rattle.udfs_rescue.specs.Views.{Parses, Refuses};
-ghost use Rattle.udfs_rescue.specs.Stream.{Stands, EndsLine, LineFails};
+ghost use Rattle.udfs_rescue.specs.Stream.{StandsFor, EndsLine, LineFails};
 
 use crate::fault::{LineFault, MapError};
 use crate::held::HeldLine;
@@ -23,7 +23,7 @@ pub struct MapReader {
 
 impl MapReader {
     pub fn new(alloc: Global) -> MapReader
-        ensures { Stands result outcome }
+        ensures { StandsFor result outcome }
     {
         MapReader {
             held: HeldLine::new(alloc),
@@ -53,8 +53,8 @@ impl MapReader {
 
     /// Takes one byte. An error ends it all.
     pub fn take(&mut self, byte: u8) -> Result<(), MapError>
-        ensures ok { OnOk result ((says : List ℕ → Result (List Run) LineFault) → Stands self.old says → Stands self.new (λ rest. says (byte ∷ rest))) }
-        ensures err { IfErr result (λ e. (says : List ℕ → Result (List Run) LineFault) → Stands self.old says → (rest : List ℕ) → Refuses e (says (byte ∷ rest))) }
+        ensures ok { OnOk result ((says : List ℕ → Result (List Run) LineFault) → StandsFor self.old says → StandsFor self.new (λ rest. says (byte ∷ rest))) }
+        ensures err { IfErr result (λ e. (says : List ℕ → Result (List Run) LineFault) → StandsFor self.old says → (rest : List ℕ) → Refuses e (says (byte ∷ rest))) }
     {
         if byte == b'\n' {
             return self.end_line();
@@ -67,8 +67,8 @@ impl MapReader {
 
     /// Takes the next piece. An error ends it all.
     pub fn feed(&mut self, piece: &[u8]) -> Result<(), MapError>
-        ensures ok { OnOk result ((says : List ℕ → Result (List Run) LineFault) → Stands self.old says → Stands self.new (λ rest. says (piece.now ++ rest))) }
-        ensures err { IfErr result (λ e. (says : List ℕ → Result (List Run) LineFault) → Stands self.old says → (rest : List ℕ) → Refuses e (says (piece.now ++ rest))) }
+        ensures ok { OnOk result ((says : List ℕ → Result (List Run) LineFault) → StandsFor self.old says → StandsFor self.new (λ rest. says (piece.now ++ rest))) }
+        ensures err { IfErr result (λ e. (says : List ℕ → Result (List Run) LineFault) → StandsFor self.old says → (rest : List ℕ) → Refuses e (says (piece.now ++ rest))) }
     {
         for byte in piece {
             match self.take(*byte) {
@@ -81,7 +81,7 @@ impl MapReader {
 
     /// The runs, where no byte follows.
     pub fn finish(mut self) -> Result<Mapfile, MapError>
-        ensures { (says : List ℕ → Result (List Run) LineFault) → Stands self says → Parses result (says []) }
+        ensures { (says : List ℕ → Result (List Run) LineFault) → StandsFor self says → Parses result (says []) }
     {
         match self.end_line() {
             Ok(()) => Ok(self.runs.into_mapfile()),

@@ -1,11 +1,12 @@
 //! Mapfiles are written.
 
-ghost use Rattle.std.specs.Prelude.{◌≡◌, ℕ, ◌+◌, ◌*◌, ◌≤◌, ◌<◌, List, OnOk, IfErr};
+ghost use Rattle.std.specs.Fmt.{digit_glyph};
+ghost use Rattle.std.specs.Prelude.{◌≡◌, true, ℕ, ◌+◌, ◌*◌, ◌≤◌, ◌<◌, List, OnOk, IfErr};
 ghost use Rattle.std.specs.List.Sorted.{IsNonDecreasing};
 ghost use Rattle.udfs_reading.specs.Writing.{Writes, Passes, FailedPast};
 ghost use Rattle.udfs_rescue.specs.declared.run.Run.{Run};
-ghost use Rattle.udfs_rescue.specs.Writing.{wanted_status, table_status, status_byte, joined_run, runs_of_blocks, hex_digit, hex_digits, places, position_text, run_line, run_lines, heading, map_text};
-ghost use Rattle.udfs_rescue.specs.BlockSteps.{status_in, Rises, TakesRun};
+ghost use Rattle.udfs_rescue.specs.Writing.{wanted_status, table_status, status_byte, joined_run, runs_of_blocks, hex_digits, places, position_text, run_line, run_lines, heading, map_text};
+ghost use Rattle.udfs_rescue.specs.BlockSteps.{status_in, BlocksRise, TakesRun};
 
 use crate::run::{Run, RunStatus};
 use udfs_lattice::{BlockTable, Fact};
@@ -55,7 +56,7 @@ fn status_byte(status: RunStatus) -> u8
 
 fn hex_digit(digit: u64) -> u8
     requires { digit < 16 }
-    ensures { result ≡ hex_digit digit }
+    ensures { result ≡ digit_glyph true digit }
 {
     if digit < 10 {
         48 + digit as u8
@@ -137,7 +138,7 @@ fn take_block<W: Sink>(
 
 impl<'a> Blocks<'a> {
     fn status(self, block: u32) -> RunStatus
-        requires { Rises self }
+        requires { BlocksRise self }
         ensures { result ≡ status_in self.entry block }
     {
         match self {
@@ -154,7 +155,7 @@ fn write_runs<W: Sink>(
     blocks: Blocks<'_>,
     last: u32,
 ) -> Result<(), WriteFault>
-    requires rises { Rises blocks }
+    requires rises { BlocksRise blocks }
     requires last { last ≤ 4194303 }
     ensures { Passes (W.contents sink.old) (W.contents sink.new) (W.faults sink.old) (W.faults sink.new) out.old out.new (run_lines (runs_of_blocks (status_in blocks.entry) 0 (last + 1))) result }
 {
@@ -178,7 +179,7 @@ fn write_all_lines<W: Sink>(
     blocks: Blocks<'_>,
     last: u32,
 ) -> Result<(), WriteFault>
-    requires rises { Rises blocks }
+    requires rises { BlocksRise blocks }
     requires last { last ≤ 4194303 }
     ensures { Passes (W.contents sink.old) (W.contents sink.new) (W.faults sink.old) (W.faults sink.new) out.old out.new (map_text (status_in blocks.entry) last) result }
 {
@@ -191,7 +192,7 @@ fn write_all_lines<W: Sink>(
 }
 
 fn write_map<W: Sink>(blocks: Blocks<'_>, last: u32, sink: &mut W) -> Result<(), WriteFault>
-    requires rises { Rises blocks }
+    requires rises { BlocksRise blocks }
     requires last { last ≤ 4194303 }
     ensures { Writes (W.contents sink.old) (W.contents sink.new) (W.faults sink.old) (W.faults sink.new) (map_text (status_in blocks.entry) last) result }
 {

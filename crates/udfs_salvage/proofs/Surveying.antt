@@ -14,7 +14,7 @@ use Rattle.udfs_walk.specs.declared.standings.Standing.{Standing}
 use Rattle.udfs_walk.specs.declared.standings.Standing.TheVariants.{Whole, Torn, Loop, Fault}
 use Rattle.udfs_salvage.specs.Found.{Found, volume}
 use Rattle.udfs_salvage.specs.Reports.{IsLookRefused, MayWantMemory, all_whole, is_whole}
-use Rattle.udfs_salvage.specs.Surveys.{IsFound, full_nodes}
+use Rattle.udfs_salvage.specs.Surveys.{IsVolumeFound, full_nodes}
 use Rattle.udfs_salvage.specs.declared.errors.SalvageError.{SalvageError}
 use Rattle.udfs_salvage.specs.declared.errors.SalvageError.TheVariants as errors
 use Rattle.udfs_salvage.proofs.Opens.{found_by}
@@ -23,7 +23,7 @@ no_fault : (l : Layout) (f : VolumeFault) → found l ≡ faulty f → ⊥
 no_fault l f e = let z : ⊥ = cc in z
 
 -- of a volume that opens memory may be wanted
-pub wants_memory : (M : Blocks) (N : ℕ) (a : Answer Found) (e : SalvageError) → a ≡ volume M N → e ≡ errors.OutOfMemory → IsFound a → IsLookRefused M N e
+pub wants_memory : (M : Blocks) (N : ℕ) (a : Answer Found) (e : SalvageError) → a ≡ volume M N → e ≡ errors.OutOfMemory → IsVolumeFound a → IsLookRefused M N e
 wants_memory M N a e is of f = subst (IsLookRefused M N) (sym of) (may (found_by M N f.opened (sym is ∙ f.is)).layout_is)
   where
     may : layout M N ≡ found (f.opened).layout → MayWantMemory M N

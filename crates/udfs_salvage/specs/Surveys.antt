@@ -1,6 +1,6 @@
 -- Reports of which the blocks and the holes of torn nodes were let go.
 --     survey_now survey      the report, with what is missing of the torn nodes found again
---     IsFound volume         it opens
+--     IsVolumeFound volume         it opens
 --     IsClosed volume        it does not
 use Rattle.std.specs.Prelude.{◌≡◌, ⊤, List, map}
 use Rattle.udfs_lattice.specs.Tables.{state_of}
@@ -36,7 +36,7 @@ survey_now s = record {
 }
 
 -- the volume opens
-pub record IsFound (answer : Answer Found) : Type 0 where
+pub record IsVolumeFound (answer : Answer Found) : Type 0 where
   pub opened : Found
   pub is : answer ≡ found opened
 

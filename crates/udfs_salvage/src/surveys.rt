@@ -11,7 +11,7 @@ ghost use Rattle.udfs_salvage.specs.Found.{found_now, volume_now};
 ghost use Rattle.udfs_salvage.specs.Headline.{Headline};
 ghost use Rattle.udfs_salvage.specs.TreeReports.{IsOfNoLawful};
 ghost use Rattle.udfs_salvage.specs.Reports.{HasTooManyPaths, IsLookRefused, IsNothingPast, IsOutOfRange, IsPastEnd, IsReport, IsWalkRefused, MayWantMemory, ReportsBy, all_whole, report_now};
-ghost use Rattle.udfs_salvage.specs.Surveys.{IsClosed, IsFound, survey_now};
+ghost use Rattle.udfs_salvage.specs.Surveys.{IsClosed, IsVolumeFound, survey_now};
 
 use crate::errors::SalvageError;
 use crate::reports::{FIRST_LAST, Report, all_whole, past_end};
@@ -144,7 +144,7 @@ fn filled<'a>(alloc: Global, survey: Survey<'a>) -> Result<Report<'a>, SalvageEr
     ensures report { IfOk result (λ report. report_now report ≡ survey_now survey.entry) }
     ensures of { IfOk result (λ report. (report.table.now ≡ survey.entry.table.now) × (report.last ≡ survey.entry.last)) }
     ensures reread { IfOk result (λ report. report.reread.items ≡ survey.entry.reread.items) }
-    ensures refused { IfErr result (λ error. (error ≡ SalvageError.OutOfMemory) × IsFound (volume_now survey.entry.volume)) }
+    ensures refused { IfErr result (λ error. (error ≡ SalvageError.OutOfMemory) × IsVolumeFound (volume_now survey.entry.volume)) }
 {
     let Survey {
         table,

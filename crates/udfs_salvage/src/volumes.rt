@@ -5,7 +5,7 @@ ghost use Rattle.udfs_lattice.specs.Tables.{state_of};
 ghost use Rattle.udfs_volume.specs.LayoutParts.{parts_now};
 ghost use Rattle.udfs_volume.specs.Laws.{IsBounded};
 ghost use Rattle.udfs_volume.specs.Layout.{layout};
-ghost use Rattle.udfs_volume.specs.Seen.{HolesRise, Sees, Tells};
+ghost use Rattle.udfs_volume.specs.Seen.{HolesRise, Sees, TellsFault};
 ghost use Rattle.udfs_volume.specs.declared.faults.VolumeFault.{VolumeFault};
 ghost use Rattle.udfs_salvage.specs.Found.{found_now, placed, rooted, volume};
 
@@ -78,8 +78,8 @@ pub(crate) fn open(alloc: Global, table: &BlockTable, last: u32) -> Seen<OpenVol
     requires from { 513 ≤ last }
     requires to { last ≤ 4194303 }
     ensures value { Sees found_now result (volume (state_of table.now) last) }
-    ensures no_anchor { Tells VolumeFault.NoAnchor result (layout (state_of table.now) last) }
-    ensures extents { Tells VolumeFault.Extents result (layout (state_of table.now) last) }
+    ensures no_anchor { TellsFault VolumeFault.NoAnchor result (layout (state_of table.now) last) }
+    ensures extents { TellsFault VolumeFault.Extents result (layout (state_of table.now) last) }
     ensures rising { HolesRise result }
 {
     match layout(alloc, table, last) {

@@ -7,7 +7,7 @@ use Rattle.std.proofs.lemmas.Cmp.{ranked}
 use Rattle.std.proofs.lemmas.Bool.Decides.{nat_tests}
 use Rattle.udfs_space.proofs.Facts.{le_or_lt}
 use Rattle.udfs_space.specs.declared.entries.SparingEntry.{SparingEntry}
-use Rattle.udfs_space.specs.Parts.{Rises}
+use Rattle.udfs_space.specs.Parts.{OriginalsRise}
 
 not_same : (a b : ℕ) → a < b → nat_eq a b ≡ false
 not_same a b h = grind arith
@@ -23,7 +23,7 @@ none-of [] first h = refl
 none-of (e ∷ es) first h = none-of es first (λ k d l. h (suc k) d (omega (arith, l)))
     ∙ ap (λ b. cond b (Some e) (find (λ e. nat_eq e.original first) es)) (sym (h 0 e (omega arith)))
 
-some-of : (es : List SparingEntry) (first i : ℕ) (d : SparingEntry) → Rises es → i < length es → (slice_index_or es i d).original ≡ first → Some (slice_index_or es i d) ≡ find (λ e. nat_eq e.original first) es
+some-of : (es : List SparingEntry) (first i : ℕ) (d : SparingEntry) → OriginalsRise es → i < length es → (slice_index_or es i d).original ≡ first → Some (slice_index_or es i d) ≡ find (λ e. nat_eq e.original first) es
 some-of [] first i d r l e = absurd (let z : ⊥ = omega (arith, l) in z)
 some-of (x ∷ es) first zero d r l e = ap (λ b. cond b (Some x) (find (λ e. nat_eq e.original first) es)) (sym (are_same x.original first e))
 some-of (x ∷ es) first (suc i) d r l e = some-of es first i d (λ j k q m n. r (suc j) (suc k) q (omega (arith, m)) (omega (arith, n))) (omega (arith, l)) e
@@ -35,15 +35,15 @@ some-of (x ∷ es) first (suc i) d r l e = some-of es first i d (λ j k q m n. r
     before : x.original < first
     before = omega (arith, at, e)
 
-comparisons_rise : (es : List SparingEntry) (first : ℕ) → Rises es → IsNonDecreasingBy (λ e. ordering_index (nat_cmp e.original first)) es
+comparisons_rise : (es : List SparingEntry) (first : ℕ) → OriginalsRise es → IsNonDecreasingBy (λ e. ordering_index (nat_cmp e.original first)) es
 comparisons_rise es first r i j d le l = let keys : (slice_index_or es i d).original ≤ (slice_index_or es j d).original = grind (arith, r i j d, λ (same : i ≡ j). ap (λ k. (slice_index_or es k d).original) same) in
     grind (arith, nat_tests)
 
-pub search-found : (es : List SparingEntry) (first i : ℕ) (d : SparingEntry) → Rises es → i < length es → IsBinarySearchResult (λ e. nat_cmp e.original first) es (Ok i)
+pub search-found : (es : List SparingEntry) (first i : ℕ) (d : SparingEntry) → OriginalsRise es → i < length es → IsBinarySearchResult (λ e. nat_cmp e.original first) es (Ok i)
     → Some (slice_index_or es i d) ≡ find (λ e. nat_eq e.original first) es
 search-found es first i d r l equal = some-of es first i d r l (ranked (slice_index_or es i d).original first _ (sym (equal d)))
 
-pub search-absent : (es : List SparingEntry) (first i : ℕ) → Rises es → IsBinarySearchResult (λ e. nat_cmp e.original first) es (Err i)
+pub search-absent : (es : List SparingEntry) (first i : ℕ) → OriginalsRise es → IsBinarySearchResult (λ e. nat_cmp e.original first) es (Err i)
     → None ≡ find (λ e. nat_eq e.original first) es
 search-absent es first i r parted = none-of es first (λ k d l. go k d l (le_or_lt i k))
   where

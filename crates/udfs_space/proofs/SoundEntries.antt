@@ -6,7 +6,7 @@ use Rattle.std.proofs.lemmas.List.Elements.{All-nil, All-cons, All-head, All-tai
 use Rattle.udfs_tag.specs.Faults.{is_within}
 use Rattle.udfs_volume.specs.declared.faults.VolumeFault.{VolumeFault}
 use Rattle.udfs_space.specs.declared.entries.SparingEntry.{SparingEntry}
-use Rattle.udfs_space.specs.Parts.{AreSound, IsSoundEntry, Rises, entries_fault}
+use Rattle.udfs_space.specs.Parts.{AreSound, IsSoundEntry, OriginalsRise, entries_fault}
 use Rattle.udfs_space.specs.Sparing.{breaks_order, is_bad_original, is_out_of_order, is_used, passes_end}
 
 either_false : (a b : Bool) → (a || b) ≡ false → (a ≡ false) × (b ≡ false)
@@ -58,23 +58,23 @@ all-filter P test (e ∷ es) h = go (test e) (all-filter P test es (All-tail P e
     go true later = All-cons P e (filter test es) (All-head P e es h) later
     go false later = later
 
-rises-cons : (e : SparingEntry) (es : List SparingEntry) → All (λ f. e.original < f.original) es → Rises es → Rises (e ∷ es)
+rises-cons : (e : SparingEntry) (es : List SparingEntry) → All (λ f. e.original < f.original) es → OriginalsRise es → OriginalsRise (e ∷ es)
 rises-cons e es a r i zero d l k = absurd (let z : ⊥ = omega (arith, l) in z)
 rises-cons e es a r zero (suc j) d l k = a j d (omega (arith, k))
 rises-cons e es a r (suc i) (suc j) d l k = r i j d (omega (arith, l)) (omega (arith, k))
 
-rises-nil : Rises []
+rises-nil : OriginalsRise []
 rises-nil i j d l k = absurd (let z : ⊥ = omega (arith, k) in z)
 
 behind_first : (e : SparingEntry) (es : List SparingEntry) → is_out_of_order (e ∷ es) ≡ false → is_out_of_order es ≡ false
 behind_first e [] h = refl
 behind_first e (f ∷ rest) h = (either_false (breaks_order e f) (is_out_of_order (f ∷ rest)) h).1
 
-used_rise : (es : List SparingEntry) → is_out_of_order es ≡ false → Rises (filter is_used es)
+used_rise : (es : List SparingEntry) → is_out_of_order es ≡ false → OriginalsRise (filter is_used es)
 used_rise [] h = rises-nil
 used_rise (e ∷ es) h = go (is_used e) refl (used_rise es (behind_first e es h))
   where
-    go : (b : Bool) → is_used e ≡ b → Rises (filter is_used es) → Rises (cond b (e ∷ filter is_used es) (filter is_used es))
+    go : (b : Bool) → is_used e ≡ b → OriginalsRise (filter is_used es) → OriginalsRise (cond b (e ∷ filter is_used es) (filter is_used es))
     go true u later = rises-cons e (filter is_used es) (all-filter (λ f. e.original < f.original) is_used es (above e es u h)) later
     go false u later = later
 

@@ -7,7 +7,7 @@ use Rattle.udfs_lattice.specs.Volumes.{Includes}
 use Rattle.udfs_space.proofs.Facts.{le_or_lt, true_false}
 use Rattle.udfs_space.specs.declared.entries.SparingEntry.{SparingEntry}
 use Rattle.udfs_space.specs.Laws.{OldPlaceLaw, PlacingLaw}
-use Rattle.udfs_space.specs.Parts.{IsSound, IsSoundEntry, Rises}
+use Rattle.udfs_space.specs.Parts.{IsSound, IsSoundEntry, OriginalsRise}
 use Rattle.udfs_space.specs.Places.{IsSparedBy, StandsAt, StandsIn, sparing_entry_at, length_of, place, place_by, place_in, placed_at, span_size}
 use Rattle.udfs_space.specs.Sparing.{Space, Span, Spared}
 
@@ -53,7 +53,7 @@ same_if : (a b : ℕ) → nat_eq a b ≡ true → a ≡ b
 same_if a b e = grind arith
 
 -- the one with this first block
-find-included : (es : Spared) (first : ℕ) (e : SparingEntry) → Rises es → Includes es e → e.original ≡ first → find (λ e. nat_eq e.original first) es ≡ Some e
+find-included : (es : Spared) (first : ℕ) (e : SparingEntry) → OriginalsRise es → Includes es e → e.original ≡ first → find (λ e. nat_eq e.original first) es ≡ Some e
 find-included [] first e r i o = absurd i
 find-included (x ∷ es) first e r (inl p) o = ap (λ b. cond b (Some x) (find (λ e. nat_eq e.original first) es)) (are_same x.original first (ap (λ z. z.original) p ∙ o)) ∙ ap Some p
 find-included (x ∷ es) first e r (inr i) o =

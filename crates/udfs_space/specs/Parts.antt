@@ -25,14 +25,14 @@ pub record IsSoundEntry (packet : ℕ) (e : SparingEntry) : Type 0 where
   pub ends : e.mapped + packet ≤ 4194304
 
 -- the originals rise
-abbrev pub Rises : Spared → Type 0
-Rises es = (i j : ℕ) (d : SparingEntry) → i < j → j < length es
+abbrev pub OriginalsRise : Spared → Type 0
+OriginalsRise es = (i j : ℕ) (d : SparingEntry) → i < j → j < length es
     → (slice_index_or es i d).original < (slice_index_or es j d).original
 
 -- packets that are spared: whole, within the blocks that there may be, each once
 pub record AreSound (packet : ℕ) (es : Spared) : Type 0 where
   pub each : All (IsSoundEntry packet) es
-  pub rises : Rises es
+  pub rises : OriginalsRise es
 
 -- A partition is not empty and ends where blocks may end.
 pub record IsSound (s : Span) : Type 0 where

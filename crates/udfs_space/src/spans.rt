@@ -7,7 +7,7 @@ ghost use Rattle.udfs_volume.specs.Layout.{blocks_in};
 ghost use Rattle.udfs_volume.specs.LayoutParts.{partition_now};
 ghost use Rattle.udfs_volume.specs.Parts.{sparable_now};
 ghost use Rattle.udfs_volume.specs.Seen.{IfGot, Sees};
-ghost use Rattle.udfs_space.specs.Parts.{AreSound, FitAll, IsSound, IsSoundEntry, Rises};
+ghost use Rattle.udfs_space.specs.Parts.{AreSound, FitAll, IsSound, IsSoundEntry, OriginalsRise};
 ghost use Rattle.udfs_space.specs.Places.{place_in};
 ghost use Rattle.udfs_space.specs.Sparing.{span, spared};
 
@@ -100,7 +100,7 @@ impl Span {
 
 /// The entry of the packet that begins at a logical block, by binary search.
 fn entry_at(spared: &[SparingEntry], first: u32) -> Option<SparingEntry>
-    requires { Rises spared.now }
+    requires { OriginalsRise spared.now }
     ensures value { result ≡ find (λ e. nat_eq e.original first) spared.now }
     ensures sound { (packet : ℕ) → AreSound packet spared.now → IfSome result (IsSoundEntry packet) }
 {

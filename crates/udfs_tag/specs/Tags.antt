@@ -3,7 +3,7 @@
 --     is_sound bytes place             whether the tag has no fault there
 --     is_valid bytes place id          whether it is sound and has this identifier
 --     identifier bytes                 the identifier, where the tag is sound
---     HasFault f bytes place           the fault holds, whatever else holds
+--     HasTagFault f bytes place           the fault holds, whatever else holds
 --     IsAccepted, IsFirstFault         what `tag_of` answers, in these terms
 use Rattle.std.specs.Prelude.{◌≡◌, ◌≢◌, ℕ, Bool, false, ◌+◌, ◌%◌, ◌<◌, ◌≤◌, ◌⊎◌, ◌==◌, ◌||◌, not, nat_lt, List, length, take, sum, Result, Ok, Err, is_ok, if◌then◌else◌}
 use Rattle.udfs_tag.specs.Crc.{crc_of, message, IsRemainder}
@@ -52,12 +52,12 @@ abbrev pub is_valid : List ℕ → ℕ → ℕ → Bool
 is_valid bytes place id = has_identifier (tag_of bytes place) id
 
 -- when each fault holds, whatever else holds
-abbrev pub HasFault : TagFault → List ℕ → ℕ → Type 0
-HasFault Checksum bytes place = uint8_at bytes 4 ≢ checksum_of bytes
-HasFault Version bytes place = (uint16_at bytes 2 ≢ 2) × (uint16_at bytes 2 ≢ 3)
-HasFault CrcLength bytes place = length bytes < 16 + covered_len bytes
-HasFault Crc bytes place = ¬ IsRemainder (message (covered bytes)) (uint16_at bytes 8)
-HasFault Location bytes place = uint32_at bytes 12 ≢ place
+abbrev pub HasTagFault : TagFault → List ℕ → ℕ → Type 0
+HasTagFault Checksum bytes place = uint8_at bytes 4 ≢ checksum_of bytes
+HasTagFault Version bytes place = (uint16_at bytes 2 ≢ 2) × (uint16_at bytes 2 ≢ 3)
+HasTagFault CrcLength bytes place = length bytes < 16 + covered_len bytes
+HasTagFault Crc bytes place = ¬ IsRemainder (message (covered bytes)) (uint16_at bytes 8)
+HasTagFault Location bytes place = uint32_at bytes 12 ≢ place
 
 -- the order in which faults count
 abbrev pub fault_number : TagFault → ℕ
@@ -78,4 +78,4 @@ pub record IsAccepted (bytes : List ℕ) (place : ℕ) (tag : Tag) : Type 0 wher
 
 -- the fault holds, and none with a lower number
 abbrev pub IsFirstFault : List ℕ → ℕ → TagFault → Type 0
-IsFirstFault bytes place f = HasFault f bytes place × ((g : TagFault) → fault_number g < fault_number f → ¬ HasFault g bytes place)
+IsFirstFault bytes place f = HasTagFault f bytes place × ((g : TagFault) → fault_number g < fault_number f → ¬ HasTagFault g bytes place)

@@ -9,7 +9,7 @@ use Rattle.udfs_space.specs.Places.{View, IsPartOf}
 use Rattle.udfs_file.specs.Entries.{EntryFields}
 use Rattle.udfs_file.specs.Bodies.{body, IsNeededFor}
 use Rattle.udfs_file.specs.Fronts.{directory, listed_entries, directory_entries}
-use Rattle.udfs_file.specs.Laws.{IsBeginningOf, IsMissingAt, IsClearTo, IsPartialBody, end_of}
+use Rattle.udfs_file.specs.Laws.{IsBeginningOf, IsMissingAt, IsClearTo, IsPartialBody, descriptor_end}
 use Rattle.udfs_file.specs.declared.cells.Cell.{Cell}
 use Rattle.udfs_file.specs.declared.directories.DirEntry.{DirEntry}
 use Rattle.udfs_file.specs.Identifiers.{Identifier}
@@ -145,7 +145,7 @@ clear_before some all blocks root s w h name on ids is_dir end ends = subst (IsC
     differ : Differ (listed_entries (x.front ++ x.id ∷ (x.back ++ more.0)))
     differ = subst (λ z. Differ (listed_entries z)) whole_is (subst Differ below_are (s.lawful.distinct h.route w h.walks))
 
-    end_is : end_of x.front x.id ≡ end
+    end_is : descriptor_end x.front x.id ≡ end
     end_is = same_end x.front ends.front (x.back ++ more.0) ends.back x.id ends.id on.entry ends.entry differ (sym whole_is ∙ sym (r.only ids is_dir) ∙ ends.splits)
         x.is_listed ends.is_listed (on.named ∙ sym ends.named) ∙ sym ends.is
 

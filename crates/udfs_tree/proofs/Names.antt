@@ -4,7 +4,7 @@ use Rattle.std.specs.Prelude.{suc, AllPairs}
 use Rattle.std.specs.List.{cons_option}
 use Rattle.udfs_lattice.specs.Volumes.{Includes}
 use Rattle.udfs_file.specs.Fronts.{listed_entries}
-use Rattle.udfs_file.specs.Laws.{end_of}
+use Rattle.udfs_file.specs.Laws.{descriptor_end}
 use Rattle.udfs_file.specs.declared.directories.DirEntry.{DirEntry}
 use Rattle.udfs_file.specs.Identifiers.{Identifier}
 use Rattle.udfs_tree.proofs.WholeRoutes.{includes_get, same_place}
@@ -52,11 +52,11 @@ clash x bs gs cs y d e h p q r n = let z : 0 ≡ suc at.0 = same_place (d ∷ li
 
 -- where names differ, a name ends in one place
 pub same_end : (fs gs bs cs : List Identifier) (x y : Identifier) (d e : DirEntry) → Differ (listed_entries (fs ++ x ∷ bs)) → fs ++ x ∷ bs ≡ gs ++ y ∷ cs
-    → x.listed ≡ Some d → y.listed ≡ Some e → d.name ≡ e.name → end_of fs x ≡ end_of gs y
+    → x.listed ≡ Some d → y.listed ≡ Some e → d.name ≡ e.name → descriptor_end fs x ≡ descriptor_end gs y
 same_end [] [] bs cs x y d e h p q r n = let s : x ≡ y = cc in ap (λ z. z.size) s
 same_end [] (g ∷ gs) bs cs x y d e h p q r n = absurd (clash x bs gs cs y d e h (let s : bs ≡ gs ++ y ∷ cs = cc in s) q r n)
 same_end (f ∷ fs) [] bs cs x y d e h p q r n = absurd (clash f (fs ++ x ∷ bs) fs bs x e d h refl (let s : f ≡ y = cc in ap (λ z. z.listed) s ∙ r) q (sym n))
 same_end (f ∷ fs) (g ∷ gs) bs cs x y d e h p q r n =
-    let t : end_of fs x ≡ end_of gs y = same_end fs gs bs cs x y d e (differ_tail f.listed (listed_entries (fs ++ x ∷ bs)) h) (let s : fs ++ x ∷ bs ≡ gs ++ y ∷ cs = cc in s) q r n in
+    let t : descriptor_end fs x ≡ descriptor_end gs y = same_end fs gs bs cs x y d e (differ_tail f.listed (listed_entries (fs ++ x ∷ bs)) h) (let s : fs ++ x ∷ bs ≡ gs ++ y ∷ cs = cc in s) q r n in
     let u : f.size ≡ g.size = (let s : f ≡ g = cc in ap (λ z. z.size) s) in
     λ i. u i + t i

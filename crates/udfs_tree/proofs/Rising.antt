@@ -8,7 +8,7 @@ use Rattle.udfs_space.specs.Places.{View, IsPartOf}
 use Rattle.udfs_file.specs.Entries.{EntryFields}
 use Rattle.udfs_file.specs.Bodies.{cells, body, IsNeededFor}
 use Rattle.udfs_file.specs.Fronts.{directory, directory_entries, listed_entries}
-use Rattle.udfs_file.specs.Laws.{IsBeginningOf, IsClearTo, IsPartialBody, end_of}
+use Rattle.udfs_file.specs.Laws.{IsBeginningOf, IsClearTo, IsPartialBody, descriptor_end}
 use Rattle.udfs_file.specs.Complete.{IsComplete}
 use Rattle.udfs_file.specs.declared.cells.Cell.{Cell}
 use Rattle.udfs_file.specs.declared.directories.DirEntry.{DirEntry}
@@ -113,7 +113,7 @@ rise some all blocks p c (name ∷ names) w address h (ids, d, is_dir, i, named,
         l = split_at (directory x.cs).identifiers d inside
 
         end : ℕ
-        end = end_of l.front l.id
+        end = descriptor_end l.front l.id
 
         ends : EndsAt (directory x.cs).identifiers name end
         ends = record { front = l.front; id = l.id; back = l.back; splits = l.splits; entry = d; is_listed = l.is_listed; named = named; is = refl }

@@ -7,7 +7,7 @@ use Rattle.udfs_lattice.specs.Volumes.{Blocks, Includes, IsKnownAt}
 use Rattle.udfs_tag.specs.declared.layouts.LongAd.{LongAd}
 use Rattle.udfs_space.specs.Places.{View}
 use Rattle.udfs_file.specs.Bodies.{IsNeededFor}
-use Rattle.udfs_file.specs.Laws.{end_of}
+use Rattle.udfs_file.specs.Laws.{descriptor_end}
 use Rattle.udfs_file.specs.declared.directories.DirEntry.{DirEntry}
 use Rattle.udfs_file.specs.Identifiers.{Identifier}
 use Rattle.udfs_tree.specs.Trees.{PartitionBlocks, TreeFile, IsFileAt, IsDirectoryAt, Leads}
@@ -34,7 +34,7 @@ pub record EndsAt (ids : List Identifier) (name : List ℕ) (end : ℕ) : Type 0
   pub entry : DirEntry
   pub is_listed : id.listed ≡ Some entry
   pub named : entry.name ≡ name
-  pub is : end ≡ end_of front id
+  pub is : end ≡ descriptor_end front id
 
 -- a block that a directory on the way needs for a cell before the end of the descriptor with the next name
 pub record IsDirectoryBlock (all : View) (blocks : PartitionBlocks) (root : LongAd) (path : List (List ℕ)) (group : List ℕ) : Type 0 where

@@ -8,7 +8,7 @@ use Rattle.udfs_volume.specs.declared.faults.VolumeFault.TheVariants.{NoAnchor, 
 use Rattle.udfs_volume.specs.declared.seen.Seen.{Seen}
 use Rattle.udfs_volume.specs.declared.seen.Seen.TheVariants.{Got, Holes, Fault, OutOfMemory}
 use Rattle.udfs_volume.specs.Answers.{Answer, found, holes, faulty, and_then, IsHoles}
-use Rattle.udfs_volume.specs.Seen.{Sees, HolesRise, Tells, GoesOn}
+use Rattle.udfs_volume.specs.Seen.{Sees, HolesRise, TellsFault, GoesOn}
 use Rattle.udfs_volume.specs.Sequence.{Descriptor, Position, unread, invalid, descriptor, descriptors, goes_on, ended_by, read_positions, positions, are_extents, anchor, sequence_at, sequence}
 use Rattle.udfs_volume.specs.Sequences.{sequence_now}
 use Rattle.udfs_volume.specs.declared.descriptors.Sequence as code_sequence
@@ -31,7 +31,7 @@ IsLate (faulty fault) = is_early fault ≡ false
 
 -- what a call tells, where it took no memory for that fault
 pub told_by : {A B : Type 0} (view : A → B) (seen : Seen A) (answer : Answer B) (f : VolumeFault) → Sees view seen answer
-    → (seen ≡ OutOfMemory → answer ≡ faulty f → ⊥) → Tells f seen answer
+    → (seen ≡ OutOfMemory → answer ≡ faulty f → ⊥) → TellsFault f seen answer
 told_by view (Got x) answer f s no_memory e = absurd (let no : ⊥ = cc in no)
 told_by view (Holes blocks) answer f s no_memory e = absurd (let no : ⊥ = cc in no)
 told_by view (Fault g) answer f s no_memory e = let same : g ≡ f = cc in ap Fault same
@@ -82,8 +82,8 @@ abbrev pub SequenceClauses : Blocks → ℕ → Seen code_sequence.Sequence → 
 SequenceClauses T last seen = record {
   value : Sees sequence_now seen (sequence T last);
   rising : HolesRise seen;
-  no_anchor : Tells NoAnchor seen (sequence T last);
-  extents : Tells Extents seen (sequence T last);
+  no_anchor : TellsFault NoAnchor seen (sequence T last);
+  extents : TellsFault Extents seen (sequence T last);
 }
 
 -- the same, by what it saw

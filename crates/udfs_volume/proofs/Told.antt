@@ -8,7 +8,7 @@ use Rattle.udfs_volume.specs.declared.layouts.VolumeParts.{VolumeParts}
 use Rattle.udfs_volume.specs.declared.seen.Seen.{Seen}
 use Rattle.udfs_volume.specs.declared.seen.Seen.TheVariants.{Got, Holes, Fault, OutOfMemory}
 use Rattle.udfs_volume.specs.Answers.{Answer, found, holes, faulty, and_then, unless_fault}
-use Rattle.udfs_volume.specs.Seen.{Sees, HolesRise, IfGot, Tells, GoesOn}
+use Rattle.udfs_volume.specs.Seen.{Sees, HolesRise, IfGot, TellsFault, GoesOn}
 use Rattle.udfs_volume.specs.Sequence.{Descriptor, anchor_places, sequence}
 use Rattle.udfs_volume.specs.Layout.{Layout, NumberedMap, Described, has_contents, partition_of, is_in_range, laid_out, with_maps, with_volume, the_maps, volume_fault, described, logical_volume, layout_of, layout}
 use Rattle.udfs_volume.specs.LayoutParts.{parts_now}
@@ -137,8 +137,8 @@ LayoutClauses T last seen = record {
   lawful : TellsLawfulLayout T last seen;
   bounded : IfGot seen (λ parts. IsBounded last (parts_now parts));
   rising : HolesRise seen;
-  no_anchor : Tells NoAnchor seen (layout T last);
-  extents : Tells Extents seen (layout T last);
+  no_anchor : TellsFault NoAnchor seen (layout T last);
+  extents : TellsFault Extents seen (layout T last);
 }
 
 -- the same, by what it saw
@@ -156,7 +156,7 @@ layout_clauses T last seen from value anchored fits = record {
 
 -- the same, by what was seen of the sequence
 pub layout_from : (T : Blocks) (last : ℕ) (a : Seen code_sequence.Sequence) (seen : Seen VolumeParts) (Next : code_sequence.Sequence → Seen VolumeParts → Type 0) → 513 ≤ last
-    → Sees sequence_now a (sequence T last) → Tells NoAnchor a (sequence T last) → Tells Extents a (sequence T last) → GoesOn a Next seen
+    → Sees sequence_now a (sequence T last) → TellsFault NoAnchor a (sequence T last) → TellsFault Extents a (sequence T last) → GoesOn a Next seen
     → ((s : code_sequence.Sequence) → Next s seen → Sees parts_now seen (layout_of last (sequence_now s))) → LayoutClauses T last seen
 layout_from T last (Got s) seen Next from is none fits goes next =
     layout_clauses T last seen from (subst (Sees parts_now seen) (sym (layout-read T last (sequence_now s) is)) (next s goes))

@@ -9,7 +9,7 @@ ghost use Rattle.udfs_volume.specs.Layout.{bp, described, has_contents, has_doma
 ghost use Rattle.udfs_volume.specs.LayoutParts.{described_now, field_tests, has_contents_of, is_range, parts_now, partition_now};
 ghost use Rattle.udfs_osta.specs.Labels.{label_of};
 ghost use Rattle.udfs_volume.specs.Laws.{IsBounded};
-ghost use Rattle.udfs_volume.specs.Seen.{Sees, HolesRise, IfGot, Tells};
+ghost use Rattle.udfs_volume.specs.Seen.{Sees, HolesRise, IfGot, TellsFault};
 ghost use Rattle.udfs_volume.specs.Told.{TellsLawfulLayout};
 ghost use Rattle.udfs_volume.specs.Parts.{numbered_now};
 ghost use Rattle.udfs_volume.specs.Sequences.{descriptor_now, sequence_now};
@@ -261,8 +261,8 @@ pub fn layout(alloc: Global, table: &BlockTable, last: u32) -> Seen<VolumeParts>
     ensures lawful { TellsLawfulLayout (state_of table.now) last result }
     ensures bounded { IfGot result (λ parts. IsBounded last (parts_now parts)) }
     ensures rising { HolesRise result }
-    ensures no_anchor { Tells VolumeFault.NoAnchor result (layout (state_of table.now) last) }
-    ensures extents { Tells VolumeFault.Extents result (layout (state_of table.now) last) }
+    ensures no_anchor { TellsFault VolumeFault.NoAnchor result (layout (state_of table.now) last) }
+    ensures extents { TellsFault VolumeFault.Extents result (layout (state_of table.now) last) }
 {
     sequence(alloc, table, last).and_then(|found| see_layout(alloc, last, found))
 }

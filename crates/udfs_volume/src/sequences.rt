@@ -3,7 +3,7 @@
 ghost use Rattle.std.specs.Prelude.{◌≡◌, ◌≤◌, ◌<◌, ◌+◌, ◌/◌, ◌∷◌, [], ℕ, IfOk, IsTrue, IsOk, length, true};
 ghost use Rattle.udfs_lattice.specs.Tables.{state_of};
 ghost use Rattle.udfs_lattice.specs.Volumes.{ascending};
-ghost use Rattle.udfs_volume.specs.Seen.{Sees, HolesRise, Tells};
+ghost use Rattle.udfs_volume.specs.Seen.{Sees, HolesRise, TellsFault};
 ghost use Rattle.udfs_volume.specs.Sequence.{are_extents, fits_to, position, positions, read_positions, sequence, sequence_at};
 ghost use Rattle.udfs_volume.specs.Sequences.{descriptor_of, position_now, sequence_now};
 
@@ -149,8 +149,8 @@ pub fn sequence<'a>(alloc: Global, table: &'a BlockTable, last: u32) -> Seen<Seq
     requires to { last ≤ 4194303 }
     ensures value { Sees sequence_now result (sequence (state_of table.now) last) }
     ensures rising { HolesRise result }
-    ensures no_anchor { Tells VolumeFault.NoAnchor result (sequence (state_of table.now) last) }
-    ensures extents { Tells VolumeFault.Extents result (sequence (state_of table.now) last) }
+    ensures no_anchor { TellsFault VolumeFault.NoAnchor result (sequence (state_of table.now) last) }
+    ensures extents { TellsFault VolumeFault.Extents result (sequence (state_of table.now) last) }
 {
     anchor(alloc, table, last).and_then(|extents| sequence_at(alloc, table, last, extents))
 }

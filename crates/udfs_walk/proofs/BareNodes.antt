@@ -14,11 +14,11 @@ use Rattle.udfs_file.specs.declared.directories.DirEntry.{DirEntry}
 use Rattle.udfs_file.specs.declared.faults.Kind.{Kind}
 use Rattle.udfs_file.specs.declared.faults.Kind.TheVariants as kind
 use Rattle.udfs_file.specs.declared.faults.NodeFault.{NodeFault}
-use Rattle.udfs_walk.specs.Bare.{bare, bare_entry, bare_node, body_lists, full_entry, full_node, lists_at, lists_of, target_lists, with_lists}
+use Rattle.udfs_walk.specs.Bare.{bare_standing, bare_entry, bare_node, body_lists, full_entry, full_node, lists_at, lists_of, target_lists, with_lists}
 use Rattle.udfs_walk.specs.NodeFields.{NodeFields}
 use Rattle.udfs_walk.specs.TornFields.{TornFields}
 use Rattle.udfs_walk.specs.Nodes.{entry_standing, node, node_at, told}
-use Rattle.udfs_walk.specs.Frames.{FrameFields, IsTaken}
+use Rattle.udfs_walk.specs.Frames.{FrameFields, IsEntryTaken}
 use Rattle.udfs_walk.specs.Routes.{Walked, inside, is_deep, is_loop}
 use Rattle.udfs_walk.specs.Standings.{body_standing, cells_standing, depth_or, kind_standing, standing_or_fault}
 use Rattle.udfs_walk.specs.Targets.{Icb, Target, bad, unread, entry, icb_of, is_icb, target}
@@ -29,40 +29,40 @@ use Rattle.udfs_walk.specs.declared.standings.Standing.TheVariants.{Whole, Torn,
 
 -- ---- standings
 -- with its own lists again it is as it was
-again : (s : Standing) (lists : TornFields) → lists ≡ lists_of s → with_lists lists (bare s) ≡ s
+again : (s : Standing) (lists : TornFields) → lists ≡ lists_of s → with_lists lists (bare_standing s) ≡ s
 again Whole lists e = refl
 again (Torn torn) lists e = ap Torn e
 again Loop lists e = refl
 again (Fault f) lists e = refl
 
-deep_again : (deep : Bool) (es : List DirEntry) (s : Standing) (lists : TornFields) → lists ≡ lists_of s → with_lists lists (bare (depth_or deep es s)) ≡ depth_or deep es s
+deep_again : (deep : Bool) (es : List DirEntry) (s : Standing) (lists : TornFields) → lists ≡ lists_of s → with_lists lists (bare_standing (depth_or deep es s)) ≡ depth_or deep es s
 deep_again true (e ∷ es) s lists h = refl
 deep_again true [] s lists h = again s lists h
 deep_again false es s lists h = again s lists h
 
 listed_again : (o : Option NodeFault) (deep : Bool) (es : List DirEntry) (s : Standing) (lists : TornFields) → lists ≡ lists_of s
-    → with_lists lists (bare (standing_or_fault o (depth_or deep es s))) ≡ standing_or_fault o (depth_or deep es s)
+    → with_lists lists (bare_standing (standing_or_fault o (depth_or deep es s))) ≡ standing_or_fault o (depth_or deep es s)
 listed_again None deep es s lists h = deep_again deep es s lists h
 listed_again (Some f) deep es s lists h = refl
 
-kind_again : (k : Kind) (deep : Bool) (cs : List Cell) (lists : TornFields) → lists ≡ lists_of (cells_standing cs) → with_lists lists (bare (kind_standing k deep cs)) ≡ kind_standing k deep cs
+kind_again : (k : Kind) (deep : Bool) (cs : List Cell) (lists : TornFields) → lists ≡ lists_of (cells_standing cs) → with_lists lists (bare_standing (kind_standing k deep cs)) ≡ kind_standing k deep cs
 kind_again kind.Directory deep cs lists h = listed_again (fault_in (directory cs).rest) deep (directory_entries cs) (cells_standing cs) lists h
 kind_again kind.File deep cs lists h = again (cells_standing cs) lists h
 kind_again kind.Link deep cs lists h = again (cells_standing cs) lists h
 kind_again (kind.Other t) deep cs lists h = again (cells_standing cs) lists h
 kind_again kind.Unread deep cs lists h = again (cells_standing cs) lists h
 
-body_again : (k : Kind) (deep : Bool) (b : Body) (lists : TornFields) → lists ≡ body_lists b → with_lists lists (bare (body_standing k deep b)) ≡ body_standing k deep b
+body_again : (k : Kind) (deep : Bool) (b : Body) (lists : TornFields) → lists ≡ body_lists b → with_lists lists (bare_standing (body_standing k deep b)) ≡ body_standing k deep b
 body_again k deep (faulty_body f) lists h = refl
 body_again k deep (cells cs) lists h = kind_again k deep cs lists h
 
-loop_again : (l : Bool) (s : Standing) (lists : TornFields) → with_lists lists (bare s) ≡ s → with_lists lists (bare (cond l Loop s)) ≡ cond l Loop s
+loop_again : (l : Bool) (s : Standing) (lists : TornFields) → with_lists lists (bare_standing s) ≡ s → with_lists lists (bare_standing (cond l Loop s)) ≡ cond l Loop s
 loop_again true s lists h = refl
 loop_again false s lists h = h
 
 -- ---- nodes
 abbrev node_with_lists : NodeFields → TornFields → NodeFields
-node_with_lists n lists = record { path = n.path; icb = n.icb; kind = n.kind; size = n.size; stamp = n.stamp; hidden = n.hidden; standing = with_lists lists (bare n.standing) }
+node_with_lists n lists = record { path = n.path; icb = n.icb; kind = n.kind; size = n.size; stamp = n.stamp; hidden = n.hidden; standing = with_lists lists (bare_standing n.standing) }
 
 at_target : (v : View) (w : Walked) (t : Target) (lists : TornFields) → lists ≡ target_lists v w.address t → node_with_lists (node_at v w t) lists ≡ node_at v w t
 at_target v w (bad f) lists e = refl
@@ -86,7 +86,7 @@ full_more v w old new n e h = ap (map (full_node v)) e ∙ map-append (full_node
 pub full_first : (v : View) (w : Walked) (old new : List NodeFields) (n : NodeFields) → old ≡ [] → new ≡ old ++ bare_node n ∷ [] → n ≡ node v w → map (full_node v) new ≡ n ∷ []
 full_first v w old new n z e h = full_more v w old new n e h ∙ ap (λ x. map (full_node v) x ++ n ∷ []) z
 
-pub full_taken : (v : View) (f g : FrameFields) (old new : List NodeFields) (taken : NodeFields × Option FrameFields) → new ≡ old ++ bare_node taken.0 ∷ [] → IsTaken v f (Some taken) g
+pub full_taken : (v : View) (f g : FrameFields) (old new : List NodeFields) (taken : NodeFields × Option FrameFields) → new ≡ old ++ bare_node taken.0 ∷ [] → IsEntryTaken v f (Some taken) g
     → map (full_node v) new ≡ map (full_node v) old ++ taken.0 ∷ []
 full_taken v f g old new taken e t = full_more v (inside f.path f.above t.entry) old new taken.0 e t.node
 

@@ -6,7 +6,7 @@ use Rattle.std.proofs.lemmas.List.Sorted.{Contains-permutation, IsPermutation-sy
 use Rattle.std.specs.List.{range_with_len}
 use Rattle.std.proofs.lemmas.List.{length-drop}
 use Rattle.udfs_lattice.specs.Volumes.{Includes, ascending}
-use Rattle.udfs_lattice.proofs.PublicLaws.{ascending_includes}
+use Rattle.udfs_lattice.proofs.PublicLaws.{ascending_includes, included_is_contained}
 use Rattle.udfs_volume.specs.Seen.{IsRising}
 use Rattle.udfs_volume.proofs.PublicLaws.{ascending_rises}
 use Rattle.udfs_walk.specs.BlockRuns.{AreSorted, AreSortedFrom, blocks_of, run_blocks}
@@ -265,20 +265,7 @@ of_blocks (x ∷ xs) n i = go (either (run_blocks x) (blocks_of xs) n i) (λ k. 
 pub moved_in : (xs ys : List BlockRun) → ((r : BlockRun) → Includes xs r → Includes ys r) → (n : ℕ) → Includes (blocks_of xs) n → Includes (blocks_of ys) n
 moved_in xs ys f n i = let q = of_blocks xs n i in in_blocks ys q.0 n (f q.0 q.1) q.2
 
-includes_from : (xs : List BlockRun) (k : ℕ) (x : BlockRun) → k < length xs → get_or xs k x ≡ x → Includes xs x
-includes_from [] k x h e = absurd (let z : ⊥ = omega (arith, h) in z)
-includes_from (y ∷ ys) zero x h e = inl e
-includes_from (y ∷ ys) (suc k) x h e = inr (includes_from ys k x (omega (arith, h)) e)
-
-includes_at : (xs : List BlockRun) (r : BlockRun) → Contains xs r → Includes xs r
-includes_at xs r h = includes_from xs h.0 r h.1 h.2
-
-contains_at : (xs : List BlockRun) (r : BlockRun) → Includes xs r → Contains xs r
-contains_at [] r i = absurd i
-contains_at (y ∷ ys) r (inl e) = (0, omega arith, e)
-contains_at (y ∷ ys) r (inr i) = let q = contains_at ys r i in (suc q.0, omega (arith, q.1), q.2)
-
 pub permuted : (xs ys : List BlockRun) → IsPermutation xs ys → ascending (blocks_of ys) ≡ ascending (blocks_of xs)
 permuted xs ys p = rising_same (ascending (blocks_of ys)) (ascending (blocks_of xs)) (ascending_rises (blocks_of ys)) (ascending_rises (blocks_of xs))
-    (λ n i. (ascending_includes (blocks_of xs) n).1 (moved_in ys xs (λ r k. includes_at xs r (Contains-permutation ys xs r (IsPermutation-sym xs ys p) (contains_at ys r k))) n ((ascending_includes (blocks_of ys) n).0 i)))
-    (λ n i. (ascending_includes (blocks_of ys) n).1 (moved_in xs ys (λ r k. includes_at ys r (Contains-permutation xs ys r p (contains_at xs r k))) n ((ascending_includes (blocks_of xs) n).0 i)))
+    (λ n i. (ascending_includes (blocks_of xs) n).1 (moved_in ys xs (λ r k. (included_is_contained xs r).1 (Contains-permutation ys xs r (IsPermutation-sym xs ys p) ((included_is_contained ys r).0 k))) n ((ascending_includes (blocks_of ys) n).0 i)))
+    (λ n i. (ascending_includes (blocks_of ys) n).1 (moved_in xs ys (λ r k. (included_is_contained ys r).1 (Contains-permutation xs ys r p ((included_is_contained xs r).0 k))) n ((ascending_includes (blocks_of xs) n).0 i)))

@@ -12,7 +12,7 @@ use Rattle.udfs_walk.specs.Targets.{Icb, icb_of}
 use Rattle.udfs_walk.specs.Routes.{Walked, at_root, inside, entries_below, HasMoreRoutes}
 use Rattle.udfs_walk.specs.Nodes.{node}
 use Rattle.udfs_walk.specs.Visits.{AreRefused, end_at}
-use Rattle.udfs_walk.specs.Frames.{FrameFields, HasManyBelow, IsFrameOf, IsStepRefused, count_left, frame_at, IsNextTaken, kept}
+use Rattle.udfs_walk.specs.Frames.{FrameFields, HasManyBelow, IsFrameOf, IsStepRefused, count_left, frame_at, IsNextTaken, frames_with}
 use Rattle.udfs_walk.specs.Walks.{AreNodes, IsNodesRefused}
 use Rattle.udfs_walk.specs.declared.answers.NodesError.{NodesError}
 use Rattle.udfs_walk.specs.declared.answers.NodesError.TheVariants.{TooManyPaths, OutOfMemory}
@@ -45,8 +45,8 @@ owed_last v (g ∷ fs) f = ap (λ x. x ++ owed_frame v g) (owed_last v fs f) ∙
 tree_frame : (v : View) (w : Walked) → tree v w ≡ w ∷ owed_frame v (frame_at v w)
 tree_frame v w = tree-is v w
 
--- a directory that need not be kept owes nothing
-kept_owed : (v : View) (fs : List FrameFields) (o : Option FrameFields) (f : FrameFields) → IsFrameOf o f → owed_frame v f ++ owed v fs ≡ owed v (kept fs o)
+-- a directory that need not be frames_with owes nothing
+kept_owed : (v : View) (fs : List FrameFields) (o : Option FrameFields) (f : FrameFields) → IsFrameOf o f → owed_frame v f ++ owed v fs ≡ owed v (frames_with fs o)
 kept_owed v fs None f e = ap (λ es. flat_map (λ e. tree v (inside f.path f.above e)) es ++ owed v fs) e
 kept_owed v fs (Some g) f e = ap (λ x. owed_frame v x ++ owed v fs) (sym e) ∙ sym (owed_last v fs g)
 
@@ -54,12 +54,12 @@ left_last : (fs : List FrameFields) (f : FrameFields) → left_in (fs ++ f ∷ [
 left_last [] f = refl
 left_last (g ∷ fs) f = let e : left_in (fs ++ f ∷ []) ≡ left_in fs + length f.left = left_last fs f in omega (arith, e)
 
-left_kept : (fs : List FrameFields) (o : Option FrameFields) → left_in (kept fs o) ≡ left_in fs + count_left o
+left_kept : (fs : List FrameFields) (o : Option FrameFields) → left_in (frames_with fs o) ≡ left_in fs + count_left o
 left_kept fs None = omega arith
 left_kept fs (Some f) = left_last fs f
 
 pub walk_start : (v : View) (root : LongAd) (n : NodeFields) (f : Option FrameFields) (path : List (List ℕ)) (above : List Icb) (nodes : List NodeFields) (frames : List FrameFields) (room : ℕ)
-    → path ≡ [] → above ≡ [] → n ≡ node v (end_at root path above false) → IsFrameOf f (frame_at v (end_at root path above false)) → nodes ≡ n ∷ [] → frames ≡ kept [] f
+    → path ≡ [] → above ≡ [] → n ≡ node v (end_at root path above false) → IsFrameOf f (frame_at v (end_at root path above false)) → nodes ≡ n ∷ [] → frames ≡ frames_with [] f
     → count_left f + room ≡ 65535 → IsWalking v root nodes frames room
 walk_start v root n f path above nodes frames room p a en ef ns fs h = record {
   all = ap (map (node v)) (tree_frame v (at_root root))
@@ -80,7 +80,7 @@ walk_none v root nodes frames rest f room w e l = record {
 
 -- where an entry is left, the last directory owes it and what is below it
 taken_owed : (v : View) (frames rest : List FrameFields) (f g : FrameFields) (n : NodeFields) (b : Option FrameFields) → frames ≡ rest ++ f ∷ []
-    → (t : IsNextTaken v f g n b) → owed v frames ≡ inside f.path f.above t.entry ∷ owed v (kept (rest ++ g ∷ []) b)
+    → (t : IsNextTaken v f g n b) → owed v frames ≡ inside f.path f.above t.entry ∷ owed v (frames_with (rest ++ g ∷ []) b)
 taken_owed v frames rest f g n b e t =
     ap (owed v) e ∙ owed_last v rest f
     ∙ ap (λ es. flat_map (λ e. tree v (inside f.path f.above e)) es ++ owed v rest) t.first
@@ -107,7 +107,7 @@ walk_short v root nodes frames rest f g n b room w e t =
 
 pub walk_some : (v : View) (root : LongAd) (nodes more : List NodeFields) (frames rest next : List FrameFields) (f g : FrameFields) (n : NodeFields) (b : Option FrameFields) (room less : ℕ)
     → IsWalking v root nodes frames room → frames ≡ rest ++ f ∷ [] → IsNextTaken v f g n b
-    → more ≡ nodes ++ n ∷ [] → next ≡ kept (rest ++ g ∷ []) b → count_left b + less ≡ room → IsWalking v root more next less
+    → more ≡ nodes ++ n ∷ [] → next ≡ frames_with (rest ++ g ∷ []) b → count_left b + less ≡ room → IsWalking v root more next less
 walk_some v root nodes more frames rest next f g n b room less w e t em en h = record {
   all = w.all ∙ ap (λ x. nodes ++ map (node v) x) (taken_owed v frames rest f g n b e t)
       ∙ (λ i. nodes ++ (sym t.node i ∷ map (node v) (owed v (sym en i))))

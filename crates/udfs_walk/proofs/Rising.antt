@@ -3,7 +3,7 @@ use Rattle.std.proofs.Common.{◌≡◌, refl, sym, ◌∙◌, ap, subst, inl, i
 use Rattle.std.specs.Prelude.{zero, suc, slice_index, Contains}
 use Rattle.std.specs.List.Sorted.{IsStrictlyIncreasing}
 use Rattle.udfs_lattice.specs.Volumes.{Includes, ascending}
-use Rattle.udfs_lattice.proofs.PublicLaws.{ascending_includes}
+use Rattle.udfs_lattice.proofs.PublicLaws.{ascending_includes, included_is_contained}
 use Rattle.udfs_volume.specs.Seen.{IsRising}
 use Rattle.udfs_volume.proofs.PublicLaws.{ascending_rises}
 
@@ -34,20 +34,6 @@ rising_same (x ∷ xs) (y ∷ ys) r s f g = go (heads x y xs ys r s (f x (inl re
         let t : xs ≡ ys = ih r.1 s'.1 (rest_in x xs ys r f') (rest_in x ys xs s' g') in
         ap (λ z. z ∷ xs) e ∙ ap (λ l. y ∷ l) t
 
--- ---- the two words for membership
-pub includes_from : (xs : List ℕ) (k x : ℕ) → k < length xs → get_or xs k x ≡ x → Includes xs x
-includes_from [] k x h e = absurd (let z : ⊥ = omega (arith, h) in z)
-includes_from (y ∷ ys) zero x h e = inl e
-includes_from (y ∷ ys) (suc k) x h e = inr (includes_from ys k x (omega (arith, h)) e)
-
-pub Contains-includes : (xs : List ℕ) (x : ℕ) → Contains xs x → Includes xs x
-Contains-includes xs x h = includes_from xs h.0 x h.1 h.2
-
-pub includes-Contains : (xs : List ℕ) (x : ℕ) → Includes xs x → Contains xs x
-includes-Contains [] x i = absurd i
-includes-Contains (y ∷ ys) x (inl e) = (0, omega arith, e)
-includes-Contains (y ∷ ys) x (inr i) = let r = includes-Contains ys x i in (suc r.0, omega (arith, r.1), r.2)
-
 -- ---- strictly increasing lists rise
 below_all : (x y : ℕ) (ys : List ℕ) → x < y → IsRising (y ∷ ys) → (m : ℕ) → Includes (y ∷ ys) m → x < m
 below_all x y ys h r m (inl e) = subst (λ z. x < z) e h
@@ -63,5 +49,5 @@ increasing_rises (x ∷ y ∷ ys) h =
 -- a strictly increasing list of the same numbers
 pub increasing_is : (xs ys : List ℕ) → IsStrictlyIncreasing ys → ((n : ℕ) → Contains xs n → Contains ys n) → ((n : ℕ) → Contains ys n → Contains xs n) → ys ≡ ascending xs
 increasing_is xs ys up f g = rising_same ys (ascending xs) (increasing_rises ys up) (ascending_rises xs)
-    (λ n i. (ascending_includes xs n).1 (Contains-includes xs n (g n (includes-Contains ys n i))))
-    (λ n i. Contains-includes ys n (f n (includes-Contains xs n ((ascending_includes xs n).0 i))))
+    (λ n i. (ascending_includes xs n).1 ((included_is_contained xs n).1 (g n ((included_is_contained ys n).0 i))))
+    (λ n i. (included_is_contained ys n).1 (f n ((included_is_contained xs n).0 ((ascending_includes xs n).0 i))))

@@ -1,5 +1,5 @@
 -- Nodes and entries of which the blocks and the holes of torn ones were let go, and are found again where they are told.
---     bare standing                the standing without the blocks and the holes
+--     bare_standing standing                the standing without the blocks and the holes
 --     lists_at view a              what is missing of what an address leads to
 --     full_node view n             the node with what is missing of it
 use Rattle.std.specs.Prelude.{List, [], ◌∷◌}
@@ -34,8 +34,8 @@ with_lists lists Loop = Loop
 with_lists lists (Fault f) = Fault f
 
 -- a standing without its blocks and holes
-abbrev pub bare : Standing → Standing
-bare standing = with_lists no_lists standing
+abbrev pub bare_standing : Standing → Standing
+bare_standing standing = with_lists no_lists standing
 
 -- what is missing of a body
 abbrev pub body_lists : Body → TornFields
@@ -58,20 +58,20 @@ node_with n standing = record { path = n.path; icb = n.icb; kind = n.kind; size 
 
 -- a node without its blocks and holes
 abbrev pub bare_node : NodeFields → NodeFields
-bare_node n = node_with n (bare n.standing)
+bare_node n = node_with n (bare_standing n.standing)
 
 -- a node with what is missing of it
 abbrev pub full_node : View → NodeFields → NodeFields
 full_node view n = node_with n (with_lists (lists_at view n.icb) n.standing)
 
 -- an entry with another standing
-abbrev pub entry_with : Unnamed → Standing → Unnamed
-entry_with u standing = record { reference = u.reference; block = u.block; kind = u.kind; size = u.size; stamp = u.stamp; standing = standing }
+abbrev pub with_standing : Unnamed → Standing → Unnamed
+with_standing u standing = record { reference = u.reference; block = u.block; kind = u.kind; size = u.size; stamp = u.stamp; standing = standing }
 
 -- an entry without its blocks and holes
 abbrev pub bare_entry : Unnamed → Unnamed
-bare_entry u = entry_with u (bare u.standing)
+bare_entry u = with_standing u (bare_standing u.standing)
 
 -- an entry with what is missing of it
 abbrev pub full_entry : View → Unnamed → Unnamed
-full_entry view u = entry_with u (with_lists (lists_at view (address_of (u.reference, u.block))) u.standing)
+full_entry view u = with_standing u (with_lists (lists_at view (address_of (u.reference, u.block))) u.standing)

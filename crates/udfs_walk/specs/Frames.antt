@@ -1,8 +1,8 @@
 -- The directories on the way that code keeps.
 --     frame_at view w            the directory at the end of a route, none of whose entries was gone into
---     IsFrameOf frame f          the directory, which need not be kept where no entry is left
---     kept frames frame          these directories and one more, if there is one
---     IsTaken view old taken new     the next entry was gone into
+--     IsFrameOf frame f          the directory, which need not be frames_with where no entry is left
+--     frames_with frames frame          these directories and one more, if there is one
+--     IsEntryTaken view old taken new     the next entry was gone into
 --     IsStepRefused view most old error   why it was not
 --     count_left frame           how many entries are left in it
 use Rattle.std.specs.Prelude.{◌≡◌, ◌<◌, ℕ, ⊤, List, [], ◌∷◌, ◌++◌, length, Option, Some, None}
@@ -25,15 +25,15 @@ pub record FrameFields : Type 0 where
 abbrev pub frame_at : View → Walked → FrameFields
 frame_at view w = record { path = w.path; above = w.above ++ icb_of w.address ∷ []; left = entries_below view w }
 
--- a directory without entries need not be kept
+-- a directory without entries need not be frames_with
 abbrev pub IsFrameOf : Option FrameFields → FrameFields → Type 0
 IsFrameOf None f = f.left ≡ []
-IsFrameOf (Some kept) f = kept ≡ f
+IsFrameOf (Some frames_with) f = frames_with ≡ f
 
 -- the frames, with one more if a directory is entered
-abbrev pub kept : List FrameFields → Option FrameFields → List FrameFields
-kept frames None = frames
-kept frames (Some frame) = frames ++ frame ∷ []
+abbrev pub frames_with : List FrameFields → Option FrameFields → List FrameFields
+frames_with frames None = frames
+frames_with frames (Some frame) = frames ++ frame ∷ []
 
 -- of the entries that are left the first
 pub record IsNextTaken (view : View) (old new : FrameFields) (n : NodeFields) (below : Option FrameFields) : Type 0 where
@@ -45,9 +45,9 @@ pub record IsNextTaken (view : View) (old new : FrameFields) (n : NodeFields) (b
   pub frame : IsFrameOf below (frame_at view (inside old.path old.above entry))
 
 -- the next entry of a frame was taken, or none was left
-abbrev pub IsTaken : View → FrameFields → Option (NodeFields × Option FrameFields) → FrameFields → Type 0
-IsTaken view old None new = old.left ≡ []
-IsTaken view old (Some taken) new = IsNextTaken view old new taken.0 taken.1
+abbrev pub IsEntryTaken : View → FrameFields → Option (NodeFields × Option FrameFields) → FrameFields → Type 0
+IsEntryTaken view old None new = old.left ≡ []
+IsEntryTaken view old (Some taken) new = IsNextTaken view old new taken.0 taken.1
 
 -- an entry is left, and more than so many entries stand below the first
 pub record HasManyBelow (view : View) (most : ℕ) (f : FrameFields) : Type 0 where

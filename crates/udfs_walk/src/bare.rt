@@ -5,7 +5,7 @@ ghost use Rattle.udfs_space.specs.Views.{view_now};
 ghost use Rattle.udfs_file.specs.Bodies.{body};
 ghost use Rattle.udfs_file.specs.Entries.{entry_of};
 ghost use Rattle.udfs_file.specs.Stretches.{IsStanding};
-ghost use Rattle.udfs_walk.specs.Bare.{bare, bare_entry, bare_node, body_lists, full_entry, full_node, lists_at, lists_of, no_lists, with_lists};
+ghost use Rattle.udfs_walk.specs.Bare.{bare_standing, bare_entry, bare_node, body_lists, full_entry, full_node, lists_at, lists_of, no_lists, with_lists};
 ghost use Rattle.udfs_walk.specs.UnnamedEntries.{address_of};
 
 use crate::answers::{Node, Unnamed};
@@ -38,7 +38,7 @@ pub(crate) fn one_block(alloc: Global, n: u32) -> Result<Torn, AllocError>
 
 /// A standing without the blocks and the holes.
 fn bare(alloc: Global, standing: Standing) -> Standing
-    ensures { result ≡ bare standing }
+    ensures { result ≡ bare_standing standing }
 {
     match standing {
         Standing::Whole => Standing::Whole,

@@ -10,7 +10,7 @@ ghost use Rattle.udfs_walk.specs.Visits.{AreRefused, end_at};
 ghost use Rattle.udfs_walk.specs.Walks.{AreNodes, IsNodesRefused};
 ghost use Rattle.udfs_walk.specs.Routes.{entries_below};
 ghost use Rattle.udfs_walk.specs.Targets.{icb_of};
-ghost use Rattle.udfs_walk.specs.Frames.{IsFrameOf, IsStepRefused, IsTaken, count_left, frame_at, kept};
+ghost use Rattle.udfs_walk.specs.Frames.{IsFrameOf, IsStepRefused, IsEntryTaken, count_left, frame_at, frames_with};
 
 use crate::answers::{Node, NodesError};
 use crate::bare::{bare_node, full_nodes};
@@ -98,7 +98,7 @@ impl Frame {
         view: View<'_>,
         most: usize,
     ) -> Result<Option<(Node, Option<Frame>)>, NodesError>
-        ensures taken { IfOk result (λ taken. IsTaken (view_now view.entry) self.old taken self.new) }
+        ensures taken { IfOk result (λ taken. IsEntryTaken (view_now view.entry) self.old taken self.new) }
         ensures few { IfOk result (λ taken. MatchOption taken (Unit {0}) (λ entered. count_left entered.1 ≤ most)) }
         ensures refused { IfErr result (IsStepRefused (view_now view.entry) most self.old) }
     {
@@ -115,7 +115,7 @@ impl Frame {
 
 /// Puts a directory, if there is one, behind the others.
 fn keep(frames: &mut Vec<Frame>, frame: Option<Frame>) -> Result<(), AllocError>
-    ensures kept { IfOk result (λ done. frames.new.items ≡ kept frames.old.items frame) }
+    ensures kept { IfOk result (λ done. frames.new.items ≡ frames_with frames.old.items frame) }
     ensures most { IfOk result (λ done. length frames.new.items ≤ length frames.old.items + 1) }
 {
     if let Some(frame) = frame {

@@ -2,7 +2,7 @@ use Rattle.std.proofs.Common.{rules, ◌≡◌, ◌⊎◌, ◌+◌, ◌++◌, �
 use Rattle.udfs_files.specs.Disk.{Fails}
 use Rattle.udfs_walk.specs.NodeFields.{NodeFields}
 use Rattle.udfs_salvage.specs.Reports.{report_now}
-use Rattle.udfs_commands.specs.Extracting.{IsPut, Tells, TellsOn, fate_line, fate_lines, is_good}
+use Rattle.udfs_commands.specs.Extracting.{IsPut, TellsLines, TellsOn, fate_line, fate_lines, is_good}
 use Rattle.udfs_commands.specs.declared.extract.Fate.{Fate}
 use Rattle.udfs_commands.proofs.PutNodes.{all_behind, each_few, each_map, each_more, good_more, lines_more, one_on, put_still, spares_nothing, spares_on, tells_on}
 use Rattle.udfs_commands.proofs.extract.put_nodes.Goals as goal
@@ -49,7 +49,7 @@ returns-in_err-heard-clause-put g c =
       record {
         each = each_map _ _ (λ k n fate. put_still F.moment F.may_leave F.left_since F.tells (Fails F.faults ⊎ Fails g.F.Output.Sink.faults) c.args.report.now.table.now (report_now c.args.report.now) c.args.fill c.args.folder.now
             c.loop-index.files c.put_node.new.files (F.holds c.loop-index.files) (F.holds c.put_node.new.files) (g.met.F.Files.counts_now c.loop-index.files) step.stays step.crash k n fate) 1 _ put.0 put.1.each;
-        lines = subst (λ o. Tells c.loop-index.heard (S.contents c.args.out.now) (S.contents o) (S.faults c.args.out.now) (S.faults o) (fate_lines (drop 1 c.args.report.now.nodes.items) put.0)) (sym c.in_err-heard.ensures.memory) put.1.lines;
+        lines = subst (λ o. TellsLines c.loop-index.heard (S.contents c.args.out.now) (S.contents o) (S.faults c.args.out.now) (S.faults o) (fate_lines (drop 1 c.args.report.now.nodes.items) put.0)) (sym c.in_err-heard.ensures.memory) put.1.lines;
       },
       search rules,
     )
@@ -83,7 +83,7 @@ loop-index-preserved g c =
               (each_map _ P (λ k m f. put_still F.moment F.may_leave F.left_since F.tells (Fails F.faults ⊎ Fails g.F.Output.Sink.faults) c.args.report.now.table.now (report_now c.args.report.now) c.args.fill c.args.folder.now
               c.loop-index.files c.put_node.new.files (F.holds c.loop-index.files) (F.holds c.put_node.new.files) (g.met.F.Files.counts_now c.loop-index.files) step.stays step.crash k m f) 1 _ fates inv.put.1.each)
               (subst (λ k. P k n fate) (sym count) (c.in_ok-fate.ensures.put n c.node_at-node.ensures));
-          lines = subst (λ t. Tells c.in_ok-heard.heard (S.contents c.args.out.now) (S.contents c.tell.new.out) (S.faults c.args.out.now) (S.faults c.tell.new.out) t) (sym (lines_more (drop 1 nodes) fates n fate at))
+          lines = subst (λ t. TellsLines c.in_ok-heard.heard (S.contents c.args.out.now) (S.contents c.tell.new.out) (S.faults c.args.out.now) (S.faults c.tell.new.out) t) (sym (lines_more (drop 1 nodes) fates n fate at))
               (tells_on c.loop-index.heard c.in_ok-heard.heard (S.contents c.args.out.now) (S.contents c.loop-index.out) (S.contents c.tell.new.out) (S.faults c.args.out.now) (S.faults c.loop-index.out) (S.faults c.tell.new.out) (fate_lines (drop 1 nodes) fates) (fate_line fate n.path) inv.put.1.lines
               (subst (λ (names : List (List ℕ)). TellsOn c.loop-index.heard c.in_ok-heard.heard (S.contents c.loop-index.out) (S.contents c.tell.new.out) (S.faults c.loop-index.out) (S.faults c.tell.new.out) (fate_line fate names)) seen c.in_ok-heard.ensures.lines));
         },

@@ -6,7 +6,7 @@ use Rattle.udfs_space.specs.Places.{view}
 use Rattle.udfs_walk.specs.Bare.{bare_node, full_node}
 use Rattle.udfs_walk.specs.Visits.{end_at}
 use Rattle.udfs_walk.proofs.BareNodes.{full_first, full_taken}
-use Rattle.udfs_walk.specs.Frames.{IsTaken, count_left, kept}
+use Rattle.udfs_walk.specs.Frames.{IsEntryTaken, count_left, frames_with}
 use Rattle.udfs_walk.proofs.Owed.{start_refused, walk_refused, walk_start, walk_none, walk_short, walk_some, walk_done}
 use Rattle.udfs_walk.proofs.walks.bare_nodes.Goals as goal
 
@@ -15,20 +15,20 @@ walk-init c = let v = view (state_of c.args.table.now) c.args.space.now in
     walk_start (view (state_of c.args.table.now) c.args.space.now) c.args.root c.in_ok-node.node c.in_ok-node.frame _ _ _ _ _
     c.in_ok-path.ensures refl c.in_ok-node.ensures.node c.in_ok-node.ensures.frame
     (full_first v (end_at c.args.root c.in_ok-path.path [] false) _ _ c.in_ok-node.node c.new-nodes.ensures.items c.in_ok-put.ensures c.in_ok-node.ensures.node)
-    (c.in_ok-keep.ensures.kept ∙ ap (λ x. kept x c.in_ok-node.frame) c.new-frames.ensures.items)
+    (c.in_ok-keep.ensures.kept ∙ ap (λ x. frames_with x c.in_ok-node.frame) c.new-frames.ensures.items)
     (omega (arith, c.count_left-room.ensures, c.in_ok-node.ensures.few))
 
 pub walk-preserved-in-None : goal.walk-preserved-in-None
 walk-preserved-in-None c =
     let v = view (state_of c.args.table.now) c.args.space.now in
     walk_none v c.args.root (map (full_node v) c.walk.nodes.items) c.walk.frames.items c.pop.new.self.items c.in-Some.frame c.walk.room c.walk.invariant c.in-Some.ensures.items
-    (subst (λ o. IsTaken v c.in-Some.frame o c.step.new.self) c.in-None.is c.in_ok-step.ensures.taken)
+    (subst (λ o. IsEntryTaken v c.in-Some.frame o c.step.new.self) c.in-None.is c.in_ok-step.ensures.taken)
 
 pub walk-smaller : goal.walk-smaller
 walk-smaller c =
     let v = view (state_of c.args.table.now) c.args.space.now in
     let short = walk_short v c.args.root (map (full_node v) c.walk.nodes.items) c.walk.frames.items c.pop.new.self.items c.in-Some.frame c.step.new.self _ _ c.walk.room c.walk.invariant c.in-Some.ensures.items
-    (subst (λ o. IsTaken v c.in-Some.frame o c.step.new.self) c.in-Some-2.is c.in_ok-step.ensures.taken) in
+    (subst (λ o. IsEntryTaken v c.in-Some.frame o c.step.new.self) c.in-Some-2.is c.in_ok-step.ensures.taken) in
     let more = ap length c.in_ok-put-2.ensures ∙ length-append c.walk.nodes.items (bare_node c.in-Some-2.taken.0 ∷ []) in
     let same = length-map c.walk.nodes.items (full_node v) in
     let last = ap length c.in-Some.ensures.items ∙ length-append c.pop.new.self.items (c.in-Some.frame ∷ []) in
@@ -38,9 +38,9 @@ pub walk-preserved : goal.walk-preserved
 walk-preserved c =
     let v = view (state_of c.args.table.now) c.args.space.now in
     walk_some v c.args.root (map (full_node v) c.walk.nodes.items) _ c.walk.frames.items c.pop.new.self.items _ c.in-Some.frame c.step.new.self _ _ c.walk.room _ c.walk.invariant c.in-Some.ensures.items
-    (subst (λ o. IsTaken v c.in-Some.frame o c.step.new.self) c.in-Some-2.is c.in_ok-step.ensures.taken)
-    (full_taken v c.in-Some.frame c.step.new.self c.walk.nodes.items _ c.in-Some-2.taken c.in_ok-put-2.ensures (subst (λ o. IsTaken v c.in-Some.frame o c.step.new.self) c.in-Some-2.is c.in_ok-step.ensures.taken))
-    (c.in_ok-keep-3.ensures.kept ∙ ap (λ x. kept x c.in-Some-2.taken.1) c.in_ok-keep-2.ensures.kept)
+    (subst (λ o. IsEntryTaken v c.in-Some.frame o c.step.new.self) c.in-Some-2.is c.in_ok-step.ensures.taken)
+    (full_taken v c.in-Some.frame c.step.new.self c.walk.nodes.items _ c.in-Some-2.taken c.in_ok-put-2.ensures (subst (λ o. IsEntryTaken v c.in-Some.frame o c.step.new.self) c.in-Some-2.is c.in_ok-step.ensures.taken))
+    (c.in_ok-keep-3.ensures.kept ∙ ap (λ x. frames_with x c.in-Some-2.taken.1) c.in_ok-keep-2.ensures.kept)
     (let few = subst (λ o. MatchOption o (Unit {0}) (λ e. count_left e.1 ≤ c.walk.room)) c.in-Some-2.is c.in_ok-step.ensures.few in
     omega (arith, c.count_left-room-in-Some.ensures, few))
 

@@ -2,7 +2,7 @@ use Rattle.std.proofs.Common.{◌<◌, ◌≤◌, ◌∙◌, sym, ap, subst, inr
 use Rattle.udfs_lattice.specs.Tables.{state_of}
 use Rattle.udfs_space.specs.Places.{view}
 use Rattle.udfs_file.specs.Entries.{entry_of, area_start}
-use Rattle.udfs_file.specs.Stretches.{Gives}
+use Rattle.udfs_file.specs.Stretches.{GivesStretches}
 use Rattle.std.specs.Prelude.{Ok, Err}
 use Rattle.udfs_file.specs.declared.faults.NodeFault.TheVariants.{Short}
 use Rattle.udfs_file.specs.declared.faults.WalkError.TheVariants.{Fault}
@@ -14,7 +14,7 @@ use Rattle.udfs_file.proofs.bodies.Body.read.Goals as goal
 pub returns-then-form-ne3 : goal.returns-then-form-ne3
 returns-then-form-ne3 c =
     body_clauses (view (state_of c.args.table.now) c.args.space.now) c.args.reference c.args.b (entry_of c.args.entry.now) c.walk.result _
-    (subst (Gives (view (state_of c.args.table.now) c.args.space.now) c.walk.result)
+    (subst (GivesStretches (view (state_of c.args.table.now) c.args.space.now) c.walk.result)
     (body-by (view (state_of c.args.table.now) c.args.space.now) c.args.reference c.args.b c.args.entry.now c.form-then-form-ne3.result c.size.result c.area.result.now
     c.form-then-form-ne3.ensures c.size.ensures c.area.ensures.value (λ z. c.if-form-ne3.true (c.form.ensures ∙ sym c.form-then-form-ne3.ensures ∙ z)))
     c.walk.ensures.value) (λ e. inr (subst (λ n. 0 < n) c.size.ensures (c.walk.ensures.memory e)))

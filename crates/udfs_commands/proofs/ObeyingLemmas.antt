@@ -1,0 +1,50 @@
+-- The name and the arguments of the command that the words ask for, from what each of them is by itself.
+use Rattle.std.proofs.Common.{◌≡◌, ◌≢◌, ℕ, cond, Result, Ok, Err, IfOk, OnOk, OnErr, Bool, true, false, ◌∙◌, Option, Some, None, option_map, List, ap, ap₂, sym, refl}
+use Rattle.clap.specs.Words.{HasMatchesOf, Row, Text, is_simple, rows_of, subcommand_of, subcommand_rows_of}
+use Rattle.clap.specs.Matches.{subcommand_name_of}
+use Rattle.clap.specs.declared.parser.matches.ArgMatches.{ArgMatches}
+use Rattle.clap.specs.declared.parser.matches.Found.{Found}
+use Rattle.udfs_commands.specs.Grammar.{program_app}
+use Rattle.udfs_commands.specs.Obeying.{Asks, IsAsked, names_pairs}
+
+some_is : {X : Type 0} (x y : X) → Some x ≡ Some y → x ≡ y
+some_is {X = X} x y e = ap (λ (o : Option X). from o) e
+  where
+    from : Option X → X
+    from None = x
+    from (Some z) = z
+
+abbrev pair : {X Y Z : Type 0} (f : X → Y) (g : X → Z) → X → Y × Z
+pair f g x = (f x, g x)
+
+both : {X Y Z : Type 0} (f : X → Y) (g : X → Z) (o : Option X) (y : Y) (z : Z) → Some y ≡ option_map f o → Some z ≡ option_map (λ (p : Y × Z). p.1) (option_map (pair f g) o) → option_map (pair f g) o ≡ Some (y, z)
+both f g None y z h k = absurd (none h)
+  where
+    none : {A : Type 0} {a : A} → Some a ≡ None → ⊥
+    none e = cc
+both {Y = Y} {Z = Z} f g (Some x) y z h k = ap₂ (λ (a : Y) (b : Z). Some (a, b)) (sym (some_is y (f x) h)) (sym (some_is z (g x) k))
+
+simple : (pairs : Bool) → is_simple (program_app pairs) ≡ true
+simple true = refl
+simple false = refl
+
+pub asked : (m : ArgMatches) (words : List Text) (name : Text) (found : Found) → HasMatchesOf (program_app (names_pairs words)) words m
+    → Some name ≡ subcommand_name_of m → Some (rows_of found) ≡ option_map (λ (p : Text × List Row). p.1) (subcommand_rows_of m) → IsAsked words name found
+asked m words name found h named rows = sym ((h (simple (names_pairs words))).1) ∙ both _ _ _ name (rows_of found) named rows
+
+pub only_name : (words : List Text) (name asked : Text) (found : Found) → Asks words asked → IsAsked words name found → name ≡ asked
+only_name words name asked found h k = some_is name asked (sym (ap (option_map (λ (p : Text × List Row). p.0)) k) ∙ h)
+
+-- the status of what was done
+pub done : {E : Type 0} (o : Result Bool E) (r : ℕ) (P : Bool → Type 0) → IfOk o (λ w. r ≡ cond w 0 1) → OnErr o (r ≡ 2) → (r ≢ 2) → IfOk o P → (w : Bool) × (r ≡ cond w 0 1) × P w
+done (Ok w) r P ok err some p = (w, ok, p)
+done (Err e) r P ok err some p = absurd (some err)
+
+-- and of what is done without anything lacking
+pub done_whole : {E : Type 0} (o : Result Bool E) (r : ℕ) (P Q : Type 0) → IfOk o (λ w. r ≡ cond w 0 1) → OnErr o (r ≡ 2) → (r ≢ 2) → IfOk o (λ w. w ≡ true) → OnOk o P → OnOk o Q → (r ≡ 0) × P × Q
+done_whole (Ok true) r P Q ok err some is p q = (ok, p, q)
+done_whole (Ok false) r P Q ok err some is p q = absurd (no is)
+  where
+    no : false ≡ true → ⊥
+    no e = cc
+done_whole (Err e) r P Q ok err some is p q = absurd (some err)

@@ -1,0 +1,57 @@
+-- The words that the program takes, as clap has them: each argument by its name, and the commands with their arguments.
+use Rattle.std.specs.Prelude.{ℕ, Bool, true, false, not, List, Some, codes, pos}
+use Rattle.clap.specs.Words.{App, Rule, Shape, Text, new_app, new_rule, with_rule, with_subcommand}
+use Rattle.clap.specs.declared.builder.ArgAction.TheVariants.{Append, Set, SetTrue}
+use Rattle.clap.specs.declared.builder.ValueParser.TheVariants.{Signed}
+
+-- a flag
+abbrev pub flag_rule : Text → Rule
+flag_rule name = record (new_rule name) { long = Some name; action = Some SetTrue }
+
+-- an argument with one value, which has to be given
+abbrev pub value_rule : Text → Rule
+value_rule name = record (new_rule name) { long = Some name; action = Some Set; value_names = 1; required = true }
+
+-- `--last N`, a number of 32 bits
+abbrev pub last_rule : Rule
+last_rule = record (value_rule (codes "last")) { parser = Some (Signed (pos 0) (pos 4294967295)) }
+
+-- `--out FILE` or `-o FILE`
+abbrev pub out_rule : Rule
+out_rule = record (value_rule (codes "out")) { short = Some 111 }
+
+-- `--ddrescue IMAGE MAPFILE`, any number of times
+abbrev pub pairs_rule : Rule
+pairs_rule = record (new_rule (codes "ddrescue")) { long = Some (codes "ddrescue"); value_names = 1; action = Some Append; range = Some (record { start_inclusive = 2; end_inclusive = 2 }) }
+
+-- `IN...`, of which there is one at least where no pair is
+abbrev pub inputs_rule : Bool → Rule
+inputs_rule pairs = record (new_rule (codes "input")) { value_names = 1; action = Some Append; required = not pairs; range = Some (record { start_inclusive = 1; end_inclusive = 18446744073709551615 }) }
+
+-- what every command takes
+abbrev pub with_inputs : App → Bool → App
+with_inputs command pairs = with_rule (with_rule command pairs_rule) (inputs_rule pairs)
+
+-- `merge [--v1] [--force] --out FILE IN...`
+abbrev pub merge_app : Bool → App
+merge_app pairs = with_inputs (with_rule (with_rule (with_rule (new_app (codes "merge")) out_rule) (flag_rule (codes "v1"))) (flag_rule (codes "force"))) pairs
+
+-- `report --last N [--json] IN...`
+abbrev pub report_app : Bool → App
+report_app pairs = with_inputs (with_rule (with_rule (new_app (codes "report")) last_rule) (flag_rule (codes "json"))) pairs
+
+-- `reread --last N IN...`
+abbrev pub reread_app : Bool → App
+reread_app pairs = with_inputs (with_rule (new_app (codes "reread")) last_rule) pairs
+
+-- `extract --last N --to DIR [--fill] IN...`
+abbrev pub extract_app : Bool → App
+extract_app pairs = with_inputs (with_rule (with_rule (with_rule (new_app (codes "extract")) last_rule) (value_rule (codes "to"))) (flag_rule (codes "fill"))) pairs
+
+-- the program before its commands: one of them has to be named, and there is `--version`
+abbrev pub program : App
+program = record (new_app (codes "udfsalvage")) { top = record (new_app (codes "udfsalvage")).top { has_version = true; subcommand_required = true } }
+
+-- the program, where pairs are among the words or not
+abbrev pub program_app : Bool → App
+program_app pairs = with_subcommand (with_subcommand (with_subcommand (with_subcommand program (merge_app pairs).top) (report_app pairs).top) (reread_app pairs).top) (extract_app pairs).top

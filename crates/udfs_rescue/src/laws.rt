@@ -1,0 +1,18 @@
+//! Laws of mapfiles and images, each the contract of a function that does nothing.
+
+ghost use Rattle.udfs_rescue.specs.ReadBack.{MapReadsBack, DomainReadsBack, ImageMapReadsBack, ImageReadsBack, ImageIsPair};
+
+/// A mapfile that was written is one, and makes exactly the blocks of status `+` known: of a domain those that are wanted, and of a
+/// table's image those that the table knows.
+pub fn maps_read_back()
+    ensures each { MapReadsBack }
+    ensures domain { DomainReadsBack }
+    ensures image { ImageMapReadsBack }
+{}
+
+/// The image of a table and its mapfile, read as a pair, have the table up to the last block, without its conflicts; and they are
+/// never refused for what is in them, but only for a device that fails or where there is no memory.
+pub fn images_read_back()
+    ensures table { ImageReadsBack }
+    ensures pair { ImageIsPair }
+{}
