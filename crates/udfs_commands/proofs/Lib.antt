@@ -1,6 +1,6 @@
 pub mod AskingLemmas
-pub mod GuardingLemmas
 pub mod KeepingLemmas
 mod PutNodes
 pub mod GrammarLemmas
 pub mod ObeyingLemmas
+pub mod MergingLemmas

@@ -1,6 +1,7 @@
 -- What an output may not take the place of.
 --     begins kind bytes          the bytes begin with these
 --     SomeLeads, NoneLeads       one of some paths leads to a place, or none
+--     SomeShut                   one of some paths may fail to open
 --     IsFree                     an output takes the place of no image, no mapfile and no reading, but of a reading that is an input, or by force
 --     IsSpared                   why an output is refused
 use Rattle.std.specs.Prelude.{◌≡◌, ◌≢◌, ◌⊎◌, ⊤, ℕ, List, [], ◌∷◌, Bool, true, false, Option, Some, IfSome, codes, nat_eq, if◌then◌else◌}
@@ -22,25 +23,28 @@ abbrev pub SomeLeads : (List ℕ → List ℕ) → List ℕ → List (List ℕ) 
 SomeLeads real place [] = ⊥
 SomeLeads real place (path ∷ paths) = (real path ≡ place) ⊎ SomeLeads real place paths
 
--- but for those that may fail to open
-abbrev pub NoneLeads : (List ℕ → Type 0) → (List ℕ → List ℕ) → List ℕ → List (List ℕ) → Type 0
-NoneLeads shut real place [] = ⊤
-NoneLeads shut real place (path ∷ paths) = (shut path ⊎ (real path ≢ place)) × NoneLeads shut real place paths
+abbrev pub NoneLeads : (List ℕ → List ℕ) → List ℕ → List (List ℕ) → Type 0
+NoneLeads real place [] = ⊤
+NoneLeads real place (path ∷ paths) = (real path ≢ place) × NoneLeads real place paths
+
+abbrev pub SomeShut : (List ℕ → Type 0) → List (List ℕ) → Type 0
+SomeShut shut [] = ⊥
+SomeShut shut (path ∷ paths) = shut path ⊎ SomeShut shut paths
 
 -- the first eight bytes of a reading
 abbrev pub reading_kind : List ℕ
 reading_kind = codes "UDFREAD1"
 
 -- `files` are the inputs that are files, and `parts` the images and mapfiles among the inputs
-pub record IsFree (holds : List ℕ → Option (Option (List ℕ))) (real : List ℕ → List ℕ) (shut in_place : List ℕ → Type 0) (files parts : List (List ℕ)) (force : Bool) (out : List ℕ) : Type 0 where
-  pub apart : NoneLeads shut real (real out) parts
+pub record IsFree (holds : List ℕ → Option (Option (List ℕ))) (real : List ℕ → List ℕ) (in_place : List ℕ → Type 0) (files parts : List (List ℕ)) (force : Bool) (out : List ℕ) : Type 0 where
+  pub apart : NoneLeads real (real out) parts
   pub no_pass : force ≡ false → (in_place out → ⊥) → SomeLeads real (real out) files ⊎ BeginsOtherwise reading_kind (holds (real out))
 
 -- a reading that is no input is there
-pub record IsOtherReading (holds : List ℕ → Option (Option (List ℕ))) (real : List ℕ → List ℕ) (shut : List ℕ → Type 0) (files : List (List ℕ)) (force : Bool) (out : List ℕ) : Type 0 where
+pub record IsOtherReading (holds : List ℕ → Option (Option (List ℕ))) (real : List ℕ → List ℕ) (files : List (List ℕ)) (force : Bool) (out : List ℕ) : Type 0 where
   pub unforced : force ≡ false
-  pub no_input : NoneLeads shut real (real out) files
+  pub no_input : NoneLeads real (real out) files
   pub reading : MayBegin reading_kind (holds (real out))
 
-abbrev pub IsSpared : (List ℕ → Option (Option (List ℕ))) → (List ℕ → List ℕ) → (List ℕ → Type 0) → List (List ℕ) → List (List ℕ) → Bool → List ℕ → Type 0
-IsSpared holds real shut files parts force out = SomeLeads real (real out) parts ⊎ IsOtherReading holds real shut files force out
+abbrev pub IsSpared : (List ℕ → Option (Option (List ℕ))) → (List ℕ → List ℕ) → List (List ℕ) → List (List ℕ) → Bool → List ℕ → Type 0
+IsSpared holds real files parts force out = SomeLeads real (real out) parts ⊎ IsOtherReading holds real files force out

@@ -9,3 +9,4 @@ pub mod Guarding
 pub mod Sources
 pub mod Grammar
 pub mod Obeying
+pub mod Merging

@@ -4,11 +4,11 @@ ghost use Rattle.std.specs.Prelude.{◌≡◌, ◌≢◌, ◌⊎◌, ℕ, Bool, 
 ghost use Rattle.clap.specs.Matches.{found_of, one_text};
 ghost use Rattle.udfs_lattice.specs.Tables.{Table};
 ghost use Rattle.udfs_lattice.specs.Records.{join_all};
-ghost use Rattle.udfs_files.specs.Disk.{Fails, Goes};
+ghost use Rattle.udfs_files.specs.Disk.{After, Disk, Fails, Goes, IsOwn};
 ghost use Rattle.udfs_salvage.specs.declared.extraction.Fill.{Fill};
 ghost use Rattle.udfs_commands.specs.Asking.{IsLast, IsPicked, asked_for, asked_inputs, folder_text, input_texts, out_text, pair_texts};
 ghost use Rattle.udfs_commands.specs.Extracting.{ExtractsAll, IsIn, IsPut, Spares, Stay};
-ghost use Rattle.udfs_commands.specs.Guarding.{IsFree, IsSpared};
+ghost use Rattle.udfs_commands.specs.Guarding.{IsFree, IsSpared, SomeShut};
 ghost use Rattle.udfs_commands.specs.JsonRuns.{PrintsAs};
 ghost use Rattle.udfs_commands.specs.Keeping.{IsKept, IsTaken, Joined, OfPaths};
 ghost use Rattle.udfs_commands.specs.declared.sources.AnySource.{AnySource};
@@ -17,6 +17,7 @@ ghost use Rattle.udfs_commands.specs.Rereading.{PrintsNumbers};
 ghost use Rattle.clap.specs.declared.parser.matches.Found.{Found};
 ghost use Rattle.std.specs.String.{string_bytes};
 ghost use Rattle.clap.specs.Words.{kind_of};
+ghost use Rattle.udfs_commands.specs.Merging.{MayMerge};
 ghost use Rattle.udfs_commands.specs.Obeying.{Asks, GrammarTakes, IsAsked};
 ghost use Rattle.udfs_commands.specs.Spelling.{table_file};
 ghost use Rattle.udfs_commands.specs.declared.merge.Version.{Version};
@@ -64,7 +65,7 @@ pub fn run<F: Files, O: Sink, E: Sink>(
         (map asked_for inputs ≡ asked_inputs found) × Joined (λ path. F.holds files.old (F.real files.old path)) (⟦<AnySource<F::Input, F::Image> as Source>⟧.remaining) inputs tables ×
         ((F.tells → IsKept (F.holds files.new) (F.may_leave files.new) (F.real files.old (out_text found)) (table_file version (join_all tables)))
         ⊎ (F.in_place files.old (out_text found) × IsTaken F.Output.contents (table_file version (join_all tables))))) × ((force : Bool) × IsPicked found (codes "force") true false force ×
-        (F.tells → IsFree (F.holds files.old) (F.real files.old) (F.shut files.old) (F.in_place files.old) (input_texts found) (pair_texts found) force (out_text found))) }
+        (F.tells → IsFree (F.holds files.old) (F.real files.old) (F.in_place files.old) (input_texts found) (pair_texts found) force (out_text found))) }
     ensures report { GrammarTakes (map string_bytes words.now) → Asks (map string_bytes words.now) (codes "report") → result ≢ 2 → (whole : Bool) × (result ≡ cond whole 0 1) × (found : Found) × IsAsked (map string_bytes words.now) (codes "report") found ×
         ((form : Form) × (last : ℕ) × (inputs : List InputPath) × (map asked_for inputs ≡ asked_inputs found) ×
         IsPicked found (codes "json") Form.Json Form.Text form × IsLast found last ×
@@ -114,7 +115,7 @@ fn obey<F: Files, O: Sink>(
         ((F.tells → IsKept (F.holds files.new) (F.may_leave files.new) (F.real files.old (out_text (found_of words.now))) (table_file version (join_all tables)))
         ⊎ (F.in_place files.old (out_text (found_of words.now)) × IsTaken F.Output.contents (table_file version (join_all tables)))))) }
     ensures free { name.now ≡ codes "merge" → IfSome result (λ outcome. OnOk outcome ((force : Bool) × IsPicked (found_of words.now) (codes "force") true false force ×
-        (F.tells → IsFree (F.holds files.old) (F.real files.old) (F.shut files.old) (F.in_place files.old) (input_texts (found_of words.now)) (pair_texts (found_of words.now)) force (out_text (found_of words.now))))) }
+        (F.tells → IsFree (F.holds files.old) (F.real files.old) (F.in_place files.old) (input_texts (found_of words.now)) (pair_texts (found_of words.now)) force (out_text (found_of words.now))))) }
     ensures report { name.now ≡ codes "report" → IfSome result (λ outcome. IfOk outcome (λ whole. (form : Form) × (last : ℕ) × (inputs : List InputPath) × (map asked_for inputs ≡ asked_inputs (found_of words.now)) ×
         IsPicked (found_of words.now) (codes "json") Form.Json Form.Text form × IsLast (found_of words.now) last ×
         OfPaths (λ path. F.holds files.old (F.real files.old path)) (⟦<AnySource<F::Input, F::Image> as Source>⟧.remaining) inputs (PrintsAs form last (O.contents out.old) (O.contents out.new) (O.faults out.old) (O.faults out.new) whole))) }
@@ -163,12 +164,23 @@ fn merge_words<F: Files>(
         (map asked_for inputs ≡ asked_inputs (found_of words.now)) × Joined (λ path. F.holds files.old (F.real files.old path)) (⟦<AnySource<F::Input, F::Image> as Source>⟧.remaining) inputs tables ×
         ((F.tells → IsKept (F.holds files.new) (F.may_leave files.new) (F.real files.old (out_text (found_of words.now))) (table_file version (join_all tables)))
         ⊎ (F.in_place files.old (out_text (found_of words.now)) × IsTaken F.Output.contents (table_file version (join_all tables))))) }
+    // A crash at any moment of the call leaves all as it was, or with the output in its place, whole.
+    ensures any_moment { F.tells → (F.in_place files.old (out_text (found_of words.now)) → ⊥) → (c : Disk) → F.left_since files.new (F.moment files.old) c →
+        After (F.may_leave files.old) (MayMerge (λ path. F.holds files.old (F.real files.old path)) (⟦<AnySource<F::Input, F::Image> as Source>⟧.remaining) (F.real files.old) (found_of words.now)) c }
     ensures untouched { IfErr result (λ refusal. refusal ≢ Refusal.Output → refusal ≢ Refusal.Unkept → files.new ≡ files.old) }
+    // A refused output leaves what its path held.
+    ensures refused { IsErrOf result Refusal.Output → F.tells → (F.in_place files.old (out_text (found_of words.now)) → ⊥) → F.holds files.new (F.real files.old (out_text (found_of words.now))) ≡ F.holds files.old (F.real files.old (out_text (found_of words.now))) }
+    // The table file is in its place where only the folder could not be synced.
+    ensures unkept { IsErrOf result Refusal.Unkept → F.tells → (version : Version) × (inputs : List InputPath) × (tables : List Table) × IsPicked (found_of words.now) (codes "v1") Version.One Version.Two version ×
+        (map asked_for inputs ≡ asked_inputs (found_of words.now)) × Joined (λ path. F.holds files.old (F.real files.old path)) (⟦<AnySource<F::Input, F::Image> as Source>⟧.remaining) inputs tables ×
+        (F.holds files.new (F.real files.old (out_text (found_of words.now))) ≡ Some (Some (table_file version (join_all tables)))) }
+    // No other path changes, but for those of new files that are to go in its place.
+    ensures elsewhere { F.tells → (F.in_place files.old (out_text (found_of words.now)) → ⊥) → (q : List ℕ) → q ≢ F.real files.old (out_text (found_of words.now)) → (¬ IsOwn (F.real files.old (out_text (found_of words.now))) q) → F.holds files.new q ≡ F.holds files.old q }
     // It takes the place of no pass that is no input, but by force, and never that of an image or a mapfile of the inputs.
     ensures free { OnOk result ((force : Bool) × IsPicked (found_of words.now) (codes "force") true false force ×
-        (F.tells → IsFree (F.holds files.old) (F.real files.old) (F.shut files.old) (F.in_place files.old) (input_texts (found_of words.now)) (pair_texts (found_of words.now)) force (out_text (found_of words.now)))) }
+        (F.tells → IsFree (F.holds files.old) (F.real files.old) (F.in_place files.old) (input_texts (found_of words.now)) (pair_texts (found_of words.now)) force (out_text (found_of words.now)))) }
     ensures spared { IsErrOf result Refusal.Spared → (force : Bool) × IsPicked (found_of words.now) (codes "force") true false force ×
-        (F.tells → IsSpared (F.holds files.old) (F.real files.old) (F.shut files.old) (input_texts (found_of words.now)) (pair_texts (found_of words.now)) force (out_text (found_of words.now))) }
+        (F.tells → IsSpared (F.holds files.old) (F.real files.old) (input_texts (found_of words.now)) (pair_texts (found_of words.now)) force (out_text (found_of words.now))) }
 {
     let Ok(inputs) = asked_inputs(alloc, words) else {
         return Err(Refusal::Memory(AllocError));
@@ -199,9 +211,9 @@ fn asked_outlook<F: Files>(
     force: bool,
     files: &F,
 ) -> Result<Outlook, AllocError>
-    ensures free { IfOk result (λ found. found ≡ Outlook.Free → F.tells → IsFree (F.holds files.now) (F.real files.now) (F.shut files.now) (F.in_place files.now) (input_texts (found_of words.now)) (pair_texts (found_of words.now)) force (out_text (found_of words.now))) }
-    ensures spared { IfOk result (λ found. found ≡ Outlook.Spared → F.tells → IsSpared (F.holds files.now) (F.real files.now) (F.shut files.now) (input_texts (found_of words.now)) (pair_texts (found_of words.now)) force (out_text (found_of words.now))) }
-    ensures unknown { IfOk result (λ found. found ≡ Outlook.Unknown → F.shut files.now (out_text (found_of words.now)) ⊎ Fails F.Input.faults) }
+    ensures free { IfOk result (λ found. found ≡ Outlook.Free → F.tells → IsFree (F.holds files.now) (F.real files.now) (F.in_place files.now) (input_texts (found_of words.now)) (pair_texts (found_of words.now)) force (out_text (found_of words.now))) }
+    ensures spared { IfOk result (λ found. found ≡ Outlook.Spared → F.tells → IsSpared (F.holds files.now) (F.real files.now) (input_texts (found_of words.now)) (pair_texts (found_of words.now)) force (out_text (found_of words.now))) }
+    ensures unknown { IfOk result (λ found. found ≡ Outlook.Unknown → F.shut files.now (out_text (found_of words.now)) ⊎ SomeShut (F.shut files.now) (pair_texts (found_of words.now)) ⊎ SomeShut (F.shut files.now) (input_texts (found_of words.now)) ⊎ Fails F.Input.faults) }
 {
     let inputs = words.get_strs(INPUTS).unwrap_or(&[]);
     let parts = words.get_strs(PAIRS).unwrap_or(&[]);

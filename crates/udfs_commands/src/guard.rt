@@ -2,7 +2,7 @@
 
 ghost use Rattle.std.specs.Prelude.{◌≡◌, ◌≢◌, ◌⊎◌, ℕ, List, true, false, Some, IfOk, OnErr, map};
 ghost use Rattle.udfs_files.specs.Disk.{Fails};
-ghost use Rattle.udfs_commands.specs.Guarding.{BeginsOtherwise, IsFree, IsSpared, MayBegin, NoneLeads, SomeLeads, begins};
+ghost use Rattle.udfs_commands.specs.Guarding.{BeginsOtherwise, IsFree, IsSpared, MayBegin, NoneLeads, SomeLeads, SomeShut, begins};
 
 use crate::files::Files;
 use std::alloc::{AllocError, Global};
@@ -46,32 +46,41 @@ pub fn is_kind<F: Files>(path: &str, kind: &[u8], files: &F) -> Result<bool, Dev
     }
 }
 
-/// Whether a path leads to this place.
-fn leads_to<F: Files>(alloc: Global, path: &str, place: &str, files: &F) -> Result<bool, AllocError>
-    ensures yes { IfOk result (λ leads. leads ≡ true → F.tells → F.real files.now path.now ≡ place.now) }
-    ensures no { IfOk result (λ leads. leads ≡ false → F.tells → F.shut files.now path.now ⊎ (F.real files.now path.now ≢ place.now)) }
+/// Whether a path leads to this place. A path that could not be followed is a fault: it may lead there.
+fn leads_to<F: Files>(
+    alloc: Global,
+    path: &str,
+    place: &str,
+    files: &F,
+) -> Result<Result<bool, DeviceFault>, AllocError>
+    ensures yes { IfOk result (λ found. IfOk found (λ leads. leads ≡ true → F.tells → F.real files.now path.now ≡ place.now)) }
+    ensures no { IfOk result (λ found. IfOk found (λ leads. leads ≡ false → F.tells → F.real files.now path.now ≢ place.now)) }
+    ensures fault { IfOk result (λ found. OnErr found (F.shut files.now path.now)) }
 {
     match files.resolve(alloc, path)? {
-        Ok(target) => Ok(target.path.as_str() == place),
-        Err(DeviceFault) => Ok(false),
+        Ok(target) => Ok(Ok(target.path.as_str() == place)),
+        Err(DeviceFault) => Ok(Err(DeviceFault)),
     }
 }
 
-/// Whether one of these paths leads to this place.
+/// Whether one of these paths leads to this place; or a fault, where one before it could not be followed.
 pub fn is_among<F: Files>(
     alloc: Global,
     paths: &[&str],
     place: &str,
     files: &F,
-) -> Result<bool, AllocError>
-    ensures yes { IfOk result (λ found. found ≡ true → F.tells → SomeLeads (F.real files.now) place.now (map (λ path. path.now) paths.now)) }
-    ensures no { IfOk result (λ found. found ≡ false → F.tells → NoneLeads (F.shut files.now) (F.real files.now) place.now (map (λ path. path.now) paths.now)) }
+) -> Result<Result<bool, DeviceFault>, AllocError>
+    ensures yes { IfOk result (λ found. IfOk found (λ leads. leads ≡ true → F.tells → SomeLeads (F.real files.now) place.now (map (λ path. path.now) paths.now))) }
+    ensures no { IfOk result (λ found. IfOk found (λ leads. leads ≡ false → F.tells → NoneLeads (F.real files.now) place.now (map (λ path. path.now) paths.now))) }
+    ensures fault { IfOk result (λ found. OnErr found (SomeShut (F.shut files.now) (map (λ path. path.now) paths.now))) }
 {
     match paths {
-        [] => Ok(false),
+        [] => Ok(Ok(false)),
         [first, rest @ ..] => {
-            if leads_to(alloc, first, place, files)? {
-                return Ok(true);
+            match leads_to(alloc, first, place, files)? {
+                Ok(false) => {}
+                Ok(true) => return Ok(Ok(true)),
+                Err(DeviceFault) => return Ok(Err(DeviceFault)),
             }
             match is_among(alloc, rest, place, files) {
                 Ok(found) => Ok(found),
@@ -88,7 +97,7 @@ pub enum Outlook {
     Free,
     /// What is there is not to be written over.
     Spared,
-    /// Its path leads nowhere, or what is there could not be read.
+    /// Its path leads nowhere, what is there could not be read, or a path of an input could not be followed.
     Unknown,
 }
 
@@ -102,21 +111,25 @@ pub fn look_at<F: Files>(
     out: &str,
     files: &F,
 ) -> Result<Outlook, AllocError>
-    ensures free { IfOk result (λ found. found ≡ Outlook.Free → F.tells → IsFree (F.holds files.now) (F.real files.now) (F.shut files.now) (F.in_place files.now) (map (λ path. path.now) inputs.now) (map (λ path. path.now) parts.now) force out.now) }
-    ensures spared { IfOk result (λ found. found ≡ Outlook.Spared → F.tells → IsSpared (F.holds files.now) (F.real files.now) (F.shut files.now) (map (λ path. path.now) inputs.now) (map (λ path. path.now) parts.now) force out.now) }
-    ensures unknown { IfOk result (λ found. found ≡ Outlook.Unknown → F.shut files.now out.now ⊎ Fails F.Input.faults) }
+    ensures free { IfOk result (λ found. found ≡ Outlook.Free → F.tells → IsFree (F.holds files.now) (F.real files.now) (F.in_place files.now) (map (λ path. path.now) inputs.now) (map (λ path. path.now) parts.now) force out.now) }
+    ensures spared { IfOk result (λ found. found ≡ Outlook.Spared → F.tells → IsSpared (F.holds files.now) (F.real files.now) (map (λ path. path.now) inputs.now) (map (λ path. path.now) parts.now) force out.now) }
+    ensures unknown { IfOk result (λ found. found ≡ Outlook.Unknown → F.shut files.now out.now ⊎ SomeShut (F.shut files.now) (map (λ path. path.now) parts.now) ⊎ SomeShut (F.shut files.now) (map (λ path. path.now) inputs.now) ⊎ Fails F.Input.faults) }
 {
     let Ok(target) = files.resolve(alloc, out)? else {
         return Ok(Outlook::Unknown);
     };
-    if is_among(alloc, parts, target.path.as_str(), files)? {
-        return Ok(Outlook::Spared);
+    match is_among(alloc, parts, target.path.as_str(), files)? {
+        Ok(false) => {}
+        Ok(true) => return Ok(Outlook::Spared),
+        Err(DeviceFault) => return Ok(Outlook::Unknown),
     }
     if force || target.kind != Kind::Regular {
         return Ok(Outlook::Free);
     }
-    if is_among(alloc, inputs, target.path.as_str(), files)? {
-        return Ok(Outlook::Free);
+    match is_among(alloc, inputs, target.path.as_str(), files)? {
+        Ok(false) => {}
+        Ok(true) => return Ok(Outlook::Free),
+        Err(DeviceFault) => return Ok(Outlook::Unknown),
     }
     match is_kind(out, READING, files) {
         Ok(false) => Ok(Outlook::Free),

@@ -1,7 +1,7 @@
 //! A file is put at a path, or written to what is there and is no file.
 
-ghost use Rattle.std.specs.Prelude.{◌≡◌, ◌≢◌, ◌⊎◌, IfErr, OnOk, OnErr, IsErrOf};
-ghost use Rattle.udfs_files.specs.Disk.{Disk, After, Replaced, Fails};
+ghost use Rattle.std.specs.Prelude.{◌≡◌, ◌≢◌, ◌⊎◌, ℕ, List, Some, IfErr, OnOk, OnErr, IsErrOf};
+ghost use Rattle.udfs_files.specs.Disk.{Disk, After, IsOwn, Replaced, Fails};
 ghost use Rattle.udfs_commands.specs.Keeping.{IsKept, IsTaken};
 
 use crate::files::Files;
@@ -23,6 +23,10 @@ pub fn put_file<F: Files, C: Content>(
         After (F.may_leave files.old) (Replaced (F.real files.old out.now) (C.bytes content.now)) c }
     ensures untouched { IfErr result (λ refusal. refusal ≢ Refusal.Output → refusal ≢ Refusal.Unkept → files.new ≡ files.old) }
     ensures refused { IsErrOf result Refusal.Output → F.tells → (F.in_place files.old out.now → ⊥) → F.holds files.new (F.real files.old out.now) ≡ F.holds files.old (F.real files.old out.now) }
+    // The content is in its place where only the folder could not be synced.
+    ensures unkept { IsErrOf result Refusal.Unkept → F.tells → F.holds files.new (F.real files.old out.now) ≡ Some (Some (C.bytes content.now)) }
+    // No other path changes, but for those of new files that are to go in its place.
+    ensures elsewhere { F.tells → (F.in_place files.old out.now → ⊥) → (q : List ℕ) → q ≢ F.real files.old out.now → (¬ IsOwn (F.real files.old out.now) q) → F.holds files.new q ≡ F.holds files.old q }
     ensures cause { IfErr result (λ refusal. (refusal ≡ Refusal.Output) ⊎ (refusal ≡ Refusal.Unkept) → F.shut files.old out.now ⊎ Fails F.faults ⊎ Fails F.Output.faults) }
     ensures told { IfErr result (λ refusal. refusal ≢ Refusal.Spared) }
 {

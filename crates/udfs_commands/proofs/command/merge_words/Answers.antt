@@ -17,3 +17,12 @@ returns-in-Ok-merge-clause-written g c =
       subst (λ (p : List ℕ). (F.tells → IsKept (F.holds c.merge.new.files) (F.may_leave c.merge.new.files) (F.real c.args.files.now p) (table_file c.asked_version.result (join_all w.0)))
           ⊎ (F.in_place c.args.files.now p × IsTaken g.F.Output.Sink.contents (table_file c.asked_version.result (join_all w.0)))) c.asked_out.ensures w.2,
     )
+
+pub returns-in-Ok-merge-clause-any_moment : goal.returns-in-Ok-merge-clause-any_moment
+returns-in-Ok-merge-clause-any_moment g c tells place disk since = ?
+
+pub returns-clause-any_moment : goal.returns-clause-any_moment
+returns-clause-any_moment g c tells place disk since = ?
+
+pub returns-clause-unkept : goal.returns-clause-unkept
+returns-clause-unkept g c is tells = ?
