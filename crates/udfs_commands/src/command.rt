@@ -17,7 +17,7 @@ ghost use Rattle.udfs_commands.specs.Rereading.{PrintsNumbers};
 ghost use Rattle.clap.specs.declared.parser.matches.Found.{Found};
 ghost use Rattle.std.specs.String.{string_bytes};
 ghost use Rattle.clap.specs.Words.{kind_of};
-ghost use Rattle.udfs_commands.specs.Merging.{MayMerge};
+ghost use Rattle.udfs_commands.specs.Merging.{ExtractSpares, MayMerge, MergeSpares};
 ghost use Rattle.udfs_commands.specs.Obeying.{Asks, GrammarTakes, IsAsked};
 ghost use Rattle.udfs_commands.specs.Spelling.{table_file};
 ghost use Rattle.udfs_commands.specs.declared.merge.Version.{Version};
@@ -80,6 +80,12 @@ pub fn run<F: Files, O: Sink, E: Sink>(
         OfPaths (λ path. F.holds files.old (F.real files.old path)) (⟦<AnySource<F::Input, F::Image> as Source>⟧.remaining) inputs
         (ExtractsAll (λ table told. IsPut F.tells (Fails F.faults ⊎ Fails F.Output.faults) table told fill (folder_text found) (F.holds files.new) (F.moment files.new) (F.left_since files.new))
         files.old files.new last (O.contents out.old) (O.contents out.new) (O.faults out.old) (O.faults out.new) good)) }
+    // What is there stays, whatever the status: only `merge` and `extract` change files at all, and only as their words ask.
+    ensures reads { (Asks (map string_bytes words.now) (codes "merge") → ⊥) → (Asks (map string_bytes words.now) (codes "extract") → ⊥) → files.new ≡ files.old }
+    ensures merging { Asks (map string_bytes words.now) (codes "merge") → (files.new ≡ files.old) ⊎ ((found : Found) × IsAsked (map string_bytes words.now) (codes "merge") found ×
+        MergeSpares F.tells F.holds F.real F.in_place F.may_leave F.moment F.left_since (⟦<AnySource<F::Input, F::Image> as Source>⟧.remaining) found files.old files.new) }
+    ensures extracting { Asks (map string_bytes words.now) (codes "extract") → (files.new ≡ files.old) ⊎ ((found : Found) × IsAsked (map string_bytes words.now) (codes "extract") found ×
+        ExtractSpares F.tells F.holds F.may_leave F.moment F.left_since found files.old files.new) }
 {
     let command = match grammar(alloc, has_pairs(words)) {
         Ok(command) => command,
@@ -127,6 +133,10 @@ fn obey<F: Files, O: Sink>(
         OfPaths (λ path. F.holds files.old (F.real files.old path)) (⟦<AnySource<F::Input, F::Image> as Source>⟧.remaining) inputs
         (ExtractsAll (λ table told. IsPut F.tells (Fails F.faults ⊎ Fails F.Output.faults) table told fill (folder_text (found_of words.now)) (F.holds files.new) (F.moment files.new) (F.left_since files.new))
         files.old files.new last (O.contents out.old) (O.contents out.new) (O.faults out.old) (O.faults out.new) good))) }
+    // What is there stays, whatever the answer: only `merge` and `extract` change files at all.
+    ensures reads { (name.now ≡ codes "merge" → ⊥) → (name.now ≡ codes "extract" → ⊥) → files.new ≡ files.old }
+    ensures merging { name.now ≡ codes "merge" → MergeSpares F.tells F.holds F.real F.in_place F.may_leave F.moment F.left_since (⟦<AnySource<F::Input, F::Image> as Source>⟧.remaining) (found_of words.now) files.old files.new }
+    ensures extracting { name.now ≡ codes "extract" → ExtractSpares F.tells F.holds F.may_leave F.moment F.left_since (found_of words.now) files.old files.new }
 {
     match name {
         "merge" => Some(match merge_words(alloc, words, files) {
