@@ -1,7 +1,7 @@
 -- What `merge` may leave by its arguments is what it may leave by its words.
-use Rattle.std.proofs.Common.{◌≡◌, ◌⊎◌, ℕ, List, Option, codes, inl, inr, map, refl}
+use Rattle.std.proofs.Common.{◌≡◌, ℕ, List, Option, codes, inl, inr, map}
 use Rattle.clap.specs.declared.parser.matches.Found.{Found}
-use Rattle.udfs_files.specs.Disk.{Disk, After, Same}
+use Rattle.udfs_files.specs.Disk.{Disk}
 use Rattle.udfs_commands.specs.Asking.{IsPicked, asked_for, asked_inputs, out_text}
 use Rattle.udfs_commands.specs.Keeping.{MayReplace}
 use Rattle.udfs_commands.specs.Merging.{MayMerge}
@@ -13,8 +13,3 @@ pub may_merge : {R : Type 0} (found : List ℕ → Option (Option (List ℕ))) (
     IsPicked words (codes "v1") One Two version → map asked_for inputs ≡ asked_inputs words → MayReplace found remaining inputs version (real (out_text words)) d c → MayMerge found remaining real words d c
 may_merge found remaining real words version inputs d c picked asked (inl same) = inl same
 may_merge found remaining real words version inputs d c picked asked (inr put) = inr (version, inputs, put.0, picked, asked, put.1, put.2)
-
--- nothing has changed
-pub unchanged : {F : Type 0} (may_leave : F → Disk → Type 0) (moment : F → ℕ) (left_since : F → ℕ → Disk → Type 0) (files : F) (Step : Disk → Disk → Type 0) (c : Disk) →
-    ((f : F) (c : Disk) → left_since f (moment f) c → may_leave f c) → ((d : Disk) → Step d d) → left_since files (moment files) c → After (may_leave files) Step c
-unchanged may_leave moment left_since files Step c only_now stays since = (c, only_now files c since, stays c)

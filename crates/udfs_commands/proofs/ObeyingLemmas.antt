@@ -1,5 +1,5 @@
 -- The name and the arguments of the command that the words ask for, from what each of them is by itself.
-use Rattle.std.proofs.Common.{◌≡◌, ◌≢◌, ℕ, cond, Result, Ok, Err, IfOk, OnOk, OnErr, Bool, true, false, ◌∙◌, Option, Some, None, option_map, List, ap, ap₂, sym, refl}
+use Rattle.std.proofs.Common.{◌≡◌, ◌≢◌, ℕ, cond, Result, Ok, Err, IfOk, OnOk, OnErr, Bool, true, false, ◌∙◌, Option, Some, None, option_map, List, ap, ap₂, subst, sym, refl}
 use Rattle.clap.specs.Words.{HasMatchesOf, Row, Text, is_simple, rows_of, subcommand_of, subcommand_rows_of}
 use Rattle.clap.specs.Matches.{subcommand_name_of}
 use Rattle.clap.specs.declared.parser.matches.ArgMatches.{ArgMatches}
@@ -34,6 +34,9 @@ asked m words name found h named rows = sym ((h (simple (names_pairs words))).1)
 
 pub only_name : (words : List Text) (name asked : Text) (found : Found) → Asks words asked → IsAsked words name found → name ≡ asked
 only_name words name asked found h k = some_is name asked (sym (ap (option_map (λ (p : Text × List Row). p.0)) k) ∙ h)
+
+pub asks_by : (words : List Text) (name asked : Text) (found : Found) → IsAsked words name found → name ≡ asked → Asks words asked
+asks_by words name asked found k e = subst (λ (n : Text). Asks words n) e (ap (option_map (λ (p : Text × List Row). p.0)) k)
 
 -- the status of what was done
 pub done : {E : Type 0} (o : Result Bool E) (r : ℕ) (P : Bool → Type 0) → IfOk o (λ w. r ≡ cond w 0 1) → OnErr o (r ≡ 2) → (r ≢ 2) → IfOk o P → (w : Bool) × (r ≡ cond w 0 1) × P w

@@ -26,9 +26,9 @@ returns-in-Ok-merge-clause-any_moment g c tells place disk since =
       a.0,
       a.1,
       may_merge _ _ (g.F.Files.real c.args.files.now) (found_of c.args.words.now) c.asked_version.result c.as_slice-2.result.now a.0 disk
-        (record { with_flag = c.asked_version.ensures.with; without_flag = c.asked_version.ensures.without; unknown_flag = c.asked_version.ensures.unset })
-        (search rules)
-        (rw (← c.asked_out.ensures) a.2),
+          (record { with_flag = c.asked_version.ensures.with; without_flag = c.asked_version.ensures.without; unknown_flag = c.asked_version.ensures.unset })
+          (search rules)
+          (rw (← c.asked_out.ensures) a.2),
     )
 
 pub returns-clause-any_moment : goal.returns-clause-any_moment
@@ -37,9 +37,9 @@ returns-clause-any_moment g c tells place disk since =
       a.0,
       a.1,
       may_merge _ _ (g.F.Files.real c.args.files.now) (found_of c.args.words.now) c.asked_version.result c.as_slice-2.result.now a.0 disk
-        (record { with_flag = c.asked_version.ensures.with; without_flag = c.asked_version.ensures.without; unknown_flag = c.asked_version.ensures.unset })
-        (search rules)
-        (rw (← c.asked_out.ensures) a.2),
+          (record { with_flag = c.asked_version.ensures.with; without_flag = c.asked_version.ensures.without; unknown_flag = c.asked_version.ensures.unset })
+          (search rules)
+          (rw (← c.asked_out.ensures) a.2),
     )
 
 pub returns-clause-unkept : goal.returns-clause-unkept

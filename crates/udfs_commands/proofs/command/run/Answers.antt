@@ -1,10 +1,10 @@
-use Rattle.std.proofs.Common.{◌≡◌, Bool, List, ℕ, ap, subst, sym, ◌∙◌, codes, map}
+use Rattle.std.proofs.Common.{◌≡◌, Bool, List, ℕ, ap, inr, subst, sym, ◌∙◌, codes, map}
 use Rattle.std.specs.String.{string_bytes}
 use Rattle.clap.specs.Matches.{found_of}
 use Rattle.clap.specs.Words.{App, HasMatchesOf, app_of, takes}
 use Rattle.udfs_commands.specs.Grammar.{program_app}
 use Rattle.udfs_commands.specs.Obeying.{IsAsked, names_pairs}
-use Rattle.udfs_commands.proofs.ObeyingLemmas.{asked, done, done_whole, only_name}
+use Rattle.udfs_commands.proofs.ObeyingLemmas.{asked, asks_by, done, done_whole, only_name}
 use Rattle.udfs_commands.proofs.command.run.Goals as goal
 
 pub returns-in-Err-try_get_matches_from-clause-merge : goal.returns-in-Err-try_get_matches_from-clause-merge
@@ -70,3 +70,65 @@ returns-in-Some-obey-clause-extract g c = λ taken asks some.
     let named : IsAsked words (codes "extract") found = subst (λ (n : List ℕ). IsAsked words n found) is ask in
     let said = done c.in-Some-obey.outcome c.finish.result _ c.finish.ensures.done c.finish.ensures.refused some (c.in-Some-obey.ensures.extract is) in
     (said.0, said.1, found, named, said.2)
+
+pub returns-in-Some-obey-clause-reads : goal.returns-in-Some-obey-clause-reads
+returns-in-Some-obey-clause-reads g c = λ no_merge no_extract.
+    let words = map string_bytes c.args.words.now in
+    let found = found_of c.in-Some.found.1.now in
+    let ask : IsAsked words c.in-Some.found.0.now found = asked c.in-Ok-try_get_matches_from.matches words c.in-Some.found.0.now found
+    (subst (λ (a : App). HasMatchesOf a words c.in-Ok-try_get_matches_from.matches) (c.in-Ok.ensures ∙ ap program_app c.has_pairs.ensures) c.in-Ok-try_get_matches_from.ensures.matches)
+    c.in-Some.ensures.name c.in-Some.ensures.rows in
+    c.in-Some-obey.ensures.reads (λ e. no_merge (asks_by words c.in-Some.found.0.now (codes "merge") found ask e)) (λ e. no_extract (asks_by words c.in-Some.found.0.now (codes "extract") found ask e))
+
+pub returns-in-Some-obey-clause-merging : goal.returns-in-Some-obey-clause-merging
+returns-in-Some-obey-clause-merging g c = λ asks.
+    let words = map string_bytes c.args.words.now in
+    let found = found_of c.in-Some.found.1.now in
+    let ask : IsAsked words c.in-Some.found.0.now found = asked c.in-Ok-try_get_matches_from.matches words c.in-Some.found.0.now found
+    (subst (λ (a : App). HasMatchesOf a words c.in-Ok-try_get_matches_from.matches) (c.in-Ok.ensures ∙ ap program_app c.has_pairs.ensures) c.in-Ok-try_get_matches_from.ensures.matches)
+    c.in-Some.ensures.name c.in-Some.ensures.rows in
+    let is : c.in-Some.found.0.now ≡ codes "merge" = only_name words c.in-Some.found.0.now (codes "merge") found asks ask in
+    let named : IsAsked words (codes "merge") found = subst (λ (n : List ℕ). IsAsked words n found) is ask in
+    inr (found, named, c.in-Some-obey.ensures.merging is)
+
+pub returns-in-Some-obey-clause-extracting : goal.returns-in-Some-obey-clause-extracting
+returns-in-Some-obey-clause-extracting g c = λ asks.
+    let words = map string_bytes c.args.words.now in
+    let found = found_of c.in-Some.found.1.now in
+    let ask : IsAsked words c.in-Some.found.0.now found = asked c.in-Ok-try_get_matches_from.matches words c.in-Some.found.0.now found
+    (subst (λ (a : App). HasMatchesOf a words c.in-Ok-try_get_matches_from.matches) (c.in-Ok.ensures ∙ ap program_app c.has_pairs.ensures) c.in-Ok-try_get_matches_from.ensures.matches)
+    c.in-Some.ensures.name c.in-Some.ensures.rows in
+    let is : c.in-Some.found.0.now ≡ codes "extract" = only_name words c.in-Some.found.0.now (codes "extract") found asks ask in
+    let named : IsAsked words (codes "extract") found = subst (λ (n : List ℕ). IsAsked words n found) is ask in
+    inr (found, named, c.in-Some-obey.ensures.extracting is)
+
+pub returns-clause-reads : goal.returns-clause-reads
+returns-clause-reads g c = λ no_merge no_extract.
+    let words = map string_bytes c.args.words.now in
+    let found = found_of c.in-Some.found.1.now in
+    let ask : IsAsked words c.in-Some.found.0.now found = asked c.in-Ok-try_get_matches_from.matches words c.in-Some.found.0.now found
+    (subst (λ (a : App). HasMatchesOf a words c.in-Ok-try_get_matches_from.matches) (c.in-Ok.ensures ∙ ap program_app c.has_pairs.ensures) c.in-Ok-try_get_matches_from.ensures.matches)
+    c.in-Some.ensures.name c.in-Some.ensures.rows in
+    c.in-None-obey.ensures.reads (λ e. no_merge (asks_by words c.in-Some.found.0.now (codes "merge") found ask e)) (λ e. no_extract (asks_by words c.in-Some.found.0.now (codes "extract") found ask e))
+
+pub returns-clause-merging : goal.returns-clause-merging
+returns-clause-merging g c = λ asks.
+    let words = map string_bytes c.args.words.now in
+    let found = found_of c.in-Some.found.1.now in
+    let ask : IsAsked words c.in-Some.found.0.now found = asked c.in-Ok-try_get_matches_from.matches words c.in-Some.found.0.now found
+    (subst (λ (a : App). HasMatchesOf a words c.in-Ok-try_get_matches_from.matches) (c.in-Ok.ensures ∙ ap program_app c.has_pairs.ensures) c.in-Ok-try_get_matches_from.ensures.matches)
+    c.in-Some.ensures.name c.in-Some.ensures.rows in
+    let is : c.in-Some.found.0.now ≡ codes "merge" = only_name words c.in-Some.found.0.now (codes "merge") found asks ask in
+    let named : IsAsked words (codes "merge") found = subst (λ (n : List ℕ). IsAsked words n found) is ask in
+    inr (found, named, c.in-None-obey.ensures.merging is)
+
+pub returns-clause-extracting : goal.returns-clause-extracting
+returns-clause-extracting g c = λ asks.
+    let words = map string_bytes c.args.words.now in
+    let found = found_of c.in-Some.found.1.now in
+    let ask : IsAsked words c.in-Some.found.0.now found = asked c.in-Ok-try_get_matches_from.matches words c.in-Some.found.0.now found
+    (subst (λ (a : App). HasMatchesOf a words c.in-Ok-try_get_matches_from.matches) (c.in-Ok.ensures ∙ ap program_app c.has_pairs.ensures) c.in-Ok-try_get_matches_from.ensures.matches)
+    c.in-Some.ensures.name c.in-Some.ensures.rows in
+    let is : c.in-Some.found.0.now ≡ codes "extract" = only_name words c.in-Some.found.0.now (codes "extract") found asks ask in
+    let named : IsAsked words (codes "extract") found = subst (λ (n : List ℕ). IsAsked words n found) is ask in
+    inr (found, named, c.in-None-obey.ensures.extracting is)
