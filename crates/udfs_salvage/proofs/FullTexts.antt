@@ -17,7 +17,7 @@ use Rattle.udfs_salvage.specs.NodeTexts.{kind_text, node_line, path_text, place_
 use Rattle.udfs_salvage.specs.Texts.{line}
 
 -- the lists are no part of the line
-same_name : (lists : TornFields) (s : Standing) → standing_name (with_lists lists s) ≡ standing_name s
+pub same_name : (lists : TornFields) (s : Standing) → standing_name (with_lists lists s) ≡ standing_name s
 same_name lists Whole = refl
 same_name lists (Torn torn) = refl
 same_name lists Loop = refl

@@ -1,20 +1,27 @@
 -- The pieces of the JSON of a report are its text.
 use Rattle.std.proofs.Common.{◌≡◌, refl, sym, ap, ◌∙◌, ℕ, Bool, true, false, List, [], ◌∷◌, ◌++◌, map, append_assoc}
-use Rattle.std.specs.Prelude.{codes, Some}
+use Rattle.std.proofs.lemmas.Simd.{map-map}
+use Rattle.std.specs.Prelude.{Option, codes, Some}
 use Rattle.serde_json.proofs.OnLiterals.{serde_json_on_literals}
-use Rattle.serde_json.specs.Data.{Data, boolean, string}
+use Rattle.serde_json.specs.Data.{Data, array, boolean, string}
 use Rattle.serde_json.specs.View.{items_of}
 use Rattle.serde_json.specs.Written.{compact_text, items_text}
 use Rattle.udfs_lattice.specs.Tables.{Table, conflict_count, known_count, state_of}
+use Rattle.udfs_space.specs.Places.{View}
+use Rattle.udfs_walk.specs.Bare.{full_entry, full_node, lists_at, with_lists}
 use Rattle.udfs_walk.specs.NodeFields.{NodeFields}
+use Rattle.udfs_walk.specs.TornFields.{TornFields}
+use Rattle.udfs_walk.specs.UnnamedEntries.{address_of}
 use Rattle.udfs_walk.specs.declared.answers.Unnamed.{Unnamed}
+use Rattle.udfs_walk.specs.declared.standings.Standing.{Standing}
 use Rattle.udfs_salvage.specs.Reports.{Report}
-use Rattle.udfs_salvage.specs.NodeTexts.{kind_name}
+use Rattle.udfs_salvage.specs.NodeTexts.{kind_name, path_name, standing_name}
 use Rattle.udfs_salvage.specs.Texts.{has_two, line}
 use Rattle.udfs_walk.specs.Rereads.{holes_of, missing_of}
-use Rattle.udfs_salvage.specs.JsonNodes.{count, hole_data, list_data, node_data, time_data, unnamed_data}
+use Rattle.udfs_salvage.specs.JsonNodes.{count, hole_data, list_data, node_data, size_data, time_data, unnamed_data}
 use Rattle.udfs_salvage.specs.JsonReports.{json_text, label_data_of, report_data, reread_data, volume_data}
-use Rattle.udfs_salvage.specs.JsonPieces.{counts_piece, end_piece, entry_end, entry_front, kind_piece, more_values, node_end, node_front, report_end, report_front, standing_piece, told_piece}
+use Rattle.udfs_salvage.specs.JsonPieces.{counts_piece, end_piece, entry_end, entry_front, kind_piece, more_values, node_end, node_front, reference_piece, report_end, report_front, standing_piece, told_piece}
+use Rattle.udfs_salvage.proofs.FullTexts.{same_name}
 
 -- the values behind the first one, and the closing bracket
 more_text : {A : Type 0} (f : A → Data) (xs : List A) → items_text true (items_of (map f xs)) ≡ more_values f xs ++ 93 ∷ []
@@ -51,6 +58,49 @@ entry_pieces true u =
 entry_pieces false u =
     in_row (codes "{\"block\":") (compact_text (count u.block)) (codes ",\"holes\":") (compact_text (list_data hole_data (holes_of u.standing))) (codes ",\"kind\":")
     (compact_text (string (kind_name u.kind))) (codes ",\"missing\":") (compact_text (list_data count (missing_of u.standing))) (entry_end false u)
+
+-- ---- nodes and entries whose blocks and holes are found where they are told
+
+-- the lists are no part of the end of an object
+same_end : (lists : TornFields) (size : Option ℕ) (s : Standing) → end_piece size (with_lists lists s) ≡ end_piece size s
+unfolding end_piece standing_piece
+same_end lists size s = ap (λ t. codes ",\"size\":" ++ (compact_text (size_data size) ++ (codes ",\"standing\":" ++ (compact_text (string t) ++ codes "}")))) (same_name lists s)
+
+same_node_end : (v : View) (n : NodeFields) → node_end (full_node v n) ≡ node_end n
+unfolding node_end
+same_node_end v n =
+    ap (λ t. codes ",\"modified\":" ++ (compact_text (time_data n.stamp) ++ (codes ",\"path\":" ++ (compact_text (string (path_name n.path)) ++ t))))
+    (same_end (lists_at v n.icb) n.size n.standing)
+
+same_entry_end : (v : View) (two : Bool) (u : Unnamed) → entry_end two (full_entry v u) ≡ entry_end two u
+unfolding entry_end
+same_entry_end v two u =
+    ap (λ t. codes ",\"modified\":" ++ (compact_text (time_data (Some u.stamp)) ++ (reference_piece two u.reference ++ t)))
+    (same_end (lists_at v (address_of (u.reference, u.block))) (Some u.size) u.standing)
+
+-- what stands before a node, and its pieces
+pub full_node_pieces : (front : List ℕ) (v : View) (n : NodeFields) (s : Standing) → s ≡ with_lists (lists_at v n.icb) n.standing
+    → (front ++ node_front n.hidden) ++ (told_piece s n.kind ++ node_end n) ≡ front ++ compact_text (node_data (full_node v n))
+full_node_pieces front v n s is =
+    append_assoc front (node_front n.hidden) (told_piece s n.kind ++ node_end n)
+    ∙ ap (λ t. front ++ (node_front n.hidden ++ (told_piece t n.kind ++ node_end n))) is
+    ∙ ap (λ t. front ++ (node_front n.hidden ++ (told_piece (with_lists (lists_at v n.icb) n.standing) n.kind ++ t))) (sym (same_node_end v n))
+    ∙ ap (λ t. front ++ t) (node_pieces (full_node v n))
+
+-- the same of an entry
+pub full_entry_pieces : (front : List ℕ) (v : View) (two : Bool) (u : Unnamed) (s : Standing) → s ≡ with_lists (lists_at v (address_of (u.reference, u.block))) u.standing
+    → (front ++ entry_front u.block) ++ (told_piece s u.kind ++ entry_end two u) ≡ front ++ compact_text (unnamed_data two (full_entry v u))
+full_entry_pieces front v two u s is =
+    append_assoc front (entry_front u.block) (told_piece s u.kind ++ entry_end two u)
+    ∙ ap (λ t. front ++ (entry_front u.block ++ (told_piece t u.kind ++ entry_end two u))) is
+    ∙ ap (λ t. front ++ (entry_front u.block ++ (told_piece (with_lists (lists_at v (address_of (u.reference, u.block))) u.standing) u.kind ++ t))) (sym (same_entry_end v two u))
+    ∙ ap (λ t. front ++ t) (entry_pieces two (full_entry v u))
+
+-- a list of values that are found where they are told
+pub full_list : {A B : Type 0} (f : B → Data) (g : A → B) (xs : List A) → list_data (λ x. f (g x)) xs ≡ list_data f (map g xs)
+full_list f g xs = ap (λ ds. array (items_of ds)) (sym (map-map f g xs))
+
+-- ---- a report
 
 -- the same of a report, whose front has two pieces
 in_report : (a b c d e label f last g rest : List ℕ) → ((a ++ (b ++ (c ++ d))) ++ (e ++ (label ++ (f ++ (last ++ g))))) ++ rest ≡ a ++ (b ++ (c ++ (d ++ (e ++ (label ++ (f ++ (last ++ (g ++ rest))))))))
