@@ -8,6 +8,7 @@ use Rattle.serde_json.specs.View.{items_of}
 use Rattle.serde_json.specs.Written.{compact_text, items_text}
 use Rattle.udfs_lattice.specs.Tables.{Table, conflict_count, known_count, state_of}
 use Rattle.udfs_space.specs.Places.{View}
+use Rattle.udfs_file.specs.declared.faults.Kind.{Kind}
 use Rattle.udfs_walk.specs.Bare.{full_entry, full_node, lists_at, with_lists}
 use Rattle.udfs_walk.specs.NodeFields.{NodeFields}
 use Rattle.udfs_walk.specs.TornFields.{TornFields}
@@ -79,13 +80,21 @@ same_entry_end v two u =
     (same_end (lists_at v (address_of (u.reference, u.block))) (Some u.size) u.standing)
 
 -- what stands before a node, and its pieces
-pub full_node_pieces : (front : List ℕ) (v : View) (n : NodeFields) (s : Standing) → s ≡ with_lists (lists_at v n.icb) n.standing
+node_behind : (front : List ℕ) (v : View) (n : NodeFields) (s : Standing) → s ≡ with_lists (lists_at v n.icb) n.standing
     → (front ++ node_front n.hidden) ++ (told_piece s n.kind ++ node_end n) ≡ front ++ compact_text (node_data (full_node v n))
-full_node_pieces front v n s is =
+node_behind front v n s is =
     append_assoc front (node_front n.hidden) (told_piece s n.kind ++ node_end n)
     ∙ ap (λ t. front ++ (node_front n.hidden ++ (told_piece t n.kind ++ node_end n))) is
     ∙ ap (λ t. front ++ (node_front n.hidden ++ (told_piece (with_lists (lists_at v n.icb) n.standing) n.kind ++ t))) (sym (same_node_end v n))
     ∙ ap (λ t. front ++ t) (node_pieces (full_node v n))
+
+-- the same where the fields were read one by one
+pub full_node_pieces : (front : List ℕ) (v : View) (n : NodeFields) (hidden : Bool) (k : Kind) (s : Standing) → hidden ≡ n.hidden → k ≡ n.kind → s ≡ with_lists (lists_at v n.icb) n.standing
+    → (front ++ node_front hidden) ++ (told_piece s k ++ node_end n) ≡ front ++ compact_text (node_data (full_node v n))
+full_node_pieces front v n hidden k s same_hidden same_kind is =
+    ap (λ h. (front ++ node_front h) ++ (told_piece s k ++ node_end n)) same_hidden
+    ∙ ap (λ l. (front ++ node_front n.hidden) ++ (told_piece s l ++ node_end n)) same_kind
+    ∙ node_behind front v n s is
 
 -- the same of an entry
 pub full_entry_pieces : (front : List ℕ) (v : View) (two : Bool) (u : Unnamed) (s : Standing) → s ≡ with_lists (lists_at v (address_of (u.reference, u.block))) u.standing
