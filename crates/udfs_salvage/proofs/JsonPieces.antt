@@ -7,7 +7,9 @@ use Rattle.serde_json.specs.Data.{Data, array, boolean, string}
 use Rattle.serde_json.specs.View.{items_of}
 use Rattle.serde_json.specs.Written.{compact_text, items_text}
 use Rattle.udfs_lattice.specs.Tables.{Table, conflict_count, known_count, state_of}
-use Rattle.udfs_space.specs.Places.{View}
+use Rattle.udfs_lattice.specs.Volumes.{Blocks}
+use Rattle.udfs_volume.specs.Answers.{Answer, found}
+use Rattle.udfs_space.specs.Places.{View, view}
 use Rattle.udfs_file.specs.declared.faults.Kind.{Kind}
 use Rattle.udfs_walk.specs.Bare.{full_entry, full_node, lists_at, with_lists}
 use Rattle.udfs_walk.specs.NodeFields.{NodeFields}
@@ -15,7 +17,9 @@ use Rattle.udfs_walk.specs.TornFields.{TornFields}
 use Rattle.udfs_walk.specs.UnnamedEntries.{address_of}
 use Rattle.udfs_walk.specs.declared.answers.Unnamed.{Unnamed}
 use Rattle.udfs_walk.specs.declared.standings.Standing.{Standing}
+use Rattle.udfs_salvage.specs.Found.{Found}
 use Rattle.udfs_salvage.specs.Reports.{Report}
+use Rattle.udfs_salvage.specs.Surveys.{full_entries, full_nodes}
 use Rattle.udfs_salvage.specs.NodeTexts.{kind_name, path_name, standing_name}
 use Rattle.udfs_salvage.specs.Texts.{has_two, line}
 use Rattle.udfs_walk.specs.Rereads.{holes_of, missing_of}
@@ -108,6 +112,17 @@ full_entry_pieces front v two u s is =
 -- a list of values that are found where they are told
 pub full_list : {A B : Type 0} (f : B → Data) (g : A → B) (xs : List A) → list_data (λ x. f (g x)) xs ≡ list_data f (map g xs)
 full_list f g xs = ap (λ ds. array (items_of ds)) (sym (map-map f g xs))
+
+-- where the volume opens, the nodes of a survey are told with what they lack
+pub survey_nodes : (M : Blocks) (a : Answer Found) (f : Found) (ns : List NodeFields) → a ≡ found f
+    → compact_text (list_data (λ n. node_data (full_node (view M f.space) n)) ns) ≡ compact_text (list_data node_data (full_nodes M a ns))
+survey_nodes M a f ns is = ap compact_text (full_list node_data (full_node (view M f.space)) ns) ∙ ap (λ x. compact_text (list_data node_data (full_nodes M x ns))) (sym is)
+
+-- the same of its entries
+pub survey_entries : (M : Blocks) (a : Answer Found) (f : Found) (two : Bool) (us : List Unnamed) → a ≡ found f
+    → compact_text (list_data (λ u. unnamed_data two (full_entry (view M f.space) u)) us) ≡ compact_text (list_data (unnamed_data two) (full_entries M a us))
+survey_entries M a f two us is =
+    ap compact_text (full_list (unnamed_data two) (full_entry (view M f.space)) us) ∙ ap (λ x. compact_text (list_data (unnamed_data two) (full_entries M x us))) (sym is)
 
 -- ---- a report
 

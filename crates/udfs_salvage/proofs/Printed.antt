@@ -122,3 +122,7 @@ passes_two {a = a} {i = i} {p = p} c k s x y whole r is h g = subst (λ (t : Lis
 pub passes_three : {X : Type 0} {a b c : Option (List ℕ)} {i j k : ℕ} {p q s : List ℕ} (d : Option (List ℕ)) (l : ℕ) (u x y z whole : List ℕ) (r : Result X RunError) → x ++ (y ++ z) ≡ whole
     → Passed a b i j p q x → Passed b c j k q s y → PassesOn c d k l s u z r → PassesOn a d i l p u whole r
 passes_three d l u x y z whole r is h g f = passes_two d l u x (y ++ z) whole r is h (passes_then d l u z r g f)
+
+-- the same text in other words
+pub passes_same : {X : Type 0} (a b : Option (List ℕ)) (i j : ℕ) (p q x y : List ℕ) (r : Result X RunError) → x ≡ y → PassesOn a b i j p q x r → PassesOn a b i j p q y r
+passes_same a b i j p q x y r is h = subst (λ (t : List ℕ). PassesOn a b i j p q t r) is h
