@@ -20,7 +20,7 @@ use Rattle.udfs_walk.specs.declared.standings.Standing.{Standing}
 use Rattle.udfs_salvage.specs.Found.{Found}
 use Rattle.udfs_salvage.specs.Reports.{Report}
 use Rattle.udfs_salvage.specs.Surveys.{full_entries, full_nodes}
-use Rattle.udfs_salvage.specs.NodeTexts.{kind_name, path_name, standing_name}
+use Rattle.udfs_salvage.specs.NodeTexts.{kind_name, path_name}
 use Rattle.udfs_salvage.specs.Texts.{has_two, line}
 use Rattle.udfs_walk.specs.Rereads.{holes_of, missing_of}
 use Rattle.udfs_salvage.specs.JsonNodes.{count, hole_data, list_data, node_data, size_data, time_data, unnamed_data}

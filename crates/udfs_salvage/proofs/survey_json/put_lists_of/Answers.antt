@@ -20,8 +20,8 @@ returns-in_err-put_survey_nodes g c =
     let first = compact_text (list_data node_data (survey_now s).nodes) in
     let second = codes ",\"reread\":" in
     let third = compact_text (list_data (reread_data (state_of s.table.now)) s.reread.items)
-                ++ (codes ",\"unnamed\":" ++ (compact_text (list_data (unnamed_data (has_two (volume_now s.volume))) (survey_now s).unnamed)
-                ++ (report_end (volume_now s.volume) ++ codes "\n"))) in
+    ++ (codes ",\"unnamed\":" ++ (compact_text (list_data (unnamed_data (has_two (volume_now s.volume))) (survey_now s).unnamed)
+    ++ (report_end (volume_now s.volume) ++ codes "\n"))) in
     rw (p.1, p.2) (stopped_first_of _ first (second ++ third) _ refl c.in_err-put_survey_nodes.ensures)
 
 pub returns-in_err-put_words : goal.returns-in_err-put_words
@@ -31,8 +31,8 @@ returns-in_err-put_words g c =
     let first = compact_text (list_data node_data (survey_now s).nodes) in
     let second = codes ",\"reread\":" in
     let third = compact_text (list_data (reread_data (state_of s.table.now)) s.reread.items)
-                ++ (codes ",\"unnamed\":" ++ (compact_text (list_data (unnamed_data (has_two (volume_now s.volume))) (survey_now s).unnamed)
-                ++ (report_end (volume_now s.volume) ++ codes "\n"))) in
+    ++ (codes ",\"unnamed\":" ++ (compact_text (list_data (unnamed_data (has_two (volume_now s.volume))) (survey_now s).unnamed)
+    ++ (report_end (volume_now s.volume) ++ codes "\n"))) in
     rw (p.1, p.2) (stopped_second_of first second third _ refl c.in_ok-put_survey_nodes.ensures c.in_err-put_words.ensures)
 
 pub returns : goal.returns
@@ -42,6 +42,6 @@ returns g c =
     let first = compact_text (list_data node_data (survey_now s).nodes) in
     let second = codes ",\"reread\":" in
     let third = compact_text (list_data (reread_data (state_of s.table.now)) s.reread.items)
-                ++ (codes ",\"unnamed\":" ++ (compact_text (list_data (unnamed_data (has_two (volume_now s.volume))) (survey_now s).unnamed)
-                ++ (report_end (volume_now s.volume) ++ codes "\n"))) in
+    ++ (codes ",\"unnamed\":" ++ (compact_text (list_data (unnamed_data (has_two (volume_now s.volume))) (survey_now s).unnamed)
+    ++ (report_end (volume_now s.volume) ++ codes "\n"))) in
     (passes_three (W.contents c.put_later.new.sink) (W.faults c.put_later.new.sink) (string_bytes c.put_later.new.text) first second third _ c.put_later.result refl c.in_ok-put_survey_nodes.ensures c.in_ok-put_words.ensures c.put_later.ensures)

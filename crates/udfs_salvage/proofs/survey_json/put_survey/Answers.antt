@@ -1,15 +1,8 @@
-use Rattle.std.proofs.Common.{◌++◌}
-use Rattle.std.specs.Prelude.{codes}
 use Rattle.std.specs.String.{string_bytes}
 use Rattle.std.proofs.lemmas.Result.{err_from_is_err_and}
-use Rattle.serde_json.specs.Written.{compact_text}
-use Rattle.udfs_lattice.specs.Tables.{state_of}
 use Rattle.udfs_salvage.specs.Found.{volume_now}
-use Rattle.udfs_salvage.specs.JsonNodes.{list_data, node_data, unnamed_data}
-use Rattle.udfs_salvage.specs.JsonPieces.{report_end, report_front}
-use Rattle.udfs_salvage.specs.JsonReports.{reread_data}
+use Rattle.udfs_salvage.specs.JsonPieces.{report_front}
 use Rattle.udfs_salvage.specs.Surveys.{survey_now}
-use Rattle.udfs_salvage.specs.Texts.{has_two}
 use Rattle.udfs_salvage.proofs.JsonPieces.{report_pieces}
 use Rattle.udfs_salvage.proofs.Printed.{passes_two, stopped_first_of}
 use Rattle.udfs_salvage.proofs.survey_json.put_survey.Goals as goal
