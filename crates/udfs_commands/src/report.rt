@@ -11,8 +11,8 @@ use crate::inputs::joined;
 use crate::refusal::Refusal;
 use crate::sources::{AnySource, InputPath, open_all, refusal_for};
 use std::alloc::Global;
-use udfs_reading::{Sink, Source, WriteFault, write_all};
-use udfs_salvage::{RunError, all_whole, report_json, report_run, salvage};
+use udfs_reading::{Sink, Source};
+use udfs_salvage::{RunError, report_run, survey_volume, write_json};
 
 /// The forms of a report.
 #[derive(Clone, Copy, PartialEq, Eq)]
@@ -40,7 +40,7 @@ pub fn report_as<F: Files, O: Sink>(
     }
 }
 
-/// Prints the report as JSON, and a line feed behind it.
+/// Prints the report as JSON, and a line feed behind it, piece by piece: where memory is refused, a beginning of it may be out.
 fn report_in_json<F: Files, O: Sink>(
     alloc: Global,
     inputs: &[InputPath<'_>],
@@ -52,12 +52,10 @@ fn report_in_json<F: Files, O: Sink>(
         (PrintsJson last (O.contents out.old) (O.contents out.new) (O.faults out.old) (O.faults out.new) whole)) }
 {
     let table = joined(alloc, inputs, files)?;
-    let report = salvage(alloc, &table, last)?;
-    let mut text = report_json(alloc, &report)?;
-    text.push('\n')?;
-    match write_all(out, text.as_bytes()) {
-        Ok(()) => Ok(all_whole(&report.nodes)),
-        Err(WriteFault) => Err(Refusal::Output),
+    let survey = survey_volume(alloc, &table, last)?;
+    match write_json(alloc, &survey, out) {
+        Ok(()) => Ok(survey.all_whole()),
+        Err(error) => Err(Refusal::from(error)),
     }
 }
 

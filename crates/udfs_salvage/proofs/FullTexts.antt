@@ -1,9 +1,8 @@
 -- The texts of nodes and entries whose blocks and holes are found where they are told.
-use Rattle.std.proofs.Common.{◌≡◌, refl, sym, ◌∙◌, ap, subst, ℕ, ◌+◌, ◌<◌, Bool, List, [], ◌∷◌, ◌++◌, length, map, take, get_or, arith, Option, Some, nat_le}
-use Rattle.std.specs.Prelude.{zero, suc, cond, codes, decimal}
+use Rattle.std.proofs.Common.{◌≡◌, refl, ap, ℕ, ◌<◌, Bool, List, [], ◌∷◌, ◌++◌, length, map, get_or, arith, Option, Some}
+use Rattle.std.specs.Prelude.{zero, suc, codes, decimal}
 use Rattle.std.proofs.lemmas.List.{length-map}
 use Rattle.udfs_osta.specs.declared.stamps.Stamp.{Stamp}
-use Rattle.udfs_reading.specs.Writing.{Passed}
 use Rattle.udfs_space.specs.Places.{View}
 use Rattle.udfs_file.specs.declared.faults.Kind.{Kind}
 use Rattle.udfs_walk.specs.Bare.{full_entry, full_node, lists_at, with_lists}
@@ -13,11 +12,11 @@ use Rattle.udfs_walk.specs.UnnamedEntries.{address_of}
 use Rattle.udfs_walk.specs.declared.answers.Unnamed.{Unnamed}
 use Rattle.udfs_walk.specs.declared.standings.Standing.{Standing}
 use Rattle.udfs_walk.specs.declared.standings.Standing.TheVariants.{Whole, Torn, Loop, Fault}
-use Rattle.udfs_salvage.specs.NodeTexts.{kind_text, node_line, path_text, place_text, size_text, standing_name, standing_text, stamp_column, told_text, unnamed_line}
+use Rattle.udfs_salvage.specs.NodeTexts.{kind_text, node_line, path_text, place_text, size_text, standing_name, stamp_column, told_text, unnamed_line}
 use Rattle.udfs_salvage.specs.Texts.{line}
 
 -- the lists are no part of the line
-same_name : (lists : TornFields) (s : Standing) → standing_name (with_lists lists s) ≡ standing_name s
+pub same_name : (lists : TornFields) (s : Standing) → standing_name (with_lists lists s) ≡ standing_name s
 same_name lists Whole = refl
 same_name lists (Torn torn) = refl
 same_name lists Loop = refl

@@ -1,26 +1,20 @@
 -- A table has one report, and what is promised holds of it.
-use Rattle.std.proofs.Common.{◌≡◌, ◌≢◌, refl, sym, ◌∙◌, ap, subst, inl, inr, ◌⊎◌, ℕ, ◌+◌, ◌<◌, ◌≤◌, List, [], ◌∷◌, length, map, arith, true, false, Bool, Option, Some, None, nat_le}
-use Rattle.std.specs.Prelude.{suc, IsSome}
-use Rattle.std.specs.List.{AllZip}
+use Rattle.std.proofs.Common.{◌≡◌, refl, sym, ◌∙◌, ap, subst, ℕ, ◌≤◌, List, [], length, map, true, false, Bool, nat_le}
 use Rattle.std.proofs.lemmas.Bool.{leb-true, leb-false}
-use Rattle.udfs_lattice.specs.Tables.{Table, state_of}
+use Rattle.udfs_lattice.specs.Tables.{state_of}
 use Rattle.udfs_lattice.specs.Volumes.{Blocks, Volume, Agrees, Includes}
 use Rattle.udfs_osta.specs.Escapes.{escaped}
 use Rattle.udfs_osta.specs.Parts.{IsPathPart}
-use Rattle.udfs_tag.specs.declared.layouts.LongAd.{LongAd}
 use Rattle.udfs_volume.specs.Answers.{Answer, found, holes, faulty}
-use Rattle.udfs_space.specs.Places.{View, view}
+use Rattle.udfs_space.specs.Places.{view}
 use Rattle.udfs_walk.specs.NodeFields.{NodeFields}
 use Rattle.udfs_walk.specs.Nodes.{node}
 use Rattle.udfs_walk.specs.Rereads.{reread}
-use Rattle.udfs_walk.specs.Routes.{Route, Walked, walked, IsWalk, HasMoreRoutes}
+use Rattle.udfs_walk.specs.Routes.{Walked, IsWalk}
 use Rattle.udfs_walk.specs.UnnamedEntries.{unnamed}
-use Rattle.udfs_walk.specs.Walks.{AreNodes}
-use Rattle.udfs_walk.specs.declared.answers.Unnamed.{Unnamed}
 use Rattle.udfs_walk.proofs.PublicLaws.{more_routes, only_walk, paths_have_parts, some_walk}
 use Rattle.udfs_salvage.specs.Found.{Found, volume as volume_of}
-use Rattle.udfs_salvage.specs.Headline.{Headline, OneReport, OneText, ReportsKeepIt, SomeReport}
-use Rattle.udfs_salvage.specs.Laws.{IsToldOf}
+use Rattle.udfs_salvage.specs.Headline.{OneReport, OneText, ReportsKeepIt, SomeReport}
 use Rattle.udfs_salvage.specs.NodeTexts.{report_text}
 use Rattle.udfs_salvage.specs.Reports.{Report, ReportsBy, IsReport}
 use Rattle.udfs_salvage.specs.VolumeTrees.{IsLawful}

@@ -19,7 +19,7 @@ use Rattle.udfs_walk.specs.Rereads.{holes_of, missing_of}
 use Rattle.udfs_salvage.specs.JsonNodes.{count, hole_data, list_data, node_data, size_data, time_data, unnamed_data}
 use Rattle.udfs_salvage.specs.JsonReports.{label_data, label_data_of, map_name, open_members, packet_length_of, report_data, reread_data, volume_data, with_map_members, with_packet}
 
-none_in : {A : Type 0} (f : A → Data) (xs : List A) → ((x : A) → has_float (f x) ≡ false) → has_float (list_data f xs) ≡ false
+pub none_in : {A : Type 0} (f : A → Data) (xs : List A) → ((x : A) → has_float (f x) ≡ false) → has_float (list_data f xs) ≡ false
 none_in f [] h = refl
 none_in f (x ∷ xs) h = (λ i. h x i || none_in f xs h i)
 
@@ -31,16 +31,16 @@ size_none : (s : Option ℕ) → has_float (size_data s) ≡ false
 size_none None = refl
 size_none (Some n) = refl
 
-node_none : (n : NodeFields) → has_float (node_data n) ≡ false
+pub node_none : (n : NodeFields) → has_float (node_data n) ≡ false
 unfolding node_data
 node_none n = rw (none_in hole_data (holes_of n.standing) (λ x. refl), none_in count (missing_of n.standing) (λ x. refl), time_none n.stamp, size_none n.size) refl
 
-unnamed_none : (two : Bool) (u : Unnamed) → has_float (unnamed_data two u) ≡ false
+pub unnamed_none : (two : Bool) (u : Unnamed) → has_float (unnamed_data two u) ≡ false
 unfolding unnamed_data
 unnamed_none true u = rw (none_in hole_data (holes_of u.standing) (λ x. refl), none_in count (missing_of u.standing) (λ x. refl)) refl
 unnamed_none false u = rw (none_in hole_data (holes_of u.standing) (λ x. refl), none_in count (missing_of u.standing) (λ x. refl)) refl
 
-reread_none : (b : Blocks) (n : ℕ) → has_float (reread_data b n) ≡ false
+pub reread_none : (b : Blocks) (n : ℕ) → has_float (reread_data b n) ≡ false
 unfolding reread_data
 reread_none b n = refl
 
@@ -52,7 +52,7 @@ open_none (p ∷ []) (Some n) r = refl
 open_none (p ∷ q ∷ ps) None r = rw (none_in (λ x. string (map_name x.kind)) (p ∷ q ∷ ps) (λ x. refl)) refl
 open_none (p ∷ q ∷ ps) (Some n) r = rw (none_in (λ x. string (map_name x.kind)) (p ∷ q ∷ ps) (λ x. refl)) refl
 
-volume_none : (a : Answer Found) → has_float (volume_data a) ≡ false
+pub volume_none : (a : Answer Found) → has_float (volume_data a) ≡ false
 volume_none (found f) = open_none f.layout.partitions (packet_length_of f.layout.partitions) f.layout.revision
 volume_none (holes blocks) = rw (none_in count blocks (λ x. refl)) refl
 volume_none (faulty f) = refl
@@ -62,7 +62,7 @@ label_none label.Empty = refl
 label_none (label.Name units) = refl
 label_none label.Invalid = refl
 
-label_of_none : (a : Answer Found) → has_float (label_data_of a) ≡ false
+pub label_of_none : (a : Answer Found) → has_float (label_data_of a) ≡ false
 label_of_none (found f) = label_none f.layout.label
 label_of_none (holes blocks) = refl
 label_of_none (faulty f) = refl

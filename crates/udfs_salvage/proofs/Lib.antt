@@ -23,3 +23,4 @@ pub mod TreeBytes
 pub mod PathNames
 pub mod FullTexts
 pub mod Surveying
+pub mod JsonPieces

@@ -1,5 +1,5 @@
 -- What the standard opens of a lawful volume: what is found with all blocks known, in one way only.
-use Rattle.std.proofs.Common.{◌≡◌, sym, ◌∙◌, ap, subst, arith, ℕ, ◌+◌, ◌<◌, ◌≤◌, refl, List, [], ◌∷◌, length, Some, slice_get}
+use Rattle.std.proofs.Common.{◌≡◌, sym, ◌∙◌, ap, subst, arith, ℕ, ◌<◌, ◌≤◌, refl, List, [], ◌∷◌, length, Some, slice_get}
 use Rattle.std.specs.Prelude.{◌↔◌, zero, suc, option_map}
 use Rattle.udfs_lattice.specs.Volumes.{Blocks, Volume, complete}
 use Rattle.udfs_lattice.proofs.PublicLaws.{complete_knows}

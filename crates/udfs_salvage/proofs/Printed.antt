@@ -102,3 +102,27 @@ prints_then {a = a} {b = b} {q = q} {x = x} c k (Err e) none h g =
 -- and an error before that leaves the same out
 pub stopped_first : {a b : Option (List ℕ)} {i j : ℕ} {e : RunError} (p x : List ℕ) → p ≡ [] → Stopped a b i j (p ++ x) e → Stopped a b i j x e
 stopped_first {a = a} {b = b} {i = i} {j = j} {e = e} p x none h = subst (λ (t : List ℕ). Stopped a b i j (t ++ x) e) none h
+
+-- ---- two and three texts that make one
+
+-- it stopped in the first
+pub stopped_first_of : {a b : Option (List ℕ)} {i j : ℕ} {e : RunError} (p x rest whole : List ℕ) → x ++ rest ≡ whole → Stopped a b i j (p ++ x) e → Stopped a b i j (p ++ whole) e
+stopped_first_of {a = a} {b = b} {i = i} {j = j} {e = e} p x rest whole is h = subst (λ (t : List ℕ). Stopped a b i j (p ++ t) e) is (stopped_before p x rest h)
+
+-- it stopped in the second
+pub stopped_second_of : {a b c : Option (List ℕ)} {i j k : ℕ} {p q : List ℕ} {e : RunError} (x y rest whole : List ℕ) → x ++ (y ++ rest) ≡ whole → Passed a b i j p q x → Stopped b c j k (q ++ y) e → Stopped a c i k (p ++ whole) e
+stopped_second_of {a = a} {c = c} {i = i} {k = k} {p = p} {q = q} {e = e} x y rest whole is h g =
+    subst (λ (t : List ℕ). Stopped a c i k (p ++ t) e) is (stopped_then (y ++ rest) h (stopped_before q y rest g))
+
+-- the last of two
+pub passes_two : {X : Type 0} {a b : Option (List ℕ)} {i j : ℕ} {p q : List ℕ} (c : Option (List ℕ)) (k : ℕ) (s x y whole : List ℕ) (r : Result X RunError) → x ++ y ≡ whole → Passed a b i j p q x → PassesOn b c j k q s y r → PassesOn a c i k p s whole r
+passes_two {a = a} {i = i} {p = p} c k s x y whole r is h g = subst (λ (t : List ℕ). PassesOn a c i k p s t r) is (passes_then c k s y r h g)
+
+-- the last of three
+pub passes_three : {X : Type 0} {a b c : Option (List ℕ)} {i j k : ℕ} {p q s : List ℕ} (d : Option (List ℕ)) (l : ℕ) (u x y z whole : List ℕ) (r : Result X RunError) → x ++ (y ++ z) ≡ whole
+    → Passed a b i j p q x → Passed b c j k q s y → PassesOn c d k l s u z r → PassesOn a d i l p u whole r
+passes_three d l u x y z whole r is h g f = passes_two d l u x (y ++ z) whole r is h (passes_then d l u z r g f)
+
+-- the same text in other words
+pub passes_same : {X : Type 0} (a b : Option (List ℕ)) (i j : ℕ) (p q x y : List ℕ) (r : Result X RunError) → x ≡ y → PassesOn a b i j p q x r → PassesOn a b i j p q y r
+passes_same a b i j p q x y r is h = subst (λ (t : List ℕ). PassesOn a b i j p q t r) is h

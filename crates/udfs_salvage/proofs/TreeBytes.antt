@@ -14,7 +14,7 @@ use Rattle.udfs_walk.specs.NodeFields.{NodeFields}
 use Rattle.udfs_walk.specs.declared.standings.Standing.{Standing}
 use Rattle.udfs_walk.specs.declared.standings.Standing.TheVariants.{Whole, Torn, Loop, Fault}
 use Rattle.udfs_walk.specs.Rereads.{holes_of}
-use Rattle.udfs_tree.specs.Cells.{HasCellsAt, IsByteOf, IsByteOrMissing, IsToldAs, IsTornAs, IsUntold}
+use Rattle.udfs_tree.specs.Cells.{HasCellsAt, IsByteOf, IsByteOrMissing, IsTornAs, IsUntold}
 use Rattle.udfs_tree.specs.Laws.{IsTold}
 use Rattle.udfs_tree.proofs.PublicLaws.{one_reading}
 use Rattle.udfs_salvage.specs.Found.{Found, volume as volume_of}

@@ -1,7 +1,7 @@
 -- The JSON of nodes, and of entries that no name leads to. Keys stand in byte order.
 --     node_data n              a node
 --     unnamed_data two u       an entry that no name leads to
-use Rattle.std.specs.Prelude.{ℕ, Bool, true, false, List, [], map, codes, Option, Some, None}
+use Rattle.std.specs.Prelude.{ℕ, Bool, true, false, List, map, codes, Option, Some, None}
 use Rattle.serde_json.specs.Data.{Data, null, boolean, number, unsigned, string, array, object, item, no_items, Members, member, no_members}
 use Rattle.serde_json.specs.View.{items_of}
 use Rattle.udfs_osta.specs.StampTexts.{stamp_text}
@@ -11,7 +11,6 @@ use Rattle.udfs_walk.specs.NodeFields.{NodeFields}
 use Rattle.udfs_walk.specs.declared.answers.Unnamed.{Unnamed}
 use Rattle.udfs_walk.specs.Rereads.{holes_of, missing_of}
 use Rattle.udfs_walk.specs.declared.standings.Standing.{Standing}
-use Rattle.udfs_walk.specs.declared.standings.Standing.TheVariants as standing
 use Rattle.udfs_salvage.specs.NodeTexts.{kind_name, path_name, standing_name}
 
 -- a number

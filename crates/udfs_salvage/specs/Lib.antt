@@ -14,3 +14,4 @@ pub mod RereadTexts
 pub mod JsonNodes
 pub mod JsonReports
 pub mod Surveys
+pub mod JsonPieces

@@ -15,7 +15,7 @@ use udfs_osta::Stamp;
 use udfs_walk::{Node, Path, Standing, Unnamed};
 
 /// A standing.
-fn standing_value(alloc: Global, standing: &Standing) -> Result<Value, AllocError>
+pub(crate) fn standing_value(alloc: Global, standing: &Standing) -> Result<Value, AllocError>
     ensures { IfOk result (λ v. view v ≡ string (standing_name standing.now)) }
 {
     let mut text = String::new(alloc);
@@ -24,7 +24,7 @@ fn standing_value(alloc: Global, standing: &Standing) -> Result<Value, AllocErro
 }
 
 /// A kind.
-fn kind_value(alloc: Global, kind: Kind) -> Result<Value, AllocError>
+pub(crate) fn kind_value(alloc: Global, kind: Kind) -> Result<Value, AllocError>
     ensures { IfOk result (λ v. view v ≡ string (kind_name kind)) }
 {
     let mut text = String::new(alloc);
@@ -33,7 +33,7 @@ fn kind_value(alloc: Global, kind: Kind) -> Result<Value, AllocError>
 }
 
 /// A path.
-fn path_value(alloc: Global, path: &Path) -> Result<Value, AllocError>
+pub(crate) fn path_value(alloc: Global, path: &Path) -> Result<Value, AllocError>
     ensures { IfOk result (λ v. view v ≡ string (path_name path.now)) }
 {
     let mut text = String::new(alloc);
@@ -42,7 +42,7 @@ fn path_value(alloc: Global, path: &Path) -> Result<Value, AllocError>
 }
 
 /// A size, null where the entry is not read.
-fn size_value(size: Option<u64>) -> Value
+pub(crate) fn size_value(size: Option<u64>) -> Value
     ensures { view result ≡ size_data size }
 {
     match size {
@@ -52,7 +52,7 @@ fn size_value(size: Option<u64>) -> Value
 }
 
 /// A time, null where the entry is not read.
-fn time_value(alloc: Global, stamp: Option<Stamp>) -> Result<Value, AllocError>
+pub(crate) fn time_value(alloc: Global, stamp: Option<Stamp>) -> Result<Value, AllocError>
     ensures { IfOk result (λ v. view v ≡ time_data stamp) }
 {
     let Some(stamp) = stamp else {
@@ -75,7 +75,7 @@ pub(crate) fn blocks_value(alloc: Global, blocks: &[u32]) -> Result<Value, Alloc
 }
 
 /// A run of missing bytes.
-fn hole_value(alloc: Global, hole: (u64, u64)) -> Result<Value, AllocError>
+pub(crate) fn hole_value(alloc: Global, hole: (u64, u64)) -> Result<Value, AllocError>
     ensures { IfOk result (λ v. view v ≡ hole_data hole) }
 {
     let (offset, length) = hole;

@@ -146,7 +146,7 @@ fn faulty_value(alloc: Global, fault: VolumeFault) -> Result<Value, AllocError>
 }
 
 /// The volume.
-fn volume_value(alloc: Global, volume: &Volume) -> Result<Value, AllocError>
+pub(crate) fn volume_value(alloc: Global, volume: &Volume) -> Result<Value, AllocError>
     ensures { IfOk result (λ v. view v ≡ volume_data (volume_now volume.now)) }
 {
     match volume {
@@ -191,7 +191,7 @@ fn label_value(alloc: Global, label: &Label) -> Result<Value, AllocError>
 }
 
 /// The label, where the volume opens.
-fn label_in(alloc: Global, volume: &Volume) -> Result<Value, AllocError>
+pub(crate) fn label_in(alloc: Global, volume: &Volume) -> Result<Value, AllocError>
     ensures { IfOk result (λ v. view v ≡ label_data_of (volume_now volume.now)) }
 {
     match volume {
@@ -211,7 +211,11 @@ fn state_name(table: &BlockTable, block: u32) -> &'static str
 }
 
 /// A block to read again.
-fn reread_value(alloc: Global, table: &BlockTable, block: u32) -> Result<Value, AllocError>
+pub(crate) fn reread_value(
+    alloc: Global,
+    table: &BlockTable,
+    block: u32,
+) -> Result<Value, AllocError>
     ensures { IfOk result (λ v. view v ≡ reread_data (state_of table.now) block) }
 {
     let state = Value::try_from_str(alloc, state_name(table, block))?;

@@ -4,7 +4,7 @@ use std::alloc::Global;
 use std::test::Fail;
 use udfs_lattice::BlockTable;
 use udfs_reading::Writer;
-use udfs_salvage::{report_json, salvage, survey_volume, write_numbers, write_reread};
+use udfs_salvage::{report_json, salvage, survey_volume, write_json, write_numbers, write_reread};
 use udfs_samples::{Disc, LAST};
 
 /// The JSON of the empty table.
@@ -44,6 +44,33 @@ fn the_json_of_a_torn_file(rt: HostRuntime) -> Result<(), Fail> {
     let part =
         "{\"hidden\":false,\"holes\":[[2048,2048]],\"kind\":\"file\",\"missing\":[278],\"modified\":\"2001-07-04T09:30:00.000000Z\",\"path\":\"/A\",\"size\":5000,\"standing\":\"torn\"}";
     assert!(rt; text.as_str().contains(part), "{text}");
+    Ok(())
+}
+
+/// What is written of a survey.
+fn written(alloc: Global, table: &BlockTable) -> Result<String, Fail> {
+    let survey = survey_volume(alloc, table, LAST)?;
+    let mut text = Writer::new(Vec::new(alloc));
+    write_json(alloc, &survey, &mut text)?;
+    Ok(String::from_utf8(text.into_inner())?)
+}
+
+/// A survey keeps no blocks and holes of its torn nodes, and its JSON has them.
+#[test]
+fn the_json_of_surveys(rt: HostRuntime) -> Result<(), Fail> {
+    let alloc = rt.alloc();
+    let disc = Disc::type1(alloc)?;
+    let nothing = written(alloc, &BlockTable::new(alloc))?;
+    assert_eq!(rt;
+        nothing.as_str(),
+        format!(in alloc; "{NOTHING}\n")?.as_str()
+    );
+    let all = written(alloc, &disc.known_but(alloc, &[])?)?;
+    assert_eq!(rt; all.as_str(), format!(in alloc; "{ALL}\n")?.as_str());
+    let torn = written(alloc, &disc.known_but(alloc, &[278, 279])?)?;
+    let part =
+        "{\"hidden\":false,\"holes\":[[2048,2952]],\"kind\":\"file\",\"missing\":[278,279],\"modified\":\"2001-07-04T09:30:00.000000Z\",\"path\":\"/A\",\"size\":5000,\"standing\":\"torn\"}";
+    assert!(rt; torn.as_str().contains(part), "{torn}");
     Ok(())
 }
 

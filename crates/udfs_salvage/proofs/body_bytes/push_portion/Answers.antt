@@ -1,4 +1,3 @@
-use Rattle.std.proofs.Common.{sym, subst}
 use Rattle.udfs_salvage.proofs.BodyBytes.{bytes_portion, zeros_portion, missing_portion}
 use Rattle.udfs_salvage.proofs.body_bytes.push_portion.Goals as goal
 

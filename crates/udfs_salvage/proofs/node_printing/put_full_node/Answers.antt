@@ -1,12 +1,11 @@
-use Rattle.std.proofs.Common.{◌≡◌, ap, sym, subst}
+use Rattle.std.proofs.Common.{ap, subst}
 use Rattle.std.specs.String.{string_bytes}
 use Rattle.std.proofs.lemmas.Result.{err_from_is_err_and}
-use Rattle.udfs_reading.specs.Writing.{Passed}
 use Rattle.udfs_space.specs.Views.{view_now}
 use Rattle.udfs_walk.specs.Bare.{full_node}
 use Rattle.udfs_walk.specs.NodeFields.{NodeFields}
 use Rattle.udfs_salvage.specs.NodeTexts.{gap_lines, node_line}
-use Rattle.udfs_salvage.specs.Printing.{PassesOn, Stopped}
+use Rattle.udfs_salvage.specs.Printing.{PassesOn}
 use Rattle.udfs_salvage.proofs.FullTexts.{same_line}
 use Rattle.udfs_salvage.proofs.Printed.{passes_then, stopped_before}
 use Rattle.udfs_salvage.proofs.node_printing.put_full_node.Goals as goal

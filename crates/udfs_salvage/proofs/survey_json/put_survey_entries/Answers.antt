@@ -1,0 +1,25 @@
+use Rattle.std.proofs.Common.{◌≡◌, ◌∙◌, ap}
+use Rattle.std.specs.String.{string_bytes}
+use Rattle.serde_json.specs.Written.{compact_text, has_float}
+use Rattle.udfs_lattice.specs.Tables.{state_of}
+use Rattle.udfs_volume.specs.Answers.{found}
+use Rattle.udfs_salvage.specs.Found.{found_now, volume_now}
+use Rattle.udfs_salvage.specs.JsonNodes.{list_data, unnamed_data}
+use Rattle.udfs_salvage.specs.Surveys.{full_entries, survey_now}
+use Rattle.udfs_salvage.proofs.JsonFloats.{unnamed_none, none_in}
+use Rattle.udfs_salvage.proofs.JsonPieces.{survey_entries}
+use Rattle.udfs_salvage.proofs.Printed.{passes_same}
+use Rattle.udfs_salvage.proofs.survey_json.put_survey_entries.Goals as goal
+
+pub put_value-requires : goal.put_value-requires
+put_value-requires g c = ap has_float c.in_ok-value-in_default.ensures ∙ none_in (unnamed_data c.has_two-two.result) c.deref-in_default.result.now (unnamed_none c.has_two-two.result)
+
+pub returns-in-Open : goal.returns-in-Open
+returns-in-Open g c =
+    let W = g.W.Sink in
+    let s = c.args.survey.now in
+    let opened : volume_now s.volume ≡ found (found_now c.in-Open.opened) = ap volume_now c.in-Open.is in
+    passes_same (W.contents c.args.sink.now) (W.contents c.put_entries.new.sink) (W.faults c.args.sink.now) (W.faults c.put_entries.new.sink) (string_bytes c.args.text.now) (string_bytes c.put_entries.new.text) _ _ c.put_entries.result
+    (survey_entries (state_of s.table.now) (volume_now s.volume) (found_now c.in-Open.opened) c.has_two-two.result c.deref.result.now opened
+    ∙ ap (λ xs. compact_text (list_data (unnamed_data c.has_two-two.result) (full_entries (state_of s.table.now) (volume_now s.volume) xs))) c.deref.ensures.value
+    ∙ ap (λ b. compact_text (list_data (unnamed_data b) (survey_now s).unnamed)) c.has_two-two.ensures) c.put_entries.ensures

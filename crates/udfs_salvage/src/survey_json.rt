@@ -1,0 +1,564 @@
+//! The JSON of the report that a survey stands for is written in pieces: what is missing of a node is found where it is written.
+
+ghost use Rattle.std.specs.Prelude.{◌++◌, ◌∷◌, [], ◌≡◌, codes, false};
+ghost use Rattle.std.specs.String.{string_bytes};
+ghost use Rattle.serde_json.specs.View.{view as seen};
+ghost use Rattle.serde_json.specs.Written.{compact_text, has_float};
+ghost use Rattle.udfs_lattice.specs.Tables.{state_of};
+ghost use Rattle.udfs_space.specs.Views.{view_now};
+ghost use Rattle.udfs_walk.specs.Bare.{full_entry, full_node};
+ghost use Rattle.udfs_salvage.specs.Found.{volume_now};
+ghost use Rattle.udfs_salvage.specs.Printing.{PassesOn, Prints};
+ghost use Rattle.udfs_salvage.specs.JsonNodes.{count, hole_data, list_data, node_data, unnamed_data};
+ghost use Rattle.udfs_salvage.specs.JsonPieces.{entry_end, entry_front, kind_piece, more_values, node_end, node_front, report_end, report_front, told_piece};
+ghost use Rattle.udfs_salvage.specs.JsonReports.{json_text, reread_data};
+ghost use Rattle.udfs_salvage.specs.Surveys.{survey_now};
+ghost use Rattle.udfs_salvage.specs.Texts.{has_two, line};
+
+use crate::errors::RunError;
+use crate::json_nodes::{all_unnamed_value, hole_value, nodes_value};
+use crate::json_pieces::{
+    push_count, push_entry_end, push_entry_front, push_kind, push_node_end, push_node_front,
+    push_report_end, push_report_front, push_value,
+};
+use crate::json_reports::reread_value;
+use crate::lines::has_two;
+use crate::printing::{flush, pass_on};
+use crate::surveys::Survey;
+use crate::volumes::Volume;
+use serde_json::Value;
+use std::alloc::Global;
+use udfs_file::Kind;
+use udfs_lattice::BlockTable;
+use udfs_reading::Sink;
+use udfs_space::View;
+use udfs_walk::{Node, Standing, Unnamed, entry_address, full_standing};
+
+/// What stands between values.
+fn put_words<W: Sink>(text: &mut String, sink: &mut W, words: &str) -> Result<(), RunError>
+    ensures { PassesOn (W.contents sink.old) (W.contents sink.new) (W.faults sink.old) (W.faults sink.new) (string_bytes text.old) (string_bytes text.new) words.now result }
+{
+    text.push_str(words)?;
+    pass_on(text, sink)
+}
+
+/// A value, and what stands before it.
+fn put_value<W: Sink>(
+    alloc: Global,
+    text: &mut String,
+    sink: &mut W,
+    front: &str,
+    value: &Value,
+) -> Result<(), RunError>
+    requires { has_float (seen value.now) ≡ false }
+    ensures { PassesOn (W.contents sink.old) (W.contents sink.new) (W.faults sink.old) (W.faults sink.new) (string_bytes text.old) (string_bytes text.new) (front.now ++ compact_text (seen value.now)) result }
+{
+    push_value(alloc, text, front, value)?;
+    pass_on(text, sink)
+}
+
+/// A number of a block, and what stands before it.
+fn put_count<W: Sink>(
+    alloc: Global,
+    text: &mut String,
+    sink: &mut W,
+    front: &str,
+    block: u32,
+) -> Result<(), RunError>
+    ensures { PassesOn (W.contents sink.old) (W.contents sink.new) (W.faults sink.old) (W.faults sink.new) (string_bytes text.old) (string_bytes text.new) (front.now ++ compact_text (count block)) result }
+{
+    push_count(alloc, text, front, u64::from(block))?;
+    pass_on(text, sink)
+}
+
+/// Numbers of blocks behind others, each behind its comma.
+fn put_more_counts<W: Sink>(
+    alloc: Global,
+    text: &mut String,
+    sink: &mut W,
+    blocks: &[u32],
+) -> Result<(), RunError>
+    ensures { PassesOn (W.contents sink.old) (W.contents sink.new) (W.faults sink.old) (W.faults sink.new) (string_bytes text.old) (string_bytes text.new) (more_values count blocks.now) result }
+{
+    for block in blocks {
+        put_count(alloc, text, sink, ",", *block)?;
+    }
+    Ok(())
+}
+
+/// Numbers of blocks as a list.
+fn put_counts<W: Sink>(
+    alloc: Global,
+    text: &mut String,
+    sink: &mut W,
+    blocks: &[u32],
+) -> Result<(), RunError>
+    ensures { PassesOn (W.contents sink.old) (W.contents sink.new) (W.faults sink.old) (W.faults sink.new) (string_bytes text.old) (string_bytes text.new) (compact_text (list_data count blocks.now)) result }
+{
+    let Some((first, rest)) = blocks.split_first() else {
+        return put_words(text, sink, "[]");
+    };
+    put_count(alloc, text, sink, "[", *first)?;
+    put_more_counts(alloc, text, sink, rest)?;
+    put_words(text, sink, "]")
+}
+
+/// A run of missing bytes, and what stands before it.
+fn put_hole<W: Sink>(
+    alloc: Global,
+    text: &mut String,
+    sink: &mut W,
+    front: &str,
+    hole: (u64, u64),
+) -> Result<(), RunError>
+    ensures { PassesOn (W.contents sink.old) (W.contents sink.new) (W.faults sink.old) (W.faults sink.new) (string_bytes text.old) (string_bytes text.new) (front.now ++ compact_text (hole_data hole)) result }
+{
+    let value = hole_value(alloc, hole)?;
+    put_value(alloc, text, sink, front, &value)
+}
+
+/// Runs of missing bytes behind others, each behind its comma.
+fn put_more_holes<W: Sink>(
+    alloc: Global,
+    text: &mut String,
+    sink: &mut W,
+    holes: &[(u64, u64)],
+) -> Result<(), RunError>
+    ensures { PassesOn (W.contents sink.old) (W.contents sink.new) (W.faults sink.old) (W.faults sink.new) (string_bytes text.old) (string_bytes text.new) (more_values hole_data holes.now) result }
+{
+    for hole in holes {
+        put_hole(alloc, text, sink, ",", *hole)?;
+    }
+    Ok(())
+}
+
+/// Runs of missing bytes as a list.
+fn put_holes<W: Sink>(
+    alloc: Global,
+    text: &mut String,
+    sink: &mut W,
+    holes: &[(u64, u64)],
+) -> Result<(), RunError>
+    ensures { PassesOn (W.contents sink.old) (W.contents sink.new) (W.faults sink.old) (W.faults sink.new) (string_bytes text.old) (string_bytes text.new) (compact_text (list_data hole_data holes.now)) result }
+{
+    let Some((first, rest)) = holes.split_first() else {
+        return put_words(text, sink, "[]");
+    };
+    put_hole(alloc, text, sink, "[", *first)?;
+    put_more_holes(alloc, text, sink, rest)?;
+    put_words(text, sink, "]")
+}
+
+/// A block to read again, and what stands before it.
+fn put_reread<W: Sink>(
+    alloc: Global,
+    text: &mut String,
+    sink: &mut W,
+    table: &BlockTable,
+    front: &str,
+    block: u32,
+) -> Result<(), RunError>
+    ensures { PassesOn (W.contents sink.old) (W.contents sink.new) (W.faults sink.old) (W.faults sink.new) (string_bytes text.old) (string_bytes text.new) (front.now ++ compact_text (reread_data (state_of table.now) block)) result }
+{
+    let value = reread_value(alloc, table, block)?;
+    put_value(alloc, text, sink, front, &value)
+}
+
+/// Blocks to read again behind others, each behind its comma.
+fn put_more_rereads<W: Sink>(
+    alloc: Global,
+    text: &mut String,
+    sink: &mut W,
+    table: &BlockTable,
+    blocks: &[u32],
+) -> Result<(), RunError>
+    ensures { PassesOn (W.contents sink.old) (W.contents sink.new) (W.faults sink.old) (W.faults sink.new) (string_bytes text.old) (string_bytes text.new) (more_values (reread_data (state_of table.now)) blocks.now) result }
+{
+    for block in blocks {
+        put_reread(alloc, text, sink, table, ",", *block)?;
+    }
+    Ok(())
+}
+
+/// Blocks to read again as a list.
+fn put_rereads<W: Sink>(
+    alloc: Global,
+    text: &mut String,
+    sink: &mut W,
+    table: &BlockTable,
+    blocks: &[u32],
+) -> Result<(), RunError>
+    ensures { PassesOn (W.contents sink.old) (W.contents sink.new) (W.faults sink.old) (W.faults sink.new) (string_bytes text.old) (string_bytes text.new) (compact_text (list_data (reread_data (state_of table.now)) blocks.now)) result }
+{
+    let Some((first, rest)) = blocks.split_first() else {
+        return put_words(text, sink, "[]");
+    };
+    put_reread(alloc, text, sink, table, "[", *first)?;
+    put_more_rereads(alloc, text, sink, table, rest)?;
+    put_words(text, sink, "]")
+}
+
+/// What stands between the holes and the missing blocks.
+fn put_kind<W: Sink>(
+    alloc: Global,
+    text: &mut String,
+    sink: &mut W,
+    kind: Kind,
+) -> Result<(), RunError>
+    ensures { PassesOn (W.contents sink.old) (W.contents sink.new) (W.faults sink.old) (W.faults sink.new) (string_bytes text.old) (string_bytes text.new) (kind_piece kind) result }
+{
+    push_kind(alloc, text, kind)?;
+    pass_on(text, sink)
+}
+
+/// These holes, the kind, and these missing blocks.
+fn put_lists<W: Sink>(
+    alloc: Global,
+    text: &mut String,
+    sink: &mut W,
+    holes: &[(u64, u64)],
+    kind: Kind,
+    missing: &[u32],
+) -> Result<(), RunError>
+    ensures { PassesOn (W.contents sink.old) (W.contents sink.new) (W.faults sink.old) (W.faults sink.new) (string_bytes text.old) (string_bytes text.new)
+        (compact_text (list_data hole_data holes.now) ++ (kind_piece kind ++ compact_text (list_data count missing.now))) result }
+{
+    put_holes(alloc, text, sink, holes)?;
+    put_kind(alloc, text, sink, kind)?;
+    put_counts(alloc, text, sink, missing)
+}
+
+/// The holes, the kind, and the missing blocks of what stands so.
+fn put_told<W: Sink>(
+    alloc: Global,
+    text: &mut String,
+    sink: &mut W,
+    standing: &Standing,
+    kind: Kind,
+) -> Result<(), RunError>
+    ensures { PassesOn (W.contents sink.old) (W.contents sink.new) (W.faults sink.old) (W.faults sink.new) (string_bytes text.old) (string_bytes text.new) (told_piece standing.now kind) result }
+{
+    match standing {
+        Standing::Torn(torn) => put_lists(alloc, text, sink, &torn.holes, kind, &torn.missing),
+        _ => put_lists(alloc, text, sink, &[], kind, &[]),
+    }
+}
+
+/// The object of a node up to its holes, and what stands before it.
+fn put_node_front<W: Sink>(
+    text: &mut String,
+    sink: &mut W,
+    front: &str,
+    hidden: bool,
+) -> Result<(), RunError>
+    ensures { PassesOn (W.contents sink.old) (W.contents sink.new) (W.faults sink.old) (W.faults sink.new) (string_bytes text.old) (string_bytes text.new) (front.now ++ node_front hidden) result }
+{
+    text.push_str(front)?;
+    push_node_front(text, hidden)?;
+    pass_on(text, sink)
+}
+
+/// The object of a node behind its missing blocks.
+fn put_node_end<W: Sink>(
+    alloc: Global,
+    text: &mut String,
+    sink: &mut W,
+    node: &Node,
+) -> Result<(), RunError>
+    ensures { PassesOn (W.contents sink.old) (W.contents sink.new) (W.faults sink.old) (W.faults sink.new) (string_bytes text.old) (string_bytes text.new) (node_end node.now) result }
+{
+    push_node_end(alloc, text, node)?;
+    pass_on(text, sink)
+}
+
+/// A node without its blocks and holes, with those, and what stands before it.
+fn put_node<W: Sink>(
+    alloc: Global,
+    text: &mut String,
+    sink: &mut W,
+    view: View<'_>,
+    front: &str,
+    node: &Node,
+) -> Result<(), RunError>
+    ensures { PassesOn (W.contents sink.old) (W.contents sink.new) (W.faults sink.old) (W.faults sink.new) (string_bytes text.old) (string_bytes text.new) (front.now ++ compact_text (node_data (full_node (view_now view.entry) node.now))) result }
+{
+    let full = full_standing(alloc, view, node.icb, &node.standing)?;
+    put_node_front(text, sink, front, node.hidden)?;
+    put_told(alloc, text, sink, &full, node.kind)?;
+    put_node_end(alloc, text, sink, node)
+}
+
+/// Nodes without their blocks and holes, with those, behind others, each behind its comma.
+fn put_more_nodes<W: Sink>(
+    alloc: Global,
+    text: &mut String,
+    sink: &mut W,
+    view: View<'_>,
+    nodes: &[Node],
+) -> Result<(), RunError>
+    ensures { PassesOn (W.contents sink.old) (W.contents sink.new) (W.faults sink.old) (W.faults sink.new) (string_bytes text.old) (string_bytes text.new) (more_values (λ n. node_data (full_node (view_now view.entry) n)) nodes.now) result }
+{
+    for node in nodes {
+        put_node(alloc, text, sink, view, ",", node)?;
+    }
+    Ok(())
+}
+
+/// Nodes without their blocks and holes, with those, as a list.
+fn put_nodes<W: Sink>(
+    alloc: Global,
+    text: &mut String,
+    sink: &mut W,
+    view: View<'_>,
+    nodes: &[Node],
+) -> Result<(), RunError>
+    ensures { PassesOn (W.contents sink.old) (W.contents sink.new) (W.faults sink.old) (W.faults sink.new) (string_bytes text.old) (string_bytes text.new) (compact_text (list_data (λ n. node_data (full_node (view_now view.entry) n)) nodes.now)) result }
+{
+    let Some((first, rest)) = nodes.split_first() else {
+        return put_words(text, sink, "[]");
+    };
+    put_node(alloc, text, sink, view, "[", first)?;
+    put_more_nodes(alloc, text, sink, view, rest)?;
+    put_words(text, sink, "]")
+}
+
+/// The object of an entry that no name leads to, up to its holes, and what stands before it.
+fn put_entry_front<W: Sink>(
+    alloc: Global,
+    text: &mut String,
+    sink: &mut W,
+    front: &str,
+    block: u32,
+) -> Result<(), RunError>
+    ensures { PassesOn (W.contents sink.old) (W.contents sink.new) (W.faults sink.old) (W.faults sink.new) (string_bytes text.old) (string_bytes text.new) (front.now ++ entry_front block) result }
+{
+    text.push_str(front)?;
+    push_entry_front(alloc, text, block)?;
+    pass_on(text, sink)
+}
+
+/// The object of an entry that no name leads to, behind its missing blocks.
+fn put_entry_end<W: Sink>(
+    alloc: Global,
+    text: &mut String,
+    sink: &mut W,
+    two: bool,
+    entry: &Unnamed,
+) -> Result<(), RunError>
+    ensures { PassesOn (W.contents sink.old) (W.contents sink.new) (W.faults sink.old) (W.faults sink.new) (string_bytes text.old) (string_bytes text.new) (entry_end two entry.now) result }
+{
+    push_entry_end(alloc, text, two, entry)?;
+    pass_on(text, sink)
+}
+
+/// An entry without its blocks and holes, with those, and what stands before it.
+fn put_entry<W: Sink>(
+    alloc: Global,
+    text: &mut String,
+    sink: &mut W,
+    view: View<'_>,
+    two: bool,
+    front: &str,
+    entry: &Unnamed,
+) -> Result<(), RunError>
+    ensures { PassesOn (W.contents sink.old) (W.contents sink.new) (W.faults sink.old) (W.faults sink.new) (string_bytes text.old) (string_bytes text.new) (front.now ++ compact_text (unnamed_data two (full_entry (view_now view.entry) entry.now))) result }
+{
+    let address = entry_address(entry.reference, entry.block);
+    let full = full_standing(alloc, view, address, &entry.standing)?;
+    put_entry_front(alloc, text, sink, front, entry.block)?;
+    put_told(alloc, text, sink, &full, entry.kind)?;
+    put_entry_end(alloc, text, sink, two, entry)
+}
+
+/// Entries without their blocks and holes, with those, behind others, each behind its comma.
+fn put_more_entries<W: Sink>(
+    alloc: Global,
+    text: &mut String,
+    sink: &mut W,
+    view: View<'_>,
+    two: bool,
+    entries: &[Unnamed],
+) -> Result<(), RunError>
+    ensures { PassesOn (W.contents sink.old) (W.contents sink.new) (W.faults sink.old) (W.faults sink.new) (string_bytes text.old) (string_bytes text.new) (more_values (λ u. unnamed_data two (full_entry (view_now view.entry) u)) entries.now) result }
+{
+    for entry in entries {
+        put_entry(alloc, text, sink, view, two, ",", entry)?;
+    }
+    Ok(())
+}
+
+/// Entries without their blocks and holes, with those, as a list.
+fn put_entries<W: Sink>(
+    alloc: Global,
+    text: &mut String,
+    sink: &mut W,
+    view: View<'_>,
+    two: bool,
+    entries: &[Unnamed],
+) -> Result<(), RunError>
+    ensures { PassesOn (W.contents sink.old) (W.contents sink.new) (W.faults sink.old) (W.faults sink.new) (string_bytes text.old) (string_bytes text.new) (compact_text (list_data (λ u. unnamed_data two (full_entry (view_now view.entry) u)) entries.now)) result }
+{
+    let Some((first, rest)) = entries.split_first() else {
+        return put_words(text, sink, "[]");
+    };
+    put_entry(alloc, text, sink, view, two, "[", first)?;
+    put_more_entries(alloc, text, sink, view, two, rest)?;
+    put_words(text, sink, "]")
+}
+
+/// The list of the nodes.
+fn put_survey_nodes<W: Sink>(
+    alloc: Global,
+    text: &mut String,
+    sink: &mut W,
+    survey: &Survey<'_>,
+) -> Result<(), RunError>
+    ensures { PassesOn (W.contents sink.old) (W.contents sink.new) (W.faults sink.old) (W.faults sink.new) (string_bytes text.old) (string_bytes text.new) (compact_text (list_data node_data (survey_now survey.now).nodes)) result }
+{
+    match &survey.volume {
+        Volume::Open(opened) => {
+            let view = View {
+                table: survey.table,
+                space: &opened.space,
+            };
+            put_nodes(alloc, text, sink, view, &survey.nodes)
+        }
+        _ => {
+            let value = nodes_value(alloc, &survey.nodes)?;
+            put_value(alloc, text, sink, "", &value)
+        }
+    }
+}
+
+/// The list of the entries that no name leads to.
+fn put_survey_entries<W: Sink>(
+    alloc: Global,
+    text: &mut String,
+    sink: &mut W,
+    survey: &Survey<'_>,
+) -> Result<(), RunError>
+    ensures { PassesOn (W.contents sink.old) (W.contents sink.new) (W.faults sink.old) (W.faults sink.new) (string_bytes text.old) (string_bytes text.new)
+        (compact_text (list_data (unnamed_data (has_two (volume_now survey.now.volume))) (survey_now survey.now).unnamed)) result }
+{
+    let two = has_two(&survey.volume);
+    match &survey.volume {
+        Volume::Open(opened) => {
+            let view = View {
+                table: survey.table,
+                space: &opened.space,
+            };
+            put_entries(alloc, text, sink, view, two, &survey.unnamed)
+        }
+        _ => {
+            let value = all_unnamed_value(alloc, two, &survey.unnamed)?;
+            put_value(alloc, text, sink, "", &value)
+        }
+    }
+}
+
+/// The object up to its nodes.
+fn put_front<W: Sink>(
+    alloc: Global,
+    text: &mut String,
+    sink: &mut W,
+    survey: &Survey<'_>,
+) -> Result<(), RunError>
+    ensures { PassesOn (W.contents sink.old) (W.contents sink.new) (W.faults sink.old) (W.faults sink.new) (string_bytes text.old) (string_bytes text.new)
+        (report_front survey.now.table.now survey.now.last (volume_now survey.now.volume)) result }
+{
+    push_report_front(alloc, text, survey.table, survey.last, &survey.volume)?;
+    pass_on(text, sink)
+}
+
+/// The object behind its entries that no name leads to.
+fn put_end<W: Sink>(
+    alloc: Global,
+    text: &mut String,
+    sink: &mut W,
+    volume: &Volume,
+) -> Result<(), RunError>
+    ensures { PassesOn (W.contents sink.old) (W.contents sink.new) (W.faults sink.old) (W.faults sink.new) (string_bytes text.old) (string_bytes text.new) (report_end (volume_now volume.now)) result }
+{
+    push_report_end(alloc, text, volume)?;
+    pass_on(text, sink)
+}
+
+/// The entries that no name leads to, and the end of the object, with a line feed.
+fn put_last<W: Sink>(
+    alloc: Global,
+    text: &mut String,
+    sink: &mut W,
+    survey: &Survey<'_>,
+) -> Result<(), RunError>
+    ensures { PassesOn (W.contents sink.old) (W.contents sink.new) (W.faults sink.old) (W.faults sink.new) (string_bytes text.old) (string_bytes text.new)
+        (compact_text (list_data (unnamed_data (has_two (volume_now survey.now.volume))) (survey_now survey.now).unnamed)
+        ++ (report_end (volume_now survey.now.volume) ++ codes "\n")) result }
+{
+    put_survey_entries(alloc, text, sink, survey)?;
+    put_end(alloc, text, sink, &survey.volume)?;
+    put_words(text, sink, "\n")
+}
+
+/// The blocks to read again, and all behind them.
+fn put_later<W: Sink>(
+    alloc: Global,
+    text: &mut String,
+    sink: &mut W,
+    survey: &Survey<'_>,
+) -> Result<(), RunError>
+    ensures { PassesOn (W.contents sink.old) (W.contents sink.new) (W.faults sink.old) (W.faults sink.new) (string_bytes text.old) (string_bytes text.new)
+        (compact_text (list_data (reread_data (state_of survey.now.table.now)) survey.now.reread.items)
+        ++ (codes ",\"unnamed\":" ++ (compact_text (list_data (unnamed_data (has_two (volume_now survey.now.volume))) (survey_now survey.now).unnamed)
+        ++ (report_end (volume_now survey.now.volume) ++ codes "\n")))) result }
+{
+    put_rereads(alloc, text, sink, survey.table, &survey.reread)?;
+    put_words(text, sink, ",\"unnamed\":")?;
+    put_last(alloc, text, sink, survey)
+}
+
+/// The nodes, and all behind them.
+fn put_lists_of<W: Sink>(
+    alloc: Global,
+    text: &mut String,
+    sink: &mut W,
+    survey: &Survey<'_>,
+) -> Result<(), RunError>
+    ensures { PassesOn (W.contents sink.old) (W.contents sink.new) (W.faults sink.old) (W.faults sink.new) (string_bytes text.old) (string_bytes text.new)
+        (compact_text (list_data node_data (survey_now survey.now).nodes)
+        ++ (codes ",\"reread\":" ++ (compact_text (list_data (reread_data (state_of survey.now.table.now)) survey.now.reread.items)
+        ++ (codes ",\"unnamed\":" ++ (compact_text (list_data (unnamed_data (has_two (volume_now survey.now.volume))) (survey_now survey.now).unnamed)
+        ++ (report_end (volume_now survey.now.volume) ++ codes "\n")))))) result }
+{
+    put_survey_nodes(alloc, text, sink, survey)?;
+    put_words(text, sink, ",\"reread\":")?;
+    put_later(alloc, text, sink, survey)
+}
+
+/// All of it.
+fn put_survey<W: Sink>(
+    alloc: Global,
+    text: &mut String,
+    sink: &mut W,
+    survey: &Survey<'_>,
+) -> Result<(), RunError>
+    ensures { PassesOn (W.contents sink.old) (W.contents sink.new) (W.faults sink.old) (W.faults sink.new) (string_bytes text.old) (string_bytes text.new)
+        (line (json_text survey.now.table.now survey.now.last (survey_now survey.now))) result }
+{
+    put_front(alloc, text, sink, survey)?;
+    put_lists_of(alloc, text, sink, survey)
+}
+
+/// Writes the JSON of the report that a survey stands for, and a line feed: the text that [`report_json`](crate::report_json)
+/// answers for the report. The blocks and holes of one node are held at a time, and no value of the whole report.
+///
+/// # Errors
+///
+/// `Write` exactly where the sink failed, and `OutOfMemory` where memory is refused. Then a beginning of the text is out.
+pub fn write_json<W: Sink>(alloc: Global, survey: &Survey<'_>, sink: &mut W) -> Result<(), RunError>
+    ensures { Prints (W.contents sink.old) (W.contents sink.new) (W.faults sink.old) (W.faults sink.new)
+        (line (json_text survey.now.table.now survey.now.last (survey_now survey.now))) result }
+{
+    let mut text = String::new(alloc);
+    put_survey(alloc, &mut text, sink, survey)?;
+    flush(&mut text, sink)
+}
