@@ -1,0 +1,3 @@
+//! Values worked out by hand, each function once.
+
+mod figures;
