@@ -1,4 +1,4 @@
-use Rattle.std.proofs.Common.{arith, ◌≡◌, ◌++◌, subst}
+use Rattle.std.proofs.Common.{arith, ◌≡◌, subst}
 use Rattle.std.specs.Prelude.{OnOk}
 use Rattle.std.specs.String.{string_bytes}
 use Rattle.udfs_overview.proofs.Commas.{grouped_small, grouped_appended}

@@ -1,8 +1,8 @@
-use Rattle.std.proofs.Common.{arith, ◌≡◌, ◌++◌, ap, sym, subst}
+use Rattle.std.proofs.Common.{arith, ◌≡◌, ◌++◌, sym, subst}
 use Rattle.std.specs.Prelude.{OnOk}
 use Rattle.std.proofs.Math.Nat.{div-le_self}
 use Rattle.std.specs.String.{string_bytes}
-use Rattle.udfs_overview.proofs.Rounding.{percent_below, percent_above}
+use Rattle.udfs_overview.proofs.Rounding.{percent_above}
 use Rattle.udfs_overview.proofs.figures.push_percent.Goals as goal
 
 pub returns : goal.returns

@@ -1,4 +1,4 @@
-use Rattle.std.proofs.Common.{arith, ◌+◌, ◌*◌, ◌/◌, ◌%◌, ◌^◌, ap, sym, subst, ◌≡◌, ◌∙◌}
+use Rattle.std.proofs.Common.{arith, ◌+◌, ◌*◌, ◌/◌, ◌%◌, ap, sym, ◌≡◌, ◌∙◌}
 use Rattle.std.proofs.lemmas.Nat.{div-add-mod'}
 use Rattle.udfs_overview.specs.Figures.{rounded}
 use Rattle.udfs_overview.proofs.Rounding.{rounded_behind}

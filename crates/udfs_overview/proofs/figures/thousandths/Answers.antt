@@ -1,5 +1,4 @@
-use Rattle.std.proofs.Common.{arith, ◌+◌, ◌*◌, ◌≡◌, ◌∙◌, ap, sym}
-use Rattle.udfs_overview.specs.Figures.{rounded}
+use Rattle.std.proofs.Common.{arith, ◌+◌, ◌*◌, ◌∙◌, ap, sym}
 use Rattle.udfs_overview.proofs.Rounding.{rounded_behind, rounded_down, rounded_up}
 use Rattle.udfs_overview.proofs.figures.thousandths.Goals as goal
 

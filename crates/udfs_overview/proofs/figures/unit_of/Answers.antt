@@ -1,4 +1,4 @@
-use Rattle.std.proofs.Common.{arith, rules, ◌≡◌, sym}
+use Rattle.std.proofs.Common.{arith, rules}
 use Rattle.udfs_overview.proofs.Rounding.{first_unit}
 use Rattle.udfs_overview.proofs.figures.unit_of.Goals as goal
 
