@@ -1,2 +1,6 @@
+mod Choices
 mod Commas
 mod Rounding
+mod SafeParts
+mod SafeShowing
+mod SafeTelling

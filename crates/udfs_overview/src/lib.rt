@@ -3,8 +3,10 @@
 #![tactic(auto)]
 
 mod figures;
+mod safe_names;
 
 pub use figures::{push_grouped, push_percent, push_size};
+pub use safe_names::{push_safe_name, safe_names_are_safe, safe_names_tell_units};
 
 #[cfg(test)]
 mod tests;
