@@ -1,5 +1,9 @@
 mod Choices
 mod Commas
+mod Passing
+mod Places
+mod PathNames
+mod Printed
 mod Rounding
 mod SafeParts
 mod SafeShowing

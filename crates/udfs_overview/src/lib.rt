@@ -3,9 +3,13 @@
 #![tactic(auto)]
 
 mod figures;
+mod node_columns;
+mod node_list;
+mod pieces;
 mod safe_names;
 
 pub use figures::{push_grouped, push_percent, push_size};
+pub use node_list::{ListForm, write_list};
 pub use safe_names::{push_safe_name, safe_names_are_safe, safe_names_tell_units};
 
 #[cfg(test)]
