@@ -2,7 +2,7 @@
 --     lost_of n                what of a node is lost, in bytes
 --     list_line form n         the line of a node
 --     list_text form nodes     the lines of all nodes behind the root that are asked for
-use Rattle.std.specs.Prelude.{ℕ, ◌&&◌, Bool, List, [], ◌∷◌, ◌++◌, drop, flat_map, sum_by, Option, Some, None, codes, decimal, if◌then◌else◌}
+use Rattle.std.specs.Prelude.{ℕ, ◌&&◌, List, [], ◌∷◌, ◌++◌, drop, flat_map, sum_by, Option, Some, None, codes, decimal, if◌then◌else◌}
 use Rattle.udfs_osta.specs.StampTexts.{stamp_text}
 use Rattle.udfs_osta.specs.declared.stamps.Stamp.{Stamp}
 use Rattle.udfs_file.specs.declared.faults.Kind.{Kind}
@@ -72,9 +72,13 @@ told_columns s k size stamp =
 abbrev pub line_end : ListForm → List ℕ
 line_end form = if form.null then 0 ∷ [] else 10 ∷ []
 
--- the line of a node: its columns and its path, or its path alone
+-- what stands before the path: nothing where paths alone are asked for
+abbrev pub front_columns : ListForm → NodeFields → List ℕ
+front_columns form n = if form.paths then [] else told_columns n.standing n.kind n.size n.stamp
+
+-- the line of a node
 unfoldable pub list_line : ListForm → NodeFields → List ℕ
-list_line form n = (if form.paths then [] else told_columns n.standing n.kind n.size n.stamp) ++ safe_path n.path ++ line_end form
+list_line form n = front_columns form n ++ safe_path n.path ++ line_end form
 
 -- a whole node is left out where only others are asked for
 unfoldable pub listed : ListForm → NodeFields → List ℕ

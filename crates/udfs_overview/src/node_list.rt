@@ -6,7 +6,7 @@ ghost use Rattle.udfs_space.specs.Views.{view_now};
 ghost use Rattle.udfs_walk.specs.Bare.{full_node, node_with};
 ghost use Rattle.udfs_salvage.specs.Printing.{PassesOn, Prints};
 ghost use Rattle.udfs_salvage.specs.Surveys.{survey_now};
-ghost use Rattle.udfs_overview.specs.NodeLists.{line_end, list_line, list_text, listed};
+ghost use Rattle.udfs_overview.specs.NodeLists.{front_columns, line_end, list_line, list_text, listed};
 
 use crate::node_columns::{is_whole, push_safe_path, push_told};
 use crate::pieces::{flush, pass_on};
@@ -39,26 +39,50 @@ fn push_end(text: &mut String, form: ListForm) -> Result<(), OutOfMemory>
     }
 }
 
-/// The columns of a node, and its path.
-fn push_columns(text: &mut String, form: ListForm, node: &Node, standing: &Standing) -> Result<(), OutOfMemory>
+/// What stands before the path.
+fn push_front(
+    text: &mut String,
+    form: ListForm,
+    node: &Node,
+    standing: &Standing,
+) -> Result<(), OutOfMemory>
+    ensures { OnOk result (string_bytes text.new ≡ string_bytes text.old ++ front_columns form (node_with node.now standing.now)) }
+{
+    if form.paths {
+        return Ok(());
+    }
+    push_told(text, standing, node.kind, node.size, node.stamp)
+}
+
+/// The line of a node with this standing.
+#[tactic(auto, unfolding(crate::specs::NodeLists::list_line))]
+fn push_line(
+    text: &mut String,
+    form: ListForm,
+    node: &Node,
+    standing: &Standing,
+) -> Result<(), OutOfMemory>
     ensures { OnOk result (string_bytes text.new ≡ string_bytes text.old ++ list_line form (node_with node.now standing.now)) }
 {
-    if !form.paths {
-        push_told(text, standing, node.kind, node.size, node.stamp)?;
-    }
+    push_front(text, form, node, standing)?;
     push_safe_path(text, &node.path)?;
     push_end(text, form)
 }
 
 /// The line of a node with this standing, if it is asked for.
 #[tactic(auto, unfolding(crate::specs::NodeLists::listed))]
-fn push_listed(text: &mut String, form: ListForm, node: &Node, standing: &Standing) -> Result<(), OutOfMemory>
+fn push_listed(
+    text: &mut String,
+    form: ListForm,
+    node: &Node,
+    standing: &Standing,
+) -> Result<(), OutOfMemory>
     ensures { OnOk result (string_bytes text.new ≡ string_bytes text.old ++ listed form (node_with node.now standing.now)) }
 {
     if form.torn && is_whole(standing) {
         return Ok(());
     }
-    push_columns(text, form, node, standing)
+    push_line(text, form, node, standing)
 }
 
 /// The line of a node with this standing, if it is asked for.
@@ -136,6 +160,34 @@ fn behind_root(nodes: &[Node]) -> &[Node]
     }
 }
 
+/// The lines of all nodes behind the root.
+fn put_all<W: Sink>(
+    text: &mut String,
+    sink: &mut W,
+    form: ListForm,
+    nodes: &[Node],
+) -> Result<(), RunError>
+    ensures { PassesOn (W.contents sink.old) (W.contents sink.new) (W.faults sink.old) (W.faults sink.new) (string_bytes text.old) (string_bytes text.new)
+        (list_text form nodes.now) result }
+{
+    put_nodes(text, sink, form, behind_root(nodes))
+}
+
+/// The lines of all nodes behind the root, which are without their blocks and holes, with those.
+fn put_full_all<W: Sink>(
+    alloc: Global,
+    text: &mut String,
+    sink: &mut W,
+    view: View<'_>,
+    form: ListForm,
+    nodes: &[Node],
+) -> Result<(), RunError>
+    ensures { PassesOn (W.contents sink.old) (W.contents sink.new) (W.faults sink.old) (W.faults sink.new) (string_bytes text.old) (string_bytes text.new)
+        (list_text form (map (full_node (view_now view.entry)) nodes.now)) result }
+{
+    put_full_nodes(alloc, text, sink, view, form, behind_root(nodes))
+}
+
 /// All lines.
 fn put_list<W: Sink>(
     alloc: Global,
@@ -147,16 +199,15 @@ fn put_list<W: Sink>(
     ensures { PassesOn (W.contents sink.old) (W.contents sink.new) (W.faults sink.old) (W.faults sink.new) (string_bytes text.old) (string_bytes text.new)
         (list_text form (survey_now survey.now).nodes) result }
 {
-    let nodes = behind_root(&survey.nodes);
     match &survey.volume {
         Volume::Open(opened) => {
             let view = View {
                 table: survey.table,
                 space: &opened.space,
             };
-            put_full_nodes(alloc, text, sink, view, form, nodes)
+            put_full_all(alloc, text, sink, view, form, &survey.nodes)
         }
-        _ => put_nodes(text, sink, form, nodes),
+        _ => put_all(text, sink, form, &survey.nodes),
     }
 }
 

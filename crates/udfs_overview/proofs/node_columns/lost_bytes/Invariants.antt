@@ -1,4 +1,4 @@
-use Rattle.std.proofs.Common.{ℕ, ◌≡◌, ◌*◌, ◌≤◌, ◌^◌, take}
+use Rattle.std.proofs.Common.{◌≡◌, ◌*◌, ◌≤◌, ◌^◌, take}
 use Rattle.udfs_overview.specs.NodeLists.{lost_bytes}
 use Rattle.udfs_overview.proofs.node_columns.lost_bytes.Given as goal
 

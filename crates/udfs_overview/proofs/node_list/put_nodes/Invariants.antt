@@ -1,9 +1,7 @@
-use Rattle.std.proofs.Common.{map, take}
+use Rattle.std.proofs.Common.{take}
 use Rattle.std.specs.Prelude.{flat_map}
 use Rattle.std.specs.String.{string_bytes}
 use Rattle.udfs_reading.specs.Writing.{Passed}
-use Rattle.udfs_space.specs.Views.{view_now}
-use Rattle.udfs_walk.specs.Bare.{full_node}
 use Rattle.udfs_overview.specs.NodeLists.{listed}
 use Rattle.udfs_overview.proofs.node_list.put_nodes.Given as goal
 
