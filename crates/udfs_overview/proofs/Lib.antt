@@ -1,0 +1,10 @@
+mod Choices
+mod Commas
+mod Passing
+mod Places
+mod PathNames
+mod Printed
+mod Rounding
+mod SafeParts
+mod SafeShowing
+mod SafeTelling

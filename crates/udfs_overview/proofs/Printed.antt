@@ -1,0 +1,104 @@
+-- Text behind text: what is passed on, and what is out where an error comes.
+use Rattle.std.proofs.Common.{◌≡◌, sym, ap, subst, ◌∙◌, ℕ, ◌+◌, ◌<◌, List, [], ◌∷◌, ◌++◌, length, take, drop, get_or, append_assoc, append-nil, take-append-drop}
+use Rattle.std.specs.Prelude.{Result, Ok, Err, Option}
+use Rattle.std.specs.List.{flat_map}
+use Rattle.std.proofs.lemmas.List.{take_more}
+use Rattle.std.proofs.lemmas.List.Concat.{flat_map-append}
+use Rattle.std.specs.Io.KnownBytes.{Appends}
+use Rattle.std.proofs.KnownBytes.{Appends-trans}
+use Rattle.udfs_reading.specs.Writing.{Passed}
+use Rattle.udfs_salvage.specs.Printing.{CountsBy, Stopped, PassesOn, Prints}
+use Rattle.udfs_salvage.specs.declared.errors.RunError.{RunError}
+use Rattle.udfs_overview.proofs.Passing.{passed_then}
+
+-- it stopped in a later text
+pub stopped_then : {a b c : Option (List ℕ)} {i j k : ℕ} {p q x : List ℕ} (y : List ℕ) {e : RunError} → Passed a b i j p q x → Stopped b c j k (q ++ y) e → Stopped a c i k (p ++ (x ++ y)) e
+stopped_then {a} {b} {c} {i} {j} {k} {p} {q} {x} y {e} h g =
+    record {
+      out = h.out ++ g.out;
+      rest = g.rest;
+      given = Appends-trans a b c h.out g.out h.given g.given;
+      whole = sym (append_assoc p x y) ∙ ap (λ (l : List ℕ). l ++ y) h.whole ∙ append_assoc h.out q y ∙ ap (λ (l : List ℕ). h.out ++ l) g.whole ∙ sym (append_assoc h.out g.out g.rest);
+      count = subst (λ (n : ℕ). CountsBy n k e) h.kept g.count;
+    }
+
+-- and more was to come
+pub stopped_more : {a b : Option (List ℕ)} {i j : ℕ} {x : List ℕ} {e : RunError} (y : List ℕ) → Stopped a b i j x e → Stopped a b i j (x ++ y) e
+stopped_more {x = x} y h =
+    record {
+      out = h.out;
+      rest = h.rest ++ y;
+      given = h.given;
+      whole = ap (λ (l : List ℕ). l ++ y) h.whole ∙ append_assoc h.out h.rest y;
+      count = h.count;
+    }
+
+-- ---- the pieces of a list
+
+pub pieces_more : {A : Type 0} (f : A → List ℕ) (xs : List A) (i : ℕ) (d : A) → i < length xs
+    → flat_map f (take i xs) ++ f (get_or xs i d) ≡ flat_map f (take (i + 1) xs)
+pieces_more f xs i d l =
+    ap (λ (z : List ℕ). flat_map f (take i xs) ++ z) (sym (append-nil (f (get_or xs i d))))
+    ∙ sym (flat_map-append f (take i xs) (get_or xs i d ∷ []))
+    ∙ ap (flat_map f) (sym (take_more xs i d l))
+
+-- the pieces before one, it, and those behind it
+pub pieces_at : {A : Type 0} (f : A → List ℕ) (xs : List A) (i : ℕ) (d : A) → i < length xs
+    → flat_map f (take i xs) ++ (f (get_or xs i d) ++ flat_map f (drop (i + 1) xs)) ≡ flat_map f xs
+pieces_at f xs i d l =
+    sym (append_assoc (flat_map f (take i xs)) (f (get_or xs i d)) (flat_map f (drop (i + 1) xs)))
+    ∙ ap (λ (l : List ℕ). l ++ flat_map f (drop (i + 1) xs)) (pieces_more f xs i d l)
+    ∙ sym (flat_map-append f (take (i + 1) xs) (drop (i + 1) xs))
+    ∙ ap (flat_map f) (take-append-drop (i + 1) xs)
+
+-- one more piece was passed on
+pub passed_piece : {A : Type 0} {a b c : Option (List ℕ)} {i j k : ℕ} {p q r : List ℕ} (f : A → List ℕ) (xs : List A) (n : ℕ) (d : A) → n < length xs
+    → Passed a b i j p q (flat_map f (take n xs)) → Passed b c j k q r (f (get_or xs n d)) → Passed a c i k p r (flat_map f (take (n + 1) xs))
+passed_piece {a = a} {c = c} {i = i} {k = k} {p = p} {r = r} f xs n d l h g = subst (Passed a c i k p r) (pieces_more f xs n d l) (passed_then h g)
+
+-- it stopped in a piece
+pub stopped_piece : {A : Type 0} {a b c : Option (List ℕ)} {i j k : ℕ} {p q : List ℕ} {e : RunError} (f : A → List ℕ) (xs : List A) (n : ℕ) (d : A) → n < length xs
+    → Passed a b i j p q (flat_map f (take n xs)) → Stopped b c j k (q ++ f (get_or xs n d)) e → Stopped a c i k (p ++ flat_map f xs) e
+stopped_piece {a = a} {b = b} {c = c} {i = i} {j = j} {k = k} {p = p} {q = q} {e = e} f xs n d l h g =
+    subst (λ (t : List ℕ). Stopped a c i k (p ++ t) e) (pieces_at f xs n d l)
+    (stopped_then (f (get_or xs n d) ++ flat_map f (drop (n + 1) xs)) h (subst (λ (t : List ℕ). Stopped b c j k t e) (append_assoc q (f (get_or xs n d)) (flat_map f (drop (n + 1) xs))) (stopped_more (flat_map f (drop (n + 1) xs)) g)))
+
+-- the same of a piece that has a name
+pub passed_item : {A : Type 0} {a b c : Option (List ℕ)} {i j k : ℕ} {p q r : List ℕ} (f : A → List ℕ) (xs : List A) (n : ℕ) (x : A) → n < length xs → x ≡ get_or xs n x
+    → Passed a b i j p q (flat_map f (take n xs)) → Passed b c j k q r (f x) → Passed a c i k p r (flat_map f (take (n + 1) xs))
+passed_item {b = b} {c = c} {j = j} {k = k} {q = q} {r = r} f xs n x l is h g = passed_piece f xs n x l h (subst (λ z. Passed b c j k q r (f z)) is g)
+
+pub stopped_item : {A : Type 0} {a b c : Option (List ℕ)} {i j k : ℕ} {p q : List ℕ} {e : RunError} (f : A → List ℕ) (xs : List A) (n : ℕ) (x : A) → n < length xs → x ≡ get_or xs n x
+    → Passed a b i j p q (flat_map f (take n xs)) → Stopped b c j k (q ++ f x) e → Stopped a c i k (p ++ flat_map f xs) e
+stopped_item {b = b} {c = c} {j = j} {k = k} {q = q} {e = e} f xs n x l is h g = stopped_piece f xs n x l h (subst (λ z. Stopped b c j k (q ++ f z) e) is g)
+
+-- ---- a report
+
+-- one text behind another, whether or not it was passed on whole
+pub passes_then : {X : Type 0} {a b : Option (List ℕ)} {i j : ℕ} {p q x : List ℕ} (c : Option (List ℕ)) (k : ℕ) (s y : List ℕ) (r : Result X RunError)
+    → Passed a b i j p q x → PassesOn b c j k q s y r → PassesOn a c i k p s (x ++ y) r
+passes_then c k s y (Ok u) h g = passed_then h g
+passes_then c k s y (Err e) h g = stopped_then y h g
+
+-- it stopped before more
+pub stopped_before : {a b : Option (List ℕ)} {i j : ℕ} {e : RunError} (p x y : List ℕ) → Stopped a b i j (p ++ x) e → Stopped a b i j (p ++ (x ++ y)) e
+stopped_before {a = a} {b = b} {i = i} {j = j} {e = e} p x y h = subst (λ (t : List ℕ). Stopped a b i j t e) (append_assoc p x y) (stopped_more y h)
+
+-- what is held at the end is printed
+pub prints_then : {X : Type 0} {a b : Option (List ℕ)} {i j : ℕ} {p q x : List ℕ} (c : Option (List ℕ)) (k : ℕ) (r : Result X RunError) → p ≡ []
+    → Passed a b i j p q x → Prints b c j k q r → Prints a c i k x r
+prints_then {a = a} {b = b} {q = q} {x = x} c k (Ok u) none h g =
+    let whole : x ≡ h.out ++ q = sym (ap (λ (l : List ℕ). l ++ x) none) ∙ h.whole in
+    record { given = subst (Appends a c) (sym whole) (Appends-trans a b c h.out q h.given g.given); kept = g.kept ∙ h.kept }
+prints_then {a = a} {b = b} {q = q} {x = x} c k (Err e) none h g =
+    record {
+      out = h.out ++ g.out;
+      rest = g.rest;
+      given = Appends-trans a b c h.out g.out h.given g.given;
+      whole = sym (ap (λ (l : List ℕ). l ++ x) none) ∙ h.whole ∙ ap (λ (l : List ℕ). h.out ++ l) g.whole ∙ sym (append_assoc h.out g.out g.rest);
+      count = subst (λ (n : ℕ). CountsBy n k e) h.kept g.count;
+    }
+
+-- and an error before that leaves the same out
+pub stopped_first : {a b : Option (List ℕ)} {i j : ℕ} {e : RunError} (p x : List ℕ) → p ≡ [] → Stopped a b i j (p ++ x) e → Stopped a b i j x e
+stopped_first {a = a} {b = b} {i = i} {j = j} {e = e} p x none h = subst (λ (t : List ℕ). Stopped a b i j (t ++ x) e) none h

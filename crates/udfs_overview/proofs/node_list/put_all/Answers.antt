@@ -1,0 +1,13 @@
+use Rattle.std.proofs.Common.{subst}
+use Rattle.std.specs.Prelude.{flat_map}
+use Rattle.std.specs.String.{string_bytes}
+use Rattle.udfs_salvage.specs.Printing.{PassesOn}
+use Rattle.udfs_overview.specs.NodeLists.{listed, list_text}
+use Rattle.udfs_overview.proofs.node_list.put_all.Goals as goal
+
+pub returns : goal.returns
+unfolding list_text
+returns g c =
+    let W = g.W.Sink in
+    subst (λ ns. PassesOn (W.contents c.args.sink.now) (W.contents c.put_nodes.new.sink) (W.faults c.args.sink.now) (W.faults c.put_nodes.new.sink) (string_bytes c.args.text.now) (string_bytes c.put_nodes.new.text)
+    (flat_map (listed c.args.form) ns) c.put_nodes.result) c.behind_root.ensures c.put_nodes.ensures

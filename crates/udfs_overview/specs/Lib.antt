@@ -1,0 +1,4 @@
+pub mod Figures
+pub mod SafeFronts
+pub mod SafeNames
+pub mod NodeLists

@@ -1,0 +1,89 @@
+-- The list of nodes, a line for each but the root.
+--     lost_of n                what of a node is lost, in bytes
+--     list_line form n         the line of a node
+--     list_text form nodes     the lines of all nodes behind the root that are asked for
+use Rattle.std.specs.Prelude.{ℕ, ◌&&◌, List, [], ◌∷◌, ◌++◌, drop, flat_map, sum_by, Option, Some, None, codes, decimal, if◌then◌else◌}
+use Rattle.udfs_osta.specs.StampTexts.{stamp_text}
+use Rattle.udfs_osta.specs.declared.stamps.Stamp.{Stamp}
+use Rattle.udfs_file.specs.declared.faults.Kind.{Kind}
+use Rattle.udfs_file.specs.declared.faults.Kind.TheVariants as kind
+use Rattle.udfs_walk.specs.NodeFields.{NodeFields}
+use Rattle.udfs_walk.specs.declared.standings.Standing.{Standing}
+use Rattle.udfs_walk.specs.declared.standings.Standing.TheVariants as standing
+use Rattle.udfs_salvage.specs.NodeTexts.{kind_name, node_fault_number}
+use Rattle.udfs_salvage.specs.Reports.{is_whole}
+use Rattle.udfs_overview.specs.SafeNames.{safe_name}
+use Rattle.udfs_overview.specs.declared.node_list.ListForm.{ListForm}
+
+-- how many bytes all holes have
+abbrev pub lost_bytes : List (ℕ × ℕ) → ℕ
+lost_bytes holes = sum_by (λ (hole : ℕ × ℕ). hole.1) holes
+
+-- what is lost of a torn node: its holes' bytes, but of one that was not read nobody knows
+abbrev pub torn_lost : Kind → List (ℕ × ℕ) → Option ℕ
+torn_lost kind.Unread holes = None
+torn_lost kind.Directory holes = Some (lost_bytes holes)
+torn_lost kind.File holes = Some (lost_bytes holes)
+torn_lost kind.Link holes = Some (lost_bytes holes)
+torn_lost (kind.Other t) holes = Some (lost_bytes holes)
+
+-- what is lost of a node: nothing of a whole one; of loops and faults nobody knows
+abbrev pub lost_of : Standing → Kind → Option ℕ
+lost_of standing.Whole k = Some 0
+lost_of (standing.Torn torn) k = torn_lost k torn.holes
+lost_of standing.Loop k = None
+lost_of (standing.Fault f) k = None
+
+-- ---- columns
+
+-- the word for a standing
+abbrev pub standing_word : Standing → List ℕ
+standing_word standing.Whole = codes "whole"
+standing_word (standing.Torn torn) = codes "torn"
+standing_word standing.Loop = codes "loop"
+standing_word (standing.Fault f) = codes "fault " ++ decimal (node_fault_number f)
+
+-- a number; `-` where it is not known
+abbrev pub number_text : Option ℕ → List ℕ
+number_text None = codes "-"
+number_text (Some n) = decimal n
+
+-- a time; `-` where it is not known
+abbrev pub time_text : Option Stamp → List ℕ
+time_text None = codes "-"
+time_text (Some stamp) = stamp_text stamp
+
+-- each name of a path behind a `/`, as a person is shown it
+abbrev pub safe_path : List (List ℕ) → List ℕ
+safe_path names = flat_map (λ n. codes "/" ++ safe_name n) names
+
+-- a column ends with a tab
+abbrev pub column : List ℕ → List ℕ
+column text = text ++ 9 ∷ []
+
+-- the columns before the path
+unfoldable pub told_columns : Standing → Kind → Option ℕ → Option Stamp → List ℕ
+told_columns s k size stamp =
+    column (standing_word s) ++ column (kind_name k) ++ column (number_text (lost_of s k)) ++ column (number_text size) ++ column (time_text stamp)
+
+-- ---- lines
+
+-- a line ends with a line feed, or with a zero byte
+abbrev pub line_end : ListForm → List ℕ
+line_end form = if form.null then 0 ∷ [] else 10 ∷ []
+
+-- what stands before the path: nothing where paths alone are asked for
+abbrev pub front_columns : ListForm → NodeFields → List ℕ
+front_columns form n = if form.paths then [] else told_columns n.standing n.kind n.size n.stamp
+
+-- the line of a node
+unfoldable pub list_line : ListForm → NodeFields → List ℕ
+list_line form n = front_columns form n ++ safe_path n.path ++ line_end form
+
+-- a whole node is left out where only others are asked for
+unfoldable pub listed : ListForm → NodeFields → List ℕ
+listed form n = if form.torn && is_whole n.standing then [] else list_line form n
+
+-- the lines of the nodes behind the root, which is the first
+unfoldable pub list_text : ListForm → List NodeFields → List ℕ
+list_text form nodes = flat_map (listed form) (drop 1 nodes)

@@ -1,0 +1,20 @@
+-- The first part of a name, as the writer takes it: a surrogate pair, or one unit. Only private contracts cite these.
+use Rattle.std.specs.Prelude.{ℕ, ◌&&◌, Bool, false, List, [], ◌∷◌, slice_index, if◌then◌else◌}
+use Rattle.std.specs.Char.Utf16.{is_high_surrogate, is_low_surrogate, surrogate_pair_char}
+use Rattle.udfs_overview.specs.SafeNames.{safe_unit}
+
+-- the units begin with a surrogate pair
+abbrev pub begins_with_pair : List ℕ → Bool
+begins_with_pair [] = false
+begins_with_pair (u ∷ []) = false
+begins_with_pair (u ∷ v ∷ us) = is_high_surrogate u && is_low_surrogate v
+
+-- how many units the first part takes
+abbrev pub front_length : List ℕ → ℕ
+front_length units = if begins_with_pair units then 2 else 1
+
+-- the characters of the first part
+abbrev pub front_characters : List ℕ → List ℕ
+front_characters units =
+    if begins_with_pair units then surrogate_pair_char (slice_index units 0) (slice_index units 1) ∷ []
+    else safe_unit (slice_index units 0)

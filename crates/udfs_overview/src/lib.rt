@@ -1,0 +1,16 @@
+// SPDX-License-Identifier: MIT OR Apache-2.0
+//! What a person is shown of a volume: figures, names that can not forge a line, and a line for each node.
+#![tactic(auto)]
+
+mod figures;
+mod node_columns;
+mod node_list;
+mod pieces;
+mod safe_names;
+
+pub use figures::{push_grouped, push_percent, push_size};
+pub use node_list::{ListForm, write_list};
+pub use safe_names::{push_safe_name, safe_names_are_safe, safe_names_tell_units};
+
+#[cfg(test)]
+mod tests;

@@ -1,0 +1,155 @@
+//! What a line of the list tells of a node. Each function appends to a text; where memory is refused, a part may be appended.
+
+ghost use Rattle.std.specs.Prelude.{◌≡◌, ◌++◌, ◌∷◌, [], ℕ, OnOk, Some};
+ghost use Rattle.std.specs.String.{string_bytes};
+ghost use Rattle.udfs_salvage.specs.NodeTexts.{kind_name, node_fault_number};
+ghost use Rattle.udfs_salvage.specs.Reports.{is_whole};
+ghost use Rattle.udfs_overview.specs.NodeLists.{column, lost_bytes, lost_of, number_text, safe_path, standing_word, time_text, told_columns};
+
+use crate::safe_names::push_safe_name;
+use std::fmt::Write;
+use udfs_file::{Kind, NodeFault};
+use udfs_osta::{Name, OutOfMemory, Stamp};
+use udfs_walk::{Path, Standing};
+
+/// Whether a standing is whole.
+pub(crate) fn is_whole(standing: &Standing) -> bool
+    ensures { result ≡ is_whole standing.now }
+{
+    match standing {
+        Standing::Whole => true,
+        _ => false,
+    }
+}
+
+/// How many bytes all holes have.
+fn lost_bytes(holes: &[(u64, u64)]) -> u128
+    ensures { result ≡ lost_bytes holes.now }
+{
+    let mut lost = 0;
+    for hole in holes {
+        let (_, length) = *hole;
+        lost += u128::from(length);
+    }
+    lost
+}
+
+/// What is lost of a node, in bytes.
+fn lost_of(standing: &Standing, kind: Kind) -> Option<u128>
+    ensures { result ≡ lost_of standing.now kind }
+{
+    match standing {
+        Standing::Whole => Some(0),
+        Standing::Torn(torn) => match kind {
+            Kind::Unread => None,
+            _ => Some(lost_bytes(&torn.holes)),
+        },
+        _ => None,
+    }
+}
+
+/// The number of a fault.
+fn fault_number(fault: NodeFault) -> u8
+    ensures { result ≡ node_fault_number fault }
+{
+    fault as u8
+}
+
+/// A standing.
+fn push_standing(text: &mut String, standing: &Standing) -> Result<(), OutOfMemory>
+    ensures { OnOk result (string_bytes text.new ≡ string_bytes text.old ++ column (standing_word standing.now)) }
+{
+    match standing {
+        Standing::Whole => text.push_str("whole\t"),
+        Standing::Torn(_) => text.push_str("torn\t"),
+        Standing::Loop => text.push_str("loop\t"),
+        Standing::Fault(fault) => {
+            let number = fault_number(*fault);
+            write!(text, "fault {number}\t")
+        }
+    }
+}
+
+/// A kind.
+fn push_kind(text: &mut String, kind: Kind) -> Result<(), OutOfMemory>
+    ensures { OnOk result (string_bytes text.new ≡ string_bytes text.old ++ column (kind_name kind)) }
+{
+    match kind {
+        Kind::Directory => text.push_str("directory\t"),
+        Kind::File => text.push_str("file\t"),
+        Kind::Link => text.push_str("link\t"),
+        Kind::Other(number) => write!(text, "other-{number}\t"),
+        Kind::Unread => text.push_str("unread\t"),
+    }
+}
+
+/// How many bytes are lost.
+fn push_lost(text: &mut String, lost: Option<u128>) -> Result<(), OutOfMemory>
+    ensures { OnOk result (string_bytes text.new ≡ string_bytes text.old ++ column (number_text lost)) }
+{
+    match lost {
+        None => text.push_str("-\t"),
+        Some(bytes) => write!(text, "{bytes}\t"),
+    }
+}
+
+/// A size.
+fn push_size(text: &mut String, size: Option<u64>) -> Result<(), OutOfMemory>
+    ensures { OnOk result (string_bytes text.new ≡ string_bytes text.old ++ column (number_text size)) }
+{
+    match size {
+        None => text.push_str("-\t"),
+        Some(bytes) => write!(text, "{bytes}\t"),
+    }
+}
+
+/// A time.
+fn push_time(text: &mut String, stamp: Option<Stamp>) -> Result<(), OutOfMemory>
+    ensures { OnOk result (string_bytes text.new ≡ string_bytes text.old ++ column (time_text stamp)) }
+{
+    match stamp {
+        None => text.push_str("-\t"),
+        Some(stamp) => {
+            stamp.write_text(text)?;
+            text.push('\t')
+        }
+    }
+}
+
+/// The columns before the path.
+#[tactic(auto, unfolding(crate::specs::NodeLists::told_columns))]
+pub(crate) fn push_told(
+    text: &mut String,
+    standing: &Standing,
+    kind: Kind,
+    size: Option<u64>,
+    stamp: Option<Stamp>,
+) -> Result<(), OutOfMemory>
+    ensures { OnOk result (string_bytes text.new ≡ string_bytes text.old ++ told_columns standing.now kind size stamp) }
+{
+    push_standing(text, standing)?;
+    push_kind(text, kind)?;
+    push_lost(text, lost_of(standing, kind))?;
+    push_size(text, size)?;
+    push_time(text, stamp)
+}
+
+/// A name behind a `/`.
+fn push_part(text: &mut String, name: &Name) -> Result<(), OutOfMemory>
+    ensures { OnOk result (string_bytes text.new ≡ string_bytes text.old ++ safe_path (name.now ∷ [])) }
+{
+    text.push('/')?;
+    push_safe_name(name, text)
+}
+
+/// A path.
+pub(crate) fn push_safe_path(text: &mut String, path: &Path) -> Result<(), OutOfMemory>
+    ensures { OnOk result (string_bytes text.new ≡ string_bytes text.old ++ safe_path path.now) }
+{
+    for index in 0..path.len() {
+        if let Some(name) = path.get(index) {
+            push_part(text, name)?;
+        }
+    }
+    Ok(())
+}

@@ -1,0 +1,233 @@
+//! The list of nodes, a line for each but the root.
+
+ghost use Rattle.std.specs.Prelude.{◌≡◌, ◌++◌, OnOk, drop, flat_map, map};
+ghost use Rattle.std.specs.String.{string_bytes};
+ghost use Rattle.udfs_space.specs.Views.{view_now};
+ghost use Rattle.udfs_walk.specs.Bare.{full_node, node_with};
+ghost use Rattle.udfs_salvage.specs.Printing.{PassesOn, Prints};
+ghost use Rattle.udfs_salvage.specs.Surveys.{survey_now};
+ghost use Rattle.udfs_overview.specs.NodeLists.{front_columns, line_end, list_line, list_text, listed};
+
+use crate::node_columns::{is_whole, push_safe_path, push_told};
+use crate::pieces::{flush, pass_on};
+use std::alloc::Global;
+use udfs_osta::OutOfMemory;
+use udfs_reading::Sink;
+use udfs_salvage::{RunError, Survey, Volume};
+use udfs_space::View;
+use udfs_walk::{Node, Standing, full_standing};
+
+/// What a list shows of nodes, and how.
+#[derive(Clone, Copy, Debug, PartialEq, Eq)]
+pub struct ListForm {
+    /// Whole nodes are left out.
+    pub torn: bool,
+    /// Lines end with a zero byte, and not with a line feed.
+    pub null: bool,
+    /// A line has the path alone.
+    pub paths: bool,
+}
+
+/// The end of a line.
+fn push_end(text: &mut String, form: ListForm) -> Result<(), OutOfMemory>
+    ensures { OnOk result (string_bytes text.new ≡ string_bytes text.old ++ line_end form) }
+{
+    if form.null {
+        text.push('\0')
+    } else {
+        text.push('\n')
+    }
+}
+
+/// What stands before the path.
+fn push_front(
+    text: &mut String,
+    form: ListForm,
+    node: &Node,
+    standing: &Standing,
+) -> Result<(), OutOfMemory>
+    ensures { OnOk result (string_bytes text.new ≡ string_bytes text.old ++ front_columns form (node_with node.now standing.now)) }
+{
+    if form.paths {
+        return Ok(());
+    }
+    push_told(text, standing, node.kind, node.size, node.stamp)
+}
+
+/// The line of a node with this standing.
+#[tactic(auto, unfolding(crate::specs::NodeLists::list_line))]
+fn push_line(
+    text: &mut String,
+    form: ListForm,
+    node: &Node,
+    standing: &Standing,
+) -> Result<(), OutOfMemory>
+    ensures { OnOk result (string_bytes text.new ≡ string_bytes text.old ++ list_line form (node_with node.now standing.now)) }
+{
+    push_front(text, form, node, standing)?;
+    push_safe_path(text, &node.path)?;
+    push_end(text, form)
+}
+
+/// The line of a node with this standing, if it is asked for.
+#[tactic(auto, unfolding(crate::specs::NodeLists::listed))]
+fn push_listed(
+    text: &mut String,
+    form: ListForm,
+    node: &Node,
+    standing: &Standing,
+) -> Result<(), OutOfMemory>
+    ensures { OnOk result (string_bytes text.new ≡ string_bytes text.old ++ listed form (node_with node.now standing.now)) }
+{
+    if form.torn && is_whole(standing) {
+        return Ok(());
+    }
+    push_line(text, form, node, standing)
+}
+
+/// The line of a node with this standing, if it is asked for.
+fn put_listed<W: Sink>(
+    text: &mut String,
+    sink: &mut W,
+    form: ListForm,
+    node: &Node,
+    standing: &Standing,
+) -> Result<(), RunError>
+    ensures { PassesOn (W.contents sink.old) (W.contents sink.new) (W.faults sink.old) (W.faults sink.new) (string_bytes text.old) (string_bytes text.new)
+        (listed form (node_with node.now standing.now)) result }
+{
+    push_listed(text, form, node, standing)?;
+    pass_on(text, sink)
+}
+
+/// The lines of nodes.
+fn put_nodes<W: Sink>(
+    text: &mut String,
+    sink: &mut W,
+    form: ListForm,
+    nodes: &[Node],
+) -> Result<(), RunError>
+    ensures { PassesOn (W.contents sink.old) (W.contents sink.new) (W.faults sink.old) (W.faults sink.new) (string_bytes text.old) (string_bytes text.new)
+        (flat_map (listed form) nodes.now) result }
+{
+    for node in nodes {
+        put_listed(text, sink, form, node, &node.standing)?;
+    }
+    Ok(())
+}
+
+/// The line of a node without its blocks and holes, with those.
+fn put_full_node<W: Sink>(
+    alloc: Global,
+    text: &mut String,
+    sink: &mut W,
+    view: View<'_>,
+    form: ListForm,
+    node: &Node,
+) -> Result<(), RunError>
+    ensures { PassesOn (W.contents sink.old) (W.contents sink.new) (W.faults sink.old) (W.faults sink.new) (string_bytes text.old) (string_bytes text.new)
+        (listed form (full_node (view_now view.entry) node.now)) result }
+{
+    let full = full_standing(alloc, view, node.icb, &node.standing)?;
+    put_listed(text, sink, form, node, &full)
+}
+
+/// The lines of nodes without their blocks and holes, with those.
+fn put_full_nodes<W: Sink>(
+    alloc: Global,
+    text: &mut String,
+    sink: &mut W,
+    view: View<'_>,
+    form: ListForm,
+    nodes: &[Node],
+) -> Result<(), RunError>
+    ensures { PassesOn (W.contents sink.old) (W.contents sink.new) (W.faults sink.old) (W.faults sink.new) (string_bytes text.old) (string_bytes text.new)
+        (flat_map (listed form) (map (full_node (view_now view.entry)) nodes.now)) result }
+{
+    for node in nodes {
+        put_full_node(alloc, text, sink, view, form, node)?;
+    }
+    Ok(())
+}
+
+/// The nodes behind the root, which is the first.
+fn behind_root(nodes: &[Node]) -> &[Node]
+    ensures { result.now ≡ drop 1 nodes.now }
+{
+    match nodes.split_first() {
+        Some((_, others)) => others,
+        None => nodes,
+    }
+}
+
+/// The lines of all nodes behind the root.
+fn put_all<W: Sink>(
+    text: &mut String,
+    sink: &mut W,
+    form: ListForm,
+    nodes: &[Node],
+) -> Result<(), RunError>
+    ensures { PassesOn (W.contents sink.old) (W.contents sink.new) (W.faults sink.old) (W.faults sink.new) (string_bytes text.old) (string_bytes text.new)
+        (list_text form nodes.now) result }
+{
+    put_nodes(text, sink, form, behind_root(nodes))
+}
+
+/// The lines of all nodes behind the root, which are without their blocks and holes, with those.
+fn put_full_all<W: Sink>(
+    alloc: Global,
+    text: &mut String,
+    sink: &mut W,
+    view: View<'_>,
+    form: ListForm,
+    nodes: &[Node],
+) -> Result<(), RunError>
+    ensures { PassesOn (W.contents sink.old) (W.contents sink.new) (W.faults sink.old) (W.faults sink.new) (string_bytes text.old) (string_bytes text.new)
+        (list_text form (map (full_node (view_now view.entry)) nodes.now)) result }
+{
+    put_full_nodes(alloc, text, sink, view, form, behind_root(nodes))
+}
+
+/// All lines.
+fn put_list<W: Sink>(
+    alloc: Global,
+    text: &mut String,
+    sink: &mut W,
+    survey: &Survey<'_>,
+    form: ListForm,
+) -> Result<(), RunError>
+    ensures { PassesOn (W.contents sink.old) (W.contents sink.new) (W.faults sink.old) (W.faults sink.new) (string_bytes text.old) (string_bytes text.new)
+        (list_text form (survey_now survey.now).nodes) result }
+{
+    match &survey.volume {
+        Volume::Open(opened) => {
+            let view = View {
+                table: survey.table,
+                space: &opened.space,
+            };
+            put_full_all(alloc, text, sink, view, form, &survey.nodes)
+        }
+        _ => put_all(text, sink, form, &survey.nodes),
+    }
+}
+
+/// Writes a line for each node behind the root of the report that a survey stands for, in the report's order: its standing, its
+/// kind, how many of its bytes are lost, its size, its time and its path, with a tab between each two, and `-` for what is not
+/// known. The blocks and holes of one node are held at a time.
+///
+/// # Errors
+///
+/// `Write` exactly where the sink failed, and `OutOfMemory` where memory is refused. Then a beginning of the lines is out.
+pub fn write_list<W: Sink>(
+    alloc: Global,
+    survey: &Survey<'_>,
+    form: ListForm,
+    sink: &mut W,
+) -> Result<(), RunError>
+    ensures { Prints (W.contents sink.old) (W.contents sink.new) (W.faults sink.old) (W.faults sink.new)
+        (list_text form (survey_now survey.now).nodes) result }
+{
+    let mut text = String::new(alloc);
+    put_list(alloc, &mut text, sink, survey, form)?;
+    flush(&mut text, sink)
+}

@@ -1,0 +1,4 @@
+//! Values worked out by hand, each function once.
+
+mod figures;
+mod safe_names;
