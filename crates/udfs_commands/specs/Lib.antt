@@ -2,6 +2,7 @@ pub mod Refusing
 pub mod Spelling
 pub mod Extracting
 pub mod Rereading
+pub mod Listing
 pub mod JsonRuns
 pub mod Asking
 pub mod Keeping

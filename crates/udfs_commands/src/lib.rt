@@ -8,6 +8,7 @@ mod extract;
 mod files;
 mod guard;
 mod inputs;
+mod list;
 mod merge;
 mod printing;
 mod putting;
