@@ -11,6 +11,7 @@ mod pairs;
 mod refusals;
 mod reporting;
 mod rereading;
+mod sizes;
 mod sparing;
 mod versions;
 mod words;

@@ -4,8 +4,8 @@
 --     asked_inputs words                          the inputs: all files, and then all pairs
 --     out_text words                              the path of the output
 --     folder_text words                           the path of the new folder
---     IsLast words last                           the number of the last block; or 0, of which there is no report
-use Rattle.std.specs.Prelude.{◌≡◌, ◌⊎◌, ℕ, List, [], ◌∷◌, ◌++◌, Some, None, codes, map, option_map, unwrap_or}
+--     IsLast words last                           the number of the last block, or of that with which a disc of the size ends; or 0, of which there is no report
+use Rattle.std.specs.Prelude.{◌≡◌, ◌⊎◌, ℕ, ◌+◌, ◌*◌, List, [], ◌∷◌, ◌++◌, Some, None, codes, map, option_map, unwrap_or}
 use Rattle.clap.specs.Matches.{matched_of, first_value, one_text, raw_values}
 use Rattle.clap.specs.declared.parser.matches.Found.{Found}
 use Rattle.std.specs.Str.Parse.{digits_value, without_leading_plus}
@@ -52,6 +52,10 @@ out_text words = unwrap_or (first_value words (codes "out")) []
 abbrev pub folder_text : Found → List ℕ
 folder_text words = unwrap_or (first_value words (codes "to")) []
 
--- what was given as the last block, in decimal; of 0 there is no report
+-- what was given as this is a number, in decimal
+abbrev pub IsNumber : Found → List ℕ → ℕ → Type 0
+IsNumber words id number = (text : List ℕ) × (one_text words id ≡ Some text) × (digits_value 10 (without_leading_plus text) ≡ number)
+
+-- what was given as the last block, or the block with which a disc of the size that was given ends; of 0 there is no report
 abbrev pub IsLast : Found → ℕ → Type 0
-IsLast words last = ((text : List ℕ) × (one_text words (codes "last") ≡ Some text) × (digits_value 10 (without_leading_plus text) ≡ last)) ⊎ (last ≡ 0)
+IsLast words last = IsNumber words (codes "last") last ⊎ IsNumber words (codes "size") (2048 * (last + 1)) ⊎ (last ≡ 0)

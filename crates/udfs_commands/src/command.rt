@@ -27,13 +27,14 @@ use crate::extract::extract;
 use crate::files::Files;
 use crate::guard::{Outlook, look_at};
 use crate::inputs::joined;
+use crate::last::{EndFault, asked_last, end_fault};
 use crate::merge::{Version, merge};
 use crate::printing::send;
 use crate::refusal::Refusal;
 use crate::report::{Form, report_as};
 use crate::reread::reread;
 use crate::sources::{AnySource, InputPath};
-use crate::words::{FILL, FORCE, INPUTS, JSON, LAST, OUT, PAIRS, TO, V1, grammar, has_pairs};
+use crate::words::{FILL, FORCE, INPUTS, JSON, OUT, PAIRS, TO, V1, given_in, grammar};
 use clap::error::ErrorKind;
 use clap::{ArgMatches, Error};
 use std::alloc::{AllocError, Global};
@@ -80,7 +81,7 @@ pub fn run<F: Files, O: Sink, E: Sink>(
         (ExtractsAll (λ table told. IsPut F.tells (Fails F.faults ⊎ Fails F.Output.faults) table told fill (folder_text found) (F.holds files.new) (F.moment files.new) (F.left_since files.new))
         files.old files.new last (O.contents out.old) (O.contents out.new) (O.faults out.old) (O.faults out.new) good)) }
 {
-    let command = match grammar(alloc, has_pairs(words)) {
+    let command = match grammar(alloc, given_in(words)) {
         Ok(command) => command,
         Err(AllocError) => return refuse(alloc, &Refusal::Memory(AllocError), err),
     };
@@ -93,6 +94,9 @@ pub fn run<F: Files, O: Sink, E: Sink>(
         // The grammar asks for a command.
         None => return 2,
     };
+    if let Some(fault) = end_fault(words) {
+        return tell(alloc, fault, err);
+    }
     match obey(alloc, name, words, files, out) {
         Some(outcome) => finish(alloc, outcome, err),
         // The grammar has no other command.
@@ -329,13 +333,6 @@ fn asked_folder<'a>(words: &ArgMatches<'a>) -> &'a str
     words.get_str(TO).unwrap_or("")
 }
 
-/// The last block among the words. The grammar asks for it; of 0 there is no report.
-fn asked_last(words: &ArgMatches<'_>) -> u32
-    ensures { IsLast (found_of words.now) result }
-{
-    words.get_one::<u32>(LAST).unwrap_or(0)
-}
-
 /// What the words after `extract` ask to write of torn files: zeros in the holes with `--fill`, and else nothing.
 fn asked_fill(words: &ArgMatches<'_>) -> Fill
     ensures unset { one_text (found_of words.now) (codes "fill") ≡ None → result ≡ Fill.Refuse }
@@ -377,6 +374,17 @@ fn show<O: Sink, E: Sink>(alloc: Global, error: &Error, out: &mut O, err: &mut E
         (_, Ok(())) => 0,
         (_, Err(DeviceFault)) => refuse(alloc, &Refusal::Output, err),
     }
+}
+
+/// Says in clap's form what is wrong with the words that say where the disc ends, and answers the status.
+fn tell<E: Sink>(alloc: Global, fault: EndFault<'_>, err: &mut E) -> u8
+    ensures { result ≡ 2 }
+{
+    let _ = match format!(in alloc; "error: {fault}\n\nFor more information, try '--help'.\n") {
+        Ok(text) => send(text.as_bytes(), err),
+        Err(AllocError) => send(NO_MEMORY, err),
+    };
+    2
 }
 
 /// Prints a refusal's line, and answers the status. Where not even the line can be had, it is that of want of memory.

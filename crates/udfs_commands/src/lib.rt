@@ -8,6 +8,7 @@ mod extract;
 mod files;
 mod guard;
 mod inputs;
+mod last;
 mod merge;
 mod printing;
 mod putting;

@@ -3,32 +3,32 @@ use Rattle.std.specs.String.{string_bytes}
 use Rattle.clap.specs.Matches.{found_of}
 use Rattle.clap.specs.Words.{App, HasMatchesOf, app_of, takes}
 use Rattle.udfs_commands.specs.Grammar.{program_app}
-use Rattle.udfs_commands.specs.Obeying.{IsAsked, names_pairs}
+use Rattle.udfs_commands.specs.Obeying.{IsAsked}
 use Rattle.udfs_commands.proofs.ObeyingLemmas.{asked, done, done_whole, only_name}
 use Rattle.udfs_commands.proofs.command.run.Goals as goal
 
 pub returns-in-Err-try_get_matches_from-clause-merge : goal.returns-in-Err-try_get_matches_from-clause-merge
 returns-in-Err-try_get_matches_from-clause-merge g c = λ taken asks some.
-    absurd (some (c.show.ensures.memory (c.in-Err-try_get_matches_from.ensures.passes (ap (λ (a : App). takes a (map string_bytes c.args.words.now)) (c.in-Ok.ensures ∙ ap program_app c.has_pairs.ensures) ∙ taken))))
+    absurd (some (c.show.ensures.memory (c.in-Err-try_get_matches_from.ensures.passes (ap (λ (a : App). takes a (map string_bytes c.args.words.now)) (c.in-Ok.ensures ∙ ap program_app c.given_in.ensures) ∙ taken))))
 
 pub returns-in-Err-try_get_matches_from-clause-report : goal.returns-in-Err-try_get_matches_from-clause-report
 returns-in-Err-try_get_matches_from-clause-report g c = λ taken asks some.
-    absurd (some (c.show.ensures.memory (c.in-Err-try_get_matches_from.ensures.passes (ap (λ (a : App). takes a (map string_bytes c.args.words.now)) (c.in-Ok.ensures ∙ ap program_app c.has_pairs.ensures) ∙ taken))))
+    absurd (some (c.show.ensures.memory (c.in-Err-try_get_matches_from.ensures.passes (ap (λ (a : App). takes a (map string_bytes c.args.words.now)) (c.in-Ok.ensures ∙ ap program_app c.given_in.ensures) ∙ taken))))
 
 pub returns-in-Err-try_get_matches_from-clause-reread : goal.returns-in-Err-try_get_matches_from-clause-reread
 returns-in-Err-try_get_matches_from-clause-reread g c = λ taken asks some.
-    absurd (some (c.show.ensures.memory (c.in-Err-try_get_matches_from.ensures.passes (ap (λ (a : App). takes a (map string_bytes c.args.words.now)) (c.in-Ok.ensures ∙ ap program_app c.has_pairs.ensures) ∙ taken))))
+    absurd (some (c.show.ensures.memory (c.in-Err-try_get_matches_from.ensures.passes (ap (λ (a : App). takes a (map string_bytes c.args.words.now)) (c.in-Ok.ensures ∙ ap program_app c.given_in.ensures) ∙ taken))))
 
 pub returns-in-Err-try_get_matches_from-clause-extract : goal.returns-in-Err-try_get_matches_from-clause-extract
 returns-in-Err-try_get_matches_from-clause-extract g c = λ taken asks some.
-    absurd (some (c.show.ensures.memory (c.in-Err-try_get_matches_from.ensures.passes (ap (λ (a : App). takes a (map string_bytes c.args.words.now)) (c.in-Ok.ensures ∙ ap program_app c.has_pairs.ensures) ∙ taken))))
+    absurd (some (c.show.ensures.memory (c.in-Err-try_get_matches_from.ensures.passes (ap (λ (a : App). takes a (map string_bytes c.args.words.now)) (c.in-Ok.ensures ∙ ap program_app c.given_in.ensures) ∙ taken))))
 
 pub returns-in-Some-obey-clause-merge : goal.returns-in-Some-obey-clause-merge
 returns-in-Some-obey-clause-merge g c = λ taken asks some.
     let words = map string_bytes c.args.words.now in
     let found = found_of c.in-Some.found.1.now in
     let ask : IsAsked words c.in-Some.found.0.now found = asked c.in-Ok-try_get_matches_from.matches words c.in-Some.found.0.now found
-        (subst (λ (a : App). HasMatchesOf a words c.in-Ok-try_get_matches_from.matches) (c.in-Ok.ensures ∙ ap program_app c.has_pairs.ensures) c.in-Ok-try_get_matches_from.ensures.matches)
+        (subst (λ (a : App). HasMatchesOf a words c.in-Ok-try_get_matches_from.matches) (c.in-Ok.ensures ∙ ap program_app c.given_in.ensures) c.in-Ok-try_get_matches_from.ensures.matches)
         c.in-Some.ensures.name c.in-Some.ensures.rows in
     let is : c.in-Some.found.0.now ≡ codes "merge" = only_name words c.in-Some.found.0.now (codes "merge") found asks ask in
     let named : IsAsked words (codes "merge") found = subst (λ (n : List ℕ). IsAsked words n found) is ask in
@@ -40,7 +40,7 @@ returns-in-Some-obey-clause-report g c = λ taken asks some.
     let words = map string_bytes c.args.words.now in
     let found = found_of c.in-Some.found.1.now in
     let ask : IsAsked words c.in-Some.found.0.now found = asked c.in-Ok-try_get_matches_from.matches words c.in-Some.found.0.now found
-        (subst (λ (a : App). HasMatchesOf a words c.in-Ok-try_get_matches_from.matches) (c.in-Ok.ensures ∙ ap program_app c.has_pairs.ensures) c.in-Ok-try_get_matches_from.ensures.matches)
+        (subst (λ (a : App). HasMatchesOf a words c.in-Ok-try_get_matches_from.matches) (c.in-Ok.ensures ∙ ap program_app c.given_in.ensures) c.in-Ok-try_get_matches_from.ensures.matches)
         c.in-Some.ensures.name c.in-Some.ensures.rows in
     let is : c.in-Some.found.0.now ≡ codes "report" = only_name words c.in-Some.found.0.now (codes "report") found asks ask in
     let named : IsAsked words (codes "report") found = subst (λ (n : List ℕ). IsAsked words n found) is ask in
@@ -52,7 +52,7 @@ returns-in-Some-obey-clause-reread g c = λ taken asks some.
     let words = map string_bytes c.args.words.now in
     let found = found_of c.in-Some.found.1.now in
     let ask : IsAsked words c.in-Some.found.0.now found = asked c.in-Ok-try_get_matches_from.matches words c.in-Some.found.0.now found
-        (subst (λ (a : App). HasMatchesOf a words c.in-Ok-try_get_matches_from.matches) (c.in-Ok.ensures ∙ ap program_app c.has_pairs.ensures) c.in-Ok-try_get_matches_from.ensures.matches)
+        (subst (λ (a : App). HasMatchesOf a words c.in-Ok-try_get_matches_from.matches) (c.in-Ok.ensures ∙ ap program_app c.given_in.ensures) c.in-Ok-try_get_matches_from.ensures.matches)
         c.in-Some.ensures.name c.in-Some.ensures.rows in
     let is : c.in-Some.found.0.now ≡ codes "reread" = only_name words c.in-Some.found.0.now (codes "reread") found asks ask in
     let named : IsAsked words (codes "reread") found = subst (λ (n : List ℕ). IsAsked words n found) is ask in
@@ -64,7 +64,7 @@ returns-in-Some-obey-clause-extract g c = λ taken asks some.
     let words = map string_bytes c.args.words.now in
     let found = found_of c.in-Some.found.1.now in
     let ask : IsAsked words c.in-Some.found.0.now found = asked c.in-Ok-try_get_matches_from.matches words c.in-Some.found.0.now found
-        (subst (λ (a : App). HasMatchesOf a words c.in-Ok-try_get_matches_from.matches) (c.in-Ok.ensures ∙ ap program_app c.has_pairs.ensures) c.in-Ok-try_get_matches_from.ensures.matches)
+        (subst (λ (a : App). HasMatchesOf a words c.in-Ok-try_get_matches_from.matches) (c.in-Ok.ensures ∙ ap program_app c.given_in.ensures) c.in-Ok-try_get_matches_from.ensures.matches)
         c.in-Some.ensures.name c.in-Some.ensures.rows in
     let is : c.in-Some.found.0.now ≡ codes "extract" = only_name words c.in-Some.found.0.now (codes "extract") found asks ask in
     let named : IsAsked words (codes "extract") found = subst (λ (n : List ℕ). IsAsked words n found) is ask in
