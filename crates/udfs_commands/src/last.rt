@@ -1,6 +1,6 @@
 //! The last block of the volume, by its number or by the size of the disc.
 
-ghost use Rattle.std.specs.Prelude.{◌≡◌, ◌⊎◌, ◌+◌, ◌*◌};
+ghost use Rattle.std.specs.Prelude.{◌≡◌, ◌≢◌, ◌⊎◌, ◌↔◌, ◌+◌, ◌*◌, ◌%◌, IsTrue};
 ghost use Rattle.clap.specs.Matches.{found_of};
 ghost use Rattle.udfs_commands.specs.Asking.{IsLast};
 
@@ -33,7 +33,9 @@ impl<'a> fmt::Display for EndFault<'a> {
 }
 
 /// Whether some disc of whole blocks has so many bytes.
-fn is_whole(size: u64) -> bool {
+fn is_whole(size: u64) -> bool
+    ensures { IsTrue result ↔ (size ≢ 0) × (size % 2048 ≡ 0) }
+{
     size != 0 && size % 2048 == 0
 }
 
