@@ -2,6 +2,7 @@
 
 mod devices;
 mod extracting;
+mod forgetting;
 mod hostile;
 mod json;
 mod keeping;

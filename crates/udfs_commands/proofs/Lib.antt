@@ -1,4 +1,5 @@
 pub mod AskingLemmas
+pub mod ForgettingLemmas
 pub mod GuardingLemmas
 pub mod KeepingLemmas
 mod PutNodes

@@ -25,14 +25,18 @@ both f g None y z h k = absurd (none h)
     none e = cc
 both {Y = Y} {Z = Z} f g (Some x) y z h k = ap₂ (λ (a : Y) (b : Z). Some (a, b)) (sym (some_is y (f x) h)) (sym (some_is z (g x) k))
 
-simple_by : (pairs size : Bool) → is_simple (program_app (record { pairs = pairs; size = size })) ≡ true
-simple_by true true = refl
-simple_by true false = refl
-simple_by false true = refl
-simple_by false false = refl
+simple_by : (pairs size conflicts : Bool) → is_simple (program_app (record { pairs = pairs; size = size; conflicts = conflicts })) ≡ true
+simple_by true true true = refl
+simple_by true true false = refl
+simple_by true false true = refl
+simple_by true false false = refl
+simple_by false true true = refl
+simple_by false true false = refl
+simple_by false false true = refl
+simple_by false false false = refl
 
 simple : (given : Given) → is_simple (program_app given) ≡ true
-simple given = simple_by given.pairs given.size
+simple given = simple_by given.pairs given.size given.conflicts
 
 pub asked : (m : ArgMatches) (words : List Text) (name : Text) (found : Found) → HasMatchesOf (program_app (given_in words)) words m
     → Some name ≡ subcommand_name_of m → Some (rows_of found) ≡ option_map (λ (p : Text × List Row). p.1) (subcommand_rows_of m) → IsAsked words name found

@@ -2,6 +2,7 @@
 --     IsPicked words flag given absent picked     the one thing with the flag, and the other without it
 --     input_texts words                           the paths of the inputs that are files, in order
 --     asked_inputs words                          the inputs: all files, and then all pairs
+--     list_texts words                            the paths of the lists of blocks, in order
 --     out_text words                              the path of the output
 --     folder_text words                           the path of the new folder
 --     IsLast words last                           the number of the last block, or of that with which a disc of the size ends; or 0, of which there is no report
@@ -43,6 +44,10 @@ pair_texts words = unwrap_or (option_map raw_values (matched_of words (codes "dd
 
 abbrev pub asked_inputs : Found → List Asked
 asked_inputs words = map AskedFile (input_texts words) ++ pairs_of (pair_texts words)
+
+-- all that was given as a list of blocks, each a path
+abbrev pub list_texts : Found → List (List ℕ)
+list_texts words = unwrap_or (option_map raw_values (matched_of words (codes "blocks"))) []
 
 -- what was given as the output, a path
 abbrev pub out_text : Found → List ℕ

@@ -33,6 +33,10 @@ pairs_rule = record (new_rule (codes "ddrescue")) { long = Some (codes "ddrescue
 abbrev pub inputs_rule : Bool → Rule
 inputs_rule pairs = record (new_rule (codes "input")) { value_names = 1; action = Some Append; required = not pairs; range = Some (record { start_inclusive = 1; end_inclusive = 18446744073709551615 }) }
 
+-- `--blocks LIST`, any number of times, and once at least where no conflicts are to be forgotten
+abbrev pub blocks_rule : Bool → Rule
+blocks_rule conflicts = record (new_rule (codes "blocks")) { long = Some (codes "blocks"); value_names = 1; action = Some Append; required = not conflicts }
+
 -- what every command takes
 abbrev pub with_inputs : App → Bool → App
 with_inputs command pairs = with_rule (with_rule command pairs_rule) (inputs_rule pairs)
@@ -57,10 +61,14 @@ reread_app given = with_inputs (with_last (codes "reread") given.size) given.pai
 abbrev pub extract_app : Given → App
 extract_app given = with_inputs (with_rule (with_rule (with_last (codes "extract") given.size) (value_rule (codes "to"))) (flag_rule (codes "fill"))) given.pairs
 
+-- `forget --out FILE (--conflicts | --blocks LIST)... [--force] IN...`
+abbrev pub forget_app : Given → App
+forget_app given = with_inputs (with_rule (with_rule (with_rule (with_rule (new_app (codes "forget")) out_rule) (flag_rule (codes "conflicts"))) (blocks_rule given.conflicts)) (flag_rule (codes "force"))) given.pairs
+
 -- the program before its commands: one of them has to be named, and there is `--version`
 abbrev pub program : App
 program = record (new_app (codes "udfsalvage")) { top = record (new_app (codes "udfsalvage")).top { has_version = true; subcommand_required = true } }
 
 -- the program, by what is found among the words
 abbrev pub program_app : Given → App
-program_app given = with_subcommand (with_subcommand (with_subcommand (with_subcommand program (merge_app given.pairs).top) (report_app given).top) (reread_app given).top) (extract_app given).top
+program_app given = with_subcommand (with_subcommand (with_subcommand (with_subcommand (with_subcommand program (merge_app given.pairs).top) (report_app given).top) (reread_app given).top) (extract_app given).top) (forget_app given).top

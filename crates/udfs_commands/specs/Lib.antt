@@ -5,6 +5,7 @@ pub mod Rereading
 pub mod JsonRuns
 pub mod Asking
 pub mod Keeping
+pub mod Forgetting
 pub mod Guarding
 pub mod Sources
 pub mod Grammar

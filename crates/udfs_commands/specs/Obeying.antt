@@ -18,9 +18,9 @@ abbrev pub is_given : Text → Text → List Text → Bool
 is_given option signed [] = false
 is_given option signed (word ∷ words) = names option signed word || is_given option signed words
 
--- images with their mapfiles, and the disc's size
+-- images with their mapfiles, the disc's size, and that conflicts are to be forgotten
 abbrev pub given_in : List Text → Given
-given_in words = record { pairs = is_given (codes "--ddrescue") (codes "--ddrescue=") words; size = is_given (codes "--size") (codes "--size=") words }
+given_in words = record { pairs = is_given (codes "--ddrescue") (codes "--ddrescue=") words; size = is_given (codes "--size") (codes "--size=") words; conflicts = is_given (codes "--conflicts") (codes "--conflicts=") words }
 
 -- the grammar takes the words, of which the first is the program's name
 abbrev pub GrammarTakes : List Text → Type 0

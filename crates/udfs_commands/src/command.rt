@@ -8,6 +8,7 @@ ghost use Rattle.udfs_files.specs.Disk.{Fails, Goes};
 ghost use Rattle.udfs_salvage.specs.declared.extraction.Fill.{Fill};
 ghost use Rattle.udfs_commands.specs.Asking.{IsLast, IsPicked, asked_for, asked_inputs, folder_text, input_texts, out_text, pair_texts};
 ghost use Rattle.udfs_commands.specs.Extracting.{ExtractsAll, IsIn, IsPut, Spares, Stay};
+ghost use Rattle.udfs_commands.specs.Forgetting.{PutsForgotten};
 ghost use Rattle.udfs_commands.specs.Guarding.{IsFree, IsSpared};
 ghost use Rattle.udfs_commands.specs.JsonRuns.{PrintsAs};
 ghost use Rattle.udfs_commands.specs.Keeping.{IsKept, IsTaken, Joined, OfPaths};
@@ -25,6 +26,7 @@ ghost use Rattle.udfs_commands.specs.declared.report.Form.{Form};
 use crate::asking::asked_inputs;
 use crate::extract::extract;
 use crate::files::Files;
+use crate::forget::forget;
 use crate::guard::{Outlook, look_at};
 use crate::inputs::joined;
 use crate::last::{EndFault, asked_last, end_fault};
@@ -34,7 +36,9 @@ use crate::refusal::Refusal;
 use crate::report::{Form, report_as};
 use crate::reread::reread;
 use crate::sources::{AnySource, InputPath};
-use crate::words::{FILL, FORCE, INPUTS, JSON, OUT, PAIRS, TO, V1, given_in, grammar};
+use crate::words::{
+    BLOCKS, CONFLICTS, FILL, FORCE, INPUTS, JSON, OUT, PAIRS, TO, V1, given_in, grammar,
+};
 use clap::error::ErrorKind;
 use clap::{ArgMatches, Error};
 use std::alloc::{AllocError, Global};
@@ -80,6 +84,11 @@ pub fn run<F: Files, O: Sink, E: Sink>(
         OfPaths (λ path. F.holds files.old (F.real files.old path)) (⟦<AnySource<F::Input, F::Image> as Source>⟧.remaining) inputs
         (ExtractsAll (λ table told. IsPut F.tells (Fails F.faults ⊎ Fails F.Output.faults) table told fill (folder_text found) (F.holds files.new) (F.moment files.new) (F.left_since files.new))
         files.old files.new last (O.contents out.old) (O.contents out.new) (O.faults out.old) (O.faults out.new) good)) }
+    ensures forget { GrammarTakes (map string_bytes words.now) → Asks (map string_bytes words.now) (codes "forget") → result ≢ 2 → (result ≡ 0) × (found : Found) × IsAsked (map string_bytes words.now) (codes "forget") found ×
+        PutsForgotten (λ path. F.holds files.old (F.real files.old path)) (⟦<AnySource<F::Input, F::Image> as Source>⟧.remaining) found
+        (λ bytes. (F.tells → IsKept (F.holds files.new) (F.may_leave files.new) (F.real files.old (out_text found)) bytes) ⊎ (F.in_place files.old (out_text found) × IsTaken F.Output.contents bytes)) ×
+        ((force : Bool) × IsPicked found (codes "force") true false force ×
+        (F.tells → IsFree (F.holds files.old) (F.real files.old) (F.shut files.old) (F.in_place files.old) (input_texts found) (pair_texts found) force (out_text found))) }
 {
     let command = match grammar(alloc, given_in(words)) {
         Ok(command) => command,
@@ -130,6 +139,12 @@ fn obey<F: Files, O: Sink>(
         OfPaths (λ path. F.holds files.old (F.real files.old path)) (⟦<AnySource<F::Input, F::Image> as Source>⟧.remaining) inputs
         (ExtractsAll (λ table told. IsPut F.tells (Fails F.faults ⊎ Fails F.Output.faults) table told fill (folder_text (found_of words.now)) (F.holds files.new) (F.moment files.new) (F.left_since files.new))
         files.old files.new last (O.contents out.old) (O.contents out.new) (O.faults out.old) (O.faults out.new) good))) }
+    ensures done_forget { name.now ≡ codes "forget" → IfSome result (λ outcome. IfOk outcome (λ whole. whole ≡ true)) }
+    ensures forget { name.now ≡ codes "forget" → IfSome result (λ outcome. OnOk outcome
+        (PutsForgotten (λ path. F.holds files.old (F.real files.old path)) (⟦<AnySource<F::Input, F::Image> as Source>⟧.remaining) (found_of words.now)
+        (λ bytes. (F.tells → IsKept (F.holds files.new) (F.may_leave files.new) (F.real files.old (out_text (found_of words.now))) bytes) ⊎ (F.in_place files.old (out_text (found_of words.now)) × IsTaken F.Output.contents bytes)))) }
+    ensures free_forget { name.now ≡ codes "forget" → IfSome result (λ outcome. OnOk outcome ((force : Bool) × IsPicked (found_of words.now) (codes "force") true false force ×
+        (F.tells → IsFree (F.holds files.old) (F.real files.old) (F.shut files.old) (F.in_place files.old) (input_texts (found_of words.now)) (pair_texts (found_of words.now)) force (out_text (found_of words.now))))) }
 {
     match name {
         "merge" => Some(match merge_words(alloc, words, files) {
@@ -139,6 +154,10 @@ fn obey<F: Files, O: Sink>(
         "report" => Some(report_words(alloc, words, files, out)),
         "reread" => Some(reread_words(alloc, words, files, out)),
         "extract" => Some(extract_words(alloc, words, files, out)),
+        "forget" => Some(match forget_words(alloc, words, files) {
+            Ok(()) => Ok(true),
+            Err(refusal) => Err(refusal),
+        }),
         _ => None,
     }
 }
@@ -194,6 +213,51 @@ fn merge_words<F: Files>(
         Ok(()) => Ok(()),
         Err(refusal) => Err(refusal),
     }
+}
+
+/// Does what the words after `forget` ask for.
+fn forget_words<F: Files>(
+    alloc: Global,
+    words: &ArgMatches<'_>,
+    files: &mut F,
+) -> Result<(), Refusal>
+    ensures written { OnOk result (PutsForgotten (λ path. F.holds files.old (F.real files.old path)) (⟦<AnySource<F::Input, F::Image> as Source>⟧.remaining) (found_of words.now)
+        (λ bytes. (F.tells → IsKept (F.holds files.new) (F.may_leave files.new) (F.real files.old (out_text (found_of words.now))) bytes) ⊎ (F.in_place files.old (out_text (found_of words.now)) × IsTaken F.Output.contents bytes))) }
+    ensures untouched { IfErr result (λ refusal. refusal ≢ Refusal.Output → refusal ≢ Refusal.Unkept → files.new ≡ files.old) }
+    // It takes the place of no pass that is no input, but by force, and never that of an image or a mapfile of the inputs.
+    ensures free { OnOk result ((force : Bool) × IsPicked (found_of words.now) (codes "force") true false force ×
+        (F.tells → IsFree (F.holds files.old) (F.real files.old) (F.shut files.old) (F.in_place files.old) (input_texts (found_of words.now)) (pair_texts (found_of words.now)) force (out_text (found_of words.now)))) }
+    ensures spared { IsErrOf result Refusal.Spared → (force : Bool) × IsPicked (found_of words.now) (codes "force") true false force ×
+        (F.tells → IsSpared (F.holds files.old) (F.real files.old) (F.shut files.old) (input_texts (found_of words.now)) (pair_texts (found_of words.now)) force (out_text (found_of words.now))) }
+{
+    let Ok(inputs) = asked_inputs(alloc, words) else {
+        return Err(Refusal::Memory(AllocError));
+    };
+    let force = asked_force(words);
+    match asked_outlook(alloc, words, force, files) {
+        Ok(Outlook::Free) => {}
+        Ok(Outlook::Spared) => return Err(Refusal::Spared),
+        Ok(Outlook::Unknown) => return Err(unwritten(alloc, inputs.as_slice(), files)),
+        Err(AllocError) => return Err(Refusal::Memory(AllocError)),
+    }
+    match forget(
+        alloc,
+        inputs.as_slice(),
+        asked_conflicts(words),
+        words.get_strs(BLOCKS).unwrap_or(&[]),
+        asked_out(words),
+        files,
+    ) {
+        Ok(()) => Ok(()),
+        Err(refusal) => Err(refusal),
+    }
+}
+
+/// Whether the words after `forget` name the blocks in conflict.
+fn asked_conflicts(words: &ArgMatches<'_>) -> bool
+    ensures { IsPicked (found_of words.now) (codes "conflicts") true false result }
+{
+    words.get_flag(CONFLICTS)
 }
 
 /// What is known of the output that the words after `merge` ask for.

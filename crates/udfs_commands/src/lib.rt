@@ -6,6 +6,7 @@ mod asking;
 mod command;
 mod extract;
 mod files;
+mod forget;
 mod guard;
 mod inputs;
 mod last;

@@ -4,7 +4,7 @@ ghost use Rattle.std.specs.Prelude.{◌≡◌, false, IfOk, codes, map};
 ghost use Rattle.std.specs.String.{string_bytes};
 ghost use Rattle.udfs_commands.specs.Obeying.{given_in, is_given, names};
 ghost use Rattle.clap.specs.Words.{app_of, rule_of};
-ghost use Rattle.udfs_commands.specs.Grammar.{extract_app, inputs_rule, last_rule, merge_app, pairs_rule, out_rule, program_app, report_app, reread_app, size_rule, value_rule};
+ghost use Rattle.udfs_commands.specs.Grammar.{blocks_rule, extract_app, flag_rule, forget_app, inputs_rule, last_rule, merge_app, pairs_rule, out_rule, program_app, report_app, reread_app, size_rule, value_rule};
 
 use clap::{Arg, ArgAction, Command, value_parser};
 use std::alloc::{AllocError, Global};
@@ -27,6 +27,12 @@ pub const LAST: &str = "last";
 /// The id of the disc's size among the matches.
 pub const SIZE: &str = "size";
 
+/// The id of the flag for forgetting blocks in conflict.
+pub const CONFLICTS: &str = "conflicts";
+
+/// The id of lists of blocks among the matches.
+pub const BLOCKS: &str = "blocks";
+
 /// The id of the flag for version 1.
 pub const V1: &str = "v1";
 
@@ -46,6 +52,8 @@ pub struct Given {
     pub pairs: bool,
     /// The size of the disc: then there need be no last block.
     pub size: bool,
+    /// That conflicts are to be forgotten: then there need be no list of blocks.
+    pub conflicts: bool,
 }
 
 /// Whether a word is this option, or begins with the option and the sign of its value.
@@ -78,6 +86,7 @@ pub fn given_in(words: &[String]) -> Given
     Given {
         pairs: is_given("--ddrescue", b"--ddrescue=", words),
         size: is_given("--size", b"--size=", words),
+        conflicts: is_given("--conflicts", b"--conflicts=", words),
     }
 }
 
@@ -92,7 +101,8 @@ pub fn grammar<'a>(alloc: Global, given: Given) -> Result<Command<'a>, AllocErro
         .subcommand(merge(alloc, given.pairs)?)?
         .subcommand(report(alloc, given)?)?
         .subcommand(reread(alloc, given)?)?
-        .subcommand(extract(alloc, given)?)
+        .subcommand(extract(alloc, given)?)?
+        .subcommand(forget(alloc, given)?)
 }
 
 /// `merge [--v1] [--force] --out FILE IN...`
@@ -103,15 +113,11 @@ fn merge<'a>(alloc: Global, pairs: bool) -> Result<Command<'a>, AllocError>
         .long("v1")
         .help("Write the table file in version 1, the old form")
         .action(ArgAction::SetTrue);
-    let force = Arg::new(alloc, FORCE)
-        .long("force")
-        .help("Write over a reading that is none of the inputs")
-        .action(ArgAction::SetTrue);
     Command::new(alloc, "merge")
         .about("Joins readings and table files into one table file")
         .arg(table_file(alloc))?
         .arg(v1)?
-        .arg(force)?
+        .arg(force(alloc))?
         .arg(pair_inputs(alloc))?
         .arg(inputs(alloc, pairs))
 }
@@ -161,6 +167,46 @@ fn extract<'a>(alloc: Global, given: Given) -> Result<Command<'a>, AllocError>
         .arg(fill)?
         .arg(pair_inputs(alloc))?
         .arg(inputs(alloc, given.pairs))
+}
+
+/// `forget --out FILE (--conflicts | --blocks LIST)... [--force] IN...`
+fn forget<'a>(alloc: Global, given: Given) -> Result<Command<'a>, AllocError>
+    ensures { IfOk result (λ command. app_of command ≡ forget_app given) }
+{
+    let conflicts = Arg::new(alloc, CONFLICTS)
+        .long("conflicts")
+        .help("Forget the blocks in conflict")
+        .action(ArgAction::SetTrue);
+    Command::new(alloc, "forget")
+        .about("Writes the table of the inputs, in which some blocks are unknown again")
+        .arg(table_file(alloc))?
+        .arg(conflicts)?
+        .arg(blocks(alloc, given.conflicts))?
+        .arg(force(alloc))?
+        .arg(pair_inputs(alloc))?
+        .arg(inputs(alloc, given.pairs))
+}
+
+/// The flag for writing over a reading that is no input.
+fn force<'a>(alloc: Global) -> Arg<'a>
+    ensures { (rule_of result ≡ flag_rule (codes "force")) × (result.global ≡ false) }
+{
+    Arg::new(alloc, FORCE)
+        .long("force")
+        .help("Write over a reading that is none of the inputs")
+        .action(ArgAction::SetTrue)
+}
+
+/// Lists of blocks, of which there is at least one where no conflicts are to be forgotten.
+fn blocks<'a>(alloc: Global, conflicts: bool) -> Arg<'a>
+    ensures { (rule_of result ≡ blocks_rule conflicts) × (result.global ≡ false) }
+{
+    Arg::new(alloc, BLOCKS)
+        .long("blocks")
+        .value_name("LIST")
+        .help("Forget the blocks of this list: decimal numbers, one a line; - is standard input")
+        .required(!conflicts)
+        .action(ArgAction::Append)
 }
 
 /// The table file to write.
