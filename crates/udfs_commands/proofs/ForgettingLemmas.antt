@@ -1,10 +1,9 @@
--- The first of some lists and the others, and tables that forget one after the other.
-use Rattle.std.proofs.Common.{◌≡◌, ◌∙◌, ◌≤◌, ◌-◌, ℕ, List, [], ◌∷◌, ◌++◌, Bool, true, false, Bor, Option, arith, ap, cond, drop, take, length, map, refl, slice_index_or, subst, sym}
+-- The first of some lists and the others.
+use Rattle.std.proofs.Common.{◌≡◌, ◌∙◌, ◌≤◌, ◌-◌, ℕ, List, [], ◌∷◌, ◌++◌, Bool, Bor, Option, arith, ap, drop, take, length, map, refl, slice_index_or, subst, sym}
 use Rattle.std.proofs.lemmas.List.{append_assoc, take_all}
-use Rattle.udfs_lattice.specs.declared.facts.Fact.TheVariants.{Unknown}
-use Rattle.udfs_lattice.specs.States.{State}
 use Rattle.udfs_lattice.specs.Tables.{Table}
-use Rattle.udfs_commands.specs.Forgetting.{Forgets, HasList, Lists, list_path}
+use Rattle.udfs_commands.specs.Forgetting.{HasList, IsForgottenJoin, Lists, list_path}
+use Rattle.udfs_commands.specs.declared.sources.InputPath.{InputPath}
 
 more : (found : List ℕ → Option (Option (List ℕ))) (p : List ℕ) (ps : List (List ℕ)) (old middle new first others : List ℕ) →
     HasList (found (list_path p)) first → Lists found ps others → middle ≡ old ++ first → new ≡ middle ++ others →
@@ -22,3 +21,7 @@ lists_more found (p ∷ ps) d old middle new first others some has lists e f =
 
 pub lists_alone : (found : List ℕ → Option (Option (List ℕ))) (paths : List (List ℕ)) (old new all : List ℕ) → Lists found paths all → old ≡ [] → new ≡ old ++ all → Lists found paths new
 lists_alone found paths old new all lists e f = subst (Lists found paths) (sym (f ∙ ap (λ l. l ++ all) e)) lists
+
+pub of_lists : {R : Type 0} (found : List ℕ → Option (Option (List ℕ))) (remaining : R → Option (List ℕ)) (inputs : List InputPath) (conflicts : Bool) (l m : List (List ℕ)) (table : Table) → l ≡ m →
+    IsForgottenJoin found remaining inputs conflicts l table → IsForgottenJoin found remaining inputs conflicts m table
+of_lists found remaining inputs conflicts l m table e join = subst (λ lists. IsForgottenJoin found remaining inputs conflicts lists table) e join
