@@ -2,6 +2,7 @@
 
 mod devices;
 mod extracting;
+mod forgetting;
 mod hostile;
 mod json;
 mod keeping;
@@ -11,6 +12,7 @@ mod pairs;
 mod refusals;
 mod reporting;
 mod rereading;
+mod sizes;
 mod sparing;
 mod versions;
 mod words;

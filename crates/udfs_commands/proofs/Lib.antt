@@ -1,6 +1,7 @@
 pub mod AskingLemmas
+pub mod ForgettingLemmas
 pub mod KeepingLemmas
 mod PutNodes
 pub mod GrammarLemmas
 pub mod ObeyingLemmas
-pub mod MergingLemmas
+pub mod LeavingLemmas

@@ -5,7 +5,8 @@ use Rattle.clap.specs.Matches.{subcommand_name_of}
 use Rattle.clap.specs.declared.parser.matches.ArgMatches.{ArgMatches}
 use Rattle.clap.specs.declared.parser.matches.Found.{Found}
 use Rattle.udfs_commands.specs.Grammar.{program_app}
-use Rattle.udfs_commands.specs.Obeying.{Asks, IsAsked, names_pairs}
+use Rattle.udfs_commands.specs.Obeying.{Asks, IsAsked, given_in}
+use Rattle.udfs_commands.specs.declared.words.Given.{Given}
 
 some_is : {X : Type 0} (x y : X) → Some x ≡ Some y → x ≡ y
 some_is {X = X} x y e = ap (λ (o : Option X). from o) e
@@ -24,13 +25,22 @@ both f g None y z h k = absurd (none h)
     none e = cc
 both {Y = Y} {Z = Z} f g (Some x) y z h k = ap₂ (λ (a : Y) (b : Z). Some (a, b)) (sym (some_is y (f x) h)) (sym (some_is z (g x) k))
 
-simple : (pairs : Bool) → is_simple (program_app pairs) ≡ true
-simple true = refl
-simple false = refl
+simple_by : (pairs size conflicts : Bool) → is_simple (program_app (record { pairs = pairs; size = size; conflicts = conflicts })) ≡ true
+simple_by true true true = refl
+simple_by true true false = refl
+simple_by true false true = refl
+simple_by true false false = refl
+simple_by false true true = refl
+simple_by false true false = refl
+simple_by false false true = refl
+simple_by false false false = refl
 
-pub asked : (m : ArgMatches) (words : List Text) (name : Text) (found : Found) → HasMatchesOf (program_app (names_pairs words)) words m
+simple : (given : Given) → is_simple (program_app given) ≡ true
+simple given = simple_by given.pairs given.size given.conflicts
+
+pub asked : (m : ArgMatches) (words : List Text) (name : Text) (found : Found) → HasMatchesOf (program_app (given_in words)) words m
     → Some name ≡ subcommand_name_of m → Some (rows_of found) ≡ option_map (λ (p : Text × List Row). p.1) (subcommand_rows_of m) → IsAsked words name found
-asked m words name found h named rows = sym ((h (simple (names_pairs words))).1) ∙ both _ _ _ name (rows_of found) named rows
+asked m words name found h named rows = sym ((h (simple (given_in words))).1) ∙ both _ _ _ name (rows_of found) named rows
 
 pub only_name : (words : List Text) (name asked : Text) (found : Found) → Asks words asked → IsAsked words name found → name ≡ asked
 only_name words name asked found h k = some_is name asked (sym (ap (option_map (λ (p : Text × List Row). p.0)) k) ∙ h)

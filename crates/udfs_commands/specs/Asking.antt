@@ -2,10 +2,11 @@
 --     IsPicked words flag given absent picked     the one thing with the flag, and the other without it
 --     input_texts words                           the paths of the inputs that are files, in order
 --     asked_inputs words                          the inputs: all files, and then all pairs
+--     list_texts words                            the paths of the lists of blocks, in order
 --     out_text words                              the path of the output
 --     folder_text words                           the path of the new folder
---     IsLast words last                           the number of the last block; or 0, of which there is no report
-use Rattle.std.specs.Prelude.{◌≡◌, ◌⊎◌, ℕ, List, [], ◌∷◌, ◌++◌, Some, None, codes, map, option_map, unwrap_or}
+--     IsLast words last                           the number of the last block, or of that with which a disc of the size ends; or 0, of which there is no report
+use Rattle.std.specs.Prelude.{◌≡◌, ◌⊎◌, ℕ, ◌+◌, ◌*◌, List, [], ◌∷◌, ◌++◌, Some, None, codes, map, option_map, unwrap_or}
 use Rattle.clap.specs.Matches.{matched_of, first_value, one_text, raw_values}
 use Rattle.clap.specs.declared.parser.matches.Found.{Found}
 use Rattle.std.specs.Str.Parse.{digits_value, without_leading_plus}
@@ -44,6 +45,10 @@ pair_texts words = unwrap_or (option_map raw_values (matched_of words (codes "dd
 abbrev pub asked_inputs : Found → List Asked
 asked_inputs words = map AskedFile (input_texts words) ++ pairs_of (pair_texts words)
 
+-- all that was given as a list of blocks, each a path
+abbrev pub list_texts : Found → List (List ℕ)
+list_texts words = unwrap_or (option_map raw_values (matched_of words (codes "blocks"))) []
+
 -- what was given as the output, a path
 abbrev pub out_text : Found → List ℕ
 out_text words = unwrap_or (first_value words (codes "out")) []
@@ -52,6 +57,10 @@ out_text words = unwrap_or (first_value words (codes "out")) []
 abbrev pub folder_text : Found → List ℕ
 folder_text words = unwrap_or (first_value words (codes "to")) []
 
--- what was given as the last block, in decimal; of 0 there is no report
+-- what was given as this is a number, in decimal
+abbrev pub IsNumber : Found → List ℕ → ℕ → Type 0
+IsNumber words id number = (text : List ℕ) × (one_text words id ≡ Some text) × (digits_value 10 (without_leading_plus text) ≡ number)
+
+-- what was given as the last block, or the block with which a disc of the size that was given ends; of 0 there is no report
 abbrev pub IsLast : Found → ℕ → Type 0
-IsLast words last = ((text : List ℕ) × (one_text words (codes "last") ≡ Some text) × (digits_value 10 (without_leading_plus text) ≡ last)) ⊎ (last ≡ 0)
+IsLast words last = IsNumber words (codes "last") last ⊎ IsNumber words (codes "size") (2048 * (last + 1)) ⊎ (last ≡ 0)

@@ -2,7 +2,8 @@
 use Rattle.std.specs.Prelude.{ℕ, Bool, true, false, not, List, Some, codes, pos}
 use Rattle.clap.specs.Words.{App, Rule, Shape, Text, new_app, new_rule, with_rule, with_subcommand}
 use Rattle.clap.specs.declared.builder.ArgAction.TheVariants.{Append, Set, SetTrue}
-use Rattle.clap.specs.declared.builder.ValueParser.TheVariants.{Signed}
+use Rattle.clap.specs.declared.builder.ValueParser.TheVariants.{Signed, Unsigned}
+use Rattle.udfs_commands.specs.declared.words.Given.{Given}
 
 -- a flag
 abbrev pub flag_rule : Text → Rule
@@ -12,9 +13,13 @@ flag_rule name = record (new_rule name) { long = Some name; action = Some SetTru
 abbrev pub value_rule : Text → Rule
 value_rule name = record (new_rule name) { long = Some name; action = Some Set; value_names = 1; required = true }
 
--- `--last N`, a number of 32 bits
-abbrev pub last_rule : Rule
-last_rule = record (value_rule (codes "last")) { parser = Some (Signed (pos 0) (pos 4294967295)) }
+-- `--last N`, a number of 32 bits, which has to be given where no size is
+abbrev pub last_rule : Bool → Rule
+last_rule size = record (value_rule (codes "last")) { parser = Some (Signed (pos 0) (pos 4294967295)); required = not size }
+
+-- `--size BYTES`, a number of 64 bits
+abbrev pub size_rule : Rule
+size_rule = record (new_rule (codes "size")) { long = Some (codes "size"); action = Some Set; value_names = 1; parser = Some (Unsigned 0 18446744073709551615) }
 
 -- `--out FILE` or `-o FILE`
 abbrev pub out_rule : Rule
@@ -28,6 +33,10 @@ pairs_rule = record (new_rule (codes "ddrescue")) { long = Some (codes "ddrescue
 abbrev pub inputs_rule : Bool → Rule
 inputs_rule pairs = record (new_rule (codes "input")) { value_names = 1; action = Some Append; required = not pairs; range = Some (record { start_inclusive = 1; end_inclusive = 18446744073709551615 }) }
 
+-- `--blocks LIST`, any number of times, and once at least where no conflicts are to be forgotten
+abbrev pub blocks_rule : Bool → Rule
+blocks_rule conflicts = record (new_rule (codes "blocks")) { long = Some (codes "blocks"); value_names = 1; action = Some Append; required = not conflicts }
+
 -- what every command takes
 abbrev pub with_inputs : App → Bool → App
 with_inputs command pairs = with_rule (with_rule command pairs_rule) (inputs_rule pairs)
@@ -36,22 +45,30 @@ with_inputs command pairs = with_rule (with_rule command pairs_rule) (inputs_rul
 abbrev pub merge_app : Bool → App
 merge_app pairs = with_inputs (with_rule (with_rule (with_rule (new_app (codes "merge")) out_rule) (flag_rule (codes "v1"))) (flag_rule (codes "force"))) pairs
 
--- `report --last N [--json] IN...`
-abbrev pub report_app : Bool → App
-report_app pairs = with_inputs (with_rule (with_rule (new_app (codes "report")) last_rule) (flag_rule (codes "json"))) pairs
+-- a command of this name that is told where the disc ends
+abbrev pub with_last : Text → Bool → App
+with_last name size = with_rule (with_rule (new_app name) (last_rule size)) size_rule
 
--- `reread --last N IN...`
-abbrev pub reread_app : Bool → App
-reread_app pairs = with_inputs (with_rule (new_app (codes "reread")) last_rule) pairs
+-- `report (--last N | --size BYTES) [--json] IN...`
+abbrev pub report_app : Given → App
+report_app given = with_inputs (with_rule (with_last (codes "report") given.size) (flag_rule (codes "json"))) given.pairs
 
--- `extract --last N --to DIR [--fill] IN...`
-abbrev pub extract_app : Bool → App
-extract_app pairs = with_inputs (with_rule (with_rule (with_rule (new_app (codes "extract")) last_rule) (value_rule (codes "to"))) (flag_rule (codes "fill"))) pairs
+-- `reread (--last N | --size BYTES) IN...`
+abbrev pub reread_app : Given → App
+reread_app given = with_inputs (with_last (codes "reread") given.size) given.pairs
+
+-- `extract (--last N | --size BYTES) --to DIR [--fill] IN...`
+abbrev pub extract_app : Given → App
+extract_app given = with_inputs (with_rule (with_rule (with_last (codes "extract") given.size) (value_rule (codes "to"))) (flag_rule (codes "fill"))) given.pairs
+
+-- `forget --out FILE (--conflicts | --blocks LIST)... [--force] IN...`
+abbrev pub forget_app : Given → App
+forget_app given = with_inputs (with_rule (with_rule (with_rule (with_rule (new_app (codes "forget")) out_rule) (flag_rule (codes "conflicts"))) (blocks_rule given.conflicts)) (flag_rule (codes "force"))) given.pairs
 
 -- the program before its commands: one of them has to be named, and there is `--version`
 abbrev pub program : App
 program = record (new_app (codes "udfsalvage")) { top = record (new_app (codes "udfsalvage")).top { has_version = true; subcommand_required = true } }
 
--- the program, where pairs are among the words or not
-abbrev pub program_app : Bool → App
-program_app pairs = with_subcommand (with_subcommand (with_subcommand (with_subcommand program (merge_app pairs).top) (report_app pairs).top) (reread_app pairs).top) (extract_app pairs).top
+-- the program, by what is found among the words
+abbrev pub program_app : Given → App
+program_app given = with_subcommand (with_subcommand (with_subcommand (with_subcommand (with_subcommand program (merge_app given.pairs).top) (report_app given).top) (reread_app given).top) (extract_app given).top) (forget_app given).top

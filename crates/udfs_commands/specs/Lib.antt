@@ -6,8 +6,9 @@ pub mod Listing
 pub mod JsonRuns
 pub mod Asking
 pub mod Keeping
+pub mod Forgetting
 pub mod Guarding
 pub mod Sources
 pub mod Grammar
 pub mod Obeying
-pub mod Merging
+pub mod Leaving

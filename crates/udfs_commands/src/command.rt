@@ -8,6 +8,7 @@ ghost use Rattle.udfs_files.specs.Disk.{After, Disk, Fails, Goes, IsOwn};
 ghost use Rattle.udfs_salvage.specs.declared.extraction.Fill.{Fill};
 ghost use Rattle.udfs_commands.specs.Asking.{IsLast, IsPicked, asked_for, asked_inputs, folder_text, input_texts, out_text, pair_texts};
 ghost use Rattle.udfs_commands.specs.Extracting.{ExtractsAll, IsIn, IsPut, Spares, Stay};
+ghost use Rattle.udfs_commands.specs.Forgetting.{PutsForgotten};
 ghost use Rattle.udfs_commands.specs.Guarding.{IsFree, IsSpared, SomeShut};
 ghost use Rattle.udfs_commands.specs.JsonRuns.{PrintsAs};
 ghost use Rattle.udfs_commands.specs.Keeping.{IsKept, IsTaken, Joined, OfPaths};
@@ -17,7 +18,7 @@ ghost use Rattle.udfs_commands.specs.Rereading.{PrintsNumbers};
 ghost use Rattle.clap.specs.declared.parser.matches.Found.{Found};
 ghost use Rattle.std.specs.String.{string_bytes};
 ghost use Rattle.clap.specs.Words.{kind_of};
-ghost use Rattle.udfs_commands.specs.Merging.{ExtractSpares, MayMerge, MergeSpares};
+ghost use Rattle.udfs_commands.specs.Leaving.{ExtractSpares, MayForgetAsked, MayMerge, ReplacesOut};
 ghost use Rattle.udfs_commands.specs.Obeying.{Asks, GrammarTakes, IsAsked};
 ghost use Rattle.udfs_commands.specs.Spelling.{table_file};
 ghost use Rattle.udfs_commands.specs.declared.merge.Version.{Version};
@@ -26,15 +27,19 @@ ghost use Rattle.udfs_commands.specs.declared.report.Form.{Form};
 use crate::asking::asked_inputs;
 use crate::extract::extract;
 use crate::files::Files;
+use crate::forget::forget;
 use crate::guard::{Outlook, look_at};
 use crate::inputs::joined;
+use crate::last::{EndFault, asked_last, end_fault};
 use crate::merge::{Version, merge};
 use crate::printing::send;
 use crate::refusal::Refusal;
 use crate::report::{Form, report_as};
 use crate::reread::reread;
 use crate::sources::{AnySource, InputPath};
-use crate::words::{FILL, FORCE, INPUTS, JSON, LAST, OUT, PAIRS, TO, V1, grammar, has_pairs};
+use crate::words::{
+    BLOCKS, CONFLICTS, FILL, FORCE, INPUTS, JSON, OUT, PAIRS, TO, V1, given_in, grammar,
+};
 use clap::error::ErrorKind;
 use clap::{ArgMatches, Error};
 use std::alloc::{AllocError, Global};
@@ -80,14 +85,23 @@ pub fn run<F: Files, O: Sink, E: Sink>(
         OfPaths (λ path. F.holds files.old (F.real files.old path)) (⟦<AnySource<F::Input, F::Image> as Source>⟧.remaining) inputs
         (ExtractsAll (λ table told. IsPut F.tells (Fails F.faults ⊎ Fails F.Output.faults) table told fill (folder_text found) (F.holds files.new) (F.moment files.new) (F.left_since files.new))
         files.old files.new last (O.contents out.old) (O.contents out.new) (O.faults out.old) (O.faults out.new) good)) }
-    // What is there stays, whatever the status: only `merge` and `extract` change files at all, and only as their words ask.
-    ensures reads { (Asks (map string_bytes words.now) (codes "merge") → ⊥) → (Asks (map string_bytes words.now) (codes "extract") → ⊥) → files.new ≡ files.old }
+    ensures forget { GrammarTakes (map string_bytes words.now) → Asks (map string_bytes words.now) (codes "forget") → result ≢ 2 → (result ≡ 0) × (found : Found) × IsAsked (map string_bytes words.now) (codes "forget") found ×
+        PutsForgotten (λ path. F.holds files.old (F.real files.old path)) (⟦<AnySource<F::Input, F::Image> as Source>⟧.remaining) found
+        (λ bytes. (F.tells → IsKept (F.holds files.new) (F.may_leave files.new) (F.real files.old (out_text found)) bytes) ⊎ (F.in_place files.old (out_text found) × IsTaken F.Output.contents bytes)) ×
+        ((force : Bool) × IsPicked found (codes "force") true false force ×
+        (F.tells → IsFree (F.holds files.old) (F.real files.old) (F.in_place files.old) (input_texts found) (pair_texts found) force (out_text found))) }
+    // What is there stays, whatever the status: only `merge`, `forget` and `extract` change files at all, and only as their words ask.
+    ensures reads { (Asks (map string_bytes words.now) (codes "merge") → ⊥) → (Asks (map string_bytes words.now) (codes "forget") → ⊥) → (Asks (map string_bytes words.now) (codes "extract") → ⊥) → files.new ≡ files.old }
     ensures merging { Asks (map string_bytes words.now) (codes "merge") → (files.new ≡ files.old) ⊎ ((found : Found) × IsAsked (map string_bytes words.now) (codes "merge") found ×
-        MergeSpares F.tells F.holds F.real F.in_place F.may_leave F.moment F.left_since (⟦<AnySource<F::Input, F::Image> as Source>⟧.remaining) found files.old files.new) }
+        ReplacesOut F.tells F.holds F.real F.in_place F.may_leave F.moment F.left_since found files.old files.new
+        (MayMerge (λ path. F.holds files.old (F.real files.old path)) (⟦<AnySource<F::Input, F::Image> as Source>⟧.remaining) (F.real files.old) found)) }
+    ensures forgetting { Asks (map string_bytes words.now) (codes "forget") → (files.new ≡ files.old) ⊎ ((found : Found) × IsAsked (map string_bytes words.now) (codes "forget") found ×
+        ReplacesOut F.tells F.holds F.real F.in_place F.may_leave F.moment F.left_since found files.old files.new
+        (MayForgetAsked (λ path. F.holds files.old (F.real files.old path)) (⟦<AnySource<F::Input, F::Image> as Source>⟧.remaining) (F.real files.old) found)) }
     ensures extracting { Asks (map string_bytes words.now) (codes "extract") → (files.new ≡ files.old) ⊎ ((found : Found) × IsAsked (map string_bytes words.now) (codes "extract") found ×
         ExtractSpares F.tells F.holds F.may_leave F.moment F.left_since found files.old files.new) }
 {
-    let command = match grammar(alloc, has_pairs(words)) {
+    let command = match grammar(alloc, given_in(words)) {
         Ok(command) => command,
         Err(AllocError) => return refuse(alloc, &Refusal::Memory(AllocError), err),
     };
@@ -100,6 +114,9 @@ pub fn run<F: Files, O: Sink, E: Sink>(
         // The grammar asks for a command.
         None => return 2,
     };
+    if let Some(fault) = end_fault(words) {
+        return tell(alloc, fault, err);
+    }
     match obey(alloc, name, words, files, out) {
         Some(outcome) => finish(alloc, outcome, err),
         // The grammar has no other command.
@@ -133,9 +150,18 @@ fn obey<F: Files, O: Sink>(
         OfPaths (λ path. F.holds files.old (F.real files.old path)) (⟦<AnySource<F::Input, F::Image> as Source>⟧.remaining) inputs
         (ExtractsAll (λ table told. IsPut F.tells (Fails F.faults ⊎ Fails F.Output.faults) table told fill (folder_text (found_of words.now)) (F.holds files.new) (F.moment files.new) (F.left_since files.new))
         files.old files.new last (O.contents out.old) (O.contents out.new) (O.faults out.old) (O.faults out.new) good))) }
-    // What is there stays, whatever the answer: only `merge` and `extract` change files at all.
-    ensures reads { (name.now ≡ codes "merge" → ⊥) → (name.now ≡ codes "extract" → ⊥) → files.new ≡ files.old }
-    ensures merging { name.now ≡ codes "merge" → MergeSpares F.tells F.holds F.real F.in_place F.may_leave F.moment F.left_since (⟦<AnySource<F::Input, F::Image> as Source>⟧.remaining) (found_of words.now) files.old files.new }
+    ensures done_forget { name.now ≡ codes "forget" → IfSome result (λ outcome. IfOk outcome (λ whole. whole ≡ true)) }
+    ensures forget { name.now ≡ codes "forget" → IfSome result (λ outcome. OnOk outcome
+        (PutsForgotten (λ path. F.holds files.old (F.real files.old path)) (⟦<AnySource<F::Input, F::Image> as Source>⟧.remaining) (found_of words.now)
+        (λ bytes. (F.tells → IsKept (F.holds files.new) (F.may_leave files.new) (F.real files.old (out_text (found_of words.now))) bytes) ⊎ (F.in_place files.old (out_text (found_of words.now)) × IsTaken F.Output.contents bytes)))) }
+    ensures free_forget { name.now ≡ codes "forget" → IfSome result (λ outcome. OnOk outcome ((force : Bool) × IsPicked (found_of words.now) (codes "force") true false force ×
+        (F.tells → IsFree (F.holds files.old) (F.real files.old) (F.in_place files.old) (input_texts (found_of words.now)) (pair_texts (found_of words.now)) force (out_text (found_of words.now))))) }
+    // What is there stays, whatever the answer: only `merge`, `forget` and `extract` change files at all.
+    ensures reads { (name.now ≡ codes "merge" → ⊥) → (name.now ≡ codes "forget" → ⊥) → (name.now ≡ codes "extract" → ⊥) → files.new ≡ files.old }
+    ensures merging { name.now ≡ codes "merge" → ReplacesOut F.tells F.holds F.real F.in_place F.may_leave F.moment F.left_since (found_of words.now) files.old files.new
+        (MayMerge (λ path. F.holds files.old (F.real files.old path)) (⟦<AnySource<F::Input, F::Image> as Source>⟧.remaining) (F.real files.old) (found_of words.now)) }
+    ensures forgetting { name.now ≡ codes "forget" → ReplacesOut F.tells F.holds F.real F.in_place F.may_leave F.moment F.left_since (found_of words.now) files.old files.new
+        (MayForgetAsked (λ path. F.holds files.old (F.real files.old path)) (⟦<AnySource<F::Input, F::Image> as Source>⟧.remaining) (F.real files.old) (found_of words.now)) }
     ensures extracting { name.now ≡ codes "extract" → ExtractSpares F.tells F.holds F.may_leave F.moment F.left_since (found_of words.now) files.old files.new }
 {
     match name {
@@ -146,6 +172,10 @@ fn obey<F: Files, O: Sink>(
         "report" => Some(report_words(alloc, words, files, out)),
         "reread" => Some(reread_words(alloc, words, files, out)),
         "extract" => Some(extract_words(alloc, words, files, out)),
+        "forget" => Some(match forget_words(alloc, words, files) {
+            Ok(()) => Ok(true),
+            Err(refusal) => Err(refusal),
+        }),
         _ => None,
     }
 }
@@ -212,6 +242,58 @@ fn merge_words<F: Files>(
         Ok(()) => Ok(()),
         Err(refusal) => Err(refusal),
     }
+}
+
+/// Does what the words after `forget` ask for.
+fn forget_words<F: Files>(
+    alloc: Global,
+    words: &ArgMatches<'_>,
+    files: &mut F,
+) -> Result<(), Refusal>
+    ensures written { OnOk result (PutsForgotten (λ path. F.holds files.old (F.real files.old path)) (⟦<AnySource<F::Input, F::Image> as Source>⟧.remaining) (found_of words.now)
+        (λ bytes. (F.tells → IsKept (F.holds files.new) (F.may_leave files.new) (F.real files.old (out_text (found_of words.now))) bytes) ⊎ (F.in_place files.old (out_text (found_of words.now)) × IsTaken F.Output.contents bytes))) }
+    // A crash at any moment of the call leaves all as it was, or with the output in its place, whole.
+    ensures any_moment { F.tells → (F.in_place files.old (out_text (found_of words.now)) → ⊥) → (c : Disk) → F.left_since files.new (F.moment files.old) c →
+        After (F.may_leave files.old) (MayForgetAsked (λ path. F.holds files.old (F.real files.old path)) (⟦<AnySource<F::Input, F::Image> as Source>⟧.remaining) (F.real files.old) (found_of words.now)) c }
+    ensures untouched { IfErr result (λ refusal. refusal ≢ Refusal.Output → refusal ≢ Refusal.Unkept → files.new ≡ files.old) }
+    // A refused output leaves what its path held.
+    ensures refused { IsErrOf result Refusal.Output → F.tells → (F.in_place files.old (out_text (found_of words.now)) → ⊥) → F.holds files.new (F.real files.old (out_text (found_of words.now))) ≡ F.holds files.old (F.real files.old (out_text (found_of words.now))) }
+    // No other path changes, but for those of new files that are to go in its place.
+    ensures elsewhere { F.tells → (F.in_place files.old (out_text (found_of words.now)) → ⊥) → (q : List ℕ) → q ≢ F.real files.old (out_text (found_of words.now)) → (¬ IsOwn (F.real files.old (out_text (found_of words.now))) q) → F.holds files.new q ≡ F.holds files.old q }
+    // It takes the place of no pass that is no input, but by force, and never that of an image or a mapfile of the inputs.
+    ensures free { OnOk result ((force : Bool) × IsPicked (found_of words.now) (codes "force") true false force ×
+        (F.tells → IsFree (F.holds files.old) (F.real files.old) (F.in_place files.old) (input_texts (found_of words.now)) (pair_texts (found_of words.now)) force (out_text (found_of words.now)))) }
+    ensures spared { IsErrOf result Refusal.Spared → (force : Bool) × IsPicked (found_of words.now) (codes "force") true false force ×
+        (F.tells → IsSpared (F.holds files.old) (F.real files.old) (input_texts (found_of words.now)) (pair_texts (found_of words.now)) force (out_text (found_of words.now))) }
+{
+    let Ok(inputs) = asked_inputs(alloc, words) else {
+        return Err(Refusal::Memory(AllocError));
+    };
+    let force = asked_force(words);
+    match asked_outlook(alloc, words, force, files) {
+        Ok(Outlook::Free) => {}
+        Ok(Outlook::Spared) => return Err(Refusal::Spared),
+        Ok(Outlook::Unknown) => return Err(unwritten(alloc, inputs.as_slice(), files)),
+        Err(AllocError) => return Err(Refusal::Memory(AllocError)),
+    }
+    match forget(
+        alloc,
+        inputs.as_slice(),
+        asked_conflicts(words),
+        words.get_strs(BLOCKS).unwrap_or(&[]),
+        asked_out(words),
+        files,
+    ) {
+        Ok(()) => Ok(()),
+        Err(refusal) => Err(refusal),
+    }
+}
+
+/// Whether the words after `forget` name the blocks in conflict.
+fn asked_conflicts(words: &ArgMatches<'_>) -> bool
+    ensures { IsPicked (found_of words.now) (codes "conflicts") true false result }
+{
+    words.get_flag(CONFLICTS)
 }
 
 /// What is known of the output that the words after `merge` ask for.
@@ -351,13 +433,6 @@ fn asked_folder<'a>(words: &ArgMatches<'a>) -> &'a str
     words.get_str(TO).unwrap_or("")
 }
 
-/// The last block among the words. The grammar asks for it; of 0 there is no report.
-fn asked_last(words: &ArgMatches<'_>) -> u32
-    ensures { IsLast (found_of words.now) result }
-{
-    words.get_one::<u32>(LAST).unwrap_or(0)
-}
-
 /// What the words after `extract` ask to write of torn files: zeros in the holes with `--fill`, and else nothing.
 fn asked_fill(words: &ArgMatches<'_>) -> Fill
     ensures unset { one_text (found_of words.now) (codes "fill") ≡ None → result ≡ Fill.Refuse }
@@ -399,6 +474,17 @@ fn show<O: Sink, E: Sink>(alloc: Global, error: &Error, out: &mut O, err: &mut E
         (_, Ok(())) => 0,
         (_, Err(DeviceFault)) => refuse(alloc, &Refusal::Output, err),
     }
+}
+
+/// Says in clap's form what is wrong with the words that say where the disc ends, and answers the status.
+fn tell<E: Sink>(alloc: Global, fault: EndFault<'_>, err: &mut E) -> u8
+    ensures { result ≡ 2 }
+{
+    let _ = match format!(in alloc; "error: {fault}\n\nFor more information, try '--help'.\n") {
+        Ok(text) => send(text.as_bytes(), err),
+        Err(AllocError) => send(NO_MEMORY, err),
+    };
+    2
 }
 
 /// Prints a refusal's line, and answers the status. Where not even the line can be had, it is that of want of memory.

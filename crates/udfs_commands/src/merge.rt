@@ -27,9 +27,9 @@ pub enum Version {
 
 /// A table to be written as a table file of this version.
 #[derive(Drop)]
-struct TableFile<'a> {
-    table: &'a BlockTable,
-    version: Version,
+pub struct TableFile<'a> {
+    pub table: &'a BlockTable,
+    pub version: Version,
 }
 
 impl<'a> Content for TableFile<'a> {

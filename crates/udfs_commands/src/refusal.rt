@@ -40,6 +40,18 @@ pub enum Refusal {
     #[error("cannot write output\n  the new file is in its place, whole, but a power cut may bring the old one back")]
     Unkept,
 
+    /// A list of blocks cannot be opened.
+    #[error("cannot open list")]
+    ListOpen,
+
+    /// This line of a list, counted from 1, is no block number.
+    #[error("list line {0}: not a block number")]
+    ListLine(u64),
+
+    /// The device of a list failed.
+    #[error("cannot read list")]
+    ListRead,
+
     /// The new folder cannot be made.
     #[error("cannot make the folder")]
     Folder,

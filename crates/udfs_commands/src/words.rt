@@ -2,9 +2,9 @@
 
 ghost use Rattle.std.specs.Prelude.{◌≡◌, false, IfOk, codes, map};
 ghost use Rattle.std.specs.String.{string_bytes};
-ghost use Rattle.udfs_commands.specs.Obeying.{names_pair, names_pairs};
+ghost use Rattle.udfs_commands.specs.Obeying.{given_in, is_given, names};
 ghost use Rattle.clap.specs.Words.{app_of, rule_of};
-ghost use Rattle.udfs_commands.specs.Grammar.{extract_app, inputs_rule, last_rule, merge_app, pairs_rule, out_rule, program_app, report_app, reread_app, value_rule};
+ghost use Rattle.udfs_commands.specs.Grammar.{blocks_rule, extract_app, flag_rule, forget_app, inputs_rule, last_rule, merge_app, pairs_rule, out_rule, program_app, report_app, reread_app, size_rule, value_rule};
 
 use clap::{Arg, ArgAction, Command, value_parser};
 use std::alloc::{AllocError, Global};
@@ -24,6 +24,15 @@ pub const FORCE: &str = "force";
 /// The last block's id among the matches.
 pub const LAST: &str = "last";
 
+/// The id of the disc's size among the matches.
+pub const SIZE: &str = "size";
+
+/// The id of the flag for forgetting blocks in conflict.
+pub const CONFLICTS: &str = "conflicts";
+
+/// The id of lists of blocks among the matches.
+pub const BLOCKS: &str = "blocks";
+
 /// The id of the flag for version 1.
 pub const V1: &str = "v1";
 
@@ -36,41 +45,64 @@ pub const FILL: &str = "fill";
 /// The id of the flag for JSON among the matches.
 pub const JSON: &str = "json";
 
-/// Whether a word stands before an image and its mapfile, or holds the first of them.
-fn names_pair(word: &str) -> bool
-    ensures { result ≡ names_pair word.now }
-{
-    let bytes = word.as_bytes();
-    word == "--ddrescue" || (bytes.len() >= 11 && &bytes[..11] == b"--ddrescue=".as_slice())
+/// What is found among the words before they are parsed: it decides what else has to be given.
+#[derive(Clone, Copy)]
+pub struct Given {
+    /// Images with their mapfiles: then there need be no other input.
+    pub pairs: bool,
+    /// The size of the disc: then there need be no last block.
+    pub size: bool,
+    /// That conflicts are to be forgotten: then there need be no list of blocks.
+    pub conflicts: bool,
 }
 
-/// Whether images with their mapfiles are among the words: then there need be no other input.
-pub fn has_pairs(words: &[String]) -> bool
-    ensures { result ≡ names_pairs (map string_bytes words.now) }
+/// Whether a word is this option, or begins with the option and the sign of its value.
+fn names(option: &str, signed: &[u8], word: &str) -> bool
+    ensures { result ≡ names option.now signed.now word.now }
+{
+    let bytes = word.as_bytes();
+    word == option || (bytes.len() >= signed.len() && &bytes[..signed.len()] == signed)
+}
+
+/// Whether such a word is among these.
+fn is_given(option: &str, signed: &[u8], words: &[String]) -> bool
+    ensures { result ≡ is_given option.now signed.now (map string_bytes words.now) }
 {
     match words {
         [] => false,
         [word, rest @ ..] => {
-            if names_pair(word) {
+            if names(option, signed, word) {
                 return true;
             }
-            has_pairs(rest)
+            is_given(option, signed, rest)
         }
     }
 }
 
-/// The commands and what they take. With images and their mapfiles there need be no other input.
-pub fn grammar<'a>(alloc: Global, pairs: bool) -> Result<Command<'a>, AllocError>
-    ensures { IfOk result (λ command. app_of command ≡ program_app pairs) }
+/// What is found among the words.
+pub fn given_in(words: &[String]) -> Given
+    ensures { result ≡ given_in (map string_bytes words.now) }
+{
+    Given {
+        pairs: is_given("--ddrescue", b"--ddrescue=", words),
+        size: is_given("--size", b"--size=", words),
+        conflicts: is_given("--conflicts", b"--conflicts=", words),
+    }
+}
+
+/// The commands and what they take.
+pub fn grammar<'a>(alloc: Global, given: Given) -> Result<Command<'a>, AllocError>
+    ensures { IfOk result (λ command. app_of command ≡ program_app given) }
 {
     Command::new(alloc, "udfsalvage")
         .about("Salvages scratched rewritable UDF discs from several passes over them")
         .version("0.1.0")
         .subcommand_required(true)
-        .subcommand(merge(alloc, pairs)?)?
-        .subcommand(report(alloc, pairs)?)?
-        .subcommand(reread(alloc, pairs)?)?
-        .subcommand(extract(alloc, pairs)?)
+        .subcommand(merge(alloc, given.pairs)?)?
+        .subcommand(report(alloc, given)?)?
+        .subcommand(reread(alloc, given)?)?
+        .subcommand(extract(alloc, given)?)?
+        .subcommand(forget(alloc, given)?)
 }
 
 /// `merge [--v1] [--force] --out FILE IN...`
@@ -81,22 +113,18 @@ fn merge<'a>(alloc: Global, pairs: bool) -> Result<Command<'a>, AllocError>
         .long("v1")
         .help("Write the table file in version 1, the old form")
         .action(ArgAction::SetTrue);
-    let force = Arg::new(alloc, FORCE)
-        .long("force")
-        .help("Write over a reading that is none of the inputs")
-        .action(ArgAction::SetTrue);
     Command::new(alloc, "merge")
         .about("Joins readings and table files into one table file")
         .arg(table_file(alloc))?
         .arg(v1)?
-        .arg(force)?
+        .arg(force(alloc))?
         .arg(pair_inputs(alloc))?
         .arg(inputs(alloc, pairs))
 }
 
-/// `report --last N [--json] IN...`
-fn report<'a>(alloc: Global, pairs: bool) -> Result<Command<'a>, AllocError>
-    ensures { IfOk result (λ command. app_of command ≡ report_app pairs) }
+/// `report (--last N | --size BYTES) [--json] IN...`
+fn report<'a>(alloc: Global, given: Given) -> Result<Command<'a>, AllocError>
+    ensures { IfOk result (λ command. app_of command ≡ report_app given) }
 {
     let json = Arg::new(alloc, JSON)
         .long("json")
@@ -104,26 +132,28 @@ fn report<'a>(alloc: Global, pairs: bool) -> Result<Command<'a>, AllocError>
         .action(ArgAction::SetTrue);
     Command::new(alloc, "report")
         .about("Prints what the inputs tell of the volume, and which blocks to read again")
-        .arg(last(alloc))?
+        .arg(last(alloc, given.size))?
+        .arg(disc_size(alloc))?
         .arg(json)?
         .arg(pair_inputs(alloc))?
-        .arg(inputs(alloc, pairs))
+        .arg(inputs(alloc, given.pairs))
 }
 
-/// `reread --last N IN...`
-fn reread<'a>(alloc: Global, pairs: bool) -> Result<Command<'a>, AllocError>
-    ensures { IfOk result (λ command. app_of command ≡ reread_app pairs) }
+/// `reread (--last N | --size BYTES) IN...`
+fn reread<'a>(alloc: Global, given: Given) -> Result<Command<'a>, AllocError>
+    ensures { IfOk result (λ command. app_of command ≡ reread_app given) }
 {
     Command::new(alloc, "reread")
         .about("Prints the numbers of the blocks to read again")
-        .arg(last(alloc))?
+        .arg(last(alloc, given.size))?
+        .arg(disc_size(alloc))?
         .arg(pair_inputs(alloc))?
-        .arg(inputs(alloc, pairs))
+        .arg(inputs(alloc, given.pairs))
 }
 
-/// `extract --last N --to DIR [--fill] IN...`
-fn extract<'a>(alloc: Global, pairs: bool) -> Result<Command<'a>, AllocError>
-    ensures { IfOk result (λ command. app_of command ≡ extract_app pairs) }
+/// `extract (--last N | --size BYTES) --to DIR [--fill] IN...`
+fn extract<'a>(alloc: Global, given: Given) -> Result<Command<'a>, AllocError>
+    ensures { IfOk result (λ command. app_of command ≡ extract_app given) }
 {
     let fill = Arg::new(alloc, FILL)
         .long("fill")
@@ -131,11 +161,52 @@ fn extract<'a>(alloc: Global, pairs: bool) -> Result<Command<'a>, AllocError>
         .action(ArgAction::SetTrue);
     Command::new(alloc, "extract")
         .about("Writes the files that are whole into a new folder")
-        .arg(last(alloc))?
+        .arg(last(alloc, given.size))?
+        .arg(disc_size(alloc))?
         .arg(folder(alloc))?
         .arg(fill)?
         .arg(pair_inputs(alloc))?
-        .arg(inputs(alloc, pairs))
+        .arg(inputs(alloc, given.pairs))
+}
+
+/// `forget --out FILE (--conflicts | --blocks LIST)... [--force] IN...`
+fn forget<'a>(alloc: Global, given: Given) -> Result<Command<'a>, AllocError>
+    ensures { IfOk result (λ command. app_of command ≡ forget_app given) }
+{
+    let conflicts = Arg::new(alloc, CONFLICTS)
+        .long("conflicts")
+        .help("Forget the blocks in conflict")
+        .action(ArgAction::SetTrue);
+    Command::new(alloc, "forget")
+        .about("Writes the table of the inputs, in which some blocks are unknown again")
+        .arg(table_file(alloc))?
+        .arg(conflicts)?
+        .arg(blocks(alloc, given.conflicts))?
+        .arg(force(alloc))?
+        .arg(pair_inputs(alloc))?
+        .arg(inputs(alloc, given.pairs))
+}
+
+/// The flag for writing over a reading that is no input.
+fn force<'a>(alloc: Global) -> Arg<'a>
+    ensures { (rule_of result ≡ flag_rule (codes "force")) × (result.global ≡ false) }
+{
+    Arg::new(alloc, FORCE)
+        .long("force")
+        .help("Write over a reading that is none of the inputs")
+        .action(ArgAction::SetTrue)
+}
+
+/// Lists of blocks, of which there is at least one where no conflicts are to be forgotten.
+fn blocks<'a>(alloc: Global, conflicts: bool) -> Arg<'a>
+    ensures { (rule_of result ≡ blocks_rule conflicts) × (result.global ≡ false) }
+{
+    Arg::new(alloc, BLOCKS)
+        .long("blocks")
+        .value_name("LIST")
+        .help("Forget the blocks of this list: decimal numbers, one a line; - is standard input")
+        .required(!conflicts)
+        .action(ArgAction::Append)
 }
 
 /// The table file to write.
@@ -163,16 +234,28 @@ fn folder<'a>(alloc: Global) -> Arg<'a>
         .action(ArgAction::Set)
 }
 
-/// The volume's last block.
-fn last<'a>(alloc: Global) -> Arg<'a>
-    ensures { (rule_of result ≡ last_rule) × (result.global ≡ false) }
+/// The volume's last block, which has to be given where no size is.
+fn last<'a>(alloc: Global, size: bool) -> Arg<'a>
+    ensures { (rule_of result ≡ last_rule size) × (result.global ≡ false) }
 {
     Arg::new(alloc, LAST)
         .long("last")
         .value_name("N")
         .help("The number of the volume's last block")
-        .required(true)
+        .required(!size)
         .value_parser(value_parser!(u32))
+        .action(ArgAction::Set)
+}
+
+/// The disc's size.
+fn disc_size<'a>(alloc: Global) -> Arg<'a>
+    ensures { (rule_of result ≡ size_rule) × (result.global ≡ false) }
+{
+    Arg::new(alloc, SIZE)
+        .long("size")
+        .value_name("BYTES")
+        .help("The size of the disc in bytes, in place of --last")
+        .value_parser(value_parser!(u64))
         .action(ArgAction::Set)
 }
 

@@ -3,7 +3,7 @@ use Rattle.udfs_lattice.specs.Records.{join_all}
 use Rattle.udfs_commands.specs.Keeping.{IsKept, IsTaken}
 use Rattle.udfs_commands.specs.Spelling.{table_file}
 use Rattle.clap.specs.Matches.{found_of}
-use Rattle.udfs_commands.proofs.MergingLemmas.{may_merge}
+use Rattle.udfs_commands.proofs.LeavingLemmas.{may_merge}
 use Rattle.udfs_commands.proofs.command.merge_words.Goals as goal
 
 pub returns-in-Ok-merge-clause-written : goal.returns-in-Ok-merge-clause-written

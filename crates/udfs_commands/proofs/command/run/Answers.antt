@@ -3,32 +3,32 @@ use Rattle.std.specs.String.{string_bytes}
 use Rattle.clap.specs.Matches.{found_of}
 use Rattle.clap.specs.Words.{App, HasMatchesOf, app_of, takes}
 use Rattle.udfs_commands.specs.Grammar.{program_app}
-use Rattle.udfs_commands.specs.Obeying.{IsAsked, names_pairs}
+use Rattle.udfs_commands.specs.Obeying.{IsAsked}
 use Rattle.udfs_commands.proofs.ObeyingLemmas.{asked, asks_by, done, done_whole, only_name}
 use Rattle.udfs_commands.proofs.command.run.Goals as goal
 
 pub returns-in-Err-try_get_matches_from-clause-merge : goal.returns-in-Err-try_get_matches_from-clause-merge
 returns-in-Err-try_get_matches_from-clause-merge g c = λ taken asks some.
-    absurd (some (c.show.ensures.memory (c.in-Err-try_get_matches_from.ensures.passes (ap (λ (a : App). takes a (map string_bytes c.args.words.now)) (c.in-Ok.ensures ∙ ap program_app c.has_pairs.ensures) ∙ taken))))
+    absurd (some (c.show.ensures.memory (c.in-Err-try_get_matches_from.ensures.passes (ap (λ (a : App). takes a (map string_bytes c.args.words.now)) (c.in-Ok.ensures ∙ ap program_app c.given_in.ensures) ∙ taken))))
 
 pub returns-in-Err-try_get_matches_from-clause-report : goal.returns-in-Err-try_get_matches_from-clause-report
 returns-in-Err-try_get_matches_from-clause-report g c = λ taken asks some.
-    absurd (some (c.show.ensures.memory (c.in-Err-try_get_matches_from.ensures.passes (ap (λ (a : App). takes a (map string_bytes c.args.words.now)) (c.in-Ok.ensures ∙ ap program_app c.has_pairs.ensures) ∙ taken))))
+    absurd (some (c.show.ensures.memory (c.in-Err-try_get_matches_from.ensures.passes (ap (λ (a : App). takes a (map string_bytes c.args.words.now)) (c.in-Ok.ensures ∙ ap program_app c.given_in.ensures) ∙ taken))))
 
 pub returns-in-Err-try_get_matches_from-clause-reread : goal.returns-in-Err-try_get_matches_from-clause-reread
 returns-in-Err-try_get_matches_from-clause-reread g c = λ taken asks some.
-    absurd (some (c.show.ensures.memory (c.in-Err-try_get_matches_from.ensures.passes (ap (λ (a : App). takes a (map string_bytes c.args.words.now)) (c.in-Ok.ensures ∙ ap program_app c.has_pairs.ensures) ∙ taken))))
+    absurd (some (c.show.ensures.memory (c.in-Err-try_get_matches_from.ensures.passes (ap (λ (a : App). takes a (map string_bytes c.args.words.now)) (c.in-Ok.ensures ∙ ap program_app c.given_in.ensures) ∙ taken))))
 
 pub returns-in-Err-try_get_matches_from-clause-extract : goal.returns-in-Err-try_get_matches_from-clause-extract
 returns-in-Err-try_get_matches_from-clause-extract g c = λ taken asks some.
-    absurd (some (c.show.ensures.memory (c.in-Err-try_get_matches_from.ensures.passes (ap (λ (a : App). takes a (map string_bytes c.args.words.now)) (c.in-Ok.ensures ∙ ap program_app c.has_pairs.ensures) ∙ taken))))
+    absurd (some (c.show.ensures.memory (c.in-Err-try_get_matches_from.ensures.passes (ap (λ (a : App). takes a (map string_bytes c.args.words.now)) (c.in-Ok.ensures ∙ ap program_app c.given_in.ensures) ∙ taken))))
 
 pub returns-in-Some-obey-clause-merge : goal.returns-in-Some-obey-clause-merge
 returns-in-Some-obey-clause-merge g c = λ taken asks some.
     let words = map string_bytes c.args.words.now in
     let found = found_of c.in-Some.found.1.now in
     let ask : IsAsked words c.in-Some.found.0.now found = asked c.in-Ok-try_get_matches_from.matches words c.in-Some.found.0.now found
-    (subst (λ (a : App). HasMatchesOf a words c.in-Ok-try_get_matches_from.matches) (c.in-Ok.ensures ∙ ap program_app c.has_pairs.ensures) c.in-Ok-try_get_matches_from.ensures.matches)
+    (subst (λ (a : App). HasMatchesOf a words c.in-Ok-try_get_matches_from.matches) (c.in-Ok.ensures ∙ ap program_app c.given_in.ensures) c.in-Ok-try_get_matches_from.ensures.matches)
     c.in-Some.ensures.name c.in-Some.ensures.rows in
     let is : c.in-Some.found.0.now ≡ codes "merge" = only_name words c.in-Some.found.0.now (codes "merge") found asks ask in
     let named : IsAsked words (codes "merge") found = subst (λ (n : List ℕ). IsAsked words n found) is ask in
@@ -40,7 +40,7 @@ returns-in-Some-obey-clause-report g c = λ taken asks some.
     let words = map string_bytes c.args.words.now in
     let found = found_of c.in-Some.found.1.now in
     let ask : IsAsked words c.in-Some.found.0.now found = asked c.in-Ok-try_get_matches_from.matches words c.in-Some.found.0.now found
-    (subst (λ (a : App). HasMatchesOf a words c.in-Ok-try_get_matches_from.matches) (c.in-Ok.ensures ∙ ap program_app c.has_pairs.ensures) c.in-Ok-try_get_matches_from.ensures.matches)
+    (subst (λ (a : App). HasMatchesOf a words c.in-Ok-try_get_matches_from.matches) (c.in-Ok.ensures ∙ ap program_app c.given_in.ensures) c.in-Ok-try_get_matches_from.ensures.matches)
     c.in-Some.ensures.name c.in-Some.ensures.rows in
     let is : c.in-Some.found.0.now ≡ codes "report" = only_name words c.in-Some.found.0.now (codes "report") found asks ask in
     let named : IsAsked words (codes "report") found = subst (λ (n : List ℕ). IsAsked words n found) is ask in
@@ -52,7 +52,7 @@ returns-in-Some-obey-clause-reread g c = λ taken asks some.
     let words = map string_bytes c.args.words.now in
     let found = found_of c.in-Some.found.1.now in
     let ask : IsAsked words c.in-Some.found.0.now found = asked c.in-Ok-try_get_matches_from.matches words c.in-Some.found.0.now found
-    (subst (λ (a : App). HasMatchesOf a words c.in-Ok-try_get_matches_from.matches) (c.in-Ok.ensures ∙ ap program_app c.has_pairs.ensures) c.in-Ok-try_get_matches_from.ensures.matches)
+    (subst (λ (a : App). HasMatchesOf a words c.in-Ok-try_get_matches_from.matches) (c.in-Ok.ensures ∙ ap program_app c.given_in.ensures) c.in-Ok-try_get_matches_from.ensures.matches)
     c.in-Some.ensures.name c.in-Some.ensures.rows in
     let is : c.in-Some.found.0.now ≡ codes "reread" = only_name words c.in-Some.found.0.now (codes "reread") found asks ask in
     let named : IsAsked words (codes "reread") found = subst (λ (n : List ℕ). IsAsked words n found) is ask in
@@ -64,28 +64,45 @@ returns-in-Some-obey-clause-extract g c = λ taken asks some.
     let words = map string_bytes c.args.words.now in
     let found = found_of c.in-Some.found.1.now in
     let ask : IsAsked words c.in-Some.found.0.now found = asked c.in-Ok-try_get_matches_from.matches words c.in-Some.found.0.now found
-    (subst (λ (a : App). HasMatchesOf a words c.in-Ok-try_get_matches_from.matches) (c.in-Ok.ensures ∙ ap program_app c.has_pairs.ensures) c.in-Ok-try_get_matches_from.ensures.matches)
+    (subst (λ (a : App). HasMatchesOf a words c.in-Ok-try_get_matches_from.matches) (c.in-Ok.ensures ∙ ap program_app c.given_in.ensures) c.in-Ok-try_get_matches_from.ensures.matches)
     c.in-Some.ensures.name c.in-Some.ensures.rows in
     let is : c.in-Some.found.0.now ≡ codes "extract" = only_name words c.in-Some.found.0.now (codes "extract") found asks ask in
     let named : IsAsked words (codes "extract") found = subst (λ (n : List ℕ). IsAsked words n found) is ask in
     let said = done c.in-Some-obey.outcome c.finish.result _ c.finish.ensures.done c.finish.ensures.refused some (c.in-Some-obey.ensures.extract is) in
     (said.0, said.1, found, named, said.2)
 
-pub returns-in-Some-obey-clause-reads : goal.returns-in-Some-obey-clause-reads
-returns-in-Some-obey-clause-reads g c = λ no_merge no_extract.
+pub returns-in-Err-try_get_matches_from-clause-forget : goal.returns-in-Err-try_get_matches_from-clause-forget
+returns-in-Err-try_get_matches_from-clause-forget g c = λ taken asks some.
+    absurd (some (c.show.ensures.memory (c.in-Err-try_get_matches_from.ensures.passes (ap (λ (a : App). takes a (map string_bytes c.args.words.now)) (c.in-Ok.ensures ∙ ap program_app c.given_in.ensures) ∙ taken))))
+
+pub returns-in-Some-obey-clause-forget : goal.returns-in-Some-obey-clause-forget
+returns-in-Some-obey-clause-forget g c = λ taken asks some.
     let words = map string_bytes c.args.words.now in
     let found = found_of c.in-Some.found.1.now in
     let ask : IsAsked words c.in-Some.found.0.now found = asked c.in-Ok-try_get_matches_from.matches words c.in-Some.found.0.now found
-    (subst (λ (a : App). HasMatchesOf a words c.in-Ok-try_get_matches_from.matches) (c.in-Ok.ensures ∙ ap program_app c.has_pairs.ensures) c.in-Ok-try_get_matches_from.ensures.matches)
+        (subst (λ (a : App). HasMatchesOf a words c.in-Ok-try_get_matches_from.matches) (c.in-Ok.ensures ∙ ap program_app c.given_in.ensures) c.in-Ok-try_get_matches_from.ensures.matches)
+        c.in-Some.ensures.name c.in-Some.ensures.rows in
+    let is : c.in-Some.found.0.now ≡ codes "forget" = only_name words c.in-Some.found.0.now (codes "forget") found asks ask in
+    let named : IsAsked words (codes "forget") found = subst (λ (n : List ℕ). IsAsked words n found) is ask in
+    let whole = done_whole c.in-Some-obey.outcome c.finish.result _ _ c.finish.ensures.done c.finish.ensures.refused some (c.in-Some-obey.ensures.done_forget is) (c.in-Some-obey.ensures.forget is) (c.in-Some-obey.ensures.free_forget is) in
+    (whole.0, found, named, whole.1, whole.2)
+
+pub returns-in-Some-obey-clause-reads : goal.returns-in-Some-obey-clause-reads
+returns-in-Some-obey-clause-reads g c = λ no_merge no_forget no_extract.
+    let words = map string_bytes c.args.words.now in
+    let found = found_of c.in-Some.found.1.now in
+    let ask : IsAsked words c.in-Some.found.0.now found = asked c.in-Ok-try_get_matches_from.matches words c.in-Some.found.0.now found
+    (subst (λ (a : App). HasMatchesOf a words c.in-Ok-try_get_matches_from.matches) (c.in-Ok.ensures ∙ ap program_app c.given_in.ensures) c.in-Ok-try_get_matches_from.ensures.matches)
     c.in-Some.ensures.name c.in-Some.ensures.rows in
-    c.in-Some-obey.ensures.reads (λ e. no_merge (asks_by words c.in-Some.found.0.now (codes "merge") found ask e)) (λ e. no_extract (asks_by words c.in-Some.found.0.now (codes "extract") found ask e))
+    c.in-Some-obey.ensures.reads (λ e. no_merge (asks_by words c.in-Some.found.0.now (codes "merge") found ask e)) (λ e. no_forget (asks_by words c.in-Some.found.0.now (codes "forget") found ask e))
+    (λ e. no_extract (asks_by words c.in-Some.found.0.now (codes "extract") found ask e))
 
 pub returns-in-Some-obey-clause-merging : goal.returns-in-Some-obey-clause-merging
 returns-in-Some-obey-clause-merging g c = λ asks.
     let words = map string_bytes c.args.words.now in
     let found = found_of c.in-Some.found.1.now in
     let ask : IsAsked words c.in-Some.found.0.now found = asked c.in-Ok-try_get_matches_from.matches words c.in-Some.found.0.now found
-    (subst (λ (a : App). HasMatchesOf a words c.in-Ok-try_get_matches_from.matches) (c.in-Ok.ensures ∙ ap program_app c.has_pairs.ensures) c.in-Ok-try_get_matches_from.ensures.matches)
+    (subst (λ (a : App). HasMatchesOf a words c.in-Ok-try_get_matches_from.matches) (c.in-Ok.ensures ∙ ap program_app c.given_in.ensures) c.in-Ok-try_get_matches_from.ensures.matches)
     c.in-Some.ensures.name c.in-Some.ensures.rows in
     let is : c.in-Some.found.0.now ≡ codes "merge" = only_name words c.in-Some.found.0.now (codes "merge") found asks ask in
     let named : IsAsked words (codes "merge") found = subst (λ (n : List ℕ). IsAsked words n found) is ask in
@@ -96,27 +113,28 @@ returns-in-Some-obey-clause-extracting g c = λ asks.
     let words = map string_bytes c.args.words.now in
     let found = found_of c.in-Some.found.1.now in
     let ask : IsAsked words c.in-Some.found.0.now found = asked c.in-Ok-try_get_matches_from.matches words c.in-Some.found.0.now found
-    (subst (λ (a : App). HasMatchesOf a words c.in-Ok-try_get_matches_from.matches) (c.in-Ok.ensures ∙ ap program_app c.has_pairs.ensures) c.in-Ok-try_get_matches_from.ensures.matches)
+    (subst (λ (a : App). HasMatchesOf a words c.in-Ok-try_get_matches_from.matches) (c.in-Ok.ensures ∙ ap program_app c.given_in.ensures) c.in-Ok-try_get_matches_from.ensures.matches)
     c.in-Some.ensures.name c.in-Some.ensures.rows in
     let is : c.in-Some.found.0.now ≡ codes "extract" = only_name words c.in-Some.found.0.now (codes "extract") found asks ask in
     let named : IsAsked words (codes "extract") found = subst (λ (n : List ℕ). IsAsked words n found) is ask in
     inr (found, named, c.in-Some-obey.ensures.extracting is)
 
 pub returns-clause-reads : goal.returns-clause-reads
-returns-clause-reads g c = λ no_merge no_extract.
+returns-clause-reads g c = λ no_merge no_forget no_extract.
     let words = map string_bytes c.args.words.now in
     let found = found_of c.in-Some.found.1.now in
     let ask : IsAsked words c.in-Some.found.0.now found = asked c.in-Ok-try_get_matches_from.matches words c.in-Some.found.0.now found
-    (subst (λ (a : App). HasMatchesOf a words c.in-Ok-try_get_matches_from.matches) (c.in-Ok.ensures ∙ ap program_app c.has_pairs.ensures) c.in-Ok-try_get_matches_from.ensures.matches)
+    (subst (λ (a : App). HasMatchesOf a words c.in-Ok-try_get_matches_from.matches) (c.in-Ok.ensures ∙ ap program_app c.given_in.ensures) c.in-Ok-try_get_matches_from.ensures.matches)
     c.in-Some.ensures.name c.in-Some.ensures.rows in
-    c.in-None-obey.ensures.reads (λ e. no_merge (asks_by words c.in-Some.found.0.now (codes "merge") found ask e)) (λ e. no_extract (asks_by words c.in-Some.found.0.now (codes "extract") found ask e))
+    c.in-None-obey.ensures.reads (λ e. no_merge (asks_by words c.in-Some.found.0.now (codes "merge") found ask e)) (λ e. no_forget (asks_by words c.in-Some.found.0.now (codes "forget") found ask e))
+    (λ e. no_extract (asks_by words c.in-Some.found.0.now (codes "extract") found ask e))
 
 pub returns-clause-merging : goal.returns-clause-merging
 returns-clause-merging g c = λ asks.
     let words = map string_bytes c.args.words.now in
     let found = found_of c.in-Some.found.1.now in
     let ask : IsAsked words c.in-Some.found.0.now found = asked c.in-Ok-try_get_matches_from.matches words c.in-Some.found.0.now found
-    (subst (λ (a : App). HasMatchesOf a words c.in-Ok-try_get_matches_from.matches) (c.in-Ok.ensures ∙ ap program_app c.has_pairs.ensures) c.in-Ok-try_get_matches_from.ensures.matches)
+    (subst (λ (a : App). HasMatchesOf a words c.in-Ok-try_get_matches_from.matches) (c.in-Ok.ensures ∙ ap program_app c.given_in.ensures) c.in-Ok-try_get_matches_from.ensures.matches)
     c.in-Some.ensures.name c.in-Some.ensures.rows in
     let is : c.in-Some.found.0.now ≡ codes "merge" = only_name words c.in-Some.found.0.now (codes "merge") found asks ask in
     let named : IsAsked words (codes "merge") found = subst (λ (n : List ℕ). IsAsked words n found) is ask in
@@ -127,8 +145,30 @@ returns-clause-extracting g c = λ asks.
     let words = map string_bytes c.args.words.now in
     let found = found_of c.in-Some.found.1.now in
     let ask : IsAsked words c.in-Some.found.0.now found = asked c.in-Ok-try_get_matches_from.matches words c.in-Some.found.0.now found
-    (subst (λ (a : App). HasMatchesOf a words c.in-Ok-try_get_matches_from.matches) (c.in-Ok.ensures ∙ ap program_app c.has_pairs.ensures) c.in-Ok-try_get_matches_from.ensures.matches)
+    (subst (λ (a : App). HasMatchesOf a words c.in-Ok-try_get_matches_from.matches) (c.in-Ok.ensures ∙ ap program_app c.given_in.ensures) c.in-Ok-try_get_matches_from.ensures.matches)
     c.in-Some.ensures.name c.in-Some.ensures.rows in
     let is : c.in-Some.found.0.now ≡ codes "extract" = only_name words c.in-Some.found.0.now (codes "extract") found asks ask in
     let named : IsAsked words (codes "extract") found = subst (λ (n : List ℕ). IsAsked words n found) is ask in
     inr (found, named, c.in-None-obey.ensures.extracting is)
+
+pub returns-in-Some-obey-clause-forgetting : goal.returns-in-Some-obey-clause-forgetting
+returns-in-Some-obey-clause-forgetting g c = λ asks.
+    let words = map string_bytes c.args.words.now in
+    let found = found_of c.in-Some.found.1.now in
+    let ask : IsAsked words c.in-Some.found.0.now found = asked c.in-Ok-try_get_matches_from.matches words c.in-Some.found.0.now found
+    (subst (λ (a : App). HasMatchesOf a words c.in-Ok-try_get_matches_from.matches) (c.in-Ok.ensures ∙ ap program_app c.given_in.ensures) c.in-Ok-try_get_matches_from.ensures.matches)
+    c.in-Some.ensures.name c.in-Some.ensures.rows in
+    let is : c.in-Some.found.0.now ≡ codes "forget" = only_name words c.in-Some.found.0.now (codes "forget") found asks ask in
+    let named : IsAsked words (codes "forget") found = subst (λ (n : List ℕ). IsAsked words n found) is ask in
+    inr (found, named, c.in-Some-obey.ensures.forgetting is)
+
+pub returns-clause-forgetting : goal.returns-clause-forgetting
+returns-clause-forgetting g c = λ asks.
+    let words = map string_bytes c.args.words.now in
+    let found = found_of c.in-Some.found.1.now in
+    let ask : IsAsked words c.in-Some.found.0.now found = asked c.in-Ok-try_get_matches_from.matches words c.in-Some.found.0.now found
+    (subst (λ (a : App). HasMatchesOf a words c.in-Ok-try_get_matches_from.matches) (c.in-Ok.ensures ∙ ap program_app c.given_in.ensures) c.in-Ok-try_get_matches_from.ensures.matches)
+    c.in-Some.ensures.name c.in-Some.ensures.rows in
+    let is : c.in-Some.found.0.now ≡ codes "forget" = only_name words c.in-Some.found.0.now (codes "forget") found asks ask in
+    let named : IsAsked words (codes "forget") found = subst (λ (n : List ℕ). IsAsked words n found) is ask in
+    inr (found, named, c.in-None-obey.ensures.forgetting is)

@@ -1,7 +1,8 @@
 -- What a command may leave, by its words.
 --     MayMerge          what a crash in the middle of `merge` shows: what was there, or the table file that the words ask for in the place of what was at the output's path
---     MergeSpares       what `merge` leaves as it was, whatever it answers
---     ExtractSpares     the same of `extract`
+--     MayForgetAsked    the same of `forget`
+--     ReplacesOut       a command replaces its output, whole or not at all, and nothing else, whatever it answers
+--     ExtractSpares     what `extract` leaves as it was, whatever it answers
 use Rattle.std.specs.Prelude.{◌≡◌, ◌≢◌, ◌⊎◌, ℕ, List, Option, codes, map}
 use Rattle.clap.specs.declared.parser.matches.Found.{Found}
 use Rattle.udfs_files.specs.Disk.{Disk, After, Goes, IsOwn, Same, Replaced}
@@ -9,6 +10,7 @@ use Rattle.udfs_lattice.specs.Tables.{Table}
 use Rattle.udfs_lattice.specs.Records.{join_all}
 use Rattle.udfs_commands.specs.Asking.{IsPicked, asked_for, asked_inputs, folder_text, out_text}
 use Rattle.udfs_commands.specs.Extracting.{IsIn, Spares, Stay}
+use Rattle.udfs_commands.specs.Forgetting.{PutsForgotten}
 use Rattle.udfs_commands.specs.Keeping.{Joined}
 use Rattle.udfs_commands.specs.Spelling.{table_file}
 use Rattle.udfs_commands.specs.declared.sources.InputPath.{InputPath}
@@ -23,10 +25,14 @@ PutsAsked found remaining real words d c = (version : Version) × (inputs : List
 abbrev pub MayMerge : {R : Type 0} → (List ℕ → Option (Option (List ℕ))) → (R → Option (List ℕ)) → (List ℕ → List ℕ) → Found → Disk → Disk → Type 0
 MayMerge found remaining real words d c = Same d c ⊎ PutsAsked found remaining real words d c
 
--- unless the output is a device or a pipe: a crash at any moment leaves all as it was, or with the table file in its place, whole; and no other path changes, but those of new files that are to go in its place
-pub record MergeSpares {F R : Type 0} (tells : Type 0) (holds : F → List ℕ → Option (Option (List ℕ))) (real : F → List ℕ → List ℕ) (in_place : F → List ℕ → Type 0) (may_leave : F → Disk → Type 0) (moment : F → ℕ) (left_since : F → ℕ → Disk → Type 0)
-    (remaining : R → Option (List ℕ)) (words : Found) (old new : F) : Type 0 where
-  pub any_moment : tells → (in_place old (out_text words) → ⊥) → (c : Disk) → left_since new (moment old) c → After (may_leave old) (MayMerge (λ path. holds old (real old path)) remaining (real old) words) c
+-- the same of `forget`
+abbrev pub MayForgetAsked : {R : Type 0} → (List ℕ → Option (Option (List ℕ))) → (R → Option (List ℕ)) → (List ℕ → List ℕ) → Found → Disk → Disk → Type 0
+MayForgetAsked found remaining real words d c = Same d c ⊎ PutsForgotten found remaining words (λ bytes. Replaced (real (out_text words)) bytes d c)
+
+-- unless the output is a device or a pipe: a crash at any moment leaves what this step makes of what it might have left before; and no other path changes, but those of new files that are to go in the output's place
+pub record ReplacesOut {F : Type 0} (tells : Type 0) (holds : F → List ℕ → Option (Option (List ℕ))) (real : F → List ℕ → List ℕ) (in_place : F → List ℕ → Type 0) (may_leave : F → Disk → Type 0) (moment : F → ℕ) (left_since : F → ℕ → Disk → Type 0)
+    (words : Found) (old new : F) (step : Disk → Disk → Type 0) : Type 0 where
+  pub any_moment : tells → (in_place old (out_text words) → ⊥) → (c : Disk) → left_since new (moment old) c → After (may_leave old) step c
   pub elsewhere : tells → (in_place old (out_text words) → ⊥) → (q : List ℕ) → q ≢ real old (out_text words) → (¬ IsOwn (real old (out_text words)) q) → holds new q ≡ holds old q
 
 -- no file that was there changes, nor anything outside the new folder, and no crash at any moment changes them
