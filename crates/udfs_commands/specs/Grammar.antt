@@ -65,10 +65,14 @@ extract_app given = with_inputs (with_rule (with_rule (with_last (codes "extract
 abbrev pub forget_app : Given → App
 forget_app given = with_inputs (with_rule (with_rule (with_rule (with_rule (new_app (codes "forget")) out_rule) (flag_rule (codes "conflicts"))) (blocks_rule given.conflicts)) (flag_rule (codes "force"))) given.pairs
 
+-- `list [--torn] [--null] [--paths] (--last N | --size BYTES) IN...`
+abbrev pub list_app : Given → App
+list_app given = with_inputs (with_rule (with_rule (with_rule (with_last (codes "list") given.size) (flag_rule (codes "torn"))) (flag_rule (codes "null"))) (flag_rule (codes "paths"))) given.pairs
+
 -- the program before its commands: one of them has to be named, and there is `--version`
 abbrev pub program : App
 program = record (new_app (codes "udfsalvage")) { top = record (new_app (codes "udfsalvage")).top { has_version = true; subcommand_required = true } }
 
 -- the program, by what is found among the words
 abbrev pub program_app : Given → App
-program_app given = with_subcommand (with_subcommand (with_subcommand (with_subcommand (with_subcommand program (merge_app given.pairs).top) (report_app given).top) (reread_app given).top) (extract_app given).top) (forget_app given).top
+program_app given = with_subcommand (with_subcommand (with_subcommand (with_subcommand (with_subcommand (with_subcommand program (merge_app given.pairs).top) (report_app given).top) (reread_app given).top) (extract_app given).top) (forget_app given).top) (list_app given).top

@@ -19,7 +19,9 @@ ghost use Rattle.clap.specs.declared.parser.matches.Found.{Found};
 ghost use Rattle.std.specs.String.{string_bytes};
 ghost use Rattle.clap.specs.Words.{kind_of};
 ghost use Rattle.udfs_commands.specs.Leaving.{ExtractSpares, MayForgetAsked, MayMerge, ReplacesOut};
+ghost use Rattle.udfs_commands.specs.Listing.{IsListForm, PrintsList};
 ghost use Rattle.udfs_commands.specs.Obeying.{Asks, GrammarTakes, IsAsked};
+ghost use Rattle.udfs_overview.specs.declared.node_list.ListForm.{ListForm};
 ghost use Rattle.udfs_commands.specs.Spelling.{table_file};
 ghost use Rattle.udfs_commands.specs.declared.merge.Version.{Version};
 ghost use Rattle.udfs_commands.specs.declared.report.Form.{Form};
@@ -31,6 +33,7 @@ use crate::forget::forget;
 use crate::guard::{Outlook, look_at};
 use crate::inputs::joined;
 use crate::last::{EndFault, asked_last, end_fault};
+use crate::list::list;
 use crate::merge::{Version, merge};
 use crate::printing::send;
 use crate::refusal::Refusal;
@@ -38,11 +41,13 @@ use crate::report::{Form, report_as};
 use crate::reread::reread;
 use crate::sources::{AnySource, InputPath};
 use crate::words::{
-    BLOCKS, CONFLICTS, FILL, FORCE, INPUTS, JSON, OUT, PAIRS, TO, V1, given_in, grammar,
+    BLOCKS, CONFLICTS, FILL, FORCE, INPUTS, JSON, NULL, OUT, PAIRS, PATHS, TO, TORN, V1, given_in,
+    grammar,
 };
 use clap::error::ErrorKind;
 use clap::{ArgMatches, Error};
 use std::alloc::{AllocError, Global};
+use udfs_overview::ListForm;
 use udfs_reading::{DeviceFault, Sink, Source};
 use udfs_salvage::Fill;
 
@@ -90,6 +95,10 @@ pub fn run<F: Files, O: Sink, E: Sink>(
         (λ bytes. (F.tells → IsKept (F.holds files.new) (F.may_leave files.new) (F.real files.old (out_text found)) bytes) ⊎ (F.in_place files.old (out_text found) × IsTaken F.Output.contents bytes)) ×
         ((force : Bool) × IsPicked found (codes "force") true false force ×
         (F.tells → IsFree (F.holds files.old) (F.real files.old) (F.in_place files.old) (input_texts found) (pair_texts found) force (out_text found))) }
+    ensures list { GrammarTakes (map string_bytes words.now) → Asks (map string_bytes words.now) (codes "list") → result ≢ 2 → (whole : Bool) × (result ≡ cond whole 0 1) × (found : Found) × IsAsked (map string_bytes words.now) (codes "list") found ×
+        ((form : ListForm) × (last : ℕ) × (inputs : List InputPath) × (map asked_for inputs ≡ asked_inputs found) ×
+        IsListForm found form × IsLast found last × OfPaths (λ path. F.holds files.old (F.real files.old path)) (⟦<AnySource<F::Input, F::Image> as Source>⟧.remaining) inputs
+        (PrintsList form last (O.contents out.old) (O.contents out.new) (O.faults out.old) (O.faults out.new) whole)) }
     // What is there stays, whatever the status: only `merge`, `forget` and `extract` change files at all, and only as their words ask.
     ensures reads { (Asks (map string_bytes words.now) (codes "merge") → ⊥) → (Asks (map string_bytes words.now) (codes "forget") → ⊥) → (Asks (map string_bytes words.now) (codes "extract") → ⊥) → files.new ≡ files.old }
     ensures merging { Asks (map string_bytes words.now) (codes "merge") → (files.new ≡ files.old) ⊎ ((found : Found) × IsAsked (map string_bytes words.now) (codes "merge") found ×
@@ -156,6 +165,9 @@ fn obey<F: Files, O: Sink>(
         (λ bytes. (F.tells → IsKept (F.holds files.new) (F.may_leave files.new) (F.real files.old (out_text (found_of words.now))) bytes) ⊎ (F.in_place files.old (out_text (found_of words.now)) × IsTaken F.Output.contents bytes)))) }
     ensures free_forget { name.now ≡ codes "forget" → IfSome result (λ outcome. OnOk outcome ((force : Bool) × IsPicked (found_of words.now) (codes "force") true false force ×
         (F.tells → IsFree (F.holds files.old) (F.real files.old) (F.in_place files.old) (input_texts (found_of words.now)) (pair_texts (found_of words.now)) force (out_text (found_of words.now))))) }
+    ensures list { name.now ≡ codes "list" → IfSome result (λ outcome. IfOk outcome (λ whole. (form : ListForm) × (last : ℕ) × (inputs : List InputPath) × (map asked_for inputs ≡ asked_inputs (found_of words.now)) ×
+        IsListForm (found_of words.now) form × IsLast (found_of words.now) last × OfPaths (λ path. F.holds files.old (F.real files.old path)) (⟦<AnySource<F::Input, F::Image> as Source>⟧.remaining) inputs
+        (PrintsList form last (O.contents out.old) (O.contents out.new) (O.faults out.old) (O.faults out.new) whole))) }
     // What is there stays, whatever the answer: only `merge`, `forget` and `extract` change files at all.
     ensures reads { (name.now ≡ codes "merge" → ⊥) → (name.now ≡ codes "forget" → ⊥) → (name.now ≡ codes "extract" → ⊥) → files.new ≡ files.old }
     ensures merging { name.now ≡ codes "merge" → ReplacesOut F.tells F.holds F.real F.in_place F.may_leave F.moment F.left_since (found_of words.now) files.old files.new
@@ -176,6 +188,7 @@ fn obey<F: Files, O: Sink>(
             Ok(()) => Ok(true),
             Err(refusal) => Err(refusal),
         }),
+        "list" => Some(list_words(alloc, words, files, out)),
         _ => None,
     }
 }
@@ -398,6 +411,44 @@ fn reread_words<F: Files, O: Sink>(
         Ok(whole) => Ok(whole),
         Err(refusal) => Err(refusal),
     }
+}
+
+/// Does what the words after `list` ask for.
+fn list_words<F: Files, O: Sink>(
+    alloc: Global,
+    words: &ArgMatches<'_>,
+    files: &F,
+    out: &mut O,
+) -> Result<bool, Refusal>
+    ensures printed { IfOk result (λ whole. (form : ListForm) × (last : ℕ) × (inputs : List InputPath) × (map asked_for inputs ≡ asked_inputs (found_of words.now)) ×
+        IsListForm (found_of words.now) form × IsLast (found_of words.now) last × OfPaths (λ path. F.holds files.now (F.real files.now path)) (⟦<AnySource<F::Input, F::Image> as Source>⟧.remaining) inputs
+        (PrintsList form last (O.contents out.old) (O.contents out.new) (O.faults out.old) (O.faults out.new) whole)) }
+{
+    let inputs = asked_inputs(alloc, words)?;
+    let last = asked_last(words);
+    let form = asked_list_form(words);
+    match list(alloc, inputs.as_slice(), last, form, files, out) {
+        Ok(whole) => Ok(whole),
+        Err(refusal) => Err(refusal),
+    }
+}
+
+/// What the words after `list` ask to be shown, and how.
+fn asked_list_form(words: &ArgMatches<'_>) -> ListForm
+    ensures { IsListForm (found_of words.now) result }
+{
+    ListForm {
+        torn: is_set(words, TORN),
+        null: is_set(words, NULL),
+        paths: is_set(words, PATHS),
+    }
+}
+
+/// Whether a flag is among the words.
+fn is_set(words: &ArgMatches<'_>, flag: &str) -> bool
+    ensures { IsPicked (found_of words.now) flag.now true false result }
+{
+    words.get_flag(flag)
 }
 
 /// Does what the words after `extract` ask for.

@@ -4,7 +4,7 @@ ghost use Rattle.std.specs.Prelude.{◌≡◌, false, IfOk, codes, map};
 ghost use Rattle.std.specs.String.{string_bytes};
 ghost use Rattle.udfs_commands.specs.Obeying.{given_in, is_given, names};
 ghost use Rattle.clap.specs.Words.{app_of, rule_of};
-ghost use Rattle.udfs_commands.specs.Grammar.{blocks_rule, extract_app, flag_rule, forget_app, inputs_rule, last_rule, merge_app, pairs_rule, out_rule, program_app, report_app, reread_app, size_rule, value_rule};
+ghost use Rattle.udfs_commands.specs.Grammar.{blocks_rule, extract_app, flag_rule, forget_app, inputs_rule, last_rule, list_app, merge_app, pairs_rule, out_rule, program, program_app, report_app, reread_app, size_rule, value_rule};
 
 use clap::{Arg, ArgAction, Command, value_parser};
 use std::alloc::{AllocError, Global};
@@ -44,6 +44,15 @@ pub const FILL: &str = "fill";
 
 /// The id of the flag for JSON among the matches.
 pub const JSON: &str = "json";
+
+/// The id of the flag for leaving out what is whole among the matches.
+pub const TORN: &str = "torn";
+
+/// The id of the flag for lines that end with a zero byte among the matches.
+pub const NULL: &str = "null";
+
+/// The id of the flag for paths alone among the matches.
+pub const PATHS: &str = "paths";
 
 /// What is found among the words before they are parsed: it decides what else has to be given.
 #[derive(Clone, Copy)]
@@ -90,19 +99,27 @@ pub fn given_in(words: &[String]) -> Given
     }
 }
 
-/// The commands and what they take.
-pub fn grammar<'a>(alloc: Global, given: Given) -> Result<Command<'a>, AllocError>
-    ensures { IfOk result (λ command. app_of command ≡ program_app given) }
+/// The program before its commands.
+fn program<'a>(alloc: Global) -> Command<'a>
+    ensures { app_of result ≡ program }
 {
     Command::new(alloc, "udfsalvage")
         .about("Salvages scratched rewritable UDF discs from several passes over them")
         .version("0.1.0")
         .subcommand_required(true)
+}
+
+/// The commands and what they take.
+pub fn grammar<'a>(alloc: Global, given: Given) -> Result<Command<'a>, AllocError>
+    ensures { IfOk result (λ command. app_of command ≡ program_app given) }
+{
+    program(alloc)
         .subcommand(merge(alloc, given.pairs)?)?
         .subcommand(report(alloc, given)?)?
         .subcommand(reread(alloc, given)?)?
         .subcommand(extract(alloc, given)?)?
-        .subcommand(forget(alloc, given)?)
+        .subcommand(forget(alloc, given)?)?
+        .subcommand(list(alloc, given)?)
 }
 
 /// `merge [--v1] [--force] --out FILE IN...`
@@ -185,6 +202,31 @@ fn forget<'a>(alloc: Global, given: Given) -> Result<Command<'a>, AllocError>
         .arg(force(alloc))?
         .arg(pair_inputs(alloc))?
         .arg(inputs(alloc, given.pairs))
+}
+
+/// `list [--torn] [--null] [--paths] (--last N | --size BYTES) IN...`
+fn list<'a>(alloc: Global, given: Given) -> Result<Command<'a>, AllocError>
+    ensures { IfOk result (λ command. app_of command ≡ list_app given) }
+{
+    Command::new(alloc, "list")
+        .about("Prints a line for each file and folder: standing, kind, bytes lost, size, time and path")
+        .arg(last(alloc, given.size))?
+        .arg(disc_size(alloc))?
+        .arg(flag(alloc, TORN, "Leave out what is whole"))?
+        .arg(flag(alloc, NULL, "End lines with a zero byte"))?
+        .arg(flag(alloc, PATHS, "Print the paths alone"))?
+        .arg(pair_inputs(alloc))?
+        .arg(inputs(alloc, given.pairs))
+}
+
+/// A flag of this name.
+fn flag<'a>(alloc: Global, name: &'a str, help: &'a str) -> Arg<'a>
+    ensures { (rule_of result ≡ flag_rule name.now) × (result.global ≡ false) }
+{
+    Arg::new(alloc, name)
+        .long(name)
+        .help(help)
+        .action(ArgAction::SetTrue)
 }
 
 /// The flag for writing over a reading that is no input.

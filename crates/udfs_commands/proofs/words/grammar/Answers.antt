@@ -1,15 +1,15 @@
 use Rattle.std.proofs.Common.{rules, ap, ap₂, codes, refl, ◌≡◌, ◌∙◌}
 use Rattle.std.proofs.lemmas.Result.{IfOk-weaker}
 use Rattle.clap.specs.Words.{App, app_of, with_subcommand}
-use Rattle.udfs_commands.specs.Grammar.{extract_app, forget_app, merge_app, program, report_app, reread_app}
+use Rattle.udfs_commands.specs.Grammar.{extract_app, forget_app, merge_app, report_app, reread_app}
 use Rattle.udfs_commands.proofs.GrammarLemmas.{third_is_false}
 use Rattle.udfs_commands.proofs.words.grammar.Goals as goal
 
 pub returns : goal.returns
 returns c =
-    let start : app_of c.subcommand_required.result ≡ program = search rules in
-    let one = c.in_ok-subcommand.ensures.shape (third_is_false _ _ _ _ (ap (λ (a : App). a.top.is_plain) c.in_ok-merge.ensures)) ∙ ap₂ with_subcommand start (ap (λ (a : App). a.top) c.in_ok-merge.ensures) in
+    let one = c.in_ok-subcommand.ensures.shape (third_is_false _ _ _ _ (ap (λ (a : App). a.top.is_plain) c.in_ok-merge.ensures)) ∙ ap₂ with_subcommand c.program.ensures (ap (λ (a : App). a.top) c.in_ok-merge.ensures) in
     let two = c.in_ok-subcommand-2.ensures.shape (third_is_false _ _ _ _ (ap (λ (a : App). a.top.is_plain) c.in_ok-report.ensures)) ∙ ap₂ with_subcommand one (ap (λ (a : App). a.top) c.in_ok-report.ensures) in
     let three = c.in_ok-subcommand-3.ensures.shape (third_is_false _ _ _ _ (ap (λ (a : App). a.top.is_plain) c.in_ok-reread.ensures)) ∙ ap₂ with_subcommand two (ap (λ (a : App). a.top) c.in_ok-reread.ensures) in
     let four = c.in_ok-subcommand-4.ensures.shape (third_is_false _ _ _ _ (ap (λ (a : App). a.top.is_plain) c.in_ok-extract.ensures)) ∙ ap₂ with_subcommand three (ap (λ (a : App). a.top) c.in_ok-extract.ensures) in
-    IfOk-weaker c.subcommand-5.result _ _ (λ m h. h.shape (third_is_false _ _ _ _ (ap (λ (a : App). a.top.is_plain) c.in_ok-forget.ensures)) ∙ ap₂ with_subcommand four (ap (λ (a : App). a.top) c.in_ok-forget.ensures)) c.subcommand-5.ensures
+    let five = c.in_ok-subcommand-5.ensures.shape (third_is_false _ _ _ _ (ap (λ (a : App). a.top.is_plain) c.in_ok-forget.ensures)) ∙ ap₂ with_subcommand four (ap (λ (a : App). a.top) c.in_ok-forget.ensures) in
+    IfOk-weaker c.subcommand-6.result _ _ (λ m h. h.shape (third_is_false _ _ _ _ (ap (λ (a : App). a.top.is_plain) c.in_ok-list.ensures)) ∙ ap₂ with_subcommand five (ap (λ (a : App). a.top) c.in_ok-list.ensures)) c.subcommand-6.ensures
