@@ -126,14 +126,10 @@ pub fn grammar<'a>(alloc: Global, given: Given) -> Result<Command<'a>, AllocErro
 fn merge<'a>(alloc: Global, pairs: bool) -> Result<Command<'a>, AllocError>
     ensures { IfOk result (λ command. app_of command ≡ merge_app pairs) }
 {
-    let v1 = Arg::new(alloc, V1)
-        .long("v1")
-        .help("Write the table file in version 1, the old form")
-        .action(ArgAction::SetTrue);
     Command::new(alloc, "merge")
         .about("Joins readings and table files into one table file")
         .arg(table_file(alloc))?
-        .arg(v1)?
+        .arg(flag(alloc, V1, "Write the table file in version 1, the old form"))?
         .arg(force(alloc))?
         .arg(pair_inputs(alloc))?
         .arg(inputs(alloc, pairs))
@@ -143,15 +139,11 @@ fn merge<'a>(alloc: Global, pairs: bool) -> Result<Command<'a>, AllocError>
 fn report<'a>(alloc: Global, given: Given) -> Result<Command<'a>, AllocError>
     ensures { IfOk result (λ command. app_of command ≡ report_app given) }
 {
-    let json = Arg::new(alloc, JSON)
-        .long("json")
-        .help("Print it as JSON")
-        .action(ArgAction::SetTrue);
     Command::new(alloc, "report")
         .about("Prints what the inputs tell of the volume, and which blocks to read again")
         .arg(last(alloc, given.size))?
         .arg(disc_size(alloc))?
-        .arg(json)?
+        .arg(flag(alloc, JSON, "Print it as JSON"))?
         .arg(pair_inputs(alloc))?
         .arg(inputs(alloc, given.pairs))
 }
@@ -172,16 +164,12 @@ fn reread<'a>(alloc: Global, given: Given) -> Result<Command<'a>, AllocError>
 fn extract<'a>(alloc: Global, given: Given) -> Result<Command<'a>, AllocError>
     ensures { IfOk result (λ command. app_of command ≡ extract_app given) }
 {
-    let fill = Arg::new(alloc, FILL)
-        .long("fill")
-        .help("Write torn files too, with zeros for the bytes that are missing")
-        .action(ArgAction::SetTrue);
     Command::new(alloc, "extract")
         .about("Writes the files that are whole into a new folder")
         .arg(last(alloc, given.size))?
         .arg(disc_size(alloc))?
         .arg(folder(alloc))?
-        .arg(fill)?
+        .arg(flag(alloc, FILL, "Write torn files too, with zeros for the bytes that are missing"))?
         .arg(pair_inputs(alloc))?
         .arg(inputs(alloc, given.pairs))
 }
@@ -190,14 +178,10 @@ fn extract<'a>(alloc: Global, given: Given) -> Result<Command<'a>, AllocError>
 fn forget<'a>(alloc: Global, given: Given) -> Result<Command<'a>, AllocError>
     ensures { IfOk result (λ command. app_of command ≡ forget_app given) }
 {
-    let conflicts = Arg::new(alloc, CONFLICTS)
-        .long("conflicts")
-        .help("Forget the blocks in conflict")
-        .action(ArgAction::SetTrue);
     Command::new(alloc, "forget")
         .about("Writes the table of the inputs, in which some blocks are unknown again")
         .arg(table_file(alloc))?
-        .arg(conflicts)?
+        .arg(flag(alloc, CONFLICTS, "Forget the blocks in conflict"))?
         .arg(blocks(alloc, given.conflicts))?
         .arg(force(alloc))?
         .arg(pair_inputs(alloc))?
@@ -233,10 +217,7 @@ fn flag<'a>(alloc: Global, name: &'a str, help: &'a str) -> Arg<'a>
 fn force<'a>(alloc: Global) -> Arg<'a>
     ensures { (rule_of result ≡ flag_rule (codes "force")) × (result.global ≡ false) }
 {
-    Arg::new(alloc, FORCE)
-        .long("force")
-        .help("Write over a reading that is none of the inputs")
-        .action(ArgAction::SetTrue)
+    flag(alloc, FORCE, "Write over a reading that is none of the inputs")
 }
 
 /// Lists of blocks, of which there is at least one where no conflicts are to be forgotten.

@@ -1,16 +1,14 @@
 use Rattle.std.proofs.Common.{rules, ap₂, codes, ◌≡◌, ◌∙◌}
 use Rattle.std.proofs.lemmas.Result.{IfOk-weaker}
-use Rattle.clap.specs.Words.{app_of, new_app, rule_of, with_rule}
-use Rattle.udfs_commands.specs.Grammar.{flag_rule}
+use Rattle.clap.specs.Words.{app_of, new_app, with_rule}
 use Rattle.udfs_commands.proofs.words.extract.Goals as goal
 
 pub returns : goal.returns
 returns c =
-    let fill_is : rule_of c.action-fill.result ≡ flag_rule (codes "fill") = search rules in
     let start : app_of c.about.result ≡ new_app (codes "extract") = search rules in
     let one = c.in_ok-arg.ensures.shape c.last.ensures.1 ∙ ap₂ with_rule start c.last.ensures.0 in
     let two = c.in_ok-arg-2.ensures.shape c.disc_size.ensures.1 ∙ ap₂ with_rule one c.disc_size.ensures.0 in
     let three = c.in_ok-arg-3.ensures.shape c.folder.ensures.1 ∙ ap₂ with_rule two c.folder.ensures.0 in
-    let four = c.in_ok-arg-4.ensures.shape (search rules) ∙ ap₂ with_rule three fill_is in
+    let four = c.in_ok-arg-4.ensures.shape c.flag.ensures.1 ∙ ap₂ with_rule three c.flag.ensures.0 in
     let five = c.in_ok-arg-5.ensures.shape c.pair_inputs.ensures.1 ∙ ap₂ with_rule four c.pair_inputs.ensures.0 in
     IfOk-weaker c.arg-6.result _ _ (λ m h. h.shape c.inputs.ensures.1 ∙ ap₂ with_rule five c.inputs.ensures.0) c.arg-6.ensures

@@ -1,15 +1,13 @@
 use Rattle.std.proofs.Common.{rules, ap₂, codes, ◌≡◌, ◌∙◌}
 use Rattle.std.proofs.lemmas.Result.{IfOk-weaker}
-use Rattle.clap.specs.Words.{app_of, new_app, rule_of, with_rule}
-use Rattle.udfs_commands.specs.Grammar.{flag_rule}
+use Rattle.clap.specs.Words.{app_of, new_app, with_rule}
 use Rattle.udfs_commands.proofs.words.forget.Goals as goal
 
 pub returns : goal.returns
 returns c =
-    let conflicts_is : rule_of c.action-conflicts.result ≡ flag_rule (codes "conflicts") = search rules in
     let start : app_of c.about.result ≡ new_app (codes "forget") = search rules in
     let one = c.in_ok-arg.ensures.shape c.table_file.ensures.1 ∙ ap₂ with_rule start c.table_file.ensures.0 in
-    let two = c.in_ok-arg-2.ensures.shape (search rules) ∙ ap₂ with_rule one conflicts_is in
+    let two = c.in_ok-arg-2.ensures.shape c.flag.ensures.1 ∙ ap₂ with_rule one c.flag.ensures.0 in
     let three = c.in_ok-arg-3.ensures.shape c.blocks-2.ensures.1 ∙ ap₂ with_rule two c.blocks-2.ensures.0 in
     let four = c.in_ok-arg-4.ensures.shape c.force.ensures.1 ∙ ap₂ with_rule three c.force.ensures.0 in
     let five = c.in_ok-arg-5.ensures.shape c.pair_inputs.ensures.1 ∙ ap₂ with_rule four c.pair_inputs.ensures.0 in
