@@ -6,6 +6,7 @@ mod forgetting;
 mod hostile;
 mod json;
 mod keeping;
+mod listing;
 mod memory;
 mod merging;
 mod pairs;
