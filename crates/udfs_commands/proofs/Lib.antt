@@ -5,3 +5,4 @@ pub mod KeepingLemmas
 mod PutNodes
 pub mod GrammarLemmas
 pub mod ObeyingLemmas
+pub mod RereadingLemmas

@@ -21,6 +21,10 @@ last_rule size = record (value_rule (codes "last")) { parser = Some (Signed (pos
 abbrev pub size_rule : Rule
 size_rule = record (new_rule (codes "size")) { long = Some (codes "size"); action = Some Set; value_names = 1; parser = Some (Unsigned 0 18446744073709551615) }
 
+-- `--mapfile FILE`
+abbrev pub mapfile_rule : Rule
+mapfile_rule = record (value_rule (codes "mapfile")) { required = false }
+
 -- `--out FILE` or `-o FILE`
 abbrev pub out_rule : Rule
 out_rule = record (value_rule (codes "out")) { short = Some 111 }
@@ -53,9 +57,9 @@ with_last name size = with_rule (with_rule (new_app name) (last_rule size)) size
 abbrev pub report_app : Given → App
 report_app given = with_inputs (with_rule (with_last (codes "report") given.size) (flag_rule (codes "json"))) given.pairs
 
--- `reread (--last N | --size BYTES) IN...`
+-- `reread (--last N | --size BYTES) [--mapfile FILE] IN...`
 abbrev pub reread_app : Given → App
-reread_app given = with_inputs (with_last (codes "reread") given.size) given.pairs
+reread_app given = with_inputs (with_rule (with_last (codes "reread") given.size) mapfile_rule) given.pairs
 
 -- `extract (--last N | --size BYTES) --to DIR [--fill] IN...`
 abbrev pub extract_app : Given → App
