@@ -140,13 +140,13 @@ pub fn look_at_map<F: Files>(
     ensures spared { IfOk result (λ found. found ≡ Outlook.Spared → F.tells → IsSparedMap (F.holds files.now) (F.real files.now) (map (λ path. path.now) parts.now) out.now) }
     ensures unknown { IfOk result (λ found. found ≡ Outlook.Unknown → F.shut files.now out.now ⊎ Fails F.Input.faults) }
 {
-    let Ok(target) = files.resolve(alloc, out)? else {
+    let Ok(place) = files.resolve(alloc, out)? else {
         return Ok(Outlook::Unknown);
     };
-    if is_among(alloc, parts, target.path.as_str(), files)? {
+    if is_among(alloc, parts, place.path.as_str(), files)? {
         return Ok(Outlook::Spared);
     }
-    match target.kind {
+    match place.kind {
         Kind::Absent | Kind::Other => Ok(Outlook::Free),
         Kind::Regular => match is_kind(out, MAPFILE, files) {
             Ok(true) => Ok(Outlook::Free),

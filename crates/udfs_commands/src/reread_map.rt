@@ -1,6 +1,6 @@
 //! The command `reread --mapfile`: readings in, the blocks to read again as a mapfile for GNU ddrescue.
 
-ghost use Rattle.std.specs.Prelude.{◌≡◌, ◌≢◌, ◌⊎◌, ◌≤◌, ℕ, List, IfOk, IfErr, OnOk};
+ghost use Rattle.std.specs.Prelude.{◌≡◌, ◌⊎◌, ◌≤◌, IfOk, OnOk, length};
 ghost use Rattle.std.specs.List.Sorted.{IsNonDecreasing};
 ghost use Rattle.udfs_reading.specs.Writing.{Wrote};
 ghost use Rattle.udfs_rescue.specs.Writing.{map_text, wanted_status};
@@ -39,12 +39,13 @@ impl<'a> Content for Domain<'a> {
 
 /// How many runs the blocks behind this one begin.
 fn count_breaks(first: u32, blocks: &[u32]) -> usize
-    ensures { result ≡ breaks first blocks.now }
+    ensures value { result ≡ breaks first blocks.now }
+    ensures few { result ≤ length blocks.now }
 {
     let mut before = first;
     let mut count = 0;
     for block in blocks {
-        if u64::from(*block) != u64::from(before) + 1 {
+        if *block == 0 || *block - 1 != before {
             count += 1;
         }
         before = *block;
@@ -76,7 +77,34 @@ fn print_counts<O: Sink>(alloc: Global, blocks: &[u32], out: &mut O) -> Result<(
     }
 }
 
+/// Puts the mapfile in which these blocks are wanted at a path, and prints how many they are.
+fn put_domain<F: Files, O: Sink>(
+    alloc: Global,
+    wanted: &[u32],
+    last: u32,
+    path: &str,
+    files: &mut F,
+    out: &mut O,
+) -> Result<(), Refusal>
+    requires rises { IsNonDecreasing wanted.now }
+    requires in_range { last ≤ 4194303 }
+    ensures written { OnOk result ((F.tells → IsKept (F.holds files.new) (F.may_leave files.new) (F.real files.old path.now) (map_text (wanted_status wanted.now) last))
+        ⊎ (F.in_place files.old path.now × IsTaken F.Output.contents (map_text (wanted_status wanted.now) last))) }
+    ensures printed { OnOk result (Wrote (O.contents out.old) (O.contents out.new) (O.faults out.old) (O.faults out.new) (domain_line wanted.now)) }
+{
+    let domain = Domain { wanted, last };
+    match put_file(alloc, &domain, path, files) {
+        Ok(()) => {}
+        Err(refusal) => return Err(refusal),
+    }
+    match print_counts(alloc, wanted, out) {
+        Ok(()) => Ok(()),
+        Err(refusal) => Err(refusal),
+    }
+}
+
 /// Puts the mapfile of the blocks of a table's volume that are worth reading again at a path, and prints how many they are.
+#[tactic(auto, using(crate::proofs::RereadingLemmas::rising_does_not_fall, crate::proofs::RereadingLemmas::in_range))]
 fn map_of<F: Files, O: Sink>(
     alloc: Global,
     table: &BlockTable,
@@ -89,18 +117,8 @@ fn map_of<F: Files, O: Sink>(
         (O.contents out.old) (O.contents out.new) (O.faults out.old) (O.faults out.new) whole table.now) }
 {
     let survey = survey_volume(alloc, table, last)?;
-    let domain = Domain {
-        wanted: &survey.reread,
-        last,
-    };
-    match put_file(alloc, &domain, path, files) {
-        Ok(()) => {}
-        Err(refusal) => return Err(refusal),
-    }
-    match print_counts(alloc, &survey.reread, out) {
-        Ok(()) => Ok(survey.all_whole()),
-        Err(refusal) => Err(refusal),
-    }
+    put_domain(alloc, &survey.reread, last, path, files, out)?;
+    Ok(survey.all_whole())
 }
 
 /// Joins the inputs, puts the mapfile of the blocks of the volume, of which `last` is the last, that are worth reading again at a path, whole or not at all,
