@@ -1,5 +1,5 @@
 -- Numbers that rise do not fall, and the last block of a volume.
-use Rattle.std.proofs.Common.{◌≡◌, ◌<◌, ◌≤◌, ◌⊎◌, ℕ, zero, suc, List, [], ◌∷◌, length, slice_index_or, inl, inr, refl, arith}
+use Rattle.std.proofs.Common.{◌<◌, ◌≤◌, ℕ, zero, suc, List, [], ◌∷◌, length, slice_index_or, inl, inr, refl, arith}
 use Rattle.std.specs.List.Sorted.{IsNonDecreasing}
 use Rattle.udfs_lattice.specs.Volumes.{Includes}
 use Rattle.udfs_salvage.specs.Reports.{IsOutOfRange}

@@ -1,6 +1,6 @@
 -- The words that the program takes, as clap has them: each argument by its name, and the commands with their arguments.
-use Rattle.std.specs.Prelude.{ℕ, Bool, true, false, not, List, Some, codes, pos}
-use Rattle.clap.specs.Words.{App, Rule, Shape, Text, new_app, new_rule, with_rule, with_subcommand}
+use Rattle.std.specs.Prelude.{Bool, true, false, not, Some, codes, pos}
+use Rattle.clap.specs.Words.{App, Rule, Text, new_app, new_rule, with_rule, with_subcommand}
 use Rattle.clap.specs.declared.builder.ArgAction.TheVariants.{Append, Set, SetTrue}
 use Rattle.clap.specs.declared.builder.ValueParser.TheVariants.{Signed, Unsigned}
 use Rattle.udfs_commands.specs.declared.words.Given.{Given}

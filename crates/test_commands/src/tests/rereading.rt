@@ -72,7 +72,8 @@ fn what_refuses_it(rt: HostRuntime) -> Result<(), Fail> {
 #[test]
 fn the_blocks_to_read_again_are_a_mapfile(rt: HostRuntime) -> Result<(), Fail> {
     let alloc = rt.alloc();
-    let text = b"# Mapfile. Created by udfsalvage 0.1.0\n0x00000000     +               1\n0x00000000  0x0008B000  ?\n0x0008B000  0x00000800  +\n0x0008B800  0x000A1000  ?\n";
+    let text =
+        b"# Mapfile. Created by udfsalvage 0.1.0\n0x00000000     +               1\n0x00000000  0x0008B000  ?\n0x0008B000  0x00000800  +\n0x0008B800  0x000A1000  ?\n";
     let known = [32, 33, 34, 256, 272, 273, 274, 275, 276, 277, 279];
     let table = Disc::type1(alloc)?.known_at(alloc, &known)?;
     let mut memory = with_table(alloc, &table)?;
@@ -102,34 +103,24 @@ fn the_counts_of_a_mapfile(rt: HostRuntime) -> Result<(), Fail> {
     ] {
         let table = Disc::type1(alloc)?.known_but(alloc, unread)?;
         let mut memory = with_table(alloc, &table)?;
-        let ran = ran(
-            alloc,
-            &mut memory,
-            "reread --last 600 --mapfile m disc.tab",
-        )?;
+        let ran = ran(alloc, &mut memory, "reread --last 600 --mapfile m disc.tab")?;
         assert_eq!(rt; ran.status, status, "{line}");
         assert_eq!(rt; ran.out.as_str(), line);
     }
-    let all = b"# Mapfile. Created by udfsalvage 0.1.0\n0x00000000     +               1\n0x00000000  0x0012C800  ?\n";
+    let all =
+        b"# Mapfile. Created by udfsalvage 0.1.0\n0x00000000     +               1\n0x00000000  0x0012C800  ?\n";
     let table = Disc::type1(alloc)?.known_but(alloc, &[])?;
     let mut memory = with_table(alloc, &table)?;
-    let done = ran(
-        alloc,
-        &mut memory,
-        "reread --last 600 --mapfile m disc.tab",
-    )?;
+    let done = ran(alloc, &mut memory, "reread --last 600 --mapfile m disc.tab")?;
     assert_eq!(rt; done.status, 0);
     assert!(rt; memory.has("m", all));
     let mut empty = Memory::new(alloc);
     empty.store("empty.rd", reading(alloc, &[])?.as_slice())?;
-    let none = ran(
-        alloc,
-        &mut empty,
-        "reread --last 600 --mapfile m empty.rd",
-    )?;
+    let none = ran(alloc, &mut empty, "reread --last 600 --mapfile m empty.rd")?;
     assert_eq!(rt; none.status, 1);
     assert_eq!(rt; none.out.as_str(), "3 blocks in 3 runs\n");
-    let anchors = b"# Mapfile. Created by udfsalvage 0.1.0\n0x00000000     +               1\n0x00000000  0x00080000  ?\n0x00080000  0x00000800  +\n0x00080800  0x0002B800  ?\n0x000AC000  0x00000800  +\n0x000AC800  0x0007F800  ?\n0x0012C000  0x00000800  +\n";
+    let anchors =
+        b"# Mapfile. Created by udfsalvage 0.1.0\n0x00000000     +               1\n0x00000000  0x00080000  ?\n0x00080000  0x00000800  +\n0x00080800  0x0002B800  ?\n0x000AC000  0x00000800  +\n0x000AC800  0x0007F800  ?\n0x0012C000  0x00000800  +\n";
     assert!(rt; empty.has("m", anchors));
     Ok(())
 }

@@ -1,7 +1,7 @@
-use Rattle.std.proofs.Common.{◌≡◌, Bool, List, ℕ, ap, subst, sym, ◌∙◌, codes, map}
+use Rattle.std.proofs.Common.{◌≡◌, List, ℕ, ap, subst, ◌∙◌, codes, map}
 use Rattle.std.specs.String.{string_bytes}
 use Rattle.clap.specs.Matches.{found_of}
-use Rattle.clap.specs.Words.{App, HasMatchesOf, app_of, takes}
+use Rattle.clap.specs.Words.{App, HasMatchesOf, takes}
 use Rattle.udfs_commands.specs.Grammar.{program_app}
 use Rattle.udfs_commands.specs.Obeying.{IsAsked}
 use Rattle.udfs_commands.proofs.ObeyingLemmas.{asked, done, done_whole, only_name}
@@ -28,8 +28,8 @@ returns-in-Some-obey-clause-merge g c = λ taken asks some.
     let words = map string_bytes c.args.words.now in
     let found = found_of c.in-Some.found.1.now in
     let ask : IsAsked words c.in-Some.found.0.now found = asked c.in-Ok-try_get_matches_from.matches words c.in-Some.found.0.now found
-        (subst (λ (a : App). HasMatchesOf a words c.in-Ok-try_get_matches_from.matches) (c.in-Ok.ensures ∙ ap program_app c.given_in.ensures) c.in-Ok-try_get_matches_from.ensures.matches)
-        c.in-Some.ensures.name c.in-Some.ensures.rows in
+    (subst (λ (a : App). HasMatchesOf a words c.in-Ok-try_get_matches_from.matches) (c.in-Ok.ensures ∙ ap program_app c.given_in.ensures) c.in-Ok-try_get_matches_from.ensures.matches)
+    c.in-Some.ensures.name c.in-Some.ensures.rows in
     let is : c.in-Some.found.0.now ≡ codes "merge" = only_name words c.in-Some.found.0.now (codes "merge") found asks ask in
     let named : IsAsked words (codes "merge") found = subst (λ (n : List ℕ). IsAsked words n found) is ask in
     let whole = done_whole c.in-Some-obey.outcome c.finish.result _ _ c.finish.ensures.done c.finish.ensures.refused some (c.in-Some-obey.ensures.done is) (c.in-Some-obey.ensures.merge is) (c.in-Some-obey.ensures.free is) in
@@ -40,8 +40,8 @@ returns-in-Some-obey-clause-report g c = λ taken asks some.
     let words = map string_bytes c.args.words.now in
     let found = found_of c.in-Some.found.1.now in
     let ask : IsAsked words c.in-Some.found.0.now found = asked c.in-Ok-try_get_matches_from.matches words c.in-Some.found.0.now found
-        (subst (λ (a : App). HasMatchesOf a words c.in-Ok-try_get_matches_from.matches) (c.in-Ok.ensures ∙ ap program_app c.given_in.ensures) c.in-Ok-try_get_matches_from.ensures.matches)
-        c.in-Some.ensures.name c.in-Some.ensures.rows in
+    (subst (λ (a : App). HasMatchesOf a words c.in-Ok-try_get_matches_from.matches) (c.in-Ok.ensures ∙ ap program_app c.given_in.ensures) c.in-Ok-try_get_matches_from.ensures.matches)
+    c.in-Some.ensures.name c.in-Some.ensures.rows in
     let is : c.in-Some.found.0.now ≡ codes "report" = only_name words c.in-Some.found.0.now (codes "report") found asks ask in
     let named : IsAsked words (codes "report") found = subst (λ (n : List ℕ). IsAsked words n found) is ask in
     let said = done c.in-Some-obey.outcome c.finish.result _ c.finish.ensures.done c.finish.ensures.refused some (c.in-Some-obey.ensures.report is) in
@@ -52,8 +52,8 @@ returns-in-Some-obey-clause-reread g c = λ taken asks some.
     let words = map string_bytes c.args.words.now in
     let found = found_of c.in-Some.found.1.now in
     let ask : IsAsked words c.in-Some.found.0.now found = asked c.in-Ok-try_get_matches_from.matches words c.in-Some.found.0.now found
-        (subst (λ (a : App). HasMatchesOf a words c.in-Ok-try_get_matches_from.matches) (c.in-Ok.ensures ∙ ap program_app c.given_in.ensures) c.in-Ok-try_get_matches_from.ensures.matches)
-        c.in-Some.ensures.name c.in-Some.ensures.rows in
+    (subst (λ (a : App). HasMatchesOf a words c.in-Ok-try_get_matches_from.matches) (c.in-Ok.ensures ∙ ap program_app c.given_in.ensures) c.in-Ok-try_get_matches_from.ensures.matches)
+    c.in-Some.ensures.name c.in-Some.ensures.rows in
     let is : c.in-Some.found.0.now ≡ codes "reread" = only_name words c.in-Some.found.0.now (codes "reread") found asks ask in
     let named : IsAsked words (codes "reread") found = subst (λ (n : List ℕ). IsAsked words n found) is ask in
     let said = done c.in-Some-obey.outcome c.finish.result _ c.finish.ensures.done c.finish.ensures.refused some (c.in-Some-obey.ensures.reread is) in
@@ -64,8 +64,8 @@ returns-in-Some-obey-clause-extract g c = λ taken asks some.
     let words = map string_bytes c.args.words.now in
     let found = found_of c.in-Some.found.1.now in
     let ask : IsAsked words c.in-Some.found.0.now found = asked c.in-Ok-try_get_matches_from.matches words c.in-Some.found.0.now found
-        (subst (λ (a : App). HasMatchesOf a words c.in-Ok-try_get_matches_from.matches) (c.in-Ok.ensures ∙ ap program_app c.given_in.ensures) c.in-Ok-try_get_matches_from.ensures.matches)
-        c.in-Some.ensures.name c.in-Some.ensures.rows in
+    (subst (λ (a : App). HasMatchesOf a words c.in-Ok-try_get_matches_from.matches) (c.in-Ok.ensures ∙ ap program_app c.given_in.ensures) c.in-Ok-try_get_matches_from.ensures.matches)
+    c.in-Some.ensures.name c.in-Some.ensures.rows in
     let is : c.in-Some.found.0.now ≡ codes "extract" = only_name words c.in-Some.found.0.now (codes "extract") found asks ask in
     let named : IsAsked words (codes "extract") found = subst (λ (n : List ℕ). IsAsked words n found) is ask in
     let said = done c.in-Some-obey.outcome c.finish.result _ c.finish.ensures.done c.finish.ensures.refused some (c.in-Some-obey.ensures.extract is) in
@@ -80,8 +80,8 @@ returns-in-Some-obey-clause-forget g c = λ taken asks some.
     let words = map string_bytes c.args.words.now in
     let found = found_of c.in-Some.found.1.now in
     let ask : IsAsked words c.in-Some.found.0.now found = asked c.in-Ok-try_get_matches_from.matches words c.in-Some.found.0.now found
-        (subst (λ (a : App). HasMatchesOf a words c.in-Ok-try_get_matches_from.matches) (c.in-Ok.ensures ∙ ap program_app c.given_in.ensures) c.in-Ok-try_get_matches_from.ensures.matches)
-        c.in-Some.ensures.name c.in-Some.ensures.rows in
+    (subst (λ (a : App). HasMatchesOf a words c.in-Ok-try_get_matches_from.matches) (c.in-Ok.ensures ∙ ap program_app c.given_in.ensures) c.in-Ok-try_get_matches_from.ensures.matches)
+    c.in-Some.ensures.name c.in-Some.ensures.rows in
     let is : c.in-Some.found.0.now ≡ codes "forget" = only_name words c.in-Some.found.0.now (codes "forget") found asks ask in
     let named : IsAsked words (codes "forget") found = subst (λ (n : List ℕ). IsAsked words n found) is ask in
     let whole = done_whole c.in-Some-obey.outcome c.finish.result _ _ c.finish.ensures.done c.finish.ensures.refused some (c.in-Some-obey.ensures.done_forget is) (c.in-Some-obey.ensures.forget is) (c.in-Some-obey.ensures.free_forget is) in
@@ -96,8 +96,8 @@ returns-in-Some-obey-clause-reread_map g c = λ taken asks some.
     let words = map string_bytes c.args.words.now in
     let found = found_of c.in-Some.found.1.now in
     let ask : IsAsked words c.in-Some.found.0.now found = asked c.in-Ok-try_get_matches_from.matches words c.in-Some.found.0.now found
-        (subst (λ (a : App). HasMatchesOf a words c.in-Ok-try_get_matches_from.matches) (c.in-Ok.ensures ∙ ap program_app c.given_in.ensures) c.in-Ok-try_get_matches_from.ensures.matches)
-        c.in-Some.ensures.name c.in-Some.ensures.rows in
+    (subst (λ (a : App). HasMatchesOf a words c.in-Ok-try_get_matches_from.matches) (c.in-Ok.ensures ∙ ap program_app c.given_in.ensures) c.in-Ok-try_get_matches_from.ensures.matches)
+    c.in-Some.ensures.name c.in-Some.ensures.rows in
     let is : c.in-Some.found.0.now ≡ codes "reread" = only_name words c.in-Some.found.0.now (codes "reread") found asks ask in
     let named : IsAsked words (codes "reread") found = subst (λ (n : List ℕ). IsAsked words n found) is ask in
     let said = done c.in-Some-obey.outcome c.finish.result _ c.finish.ensures.done c.finish.ensures.refused some (c.in-Some-obey.ensures.reread_map is) in

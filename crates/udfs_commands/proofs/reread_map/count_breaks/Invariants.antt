@@ -1,5 +1,5 @@
 -- The runs so far and those that are left are all.
-use Rattle.std.proofs.Common.{◌≡◌, ◌≤◌, ◌<◌, ◌+◌, ◌^◌, drop}
+use Rattle.std.proofs.Common.{◌≡◌, ◌≤◌, ◌+◌, drop}
 use Rattle.udfs_commands.specs.Rereading.{breaks}
 use Rattle.udfs_commands.proofs.reread_map.count_breaks.Given as goal
 
