@@ -1,5 +1,5 @@
 -- A plain command has no global argument.
-use Rattle.std.proofs.Common.{◌≡◌, Bool, true, false, not, ◌&&◌, refl, sym}
+use Rattle.std.proofs.Common.{◌≡◌, Bool, true, false, not, ◌&&◌, refl}
 use Rattle.std.proofs.lemmas.Bool.{false≢true}
 
 right : (a b : Bool) → (a && b) ≡ true → b ≡ true

@@ -5,3 +5,4 @@ mod PutNodes
 pub mod GrammarLemmas
 pub mod ObeyingLemmas
 pub mod LeavingLemmas
+pub mod RereadingLemmas

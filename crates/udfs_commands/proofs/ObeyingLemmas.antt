@@ -1,6 +1,6 @@
 -- The name and the arguments of the command that the words ask for, from what each of them is by itself.
 use Rattle.std.proofs.Common.{◌≡◌, ◌≢◌, ℕ, cond, Result, Ok, Err, IfOk, OnOk, OnErr, Bool, true, false, ◌∙◌, Option, Some, None, option_map, List, ap, ap₂, subst, sym, refl}
-use Rattle.clap.specs.Words.{HasMatchesOf, Row, Text, is_simple, rows_of, subcommand_of, subcommand_rows_of}
+use Rattle.clap.specs.Words.{HasMatchesOf, Row, Text, is_simple, rows_of, subcommand_rows_of}
 use Rattle.clap.specs.Matches.{subcommand_name_of}
 use Rattle.clap.specs.declared.parser.matches.ArgMatches.{ArgMatches}
 use Rattle.clap.specs.declared.parser.matches.Found.{Found}

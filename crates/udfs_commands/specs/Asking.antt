@@ -4,9 +4,10 @@
 --     asked_inputs words                          the inputs: all files, and then all pairs
 --     list_texts words                            the paths of the lists of blocks, in order
 --     out_text words                              the path of the output
+--     is_mapped words, mapfile_text words         a mapfile is asked for, and its path
 --     folder_text words                           the path of the new folder
 --     IsLast words last                           the number of the last block, or of that with which a disc of the size ends; or 0, of which there is no report
-use Rattle.std.specs.Prelude.{◌≡◌, ◌⊎◌, ℕ, ◌+◌, ◌*◌, List, [], ◌∷◌, ◌++◌, Some, None, codes, map, option_map, unwrap_or}
+use Rattle.std.specs.Prelude.{◌≡◌, ◌⊎◌, ℕ, ◌+◌, ◌*◌, Bool, is_some, List, [], ◌∷◌, ◌++◌, Some, None, codes, map, option_map, unwrap_or}
 use Rattle.clap.specs.Matches.{matched_of, first_value, one_text, raw_values}
 use Rattle.clap.specs.declared.parser.matches.Found.{Found}
 use Rattle.std.specs.Str.Parse.{digits_value, without_leading_plus}
@@ -52,6 +53,14 @@ list_texts words = unwrap_or (option_map raw_values (matched_of words (codes "bl
 -- what was given as the output, a path
 abbrev pub out_text : Found → List ℕ
 out_text words = unwrap_or (first_value words (codes "out")) []
+
+-- a path was given for a mapfile of the blocks to read again
+abbrev pub is_mapped : Found → Bool
+is_mapped words = is_some (matched_of words (codes "mapfile"))
+
+-- that path
+abbrev pub mapfile_text : Found → List ℕ
+mapfile_text words = unwrap_or (first_value words (codes "mapfile")) []
 
 -- what was given as the new folder, a path
 abbrev pub folder_text : Found → List ℕ

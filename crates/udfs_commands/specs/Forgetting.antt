@@ -4,12 +4,11 @@
 --     IsForgottenJoin               the join of the inputs without what the words name
 --     MayForget                     what a crash in the middle shows: what was there, or that table in its place
 --     PutsForgotten                 its table file is put, as the words of the command ask for
-use Rattle.std.specs.Prelude.{◌≡◌, ◌⊎◌, ◌++◌, ℕ, List, [], ◌∷◌, Bool, true, false, cond, Option, Some, IfSome, Ok, codes, map, if◌then◌else◌}
+use Rattle.std.specs.Prelude.{◌≡◌, ◌⊎◌, ◌++◌, ℕ, List, [], ◌∷◌, Bool, true, false, cond, Option, IfSome, Ok, codes, map, if◌then◌else◌}
 use Rattle.clap.specs.declared.parser.matches.Found.{Found}
 use Rattle.std.specs.Str.{bytes_eq}
 use Rattle.udfs_files.specs.Disk.{Disk, Same, Replaced}
 use Rattle.udfs_lattice.specs.declared.facts.Fact.TheVariants.{Unknown}
-use Rattle.udfs_lattice.specs.Records.{join_all}
 use Rattle.udfs_lattice.specs.Tables.{Table, is_named, state_of, without_conflict}
 use Rattle.udfs_rescue.specs.BlockLists.{list_outcome}
 use Rattle.udfs_commands.specs.Asking.{IsPicked, asked_for, asked_inputs, list_texts}

@@ -1,6 +1,6 @@
 -- The words that the program takes, as clap has them: each argument by its name, and the commands with their arguments.
-use Rattle.std.specs.Prelude.{ℕ, Bool, true, false, not, List, Some, codes, pos}
-use Rattle.clap.specs.Words.{App, Rule, Shape, Text, new_app, new_rule, with_rule, with_subcommand}
+use Rattle.std.specs.Prelude.{Bool, true, false, not, Some, codes, pos}
+use Rattle.clap.specs.Words.{App, Rule, Text, new_app, new_rule, with_rule, with_subcommand}
 use Rattle.clap.specs.declared.builder.ArgAction.TheVariants.{Append, Set, SetTrue}
 use Rattle.clap.specs.declared.builder.ValueParser.TheVariants.{Signed, Unsigned}
 use Rattle.udfs_commands.specs.declared.words.Given.{Given}
@@ -20,6 +20,10 @@ last_rule size = record (value_rule (codes "last")) { parser = Some (Signed (pos
 -- `--size BYTES`, a number of 64 bits
 abbrev pub size_rule : Rule
 size_rule = record (new_rule (codes "size")) { long = Some (codes "size"); action = Some Set; value_names = 1; parser = Some (Unsigned 0 18446744073709551615) }
+
+-- `--mapfile FILE`
+abbrev pub mapfile_rule : Rule
+mapfile_rule = record (value_rule (codes "mapfile")) { required = false }
 
 -- `--out FILE` or `-o FILE`
 abbrev pub out_rule : Rule
@@ -53,9 +57,9 @@ with_last name size = with_rule (with_rule (new_app name) (last_rule size)) size
 abbrev pub report_app : Given → App
 report_app given = with_inputs (with_rule (with_last (codes "report") given.size) (flag_rule (codes "json"))) given.pairs
 
--- `reread (--last N | --size BYTES) IN...`
+-- `reread (--last N | --size BYTES) [--mapfile FILE] IN...`
 abbrev pub reread_app : Given → App
-reread_app given = with_inputs (with_last (codes "reread") given.size) given.pairs
+reread_app given = with_inputs (with_rule (with_last (codes "reread") given.size) mapfile_rule) given.pairs
 
 -- `extract (--last N | --size BYTES) --to DIR [--fill] IN...`
 abbrev pub extract_app : Given → App

@@ -4,6 +4,7 @@
 --     SomeShut                   one of some paths may fail to open
 --     IsFree                     an output takes the place of no image, no mapfile and no reading, but of a reading that is an input, or by force
 --     IsSpared                   why an output is refused
+--     IsFreeMap, IsSparedMap     the same of a mapfile that is written: it takes the place of no file but a mapfile of ddrescue's kind, and of none of the inputs
 use Rattle.std.specs.Prelude.{◌≡◌, ◌≢◌, ◌⊎◌, ⊤, ℕ, List, [], ◌∷◌, Bool, true, false, Option, Some, IfSome, codes, nat_eq, if◌then◌else◌}
 
 abbrev pub begins : List ℕ → List ℕ → Bool
@@ -48,3 +49,15 @@ pub record IsOtherReading (holds : List ℕ → Option (Option (List ℕ))) (rea
 
 abbrev pub IsSpared : (List ℕ → Option (Option (List ℕ))) → (List ℕ → List ℕ) → List (List ℕ) → List (List ℕ) → Bool → List ℕ → Type 0
 IsSpared holds real files parts force out = SomeLeads real (real out) parts ⊎ IsOtherReading holds real files force out
+
+-- the beginning of a mapfile that ddrescue or this program wrote
+abbrev pub mapfile_kind : List ℕ
+mapfile_kind = codes "# Mapfile. Created by"
+
+-- `parts` are the images and mapfiles among the inputs
+pub record IsFreeMap (holds : List ℕ → Option (Option (List ℕ))) (real : List ℕ → List ℕ) (in_place : List ℕ → Type 0) (parts : List (List ℕ)) (out : List ℕ) : Type 0 where
+  pub apart : NoneLeads real (real out) parts
+  pub of_kind : (in_place out → ⊥) → (bytes : List ℕ) → holds (real out) ≡ Some (Some bytes) → begins mapfile_kind bytes ≡ true
+
+abbrev pub IsSparedMap : (List ℕ → Option (Option (List ℕ))) → (List ℕ → List ℕ) → List (List ℕ) → List ℕ → Type 0
+IsSparedMap holds real parts out = SomeLeads real (real out) parts ⊎ BeginsOtherwise mapfile_kind (holds (real out))

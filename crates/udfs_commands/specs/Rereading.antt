@@ -1,9 +1,18 @@
--- What a command prints of the blocks to read again.
-use Rattle.std.specs.Prelude.{◌≡◌, ℕ, Bool, List, Option}
+-- What a command prints of the blocks to read again, and the mapfile that it writes of them.
+--     PrintsNumbers       their numbers were printed
+--     PrintsDomain        the mapfile was put, and their count and that of their runs were printed
+--     WritesDomain        the same, as the words of the command ask for
+use Rattle.std.specs.Prelude.{◌≡◌, ℕ, ◌+◌, ◌++◌, ◌==◌, Bool, List, [], ◌∷◌, Option, codes, decimal, length, map, if◌then◌else◌}
+use Rattle.clap.specs.declared.parser.matches.Found.{Found}
 use Rattle.udfs_lattice.specs.Tables.{Table, state_of}
 use Rattle.udfs_reading.specs.Writing.{Wrote}
+use Rattle.udfs_rescue.specs.Writing.{map_text, wanted_status}
 use Rattle.udfs_salvage.specs.Reports.{Report, IsReport, all_whole}
 use Rattle.udfs_salvage.specs.RereadTexts.{number_lines}
+use Rattle.udfs_salvage.specs.Texts.{line}
+use Rattle.udfs_commands.specs.Asking.{IsLast, asked_for, asked_inputs}
+use Rattle.udfs_commands.specs.Keeping.{OfPaths}
+use Rattle.udfs_commands.specs.declared.sources.InputPath.{InputPath}
 
 -- the numbers of the table's report were printed, and the answer is whether there are nodes and all are whole
 pub record PrintsNumbers (last : ℕ) (old new : Option (List ℕ)) (i j : ℕ) (whole : Bool) (table : Table) : Type 0 where
@@ -11,3 +20,33 @@ pub record PrintsNumbers (last : ℕ) (old new : Option (List ℕ)) (i j : ℕ) 
   pub is_report : IsReport (state_of table) last report
   pub prints : Wrote old new i j (number_lines report.reread)
   pub says : whole ≡ all_whole report.nodes
+
+-- how many of these blocks do not follow on the one before them, the first of which is block n
+abbrev pub breaks : ℕ → List ℕ → ℕ
+breaks n [] = 0
+breaks n (m ∷ ms) = (if m == n + 1 then 0 else 1) + breaks m ms
+
+-- how many runs there are, each of blocks that follow on one another
+abbrev pub runs_in : List ℕ → ℕ
+runs_in [] = 0
+runs_in (n ∷ ns) = 1 + breaks n ns
+
+-- `B blocks in R runs`
+abbrev pub domain_line : List ℕ → List ℕ
+domain_line blocks = line (decimal (length blocks) ++ codes " blocks in " ++ decimal (runs_in blocks) ++ codes " runs")
+
+-- the mapfile in which the blocks of the table's report that are to be read again are wanted was put, and the answer is whether there are nodes and all are whole
+pub record PrintsDomain (last : ℕ) (Put : List ℕ → Type 0) (old new : Option (List ℕ)) (i j : ℕ) (whole : Bool) (table : Table) : Type 0 where
+  pub report : Report
+  pub is_report : IsReport (state_of table) last report
+  pub put : Put (map_text (wanted_status report.reread) last)
+  pub prints : Wrote old new i j (domain_line report.reread)
+  pub says : whole ≡ all_whole report.nodes
+
+-- of the inputs and the last block that the words ask for
+pub record WritesDomain {R : Type 0} (found : List ℕ → Option (Option (List ℕ))) (remaining : R → Option (List ℕ)) (words : Found) (Put : List ℕ → Type 0) (old new : Option (List ℕ)) (i j : ℕ) (whole : Bool) : Type 0 where
+  pub last : ℕ
+  pub inputs : List InputPath
+  pub is_last : IsLast words last
+  pub asked : map asked_for inputs ≡ asked_inputs words
+  pub prints : OfPaths found remaining inputs (PrintsDomain last Put old new i j whole)

@@ -6,19 +6,19 @@ ghost use Rattle.udfs_lattice.specs.Tables.{Table};
 ghost use Rattle.udfs_lattice.specs.Records.{join_all};
 ghost use Rattle.udfs_files.specs.Disk.{After, Disk, Fails, Goes, IsOwn};
 ghost use Rattle.udfs_salvage.specs.declared.extraction.Fill.{Fill};
-ghost use Rattle.udfs_commands.specs.Asking.{IsLast, IsPicked, asked_for, asked_inputs, folder_text, input_texts, out_text, pair_texts};
+ghost use Rattle.udfs_commands.specs.Asking.{IsLast, IsPicked, asked_for, asked_inputs, folder_text, input_texts, is_mapped, mapfile_text, out_text, pair_texts};
 ghost use Rattle.udfs_commands.specs.Extracting.{ExtractsAll, IsIn, IsPut, Spares, Stay};
 ghost use Rattle.udfs_commands.specs.Forgetting.{PutsForgotten};
-ghost use Rattle.udfs_commands.specs.Guarding.{IsFree, IsSpared, SomeShut};
+ghost use Rattle.udfs_commands.specs.Guarding.{IsFree, IsFreeMap, IsSpared, IsSparedMap, SomeShut};
 ghost use Rattle.udfs_commands.specs.JsonRuns.{PrintsAs};
 ghost use Rattle.udfs_commands.specs.Keeping.{IsKept, IsTaken, Joined, OfPaths};
 ghost use Rattle.udfs_commands.specs.declared.sources.AnySource.{AnySource};
 ghost use Rattle.udfs_commands.specs.declared.sources.InputPath.{InputPath};
-ghost use Rattle.udfs_commands.specs.Rereading.{PrintsNumbers};
+ghost use Rattle.udfs_commands.specs.Rereading.{PrintsNumbers, WritesDomain};
 ghost use Rattle.clap.specs.declared.parser.matches.Found.{Found};
 ghost use Rattle.std.specs.String.{string_bytes};
 ghost use Rattle.clap.specs.Words.{kind_of};
-ghost use Rattle.udfs_commands.specs.Leaving.{ExtractSpares, MayForgetAsked, MayMerge, ReplacesOut};
+ghost use Rattle.udfs_commands.specs.Leaving.{ExtractSpares, MayForgetAsked, MayMerge, ReplacesOut, RereadSpares};
 ghost use Rattle.udfs_commands.specs.Listing.{IsListForm, PrintsList};
 ghost use Rattle.udfs_commands.specs.Obeying.{Asks, GrammarTakes, IsAsked};
 ghost use Rattle.udfs_overview.specs.declared.node_list.ListForm.{ListForm};
@@ -30,7 +30,7 @@ use crate::asking::asked_inputs;
 use crate::extract::extract;
 use crate::files::Files;
 use crate::forget::forget;
-use crate::guard::{Outlook, look_at};
+use crate::guard::{Outlook, look_at, look_at_map};
 use crate::inputs::joined;
 use crate::last::{EndFault, asked_last, end_fault};
 use crate::list::list;
@@ -39,10 +39,11 @@ use crate::printing::send;
 use crate::refusal::Refusal;
 use crate::report::{Form, report_as};
 use crate::reread::reread;
+use crate::reread_map::reread_map;
 use crate::sources::{AnySource, InputPath};
 use crate::words::{
-    BLOCKS, CONFLICTS, FILL, FORCE, INPUTS, JSON, NULL, OUT, PAIRS, PATHS, TO, TORN, V1, given_in,
-    grammar,
+    BLOCKS, CONFLICTS, FILL, FORCE, INPUTS, JSON, MAPFILE, NULL, OUT, PAIRS, PATHS, TO, TORN, V1,
+    given_in, grammar,
 };
 use clap::error::ErrorKind;
 use clap::{ArgMatches, Error};
@@ -81,9 +82,14 @@ pub fn run<F: Files, O: Sink, E: Sink>(
         IsPicked found (codes "json") Form.Json Form.Text form × IsLast found last ×
         OfPaths (λ path. F.holds files.old (F.real files.old path)) (⟦<AnySource<F::Input, F::Image> as Source>⟧.remaining) inputs (PrintsAs form last (O.contents out.old) (O.contents out.new) (O.faults out.old) (O.faults out.new) whole)) }
     ensures reread { GrammarTakes (map string_bytes words.now) → Asks (map string_bytes words.now) (codes "reread") → result ≢ 2 → (whole : Bool) × (result ≡ cond whole 0 1) × (found : Found) × IsAsked (map string_bytes words.now) (codes "reread") found ×
-        ((last : ℕ) × (inputs : List InputPath) × (map asked_for inputs ≡ asked_inputs found) ×
+        (is_mapped found ≡ false → (last : ℕ) × (inputs : List InputPath) × (map asked_for inputs ≡ asked_inputs found) ×
         IsLast found last × OfPaths (λ path. F.holds files.old (F.real files.old path)) (⟦<AnySource<F::Input, F::Image> as Source>⟧.remaining) inputs
         (PrintsNumbers last (O.contents out.old) (O.contents out.new) (O.faults out.old) (O.faults out.new) whole)) }
+    ensures reread_map { GrammarTakes (map string_bytes words.now) → Asks (map string_bytes words.now) (codes "reread") → result ≢ 2 → (whole : Bool) × (result ≡ cond whole 0 1) × (found : Found) × IsAsked (map string_bytes words.now) (codes "reread") found ×
+        (is_mapped found ≡ true → WritesDomain (λ path. F.holds files.old (F.real files.old path)) (⟦<AnySource<F::Input, F::Image> as Source>⟧.remaining) found
+        (λ bytes. (F.tells → IsKept (F.holds files.new) (F.may_leave files.new) (F.real files.old (mapfile_text found)) bytes) ⊎ (F.in_place files.old (mapfile_text found) × IsTaken F.Output.contents bytes))
+        (O.contents out.old) (O.contents out.new) (O.faults out.old) (O.faults out.new) whole ×
+        (F.tells → IsFreeMap (F.holds files.old) (F.real files.old) (F.in_place files.old) (pair_texts found) (mapfile_text found))) }
     ensures extract { GrammarTakes (map string_bytes words.now) → Asks (map string_bytes words.now) (codes "extract") → result ≢ 2 → (good : Bool) × (result ≡ cond good 0 1) × (found : Found) × IsAsked (map string_bytes words.now) (codes "extract") found ×
         ((fill : Fill) × (last : ℕ) × (inputs : List InputPath) × (map asked_for inputs ≡ asked_inputs found) ×
         IsPicked found (codes "fill") (Fill.Byte 0) Fill.Refuse fill × IsLast found last ×
@@ -99,8 +105,10 @@ pub fn run<F: Files, O: Sink, E: Sink>(
         ((form : ListForm) × (last : ℕ) × (inputs : List InputPath) × (map asked_for inputs ≡ asked_inputs found) ×
         IsListForm found form × IsLast found last × OfPaths (λ path. F.holds files.old (F.real files.old path)) (⟦<AnySource<F::Input, F::Image> as Source>⟧.remaining) inputs
         (PrintsList form last (O.contents out.old) (O.contents out.new) (O.faults out.old) (O.faults out.new) whole)) }
-    // What is there stays, whatever the status: only `merge`, `forget` and `extract` change files at all, and only as their words ask.
-    ensures reads { (Asks (map string_bytes words.now) (codes "merge") → ⊥) → (Asks (map string_bytes words.now) (codes "forget") → ⊥) → (Asks (map string_bytes words.now) (codes "extract") → ⊥) → files.new ≡ files.old }
+    // What is there stays, whatever the status: only `merge`, `forget`, `reread --mapfile` and `extract` change files at all, and only as their words ask.
+    ensures reads { (Asks (map string_bytes words.now) (codes "merge") → ⊥) → (Asks (map string_bytes words.now) (codes "forget") → ⊥) → (Asks (map string_bytes words.now) (codes "reread") → ⊥) → (Asks (map string_bytes words.now) (codes "extract") → ⊥) → files.new ≡ files.old }
+    ensures rereading { Asks (map string_bytes words.now) (codes "reread") → (files.new ≡ files.old) ⊎ ((found : Found) × IsAsked (map string_bytes words.now) (codes "reread") found ×
+        RereadSpares F.tells F.holds F.real F.in_place found files.old files.new) }
     ensures merging { Asks (map string_bytes words.now) (codes "merge") → (files.new ≡ files.old) ⊎ ((found : Found) × IsAsked (map string_bytes words.now) (codes "merge") found ×
         ReplacesOut F.tells F.holds F.real F.in_place F.may_leave F.moment F.left_since found files.old files.new
         (MayMerge (λ path. F.holds files.old (F.real files.old path)) (⟦<AnySource<F::Input, F::Image> as Source>⟧.remaining) (F.real files.old) found)) }
@@ -151,7 +159,11 @@ fn obey<F: Files, O: Sink>(
     ensures report { name.now ≡ codes "report" → IfSome result (λ outcome. IfOk outcome (λ whole. (form : Form) × (last : ℕ) × (inputs : List InputPath) × (map asked_for inputs ≡ asked_inputs (found_of words.now)) ×
         IsPicked (found_of words.now) (codes "json") Form.Json Form.Text form × IsLast (found_of words.now) last ×
         OfPaths (λ path. F.holds files.old (F.real files.old path)) (⟦<AnySource<F::Input, F::Image> as Source>⟧.remaining) inputs (PrintsAs form last (O.contents out.old) (O.contents out.new) (O.faults out.old) (O.faults out.new) whole))) }
-    ensures reread { name.now ≡ codes "reread" → IfSome result (λ outcome. IfOk outcome (λ whole. (last : ℕ) × (inputs : List InputPath) × (map asked_for inputs ≡ asked_inputs (found_of words.now)) ×
+    ensures reread_map { name.now ≡ codes "reread" → IfSome result (λ outcome. IfOk outcome (λ whole. is_mapped (found_of words.now) ≡ true → WritesDomain (λ path. F.holds files.old (F.real files.old path)) (⟦<AnySource<F::Input, F::Image> as Source>⟧.remaining) (found_of words.now)
+        (λ bytes. (F.tells → IsKept (F.holds files.new) (F.may_leave files.new) (F.real files.old (mapfile_text (found_of words.now))) bytes) ⊎ (F.in_place files.old (mapfile_text (found_of words.now)) × IsTaken F.Output.contents bytes))
+        (O.contents out.old) (O.contents out.new) (O.faults out.old) (O.faults out.new) whole ×
+        (F.tells → IsFreeMap (F.holds files.old) (F.real files.old) (F.in_place files.old) (pair_texts (found_of words.now)) (mapfile_text (found_of words.now))))) }
+    ensures reread { name.now ≡ codes "reread" → IfSome result (λ outcome. IfOk outcome (λ whole. is_mapped (found_of words.now) ≡ false → (last : ℕ) × (inputs : List InputPath) × (map asked_for inputs ≡ asked_inputs (found_of words.now)) ×
         IsLast (found_of words.now) last × OfPaths (λ path. F.holds files.old (F.real files.old path)) (⟦<AnySource<F::Input, F::Image> as Source>⟧.remaining) inputs
         (PrintsNumbers last (O.contents out.old) (O.contents out.new) (O.faults out.old) (O.faults out.new) whole))) }
     ensures extract { name.now ≡ codes "extract" → IfSome result (λ outcome. IfOk outcome (λ good. (fill : Fill) × (last : ℕ) × (inputs : List InputPath) × (map asked_for inputs ≡ asked_inputs (found_of words.now)) ×
@@ -168,8 +180,9 @@ fn obey<F: Files, O: Sink>(
     ensures list { name.now ≡ codes "list" → IfSome result (λ outcome. IfOk outcome (λ whole. (form : ListForm) × (last : ℕ) × (inputs : List InputPath) × (map asked_for inputs ≡ asked_inputs (found_of words.now)) ×
         IsListForm (found_of words.now) form × IsLast (found_of words.now) last × OfPaths (λ path. F.holds files.old (F.real files.old path)) (⟦<AnySource<F::Input, F::Image> as Source>⟧.remaining) inputs
         (PrintsList form last (O.contents out.old) (O.contents out.new) (O.faults out.old) (O.faults out.new) whole))) }
-    // What is there stays, whatever the answer: only `merge`, `forget` and `extract` change files at all.
-    ensures reads { (name.now ≡ codes "merge" → ⊥) → (name.now ≡ codes "forget" → ⊥) → (name.now ≡ codes "extract" → ⊥) → files.new ≡ files.old }
+    // What is there stays, whatever the answer: only `merge`, `forget`, `reread --mapfile` and `extract` change files at all.
+    ensures reads { (name.now ≡ codes "merge" → ⊥) → (name.now ≡ codes "forget" → ⊥) → (name.now ≡ codes "reread" → ⊥) → (name.now ≡ codes "extract" → ⊥) → files.new ≡ files.old }
+    ensures rereading { name.now ≡ codes "reread" → RereadSpares F.tells F.holds F.real F.in_place (found_of words.now) files.old files.new }
     ensures merging { name.now ≡ codes "merge" → ReplacesOut F.tells F.holds F.real F.in_place F.may_leave F.moment F.left_since (found_of words.now) files.old files.new
         (MayMerge (λ path. F.holds files.old (F.real files.old path)) (⟦<AnySource<F::Input, F::Image> as Source>⟧.remaining) (F.real files.old) (found_of words.now)) }
     ensures forgetting { name.now ≡ codes "forget" → ReplacesOut F.tells F.holds F.real F.in_place F.may_leave F.moment F.left_since (found_of words.now) files.old files.new
@@ -182,7 +195,7 @@ fn obey<F: Files, O: Sink>(
             Err(refusal) => Err(refusal),
         }),
         "report" => Some(report_words(alloc, words, files, out)),
-        "reread" => Some(reread_words(alloc, words, files, out)),
+        "reread" => Some(reread_as(alloc, words, files, out)),
         "extract" => Some(extract_words(alloc, words, files, out)),
         "forget" => Some(match forget_words(alloc, words, files) {
             Ok(()) => Ok(true),
@@ -394,7 +407,94 @@ fn asked_form(words: &ArgMatches<'_>) -> Form
     Form::Text
 }
 
-/// Does what the words after `reread` ask for.
+/// Does what the words after `reread` ask for: a mapfile with `--mapfile`, and else the numbers.
+fn reread_as<F: Files, O: Sink>(
+    alloc: Global,
+    words: &ArgMatches<'_>,
+    files: &mut F,
+    out: &mut O,
+) -> Result<bool, Refusal>
+    ensures printed { IfOk result (λ whole. is_mapped (found_of words.now) ≡ false → (last : ℕ) × (inputs : List InputPath) × (map asked_for inputs ≡ asked_inputs (found_of words.now)) ×
+        IsLast (found_of words.now) last × OfPaths (λ path. F.holds files.old (F.real files.old path)) (⟦<AnySource<F::Input, F::Image> as Source>⟧.remaining) inputs
+        (PrintsNumbers last (O.contents out.old) (O.contents out.new) (O.faults out.old) (O.faults out.new) whole)) }
+    ensures written { IfOk result (λ whole. is_mapped (found_of words.now) ≡ true → WritesDomain (λ path. F.holds files.old (F.real files.old path)) (⟦<AnySource<F::Input, F::Image> as Source>⟧.remaining) (found_of words.now)
+        (λ bytes. (F.tells → IsKept (F.holds files.new) (F.may_leave files.new) (F.real files.old (mapfile_text (found_of words.now))) bytes) ⊎ (F.in_place files.old (mapfile_text (found_of words.now)) × IsTaken F.Output.contents bytes))
+        (O.contents out.old) (O.contents out.new) (O.faults out.old) (O.faults out.new) whole ×
+        (F.tells → IsFreeMap (F.holds files.old) (F.real files.old) (F.in_place files.old) (pair_texts (found_of words.now)) (mapfile_text (found_of words.now)))) }
+    ensures numbers { is_mapped (found_of words.now) ≡ false → files.new ≡ files.old }
+    // No other path changes, but for those of new files that are to go in its place.
+    ensures elsewhere { F.tells → (F.in_place files.old (mapfile_text (found_of words.now)) → ⊥) → (q : List ℕ) → q ≢ F.real files.old (mapfile_text (found_of words.now)) → (¬ IsOwn (F.real files.old (mapfile_text (found_of words.now))) q) → F.holds files.new q ≡ F.holds files.old q }
+{
+    if words.contains_id(MAPFILE) {
+        return match reread_map_words(alloc, words, files, out) {
+            Ok(whole) => Ok(whole),
+            Err(refusal) => Err(refusal),
+        };
+    }
+    match reread_words(alloc, words, files, out) {
+        Ok(whole) => Ok(whole),
+        Err(refusal) => Err(refusal),
+    }
+}
+
+/// Does what the words after `reread` ask for where a mapfile is to be written.
+fn reread_map_words<F: Files, O: Sink>(
+    alloc: Global,
+    words: &ArgMatches<'_>,
+    files: &mut F,
+    out: &mut O,
+) -> Result<bool, Refusal>
+    ensures written { IfOk result (λ whole. WritesDomain (λ path. F.holds files.old (F.real files.old path)) (⟦<AnySource<F::Input, F::Image> as Source>⟧.remaining) (found_of words.now)
+        (λ bytes. (F.tells → IsKept (F.holds files.new) (F.may_leave files.new) (F.real files.old (mapfile_text (found_of words.now))) bytes) ⊎ (F.in_place files.old (mapfile_text (found_of words.now)) × IsTaken F.Output.contents bytes))
+        (O.contents out.old) (O.contents out.new) (O.faults out.old) (O.faults out.new) whole) }
+    // It takes the place of no file but a mapfile of ddrescue's kind, and never that of an image or a mapfile of the inputs.
+    ensures free { OnOk result (F.tells → IsFreeMap (F.holds files.old) (F.real files.old) (F.in_place files.old) (pair_texts (found_of words.now)) (mapfile_text (found_of words.now))) }
+    // No other path changes, but for those of new files that are to go in its place.
+    ensures elsewhere { F.tells → (F.in_place files.old (mapfile_text (found_of words.now)) → ⊥) → (q : List ℕ) → q ≢ F.real files.old (mapfile_text (found_of words.now)) → (¬ IsOwn (F.real files.old (mapfile_text (found_of words.now))) q) → F.holds files.new q ≡ F.holds files.old q }
+{
+    let inputs = asked_inputs(alloc, words)?;
+    match asked_map_outlook(alloc, words, files) {
+        Ok(Outlook::Free) => {}
+        Ok(Outlook::Spared) => return Err(Refusal::Spared),
+        Ok(Outlook::Unknown) => return Err(unwritten(alloc, inputs.as_slice(), files)),
+        Err(AllocError) => return Err(Refusal::Memory(AllocError)),
+    }
+    let last = asked_last(words);
+    match reread_map(
+        alloc,
+        inputs.as_slice(),
+        last,
+        asked_mapfile(words),
+        files,
+        out,
+    ) {
+        Ok(whole) => Ok(whole),
+        Err(refusal) => Err(refusal),
+    }
+}
+
+/// What is known of the mapfile that the words after `reread` ask for.
+fn asked_map_outlook<F: Files>(
+    alloc: Global,
+    words: &ArgMatches<'_>,
+    files: &F,
+) -> Result<Outlook, AllocError>
+    ensures free { IfOk result (λ found. found ≡ Outlook.Free → F.tells → IsFreeMap (F.holds files.now) (F.real files.now) (F.in_place files.now) (pair_texts (found_of words.now)) (mapfile_text (found_of words.now))) }
+    ensures spared { IfOk result (λ found. found ≡ Outlook.Spared → F.tells → IsSparedMap (F.holds files.now) (F.real files.now) (pair_texts (found_of words.now)) (mapfile_text (found_of words.now))) }
+{
+    let parts = words.get_strs(PAIRS).unwrap_or(&[]);
+    let found = look_at_map(alloc, parts, asked_mapfile(words), files)?;
+    Ok(found)
+}
+
+/// The path of the mapfile among the words after `reread`.
+fn asked_mapfile<'a>(words: &ArgMatches<'a>) -> &'a str
+    ensures { result.now ≡ mapfile_text (found_of words.now) }
+{
+    words.get_str(MAPFILE).unwrap_or("")
+}
+
+/// Does what the words after `reread` ask for where no mapfile is to be written.
 fn reread_words<F: Files, O: Sink>(
     alloc: Global,
     words: &ArgMatches<'_>,

@@ -2,7 +2,7 @@
 
 ghost use Rattle.std.specs.Prelude.{◌≡◌, ◌≢◌, ◌⊎◌, ℕ, List, true, false, Some, IfOk, OnErr, map};
 ghost use Rattle.udfs_files.specs.Disk.{Fails};
-ghost use Rattle.udfs_commands.specs.Guarding.{BeginsOtherwise, IsFree, IsSpared, MayBegin, NoneLeads, SomeLeads, SomeShut, begins};
+ghost use Rattle.udfs_commands.specs.Guarding.{BeginsOtherwise, IsFree, IsFreeMap, IsSpared, IsSparedMap, MayBegin, NoneLeads, SomeLeads, SomeShut, begins};
 
 use crate::files::Files;
 use std::alloc::{AllocError, Global};
@@ -11,6 +11,9 @@ use udfs_reading::{DeviceFault, Source};
 
 /// The first eight bytes of a reading.
 const READING: &[u8] = b"UDFREAD1";
+
+/// The beginning of a mapfile that ddrescue or this program wrote.
+const MAPFILE: &[u8] = b"# Mapfile. Created by";
 
 /// Whether what a source has left begins with these bytes. It reads one at a time, and no more than it needs.
 fn begins_so<R: Source>(source: &mut R, kind: &[u8]) -> Result<bool, DeviceFault>
@@ -135,5 +138,35 @@ pub fn look_at<F: Files>(
         Ok(false) => Ok(Outlook::Free),
         Ok(true) => Ok(Outlook::Spared),
         Err(DeviceFault) => Ok(Outlook::Unknown),
+    }
+}
+
+/// What is known of a mapfile that is to be written: it is spared where it is an image or a mapfile of the inputs, or where what is there is a file and begins
+/// as no such mapfile does.
+pub fn look_at_map<F: Files>(
+    alloc: Global,
+    parts: &[&str],
+    out: &str,
+    files: &F,
+) -> Result<Outlook, AllocError>
+    ensures free { IfOk result (λ found. found ≡ Outlook.Free → F.tells → IsFreeMap (F.holds files.now) (F.real files.now) (F.in_place files.now) (map (λ path. path.now) parts.now) out.now) }
+    ensures spared { IfOk result (λ found. found ≡ Outlook.Spared → F.tells → IsSparedMap (F.holds files.now) (F.real files.now) (map (λ path. path.now) parts.now) out.now) }
+    ensures unknown { IfOk result (λ found. found ≡ Outlook.Unknown → F.shut files.now out.now ⊎ SomeShut (F.shut files.now) (map (λ path. path.now) parts.now) ⊎ Fails F.Input.faults) }
+{
+    let Ok(place) = files.resolve(alloc, out)? else {
+        return Ok(Outlook::Unknown);
+    };
+    match is_among(alloc, parts, place.path.as_str(), files)? {
+        Ok(false) => {}
+        Ok(true) => return Ok(Outlook::Spared),
+        Err(DeviceFault) => return Ok(Outlook::Unknown),
+    }
+    match place.kind {
+        Kind::Absent | Kind::Other => Ok(Outlook::Free),
+        Kind::Regular => match is_kind(out, MAPFILE, files) {
+            Ok(true) => Ok(Outlook::Free),
+            Ok(false) => Ok(Outlook::Spared),
+            Err(DeviceFault) => Ok(Outlook::Unknown),
+        },
     }
 }

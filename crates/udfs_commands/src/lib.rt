@@ -17,6 +17,7 @@ mod putting;
 mod refusal;
 mod report;
 mod reread;
+mod reread_map;
 mod sources;
 mod words;
 

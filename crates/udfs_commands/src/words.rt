@@ -4,7 +4,7 @@ ghost use Rattle.std.specs.Prelude.{◌≡◌, false, IfOk, codes, map};
 ghost use Rattle.std.specs.String.{string_bytes};
 ghost use Rattle.udfs_commands.specs.Obeying.{given_in, is_given, names};
 ghost use Rattle.clap.specs.Words.{app_of, rule_of};
-ghost use Rattle.udfs_commands.specs.Grammar.{blocks_rule, extract_app, flag_rule, forget_app, inputs_rule, last_rule, list_app, merge_app, pairs_rule, out_rule, program, program_app, report_app, reread_app, size_rule, value_rule};
+ghost use Rattle.udfs_commands.specs.Grammar.{blocks_rule, extract_app, flag_rule, forget_app, inputs_rule, last_rule, list_app, mapfile_rule, merge_app, pairs_rule, out_rule, program, program_app, report_app, reread_app, size_rule, value_rule};
 
 use clap::{Arg, ArgAction, Command, value_parser};
 use std::alloc::{AllocError, Global};
@@ -26,6 +26,9 @@ pub const LAST: &str = "last";
 
 /// The id of the disc's size among the matches.
 pub const SIZE: &str = "size";
+
+/// The id of the mapfile to write among the matches.
+pub const MAPFILE: &str = "mapfile";
 
 /// The id of the flag for forgetting blocks in conflict.
 pub const CONFLICTS: &str = "conflicts";
@@ -148,7 +151,7 @@ fn report<'a>(alloc: Global, given: Given) -> Result<Command<'a>, AllocError>
         .arg(inputs(alloc, given.pairs))
 }
 
-/// `reread (--last N | --size BYTES) IN...`
+/// `reread (--last N | --size BYTES) [--mapfile FILE] IN...`
 fn reread<'a>(alloc: Global, given: Given) -> Result<Command<'a>, AllocError>
     ensures { IfOk result (λ command. app_of command ≡ reread_app given) }
 {
@@ -156,6 +159,7 @@ fn reread<'a>(alloc: Global, given: Given) -> Result<Command<'a>, AllocError>
         .about("Prints the numbers of the blocks to read again")
         .arg(last(alloc, given.size))?
         .arg(disc_size(alloc))?
+        .arg(domain(alloc))?
         .arg(pair_inputs(alloc))?
         .arg(inputs(alloc, given.pairs))
 }
@@ -218,6 +222,17 @@ fn force<'a>(alloc: Global) -> Arg<'a>
     ensures { (rule_of result ≡ flag_rule (codes "force")) × (result.global ≡ false) }
 {
     flag(alloc, FORCE, "Write over a reading that is none of the inputs")
+}
+
+/// The mapfile to write.
+fn domain<'a>(alloc: Global) -> Arg<'a>
+    ensures { (rule_of result ≡ mapfile_rule) × (result.global ≡ false) }
+{
+    Arg::new(alloc, MAPFILE)
+        .long("mapfile")
+        .value_name("FILE")
+        .help("Write the blocks as a domain mapfile for ddrescue -m, and print how many they are")
+        .action(ArgAction::Set)
 }
 
 /// Lists of blocks, of which there is at least one where no conflicts are to be forgotten.

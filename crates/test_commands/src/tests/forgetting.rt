@@ -36,12 +36,21 @@ fn with_lists(alloc: Global) -> Result<Memory, AllocError> {
 fn what_is_named_is_unknown_again(rt: HostRuntime) -> Result<(), Fail> {
     let alloc = rt.alloc();
     for (words, left) in [
-        ("forget --blocks 300 --out t.tab a.rd b.rd", &[(301, 0x62)][..]),
-        ("forget --blocks=300 -o t.tab c.rd b.rd a.rd", &[(301, 0x62)]),
+        (
+            "forget --blocks 300 --out t.tab a.rd b.rd",
+            &[(301, 0x62)][..],
+        ),
+        (
+            "forget --blocks=300 -o t.tab c.rd b.rd a.rd",
+            &[(301, 0x62)],
+        ),
         ("forget --blocks zeros -o t.tab b.rd a.rd", &[(301, 0x62)]),
         ("forget --blocks - --out t.tab a.rd b.rd", &[(300, 0x61)]),
         ("forget a.rd b.rd --out t.tab --blocks more", &[(300, 0x61)]),
-        ("forget --blocks 300 --blocks more --out t.tab a.rd b.rd", &[]),
+        (
+            "forget --blocks 300 --blocks more --out t.tab a.rd b.rd",
+            &[],
+        ),
         (
             "forget --blocks none --out t.tab a.rd b.rd",
             &[(300, 0x61), (301, 0x62)],
@@ -50,7 +59,10 @@ fn what_is_named_is_unknown_again(rt: HostRuntime) -> Result<(), Fail> {
             "forget --conflicts --out t.tab a.rd b.rd",
             &[(300, 0x61), (301, 0x62)],
         ),
-        ("forget --conflicts --out t.tab a.rd b.rd c.rd", &[(301, 0x62)]),
+        (
+            "forget --conflicts --out t.tab a.rd b.rd c.rd",
+            &[(301, 0x62)],
+        ),
         (
             "forget --conflicts --blocks more --out t.tab a.rd b.rd c.rd",
             &[],

@@ -67,3 +67,115 @@ fn what_refuses_it(rt: HostRuntime) -> Result<(), Fail> {
     }
     Ok(())
 }
+
+/// Of the disc whose file `A` lacks block 278 that block is wanted. An old mapfile is written over, and nothing else.
+#[test]
+fn the_blocks_to_read_again_are_a_mapfile(rt: HostRuntime) -> Result<(), Fail> {
+    let alloc = rt.alloc();
+    let text =
+        b"# Mapfile. Created by udfsalvage 0.1.0\n0x00000000     +               1\n0x00000000  0x0008B000  ?\n0x0008B000  0x00000800  +\n0x0008B800  0x000A1000  ?\n";
+    let known = [32, 33, 34, 256, 272, 273, 274, 275, 276, 277, 279];
+    let table = Disc::type1(alloc)?.known_at(alloc, &known)?;
+    let mut memory = with_table(alloc, &table)?;
+    for words in [
+        "reread --last 600 --mapfile want.map disc.tab",
+        "reread --size 1230848 disc.tab --mapfile=want.map",
+    ] {
+        let ran = ran(alloc, &mut memory, words)?;
+        assert_eq!(rt; ran.status, 1, "{words}");
+        assert_eq!(rt; ran.out.as_str(), "1 blocks in 1 runs\n", "{words}");
+        assert_eq!(rt; ran.err.as_str(), "", "{words}");
+        assert!(rt; memory.has("want.map", text), "{words}");
+        assert!(rt; memory.survives("want.map", text), "{words}");
+    }
+    Ok(())
+}
+
+/// Nothing is wanted of a disc of which all is known; of an unread one the anchors are, and blocks 277 and 278 are one run.
+#[test]
+fn the_counts_of_a_mapfile(rt: HostRuntime) -> Result<(), Fail> {
+    let alloc = rt.alloc();
+    for (unread, status, line) in [
+        (&[][..], 0, "0 blocks in 0 runs\n"),
+        (&[33, 49], 1, "2 blocks in 2 runs\n"),
+        (&[277, 278], 1, "2 blocks in 1 runs\n"),
+        (&[277, 279], 1, "2 blocks in 2 runs\n"),
+    ] {
+        let table = Disc::type1(alloc)?.known_but(alloc, unread)?;
+        let mut memory = with_table(alloc, &table)?;
+        let ran = ran(alloc, &mut memory, "reread --last 600 --mapfile m disc.tab")?;
+        assert_eq!(rt; ran.status, status, "{line}");
+        assert_eq!(rt; ran.out.as_str(), line);
+    }
+    let all =
+        b"# Mapfile. Created by udfsalvage 0.1.0\n0x00000000     +               1\n0x00000000  0x0012C800  ?\n";
+    let table = Disc::type1(alloc)?.known_but(alloc, &[])?;
+    let mut memory = with_table(alloc, &table)?;
+    let done = ran(alloc, &mut memory, "reread --last 600 --mapfile m disc.tab")?;
+    assert_eq!(rt; done.status, 0);
+    assert!(rt; memory.has("m", all));
+    let mut empty = Memory::new(alloc);
+    empty.store("empty.rd", reading(alloc, &[])?.as_slice())?;
+    let none = ran(alloc, &mut empty, "reread --last 600 --mapfile m empty.rd")?;
+    assert_eq!(rt; none.status, 1);
+    assert_eq!(rt; none.out.as_str(), "3 blocks in 3 runs\n");
+    let anchors =
+        b"# Mapfile. Created by udfsalvage 0.1.0\n0x00000000     +               1\n0x00000000  0x00080000  ?\n0x00080000  0x00000800  +\n0x00080800  0x0002B800  ?\n0x000AC000  0x00000800  +\n0x000AC800  0x0007F800  ?\n0x0012C000  0x00000800  +\n";
+    assert!(rt; empty.has("m", anchors));
+    Ok(())
+}
+
+/// No file but a mapfile is written over, and no image or mapfile of the inputs; no input is read then.
+#[test]
+fn what_a_mapfile_is_not_written_over(rt: HostRuntime) -> Result<(), Fail> {
+    let alloc = rt.alloc();
+    let table = Disc::type1(alloc)?.known_but(alloc, &[])?;
+    let map = b"# Mapfile. Created by GNU ddrescue\n0 + 1\n";
+    for (words, line) in [
+        (
+            "reread --last 600 --mapfile disc.tab disc.tab",
+            "udfsalvage: cannot write output\n",
+        ),
+        (
+            "reread --last 600 --mapfile disc.tab absent.rd",
+            "udfsalvage: cannot write output\n",
+        ),
+        (
+            "reread --last 600 --mapfile note absent.rd",
+            "udfsalvage: cannot write output\n",
+        ),
+        (
+            "reread --last 600 --mapfile p.map disc.tab --ddrescue p.img p.map",
+            "udfsalvage: cannot write output\n",
+        ),
+        (
+            "reread --last 600 --mapfile p.img disc.tab --ddrescue p.img p.map",
+            "udfsalvage: cannot write output\n",
+        ),
+        (
+            "reread --last 600 --mapfile want.map absent.rd",
+            "udfsalvage: cannot open input 1\n",
+        ),
+        (
+            "reread --last 512 --mapfile want.map disc.tab",
+            "udfsalvage: fault 1 LastRange\n",
+        ),
+    ] {
+        let mut memory = with_table(alloc, &table)?;
+        memory.store("p.img", b"x")?;
+        memory.store("p.map", map)?;
+        memory.store("note", b"# Mapfile. Created b")?;
+        let ran = ran(alloc, &mut memory, words)?;
+        assert!(rt; ran.is_refused(line), "{words}: {ran:?}");
+        assert_eq!(rt; memory.calls(), 0, "{words}");
+    }
+    let mut memory = with_table(alloc, &table)?;
+    memory.store("p.map", map)?;
+    let over = ran(
+        alloc,
+        &mut memory,
+        "reread --last 600 --mapfile p.map disc.tab",
+    )?;
+    assert_eq!(rt; over.status, 0, "{over:?}");
+    Ok(())
+}

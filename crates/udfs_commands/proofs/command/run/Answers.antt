@@ -1,7 +1,7 @@
 use Rattle.std.proofs.Common.{◌≡◌, Bool, List, ℕ, ap, inr, subst, sym, ◌∙◌, codes, map}
 use Rattle.std.specs.String.{string_bytes}
 use Rattle.clap.specs.Matches.{found_of}
-use Rattle.clap.specs.Words.{App, HasMatchesOf, app_of, takes}
+use Rattle.clap.specs.Words.{App, HasMatchesOf, takes}
 use Rattle.udfs_commands.specs.Grammar.{program_app}
 use Rattle.udfs_commands.specs.Obeying.{IsAsked}
 use Rattle.udfs_commands.proofs.ObeyingLemmas.{asked, asks_by, done, done_whole, only_name}
@@ -80,21 +80,22 @@ returns-in-Some-obey-clause-forget g c = λ taken asks some.
     let words = map string_bytes c.args.words.now in
     let found = found_of c.in-Some.found.1.now in
     let ask : IsAsked words c.in-Some.found.0.now found = asked c.in-Ok-try_get_matches_from.matches words c.in-Some.found.0.now found
-        (subst (λ (a : App). HasMatchesOf a words c.in-Ok-try_get_matches_from.matches) (c.in-Ok.ensures ∙ ap program_app c.given_in.ensures) c.in-Ok-try_get_matches_from.ensures.matches)
-        c.in-Some.ensures.name c.in-Some.ensures.rows in
+    (subst (λ (a : App). HasMatchesOf a words c.in-Ok-try_get_matches_from.matches) (c.in-Ok.ensures ∙ ap program_app c.given_in.ensures) c.in-Ok-try_get_matches_from.ensures.matches)
+    c.in-Some.ensures.name c.in-Some.ensures.rows in
     let is : c.in-Some.found.0.now ≡ codes "forget" = only_name words c.in-Some.found.0.now (codes "forget") found asks ask in
     let named : IsAsked words (codes "forget") found = subst (λ (n : List ℕ). IsAsked words n found) is ask in
     let whole = done_whole c.in-Some-obey.outcome c.finish.result _ _ c.finish.ensures.done c.finish.ensures.refused some (c.in-Some-obey.ensures.done_forget is) (c.in-Some-obey.ensures.forget is) (c.in-Some-obey.ensures.free_forget is) in
     (whole.0, found, named, whole.1, whole.2)
 
 pub returns-in-Some-obey-clause-reads : goal.returns-in-Some-obey-clause-reads
-returns-in-Some-obey-clause-reads g c = λ no_merge no_forget no_extract.
+returns-in-Some-obey-clause-reads g c = λ no_merge no_forget no_reread no_extract.
     let words = map string_bytes c.args.words.now in
     let found = found_of c.in-Some.found.1.now in
     let ask : IsAsked words c.in-Some.found.0.now found = asked c.in-Ok-try_get_matches_from.matches words c.in-Some.found.0.now found
     (subst (λ (a : App). HasMatchesOf a words c.in-Ok-try_get_matches_from.matches) (c.in-Ok.ensures ∙ ap program_app c.given_in.ensures) c.in-Ok-try_get_matches_from.ensures.matches)
     c.in-Some.ensures.name c.in-Some.ensures.rows in
     c.in-Some-obey.ensures.reads (λ e. no_merge (asks_by words c.in-Some.found.0.now (codes "merge") found ask e)) (λ e. no_forget (asks_by words c.in-Some.found.0.now (codes "forget") found ask e))
+    (λ e. no_reread (asks_by words c.in-Some.found.0.now (codes "reread") found ask e))
     (λ e. no_extract (asks_by words c.in-Some.found.0.now (codes "extract") found ask e))
 
 pub returns-in-Some-obey-clause-merging : goal.returns-in-Some-obey-clause-merging
@@ -120,13 +121,14 @@ returns-in-Some-obey-clause-extracting g c = λ asks.
     inr (found, named, c.in-Some-obey.ensures.extracting is)
 
 pub returns-clause-reads : goal.returns-clause-reads
-returns-clause-reads g c = λ no_merge no_forget no_extract.
+returns-clause-reads g c = λ no_merge no_forget no_reread no_extract.
     let words = map string_bytes c.args.words.now in
     let found = found_of c.in-Some.found.1.now in
     let ask : IsAsked words c.in-Some.found.0.now found = asked c.in-Ok-try_get_matches_from.matches words c.in-Some.found.0.now found
     (subst (λ (a : App). HasMatchesOf a words c.in-Ok-try_get_matches_from.matches) (c.in-Ok.ensures ∙ ap program_app c.given_in.ensures) c.in-Ok-try_get_matches_from.ensures.matches)
     c.in-Some.ensures.name c.in-Some.ensures.rows in
     c.in-None-obey.ensures.reads (λ e. no_merge (asks_by words c.in-Some.found.0.now (codes "merge") found ask e)) (λ e. no_forget (asks_by words c.in-Some.found.0.now (codes "forget") found ask e))
+    (λ e. no_reread (asks_by words c.in-Some.found.0.now (codes "reread") found ask e))
     (λ e. no_extract (asks_by words c.in-Some.found.0.now (codes "extract") found ask e))
 
 pub returns-clause-merging : goal.returns-clause-merging
@@ -188,3 +190,41 @@ returns-in-Some-obey-clause-list g c = λ taken asks some.
     let named : IsAsked words (codes "list") found = subst (λ (n : List ℕ). IsAsked words n found) is ask in
     let said = done c.in-Some-obey.outcome c.finish.result _ c.finish.ensures.done c.finish.ensures.refused some (c.in-Some-obey.ensures.list is) in
     (said.0, said.1, found, named, said.2)
+
+pub returns-in-Err-try_get_matches_from-clause-reread_map : goal.returns-in-Err-try_get_matches_from-clause-reread_map
+returns-in-Err-try_get_matches_from-clause-reread_map g c = λ taken asks some.
+    absurd (some (c.show.ensures.memory (c.in-Err-try_get_matches_from.ensures.passes (ap (λ (a : App). takes a (map string_bytes c.args.words.now)) (c.in-Ok.ensures ∙ ap program_app c.given_in.ensures) ∙ taken))))
+
+pub returns-in-Some-obey-clause-reread_map : goal.returns-in-Some-obey-clause-reread_map
+returns-in-Some-obey-clause-reread_map g c = λ taken asks some.
+    let words = map string_bytes c.args.words.now in
+    let found = found_of c.in-Some.found.1.now in
+    let ask : IsAsked words c.in-Some.found.0.now found = asked c.in-Ok-try_get_matches_from.matches words c.in-Some.found.0.now found
+    (subst (λ (a : App). HasMatchesOf a words c.in-Ok-try_get_matches_from.matches) (c.in-Ok.ensures ∙ ap program_app c.given_in.ensures) c.in-Ok-try_get_matches_from.ensures.matches)
+    c.in-Some.ensures.name c.in-Some.ensures.rows in
+    let is : c.in-Some.found.0.now ≡ codes "reread" = only_name words c.in-Some.found.0.now (codes "reread") found asks ask in
+    let named : IsAsked words (codes "reread") found = subst (λ (n : List ℕ). IsAsked words n found) is ask in
+    let said = done c.in-Some-obey.outcome c.finish.result _ c.finish.ensures.done c.finish.ensures.refused some (c.in-Some-obey.ensures.reread_map is) in
+    (said.0, said.1, found, named, said.2)
+
+pub returns-in-Some-obey-clause-rereading : goal.returns-in-Some-obey-clause-rereading
+returns-in-Some-obey-clause-rereading g c = λ asks.
+    let words = map string_bytes c.args.words.now in
+    let found = found_of c.in-Some.found.1.now in
+    let ask : IsAsked words c.in-Some.found.0.now found = asked c.in-Ok-try_get_matches_from.matches words c.in-Some.found.0.now found
+    (subst (λ (a : App). HasMatchesOf a words c.in-Ok-try_get_matches_from.matches) (c.in-Ok.ensures ∙ ap program_app c.given_in.ensures) c.in-Ok-try_get_matches_from.ensures.matches)
+    c.in-Some.ensures.name c.in-Some.ensures.rows in
+    let is : c.in-Some.found.0.now ≡ codes "reread" = only_name words c.in-Some.found.0.now (codes "reread") found asks ask in
+    let named : IsAsked words (codes "reread") found = subst (λ (n : List ℕ). IsAsked words n found) is ask in
+    inr (found, named, c.in-Some-obey.ensures.rereading is)
+
+pub returns-clause-rereading : goal.returns-clause-rereading
+returns-clause-rereading g c = λ asks.
+    let words = map string_bytes c.args.words.now in
+    let found = found_of c.in-Some.found.1.now in
+    let ask : IsAsked words c.in-Some.found.0.now found = asked c.in-Ok-try_get_matches_from.matches words c.in-Some.found.0.now found
+    (subst (λ (a : App). HasMatchesOf a words c.in-Ok-try_get_matches_from.matches) (c.in-Ok.ensures ∙ ap program_app c.given_in.ensures) c.in-Ok-try_get_matches_from.ensures.matches)
+    c.in-Some.ensures.name c.in-Some.ensures.rows in
+    let is : c.in-Some.found.0.now ≡ codes "reread" = only_name words c.in-Some.found.0.now (codes "reread") found asks ask in
+    let named : IsAsked words (codes "reread") found = subst (λ (n : List ℕ). IsAsked words n found) is ask in
+    inr (found, named, c.in-None-obey.ensures.rereading is)

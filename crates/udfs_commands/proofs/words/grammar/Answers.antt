@@ -1,7 +1,6 @@
-use Rattle.std.proofs.Common.{rules, ap, ap₂, codes, refl, ◌≡◌, ◌∙◌}
+use Rattle.std.proofs.Common.{rules, ap, ap₂, ◌≡◌, ◌∙◌}
 use Rattle.std.proofs.lemmas.Result.{IfOk-weaker}
 use Rattle.clap.specs.Words.{App, app_of, with_subcommand}
-use Rattle.udfs_commands.specs.Grammar.{extract_app, forget_app, merge_app, report_app, reread_app}
 use Rattle.udfs_commands.proofs.GrammarLemmas.{third_is_false}
 use Rattle.udfs_commands.proofs.words.grammar.Goals as goal
 
