@@ -11,6 +11,3 @@ mod safe_names;
 pub use figures::{push_grouped, push_percent, push_size};
 pub use node_list::{ListForm, write_list};
 pub use safe_names::{push_safe_name, safe_names_are_safe, safe_names_tell_units};
-
-#[cfg(test)]
-mod tests;
