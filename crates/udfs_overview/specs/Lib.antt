@@ -2,3 +2,4 @@ pub mod Figures
 pub mod SafeFronts
 pub mod SafeNames
 pub mod NodeLists
+pub mod Tallies

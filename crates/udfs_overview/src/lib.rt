@@ -7,7 +7,9 @@ mod node_columns;
 mod node_list;
 mod pieces;
 mod safe_names;
+mod tallies;
 
 pub use figures::{push_grouped, push_percent, push_size};
 pub use node_list::{ListForm, write_list};
+pub use tallies::NodeSort;
 pub use safe_names::{push_safe_name, safe_names_are_safe, safe_names_tell_units};
