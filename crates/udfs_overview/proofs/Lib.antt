@@ -1,8 +1,9 @@
 mod Choices
 mod Commas
+mod Counting
 mod Passing
-mod Places
 mod PathNames
+mod Places
 mod Printed
 mod Rounding
 mod SafeParts

@@ -3,6 +3,7 @@
 --     count_of sort nodes          how many nodes are of the sort
 --     bytes_of sort nodes          how many bytes they have
 --     lost_in sort nodes           how many bytes of theirs are lost
+--     tally_of nodes               all that is counted of nodes
 use Rattle.std.specs.Prelude.{ℕ, ◌^◌, ◌-◌, ◌&&◌, ◌||◌, Bool, true, false, List, cond, count_by, sum_by, min, Option, Some, None}
 use Rattle.udfs_file.specs.declared.faults.Kind.{Kind}
 use Rattle.udfs_file.specs.declared.faults.Kind.TheVariants as kind
@@ -11,6 +12,7 @@ use Rattle.udfs_walk.specs.declared.standings.Standing.{Standing}
 use Rattle.udfs_walk.specs.declared.standings.Standing.TheVariants as standing
 use Rattle.udfs_salvage.specs.Reports.{is_whole}
 use Rattle.udfs_overview.specs.NodeLists.{lost_of}
+use Rattle.udfs_overview.specs.declared.tallies.Tally.{Tally}
 use Rattle.udfs_overview.specs.declared.tallies.NodeSort.{NodeSort}
 use Rattle.udfs_overview.specs.declared.tallies.NodeSort.TheVariants as sort
 
@@ -102,3 +104,19 @@ lost_in a nodes = sum_by (λ (n : NodeFields). cond (is_node_of a n) (or_zero (l
 -- the greatest number of 128 bits in place of a greater one
 abbrev pub at_most_128_bits : ℕ → ℕ
 at_most_128_bits n = min n (2 ^ 128 - 1)
+
+-- all that is counted of nodes
+unfoldable pub tally_of : List NodeFields → Tally
+tally_of nodes = record {
+  whole_files = count_of sort.WholeFile nodes;
+  whole_bytes = bytes_of sort.WholeFile nodes;
+  torn_files = count_of sort.TornFile nodes;
+  torn_bytes = bytes_of sort.TornFile nodes;
+  lost_bytes = at_most_128_bits (lost_in sort.TornFile nodes);
+  unread = count_of sort.Unread nodes;
+  whole_folders = count_of sort.WholeFolder nodes;
+  torn_folders = count_of sort.TornFolder nodes;
+  others = count_of sort.Other nodes;
+  faulty = count_of sort.Faulty nodes;
+  loops = count_of sort.Loop nodes;
+}

@@ -11,5 +11,5 @@ mod tallies;
 
 pub use figures::{push_grouped, push_percent, push_size};
 pub use node_list::{ListForm, write_list};
-pub use tallies::NodeSort;
 pub use safe_names::{push_safe_name, safe_names_are_safe, safe_names_tell_units};
+pub use tallies::{Tally, count_nodes};

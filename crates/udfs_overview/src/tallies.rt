@@ -5,7 +5,8 @@ ghost use Rattle.udfs_space.specs.Views.{view_now};
 ghost use Rattle.udfs_walk.specs.Bare.{full_node, node_with};
 ghost use Rattle.udfs_walk.specs.NodeFields.{NodeFields};
 ghost use Rattle.udfs_salvage.specs.Surveys.{survey_now};
-ghost use Rattle.udfs_overview.specs.Tallies.{at_most_128_bits, bytes_of, count_of, is_faulty, is_file, is_folder, is_loop, is_of, is_other, is_torn, is_unread, lost_in, or_zero};
+ghost use Rattle.udfs_overview.specs.NodeLists.{lost_of};
+ghost use Rattle.udfs_overview.specs.Tallies.{at_most_128_bits, bytes_of, count_of, is_faulty, is_file, is_folder, is_loop, is_node_of, is_of, is_other, is_torn, is_unread, lost_in, or_zero, tally_of};
 
 use crate::node_columns::{is_whole, lost_of};
 use std::alloc::Global;
@@ -17,7 +18,7 @@ use udfs_walk::{Node, Standing, full_standing};
 
 /// The sorts of nodes that a summary counts.
 #[derive(Clone, Copy, Debug, PartialEq, Eq)]
-pub enum NodeSort {
+pub(crate) enum NodeSort {
     /// Whole files.
     WholeFile,
     /// Torn files.
@@ -186,6 +187,20 @@ fn lost_in(sort: NodeSort, nodes: &[Node]) -> u128
     lost
 }
 
+/// How many bytes of a node are lost, if it is of a sort, where it is without its blocks and holes.
+fn full_node_lost(
+    alloc: Global,
+    sort: NodeSort,
+    view: View<'_>,
+    node: &Node,
+) -> Result<u128, OutOfMemory>
+    ensures { IfOk result (λ lost. lost ≡ cond (is_node_of sort (full_node (view_now view.entry) node.now))
+        (or_zero (lost_of (full_node (view_now view.entry) node.now).standing node.now.kind)) 0) }
+{
+    let full = full_standing(alloc, view, node.icb, &node.standing)?;
+    Ok(node_lost(sort, &full, node.kind))
+}
+
 /// How many bytes of the nodes of a sort are lost, where these are without their blocks and holes.
 fn full_lost_in(
     alloc: Global,
@@ -197,8 +212,76 @@ fn full_lost_in(
 {
     let mut lost = 0u128;
     for node in nodes {
-        let full = full_standing(alloc, view, node.icb, &node.standing)?;
-        lost = lost.saturating_add(node_lost(sort, &full, node.kind));
+        let more = full_node_lost(alloc, sort, view, node)?;
+        lost = lost.saturating_add(more);
     }
     Ok(lost)
+}
+
+/// How many bytes of the nodes of a sort are lost, of those of the report that a survey stands for.
+fn survey_lost(alloc: Global, sort: NodeSort, survey: &Survey<'_>) -> Result<u128, OutOfMemory>
+    ensures { IfOk result (λ lost. lost ≡ at_most_128_bits (lost_in sort (survey_now survey.now).nodes)) }
+{
+    match &survey.volume {
+        Volume::Open(opened) => {
+            let view = View {
+                table: survey.table,
+                space: &opened.space,
+            };
+            full_lost_in(alloc, sort, view, &survey.nodes)
+        }
+        _ => Ok(lost_in(sort, &survey.nodes)),
+    }
+}
+
+/// What a summary tells of the nodes of a report, the root among them.
+#[derive(Clone, Copy, Debug, PartialEq, Eq)]
+pub struct Tally {
+    /// How many files are whole.
+    pub whole_files: usize,
+    /// How many bytes these have.
+    pub whole_bytes: u128,
+    /// How many files are torn.
+    pub torn_files: usize,
+    /// How many bytes these have, as far as their sizes are known.
+    pub torn_bytes: u128,
+    /// How many of their bytes are lost; the greatest number of 128 bits where there are more.
+    pub lost_bytes: u128,
+    /// How many nodes were not read.
+    pub unread: usize,
+    /// How many directories are whole.
+    pub whole_folders: usize,
+    /// How many directories are torn.
+    pub torn_folders: usize,
+    /// How many links and devices there are, whole or torn.
+    pub others: usize,
+    /// How many nodes have a fault.
+    pub faulty: usize,
+    /// How many directories lie on their own path.
+    pub loops: usize,
+}
+
+/// Counts the nodes of the report that a survey stands for. The blocks and holes of one node are held at a time.
+///
+/// # Errors
+///
+/// Where memory is refused.
+pub fn count_nodes(alloc: Global, survey: &Survey<'_>) -> Result<Tally, OutOfMemory>
+    ensures { IfOk result (λ tally. tally ≡ tally_of (survey_now survey.now).nodes) }
+{
+    let lost_bytes = survey_lost(alloc, NodeSort::TornFile, survey)?;
+    let nodes = survey.nodes.as_slice();
+    Ok(Tally {
+        whole_files: count_of(NodeSort::WholeFile, nodes),
+        whole_bytes: bytes_of(NodeSort::WholeFile, nodes),
+        torn_files: count_of(NodeSort::TornFile, nodes),
+        torn_bytes: bytes_of(NodeSort::TornFile, nodes),
+        lost_bytes,
+        unread: count_of(NodeSort::Unread, nodes),
+        whole_folders: count_of(NodeSort::WholeFolder, nodes),
+        torn_folders: count_of(NodeSort::TornFolder, nodes),
+        others: count_of(NodeSort::Other, nodes),
+        faulty: count_of(NodeSort::Faulty, nodes),
+        loops: count_of(NodeSort::Loop, nodes),
+    })
 }
