@@ -1,6 +1,7 @@
 mod Choices
 mod Commas
 mod Counting
+mod DiscCounting
 mod Passing
 mod PathNames
 mod Places

@@ -3,3 +3,4 @@ pub mod SafeFronts
 pub mod SafeNames
 pub mod NodeLists
 pub mod Tallies
+pub mod DiscTallies

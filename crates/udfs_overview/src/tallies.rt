@@ -68,7 +68,7 @@ fn is_faulty(standing: &Standing) -> bool
 }
 
 /// Whether a node is a file.
-fn is_file(kind: Kind) -> bool
+pub(crate) fn is_file(kind: Kind) -> bool
     ensures { result ≡ is_file kind }
 {
     match kind {
