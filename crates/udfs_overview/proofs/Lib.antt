@@ -1,3 +1,4 @@
+mod Chains
 mod Choices
 mod Commas
 mod Counting

@@ -4,3 +4,4 @@ pub mod SafeNames
 pub mod NodeLists
 pub mod Tallies
 pub mod DiscTallies
+pub mod SummaryTexts

@@ -3,3 +3,4 @@
 mod figures;
 mod list;
 mod safe_names;
+mod summary;
