@@ -1,6 +1,7 @@
 //! What is expected comes from the formats' description, byte by byte.
 
 mod files;
+mod overview;
 mod reports;
 mod spaces;
 mod volumes;

@@ -1,8 +1,11 @@
+mod Chains
 mod Choices
 mod Commas
+mod Counting
+mod DiscCounting
 mod Passing
-mod Places
 mod PathNames
+mod Places
 mod Printed
 mod Rounding
 mod SafeParts

@@ -2,15 +2,18 @@
 //! What a person is shown of a volume: figures, names that can not forge a line, and a line for each node.
 #![tactic(auto)]
 
+mod disc_tallies;
 mod figures;
 mod node_columns;
 mod node_list;
 mod pieces;
 mod safe_names;
+mod summary_lines;
+mod tallies;
 
+pub use disc_tallies::{DiscTally, UnnamedTally, count_disc, count_unnamed};
 pub use figures::{push_grouped, push_percent, push_size};
 pub use node_list::{ListForm, write_list};
 pub use safe_names::{push_safe_name, safe_names_are_safe, safe_names_tell_units};
-
-#[cfg(test)]
-mod tests;
+pub use summary_lines::{push_disc, push_files, push_others, push_unnamed};
+pub use tallies::{Tally, count_nodes};

@@ -35,7 +35,7 @@ fn lost_bytes(holes: &[(u64, u64)]) -> u128
 }
 
 /// What is lost of a node, in bytes.
-fn lost_of(standing: &Standing, kind: Kind) -> Option<u128>
+pub(crate) fn lost_of(standing: &Standing, kind: Kind) -> Option<u128>
     ensures { result ≡ lost_of standing.now kind }
 {
     match standing {

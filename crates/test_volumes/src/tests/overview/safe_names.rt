@@ -1,8 +1,8 @@
 //! Names as a person is shown them.
 
-use crate::push_safe_name;
 use std::test::Fail;
 use udfs_osta::Name;
+use udfs_overview::push_safe_name;
 
 #[test]
 fn names(rt: HostRuntime) -> Result<(), Fail> {

@@ -1,7 +1,7 @@
 //! Numbers, sizes and percentages.
 
-use crate::{push_grouped, push_percent, push_size};
 use std::test::Fail;
+use udfs_overview::{push_grouped, push_percent, push_size};
 
 #[test]
 fn numbers(rt: HostRuntime) -> Result<(), Fail> {

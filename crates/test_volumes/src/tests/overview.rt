@@ -1,0 +1,6 @@
+//! What a person is shown of a volume. The values are worked out by hand.
+
+mod figures;
+mod list;
+mod safe_names;
+mod summary;

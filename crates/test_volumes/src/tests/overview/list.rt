@@ -1,0 +1,152 @@
+//! The list of nodes, over sample volumes and a sink that fails.
+
+use std::alloc::Global;
+use std::io;
+use std::io::Write;
+use std::test::Fail;
+use udfs_lattice::BlockTable;
+use udfs_overview::{ListForm, write_list};
+use udfs_reading::Writer;
+use udfs_salvage::{RunError, survey_volume};
+use udfs_samples::{Disc, LAST};
+
+/// All nodes, their columns, a line feed behind each.
+const ALL: ListForm = ListForm {
+    torn: false,
+    null: false,
+    paths: false,
+};
+
+fn listed(alloc: Global, table: &BlockTable, form: ListForm) -> Result<String, Fail> {
+    let survey = survey_volume(alloc, table, LAST)?;
+    let mut text = Writer::new(Vec::new(alloc));
+    write_list(alloc, &survey, form, &mut text)?;
+    Ok(String::from_utf8(text.into_inner())?)
+}
+
+/// The blocks that are not known of the volume with one map, and its list.
+const UNREAD: [(&[u32], &str); 6] = [
+    (
+        &[],
+        "whole\tfile\t0\t5000\t2001-07-04T09:30:00.000000Z\t/A\nwhole\tfile\t0\t2\t2001-07-04T09:30:00.000000Z\t/B\n",
+    ),
+    (
+        &[278],
+        "torn\tfile\t2048\t5000\t2001-07-04T09:30:00.000000Z\t/A\nwhole\tfile\t0\t2\t2001-07-04T09:30:00.000000Z\t/B\n",
+    ),
+    // two holes, of 2,048 and 904 bytes
+    (
+        &[277, 279],
+        "torn\tfile\t2952\t5000\t2001-07-04T09:30:00.000000Z\t/A\nwhole\tfile\t0\t2\t2001-07-04T09:30:00.000000Z\t/B\n",
+    ),
+    (
+        &[275],
+        "torn\tunread\t-\t-\t-\t/A\nwhole\tfile\t0\t2\t2001-07-04T09:30:00.000000Z\t/B\n",
+    ),
+    // the root is torn, and is not listed
+    (&[274], ""),
+    // the volume does not open
+    (&[256, 344, 600], ""),
+];
+
+#[test]
+fn lists(rt: HostRuntime) -> Result<(), Fail> {
+    let alloc = rt.alloc();
+    for (unread, expected) in UNREAD {
+        let table = Disc::type1(alloc)?.known_but(alloc, unread)?;
+        assert_eq!(rt; listed(alloc, &table, ALL)?.as_str(), expected);
+    }
+    Ok(())
+}
+
+#[test]
+fn forms(rt: HostRuntime) -> Result<(), Fail> {
+    let alloc = rt.alloc();
+    let table = Disc::type1(alloc)?.known_but(alloc, &[278])?;
+    let cases = [
+        (
+            true,
+            false,
+            false,
+            "torn\tfile\t2048\t5000\t2001-07-04T09:30:00.000000Z\t/A\n",
+        ),
+        (false, false, true, "/A\n/B\n"),
+        (false, true, true, "/A\0/B\0"),
+        (true, true, true, "/A\0"),
+    ];
+    for (torn, null, paths, expected) in cases {
+        let form = ListForm { torn, null, paths };
+        assert_eq!(rt; listed(alloc, &table, form)?.as_str(), expected);
+    }
+    Ok(())
+}
+
+/// A loop, a fault, and a name that begins with a mark which turns the direction of text.
+#[test]
+fn loops_faults_and_names(rt: HostRuntime) -> Result<(), Fail> {
+    let alloc = rt.alloc();
+    let mut disc = Disc::type1(alloc)?;
+    disc.write(&[(274, 64, &[1])])?;
+    let table = disc.known_but(alloc, &[])?;
+    assert_eq!(rt;
+        listed(alloc, &table, ALL)?.as_str(),
+        "loop\tdirectory\t-\t120\t2001-07-04T09:30:00.000000Z\t/A\nwhole\tfile\t0\t2\t2001-07-04T09:30:00.000000Z\t/B\n"
+    );
+    let mut disc = Disc::two_maps(alloc)?;
+    disc.write(&[(274, 108, &[2])])?;
+    let table = disc.known_but(alloc, &[])?;
+    assert_eq!(rt;
+        listed(alloc, &table, ALL)?.as_str(),
+        "whole\tfile\t0\t5000\t2001-07-04T09:30:00.000000Z\t/A\nfault 5\tunread\t-\t-\t-\t/B\n"
+    );
+    let mut disc = Disc::type1(alloc)?;
+    disc.write_directory(272, 1, &[(b"\x10\x20\x2e\x00a", 3)])?;
+    let table = disc.known_but(alloc, &[])?;
+    assert_eq!(rt;
+        listed(alloc, &table, ALL)?.as_str(),
+        "whole\tfile\t0\t5000\t2001-07-04T09:30:00.000000Z\t/\\u202Ea\n"
+    );
+    Ok(())
+}
+
+/// Takes so many bytes, one in each call, and then fails.
+#[derive(Drop)]
+struct Narrow {
+    bytes: Vec<u8>,
+    good: usize,
+}
+
+impl Write for Narrow {
+    fn write(&mut self, buf: &[u8]) -> io::Result<usize> {
+        if self.good == 0 {
+            return Err(io::Error::from(io::ErrorKind::Other));
+        }
+        let Some(byte) = buf.first() else {
+            return Ok(0);
+        };
+        self.bytes.push(*byte)?;
+        self.good -= 1;
+        Ok(1)
+    }
+
+    fn flush(&mut self) -> io::Result<()> {
+        Ok(())
+    }
+}
+
+#[test]
+fn a_sink_that_fails_holds_a_beginning(rt: HostRuntime) -> Result<(), Fail> {
+    let alloc = rt.alloc();
+    let (unread, expected) = UNREAD[1];
+    let table = Disc::type1(alloc)?.known_but(alloc, unread)?;
+    let survey = survey_volume(alloc, &table, LAST)?;
+    for good in 0..expected.len() {
+        let bytes = Vec::new(alloc);
+        let mut sink = Writer::new(Narrow { bytes, good });
+        let outcome = write_list(alloc, &survey, ALL, &mut sink);
+        assert!(rt; outcome == Err(RunError::Write), "after {good}");
+        let begun = expected.as_bytes().get(..good).unwrap_or(&[]);
+        assert_eq!(rt; sink.into_inner().bytes.as_slice(), begun, "after {good}");
+    }
+    Ok(())
+}

@@ -1,0 +1,59 @@
+-- What is counted of nodes: one node more, and nodes whose lists were let go.
+use Rattle.std.proofs.Common.{◌≡◌, refl, ap, ◌∙◌, arith, ℕ, ◌+◌, ◌-◌, ◌^◌, ◌<◌, List, [], ◌∷◌, cond, length, map, take, get_or}
+use Rattle.std.specs.Prelude.{fold, min}
+use Rattle.std.proofs.lemmas.List.Sums.{sum_by_more}
+use Rattle.udfs_lattice.specs.Volumes.{Blocks}
+use Rattle.udfs_volume.specs.Answers.{Answer, found, holes, faulty}
+use Rattle.udfs_space.specs.Places.{view}
+use Rattle.udfs_file.specs.declared.faults.Kind.{Kind}
+use Rattle.udfs_walk.specs.Bare.{full_node, lists_at, with_lists}
+use Rattle.udfs_walk.specs.NodeFields.{NodeFields}
+use Rattle.udfs_walk.specs.TornFields.{TornFields}
+use Rattle.udfs_walk.specs.declared.standings.Standing.{Standing}
+use Rattle.udfs_walk.specs.declared.standings.Standing.TheVariants.{Whole, Torn, Loop, Fault}
+use Rattle.udfs_salvage.specs.Found.{Found}
+use Rattle.udfs_salvage.specs.Surveys.{full_nodes}
+use Rattle.udfs_overview.specs.declared.tallies.NodeSort.{NodeSort}
+use Rattle.udfs_overview.specs.declared.tallies.NodeSort.TheVariants as sort
+use Rattle.udfs_overview.specs.NodeLists.{lost_of}
+use Rattle.udfs_overview.specs.Tallies.{at_most_128_bits, bytes_of, count_of, is_node_of, is_of, lost_in, or_zero}
+
+-- the lists do not say of which sort a node is
+same_of : (a : NodeSort) (lists : TornFields) (s : Standing) (k : Kind) → is_of a (with_lists lists s) k ≡ is_of a s k
+same_of a lists Whole k = refl
+same_of sort.WholeFile lists (Torn torn) k = refl
+same_of sort.TornFile lists (Torn torn) k = refl
+same_of sort.Unread lists (Torn torn) k = refl
+same_of sort.WholeFolder lists (Torn torn) k = refl
+same_of sort.TornFolder lists (Torn torn) k = refl
+same_of sort.Other lists (Torn torn) k = refl
+same_of sort.Faulty lists (Torn torn) k = refl
+same_of sort.Loop lists (Torn torn) k = refl
+same_of a lists Loop k = refl
+same_of a lists (Fault f) k = refl
+
+-- a sum over changed elements, each of which counts as before
+sum_same : (w : NodeFields → ℕ) (g : NodeFields → NodeFields) → ((n : NodeFields) → w (g n) ≡ w n) → (a : ℕ) (ns : List NodeFields)
+    → fold (λ b n. b + w n) a (map g ns) ≡ fold (λ b n. b + w n) a ns
+sum_same w g same a [] = refl
+sum_same w g same a (n ∷ ns) = ap (λ x. fold (λ b n. b + w n) (a + x) (map g ns)) (same n) ∙ sum_same w g same (a + w n) ns
+
+pub count_full : (M : Blocks) (answer : Answer Found) (a : NodeSort) (ns : List NodeFields) → count_of a (full_nodes M answer ns) ≡ count_of a ns
+count_full M (found f) a ns =
+    sum_same (λ n. cond (is_node_of a n) 1 0) (full_node (view M f.space)) (λ n. ap (λ b. cond b 1 0) (same_of a (lists_at (view M f.space) n.icb) n.standing n.kind)) 0 ns
+count_full M (holes listed) a ns = refl
+count_full M (faulty fault) a ns = refl
+
+pub bytes_full : (M : Blocks) (answer : Answer Found) (a : NodeSort) (ns : List NodeFields) → bytes_of a (full_nodes M answer ns) ≡ bytes_of a ns
+bytes_full M (found f) a ns =
+    sum_same (λ n. cond (is_node_of a n) (or_zero n.size) 0) (full_node (view M f.space)) (λ n. ap (λ b. cond b (or_zero n.size) 0) (same_of a (lists_at (view M f.space) n.icb) n.standing n.kind)) 0 ns
+bytes_full M (holes listed) a ns = refl
+bytes_full M (faulty fault) a ns = refl
+
+-- one node more
+pub lost_more : (a : NodeSort) (ns : List NodeFields) (i : ℕ) (d : NodeFields) → i < length ns
+    → min (at_most_128_bits (lost_in a (take i ns)) + cond (is_node_of a (get_or ns i d)) (or_zero (lost_of (get_or ns i d).standing (get_or ns i d).kind)) 0) (2 ^ 128 - 1)
+    ≡ at_most_128_bits (lost_in a (take (i + 1) ns))
+lost_more a ns i d l =
+    let more = sum_by_more (λ (n : NodeFields). cond (is_node_of a n) (or_zero (lost_of n.standing n.kind)) 0) ns i d l in
+    omega (arith, more)

@@ -1,0 +1,16 @@
+use Rattle.std.proofs.Common.{◌++◌}
+use Rattle.std.specs.Prelude.{codes}
+use Rattle.std.specs.String.{string_bytes}
+use Rattle.udfs_overview.specs.SummaryTexts.{counted}
+use Rattle.udfs_overview.proofs.Chains.{both_appended, last_appended}
+use Rattle.udfs_overview.proofs.summary_lines.push_needed.Goals as goal
+
+pub returns : goal.returns
+returns c =
+    let t = c.args.tally.now in
+    let old = string_bytes c.args.text.now in
+    let first = counted t.not_known (codes " not known, of which ") in
+    let second = counted t.needed (codes " are needed (") in
+    last_appended c.push_counted-3.result old (string_bytes c.push_counted-2.new.text) (string_bytes c.push_counted-3.new.text) (first ++ second) (counted t.runs (codes " runs)   "))
+    (both_appended old (string_bytes c.push_counted.new.text) (string_bytes c.push_counted-2.new.text) first second c.in_ok-push_counted.ensures c.in_ok-push_counted-2.ensures)
+    c.push_counted-3.ensures

@@ -1,0 +1,39 @@
+use Rattle.std.proofs.Common.{◌∙◌, ap, sym}
+use Rattle.udfs_lattice.specs.Tables.{state_of}
+use Rattle.udfs_salvage.specs.Found.{volume_now}
+use Rattle.udfs_overview.specs.declared.tallies.NodeSort.TheVariants as sort
+use Rattle.udfs_overview.specs.Tallies.{bytes_of, count_of, tally_of}
+use Rattle.udfs_overview.proofs.Counting.{bytes_full, count_full}
+use Rattle.udfs_overview.proofs.tallies.count_nodes.Goals as goal
+
+pub returns : goal.returns
+unfolding tally_of
+returns c =
+    let s = c.args.survey.now in
+    let M = state_of s.table.now in
+    let answer = volume_now s.volume in
+    let ns = s.nodes.items in
+    let same = c.as_slice-nodes.ensures.value in
+    let whole_files = c.count_of.ensures ∙ ap (count_of sort.WholeFile) same ∙ sym (count_full M answer sort.WholeFile ns) in
+    let whole_bytes = c.bytes_of.ensures ∙ ap (bytes_of sort.WholeFile) same ∙ sym (bytes_full M answer sort.WholeFile ns) in
+    let torn_files = c.count_of-2.ensures ∙ ap (count_of sort.TornFile) same ∙ sym (count_full M answer sort.TornFile ns) in
+    let torn_bytes = c.bytes_of-2.ensures ∙ ap (bytes_of sort.TornFile) same ∙ sym (bytes_full M answer sort.TornFile ns) in
+    let unread = c.count_of-3.ensures ∙ ap (count_of sort.Unread) same ∙ sym (count_full M answer sort.Unread ns) in
+    let whole_folders = c.count_of-4.ensures ∙ ap (count_of sort.WholeFolder) same ∙ sym (count_full M answer sort.WholeFolder ns) in
+    let torn_folders = c.count_of-5.ensures ∙ ap (count_of sort.TornFolder) same ∙ sym (count_full M answer sort.TornFolder ns) in
+    let others = c.count_of-6.ensures ∙ ap (count_of sort.Other) same ∙ sym (count_full M answer sort.Other ns) in
+    let faulty = c.count_of-7.ensures ∙ ap (count_of sort.Faulty) same ∙ sym (count_full M answer sort.Faulty ns) in
+    let loops = c.count_of-8.ensures ∙ ap (count_of sort.Loop) same ∙ sym (count_full M answer sort.Loop ns) in
+    λ j. record {
+      whole_files = whole_files j;
+      whole_bytes = whole_bytes j;
+      torn_files = torn_files j;
+      torn_bytes = torn_bytes j;
+      lost_bytes = c.in_ok-lost_bytes.ensures j;
+      unread = unread j;
+      whole_folders = whole_folders j;
+      torn_folders = torn_folders j;
+      others = others j;
+      faulty = faulty j;
+      loops = loops j;
+    }

@@ -1,0 +1,122 @@
+-- What is counted of nodes.
+--     is_of sort standing kind     a node of this standing and kind is of the sort
+--     count_of sort nodes          how many nodes are of the sort
+--     bytes_of sort nodes          how many bytes they have
+--     lost_in sort nodes           how many bytes of theirs are lost
+--     tally_of nodes               all that is counted of nodes
+use Rattle.std.specs.Prelude.{ℕ, ◌^◌, ◌-◌, ◌&&◌, ◌||◌, Bool, true, false, List, cond, count_by, sum_by, min, Option, Some, None}
+use Rattle.udfs_file.specs.declared.faults.Kind.{Kind}
+use Rattle.udfs_file.specs.declared.faults.Kind.TheVariants as kind
+use Rattle.udfs_walk.specs.NodeFields.{NodeFields}
+use Rattle.udfs_walk.specs.declared.standings.Standing.{Standing}
+use Rattle.udfs_walk.specs.declared.standings.Standing.TheVariants as standing
+use Rattle.udfs_salvage.specs.Reports.{is_whole}
+use Rattle.udfs_overview.specs.NodeLists.{lost_of}
+use Rattle.udfs_overview.specs.declared.tallies.Tally.{Tally}
+use Rattle.udfs_overview.specs.declared.tallies.NodeSort.{NodeSort}
+use Rattle.udfs_overview.specs.declared.tallies.NodeSort.TheVariants as sort
+
+-- bytes are missing of it
+abbrev pub is_torn : Standing → Bool
+is_torn standing.Whole = false
+is_torn (standing.Torn torn) = true
+is_torn standing.Loop = false
+is_torn (standing.Fault f) = false
+
+-- it is a directory on its own path
+abbrev pub is_loop : Standing → Bool
+is_loop standing.Whole = false
+is_loop (standing.Torn torn) = false
+is_loop standing.Loop = true
+is_loop (standing.Fault f) = false
+
+-- it has a fault
+abbrev pub is_faulty : Standing → Bool
+is_faulty standing.Whole = false
+is_faulty (standing.Torn torn) = false
+is_faulty standing.Loop = false
+is_faulty (standing.Fault f) = true
+
+-- it is a file
+abbrev pub is_file : Kind → Bool
+is_file kind.Directory = false
+is_file kind.File = true
+is_file kind.Link = false
+is_file (kind.Other t) = false
+is_file kind.Unread = false
+
+-- it is a directory
+abbrev pub is_folder : Kind → Bool
+is_folder kind.Directory = true
+is_folder kind.File = false
+is_folder kind.Link = false
+is_folder (kind.Other t) = false
+is_folder kind.Unread = false
+
+-- it was not read
+abbrev pub is_unread : Kind → Bool
+is_unread kind.Directory = false
+is_unread kind.File = false
+is_unread kind.Link = false
+is_unread (kind.Other t) = false
+is_unread kind.Unread = true
+
+-- it is a link, or a device
+abbrev pub is_other : Kind → Bool
+is_other kind.Directory = false
+is_other kind.File = false
+is_other kind.Link = true
+is_other (kind.Other t) = true
+is_other kind.Unread = false
+
+-- loops and faults are counted by themselves, whatever their kind
+abbrev pub is_of : NodeSort → Standing → Kind → Bool
+is_of sort.WholeFile s k = is_whole s && is_file k
+is_of sort.TornFile s k = is_torn s && is_file k
+is_of sort.Unread s k = (is_whole s || is_torn s) && is_unread k
+is_of sort.WholeFolder s k = is_whole s && is_folder k
+is_of sort.TornFolder s k = is_torn s && is_folder k
+is_of sort.Other s k = (is_whole s || is_torn s) && is_other k
+is_of sort.Faulty s k = is_faulty s
+is_of sort.Loop s k = is_loop s
+
+-- the node is of the sort
+abbrev pub is_node_of : NodeSort → NodeFields → Bool
+is_node_of a n = is_of a n.standing n.kind
+
+-- how many nodes are of the sort
+abbrev pub count_of : NodeSort → List NodeFields → ℕ
+count_of a nodes = count_by (is_node_of a) nodes
+
+-- a number, or 0 where there is none
+abbrev pub or_zero : Option ℕ → ℕ
+or_zero None = 0
+or_zero (Some n) = n
+
+-- how many bytes the nodes of the sort have, as far as their sizes are known
+abbrev pub bytes_of : NodeSort → List NodeFields → ℕ
+bytes_of a nodes = sum_by (λ (n : NodeFields). cond (is_node_of a n) (or_zero n.size) 0) nodes
+
+-- how many bytes of the nodes of the sort are lost
+abbrev pub lost_in : NodeSort → List NodeFields → ℕ
+lost_in a nodes = sum_by (λ (n : NodeFields). cond (is_node_of a n) (or_zero (lost_of n.standing n.kind)) 0) nodes
+
+-- the greatest number of 128 bits in place of a greater one
+abbrev pub at_most_128_bits : ℕ → ℕ
+at_most_128_bits n = min n (2 ^ 128 - 1)
+
+-- all that is counted of nodes
+unfoldable pub tally_of : List NodeFields → Tally
+tally_of nodes = record {
+  whole_files = count_of sort.WholeFile nodes;
+  whole_bytes = bytes_of sort.WholeFile nodes;
+  torn_files = count_of sort.TornFile nodes;
+  torn_bytes = bytes_of sort.TornFile nodes;
+  lost_bytes = at_most_128_bits (lost_in sort.TornFile nodes);
+  unread = count_of sort.Unread nodes;
+  whole_folders = count_of sort.WholeFolder nodes;
+  torn_folders = count_of sort.TornFolder nodes;
+  others = count_of sort.Other nodes;
+  faulty = count_of sort.Faulty nodes;
+  loops = count_of sort.Loop nodes;
+}

@@ -1,0 +1,129 @@
+//! What is counted of the disc, and of entries that no name leads to.
+
+ghost use Rattle.std.specs.Prelude.{◌≡◌, ◌+◌, ◌∷◌, ◌≤◌, ℕ, List, count_by};
+ghost use Rattle.udfs_salvage.specs.Surveys.{survey_now};
+ghost use Rattle.udfs_overview.specs.DiscTallies.{disc_of, has_data, is_empty_file, run_count, unnamed_of};
+
+use crate::node_columns::is_whole;
+use crate::tallies::is_file;
+use udfs_salvage::Survey;
+use udfs_walk::Unnamed;
+
+/// The blocks of a disc, by what is known of them. All from 0 to the last one are known, not known or in conflict.
+#[derive(Clone, Copy, Debug, PartialEq, Eq)]
+pub struct DiscTally {
+    /// How many blocks are known.
+    pub known: u32,
+    /// How many are not.
+    pub not_known: u64,
+    /// How many are in conflict.
+    pub conflicts: u32,
+    /// How many are worth reading again.
+    pub needed: usize,
+    /// In how many runs these lie.
+    pub runs: usize,
+}
+
+/// Whole files that no name leads to.
+#[derive(Clone, Copy, Debug, PartialEq, Eq)]
+pub struct UnnamedTally {
+    /// How many have bytes.
+    pub with_data: usize,
+    /// How many have none.
+    pub empty: usize,
+}
+
+/// How many runs of consecutive numbers there are.
+#[tactic(auto, unfolding(crate::specs::DiscTallies::run_count))]
+fn run_count(blocks: &[u32]) -> usize
+    ensures { result ≡ run_count blocks.now }
+{
+    let mut runs = 0;
+    let mut rest = blocks;
+    while let Some((first, others)) = rest.split_first() {
+        runs += ends_of(*first, others);
+        rest = others;
+    }
+    runs
+}
+
+/// 1 where a run ends with this number, before these, and 0 where it goes on.
+fn ends_of(number: u32, others: &[u32]) -> usize
+    ensures ends { result + run_count others.now ≡ run_count (number ∷ others.now) }
+    ensures one { result ≤ 1 }
+{
+    match others.first() {
+        Some(next) if u64::from(*next) == u64::from(number) + 1 => 0,
+        _ => 1,
+    }
+}
+
+/// Counts the blocks of the disc that a survey is of.
+#[tactic(auto, unfolding(crate::specs::DiscTallies::disc_of))]
+pub fn count_disc(survey: &Survey<'_>) -> DiscTally
+    ensures { result ≡ disc_of survey.now.table.now survey.now.last survey.now.reread.items }
+{
+    let known = survey.table.known();
+    let conflicts = survey.table.conflicts();
+    let all = u64::from(survey.last) + 1;
+    DiscTally {
+        known,
+        not_known: all
+            .saturating_sub(u64::from(known))
+            .saturating_sub(u64::from(conflicts)),
+        conflicts,
+        needed: survey.reread.len(),
+        runs: run_count(&survey.reread),
+    }
+}
+
+/// Whether an entry is a whole file with bytes.
+fn has_data(entry: &Unnamed) -> bool
+    ensures { result ≡ has_data entry.now }
+{
+    is_whole(&entry.standing) && is_file(entry.kind) && entry.size > 0
+}
+
+/// Whether an entry is a whole file without a byte.
+fn is_empty_file(entry: &Unnamed) -> bool
+    ensures { result ≡ is_empty_file entry.now }
+{
+    is_whole(&entry.standing) && is_file(entry.kind) && entry.size == 0
+}
+
+/// How many whole files with bytes there are.
+fn count_with_data(entries: &[Unnamed]) -> usize
+    ensures { result ≡ count_by has_data entries.now }
+{
+    let mut count = 0;
+    for entry in entries {
+        if has_data(entry) {
+            count += 1;
+        }
+    }
+    count
+}
+
+/// How many whole files without a byte there are.
+fn count_empty(entries: &[Unnamed]) -> usize
+    ensures { result ≡ count_by is_empty_file entries.now }
+{
+    let mut count = 0;
+    for entry in entries {
+        if is_empty_file(entry) {
+            count += 1;
+        }
+    }
+    count
+}
+
+/// Counts the whole files that no name leads to, of the report that a survey stands for.
+pub fn count_unnamed(survey: &Survey<'_>) -> UnnamedTally
+    ensures { result ≡ unnamed_of (survey_now survey.now).unnamed }
+{
+    let entries = survey.unnamed.as_slice();
+    UnnamedTally {
+        with_data: count_with_data(entries),
+        empty: count_empty(entries),
+    }
+}
