@@ -6,8 +6,9 @@
 --     out_text words                              the path of the output
 --     is_mapped words, mapfile_text words         a mapfile is asked for, and its path
 --     folder_text words                           the path of the new folder
+--     IsOneEnd words                              the last block, or the size of a disc, and not both
 --     IsLast words last                           the number of the last block, or of that with which a disc of the size ends; or 0, of which there is no report
-use Rattle.std.specs.Prelude.{◌≡◌, ◌⊎◌, ℕ, ◌+◌, ◌*◌, Bool, is_some, List, [], ◌∷◌, ◌++◌, Some, None, codes, map, option_map, unwrap_or}
+use Rattle.std.specs.Prelude.{◌≡◌, ◌≢◌, ◌⊎◌, ℕ, ◌+◌, ◌*◌, ◌%◌, Bool, false, is_some, List, [], ◌∷◌, ◌++◌, Some, None, codes, map, option_map, unwrap_or}
 use Rattle.clap.specs.Matches.{matched_of, first_value, one_text, raw_values}
 use Rattle.clap.specs.declared.parser.matches.Found.{Found}
 use Rattle.std.specs.Str.Parse.{digits_value, without_leading_plus}
@@ -69,6 +70,10 @@ folder_text words = unwrap_or (first_value words (codes "to")) []
 -- what was given as this is a number, in decimal
 abbrev pub IsNumber : Found → List ℕ → ℕ → Type 0
 IsNumber words id number = (text : List ℕ) × (one_text words id ≡ Some text) × (digits_value 10 (without_leading_plus text) ≡ number)
+
+-- a size that was given is that of whole blocks, and no last block was given beside it
+abbrev pub IsOneEnd : Found → Type 0
+IsOneEnd words = (size : ℕ) → IsNumber words (codes "size") size → (is_some (matched_of words (codes "last")) ≡ false) × (size ≢ 0) × (size % 2048 ≡ 0)
 
 -- what was given as the last block, or the block with which a disc of the size that was given ends; of 0 there is no report
 abbrev pub IsLast : Found → ℕ → Type 0

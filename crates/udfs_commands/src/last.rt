@@ -1,8 +1,8 @@
 //! The last block of the volume, by its number or by the size of the disc.
 
-ghost use Rattle.std.specs.Prelude.{◌≡◌, ◌≢◌, ◌⊎◌, ◌↔◌, ◌+◌, ◌*◌, ◌%◌, IsTrue};
+ghost use Rattle.std.specs.Prelude.{◌≡◌, ◌≢◌, ◌⊎◌, ◌↔◌, ◌+◌, ◌*◌, ◌%◌, IsTrue, None};
 ghost use Rattle.clap.specs.Matches.{found_of};
-ghost use Rattle.udfs_commands.specs.Asking.{IsLast};
+ghost use Rattle.udfs_commands.specs.Asking.{IsLast, IsOneEnd};
 
 use crate::words::{LAST, SIZE};
 use clap::ArgMatches;
@@ -40,8 +40,13 @@ fn is_whole(size: u64) -> bool
 }
 
 /// What is wrong with the words that say where the disc ends.
-pub fn end_fault<'a>(words: &ArgMatches<'a>) -> Option<EndFault<'a>> {
-    let size = words.get_str(SIZE)?;
+#[tactic(auto, using(crate::proofs::AskingLemmas::no_number))]
+pub fn end_fault<'a>(words: &ArgMatches<'a>) -> Option<EndFault<'a>>
+    ensures { result ≡ None → IsOneEnd (found_of words.now) }
+{
+    let Some(size) = words.get_str(SIZE) else {
+        return None;
+    };
     if words.contains_id(LAST) {
         return Some(EndFault::Both);
     }
