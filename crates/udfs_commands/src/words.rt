@@ -173,7 +173,11 @@ fn extract<'a>(alloc: Global, given: Given) -> Result<Command<'a>, AllocError>
         .arg(last(alloc, given.size))?
         .arg(disc_size(alloc))?
         .arg(folder(alloc))?
-        .arg(flag(alloc, FILL, "Write torn files too, with zeros for the bytes that are missing"))?
+        .arg(flag(
+            alloc,
+            FILL,
+            "Write torn files too, with zeros for the bytes that are missing",
+        ))?
         .arg(pair_inputs(alloc))?
         .arg(inputs(alloc, given.pairs))
 }
@@ -197,7 +201,9 @@ fn list<'a>(alloc: Global, given: Given) -> Result<Command<'a>, AllocError>
     ensures { IfOk result (λ command. app_of command ≡ list_app given) }
 {
     Command::new(alloc, "list")
-        .about("Prints a line for each file and folder: standing, kind, bytes lost, size, time and path")
+        .about(
+            "Prints a line for each file and folder: standing, kind, bytes lost, size, time and path",
+        )
         .arg(last(alloc, given.size))?
         .arg(disc_size(alloc))?
         .arg(flag(alloc, TORN, "Leave out what is whole"))?
@@ -221,7 +227,11 @@ fn flag<'a>(alloc: Global, name: &'a str, help: &'a str) -> Arg<'a>
 fn force<'a>(alloc: Global) -> Arg<'a>
     ensures { (rule_of result ≡ flag_rule (codes "force")) × (result.global ≡ false) }
 {
-    flag(alloc, FORCE, "Write over a reading that is none of the inputs")
+    flag(
+        alloc,
+        FORCE,
+        "Write over a reading that is none of the inputs",
+    )
 }
 
 /// The mapfile to write.

@@ -45,12 +45,7 @@ fn a_line_for_each_node(rt: HostRuntime) -> Result<(), Fail> {
             1,
             "/A\0/B\0",
         ),
-        (
-            [].as_slice(),
-            "list --torn --last 600 disc.tab",
-            0,
-            "",
-        ),
+        ([].as_slice(), "list --torn --last 600 disc.tab", 0, ""),
         (
             [256, 344, 600].as_slice(),
             "list --last 600 disc.tab",

@@ -31,10 +31,10 @@ returns-in-Ok-forget-clause-any_moment g c tells place disk since =
       a.0,
       a.1,
       may_forget _ _ (g.F.Files.real c.args.files.now) (found_of c.args.words.now) c.asked_conflicts.result c.as_slice-2.result.now _ a.0 disk
-        (record { with_flag = c.asked_conflicts.ensures.with_flag; without_flag = c.asked_conflicts.ensures.without_flag; unknown_flag = c.asked_conflicts.ensures.unknown_flag })
-        (search rules)
-        lists
-        (rw (← c.asked_out.ensures) a.2),
+          (record { with_flag = c.asked_conflicts.ensures.with_flag; without_flag = c.asked_conflicts.ensures.without_flag; unknown_flag = c.asked_conflicts.ensures.unknown_flag })
+          (search rules)
+          lists
+          (rw (← c.asked_out.ensures) a.2),
     )
 
 pub returns-clause-any_moment : goal.returns-clause-any_moment
@@ -44,8 +44,8 @@ returns-clause-any_moment g c tells place disk since =
       a.0,
       a.1,
       may_forget _ _ (g.F.Files.real c.args.files.now) (found_of c.args.words.now) c.asked_conflicts.result c.as_slice-2.result.now _ a.0 disk
-        (record { with_flag = c.asked_conflicts.ensures.with_flag; without_flag = c.asked_conflicts.ensures.without_flag; unknown_flag = c.asked_conflicts.ensures.unknown_flag })
-        (search rules)
-        lists
-        (rw (← c.asked_out.ensures) a.2),
+          (record { with_flag = c.asked_conflicts.ensures.with_flag; without_flag = c.asked_conflicts.ensures.without_flag; unknown_flag = c.asked_conflicts.ensures.unknown_flag })
+          (search rules)
+          lists
+          (rw (← c.asked_out.ensures) a.2),
     )
