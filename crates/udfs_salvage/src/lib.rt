@@ -11,6 +11,7 @@ mod errors;
 mod extraction;
 mod json_nodes;
 mod json_pieces;
+mod json_printing;
 mod json_reports;
 pub mod laws;
 mod lines;

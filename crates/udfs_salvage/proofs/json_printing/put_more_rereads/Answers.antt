@@ -4,7 +4,7 @@ use Rattle.serde_json.specs.Written.{compact_text}
 use Rattle.udfs_lattice.specs.Tables.{state_of}
 use Rattle.udfs_salvage.specs.JsonReports.{reread_data}
 use Rattle.udfs_salvage.proofs.Printed.{passed_piece, stopped_piece}
-use Rattle.udfs_salvage.proofs.survey_json.put_more_rereads.Goals as goal
+use Rattle.udfs_salvage.proofs.json_printing.put_more_rereads.Goals as goal
 
 pub returns-in_err-put_reread : goal.returns-in_err-put_reread
 returns-in_err-put_reread g c =

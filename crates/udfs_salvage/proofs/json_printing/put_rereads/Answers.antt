@@ -7,7 +7,7 @@ use Rattle.udfs_salvage.specs.JsonReports.{reread_data}
 use Rattle.udfs_salvage.specs.JsonPieces.{more_values}
 use Rattle.udfs_salvage.proofs.JsonPieces.{list_text}
 use Rattle.udfs_salvage.proofs.Printed.{passes_three, stopped_first_of, stopped_second_of}
-use Rattle.udfs_salvage.proofs.survey_json.put_rereads.Goals as goal
+use Rattle.udfs_salvage.proofs.json_printing.put_rereads.Goals as goal
 
 pub returns-in_err-put_reread : goal.returns-in_err-put_reread
 returns-in_err-put_reread g c =

@@ -6,7 +6,7 @@ use Rattle.udfs_salvage.specs.JsonNodes.{count}
 use Rattle.udfs_salvage.specs.JsonPieces.{more_values}
 use Rattle.udfs_salvage.proofs.JsonPieces.{list_text}
 use Rattle.udfs_salvage.proofs.Printed.{passes_three, stopped_first_of, stopped_second_of}
-use Rattle.udfs_salvage.proofs.survey_json.put_counts.Goals as goal
+use Rattle.udfs_salvage.proofs.json_printing.put_counts.Goals as goal
 
 pub returns-in_err-put_count : goal.returns-in_err-put_count
 returns-in_err-put_count g c =

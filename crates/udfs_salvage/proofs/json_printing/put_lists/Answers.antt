@@ -5,7 +5,7 @@ use Rattle.serde_json.specs.Written.{compact_text}
 use Rattle.udfs_salvage.specs.JsonNodes.{count, hole_data, list_data}
 use Rattle.udfs_salvage.specs.JsonPieces.{kind_piece}
 use Rattle.udfs_salvage.proofs.Printed.{passes_three, stopped_first_of, stopped_second_of}
-use Rattle.udfs_salvage.proofs.survey_json.put_lists.Goals as goal
+use Rattle.udfs_salvage.proofs.json_printing.put_lists.Goals as goal
 
 pub returns-in_err-put_holes : goal.returns-in_err-put_holes
 returns-in_err-put_holes g c =

@@ -3,7 +3,7 @@ use Rattle.std.proofs.lemmas.Result.{err_from_is_err_and}
 use Rattle.serde_json.specs.Written.{compact_text}
 use Rattle.udfs_salvage.specs.JsonNodes.{count}
 use Rattle.udfs_salvage.proofs.Printed.{passed_piece, stopped_piece}
-use Rattle.udfs_salvage.proofs.survey_json.put_more_counts.Goals as goal
+use Rattle.udfs_salvage.proofs.json_printing.put_more_counts.Goals as goal
 
 pub returns-in_err-put_count : goal.returns-in_err-put_count
 returns-in_err-put_count g c =

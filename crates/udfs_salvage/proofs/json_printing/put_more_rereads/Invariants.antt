@@ -1,13 +1,14 @@
 use Rattle.std.proofs.Common.{take}
 use Rattle.std.specs.String.{string_bytes}
 use Rattle.udfs_reading.specs.Writing.{Passed}
-use Rattle.udfs_salvage.specs.JsonNodes.{count}
+use Rattle.udfs_lattice.specs.Tables.{state_of}
+use Rattle.udfs_salvage.specs.JsonReports.{reread_data}
 use Rattle.udfs_salvage.specs.JsonPieces.{more_values}
-use Rattle.udfs_salvage.proofs.survey_json.put_more_counts.Given as goal
+use Rattle.udfs_salvage.proofs.json_printing.put_more_rereads.Given as goal
 
 -- the values so far
 abbrev pub invariant-loop-block : goal.invariant-loop-block
 invariant-loop-block g l =
     let W = g.W.Sink in
     Passed (W.contents l.fn.sink) (W.contents l.sink) (W.faults l.fn.sink) (W.faults l.sink) (string_bytes l.fn.text) (string_bytes l.text)
-    (more_values count (take l.block-index l.blocks))
+    (more_values (reread_data (state_of l.table)) (take l.block-index l.blocks))

@@ -3,7 +3,7 @@ use Rattle.std.specs.String.{string_bytes}
 use Rattle.udfs_reading.specs.Writing.{Passed}
 use Rattle.udfs_salvage.specs.JsonNodes.{hole_data}
 use Rattle.udfs_salvage.specs.JsonPieces.{more_values}
-use Rattle.udfs_salvage.proofs.survey_json.put_more_holes.Given as goal
+use Rattle.udfs_salvage.proofs.json_printing.put_more_holes.Given as goal
 
 -- the values so far
 abbrev pub invariant-loop-hole : goal.invariant-loop-hole

@@ -1,0 +1,237 @@
+//! The values of a report's JSON are handed to a sink, each behind what stands before it.
+
+ghost use Rattle.std.specs.Prelude.{◌++◌, ◌≡◌, false};
+ghost use Rattle.std.specs.String.{string_bytes};
+ghost use Rattle.serde_json.specs.View.{view};
+ghost use Rattle.serde_json.specs.Written.{compact_text, has_float};
+ghost use Rattle.udfs_lattice.specs.Tables.{state_of};
+ghost use Rattle.udfs_salvage.specs.Printing.{PassesOn};
+ghost use Rattle.udfs_salvage.specs.JsonNodes.{count, hole_data, list_data};
+ghost use Rattle.udfs_salvage.specs.JsonPieces.{kind_piece, more_values, told_piece};
+ghost use Rattle.udfs_salvage.specs.JsonReports.{reread_data};
+
+use crate::errors::RunError;
+use crate::json_nodes::hole_value;
+use crate::json_pieces::{push_count, push_kind, push_value};
+use crate::json_reports::reread_value;
+use crate::printing::pass_on;
+use serde_json::Value;
+use std::alloc::Global;
+use udfs_file::Kind;
+use udfs_lattice::BlockTable;
+use udfs_reading::Sink;
+use udfs_walk::Standing;
+
+/// What stands between values.
+pub(crate) fn put_words<W: Sink>(
+    text: &mut String,
+    sink: &mut W,
+    words: &str,
+) -> Result<(), RunError>
+    ensures { PassesOn (W.contents sink.old) (W.contents sink.new) (W.faults sink.old) (W.faults sink.new) (string_bytes text.old) (string_bytes text.new) words.now result }
+{
+    text.push_str(words)?;
+    pass_on(text, sink)
+}
+
+/// A value, and what stands before it.
+pub(crate) fn put_value<W: Sink>(
+    alloc: Global,
+    text: &mut String,
+    sink: &mut W,
+    front: &str,
+    value: &Value,
+) -> Result<(), RunError>
+    requires { has_float (view value.now) ≡ false }
+    ensures { PassesOn (W.contents sink.old) (W.contents sink.new) (W.faults sink.old) (W.faults sink.new) (string_bytes text.old) (string_bytes text.new) (front.now ++ compact_text (view value.now)) result }
+{
+    push_value(alloc, text, front, value)?;
+    pass_on(text, sink)
+}
+
+/// A number of a block, and what stands before it.
+fn put_count<W: Sink>(
+    alloc: Global,
+    text: &mut String,
+    sink: &mut W,
+    front: &str,
+    block: u32,
+) -> Result<(), RunError>
+    ensures { PassesOn (W.contents sink.old) (W.contents sink.new) (W.faults sink.old) (W.faults sink.new) (string_bytes text.old) (string_bytes text.new) (front.now ++ compact_text (count block)) result }
+{
+    push_count(alloc, text, front, u64::from(block))?;
+    pass_on(text, sink)
+}
+
+/// Numbers of blocks behind others, each behind its comma.
+fn put_more_counts<W: Sink>(
+    alloc: Global,
+    text: &mut String,
+    sink: &mut W,
+    blocks: &[u32],
+) -> Result<(), RunError>
+    ensures { PassesOn (W.contents sink.old) (W.contents sink.new) (W.faults sink.old) (W.faults sink.new) (string_bytes text.old) (string_bytes text.new) (more_values count blocks.now) result }
+{
+    for block in blocks {
+        put_count(alloc, text, sink, ",", *block)?;
+    }
+    Ok(())
+}
+
+/// Numbers of blocks as a list.
+fn put_counts<W: Sink>(
+    alloc: Global,
+    text: &mut String,
+    sink: &mut W,
+    blocks: &[u32],
+) -> Result<(), RunError>
+    ensures { PassesOn (W.contents sink.old) (W.contents sink.new) (W.faults sink.old) (W.faults sink.new) (string_bytes text.old) (string_bytes text.new) (compact_text (list_data count blocks.now)) result }
+{
+    let Some((first, rest)) = blocks.split_first() else {
+        return put_words(text, sink, "[]");
+    };
+    put_count(alloc, text, sink, "[", *first)?;
+    put_more_counts(alloc, text, sink, rest)?;
+    put_words(text, sink, "]")
+}
+
+/// A run of missing bytes, and what stands before it.
+fn put_hole<W: Sink>(
+    alloc: Global,
+    text: &mut String,
+    sink: &mut W,
+    front: &str,
+    hole: (u64, u64),
+) -> Result<(), RunError>
+    ensures { PassesOn (W.contents sink.old) (W.contents sink.new) (W.faults sink.old) (W.faults sink.new) (string_bytes text.old) (string_bytes text.new) (front.now ++ compact_text (hole_data hole)) result }
+{
+    let value = hole_value(alloc, hole)?;
+    put_value(alloc, text, sink, front, &value)
+}
+
+/// Runs of missing bytes behind others, each behind its comma.
+fn put_more_holes<W: Sink>(
+    alloc: Global,
+    text: &mut String,
+    sink: &mut W,
+    holes: &[(u64, u64)],
+) -> Result<(), RunError>
+    ensures { PassesOn (W.contents sink.old) (W.contents sink.new) (W.faults sink.old) (W.faults sink.new) (string_bytes text.old) (string_bytes text.new) (more_values hole_data holes.now) result }
+{
+    for hole in holes {
+        put_hole(alloc, text, sink, ",", *hole)?;
+    }
+    Ok(())
+}
+
+/// Runs of missing bytes as a list.
+fn put_holes<W: Sink>(
+    alloc: Global,
+    text: &mut String,
+    sink: &mut W,
+    holes: &[(u64, u64)],
+) -> Result<(), RunError>
+    ensures { PassesOn (W.contents sink.old) (W.contents sink.new) (W.faults sink.old) (W.faults sink.new) (string_bytes text.old) (string_bytes text.new) (compact_text (list_data hole_data holes.now)) result }
+{
+    let Some((first, rest)) = holes.split_first() else {
+        return put_words(text, sink, "[]");
+    };
+    put_hole(alloc, text, sink, "[", *first)?;
+    put_more_holes(alloc, text, sink, rest)?;
+    put_words(text, sink, "]")
+}
+
+/// A block to read again, and what stands before it.
+fn put_reread<W: Sink>(
+    alloc: Global,
+    text: &mut String,
+    sink: &mut W,
+    table: &BlockTable,
+    front: &str,
+    block: u32,
+) -> Result<(), RunError>
+    ensures { PassesOn (W.contents sink.old) (W.contents sink.new) (W.faults sink.old) (W.faults sink.new) (string_bytes text.old) (string_bytes text.new) (front.now ++ compact_text (reread_data (state_of table.now) block)) result }
+{
+    let value = reread_value(alloc, table, block)?;
+    put_value(alloc, text, sink, front, &value)
+}
+
+/// Blocks to read again behind others, each behind its comma.
+fn put_more_rereads<W: Sink>(
+    alloc: Global,
+    text: &mut String,
+    sink: &mut W,
+    table: &BlockTable,
+    blocks: &[u32],
+) -> Result<(), RunError>
+    ensures { PassesOn (W.contents sink.old) (W.contents sink.new) (W.faults sink.old) (W.faults sink.new) (string_bytes text.old) (string_bytes text.new) (more_values (reread_data (state_of table.now)) blocks.now) result }
+{
+    for block in blocks {
+        put_reread(alloc, text, sink, table, ",", *block)?;
+    }
+    Ok(())
+}
+
+/// Blocks to read again as a list.
+pub(crate) fn put_rereads<W: Sink>(
+    alloc: Global,
+    text: &mut String,
+    sink: &mut W,
+    table: &BlockTable,
+    blocks: &[u32],
+) -> Result<(), RunError>
+    ensures { PassesOn (W.contents sink.old) (W.contents sink.new) (W.faults sink.old) (W.faults sink.new) (string_bytes text.old) (string_bytes text.new) (compact_text (list_data (reread_data (state_of table.now)) blocks.now)) result }
+{
+    let Some((first, rest)) = blocks.split_first() else {
+        return put_words(text, sink, "[]");
+    };
+    put_reread(alloc, text, sink, table, "[", *first)?;
+    put_more_rereads(alloc, text, sink, table, rest)?;
+    put_words(text, sink, "]")
+}
+
+/// What stands between the holes and the missing blocks.
+fn put_kind<W: Sink>(
+    alloc: Global,
+    text: &mut String,
+    sink: &mut W,
+    kind: Kind,
+) -> Result<(), RunError>
+    ensures { PassesOn (W.contents sink.old) (W.contents sink.new) (W.faults sink.old) (W.faults sink.new) (string_bytes text.old) (string_bytes text.new) (kind_piece kind) result }
+{
+    push_kind(alloc, text, kind)?;
+    pass_on(text, sink)
+}
+
+/// These holes, the kind, and these missing blocks.
+fn put_lists<W: Sink>(
+    alloc: Global,
+    text: &mut String,
+    sink: &mut W,
+    holes: &[(u64, u64)],
+    kind: Kind,
+    missing: &[u32],
+) -> Result<(), RunError>
+    ensures { PassesOn (W.contents sink.old) (W.contents sink.new) (W.faults sink.old) (W.faults sink.new) (string_bytes text.old) (string_bytes text.new)
+        (compact_text (list_data hole_data holes.now) ++ (kind_piece kind ++ compact_text (list_data count missing.now))) result }
+{
+    put_holes(alloc, text, sink, holes)?;
+    put_kind(alloc, text, sink, kind)?;
+    put_counts(alloc, text, sink, missing)
+}
+
+/// The holes, the kind, and the missing blocks of what stands so.
+pub(crate) fn put_told<W: Sink>(
+    alloc: Global,
+    text: &mut String,
+    sink: &mut W,
+    standing: &Standing,
+    kind: Kind,
+) -> Result<(), RunError>
+    ensures { PassesOn (W.contents sink.old) (W.contents sink.new) (W.faults sink.old) (W.faults sink.new) (string_bytes text.old) (string_bytes text.new) (told_piece standing.now kind) result }
+{
+    match standing {
+        Standing::Torn(torn) => put_lists(alloc, text, sink, &torn.holes, kind, &torn.missing),
+        _ => put_lists(alloc, text, sink, &[], kind, &[]),
+    }
+}
