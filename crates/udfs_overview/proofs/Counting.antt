@@ -1,11 +1,12 @@
 -- What is counted of nodes: one node more, and nodes whose lists were let go.
 use Rattle.std.proofs.Common.{◌≡◌, refl, ap, ◌∙◌, arith, ℕ, ◌+◌, ◌-◌, ◌^◌, ◌<◌, List, [], ◌∷◌, cond, length, map, take, get_or}
 use Rattle.std.specs.Prelude.{fold, min}
-use Rattle.std.proofs.lemmas.List.Sums.{sum_by_more}
+use Rattle.std.proofs.lemmas.List.Sums.{sum_by-cons, sum_by_more}
 use Rattle.udfs_lattice.specs.Volumes.{Blocks}
 use Rattle.udfs_volume.specs.Answers.{Answer, found, holes, faulty}
 use Rattle.udfs_space.specs.Places.{view}
 use Rattle.udfs_file.specs.declared.faults.Kind.{Kind}
+use Rattle.udfs_file.specs.declared.faults.Kind.TheVariants as kind
 use Rattle.udfs_walk.specs.Bare.{full_node, lists_at, with_lists}
 use Rattle.udfs_walk.specs.NodeFields.{NodeFields}
 use Rattle.udfs_walk.specs.TornFields.{TornFields}
@@ -13,10 +14,11 @@ use Rattle.udfs_walk.specs.declared.standings.Standing.{Standing}
 use Rattle.udfs_walk.specs.declared.standings.Standing.TheVariants.{Whole, Torn, Loop, Fault}
 use Rattle.udfs_salvage.specs.Found.{Found}
 use Rattle.udfs_salvage.specs.Surveys.{full_nodes}
+use Rattle.udfs_overview.specs.declared.tallies.Tally.{Tally}
 use Rattle.udfs_overview.specs.declared.tallies.NodeSort.{NodeSort}
 use Rattle.udfs_overview.specs.declared.tallies.NodeSort.TheVariants as sort
 use Rattle.udfs_overview.specs.NodeLists.{lost_of}
-use Rattle.udfs_overview.specs.Tallies.{at_most_128_bits, bytes_of, count_of, is_node_of, is_of, lost_in, or_zero}
+use Rattle.udfs_overview.specs.Tallies.{at_most_128_bits, bytes_of, count_of, is_node_of, is_of, lost_in, node_count, or_zero, tally_of}
 
 -- the lists do not say of which sort a node is
 same_of : (a : NodeSort) (lists : TornFields) (s : Standing) (k : Kind) → is_of a (with_lists lists s) k ≡ is_of a s k
@@ -57,3 +59,47 @@ pub lost_more : (a : NodeSort) (ns : List NodeFields) (i : ℕ) (d : NodeFields)
 lost_more a ns i d l =
     let more = sum_by_more (λ (n : NodeFields). cond (is_node_of a n) (or_zero (lost_of n.standing n.kind)) 0) ns i d l in
     omega (arith, more)
+
+-- each node is of one sort
+each_once : (s : Standing) (k : Kind)
+    → cond (is_of sort.WholeFile s k) 1 0 + cond (is_of sort.TornFile s k) 1 0 + cond (is_of sort.Unread s k) 1 0 + cond (is_of sort.WholeFolder s k) 1 0
+    + cond (is_of sort.TornFolder s k) 1 0 + cond (is_of sort.Other s k) 1 0 + cond (is_of sort.Faulty s k) 1 0 + cond (is_of sort.Loop s k) 1 0 ≡ 1
+each_once Whole kind.Directory = refl
+each_once Whole kind.File = refl
+each_once Whole kind.Link = refl
+each_once Whole (kind.Other t) = refl
+each_once Whole kind.Unread = refl
+each_once (Torn torn) kind.Directory = refl
+each_once (Torn torn) kind.File = refl
+each_once (Torn torn) kind.Link = refl
+each_once (Torn torn) (kind.Other t) = refl
+each_once (Torn torn) kind.Unread = refl
+each_once Loop k = refl
+each_once (Fault f) k = refl
+
+abbrev weight : NodeSort → NodeFields → ℕ
+weight a n = cond (is_node_of a n) 1 0
+
+-- so all sorts together are all nodes
+all_counted : (ns : List NodeFields)
+    → count_of sort.WholeFile ns + count_of sort.TornFile ns + count_of sort.Unread ns + count_of sort.WholeFolder ns
+    + count_of sort.TornFolder ns + count_of sort.Other ns + count_of sort.Faulty ns + count_of sort.Loop ns ≡ length ns
+all_counted [] = refl
+all_counted (n ∷ ns) =
+    omega (
+      arith,
+      sum_by-cons (weight sort.WholeFile) n ns,
+      sum_by-cons (weight sort.TornFile) n ns,
+      sum_by-cons (weight sort.Unread) n ns,
+      sum_by-cons (weight sort.WholeFolder) n ns,
+      sum_by-cons (weight sort.TornFolder) n ns,
+      sum_by-cons (weight sort.Other) n ns,
+      sum_by-cons (weight sort.Faulty) n ns,
+      sum_by-cons (weight sort.Loop) n ns,
+      each_once n.standing n.kind,
+      all_counted ns,
+    )
+
+pub tally_counts_all : (t : Tally) (ns : List NodeFields) → t ≡ tally_of ns → node_count t ≡ length ns
+unfolding tally_of
+tally_counts_all t ns e = ap node_count e ∙ all_counted ns

@@ -4,7 +4,7 @@
 --     bytes_of sort nodes          how many bytes they have
 --     lost_in sort nodes           how many bytes of theirs are lost
 --     tally_of nodes               all that is counted of nodes
-use Rattle.std.specs.Prelude.{ℕ, ◌^◌, ◌-◌, ◌&&◌, ◌||◌, Bool, true, false, List, cond, count_by, sum_by, min, Option, Some, None}
+use Rattle.std.specs.Prelude.{ℕ, ◌+◌, ◌^◌, ◌-◌, ◌&&◌, ◌||◌, Bool, true, false, List, cond, count_by, sum_by, min, Option, Some, None}
 use Rattle.udfs_file.specs.declared.faults.Kind.{Kind}
 use Rattle.udfs_file.specs.declared.faults.Kind.TheVariants as kind
 use Rattle.udfs_walk.specs.NodeFields.{NodeFields}
@@ -120,3 +120,7 @@ tally_of nodes = record {
   faulty = count_of sort.Faulty nodes;
   loops = count_of sort.Loop nodes;
 }
+
+-- how many nodes are counted, of all sorts
+abbrev pub node_count : Tally → ℕ
+node_count t = t.whole_files + t.torn_files + t.unread + t.whole_folders + t.torn_folders + t.others + t.faulty + t.loops

@@ -1,5 +1,5 @@
 // SPDX-License-Identifier: MIT OR Apache-2.0
-//! What a person is shown of a volume: figures, names that can not forge a line, and a line for each node.
+//! What a person is shown of a volume: figures, names that cannot forge a line, a line for each node, and what a summary counts.
 #![tactic(auto)]
 
 mod disc_tallies;

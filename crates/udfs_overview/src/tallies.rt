@@ -1,12 +1,12 @@
 //! What is counted of nodes.
 
-ghost use Rattle.std.specs.Prelude.{◌≡◌, ℕ, List, IfOk, cond, map};
+ghost use Rattle.std.specs.Prelude.{◌≡◌, ℕ, List, IfOk, cond, length, map};
 ghost use Rattle.udfs_space.specs.Views.{view_now};
 ghost use Rattle.udfs_walk.specs.Bare.{full_node, node_with};
 ghost use Rattle.udfs_walk.specs.NodeFields.{NodeFields};
 ghost use Rattle.udfs_salvage.specs.Surveys.{survey_now};
 ghost use Rattle.udfs_overview.specs.NodeLists.{lost_of};
-ghost use Rattle.udfs_overview.specs.Tallies.{at_most_128_bits, bytes_of, count_of, is_faulty, is_file, is_folder, is_loop, is_node_of, is_of, is_other, is_torn, is_unread, lost_in, or_zero, tally_of};
+ghost use Rattle.udfs_overview.specs.Tallies.{at_most_128_bits, bytes_of, count_of, is_faulty, is_file, is_folder, is_loop, is_node_of, is_of, is_other, is_torn, is_unread, lost_in, node_count, or_zero, tally_of};
 
 use crate::node_columns::{is_whole, lost_of};
 use std::alloc::Global;
@@ -267,7 +267,10 @@ pub struct Tally {
 ///
 /// Where memory is refused.
 pub fn count_nodes(alloc: Global, survey: &Survey<'_>) -> Result<Tally, OutOfMemory>
-    ensures { IfOk result (λ tally. tally ≡ tally_of (survey_now survey.now).nodes) }
+    ensures value { IfOk result (λ tally. tally ≡ tally_of (survey_now survey.now).nodes) }
+
+    // Each node is counted once.
+    ensures all { IfOk result (λ tally. node_count tally ≡ length (survey_now survey.now).nodes) }
 {
     let lost_bytes = survey_lost(alloc, NodeSort::TornFile, survey)?;
     let nodes = survey.nodes.as_slice();

@@ -1,14 +1,15 @@
 use Rattle.std.proofs.Common.{◌∙◌, ap, sym}
 use Rattle.udfs_lattice.specs.Tables.{state_of}
 use Rattle.udfs_salvage.specs.Found.{volume_now}
+use Rattle.udfs_salvage.specs.Surveys.{full_nodes}
 use Rattle.udfs_overview.specs.declared.tallies.NodeSort.TheVariants as sort
 use Rattle.udfs_overview.specs.Tallies.{bytes_of, count_of, tally_of}
-use Rattle.udfs_overview.proofs.Counting.{bytes_full, count_full}
+use Rattle.udfs_overview.proofs.Counting.{bytes_full, count_full, tally_counts_all}
 use Rattle.udfs_overview.proofs.tallies.count_nodes.Goals as goal
 
-pub returns : goal.returns
+pub returns-clause-value : goal.returns-clause-value
 unfolding tally_of
-returns c =
+returns-clause-value c =
     let s = c.args.survey.now in
     let M = state_of s.table.now in
     let answer = volume_now s.volume in
@@ -37,3 +38,8 @@ returns c =
       faulty = faulty j;
       loops = loops j;
     }
+
+pub returns-clause-all : goal.returns-clause-all
+returns-clause-all c =
+    let s = c.args.survey.now in
+    tally_counts_all _ (full_nodes (state_of s.table.now) (volume_now s.volume) s.nodes.items) (returns-clause-value c)
