@@ -55,8 +55,8 @@ fn counts(rt: HostRuntime) -> Result<(), Fail> {
         assert_eq!(rt; [tally.others, tally.faulty, tally.loops], [0, 0, 0]);
         let disc = count_disc(&survey);
         assert_eq!(rt; [disc.needed, disc.runs], needed);
-        assert_eq!(rt; u64::from(disc.known) + disc.not_known, 601);
         assert_eq!(rt; disc.not_known, unread.len() as u64);
+        assert!(rt; disc.not_known.checked_add(u64::from(disc.known)) == Some(601));
         assert_eq!(rt; disc.conflicts, 0);
         let entries = count_unnamed(&survey);
         assert_eq!(rt; [entries.with_data, entries.empty], unnamed);
@@ -64,22 +64,35 @@ fn counts(rt: HostRuntime) -> Result<(), Fail> {
     Ok(())
 }
 
-/// A loop, a fault, and a block in conflict.
+/// A directory that lies in itself.
 #[test]
-fn other_counts(rt: HostRuntime) -> Result<(), Fail> {
+fn a_loop_is_counted(rt: HostRuntime) -> Result<(), Fail> {
     let alloc = rt.alloc();
     let mut disc = Disc::type1(alloc)?;
     disc.write(&[(274, 64, &[1])])?;
-    let mut table = disc.known_but(alloc, &[])?;
+    let table = disc.known_but(alloc, &[])?;
     let survey = survey_volume(alloc, &table, LAST)?;
     let tally = count_nodes(alloc, &survey)?;
     assert_eq!(rt; [tally.others, tally.faulty, tally.loops], [0, 0, 1]);
     assert_eq!(rt; [tally.whole_files, tally.whole_folders], [1, 1]);
+    Ok(())
+}
+
+#[test]
+fn a_block_in_conflict_is_counted(rt: HostRuntime) -> Result<(), Fail> {
+    let alloc = rt.alloc();
+    let mut table = Disc::type1(alloc)?.known_but(alloc, &[])?;
     table.put(590, &[1; 2048])?;
     let survey = survey_volume(alloc, &table, LAST)?;
     let blocks = count_disc(&survey);
     assert_eq!(rt; [blocks.known, blocks.conflicts], [600, 1]);
     assert_eq!(rt; blocks.not_known, 0);
+    Ok(())
+}
+
+#[test]
+fn a_fault_is_counted(rt: HostRuntime) -> Result<(), Fail> {
+    let alloc = rt.alloc();
     let mut disc = Disc::two_maps(alloc)?;
     disc.write(&[(274, 108, &[2])])?;
     let table = disc.known_but(alloc, &[])?;
