@@ -91,20 +91,23 @@ fn the_blocks_to_read_again_are_a_mapfile(rt: HostRuntime) -> Result<(), Fail> {
     Ok(())
 }
 
+/// The blocks that are not known, and what is printed of the mapfile then.
+const COUNTED: [(&[u32], u8, &str); 4] = [
+    (&[], 0, "0 blocks in 0 runs\n"),
+    (&[33, 49], 1, "2 blocks in 2 runs\n"),
+    (&[277, 278], 1, "2 blocks in 1 runs\n"),
+    (&[277, 279], 1, "2 blocks in 2 runs\n"),
+];
+
 /// Nothing is wanted of a disc of which all is known; of an unread one the anchors are, and blocks 277 and 278 are one run.
 #[test]
 fn the_counts_of_a_mapfile(rt: HostRuntime) -> Result<(), Fail> {
     let alloc = rt.alloc();
-    for (unread, status, line) in [
-        (&[][..], 0, "0 blocks in 0 runs\n"),
-        (&[33, 49], 1, "2 blocks in 2 runs\n"),
-        (&[277, 278], 1, "2 blocks in 1 runs\n"),
-        (&[277, 279], 1, "2 blocks in 2 runs\n"),
-    ] {
+    for (unread, status, line) in COUNTED {
         let table = Disc::type1(alloc)?.known_but(alloc, unread)?;
         let mut memory = with_table(alloc, &table)?;
         let ran = ran(alloc, &mut memory, "reread --last 600 --mapfile m disc.tab")?;
-        assert_eq!(rt; ran.status, status, "{line}");
+        assert_eq!(rt; ran.status, status);
         assert_eq!(rt; ran.out.as_str(), line);
     }
     let all =
