@@ -110,14 +110,10 @@ deb: all
 	@tools/try-deb out/udfsalvage_$$(tools/check-version $(PROGRAM))_amd64.deb
 
 bench: all
-	@bench/merge --program $(PROGRAM) $(BENCH)
-	@bench/rescue --program $(PROGRAM)
-	@bench/report --program $(PROGRAM)
-	@bench/extract --program $(PROGRAM)
-	@bench/crc
-	@bench/table
-	@bench/places
-	@bench/worst --program $(PROGRAM)
+	@bad=; for one in 'bench/merge --program $(PROGRAM) $(BENCH)' 'bench/rescue --program $(PROGRAM)' 'bench/report --program $(PROGRAM)' \
+	    'bench/extract --program $(PROGRAM)' bench/crc bench/table bench/places 'bench/worst --program $(PROGRAM)'; do \
+	    $$one || bad="$$bad $${one%% *}"; \
+	done; [ -z "$$bad" ] || { echo "over a limit, or failed:$$bad" >&2; exit 1; }
 
 examples:
 	tools/make-examples examples
