@@ -3,10 +3,8 @@ mod Choices
 mod Commas
 mod Counting
 mod DiscCounting
-mod Passing
 mod PathNames
 mod Places
-mod Printed
 mod Rounding
 mod SafeParts
 mod SafeShowing

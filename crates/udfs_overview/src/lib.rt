@@ -6,7 +6,6 @@ mod disc_tallies;
 mod figures;
 mod node_columns;
 mod node_list;
-mod pieces;
 mod safe_names;
 mod summary_lines;
 mod tallies;

@@ -9,11 +9,10 @@ ghost use Rattle.udfs_salvage.specs.Surveys.{survey_now};
 ghost use Rattle.udfs_overview.specs.NodeLists.{front_columns, line_end, list_line, list_text, listed};
 
 use crate::node_columns::{is_whole, push_safe_path, push_told};
-use crate::pieces::{flush, pass_on};
 use std::alloc::Global;
 use udfs_osta::OutOfMemory;
 use udfs_reading::Sink;
-use udfs_salvage::{RunError, Survey, Volume};
+use udfs_salvage::{RunError, Survey, Volume, flush, pass_on};
 use udfs_space::View;
 use udfs_walk::{Node, Standing, full_standing};
 

@@ -24,3 +24,4 @@ pub mod PathNames
 pub mod FullTexts
 pub mod Surveying
 pub mod JsonPieces
+pub mod PublicLaws

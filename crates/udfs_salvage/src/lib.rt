@@ -31,7 +31,7 @@ pub use errors::{RunError, SalvageError};
 pub use extraction::{ExtractError, Fill, extract, is_offered};
 pub use json_reports::report_json;
 pub use node_lines::push_names;
-pub use printing::{write_report, write_volume};
+pub use printing::{flush, pass_on, write_report, write_volume};
 pub use reports::{Report, all_whole, salvage};
 pub use reread_printing::{write_numbers, write_reread};
 pub use running::report_run;

@@ -21,8 +21,12 @@ use udfs_reading::{Sink, WriteFault, write_all};
 /// How many bytes of text are gathered before they are written.
 const PIECE: usize = 65_536;
 
-/// Writes the text that is held.
-pub(crate) fn flush<W: Sink>(text: &mut String, sink: &mut W) -> Result<(), RunError>
+/// Writes the text that is held, and holds nothing then.
+///
+/// # Errors
+///
+/// `Write` exactly where the sink failed. Then a beginning of the text is out.
+pub fn flush<W: Sink>(text: &mut String, sink: &mut W) -> Result<(), RunError>
     ensures written { Prints (W.contents sink.old) (W.contents sink.new) (W.faults sink.old) (W.faults sink.new) (string_bytes text.old) result }
     ensures empty { OnOk result (string_bytes text.new ≡ []) }
 {
@@ -35,8 +39,12 @@ pub(crate) fn flush<W: Sink>(text: &mut String, sink: &mut W) -> Result<(), RunE
     }
 }
 
-/// Writes the text that is held, where it is long.
-pub(crate) fn pass_on<W: Sink>(text: &mut String, sink: &mut W) -> Result<(), RunError>
+/// Writes the text that is held, where it is long: 65,536 bytes or more.
+///
+/// # Errors
+///
+/// `Write` exactly where the sink failed. Then a beginning of the text is out.
+pub fn pass_on<W: Sink>(text: &mut String, sink: &mut W) -> Result<(), RunError>
     ensures { PassesOn (W.contents sink.old) (W.contents sink.new) (W.faults sink.old) (W.faults sink.new) (string_bytes text.old) (string_bytes text.new) [] result }
 {
     if text.len() < PIECE {

@@ -4,7 +4,7 @@ use Rattle.udfs_space.specs.Views.{view_now}
 use Rattle.udfs_walk.specs.Bare.{full_node}
 use Rattle.udfs_overview.specs.NodeLists.{listed}
 use Rattle.udfs_overview.proofs.Places.{full_at, full_length}
-use Rattle.udfs_overview.proofs.Printed.{passed_item, stopped_item}
+use Rattle.udfs_salvage.proofs.PublicLaws.{passed_item, stopped_item}
 use Rattle.udfs_overview.proofs.node_list.put_full_nodes.Goals as goal
 
 pub returns-in_err-put_full_node : goal.returns-in_err-put_full_node

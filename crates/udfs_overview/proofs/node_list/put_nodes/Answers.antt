@@ -6,7 +6,7 @@ use Rattle.udfs_walk.specs.Bare.{node_with}
 use Rattle.udfs_walk.specs.NodeFields.{NodeFields}
 use Rattle.udfs_salvage.specs.Printing.{Stopped}
 use Rattle.udfs_overview.specs.NodeLists.{listed}
-use Rattle.udfs_overview.proofs.Printed.{passed_item, stopped_item}
+use Rattle.udfs_salvage.proofs.PublicLaws.{passed_item, stopped_item}
 use Rattle.udfs_overview.proofs.node_list.put_nodes.Goals as goal
 
 pub returns-in_err-put_listed : goal.returns-in_err-put_listed

@@ -1,4 +1,4 @@
-use Rattle.udfs_overview.proofs.Printed.{prints_then}
+use Rattle.udfs_salvage.proofs.PublicLaws.{prints_then}
 use Rattle.udfs_overview.proofs.node_list.write_list.Goals as goal
 
 pub returns : goal.returns
