@@ -65,7 +65,7 @@ impl Counts {
         match salvage(alloc, &table, LAST) {
             Ok(report) => {
                 let mut text = Writer::new(Vec::new(alloc));
-                let written = write_report(alloc, &report, &mut text).is_ok();
+                let written = write_report(&report, &mut text).is_ok();
                 if written && is_report(text.into_inner().as_slice()) {
                     self.count(&report);
                 } else {

@@ -34,7 +34,7 @@ pub fn report<W: Sink>(alloc: Global, name: &str, unread: u32, out: &mut W) -> E
     };
     match salvage(alloc, &table, LAST) {
         Err(error) => of_salvage(error),
-        Ok(report) => match write_report(alloc, &report, out) {
+        Ok(report) => match write_report(&report, out) {
             Ok(()) => Ending::Done,
             Err(error) => of_run(error),
         },

@@ -86,3 +86,10 @@ not_empty n b e f = grind (arith, nat_tests)
 
 pub empty : (n : ℕ) (b : Bool) → b ≡ eqb n 0 → b ≡ true → n ≡ 0
 empty n b e f = grind (arith, nat_tests)
+
+-- of no units no bytes are left
+pub none_left : (dots : Bool) (units : List ℕ) → length units ≡ 0 → encode_utf8_all (cond dots (flat_map escape units) (shown units)) ≡ []
+unfolding shown
+none_left true [] h = refl
+none_left false [] h = refl
+none_left dots (u ∷ us) h = absurd (omega (arith, h))

@@ -28,7 +28,7 @@ fn hex_byte(digit: u16) -> u8
 }
 
 /// `\uXXXX`, with four hexadecimal digits.
-fn escape_bytes(unit: u16) -> [u8; 6]
+pub(crate) fn escape_bytes(unit: u16) -> [u8; 6]
     ensures value { result ≡ escape unit }
     ensures ascii { IsAscii result }
 {
@@ -43,7 +43,7 @@ fn escape_bytes(unit: u16) -> [u8; 6]
 }
 
 /// The character that a unit in no pair stands for, unless it is escaped.
-fn plain_char(unit: u16) -> Option<char>
+pub(crate) fn plain_char(unit: u16) -> Option<char>
     ensures { SomeIff result (must_escape unit ≡ false) unit }
 {
     match unit {
@@ -53,7 +53,7 @@ fn plain_char(unit: u16) -> Option<char>
 }
 
 /// The character of a pair that stands at the front.
-fn paired_char(units: &[u16]) -> Option<char>
+pub(crate) fn paired_char(units: &[u16]) -> Option<char>
     ensures { SomeIff result (begins_with_pair units.now ≡ true) (surrogate_pair_char (slice_index units.now 0) (slice_index units.now 1)) }
 {
     match units {
@@ -106,7 +106,7 @@ fn write_front(units: &[u16], text: &mut String) -> Result<usize, OutOfMemory>
 }
 
 /// How many characters go out at once.
-const PIECE: usize = 64;
+pub const PIECE: usize = 64;
 
 /// The byte that is written for a unit that stands for itself in one byte.
 fn plain_byte(unit: u16) -> Option<u8>
@@ -119,7 +119,7 @@ fn plain_byte(unit: u16) -> Option<u8>
 }
 
 /// Takes the units at the front that stand for themselves in one byte, as many as there is room for, and says how many.
-fn take_plain(units: &[u16], piece: &mut [u8; PIECE]) -> usize
+pub(crate) fn take_plain(units: &[u16], piece: &mut [u8; PIECE]) -> usize
     ensures room { result ≤ 64 }
     ensures fits { result ≤ length units.now }
     ensures plain { (k : ℕ) → k < result → (must_escape (slice_index units.now k) ≡ false) × (slice_index units.now k < 128) }

@@ -14,12 +14,14 @@
 mod escapes;
 mod labels;
 mod names;
+mod pieces;
 mod stamps;
 mod texts;
 
 pub use escapes::{escaped_is_path_part, escaped_tells_units};
 pub use labels::Label;
 pub use names::{Name, NameFault, units_make_names};
+pub use pieces::EscapedBytes;
 pub use stamps::{Stamp, days_tell_dates, local_text_shows_fields};
 pub use texts::OutOfMemory;
 

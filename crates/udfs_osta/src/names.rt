@@ -8,6 +8,7 @@ ghost use Rattle.udfs_osta.specs.Names.{fault_of, pair_units, units_of, AreUnits
 ghost use Rattle.udfs_osta.specs.Parts.{IsPathPart};
 
 use crate::escapes::{is_dots, write_escapes, write_units};
+use crate::pieces::EscapedBytes;
 use crate::texts::OutOfMemory;
 use std::alloc::{AllocError, Global};
 use std::error::Error;
@@ -148,6 +149,14 @@ impl Name {
         } else {
             write_units(units, text)
         }
+    }
+
+    /// The bytes of the escaped form, as [`Name::write_escaped`] appends them. It takes no memory.
+    pub fn escaped_bytes(&self) -> EscapedBytes<'_>
+        ensures { result ≡ escaped self.now }
+    {
+        let units = self.units();
+        EscapedBytes::new(units, is_dots(units))
     }
 }
 

@@ -5,7 +5,6 @@ pub mod JsonVolumes
 pub mod NumberedNodes
 pub mod Founds
 pub mod Passing
-pub mod Appending
 pub mod Opens
 pub mod Openings
 pub mod Pieces
@@ -24,4 +23,6 @@ pub mod PathNames
 pub mod FullTexts
 pub mod Surveying
 pub mod JsonPieces
+pub mod ShortTexts
+pub mod Putting
 pub mod PublicLaws

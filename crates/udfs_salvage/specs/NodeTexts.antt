@@ -36,6 +36,11 @@ node_fault_number fault.Depth = 13
 
 -- ---- fields
 
+-- a word, and the number behind it where it has one
+abbrev pub word_text : List ℕ → Option ℕ → List ℕ
+word_text word None = word
+word_text word (Some n) = word ++ decimal n
+
 -- the word for a standing
 abbrev pub standing_name : Standing → List ℕ
 standing_name standing.Whole = codes "whole"
@@ -51,9 +56,13 @@ kind_name kind.Link = codes "link"
 kind_name (kind.Other t) = codes "other-" ++ decimal t
 kind_name kind.Unread = codes "unread"
 
+-- a name behind a `/`
+abbrev pub name_text : List ℕ → List ℕ
+name_text name = codes "/" ++ escaped name
+
 -- each name behind a `/`
 abbrev pub names_text : List (List ℕ) → List ℕ
-names_text names = flat_map (λ n. codes "/" ++ escaped n) names
+names_text names = flat_map name_text names
 
 -- the root has no name
 abbrev pub path_name : List (List ℕ) → List ℕ

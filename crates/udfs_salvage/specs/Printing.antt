@@ -1,9 +1,11 @@
 -- What printing does to a sink that tells its bytes.
 --     Prints old new i j text result      all of the text was written; or a beginning of it, and then came the error
 --     PassesOn                            the same of text that is held before it is written
+--     PutsMost                            the text was put, or a beginning of it before memory was refused
 use Rattle.std.specs.Prelude.{◌≡◌, ℕ, ◌+◌, ◌%◌, ◌^◌, List, ◌++◌, Option, Result, Ok, Err}
 use Rattle.std.specs.Io.KnownBytes.{Appends}
 use Rattle.udfs_reading.specs.Writing.{Wrote, Passed}
+use Rattle.udfs_printing.specs.Puts.{Puts}
 use Rattle.udfs_salvage.specs.declared.errors.RunError.{RunError}
 use Rattle.udfs_salvage.specs.declared.errors.RunError.TheVariants.{Reading, Salvage, Write, OutOfMemory}
 
@@ -31,3 +33,15 @@ Prints old new i j text (Err e) = Stopped old new i j text e
 abbrev pub PassesOn : {X : Type 0} → Option (List ℕ) → Option (List ℕ) → ℕ → ℕ → List ℕ → List ℕ → List ℕ → Result X RunError → Type 0
 PassesOn old new i j held still text (Ok x) = Passed old new i j held still text
 PassesOn old new i j held still text (Err e) = Stopped old new i j (held ++ text) e
+
+-- a beginning of the text was put behind what was held
+pub record PutsFront (old new : Option (List ℕ)) (i j : ℕ) (held still : Option (List ℕ)) (text : List ℕ) : Type 0 where
+  pub front : List ℕ
+  pub rest : List ℕ
+  pub put : Puts old new i j held still front
+  pub whole : text ≡ front ++ rest
+
+-- the text was put behind what was held, or a beginning of it, and then memory was refused
+abbrev pub PutsMost : {X E : Type 0} → Option (List ℕ) → Option (List ℕ) → ℕ → ℕ → Option (List ℕ) → Option (List ℕ) → List ℕ → Result X E → Type 0
+PutsMost old new i j held still text (Ok x) = Puts old new i j held still text
+PutsMost old new i j held still text (Err e) = PutsFront old new i j held still text

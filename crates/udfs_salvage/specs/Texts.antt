@@ -59,9 +59,13 @@ partition_map_text (sparable packet size tables) = codes " sparable " ++ decimal
 abbrev pub map_texts : List Partition → List ℕ
 map_texts partitions = flat_map (λ p. partition_map_text p.kind) partitions
 
+-- a block's number, behind a space
+abbrev pub block_text : ℕ → List ℕ
+block_text n = codes " " ++ decimal n
+
 -- a space before each
 abbrev pub block_texts : List ℕ → List ℕ
-block_texts blocks = flat_map (λ n. codes " " ++ decimal n) blocks
+block_texts blocks = flat_map block_text blocks
 
 -- the line of the volume
 abbrev pub volume_line : Answer Found → List ℕ

@@ -7,7 +7,8 @@ ghost use Rattle.udfs_salvage.specs.NodeTexts.{kind_name, path_name, standing_na
 ghost use Rattle.udfs_walk.specs.Rereads.{holes_of, missing_of};
 ghost use Rattle.udfs_salvage.specs.JsonNodes.{count, hole_data, list_data, node_data, size_data, time_data, told_members, unnamed_data};
 
-use crate::node_lines::{push_kind_name, push_path_name, push_standing_name};
+use crate::appending::{push_path_name, push_word};
+use crate::words::{kind_word, standing_word};
 use serde_json::{Map, Value, json, put};
 use std::alloc::{AllocError, Global};
 use udfs_file::Kind;
@@ -19,7 +20,7 @@ pub(crate) fn standing_value(alloc: Global, standing: &Standing) -> Result<Value
     ensures { IfOk result (λ v. view v ≡ string (standing_name standing.now)) }
 {
     let mut text = String::new(alloc);
-    push_standing_name(&mut text, standing)?;
+    push_word(&mut text, standing_word(standing))?;
     Ok(Value::String(text))
 }
 
@@ -28,7 +29,7 @@ pub(crate) fn kind_value(alloc: Global, kind: Kind) -> Result<Value, AllocError>
     ensures { IfOk result (λ v. view v ≡ string (kind_name kind)) }
 {
     let mut text = String::new(alloc);
-    push_kind_name(&mut text, kind)?;
+    push_word(&mut text, kind_word(kind))?;
     Ok(Value::String(text))
 }
 

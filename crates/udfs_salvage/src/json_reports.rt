@@ -13,12 +13,12 @@ ghost use Rattle.udfs_salvage.specs.JsonNodes.{list_data};
 ghost use Rattle.udfs_salvage.specs.JsonReports.{json_text, label_data, label_data_of, map_name, name_data, packet_length_of, put_maps, put_packet, report_data, reread_data, state_data, state_name, volume_data};
 
 use crate::json_nodes::{all_unnamed_value, blocks_value, nodes_value};
-use crate::lines::{fault_number, has_two, revision_name};
+use crate::lines::has_two;
 use crate::reports::Report;
 use crate::volumes::{OpenVolume, Volume};
+use crate::words::{fault_name, fault_number, revision_name};
 use serde_json::{Map, Value, put};
 use std::alloc::{AllocError, Global};
-use std::fmt::Write;
 use udfs_lattice::{BlockTable, Fact};
 use udfs_osta::{Label, Name, OutOfMemory};
 use udfs_volume::{Partition, PartitionMap, VolumeFault};
@@ -130,8 +130,7 @@ fn blocked_value(alloc: Global, blocks: &[u32]) -> Result<Value, AllocError>
 fn faulty_value(alloc: Global, fault: VolumeFault) -> Result<Value, AllocError>
     ensures { IfOk result (λ v. view v ≡ volume_data (faulty fault)) }
 {
-    let mut name = String::new(alloc);
-    write!(name, "{fault}")?;
+    let name = Value::try_from_str(alloc, fault_name(fault))?;
     let state = Value::try_from_str(alloc, "fault")?;
     let mut members = Map::new(alloc);
     put(
@@ -140,7 +139,7 @@ fn faulty_value(alloc: Global, fault: VolumeFault) -> Result<Value, AllocError>
         "fault",
         Value::from(fault_number(fault)),
     )?;
-    put(&mut members, alloc, "name", Value::String(name))?;
+    put(&mut members, alloc, "name", name)?;
     put(&mut members, alloc, "state", state)?;
     Ok(Value::Object(members))
 }

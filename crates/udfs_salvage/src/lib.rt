@@ -6,6 +6,7 @@
 //! file, and [`report_run`] makes and prints the report from the readings of a disc.
 #![tactic(auto)]
 
+mod appending;
 mod body_bytes;
 mod errors;
 mod extraction;
@@ -26,11 +27,13 @@ mod survey_printing;
 mod surveys;
 pub mod tree_laws;
 mod volumes;
+mod word_printing;
+mod words;
 
+pub use appending::push_names;
 pub use errors::{RunError, SalvageError};
 pub use extraction::{ExtractError, Fill, extract, is_offered};
 pub use json_reports::report_json;
-pub use node_lines::push_names;
 pub use printing::{flush, pass_on, write_report, write_volume};
 pub use reports::{Report, all_whole, salvage};
 pub use reread_printing::{write_numbers, write_reread};

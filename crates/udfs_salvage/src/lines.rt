@@ -1,18 +1,21 @@
-//! The lines of a report. Each function appends to a text; where memory is refused, a part may be appended.
+//! The lines of a report before and behind those of its nodes.
 
-ghost use Rattle.std.specs.Prelude.{◌≡◌, ◌++◌, ℕ, OnOk, map};
-ghost use Rattle.std.specs.String.{string_bytes};
+ghost use Rattle.std.specs.Prelude.{◌≡◌, ◌≤◌, length, map};
 ghost use Rattle.udfs_lattice.specs.Tables.{state_of};
 ghost use Rattle.udfs_volume.specs.Answers.{found, holes, faulty};
 ghost use Rattle.udfs_volume.specs.LayoutParts.{partition_now};
 ghost use Rattle.udfs_volume.specs.Parts.{map_now};
+ghost use Rattle.udfs_printing.specs.Puts.{Puts};
 ghost use Rattle.udfs_salvage.specs.Found.{found_now, volume_now};
-ghost use Rattle.udfs_salvage.specs.Texts.{block_texts, count_line, end_line, volume_fault_number, first_line, has_two, head_text, label_line, label_lines, partition_map_text, map_texts, open_text, reread_line, revision_text, volume_line};
+ghost use Rattle.udfs_salvage.specs.Texts.{block_text, block_texts, count_line, end_line, first_line, form_text, has_two, head_text, label_line, label_lines, map_texts, open_text, partition_map_text, reread_line, reread_lines, state_text, volume_line};
 
 use crate::volumes::{OpenVolume, Volume};
-use std::fmt::Write;
+use crate::word_printing::{put_count, put_escaped};
+use crate::words::{fault_name, fault_number, revision_name};
 use udfs_lattice::{BlockTable, Fact};
-use udfs_osta::{Label, OutOfMemory};
+use udfs_osta::{Label, Name};
+use udfs_printing::Printer;
+use udfs_reading::Sink;
 use udfs_volume::{Partition, PartitionMap, VolumeFault};
 
 /// Whether the volume opens and has two partitions.
@@ -25,180 +28,206 @@ pub(crate) fn has_two(volume: &Volume) -> bool
     }
 }
 
-/// The line that begins a report.
-fn push_first(text: &mut String, volume: &Volume, last: u32) -> Result<(), OutOfMemory>
-    ensures { OnOk result (string_bytes text.new ≡ string_bytes text.old ++ first_line (volume_now volume.now) last) }
+/// The form of a report, which says whether the volume has two partitions.
+fn form_name(volume: &Volume) -> &'static str
+    ensures form { result.now ≡ form_text (volume_now volume.now) }
+    ensures short { length result.now ≤ 2048 }
 {
-    let form = if has_two(volume) {
+    if has_two(volume) {
         "UDFREPORT2"
     } else {
         "UDFREPORT1"
-    };
-    write!(text, "{form} last {last}\n")
+    }
+}
+
+/// The line that begins a report.
+fn put_first<W: Sink>(out: &mut Printer, sink: &mut W, volume: &Volume, last: u32)
+    ensures { Puts (W.contents sink.old) (W.contents sink.new) (W.faults sink.old) (W.faults sink.new) out.old out.new (first_line (volume_now volume.now) last) }
+{
+    out.put(sink, form_name(volume));
+    out.put(sink, " last ");
+    out.put_number(sink, u64::from(last));
+    out.put(sink, "\n");
 }
 
 /// The line of the table's counts.
-fn push_counts(text: &mut String, table: &BlockTable) -> Result<(), OutOfMemory>
-    ensures { OnOk result (string_bytes text.new ≡ string_bytes text.old ++ count_line table.now) }
+fn put_counts<W: Sink>(out: &mut Printer, sink: &mut W, table: &BlockTable)
+    ensures { Puts (W.contents sink.old) (W.contents sink.new) (W.faults sink.old) (W.faults sink.new) out.old out.new (count_line table.now) }
 {
-    let known = table.known();
-    let conflicts = table.conflicts();
-    write!(text, "known {known} conflict {conflicts}\n")
+    put_count(out, sink, "known ", u64::from(table.known()));
+    out.put(sink, " conflict ");
+    out.put_number(sink, u64::from(table.conflicts()));
+    out.put(sink, "\n");
 }
 
 /// A partition's map, a space before it.
-fn push_map(text: &mut String, kind: &PartitionMap) -> Result<(), OutOfMemory>
-    ensures { OnOk result (string_bytes text.new ≡ string_bytes text.old ++ partition_map_text (map_now kind.now)) }
+fn put_map<W: Sink>(out: &mut Printer, sink: &mut W, kind: &PartitionMap)
+    ensures { Puts (W.contents sink.old) (W.contents sink.new) (W.faults sink.old) (W.faults sink.new) out.old out.new (partition_map_text (map_now kind.now)) }
 {
     match kind {
-        PartitionMap::Type1 => text.push_str(" type1"),
+        PartitionMap::Type1 => out.put(sink, " type1"),
         PartitionMap::Sparable(map) => {
-            let packet = map.packet;
-            write!(text, " sparable {packet}")
+            put_count(out, sink, " sparable ", u64::from(map.packet));
         }
     }
 }
 
 /// Each partition's map.
-fn push_maps(text: &mut String, partitions: &[Partition]) -> Result<(), OutOfMemory>
-    ensures { OnOk result (string_bytes text.new ≡ string_bytes text.old ++ map_texts (map partition_now partitions.now)) }
+fn put_maps<W: Sink>(out: &mut Printer, sink: &mut W, partitions: &[Partition])
+    ensures { Puts (W.contents sink.old) (W.contents sink.new) (W.faults sink.old) (W.faults sink.new) out.old out.new (map_texts (map partition_now partitions.now)) }
 {
     for partition in partitions {
-        push_map(text, &partition.kind)?;
+        put_map(out, sink, &partition.kind);
     }
-    Ok(())
+}
+
+/// A block's number, a space before it.
+fn put_block<W: Sink>(out: &mut Printer, sink: &mut W, block: u32)
+    ensures { Puts (W.contents sink.old) (W.contents sink.new) (W.faults sink.old) (W.faults sink.new) out.old out.new (block_text block) }
+{
+    put_count(out, sink, " ", u64::from(block));
 }
 
 /// Each block's number, a space before it.
-fn push_blocks(text: &mut String, blocks: &[u32]) -> Result<(), OutOfMemory>
-    ensures { OnOk result (string_bytes text.new ≡ string_bytes text.old ++ block_texts blocks.now) }
+fn put_blocks<W: Sink>(out: &mut Printer, sink: &mut W, blocks: &[u32])
+    ensures { Puts (W.contents sink.old) (W.contents sink.new) (W.faults sink.old) (W.faults sink.new) out.old out.new (block_texts blocks.now) }
 {
     for block in blocks {
-        write!(text, " {block}")?;
+        put_block(out, sink, *block);
     }
-    Ok(())
-}
-
-/// The number of a fault.
-pub(crate) fn fault_number(fault: VolumeFault) -> u8
-    ensures { result ≡ volume_fault_number fault }
-{
-    fault as u8
-}
-
-/// A revision of UDF, of which there are two.
-#[tactic(auto, unfolding(crate::specs::Texts::revision_text))]
-pub(crate) fn revision_name(revision: u16) -> &'static str
-    ensures { result.now ≡ revision_text revision }
-{
-    if revision == 0x0150 { "1.50" } else { "2.01" }
 }
 
 /// What the line of a volume that opens begins with.
-fn push_revision(text: &mut String, revision: u16) -> Result<(), OutOfMemory>
-    ensures { OnOk result (string_bytes text.new ≡ string_bytes text.old ++ open_text revision) }
+fn put_revision<W: Sink>(out: &mut Printer, sink: &mut W, revision: u16)
+    ensures { Puts (W.contents sink.old) (W.contents sink.new) (W.faults sink.old) (W.faults sink.new) out.old out.new (open_text revision) }
 {
-    text.push_str("volume ok revision ")?;
-    text.push_str(revision_name(revision))?;
-    text.push_str(" map")
+    out.put(sink, "volume ok revision ");
+    out.put(sink, revision_name(revision));
+    out.put(sink, " map");
 }
 
 /// The line of a volume that opens.
-fn push_open(text: &mut String, opened: &OpenVolume) -> Result<(), OutOfMemory>
-    ensures { OnOk result (string_bytes text.new ≡ string_bytes text.old ++ volume_line (found (found_now opened.now))) }
+fn put_open<W: Sink>(out: &mut Printer, sink: &mut W, opened: &OpenVolume)
+    ensures { Puts (W.contents sink.old) (W.contents sink.new) (W.faults sink.old) (W.faults sink.new) out.old out.new (volume_line (found (found_now opened.now))) }
 {
-    push_revision(text, opened.parts.revision)?;
-    push_maps(text, &opened.parts.partitions)?;
-    text.push('\n')
+    put_revision(out, sink, opened.parts.revision);
+    put_maps(out, sink, &opened.parts.partitions);
+    out.put(sink, "\n");
 }
 
 /// The line of holes.
-fn push_holes(text: &mut String, blocks: &[u32]) -> Result<(), OutOfMemory>
-    ensures { OnOk result (string_bytes text.new ≡ string_bytes text.old ++ volume_line (holes blocks.now)) }
+fn put_holes<W: Sink>(out: &mut Printer, sink: &mut W, blocks: &[u32])
+    ensures { Puts (W.contents sink.old) (W.contents sink.new) (W.faults sink.old) (W.faults sink.new) out.old out.new (volume_line (holes blocks.now)) }
 {
-    text.push_str("volume holes")?;
-    push_blocks(text, blocks)?;
-    text.push('\n')
+    out.put(sink, "volume holes");
+    put_blocks(out, sink, blocks);
+    out.put(sink, "\n");
 }
 
 /// The line of a fault.
-fn push_fault(text: &mut String, fault: VolumeFault) -> Result<(), OutOfMemory>
-    ensures { OnOk result (string_bytes text.new ≡ string_bytes text.old ++ volume_line (faulty fault)) }
+fn put_fault<W: Sink>(out: &mut Printer, sink: &mut W, fault: VolumeFault)
+    ensures { Puts (W.contents sink.old) (W.contents sink.new) (W.faults sink.old) (W.faults sink.new) out.old out.new (volume_line (faulty fault)) }
 {
-    let number = fault_number(fault);
-    write!(text, "volume fault {number} {fault}\n")
+    put_count(out, sink, "volume fault ", u64::from(fault_number(fault)));
+    out.put(sink, " ");
+    out.put(sink, fault_name(fault));
+    out.put(sink, "\n");
 }
 
 /// The line of the volume.
-pub(crate) fn push_volume(text: &mut String, volume: &Volume) -> Result<(), OutOfMemory>
-    ensures { OnOk result (string_bytes text.new ≡ string_bytes text.old ++ volume_line (volume_now volume.now)) }
+pub(crate) fn put_volume<W: Sink>(out: &mut Printer, sink: &mut W, volume: &Volume)
+    ensures { Puts (W.contents sink.old) (W.contents sink.new) (W.faults sink.old) (W.faults sink.new) out.old out.new (volume_line (volume_now volume.now)) }
 {
     match volume {
-        Volume::Open(opened) => push_open(text, opened),
-        Volume::Holes(blocks) => push_holes(text, blocks),
-        Volume::Fault(fault) => push_fault(text, *fault),
+        Volume::Open(opened) => put_open(out, sink, opened),
+        Volume::Holes(blocks) => put_holes(out, sink, blocks),
+        Volume::Fault(fault) => put_fault(out, sink, *fault),
     }
 }
 
+/// The line of a label that is a name.
+fn put_label_name<W: Sink>(out: &mut Printer, sink: &mut W, name: &Name)
+    ensures { Puts (W.contents sink.old) (W.contents sink.new) (W.faults sink.old) (W.faults sink.new) out.old out.new (label_line (Label.Name name.now)) }
+{
+    out.put(sink, "label name ");
+    put_escaped(out, sink, name);
+    out.put(sink, "\n");
+}
+
 /// The line of a label.
-fn push_label(text: &mut String, label: &Label) -> Result<(), OutOfMemory>
-    ensures { OnOk result (string_bytes text.new ≡ string_bytes text.old ++ label_line label.now) }
+fn put_label<W: Sink>(out: &mut Printer, sink: &mut W, label: &Label)
+    ensures { Puts (W.contents sink.old) (W.contents sink.new) (W.faults sink.old) (W.faults sink.new) out.old out.new (label_line label.now) }
 {
     match label {
-        Label::Empty => text.push_str("label empty\n"),
-        Label::Name(name) => {
-            text.push_str("label name ")?;
-            name.write_escaped(text)?;
-            text.push('\n')
-        }
-        Label::Invalid => text.push_str("label invalid\n"),
+        Label::Empty => out.put(sink, "label empty\n"),
+        Label::Name(name) => put_label_name(out, sink, name),
+        Label::Invalid => out.put(sink, "label invalid\n"),
     }
 }
 
 /// The line of the label, where the volume opens.
-fn push_label_of(text: &mut String, volume: &Volume) -> Result<(), OutOfMemory>
-    ensures { OnOk result (string_bytes text.new ≡ string_bytes text.old ++ label_lines (volume_now volume.now)) }
+fn put_label_of<W: Sink>(out: &mut Printer, sink: &mut W, volume: &Volume)
+    ensures { Puts (W.contents sink.old) (W.contents sink.new) (W.faults sink.old) (W.faults sink.new) out.old out.new (label_lines (volume_now volume.now)) }
 {
     match volume {
-        Volume::Open(opened) => push_label(text, &opened.parts.label),
-        _ => Ok(()),
+        Volume::Open(opened) => put_label(out, sink, &opened.parts.label),
+        _ => {}
     }
 }
 
 /// The lines before those of the files.
-#[tactic(auto, unfolding(crate::specs::Texts::head_text))]
-pub(crate) fn push_head(
-    text: &mut String,
+pub(crate) fn put_head<W: Sink>(
+    out: &mut Printer,
+    sink: &mut W,
     table: &BlockTable,
     last: u32,
     volume: &Volume,
-) -> Result<(), OutOfMemory>
-    ensures { OnOk result (string_bytes text.new ≡ string_bytes text.old ++ head_text table.now last (volume_now volume.now)) }
+)
+    ensures { Puts (W.contents sink.old) (W.contents sink.new) (W.faults sink.old) (W.faults sink.new) out.old out.new (head_text table.now last (volume_now volume.now)) }
 {
-    push_first(text, volume, last)?;
-    push_counts(text, table)?;
-    push_volume(text, volume)?;
-    push_label_of(text, volume)
+    put_first(out, sink, volume, last);
+    put_counts(out, sink, table);
+    put_volume(out, sink, volume);
+    put_label_of(out, sink, volume);
+}
+
+/// What is known of a block to read again.
+fn state_name(table: &BlockTable, block: u32) -> &'static str
+    ensures state { result.now ≡ state_text (state_of table.now block) }
+    ensures short { length result.now ≤ 2048 }
+{
+    match table.state(block) {
+        Fact::Conflict => " conflict",
+        _ => " unknown",
+    }
 }
 
 /// The line of a block to read again.
-pub(crate) fn push_reread(
-    text: &mut String,
-    table: &BlockTable,
-    block: u32,
-) -> Result<(), OutOfMemory>
-    ensures { OnOk result (string_bytes text.new ≡ string_bytes text.old ++ reread_line (state_of table.now) block) }
+fn put_reread<W: Sink>(out: &mut Printer, sink: &mut W, table: &BlockTable, block: u32)
+    ensures { Puts (W.contents sink.old) (W.contents sink.new) (W.faults sink.old) (W.faults sink.new) out.old out.new (reread_line (state_of table.now) block) }
 {
-    let state = match table.state(block) {
-        Fact::Conflict => "conflict",
-        _ => "unknown",
-    };
-    write!(text, "reread {block} {state}\n")
+    put_count(out, sink, "reread ", u64::from(block));
+    out.put(sink, state_name(table, block));
+    out.put(sink, "\n");
+}
+
+/// The lines of the blocks to read again.
+pub(crate) fn put_rereads<W: Sink>(
+    out: &mut Printer,
+    sink: &mut W,
+    table: &BlockTable,
+    blocks: &[u32],
+)
+    ensures { Puts (W.contents sink.old) (W.contents sink.new) (W.faults sink.old) (W.faults sink.new) out.old out.new (reread_lines (state_of table.now) blocks.now) }
+{
+    for block in blocks {
+        put_reread(out, sink, table, *block);
+    }
 }
 
 /// The last line.
-pub(crate) fn push_end(text: &mut String) -> Result<(), OutOfMemory>
-    ensures { OnOk result (string_bytes text.new ≡ string_bytes text.old ++ end_line) }
+pub(crate) fn put_end<W: Sink>(out: &mut Printer, sink: &mut W)
+    ensures { Puts (W.contents sink.old) (W.contents sink.new) (W.faults sink.old) (W.faults sink.new) out.old out.new end_line }
 {
-    text.push_str("end\n")
+    out.put(sink, "end\n");
 }

@@ -1,67 +1,50 @@
 //! The blocks to read again are printed by themselves.
 
-ghost use Rattle.std.specs.Prelude.{◌≡◌, ◌++◌, OnOk};
-ghost use Rattle.std.specs.String.{string_bytes};
-ghost use Rattle.udfs_salvage.specs.Printing.{PassesOn, Prints};
+ghost use Rattle.udfs_printing.specs.Puts.{Puts};
+ghost use Rattle.udfs_reading.specs.Writing.{Writes};
 ghost use Rattle.udfs_salvage.specs.RereadTexts.{number_line, number_lines};
 
-use crate::errors::RunError;
-use crate::printing::{flush, pass_on};
 use crate::reports::Report;
-use std::alloc::Global;
-use std::fmt::Write;
-use udfs_osta::OutOfMemory;
-use udfs_reading::Sink;
+use udfs_printing::Printer;
+use udfs_reading::{Sink, WriteFault};
 
 /// The number of a block on a line of its own.
-fn push_number(text: &mut String, block: u32) -> Result<(), OutOfMemory>
-    ensures { OnOk result (string_bytes text.new ≡ string_bytes text.old ++ number_line block) }
+fn put_number<W: Sink>(out: &mut Printer, sink: &mut W, block: u32)
+    ensures { Puts (W.contents sink.old) (W.contents sink.new) (W.faults sink.old) (W.faults sink.new) out.old out.new (number_line block) }
 {
-    write!(text, "{block}\n")
-}
-
-/// The line of a block.
-fn put_number<W: Sink>(text: &mut String, sink: &mut W, block: u32) -> Result<(), RunError>
-    ensures { PassesOn (W.contents sink.old) (W.contents sink.new) (W.faults sink.old) (W.faults sink.new) (string_bytes text.old) (string_bytes text.new) (number_line block) result }
-{
-    push_number(text, block)?;
-    pass_on(text, sink)
+    out.put_number(sink, u64::from(block));
+    out.put(sink, "\n");
 }
 
 /// The lines of blocks.
-fn put_numbers<W: Sink>(text: &mut String, sink: &mut W, blocks: &[u32]) -> Result<(), RunError>
-    ensures { PassesOn (W.contents sink.old) (W.contents sink.new) (W.faults sink.old) (W.faults sink.new) (string_bytes text.old) (string_bytes text.new) (number_lines blocks.now) result }
+fn put_numbers<W: Sink>(out: &mut Printer, sink: &mut W, blocks: &[u32])
+    ensures { Puts (W.contents sink.old) (W.contents sink.new) (W.faults sink.old) (W.faults sink.new) out.old out.new (number_lines blocks.now) }
 {
     for block in blocks {
-        put_number(text, sink, *block)?;
+        put_number(out, sink, *block);
     }
-    Ok(())
 }
 
-/// Writes the numbers of blocks, in decimal, each on a line of its own.
+/// Writes the numbers of blocks, in decimal, each on a line of its own. It takes no memory.
 ///
 /// # Errors
 ///
-/// `Write` exactly where the sink failed, and `OutOfMemory` where memory is refused. Then a beginning of the lines is out.
-pub fn write_numbers<W: Sink>(alloc: Global, blocks: &[u32], sink: &mut W) -> Result<(), RunError>
-    ensures { Prints (W.contents sink.old) (W.contents sink.new) (W.faults sink.old) (W.faults sink.new) (number_lines blocks.now) result }
+/// `WriteFault` exactly where the sink failed. Then a beginning of the lines is out.
+pub fn write_numbers<W: Sink>(blocks: &[u32], sink: &mut W) -> Result<(), WriteFault>
+    ensures { Writes (W.contents sink.old) (W.contents sink.new) (W.faults sink.old) (W.faults sink.new) (number_lines blocks.now) result }
 {
-    let mut text = String::new(alloc);
-    put_numbers(&mut text, sink, blocks)?;
-    flush(&mut text, sink)
+    let mut out = Printer::new();
+    put_numbers(&mut out, sink, blocks);
+    out.finish(sink)
 }
 
-/// Writes the numbers of the blocks to read again, in decimal, each on a line of its own.
+/// Writes the numbers of the blocks to read again, in decimal, each on a line of its own. It takes no memory.
 ///
 /// # Errors
 ///
-/// `Write` exactly where the sink failed, and `OutOfMemory` where memory is refused. Then a beginning of the lines is out.
-pub fn write_reread<W: Sink>(
-    alloc: Global,
-    report: &Report<'_>,
-    sink: &mut W,
-) -> Result<(), RunError>
-    ensures { Prints (W.contents sink.old) (W.contents sink.new) (W.faults sink.old) (W.faults sink.new) (number_lines report.now.reread.items) result }
+/// `WriteFault` exactly where the sink failed. Then a beginning of the lines is out.
+pub fn write_reread<W: Sink>(report: &Report<'_>, sink: &mut W) -> Result<(), WriteFault>
+    ensures { Writes (W.contents sink.old) (W.contents sink.new) (W.faults sink.old) (W.faults sink.new) (number_lines report.now.reread.items) result }
 {
-    write_numbers(alloc, &report.reread, sink)
+    write_numbers(&report.reread, sink)
 }

@@ -1,31 +1,30 @@
 //! Surveys are printed: what is missing of a node is found where its lines are written.
 
-ghost use Rattle.std.specs.Prelude.{◌++◌};
-ghost use Rattle.std.specs.String.{string_bytes};
 ghost use Rattle.udfs_salvage.specs.Found.{volume_now};
 ghost use Rattle.udfs_salvage.specs.NodeTexts.{nodes_text, report_text, unnamed_texts};
-ghost use Rattle.udfs_salvage.specs.Printing.{PassesOn, Prints};
+ghost use Rattle.udfs_salvage.specs.Printing.{Prints, PutsMost};
 ghost use Rattle.udfs_salvage.specs.Surveys.{survey_now};
 ghost use Rattle.udfs_salvage.specs.Texts.{has_two};
 
 use crate::errors::RunError;
-use crate::lines::has_two;
+use crate::lines::{has_two, put_end, put_head, put_rereads};
 use crate::node_printing::{put_all_unnamed, put_full_entries, put_full_nodes, put_nodes};
-use crate::printing::{flush, put_end, put_head, put_rereads};
+use crate::printing::finish;
 use crate::surveys::Survey;
 use crate::volumes::Volume;
-use std::alloc::Global;
+use std::alloc::{AllocError, Global};
+use udfs_printing::Printer;
 use udfs_reading::Sink;
 use udfs_space::View;
 
 /// The lines of the nodes.
 fn put_survey_nodes<W: Sink>(
     alloc: Global,
-    text: &mut String,
+    out: &mut Printer,
     sink: &mut W,
     survey: &Survey<'_>,
-) -> Result<(), RunError>
-    ensures { PassesOn (W.contents sink.old) (W.contents sink.new) (W.faults sink.old) (W.faults sink.new) (string_bytes text.old) (string_bytes text.new)
+) -> Result<(), AllocError>
+    ensures { PutsMost (W.contents sink.old) (W.contents sink.new) (W.faults sink.old) (W.faults sink.new) out.old out.new
         (nodes_text 0 (survey_now survey.now).nodes) result }
 {
     match &survey.volume {
@@ -34,20 +33,23 @@ fn put_survey_nodes<W: Sink>(
                 table: survey.table,
                 space: &opened.space,
             };
-            put_full_nodes(alloc, text, sink, view, &survey.nodes)
+            put_full_nodes(alloc, out, sink, view, &survey.nodes)
         }
-        _ => put_nodes(text, sink, &survey.nodes),
+        _ => {
+            put_nodes(out, sink, &survey.nodes);
+            Ok(())
+        }
     }
 }
 
 /// The lines of the entries that no name leads to.
 fn put_survey_entries<W: Sink>(
     alloc: Global,
-    text: &mut String,
+    out: &mut Printer,
     sink: &mut W,
     survey: &Survey<'_>,
-) -> Result<(), RunError>
-    ensures { PassesOn (W.contents sink.old) (W.contents sink.new) (W.faults sink.old) (W.faults sink.new) (string_bytes text.old) (string_bytes text.new)
+) -> Result<(), AllocError>
+    ensures { PutsMost (W.contents sink.old) (W.contents sink.new) (W.faults sink.old) (W.faults sink.new) out.old out.new
         (unnamed_texts (has_two (volume_now survey.now.volume)) (survey_now survey.now).unnamed) result }
 {
     let two = has_two(&survey.volume);
@@ -57,27 +59,31 @@ fn put_survey_entries<W: Sink>(
                 table: survey.table,
                 space: &opened.space,
             };
-            put_full_entries(alloc, text, sink, view, two, &survey.unnamed)
+            put_full_entries(alloc, out, sink, view, two, &survey.unnamed)
         }
-        _ => put_all_unnamed(text, sink, two, &survey.unnamed),
+        _ => {
+            put_all_unnamed(out, sink, two, &survey.unnamed);
+            Ok(())
+        }
     }
 }
 
 /// All lines.
 fn put_survey<W: Sink>(
     alloc: Global,
-    text: &mut String,
+    out: &mut Printer,
     sink: &mut W,
     survey: &Survey<'_>,
-) -> Result<(), RunError>
-    ensures { PassesOn (W.contents sink.old) (W.contents sink.new) (W.faults sink.old) (W.faults sink.new) (string_bytes text.old) (string_bytes text.new)
+) -> Result<(), AllocError>
+    ensures { PutsMost (W.contents sink.old) (W.contents sink.new) (W.faults sink.old) (W.faults sink.new) out.old out.new
         (report_text survey.now.table.now survey.now.last (survey_now survey.now)) result }
 {
-    put_head(text, sink, survey.table, survey.last, &survey.volume)?;
-    put_survey_nodes(alloc, text, sink, survey)?;
-    put_survey_entries(alloc, text, sink, survey)?;
-    put_rereads(text, sink, survey.table, &survey.reread)?;
-    put_end(text, sink)
+    put_head(out, sink, survey.table, survey.last, &survey.volume);
+    put_survey_nodes(alloc, out, sink, survey)?;
+    put_survey_entries(alloc, out, sink, survey)?;
+    put_rereads(out, sink, survey.table, &survey.reread);
+    put_end(out, sink);
+    Ok(())
 }
 
 /// Writes the text of the report that a survey stands for. The blocks and holes of one node are held at a time.
@@ -93,7 +99,11 @@ pub fn write_survey<W: Sink>(
     ensures { Prints (W.contents sink.old) (W.contents sink.new) (W.faults sink.old) (W.faults sink.new)
         (report_text survey.now.table.now survey.now.last (survey_now survey.now)) result }
 {
-    let mut text = String::new(alloc);
-    put_survey(alloc, &mut text, sink, survey)?;
-    flush(&mut text, sink)
+    let mut out = Printer::new();
+    let told = put_survey(alloc, &mut out, sink, survey);
+    finish(&mut out, sink)?;
+    match told {
+        Ok(()) => Ok(()),
+        Err(_) => Err(RunError::OutOfMemory),
+    }
 }

@@ -10,6 +10,35 @@ fn escaped(rt: &HostRuntime, bytes: &[u8]) -> Result<String, Fail> {
     Ok(text)
 }
 
+/// The escaped form, from its pieces.
+fn in_pieces(rt: &HostRuntime, bytes: &[u8]) -> Result<Vec<u8>, Fail> {
+    let name = Name::read(rt.alloc(), bytes)?;
+    let mut left = name.escaped_bytes();
+    let mut text = Vec::new(rt.alloc());
+    let mut piece = [0; 64];
+    for _ in 0..bytes.len() {
+        let count = left.next_piece(&mut piece);
+        text.extend_from_slice(&piece[..count])?;
+    }
+    Ok(text)
+}
+
+/// Plain units, an escaped one, one in a pair and one of two bytes; and dots.
+#[test]
+fn pieces_make_the_escaped_form(rt: HostRuntime) -> Result<(), Fail> {
+    let cases: [(&[u8], &str); 4] = [
+        (b"\x08ab/c", "ab\\u002Fc"),
+        (b"\x10\xd8\x3d\xde\x00\x00a", "\u{1f600}a"),
+        (b"\x08\xe9", "\u{e9}"),
+        (b"\x08..", "\\u002E\\u002E"),
+    ];
+    for (bytes, expected) in cases {
+        let text = in_pieces(&rt, bytes)?;
+        assert_eq!(rt; text.as_slice(), expected.as_bytes());
+    }
+    Ok(())
+}
+
 fn fault_of(rt: &HostRuntime, bytes: &[u8]) -> Option<NameFault> {
     match Name::read(rt.alloc(), bytes) {
         Ok(_) => None,

@@ -19,7 +19,7 @@ returns c =
       c.new-members.ensures.empty,
       c.in_ok-revision.ensures,
       c.in_ok-state.ensures,
-      c.revision_name.ensures,
+      c.revision_name.ensures.name,
       c.packet_of-packet.ensures,
       c.deref.ensures.value,
       c.deref-2.ensures.value,

@@ -3,21 +3,25 @@ use Rattle.std.proofs.lemmas.Result.{err_from_is_err_and}
 use Rattle.udfs_space.specs.Views.{view_now}
 use Rattle.udfs_walk.specs.Bare.{full_entry}
 use Rattle.udfs_salvage.specs.NodeTexts.{unnamed_text}
+use Rattle.udfs_printing.proofs.PublicLaws.{puts_none}
 use Rattle.udfs_salvage.proofs.FullTexts.{full_at, full_length}
-use Rattle.udfs_salvage.proofs.Printed.{passed_item, stopped_item}
+use Rattle.udfs_salvage.proofs.Putting.{front_item, puts_item}
 use Rattle.udfs_salvage.proofs.node_printing.put_full_entries.Goals as goal
+
+pub loop-entry-init : goal.loop-entry-init
+loop-entry-init g c = puts_none _ _ _
 
 pub returns-in_err-put_full_unnamed : goal.returns-in_err-put_full_unnamed
 returns-in_err-put_full_unnamed g c =
     let p = err_from_is_err_and c.from_residual.result c.from_residual.ensures.1 in
     let f = full_entry (view_now c.args.view) in
     let us = c.args.entries.now in
-    rw (p.1, p.2) (stopped_item (unnamed_text c.args.two) (map f us) c.loop-entry.entry-index (f c.entry-item.result) (full_length f us c.loop-entry.entry-index c.loop-entry-test.true)
+    rw p.1 (front_item (unnamed_text c.args.two) (map f us) c.loop-entry.entry-index (f c.entry-item.result) (full_length f us c.loop-entry.entry-index c.loop-entry-test.true)
     (full_at f us c.loop-entry.entry-index c.entry-item.result c.loop-entry-test.true c.entry-item.is) c.loop-entry.invariant c.in_err-put_full_unnamed.ensures)
 
 pub loop-entry-preserved : goal.loop-entry-preserved
 loop-entry-preserved g c =
     let f = full_entry (view_now c.args.view) in
     let us = c.args.entries.now in
-    passed_item (unnamed_text c.args.two) (map f us) c.loop-entry.entry-index (f c.entry-item.result) (full_length f us c.loop-entry.entry-index c.loop-entry-test.true)
+    puts_item (unnamed_text c.args.two) (map f us) c.loop-entry.entry-index (f c.entry-item.result) (full_length f us c.loop-entry.entry-index c.loop-entry-test.true)
     (full_at f us c.loop-entry.entry-index c.entry-item.result c.loop-entry-test.true c.entry-item.is) c.loop-entry.invariant c.in_ok-put_full_unnamed.ensures

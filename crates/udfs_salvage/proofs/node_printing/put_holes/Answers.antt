@@ -1,13 +1,10 @@
-use Rattle.std.proofs.lemmas.Result.{err_from_is_err_and}
 use Rattle.udfs_salvage.specs.NodeTexts.{hole_line}
-use Rattle.udfs_salvage.proofs.Printed.{passed_piece, stopped_piece}
+use Rattle.udfs_printing.proofs.PublicLaws.{puts_none, puts_piece}
 use Rattle.udfs_salvage.proofs.node_printing.put_holes.Goals as goal
 
-pub returns-in_err-put_hole : goal.returns-in_err-put_hole
-returns-in_err-put_hole g c =
-    let p = err_from_is_err_and c.from_residual.result c.from_residual.ensures.1 in
-    rw (p.1, p.2) (stopped_piece hole_line c.args.holes.now c.loop-hole.hole-index _ c.loop-hole-test.true c.loop-hole.invariant c.in_err-put_hole.ensures)
+pub loop-hole-init : goal.loop-hole-init
+loop-hole-init g c = puts_none _ _ _
 
 pub loop-hole-preserved : goal.loop-hole-preserved
 loop-hole-preserved g c =
-    passed_piece hole_line c.args.holes.now c.loop-hole.hole-index _ c.loop-hole-test.true c.loop-hole.invariant c.in_ok-put_hole.ensures
+    puts_piece hole_line c.args.holes.now c.loop-hole.hole-index _ c.loop-hole-test.true c.loop-hole.invariant c.put_hole.ensures

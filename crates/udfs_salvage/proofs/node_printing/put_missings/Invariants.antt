@@ -1,12 +1,11 @@
 use Rattle.std.proofs.Common.{take}
-use Rattle.std.specs.String.{string_bytes}
-use Rattle.udfs_reading.specs.Writing.{Passed}
 use Rattle.udfs_salvage.specs.NodeTexts.{missing_lines}
+use Rattle.udfs_printing.specs.Puts.{Puts}
 use Rattle.udfs_salvage.proofs.node_printing.put_missings.Given as goal
 
--- the lines so far
+-- what is put so far
 abbrev pub invariant-loop-block : goal.invariant-loop-block
 invariant-loop-block g l =
     let W = g.W.Sink in
-    Passed (W.contents l.fn.sink) (W.contents l.sink) (W.faults l.fn.sink) (W.faults l.sink) (string_bytes l.fn.text) (string_bytes l.text)
+    Puts (W.contents l.fn.sink) (W.contents l.sink) (W.faults l.fn.sink) (W.faults l.sink) l.fn.out l.out
     (missing_lines (take l.block-index l.blocks))

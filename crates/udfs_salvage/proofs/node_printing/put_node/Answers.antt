@@ -1,19 +1,8 @@
-use Rattle.std.proofs.Common.{ap, subst}
+use Rattle.std.proofs.Common.{ap}
 use Rattle.udfs_walk.specs.NodeFields.{NodeFields}
-use Rattle.udfs_salvage.specs.Printing.{PassesOn}
-use Rattle.std.specs.String.{string_bytes}
-use Rattle.std.proofs.lemmas.Result.{err_from_is_err_and}
-use Rattle.udfs_salvage.specs.NodeTexts.{gap_lines, node_line}
-use Rattle.udfs_salvage.proofs.Printed.{passes_then, stopped_before}
+use Rattle.udfs_salvage.specs.NodeTexts.{gap_lines}
+use Rattle.udfs_salvage.proofs.Putting.{puts_same, puts_with}
 use Rattle.udfs_salvage.proofs.node_printing.put_node.Goals as goal
 
-pub returns-in_err-put_line : goal.returns-in_err-put_line
-returns-in_err-put_line g c =
-    let p = err_from_is_err_and c.from_residual.result c.from_residual.ensures.1 in
-    rw (p.1, p.2) (stopped_before (string_bytes c.args.text.now) (node_line c.args.number c.args.node.now) (gap_lines c.args.node.now.standing) c.in_err-put_line.ensures)
-
 pub returns : goal.returns
-returns g c =
-    let W = g.W.Sink in
-    passes_then (W.contents c.put_gaps.new.sink) (W.faults c.put_gaps.new.sink) (string_bytes c.put_gaps.new.text) (gap_lines c.args.node.now.standing) c.put_gaps.result c.in_ok-put_line.ensures
-    (subst (λ s. PassesOn (W.contents c.put_line.new.sink) (W.contents c.put_gaps.new.sink) (W.faults c.put_line.new.sink) (W.faults c.put_gaps.new.sink) (string_bytes c.put_line.new.text) (string_bytes c.put_gaps.new.text) (gap_lines s) c.put_gaps.result) (ap (λ (n : NodeFields). n.standing) c.node.view_is) c.put_gaps.ensures)
+returns g c = puts_with c.put_node_line.ensures (puts_same (ap (λ (n : NodeFields). gap_lines n.standing) c.node.view_is) c.put_gaps.ensures)

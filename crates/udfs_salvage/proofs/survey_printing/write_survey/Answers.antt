@@ -1,17 +1,9 @@
-use Rattle.std.specs.String.{string_bytes}
+use Rattle.std.proofs.Common.{sym}
 use Rattle.std.proofs.lemmas.Result.{err_from_is_err_and}
-use Rattle.udfs_salvage.specs.Surveys.{survey_now}
-use Rattle.udfs_salvage.specs.NodeTexts.{report_text}
-use Rattle.udfs_salvage.proofs.Printed.{prints_then, stopped_first}
+use Rattle.udfs_salvage.proofs.Putting.{stopped_most}
 use Rattle.udfs_salvage.proofs.survey_printing.write_survey.Goals as goal
 
-pub returns-in_err-put_survey : goal.returns-in_err-put_survey
-returns-in_err-put_survey g c =
+pub returns-in_err-finish : goal.returns-in_err-finish
+returns-in_err-finish g c =
     let p = err_from_is_err_and c.from_residual.result c.from_residual.ensures.1 in
-    let r = c.args.survey.now in
-    rw (p.1, p.2) (stopped_first (string_bytes c.new-text.result) (report_text r.table.now r.last (survey_now r)) c.new-text.ensures.bytes c.in_err-put_survey.ensures)
-
-pub returns : goal.returns
-returns g c =
-    let W = g.W.Sink in
-    prints_then (W.contents c.flush.new.sink) (W.faults c.flush.new.sink) c.flush.result c.new-text.ensures.bytes c.in_ok-put_survey.ensures c.flush.ensures.written
+    rw (p.1, p.2) (stopped_most _ _ _ _ _ _ _ _ c.put_survey-told.result c.in_err-finish.field-0.0 c.in_err-finish.ensures.fault (rw (sym c.new-out.ensures) c.put_survey-told.ensures) c.in_err-finish.ensures.written)

@@ -1,0 +1,11 @@
+use Rattle.std.proofs.Common.{take}
+use Rattle.udfs_salvage.specs.Texts.{block_texts}
+use Rattle.udfs_printing.specs.Puts.{Puts}
+use Rattle.udfs_salvage.proofs.lines.put_blocks.Given as goal
+
+-- what is put so far
+abbrev pub invariant-loop-block : goal.invariant-loop-block
+invariant-loop-block g l =
+    let W = g.W.Sink in
+    Puts (W.contents l.fn.sink) (W.contents l.sink) (W.faults l.fn.sink) (W.faults l.sink) l.fn.out l.out
+    (block_texts (take l.block-index l.blocks))

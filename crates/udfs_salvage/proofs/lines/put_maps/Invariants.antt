@@ -1,0 +1,12 @@
+use Rattle.std.proofs.Common.{map, take}
+use Rattle.udfs_volume.specs.LayoutParts.{partition_now}
+use Rattle.udfs_salvage.specs.Texts.{map_texts}
+use Rattle.udfs_printing.specs.Puts.{Puts}
+use Rattle.udfs_salvage.proofs.lines.put_maps.Given as goal
+
+-- what is put so far
+abbrev pub invariant-loop-partition : goal.invariant-loop-partition
+invariant-loop-partition g l =
+    let W = g.W.Sink in
+    Puts (W.contents l.fn.sink) (W.contents l.sink) (W.faults l.fn.sink) (W.faults l.sink) l.fn.out l.out
+    (map_texts (take l.partition-index (map partition_now l.partitions)))

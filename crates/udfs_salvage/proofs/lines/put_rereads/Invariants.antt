@@ -1,0 +1,12 @@
+use Rattle.std.proofs.Common.{take}
+use Rattle.udfs_lattice.specs.Tables.{state_of}
+use Rattle.udfs_salvage.specs.Texts.{reread_lines}
+use Rattle.udfs_printing.specs.Puts.{Puts}
+use Rattle.udfs_salvage.proofs.lines.put_rereads.Given as goal
+
+-- what is put so far
+abbrev pub invariant-loop-block : goal.invariant-loop-block
+invariant-loop-block g l =
+    let W = g.W.Sink in
+    Puts (W.contents l.fn.sink) (W.contents l.sink) (W.faults l.fn.sink) (W.faults l.sink) l.fn.out l.out
+    (reread_lines (state_of l.table) (take l.block-index l.blocks))

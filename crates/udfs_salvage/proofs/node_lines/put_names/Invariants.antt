@@ -1,0 +1,11 @@
+use Rattle.std.proofs.Common.{take}
+use Rattle.udfs_salvage.specs.NodeTexts.{names_text}
+use Rattle.udfs_printing.specs.Puts.{Puts}
+use Rattle.udfs_salvage.proofs.node_lines.put_names.Given as goal
+
+-- what is put so far
+abbrev pub invariant-loop-index : goal.invariant-loop-index
+invariant-loop-index g l =
+    let W = g.W.Sink in
+    Puts (W.contents l.fn.sink) (W.contents l.sink) (W.faults l.fn.sink) (W.faults l.sink) l.fn.out l.out
+    (names_text (take l.index l.path))

@@ -1,0 +1,96 @@
+//! The words of a report, and the numbers that stand behind some of them.
+
+ghost use Rattle.std.specs.Prelude.{◌≡◌, ◌≤◌, length};
+ghost use Rattle.udfs_volume.specs.FaultNames.{volume_fault_name};
+ghost use Rattle.udfs_salvage.specs.NodeTexts.{kind_name, node_fault_number, standing_name, word_text};
+ghost use Rattle.udfs_salvage.specs.Texts.{revision_text, volume_fault_number};
+
+use udfs_file::{Kind, NodeFault};
+use udfs_volume::VolumeFault;
+use udfs_walk::Standing;
+
+/// A word, and the number behind it where it has one.
+#[derive(Clone, Copy, Debug, PartialEq, Eq)]
+pub(crate) struct Word {
+    /// What stands before the number.
+    pub(crate) front: &'static str,
+    /// The number.
+    pub(crate) number: Option<u8>,
+}
+
+/// The number of a node's fault.
+fn node_fault_number(fault: NodeFault) -> u8
+    ensures { result ≡ node_fault_number fault }
+{
+    fault as u8
+}
+
+/// A standing.
+pub(crate) fn standing_word(standing: &Standing) -> Word
+    ensures word { word_text result.front.now result.number ≡ standing_name standing.now }
+    ensures short { length result.front.now ≤ 2048 }
+{
+    let (front, number) = match standing {
+        Standing::Whole => ("whole", None),
+        Standing::Torn(_) => ("torn", None),
+        Standing::Loop => ("loop", None),
+        Standing::Fault(fault) => ("fault-", Some(node_fault_number(*fault))),
+    };
+    Word { front, number }
+}
+
+/// A kind.
+pub(crate) fn kind_word(kind: Kind) -> Word
+    ensures word { word_text result.front.now result.number ≡ kind_name kind }
+    ensures short { length result.front.now ≤ 2048 }
+{
+    let (front, number) = match kind {
+        Kind::Directory => ("directory", None),
+        Kind::File => ("file", None),
+        Kind::Link => ("link", None),
+        Kind::Other(number) => ("other-", Some(number)),
+        Kind::Unread => ("unread", None),
+    };
+    Word { front, number }
+}
+
+/// The number of a volume's fault.
+pub(crate) fn fault_number(fault: VolumeFault) -> u8
+    ensures { result ≡ volume_fault_number fault }
+{
+    fault as u8
+}
+
+/// The name of a volume's fault, as the fault displays itself.
+pub(crate) fn fault_name(fault: VolumeFault) -> &'static str
+    ensures name { result.now ≡ volume_fault_name fault }
+    ensures short { length result.now ≤ 2048 }
+{
+    match fault {
+        VolumeFault::NoAnchor => "NoAnchor",
+        VolumeFault::Extents => "Extents",
+        VolumeFault::Pointer => "Pointer",
+        VolumeFault::NoLogicalVolume => "NoLogicalVolume",
+        VolumeFault::Domain => "Domain",
+        VolumeFault::BlockSize => "BlockSize",
+        VolumeFault::MapCount => "MapCount",
+        VolumeFault::MapKind => "MapKind",
+        VolumeFault::NoPartition => "NoPartition",
+        VolumeFault::Contents => "Contents",
+        VolumeFault::PartitionRange => "PartitionRange",
+        VolumeFault::SparingTag => "SparingTag",
+        VolumeFault::SparingShape => "SparingShape",
+        VolumeFault::SparingOrder => "SparingOrder",
+        VolumeFault::MappedRange => "MappedRange",
+        VolumeFault::FileSet => "FileSet",
+    }
+}
+
+/// A revision of UDF, of which there are two.
+#[tactic(auto, unfolding(crate::specs::Texts::revision_text))]
+pub(crate) fn revision_name(revision: u16) -> &'static str
+    ensures name { result.now ≡ revision_text revision }
+    ensures short { length result.now ≤ 2048 }
+{
+    if revision == 0x0150 { "1.50" } else { "2.01" }
+}
