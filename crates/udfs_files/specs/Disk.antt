@@ -1,10 +1,10 @@
 -- What files hold, what a crash may leave of them, and how both change.
 --     Disk                            what is at each path after a crash
---     Same, SameBut, Moved            steps from one disk to another
+--     Same, SameBut, Moved, Gone      steps from one disk to another
 --     Replaced path bytes             a file was put in the place of another, or not yet
 --     Goes .. old new step            from old to new, each moment leaves what old might have left, after this step
 --     Fails faults                    some call failed, which its count tells
-use Rattle.std.specs.Prelude.{◌≡◌, ◌≢◌, ◌⊎◌, ℕ, ◌+◌, ◌%◌, ◌^◌, ◌≤◌, List, [], ◌∷◌, ◌++◌, Bool, Option, Some, codes, nat_eq, true, false, if◌then◌else◌}
+use Rattle.std.specs.Prelude.{◌≡◌, ◌≢◌, ◌⊎◌, ℕ, ◌+◌, ◌%◌, ◌^◌, ◌≤◌, List, [], ◌∷◌, ◌++◌, Bool, Option, Some, None, codes, nat_eq, true, false, if◌then◌else◌}
 
 -- what is at each path after a crash: bytes, or nothing
 abbrev pub Disk : Type 0
@@ -22,6 +22,11 @@ SameBut path d c = (q : List ℕ) → q ≢ path → c q ≡ d q
 pub record Moved (from to : List ℕ) (kept : Option (List ℕ) → Type 0) (d c : Disk) : Type 0 where
   pub others : (q : List ℕ) → q ≢ from → q ≢ to → c q ≡ d q
   pub target : (c to ≡ d to) ⊎ kept (c to)
+
+-- A file was removed: at its path is what was there, or nothing.
+pub record Gone (path : List ℕ) (d c : Disk) : Type 0 where
+  pub others : (q : List ℕ) → q ≢ path → c q ≡ d q
+  pub target : (c path ≡ d path) ⊎ (c path ≡ None)
 
 -- the path of a new file that is to go in the place of this one: behind the path stands `.unfinished`, and perhaps more
 abbrev pub IsOwn : List ℕ → List ℕ → Type 0

@@ -2,11 +2,13 @@
 
 ghost use Rattle.std.specs.Prelude.{◌≡◌, ◌≢◌, ℕ, ◌≤◌, ◌<◌, List, Option, length, IfOk, IfSome, OnOk, OnErr, Some, None, [], string_bytes};
 ghost use Rattle.std.specs.Io.KnownBytes.{WriteAppends};
-ghost use Rattle.udfs_files.specs.Disk.{Disk, Same, SameBut, Moved, Goes, folder_of};
+ghost use Rattle.udfs_files.specs.Disk.{Disk, Gone, Same, SameBut, Moved, Goes, folder_of};
 ghost use Rattle.udfs_files.specs.declared.files.Kind.{Kind};
 ghost use Rattle.udfs_reading.specs.Device.{CountsFault};
 
+use crate::watch::Stage;
 use std::alloc::{AllocError, Global};
+use std::io::Error;
 use udfs_reading::{DeviceFault, Sink, Source};
 use udfs_rescue::Image as Positions;
 
@@ -205,18 +207,20 @@ pub trait Files {
         ensures count { CountsFault (faults self.old) (faults self.new) result }
         ensures crash { Goes moment may_leave left_since self.old self.new Same };
 
-    /// Removes a file.
+    /// Removes a file. A crash may leave it until the folder is synced, whole.
     ///
     /// # Errors
     ///
-    /// `DeviceFault`, exactly where the count of faults goes up by one.
+    /// `DeviceFault`, exactly where the count of faults goes up by one. No path holds anything else then; a crash may still show the file removed.
     fn remove(&mut self, path: &str) -> Result<(), DeviceFault>
         ensures gone { OnOk result (tells → holds self.new path.now ≡ Some None) }
+        ensures failed { OnErr result ((q : List ℕ) → holds self.new q ≡ holds self.old q) }
         ensures others { (q : List ℕ) → q ≢ path.now → holds self.new q ≡ holds self.old q }
         ensures kept { (q : List ℕ) (c : Option (List ℕ)) → q ≢ path.now → kept self.new q c → kept self.old q c }
         ensures real { real self.new ≡ real self.old }
         ensures count { CountsFault (faults self.old) (faults self.new) result }
-        ensures crash { Goes moment may_leave left_since self.old self.new (SameBut path.now) };
+        ensures crash { Goes moment may_leave left_since self.old self.new (SameBut path.now) }
+        ensures either { Goes moment may_leave left_since self.old self.new (Gone path.now) };
 
     /// Gives a new file the permissions of an old one, where both are there and the system can. It changes no byte.
     fn copy_permissions(&self, from: &str, to: &str);
@@ -233,8 +237,23 @@ pub trait Files {
         ensures count { CountsFault (faults self.old) (faults self.new) result }
         ensures crash { Goes moment may_leave left_since self.old self.new Same };
 
+    /// Why the last of the calls that failed did so, where the system said it. It is for a person to read, and nothing is promised of it.
+    fn reason(&self) -> Option<Error>;
+
+    /// Whether a person reads what is said on standard error.
+    fn is_watched(&self) -> bool;
+
+    /// Something else is done from now on, which who watches may be told.
+    fn begin(&self, stage: Stage);
+
+    /// Who watches is to be told nothing more.
+    fn hush(&self);
+
     /// A crash leaves something.
     ghost some_crash: { (files : Self) → (c : Disk) × may_leave files c };
+
+    /// Where no file is, a crash leaves none once the names of the folder are on the disk.
+    ghost absent_kept: { (files : Self) (q : List ℕ) (c : Option (List ℕ)) → tells → holds files q ≡ Some None → kept files q c → c ≡ None };
 
     /// This moment is one of those since an earlier one.
     ghost counts_now: { (files : Self) (t : ℕ) (c : Disk) → t ≤ moment files → may_leave files c → left_since files t c };

@@ -6,8 +6,10 @@ mod files;
 mod filling;
 mod machine;
 mod replacing;
+mod watch;
 
 pub use files::{Files, Handle, Kind, Target};
 pub use filling::{Content, Job, fill, fill_by};
 pub use machine::{Machine, MachineFile};
 pub use replacing::{ReplaceError, replace};
+pub use watch::{Stage, Watch};

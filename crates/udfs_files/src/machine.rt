@@ -4,31 +4,37 @@ ghost use Rattle.udfs_reading.specs.Device.{CountsFault};
 ghost use Rattle.std.specs.Prelude.{◌≡◌, List, ℕ, Option, None, [], ⊤};
 
 use crate::files::{Files, Handle, Kind, Target};
+use crate::watch::{Stage, Watch, heeded};
 use std::alloc::{AllocError, Global};
 use std::fs;
 use std::fs::{OpenFile, OpenOptions};
-use std::io::{ErrorKind, Read, Seek, SeekFrom, Write};
-use udfs_reading::{DeviceFault, Reader, Sink};
+use std::io::{Error, ErrorKind, Read, Seek, SeekFrom, Write};
+use udfs_reading::{DeviceFault, Sink, Source};
 use udfs_rescue::Image;
 
 /// How many links are followed one after the other, as the system does.
 const LINKS: usize = 40;
 
-/// An output of the machine. Nothing is buffered here: those who write hand over large pieces.
+/// An input of the machine.
 #[derive(Drop)]
-pub struct MachineFile<W: Write + OpenFile> {
-    file: W,
+pub struct MachineInput<'a, S: Read, N: Watch> {
+    file: S,
+    number: usize,
+    watch: &'a N,
     faults: u64,
 }
 
-impl<W: Write + OpenFile> Sink for MachineFile<W> {
-    ghost contents = { λ _. None };
+impl<'a, S: Read, N: Watch> Source for MachineInput<'a, S, N> {
+    ghost remaining = { λ _. None };
 
-    ghost faults = { λ f. f.faults };
+    ghost faults = { λ i. i.faults };
 
-    fn write(&mut self, buf: &[u8]) -> Result<usize, DeviceFault> {
-        match self.file.write(buf) {
-            Ok(n) if n > 0 || buf.is_empty() => Ok(n),
+    fn read(&mut self, buf: &mut [u8]) -> Result<usize, DeviceFault> {
+        match heeded(self.watch, self.file.read(buf)) {
+            Some(count) if count <= buf.len() => {
+                self.watch.read(self.number, count);
+                Ok(count)
+            }
             _ => {
                 self.faults = self.faults.wrapping_add(1);
                 Err(DeviceFault)
@@ -37,7 +43,34 @@ impl<W: Write + OpenFile> Sink for MachineFile<W> {
     }
 }
 
-impl<W: Write + OpenFile> Handle for MachineFile<W> {
+/// An output of the machine. Nothing is buffered here: those who write hand over large pieces.
+#[derive(Drop)]
+pub struct MachineFile<'a, W: Write + OpenFile, N: Watch> {
+    file: W,
+    watch: &'a N,
+    faults: u64,
+}
+
+impl<'a, W: Write + OpenFile, N: Watch> Sink for MachineFile<'a, W, N> {
+    ghost contents = { λ _. None };
+
+    ghost faults = { λ f. f.faults };
+
+    fn write(&mut self, buf: &[u8]) -> Result<usize, DeviceFault> {
+        match heeded(self.watch, self.file.write(buf)) {
+            Some(count) if count > 0 || buf.is_empty() => {
+                self.watch.wrote(count);
+                Ok(count)
+            }
+            _ => {
+                self.faults = self.faults.wrapping_add(1);
+                Err(DeviceFault)
+            }
+        }
+    }
+}
+
+impl<'a, W: Write + OpenFile, N: Watch> Handle for MachineFile<'a, W, N> {
     ghost place = { λ _. [] };
 
     fn put(&mut self, buf: &[u8]) -> Result<usize, DeviceFault> {
@@ -47,13 +80,15 @@ impl<W: Write + OpenFile> Handle for MachineFile<W> {
 
 /// An image of the machine. It is moved to a position only where the last piece did not end there.
 #[derive(Drop)]
-pub struct MachineImage<S: Read + Seek> {
+pub struct MachineImage<'a, S: Read + Seek, N: Watch> {
     file: S,
+    number: usize,
+    watch: &'a N,
     at: Option<u64>,
     faults: u64,
 }
 
-impl<S: Read + Seek> MachineImage<S> {
+impl<'a, S: Read + Seek, N: Watch> MachineImage<'a, S, N> {
     /// The outcome of a call, counted. After a fault the file may be at any position.
     fn heeded(&mut self, outcome: Option<u64>) -> Result<u64, DeviceFault>
         ensures count { CountsFault self.old.faults self.new.faults result }
@@ -75,17 +110,17 @@ impl<S: Read + Seek> MachineImage<S> {
         if self.at == Some(at) {
             return Some(at);
         }
-        self.file.seek(SeekFrom::Start(at)).ok()
+        heeded(self.watch, self.file.seek(SeekFrom::Start(at)))
     }
 }
 
-impl<S: Read + Seek> Image for MachineImage<S> {
+impl<'a, S: Read + Seek, N: Watch> Image for MachineImage<'a, S, N> {
     ghost bytes = { λ _. None };
 
     ghost faults = { λ i. i.faults };
 
     fn size(&mut self) -> Result<u64, DeviceFault> {
-        let end = self.file.seek(SeekFrom::End(0)).ok();
+        let end = heeded(self.watch, self.file.seek(SeekFrom::End(0)));
         self.at = end;
         self.heeded(end)
     }
@@ -93,8 +128,9 @@ impl<S: Read + Seek> Image for MachineImage<S> {
     fn read_at(&mut self, at: u64, buf: &mut [u8]) -> Result<usize, DeviceFault> {
         let moved = self.go_to(at);
         self.heeded(moved)?;
-        match self.file.read(buf) {
-            Ok(count) if count <= buf.len() => {
+        match heeded(self.watch, self.file.read(buf)) {
+            Some(count) if count <= buf.len() => {
+                self.watch.read(self.number, count);
                 self.at = at.checked_add(count as u64);
                 Ok(count)
             }
@@ -109,15 +145,20 @@ impl<S: Read + Seek> Image for MachineImage<S> {
 
 /// The machine's files, over a runtime that has some.
 #[derive(Drop)]
-pub struct Machine<'a, R: std::rt::Files> {
+pub struct Machine<'a, R: std::rt::Files, N: Watch> {
     rt: &'a R,
+    watch: &'a N,
     faults: u64,
 }
 
-impl<'a, R: std::rt::Files> Machine<'a, R> {
-    /// The files of this runtime, of which no call has failed yet.
-    pub fn new(rt: &'a R) -> Machine<'a, R> {
-        Machine { rt, faults: 0 }
+impl<'a, R: std::rt::Files, N: Watch> Machine<'a, R, N> {
+    /// The files of this runtime, of which no call has failed yet, and who watches what is done with them.
+    pub fn new(rt: &'a R, watch: &'a N) -> Machine<'a, R, N> {
+        Machine {
+            rt,
+            watch,
+            faults: 0,
+        }
     }
 }
 
@@ -146,26 +187,46 @@ fn is_device(path: &str) -> bool {
     path.starts_with("/proc/") || (path.starts_with("/dev/") && !path.starts_with("/dev/shm/"))
 }
 
-/// Whether the file could be synced. What can not be synced at all, as a pipe, needs none.
-fn is_synced(outcome: std::io::Result<()>) -> bool {
+/// The outcome of a sync. What can not be synced at all, as a pipe, needs none.
+fn synced(outcome: Result<(), Error>) -> Result<(), Error> {
     match outcome {
-        Ok(()) => true,
-        Err(error) => error.kind() == ErrorKind::InvalidInput,
+        Err(error) if error.kind() == ErrorKind::InvalidInput => Ok(()),
+        outcome => outcome,
     }
 }
 
-impl<'a, R: std::rt::Files> Machine<'a, R> {
-    /// The outcome of a call that changes files, counted.
-    fn heeded<T: Drop>(&mut self, outcome: Option<T>) -> Result<T, DeviceFault>
+impl<'a, R: std::rt::Files, N: Watch> Machine<'a, R, N> {
+    /// The outcome of a call that changes files, counted. Why it failed is kept.
+    fn heeded<T: Drop>(&mut self, outcome: Result<T, Error>) -> Result<T, DeviceFault>
         ensures count { CountsFault self.old.faults self.new.faults result }
     {
-        match outcome {
+        match heeded(self.watch, outcome) {
             Some(value) => Ok(value),
             None => {
                 self.faults = self.faults.wrapping_add(1);
                 Err(DeviceFault)
             }
         }
+    }
+
+    /// A fault of a call that changes no file. Why it failed is kept.
+    fn refused(&self, error: Error) -> DeviceFault {
+        self.watch.failed(error);
+        DeviceFault
+    }
+
+    /// How many bytes the file at a path has, where it is one.
+    fn size_of(&self, path: &str) -> Option<u64> {
+        match self.rt.metadata(path) {
+            Ok(about) if about.is_file() => Some(about.len()),
+            _ => None,
+        }
+    }
+
+    /// Whether a file that is there may be written.
+    fn is_writable(&self, path: &str) -> bool {
+        let opened = OpenOptions::new().write(true).open(self.rt, path);
+        heeded(self.watch, opened).is_some()
     }
 
     /// A path of which the last part is no link, without the links before it, and what is there. A file that may not be written is a fault.
@@ -178,15 +239,15 @@ impl<'a, R: std::rt::Files> Machine<'a, R> {
             Ok(about) if about.is_file() => (Kind::Regular, path),
             Ok(_) => (Kind::Other, path),
             Err(error) if error.kind() == ErrorKind::NotFound => (Kind::Absent, split(path).0),
-            Err(_) => return Ok(Err(DeviceFault)),
+            Err(error) => return Ok(Err(self.refused(error))),
         };
-        if kind == Kind::Regular && OpenOptions::new().write(true).open(self.rt, path).is_err() {
+        if kind == Kind::Regular && !self.is_writable(path) {
             return Ok(Err(DeviceFault));
         }
         let real = match self.rt.canonicalize(alloc, there) {
             Ok(real) => real,
             Err(error) if error.kind() == ErrorKind::OutOfMemory => return Err(AllocError),
-            Err(_) => return Ok(Err(DeviceFault)),
+            Err(error) => return Ok(Err(self.refused(error))),
         };
         let path = match kind {
             Kind::Absent => joined(alloc, real.as_str(), split(path).1)?,
@@ -196,12 +257,12 @@ impl<'a, R: std::rt::Files> Machine<'a, R> {
     }
 }
 
-impl<'a, R: std::rt::Files> Files for Machine<'a, R> {
-    type Input = Reader<R::File>;
+impl<'a, R: std::rt::Files, N: Watch> Files for Machine<'a, R, N> {
+    type Input = MachineInput<'a, R::File, N>;
 
-    type Image = MachineImage<R::File>;
+    type Image = MachineImage<'a, R::File, N>;
 
-    type Output = MachineFile<R::File>;
+    type Output = MachineFile<'a, R::File, N>;
 
     ghost tells = { ⊥ };
 
@@ -225,28 +286,37 @@ impl<'a, R: std::rt::Files> Files for Machine<'a, R> {
 
     ghost some_crash = { λ _. (λ _. None, tt) };
 
+    ghost absent_kept = { λ _ _ _ never _ _. absurd never };
+
     ghost counts_now = { λ _ _ _ _ _. tt };
 
     ghost only_now = { λ _ _ _. tt };
 
     fn open(&self, path: &str) -> Result<Self::Input, DeviceFault> {
-        match fs::open(self.rt, path) {
-            Ok(file) => Ok(Reader::new(file)),
-            Err(_) => Err(DeviceFault),
+        match heeded(self.watch, fs::open(self.rt, path)) {
+            Some(file) => Ok(MachineInput {
+                file,
+                number: self.watch.opened(self.size_of(path)),
+                watch: self.watch,
+                faults: 0,
+            }),
+            None => Err(DeviceFault),
         }
     }
 
     fn open_image(&self, path: &str) -> Result<Self::Image, DeviceFault> {
-        let Ok(mut file) = fs::open(self.rt, path) else {
+        let Some(mut file) = heeded(self.watch, fs::open(self.rt, path)) else {
             return Err(DeviceFault);
         };
-        match file.seek(SeekFrom::Start(0)) {
-            Ok(at) => Ok(MachineImage {
+        match heeded(self.watch, file.seek(SeekFrom::Start(0))) {
+            Some(at) => Ok(MachineImage {
                 file,
+                number: self.watch.opened(None),
+                watch: self.watch,
                 at: Some(at),
                 faults: 0,
             }),
-            Err(_) => Err(DeviceFault),
+            None => Err(DeviceFault),
         }
     }
 
@@ -273,38 +343,41 @@ impl<'a, R: std::rt::Files> Files for Machine<'a, R> {
     }
 
     fn make_new(&mut self, path: &str) -> Result<Self::Output, DeviceFault> {
-        let made = fs::File::create_new(self.rt, path).ok();
-        let file = self.heeded(made)?;
-        Ok(MachineFile { file, faults: 0 })
+        let file = self.heeded(fs::File::create_new(self.rt, path))?;
+        Ok(MachineFile {
+            file,
+            watch: self.watch,
+            faults: 0,
+        })
     }
 
     fn make(&mut self, path: &str) -> Result<Self::Output, DeviceFault> {
-        let made = fs::create(self.rt, path).ok();
-        let file = self.heeded(made)?;
-        Ok(MachineFile { file, faults: 0 })
+        let file = self.heeded(fs::create(self.rt, path))?;
+        Ok(MachineFile {
+            file,
+            watch: self.watch,
+            faults: 0,
+        })
     }
 
     fn sync(&mut self, _path: &str, output: Self::Output) -> Result<(), DeviceFault> {
-        let synced = is_synced(output.file.sync_all());
-        self.heeded(if synced { Some(()) } else { None })
+        self.heeded(synced(output.file.sync_all()))
     }
 
     fn rename(&mut self, from: &str, to: &str) -> Result<(), DeviceFault> {
-        let moved = fs::rename(self.rt, from, to).ok();
-        self.heeded(moved)
+        self.heeded(fs::rename(self.rt, from, to))
     }
 
     fn sync_folder(&mut self, path: &str) -> Result<(), DeviceFault> {
-        let synced = match fs::open(self.rt, split(path).0) {
-            Ok(folder) => is_synced(folder.sync_all()),
-            Err(_) => false,
+        let outcome = match fs::open(self.rt, split(path).0) {
+            Ok(folder) => synced(folder.sync_all()),
+            Err(error) => Err(error),
         };
-        self.heeded(if synced { Some(()) } else { None })
+        self.heeded(outcome)
     }
 
     fn remove(&mut self, path: &str) -> Result<(), DeviceFault> {
-        let removed = fs::remove_file(self.rt, path).ok();
-        self.heeded(removed)
+        self.heeded(fs::remove_file(self.rt, path))
     }
 
     fn copy_permissions(&self, from: &str, to: &str) {
@@ -314,7 +387,22 @@ impl<'a, R: std::rt::Files> Files for Machine<'a, R> {
     }
 
     fn make_folder(&mut self, path: &str) -> Result<(), DeviceFault> {
-        let made = fs::create_dir(self.rt, path).ok();
-        self.heeded(made)
+        self.heeded(fs::create_dir(self.rt, path))
+    }
+
+    fn reason(&self) -> Option<Error> {
+        self.watch.reason()
+    }
+
+    fn is_watched(&self) -> bool {
+        self.watch.is_watched()
+    }
+
+    fn begin(&self, stage: Stage) {
+        self.watch.begin(stage)
+    }
+
+    fn hush(&self) {
+        self.watch.hush()
     }
 }

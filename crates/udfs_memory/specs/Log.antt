@@ -1,6 +1,6 @@
 -- What a log of calls says of files: what they hold, and what a crash may leave. The newest call stands first.
 use Rattle.std.specs.Prelude.{◌≡◌, ◌≢◌, ◌⊎◌, ℕ, ◌≤◌, List, [], ◌∷◌, length, Option, Some, None, if◌then◌else◌, bytes_eq, ⊤}
-use Rattle.udfs_files.specs.Disk.{Disk, SameBut, Moved, After, folder_of}
+use Rattle.udfs_files.specs.Disk.{Disk, Gone, SameBut, Moved, After, folder_of}
 use Rattle.udfs_memory.specs.declared.memory.Event.{Event}
 use Rattle.udfs_memory.specs.declared.memory.Event.TheVariants.{Begun, Written, Renamed, Removed, Named}
 use Rattle.udfs_memory.specs.declared.memory.Found.{Found}
@@ -24,13 +24,13 @@ may_be_kept (Renamed from to ∷ es) p c = ((p ≡ to.items) × may_be_kept es f
 may_be_kept (Removed q ∷ es) p c = ((p ≡ q.items) × (c ≡ None)) ⊎ ((p ≢ q.items) × may_be_kept es p c)
 may_be_kept (Named q ∷ es) p c = may_be_kept es p c
 
--- what a crash may leave at all paths: a file that was begun is torn in any way, and a name comes or goes at any time until its folder is synced
+-- what a crash may leave at all paths: a file that was begun is torn in any way, one that was removed is there or not, and a name comes or goes at any time until its folder is synced
 abbrev pub crash_outcome : List Event → Disk → Type 0
 crash_outcome [] c = (p : List ℕ) → c p ≡ None
 crash_outcome (Begun q ∷ es) c = After (crash_outcome es) (SameBut q.items) c
 crash_outcome (Written q bytes ∷ es) c = After (crash_outcome es) (SameBut q.items) c
 crash_outcome (Renamed from to ∷ es) c = After (crash_outcome es) (Moved from.items to.items (may_be_kept es from.items)) c
-crash_outcome (Removed q ∷ es) c = After (crash_outcome es) (SameBut q.items) c
+crash_outcome (Removed q ∷ es) c = After (crash_outcome es) (Gone q.items) c
 crash_outcome (Named q ∷ es) c = crash_outcome es c × ((p : List ℕ) → folder_of p ≡ folder_of q.items → may_be_kept es p (c p))
 
 -- what a crash might have left when the log had this length, or later

@@ -3,7 +3,7 @@ use Rattle.std.specs.Prelude.{◌≡◌, ◌≢◌, ◌⊎◌, ℕ, Bool, true, 
 use Rattle.std.proofs.Common.{inl, inr, ⊎_elim, refl, sym, ◌∙◌, ap, subst, Bor}
 use Rattle.std.proofs.lemmas.Bool.{cases_Bool}
 use Rattle.std.proofs.lemmas.Slice.Eq.{bytes_eq-Decides}
-use Rattle.udfs_files.specs.Disk.{Disk, SameBut, Moved, After, folder_of}
+use Rattle.udfs_files.specs.Disk.{Disk, Gone, SameBut, Moved, After, folder_of}
 use Rattle.udfs_memory.specs.declared.memory.Event.{Event}
 use Rattle.udfs_memory.specs.declared.memory.Event.TheVariants.{Begun, Written, Renamed, Removed, Named}
 use Rattle.udfs_memory.specs.Log.{held, may_be_kept, crash_outcome}
@@ -89,7 +89,26 @@ commit : (es : List Event) (these : List ℕ → Bool) (d : Disk) → crash_outc
 commit [] these d left = λ p. elim (cases_Bool (these p)) [ inl here ↦ there these (best []) d p here | inr far ↦ elsewhere these (best []) d p far ∙ left p ]
 commit (Begun own ∷ es) these d left = commit_past es these own.items (best (Begun own ∷ es)) (λ q other. elim (decide q own.items) [ inl hit ↦ absurd (other hit.1) | inr miss ↦ ap (λ b. or_none (if b then None else held es q)) miss.0 ]) (commit es these) d left
 commit (Written own bytes ∷ es) these d left = commit_past es these own.items (best (Written own bytes ∷ es)) (λ q other. elim (decide q own.items) [ inl hit ↦ absurd (other hit.1) | inr miss ↦ ap (λ b. or_none (if b then Some (Some bytes.items) else held es q)) miss.0 ]) (commit es these) d left
-commit (Removed own ∷ es) these d left = commit_past es these own.items (best (Removed own ∷ es)) (λ q other. elim (decide q own.items) [ inl hit ↦ absurd (other hit.1) | inr miss ↦ ap (λ b. or_none (if b then Some None else held es q)) miss.0 ]) (commit es these) d left
+commit (Removed own ∷ es) these d left =
+    let v : Disk = best (Removed own ∷ es) in
+    let none : v own.items ≡ None = ap (λ b. or_none (if b then Some None else held es own.items)) ((bytes_eq-Decides own.items own.items).1 refl) in (
+      brought these (best es) left.0,
+      commit es these left.0 left.1,
+      record {
+        others = λ p other. elim (cases_Bool (these p)) [
+          | inl here ↦
+              let miss : bytes_eq p own.items ≡ false = elim (decide p own.items) [ inl hit ↦ absurd (other hit.1) | inr apart ↦ apart.0 ] in
+              there these v d p here ∙ ap (λ b. or_none (if b then Some None else held es p)) miss ∙ sym (there these (best es) left.0 p here)
+          | inr far ↦ elsewhere these v d p far ∙ left.2.others p other ∙ sym (elsewhere these (best es) left.0 p far)
+        ];
+        target = elim (cases_Bool (these own.items)) [
+          | inl here ↦ inr (there these v d own.items here ∙ none)
+          | inr far ↦
+              let stays : brought these v d own.items ≡ d own.items = elsewhere these v d own.items far in
+              ⊎_elim (λ same. inl (stays ∙ same ∙ sym (elsewhere these (best es) left.0 own.items far))) (λ gone. inr (stays ∙ gone)) left.2.target
+        ];
+      },
+    )
 commit (Renamed from to ∷ es) these d left =
     let v : Disk = best (Renamed from to ∷ es) in
     let new : v to.items ≡ best es from.items = ap (λ b. or_none (if b then held es from.items else if bytes_eq to.items from.items then Some None else held es to.items)) ((bytes_eq-Decides to.items to.items).1 refl) in (
@@ -124,10 +143,36 @@ pub lost_may_be : (es : List Event) → crash_outcome es (lost es)
 lost_may_be [] = λ p. refl
 lost_may_be (Begun q ∷ es) = (lost es, lost_may_be es, λ p other. refl)
 lost_may_be (Written q bytes ∷ es) = (lost es, lost_may_be es, λ p other. refl)
-lost_may_be (Removed q ∷ es) = (lost es, lost_may_be es, λ p other. refl)
+lost_may_be (Removed q ∷ es) = (lost es, lost_may_be es, record { others = λ p other. refl; target = inl refl })
 lost_may_be (Renamed from to ∷ es) = (lost es, lost_may_be es, record { others = λ p not_from not_to. refl; target = inl refl })
 lost_may_be (Named q ∷ es) = (
   commit es (beside q.items) (lost es) (lost_may_be es),
   λ p is.
       subst (may_be_kept es p) (sym (there (beside q.items) (best es) (lost es) p ((bytes_eq-Decides (folder_of p) (folder_of q.items)).1 is))) (kept_best es p),
 )
+
+-- where no file is, none is kept
+pub absent_kept : (es : List Event) (p : List ℕ) (c : Option (List ℕ)) → held es p ≡ Some None → may_be_kept es p c → c ≡ None
+absent_kept [] p c absent kept = kept
+absent_kept (Begun q ∷ es) p c absent kept = elim (decide p q.items) [
+  | inl hit ↦ let bad : None ≡ Some None = sym (ap (λ b. if b then None else held es p) hit.0) ∙ absent in cc
+  | inr miss ↦ ⊎_elim (λ is. absurd (miss.1 is)) (λ k. absent_kept es p c (sym (ap (λ b. if b then None else held es p) miss.0) ∙ absent) k) kept
+]
+absent_kept (Written q bytes ∷ es) p c absent kept = elim (decide p q.items) [
+  | inl hit ↦ let bad : Some (Some bytes.items) ≡ Some None = sym (ap (λ b. if b then Some (Some bytes.items) else held es p) hit.0) ∙ absent in cc
+  | inr miss ↦ ⊎_elim (λ is. absurd (miss.1 is.0)) (λ k. absent_kept es p c (sym (ap (λ b. if b then Some (Some bytes.items) else held es p) miss.0) ∙ absent) k.1) kept
+]
+absent_kept (Renamed from to ∷ es) p c absent kept = elim (decide p to.items) [
+  | inl hit ↦ ⊎_elim (λ k. absent_kept es from.items c (sym (ap (λ b. if b then held es from.items else if bytes_eq p from.items then Some None else held es p) hit.0) ∙ absent) k.1)
+      (λ more. ⊎_elim (λ k. k.2) (λ k. absurd (k.1 hit.1)) more) kept
+  | inr miss ↦ ⊎_elim (λ k. absurd (miss.1 k.0)) (λ more. ⊎_elim (λ k. k.2) (λ k. absent_kept es p c (further (decide p from.items) k.0 (sym (ap (λ b. if b then held es from.items else if bytes_eq p from.items then Some None else held es p) miss.0) ∙ absent)) k.2) more) kept
+]
+  where
+    further : ((bytes_eq p from.items ≡ true) × (p ≡ from.items)) ⊎ ((bytes_eq p from.items ≡ false) × (p ≢ from.items)) → p ≢ from.items → (if bytes_eq p from.items then Some None else held es p) ≡ Some None → held es p ≡ Some None
+    further (inl hit) apart is = absurd (apart hit.1)
+    further (inr miss) apart is = sym (ap (λ b. if b then Some None else held es p) miss.0) ∙ is
+absent_kept (Removed q ∷ es) p c absent kept = elim (decide p q.items) [
+  | inl hit ↦ ⊎_elim (λ k. k.1) (λ k. absurd (k.0 hit.1)) kept
+  | inr miss ↦ ⊎_elim (λ k. k.1) (λ k. absent_kept es p c (sym (ap (λ b. if b then Some None else held es p) miss.0) ∙ absent) k.1) kept
+]
+absent_kept (Named q ∷ es) p c absent kept = absent_kept es p c absent kept

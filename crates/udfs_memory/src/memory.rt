@@ -2,7 +2,7 @@
 
 ghost use Rattle.std.specs.Prelude.{◌≡◌, ℕ, List, Option, length, true, Some, None, IfOk, OnOk, OnErr, IsErr, [], ◌∷◌, take, ◌≤◌, bytes_eq, ⊤};
 ghost use Rattle.udfs_memory.specs.Log.{held, may_be_kept, crash_outcome, outcome_since, search_result};
-ghost use Rattle.udfs_memory.specs.Survivors.{lost, lost_may_be, option_now, beside};
+ghost use Rattle.udfs_memory.specs.Survivors.{absent_kept as log_absent_kept, lost, lost_may_be, option_now, beside};
 ghost use Rattle.udfs_memory.specs.Laws.{counts_now as log_counts_now, only_now as log_only_now};
 ghost use Rattle.udfs_files.specs.Disk.{folder_of, has_slash};
 ghost use Rattle.udfs_reading.specs.Device.{CountsFault};
@@ -10,7 +10,8 @@ ghost use Rattle.udfs_reading.specs.Device.{CountsFault};
 use crate::devices::{Device, MemoryFile, MemoryImage, MemoryInput, SOUND};
 use std::alloc::{AllocError, Global};
 use std::cell::Cell;
-use udfs_files::{Files, Kind, Target};
+use std::io::Error;
+use udfs_files::{Files, Kind, Stage, Target};
 use udfs_reading::DeviceFault;
 
 /// A call that changed something.
@@ -323,6 +324,8 @@ impl Files for Memory {
 
     ghost some_crash = { λ m. (lost m.log.items, lost_may_be m.log.items) };
 
+    ghost absent_kept = { λ m q c told absent kept. log_absent_kept m.log.items q c absent kept };
+
     ghost counts_now = { λ m t c le now. log_counts_now m.log.items t c now };
 
     ghost only_now = { λ m c left. log_only_now m.log.items c left };
@@ -436,6 +439,18 @@ impl Files for Memory {
             }
         }
     }
+
+    fn reason(&self) -> Option<Error> {
+        None
+    }
+
+    fn is_watched(&self) -> bool {
+        false
+    }
+
+    fn begin(&self, _stage: Stage) {}
+
+    fn hush(&self) {}
 }
 
 /// What tests ask.

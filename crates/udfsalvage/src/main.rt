@@ -2,7 +2,11 @@
 //! The command `udfsalvage`: its words, over the machine's files.
 #![tactic(auto)]
 
+mod screen;
+
+use screen::{Cleared, Screen};
 use std::alloc::Global;
+use std::io::IsTerminal;
 use std::process::ExitCode;
 use std::{env, io};
 use udfs_commands::{refuse_words, run};
@@ -16,9 +20,11 @@ fn words_of(rt: &HostRuntime, alloc: Global) -> io::Result<Vec<String>> {
 
 fn main(rt: HostRuntime) -> ExitCode {
     let alloc = rt.alloc();
-    let mut out = Writer::new(rt.stdout());
-    let mut err = Writer::new(rt.stderr());
-    let mut files = Machine::new(&rt);
+    let is_watched = rt.stderr().is_terminal();
+    let screen = Screen::new(alloc, &rt, rt.stderr(), is_watched);
+    let mut out = Cleared::new(Writer::new(rt.stdout()), &screen);
+    let mut err = Cleared::new(Writer::new(rt.stderr()), &screen);
+    let mut files = Machine::new(&rt, &screen);
     let status = match words_of(&rt, alloc) {
         Ok(words) => run(alloc, words.as_slice(), &mut files, &mut out, &mut err),
         Err(error) => {
@@ -26,5 +32,6 @@ fn main(rt: HostRuntime) -> ExitCode {
             refuse_words(wants_memory, &mut err)
         }
     };
+    screen.clear();
     ExitCode::from(status)
 }

@@ -1,0 +1,56 @@
+//! What a run tells the person who watches it, beside what it prints. Nothing that a command does depends on it.
+
+ghost use Rattle.std.specs.Prelude.{◌≡◌, Ok, IfSome};
+
+use std::io::Error;
+
+/// What a command does at the moment.
+#[derive(Clone, Copy, Debug, PartialEq, Eq)]
+pub enum Stage {
+    /// The inputs are opened and read.
+    Reading,
+    /// The volume is walked.
+    Walking,
+    /// The outputs are written.
+    Writing,
+}
+
+/// Someone who watches a run, or nobody.
+pub trait Watch {
+    /// A call failed, and the system said why.
+    fn failed(&self, error: Error);
+
+    /// Why the last of the calls that failed did so, where the system said it.
+    fn reason(&self) -> Option<Error>;
+
+    /// Whether a person reads what is said on standard error.
+    fn is_watched(&self) -> bool;
+
+    /// Something else is done from now on.
+    fn begin(&self, stage: Stage);
+
+    /// An input was opened, of this size in bytes where it has one. Answers its number, counted from 1.
+    fn opened(&self, size: Option<u64>) -> usize;
+
+    /// So many bytes were read of the input of this number.
+    fn read(&self, input: usize, count: usize);
+
+    /// So many bytes were written.
+    fn wrote(&self, count: usize);
+
+    /// Nothing more is to be said.
+    fn hush(&self);
+}
+
+/// The value of a call's outcome. Why it failed is told.
+pub(crate) fn heeded<T: Drop, N: Watch>(watch: &N, outcome: Result<T, Error>) -> Option<T>
+    ensures { IfSome result (λ value. outcome ≡ Ok value) }
+{
+    match outcome {
+        Ok(value) => Some(value),
+        Err(error) => {
+            watch.failed(error);
+            None
+        }
+    }
+}
