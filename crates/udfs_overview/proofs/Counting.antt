@@ -21,7 +21,7 @@ use Rattle.udfs_overview.specs.NodeLists.{lost_of}
 use Rattle.udfs_overview.specs.Tallies.{at_most_128_bits, bytes_of, count_of, is_node_of, is_of, lost_in, node_count, or_zero, tally_of}
 
 -- the lists do not say of which sort a node is
-same_of : (a : NodeSort) (lists : TornFields) (s : Standing) (k : Kind) → is_of a (with_lists lists s) k ≡ is_of a s k
+pub same_of : (a : NodeSort) (lists : TornFields) (s : Standing) (k : Kind) → is_of a (with_lists lists s) k ≡ is_of a s k
 same_of a lists Whole k = refl
 same_of sort.WholeFile lists (Torn torn) k = refl
 same_of sort.TornFile lists (Torn torn) k = refl

@@ -3,9 +3,12 @@ mod Choices
 mod Commas
 mod Counting
 mod DiscCounting
+mod FullFolders
 mod PathNames
 mod Places
 mod Rounding
 mod SafeParts
 mod SafeShowing
 mod SafeTelling
+mod TornOrder
+mod TornSorted

@@ -7,12 +7,18 @@ mod figures;
 mod node_columns;
 mod node_list;
 mod safe_names;
+mod summary;
 mod summary_lines;
 mod tallies;
+mod torn_lines;
+mod torn_rows;
+mod volume_lines;
 
 pub use disc_tallies::{DiscTally, UnnamedTally, count_disc, count_unnamed};
 pub use figures::{push_grouped, push_percent, push_size};
 pub use node_list::{ListForm, write_list};
 pub use safe_names::{push_safe_name, safe_names_are_safe, safe_names_tell_units};
+pub use summary::write_summary;
 pub use summary_lines::{push_disc, push_files, push_others, push_unnamed};
 pub use tallies::{Tally, count_nodes};
+pub use torn_rows::torn_files_are_by_loss;

@@ -10,7 +10,7 @@ use crate::tallies::Tally;
 use udfs_osta::OutOfMemory;
 
 /// A number, and what is counted.
-fn push_counted(text: &mut String, number: u64, words: &str) -> Result<(), OutOfMemory>
+pub(crate) fn push_counted(text: &mut String, number: u64, words: &str) -> Result<(), OutOfMemory>
     ensures { OnOk result (string_bytes text.new ≡ string_bytes text.old ++ counted number words.now) }
 {
     push_grouped(u128::from(number), text)?;

@@ -127,7 +127,7 @@ impl NodeSort {
 }
 
 /// How many nodes are of a sort.
-fn count_of(sort: NodeSort, nodes: &[Node]) -> usize
+pub(crate) fn count_of(sort: NodeSort, nodes: &[Node]) -> usize
     ensures { result ≡ count_of sort nodes.now }
 {
     let mut count = 0;
