@@ -1,11 +1,12 @@
--- What `merge` and `forget` may leave by their arguments is what they may leave by their words.
+-- What `merge`, `forget` and `reread --mapfile` may leave by their arguments is what they may leave by their words.
 use Rattle.std.proofs.Common.{◌≡◌, ℕ, Bool, true, false, List, Option, codes, inl, inr, map, subst}
 use Rattle.clap.specs.declared.parser.matches.Found.{Found}
 use Rattle.udfs_files.specs.Disk.{Disk}
-use Rattle.udfs_commands.specs.Asking.{IsPicked, asked_for, asked_inputs, list_texts, out_text}
+use Rattle.udfs_commands.specs.Asking.{IsLast, IsPicked, asked_for, asked_inputs, list_texts, mapfile_text, out_text}
 use Rattle.udfs_commands.specs.Forgetting.{IsForgottenJoin, MayForget}
 use Rattle.udfs_commands.specs.Keeping.{MayReplace}
-use Rattle.udfs_commands.specs.Leaving.{MayForgetAsked, MayMerge}
+use Rattle.udfs_commands.specs.Leaving.{MayDomainAsked, MayForgetAsked, MayMerge}
+use Rattle.udfs_commands.specs.Rereading.{MayDomainOf}
 use Rattle.udfs_commands.specs.declared.sources.InputPath.{InputPath}
 use Rattle.udfs_commands.specs.declared.merge.Version.{Version}
 use Rattle.udfs_commands.specs.declared.merge.Version.TheVariants.{One, Two}
@@ -29,3 +30,9 @@ may_forget found remaining real words conflicts inputs lists d c picked asked sa
       join = subst (λ (l : List (List ℕ)). IsForgottenJoin found remaining inputs conflicts l put.0) same_lists put.1;
       put = put.2;
     })
+
+-- the same of `reread --mapfile`
+pub may_domain : {R : Type 0} (found : List ℕ → Option (Option (List ℕ))) (remaining : R → Option (List ℕ)) (real : List ℕ → List ℕ) (words : Found) (last : ℕ) (inputs : List InputPath) (d c : Disk) →
+    IsLast words last → map asked_for inputs ≡ asked_inputs words → MayDomainOf found remaining inputs last (real (mapfile_text words)) d c → MayDomainAsked found remaining real words d c
+may_domain found remaining real words last inputs d c is_last asked (inl same) = inl same
+may_domain found remaining real words last inputs d c is_last asked (inr put) = inr (last, inputs, is_last, asked, put)

@@ -6,3 +6,7 @@ pub mod GrammarLemmas
 pub mod ObeyingLemmas
 pub mod LeavingLemmas
 pub mod RereadingLemmas
+pub mod ImagingLemmas
+pub mod PlacingLemmas
+mod PastEnds
+pub mod ImageWordsLemmas

@@ -1,5 +1,5 @@
 -- The words that the program takes, as clap has them: each argument by its name, and the commands with their arguments.
-use Rattle.std.specs.Prelude.{Bool, true, false, not, Some, codes, pos}
+use Rattle.std.specs.Prelude.{ℕ, Bool, true, false, not, Some, codes, pos}
 use Rattle.clap.specs.Words.{App, Rule, Text, new_app, new_rule, with_rule, with_subcommand}
 use Rattle.clap.specs.declared.builder.ArgAction.TheVariants.{Append, Set, SetTrue}
 use Rattle.clap.specs.declared.builder.ValueParser.TheVariants.{Signed, Unsigned}
@@ -8,6 +8,10 @@ use Rattle.udfs_commands.specs.declared.words.Given.{Given}
 -- a flag
 abbrev pub flag_rule : Text → Rule
 flag_rule name = record (new_rule name) { long = Some name; action = Some SetTrue }
+
+-- a flag that has one letter too, by its code
+abbrev pub letter_rule : Text → ℕ → Rule
+letter_rule name letter = record (flag_rule name) { short = Some letter }
 
 -- an argument with one value, which has to be given
 abbrev pub value_rule : Text → Rule
@@ -41,9 +45,9 @@ inputs_rule pairs = record (new_rule (codes "input")) { value_names = 1; action 
 abbrev pub blocks_rule : Bool → Rule
 blocks_rule conflicts = record (new_rule (codes "blocks")) { long = Some (codes "blocks"); value_names = 1; action = Some Append; required = not conflicts }
 
--- what every command takes
+-- what every command takes: its inputs, and how much it says
 abbrev pub with_inputs : App → Bool → App
-with_inputs command pairs = with_rule (with_rule command pairs_rule) (inputs_rule pairs)
+with_inputs command pairs = with_rule (with_rule (with_rule (with_rule command (letter_rule (codes "verbose") 118)) (letter_rule (codes "quiet") 113)) pairs_rule) (inputs_rule pairs)
 
 -- `merge [--v1] [--force] --out FILE IN...`
 abbrev pub merge_app : Bool → App
@@ -73,10 +77,18 @@ forget_app given = with_inputs (with_rule (with_rule (with_rule (with_rule (new_
 abbrev pub list_app : Given → App
 list_app given = with_inputs (with_rule (with_rule (with_rule (with_last (codes "list") given.size) (flag_rule (codes "torn"))) (flag_rule (codes "null"))) (flag_rule (codes "paths"))) given.pairs
 
+-- `summary (--last N | --size BYTES) IN...`
+abbrev pub summary_app : Given → App
+summary_app given = with_inputs (with_last (codes "summary") given.size) given.pairs
+
+-- `image --out IMAGE --mapfile MAPFILE [--force] (--last N | --size BYTES) IN...`
+abbrev pub image_app : Given → App
+image_app given = with_inputs (with_rule (with_rule (with_rule (with_last (codes "image") given.size) out_rule) (value_rule (codes "mapfile"))) (flag_rule (codes "force"))) given.pairs
+
 -- the program before its commands: one of them has to be named, and there is `--version`
 abbrev pub program : App
 program = record (new_app (codes "udfsalvage")) { top = record (new_app (codes "udfsalvage")).top { has_version = true; subcommand_required = true } }
 
 -- the program, by what is found among the words
 abbrev pub program_app : Given → App
-program_app given = with_subcommand (with_subcommand (with_subcommand (with_subcommand (with_subcommand (with_subcommand program (merge_app given.pairs).top) (report_app given).top) (reread_app given).top) (extract_app given).top) (forget_app given).top) (list_app given).top
+program_app given = with_subcommand (with_subcommand (with_subcommand (with_subcommand (with_subcommand (with_subcommand (with_subcommand (with_subcommand program (merge_app given.pairs).top) (report_app given).top) (reread_app given).top) (extract_app given).top) (forget_app given).top) (list_app given).top) (summary_app given).top) (image_app given).top

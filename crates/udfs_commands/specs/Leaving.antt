@@ -1,6 +1,7 @@
 -- What a command may leave, by its words.
 --     MayMerge          what a crash in the middle of `merge` shows: what was there, or the table file that the words ask for in the place of what was at the output's path
 --     MayForgetAsked    the same of `forget`
+--     MayDomainAsked    the same of `reread --mapfile`
 --     ReplacesOut       a command replaces its output, whole or not at all, and nothing else, whatever it answers
 --     RereadSpares      what `reread` leaves as it was, whatever it answers
 --     ExtractSpares     what `extract` leaves as it was, whatever it answers
@@ -9,10 +10,11 @@ use Rattle.clap.specs.declared.parser.matches.Found.{Found}
 use Rattle.udfs_files.specs.Disk.{Disk, After, Goes, IsOwn, Same, Replaced}
 use Rattle.udfs_lattice.specs.Tables.{Table}
 use Rattle.udfs_lattice.specs.Records.{join_all}
-use Rattle.udfs_commands.specs.Asking.{IsPicked, asked_for, asked_inputs, folder_text, is_mapped, mapfile_text, out_text}
+use Rattle.udfs_commands.specs.Asking.{IsLast, IsPicked, asked_for, asked_inputs, folder_text, is_mapped, mapfile_text, out_text}
 use Rattle.udfs_commands.specs.Extracting.{IsIn, Spares, Stay}
 use Rattle.udfs_commands.specs.Forgetting.{PutsForgotten}
-use Rattle.udfs_commands.specs.Keeping.{Joined}
+use Rattle.udfs_commands.specs.Keeping.{Joined, OfPaths}
+use Rattle.udfs_commands.specs.Rereading.{IsDomain}
 use Rattle.udfs_commands.specs.Spelling.{table_file}
 use Rattle.udfs_commands.specs.declared.sources.InputPath.{InputPath}
 use Rattle.udfs_commands.specs.declared.merge.Version.{Version}
@@ -30,15 +32,23 @@ MayMerge found remaining real words d c = Same d c ⊎ PutsAsked found remaining
 abbrev pub MayForgetAsked : {R : Type 0} → (List ℕ → Option (Option (List ℕ))) → (R → Option (List ℕ)) → (List ℕ → List ℕ) → Found → Disk → Disk → Type 0
 MayForgetAsked found remaining real words d c = Same d c ⊎ PutsForgotten found remaining words (λ bytes. Replaced (real (out_text words)) bytes d c)
 
+-- the same of `reread --mapfile`
+abbrev pub MayDomainAsked : {R : Type 0} → (List ℕ → Option (Option (List ℕ))) → (R → Option (List ℕ)) → (List ℕ → List ℕ) → Found → Disk → Disk → Type 0
+MayDomainAsked found remaining real words d c = Same d c ⊎ ((last : ℕ) × (inputs : List InputPath) × IsLast words last × (map asked_for inputs ≡ asked_inputs words) ×
+    OfPaths found remaining inputs (IsDomain last (λ bytes. Replaced (real (mapfile_text words)) bytes d c)))
+
 -- unless the output is a device or a pipe: a crash at any moment leaves what this step makes of what it might have left before; and no other path changes, but those of new files that are to go in the output's place
 pub record ReplacesOut {F : Type 0} (tells : Type 0) (holds : F → List ℕ → Option (Option (List ℕ))) (real : F → List ℕ → List ℕ) (in_place : F → List ℕ → Type 0) (may_leave : F → Disk → Type 0) (moment : F → ℕ) (left_since : F → ℕ → Disk → Type 0)
     (words : Found) (old new : F) (step : Disk → Disk → Type 0) : Type 0 where
   pub any_moment : tells → (in_place old (out_text words) → ⊥) → (c : Disk) → left_since new (moment old) c → After (may_leave old) step c
   pub elsewhere : tells → (in_place old (out_text words) → ⊥) → (q : List ℕ) → q ≢ real old (out_text words) → (¬ IsOwn (real old (out_text words)) q) → holds new q ≡ holds old q
 
--- the numbers change no file; a mapfile that is written changes no other path, but those of new files that are to go in its place, unless it is a device or a pipe
-pub record RereadSpares {F : Type 0} (tells : Type 0) (holds : F → List ℕ → Option (Option (List ℕ))) (real : F → List ℕ → List ℕ) (in_place : F → List ℕ → Type 0) (words : Found) (old new : F) : Type 0 where
+-- the numbers change no file; a mapfile that is written changes no other path, but those of new files that are to go in its place, and a crash at any moment leaves what this step
+-- makes of what it might have left before, unless it is a device or a pipe
+pub record RereadSpares {F : Type 0} (tells : Type 0) (holds : F → List ℕ → Option (Option (List ℕ))) (real : F → List ℕ → List ℕ) (in_place : F → List ℕ → Type 0) (may_leave : F → Disk → Type 0) (moment : F → ℕ) (left_since : F → ℕ → Disk → Type 0)
+    (words : Found) (old new : F) (step : Disk → Disk → Type 0) : Type 0 where
   pub numbers : is_mapped words ≡ false → new ≡ old
+  pub any_moment : tells → (in_place old (mapfile_text words) → ⊥) → (c : Disk) → left_since new (moment old) c → After (may_leave old) step c
   pub elsewhere : tells → (in_place old (mapfile_text words) → ⊥) → (q : List ℕ) → q ≢ real old (mapfile_text words) → (¬ IsOwn (real old (mapfile_text words)) q) → holds new q ≡ holds old q
 
 -- no file that was there changes, nor anything outside the new folder, and no crash at any moment changes them

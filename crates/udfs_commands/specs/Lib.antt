@@ -3,6 +3,7 @@ pub mod Spelling
 pub mod Extracting
 pub mod Rereading
 pub mod Listing
+pub mod Summarizing
 pub mod JsonRuns
 pub mod Asking
 pub mod Keeping
@@ -12,3 +13,4 @@ pub mod Sources
 pub mod Grammar
 pub mod Obeying
 pub mod Leaving
+pub mod Imaging

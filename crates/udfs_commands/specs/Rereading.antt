@@ -2,8 +2,10 @@
 --     PrintsNumbers       their numbers were printed
 --     PrintsDomain        the mapfile was put, and their count and that of their runs were printed
 --     WritesDomain        the same, as the words of the command ask for
-use Rattle.std.specs.Prelude.{◌≡◌, ℕ, ◌+◌, ◌++◌, ◌==◌, Bool, List, [], ◌∷◌, Option, codes, decimal, length, map, if◌then◌else◌}
+--     MayDomain           what a crash in the middle shows: what was there, or the mapfile in its place
+use Rattle.std.specs.Prelude.{◌≡◌, ◌⊎◌, ℕ, ◌+◌, ◌++◌, ◌==◌, Bool, List, [], ◌∷◌, Option, codes, decimal, length, map, if◌then◌else◌}
 use Rattle.clap.specs.declared.parser.matches.Found.{Found}
+use Rattle.udfs_files.specs.Disk.{Disk, Same, Replaced}
 use Rattle.udfs_lattice.specs.Tables.{Table, state_of}
 use Rattle.udfs_reading.specs.Writing.{Wrote}
 use Rattle.udfs_rescue.specs.Writing.{map_text, wanted_status}
@@ -50,3 +52,15 @@ pub record WritesDomain {R : Type 0} (found : List ℕ → Option (Option (List 
   pub is_last : IsLast words last
   pub asked : map asked_for inputs ≡ asked_inputs words
   pub prints : OfPaths found remaining inputs (PrintsDomain last Put old new i j whole)
+
+-- this holds of the mapfile in which the blocks of the table's report that are to be read again are wanted
+abbrev pub IsDomain : ℕ → (List ℕ → Type 0) → Table → Type 0
+IsDomain last Holds table = (report : Report) × IsReport (state_of table) last report × Holds (map_text (wanted_status report.reread) last)
+
+-- the disk is as it was, or the mapfile of a table is in the place of what was at a path
+abbrev pub MayDomain : ℕ → List ℕ → Table → Disk → Disk → Type 0
+MayDomain last path table d c = Same d c ⊎ IsDomain last (λ bytes. Replaced path bytes d c) table
+
+-- the same of the join of inputs
+abbrev pub MayDomainOf : {R : Type 0} → (List ℕ → Option (Option (List ℕ))) → (R → Option (List ℕ)) → List InputPath → ℕ → List ℕ → Disk → Disk → Type 0
+MayDomainOf found remaining inputs last path d c = Same d c ⊎ OfPaths found remaining inputs (IsDomain last (λ bytes. Replaced path bytes d c))

@@ -1,14 +1,15 @@
 //! The program as a function: words and files in, a status out.
 
-ghost use Rattle.std.specs.Prelude.{◌≡◌, ◌≢◌, ◌⊎◌, ℕ, Bool, true, false, List, Some, None, Ok, IfOk, IfErr, IfSome, IsErrOf, OnOk, OnErr, codes, cond, length, map};
+ghost use Rattle.std.specs.Prelude.{◌≡◌, ◌≢◌, ◌⊎◌, ℕ, List, Bool, true, false, List, Some, None, Ok, IfOk, IfErr, IfSome, IsErrOf, OnOk, OnErr, codes, cond, length, map};
 ghost use Rattle.clap.specs.Matches.{found_of, one_text};
 ghost use Rattle.udfs_lattice.specs.Tables.{Table};
 ghost use Rattle.udfs_lattice.specs.Records.{join_all};
 ghost use Rattle.udfs_files.specs.Disk.{After, Disk, Fails, Goes, IsOwn};
 ghost use Rattle.udfs_salvage.specs.declared.extraction.Fill.{Fill};
-ghost use Rattle.udfs_commands.specs.Asking.{IsLast, IsPicked, asked_for, asked_inputs, folder_text, input_texts, is_mapped, mapfile_text, out_text, pair_texts};
+ghost use Rattle.udfs_commands.specs.Asking.{IsLast, IsOneEnd, IsPicked, asked_for, asked_inputs, folder_text, input_texts, is_mapped, mapfile_text, out_text, pair_texts};
 ghost use Rattle.udfs_commands.specs.Extracting.{ExtractsAll, IsIn, IsPut, Spares, Stay};
 ghost use Rattle.udfs_commands.specs.Forgetting.{PutsForgotten};
+ghost use Rattle.udfs_commands.specs.Imaging.{IsFreePair, ReplacesPair, WritesImage};
 ghost use Rattle.udfs_commands.specs.Guarding.{IsFree, IsFreeMap, IsSpared, IsSparedMap, SomeShut};
 ghost use Rattle.udfs_commands.specs.JsonRuns.{PrintsAs};
 ghost use Rattle.udfs_commands.specs.Keeping.{IsKept, IsTaken, Joined, OfPaths};
@@ -18,8 +19,9 @@ ghost use Rattle.udfs_commands.specs.Rereading.{PrintsNumbers, WritesDomain};
 ghost use Rattle.clap.specs.declared.parser.matches.Found.{Found};
 ghost use Rattle.std.specs.String.{string_bytes};
 ghost use Rattle.clap.specs.Words.{kind_of};
-ghost use Rattle.udfs_commands.specs.Leaving.{ExtractSpares, MayForgetAsked, MayMerge, ReplacesOut, RereadSpares};
+ghost use Rattle.udfs_commands.specs.Leaving.{ExtractSpares, MayDomainAsked, MayForgetAsked, MayMerge, ReplacesOut, RereadSpares};
 ghost use Rattle.udfs_commands.specs.Listing.{IsListForm, PrintsList};
+ghost use Rattle.udfs_commands.specs.Summarizing.{PrintsSummary};
 ghost use Rattle.udfs_commands.specs.Obeying.{Asks, GrammarTakes, IsAsked};
 ghost use Rattle.udfs_overview.specs.declared.node_list.ListForm.{ListForm};
 ghost use Rattle.udfs_commands.specs.Spelling.{table_file};
@@ -31,7 +33,9 @@ use crate::extract::extract;
 use crate::files::Files;
 use crate::forget::forget;
 use crate::guard::{Outlook, look_at, look_at_map};
-use crate::inputs::joined;
+use crate::hints::second_line;
+use crate::image_words::image_words;
+use crate::inputs::unwritten;
 use crate::last::{EndFault, asked_last, end_fault};
 use crate::list::list;
 use crate::merge::{Version, merge};
@@ -41,9 +45,10 @@ use crate::report::{Form, report_as};
 use crate::reread::reread;
 use crate::reread_map::reread_map;
 use crate::sources::{AnySource, InputPath};
+use crate::summary::summary;
 use crate::words::{
-    BLOCKS, CONFLICTS, FILL, FORCE, INPUTS, JSON, MAPFILE, NULL, OUT, PAIRS, PATHS, TO, TORN, V1,
-    given_in, grammar,
+    BLOCKS, CONFLICTS, FILL, FORCE, INPUTS, JSON, MAPFILE, NULL, OUT, PAIRS, PATHS, QUIET, TO,
+    TORN, V1, VERBOSE, given_in, grammar,
 };
 use clap::error::ErrorKind;
 use clap::{ArgMatches, Error};
@@ -105,16 +110,30 @@ pub fn run<F: Files, O: Sink, E: Sink>(
         ((form : ListForm) × (last : ℕ) × (inputs : List InputPath) × (map asked_for inputs ≡ asked_inputs found) ×
         IsListForm found form × IsLast found last × OfPaths (λ path. F.holds files.old (F.real files.old path)) (⟦<AnySource<F::Input, F::Image> as Source>⟧.remaining) inputs
         (PrintsList form last (O.contents out.old) (O.contents out.new) (O.faults out.old) (O.faults out.new) whole)) }
-    // What is there stays, whatever the status: only `merge`, `forget`, `reread --mapfile` and `extract` change files at all, and only as their words ask.
-    ensures reads { (Asks (map string_bytes words.now) (codes "merge") → ⊥) → (Asks (map string_bytes words.now) (codes "forget") → ⊥) → (Asks (map string_bytes words.now) (codes "reread") → ⊥) → (Asks (map string_bytes words.now) (codes "extract") → ⊥) → files.new ≡ files.old }
+    ensures summary { GrammarTakes (map string_bytes words.now) → Asks (map string_bytes words.now) (codes "summary") → result ≢ 2 → (whole : Bool) × (result ≡ cond whole 0 1) × (found : Found) × IsAsked (map string_bytes words.now) (codes "summary") found ×
+        ((last : ℕ) × (inputs : List InputPath) × (map asked_for inputs ≡ asked_inputs found) ×
+        IsLast found last × OfPaths (λ path. F.holds files.old (F.real files.old path)) (⟦<AnySource<F::Input, F::Image> as Source>⟧.remaining) inputs
+        (PrintsSummary last (O.contents out.old) (O.contents out.new) (O.faults out.old) (O.faults out.new) whole)) }
+    ensures image { GrammarTakes (map string_bytes words.now) → Asks (map string_bytes words.now) (codes "image") → result ≢ 2 → (result ≡ 0) × (found : Found) × IsAsked (map string_bytes words.now) (codes "image") found ×
+        WritesImage (λ path. F.holds files.old (F.real files.old path)) (⟦<AnySource<F::Input, F::Image> as Source>⟧.remaining) found
+        (λ bytes text. F.tells → IsKept (F.holds files.new) (F.may_leave files.new) (F.real files.old (out_text found)) bytes × IsKept (F.holds files.new) (F.may_leave files.new) (F.real files.old (mapfile_text found)) text) ×
+        ((force : Bool) × IsPicked found (codes "force") true false force ×
+        (F.tells → IsFreePair (F.holds files.old) (F.real files.old) (input_texts found) (pair_texts found) force (out_text found) (mapfile_text found))) }
+    // A last block and a size are never taken together, nor a size that is not that of whole blocks.
+    ensures one_end { GrammarTakes (map string_bytes words.now) → result ≢ 2 → (name : List ℕ) × (found : Found) × IsAsked (map string_bytes words.now) name found × IsOneEnd found }
+    // What is there stays, whatever the status: only `merge`, `forget`, `image`, `reread --mapfile` and `extract` change files at all, and only as their words ask.
+    ensures reads { (Asks (map string_bytes words.now) (codes "merge") → ⊥) → (Asks (map string_bytes words.now) (codes "forget") → ⊥) → (Asks (map string_bytes words.now) (codes "image") → ⊥) → (Asks (map string_bytes words.now) (codes "reread") → ⊥) → (Asks (map string_bytes words.now) (codes "extract") → ⊥) → files.new ≡ files.old }
     ensures rereading { Asks (map string_bytes words.now) (codes "reread") → (files.new ≡ files.old) ⊎ ((found : Found) × IsAsked (map string_bytes words.now) (codes "reread") found ×
-        RereadSpares F.tells F.holds F.real F.in_place found files.old files.new) }
+        RereadSpares F.tells F.holds F.real F.in_place F.may_leave F.moment F.left_since found files.old files.new
+        (MayDomainAsked (λ path. F.holds files.old (F.real files.old path)) (⟦<AnySource<F::Input, F::Image> as Source>⟧.remaining) (F.real files.old) found)) }
     ensures merging { Asks (map string_bytes words.now) (codes "merge") → (files.new ≡ files.old) ⊎ ((found : Found) × IsAsked (map string_bytes words.now) (codes "merge") found ×
         ReplacesOut F.tells F.holds F.real F.in_place F.may_leave F.moment F.left_since found files.old files.new
         (MayMerge (λ path. F.holds files.old (F.real files.old path)) (⟦<AnySource<F::Input, F::Image> as Source>⟧.remaining) (F.real files.old) found)) }
     ensures forgetting { Asks (map string_bytes words.now) (codes "forget") → (files.new ≡ files.old) ⊎ ((found : Found) × IsAsked (map string_bytes words.now) (codes "forget") found ×
         ReplacesOut F.tells F.holds F.real F.in_place F.may_leave F.moment F.left_since found files.old files.new
         (MayForgetAsked (λ path. F.holds files.old (F.real files.old path)) (⟦<AnySource<F::Input, F::Image> as Source>⟧.remaining) (F.real files.old) found)) }
+    ensures imaging { Asks (map string_bytes words.now) (codes "image") → (files.new ≡ files.old) ⊎ ((found : Found) × IsAsked (map string_bytes words.now) (codes "image") found ×
+        ReplacesPair F.tells F.holds F.real F.may_leave F.moment F.left_since (⟦<AnySource<F::Input, F::Image> as Source>⟧.remaining) found files.old files.new) }
     ensures extracting { Asks (map string_bytes words.now) (codes "extract") → (files.new ≡ files.old) ⊎ ((found : Found) × IsAsked (map string_bytes words.now) (codes "extract") found ×
         ExtractSpares F.tells F.holds F.may_leave F.moment F.left_since found files.old files.new) }
 {
@@ -134,8 +153,11 @@ pub fn run<F: Files, O: Sink, E: Sink>(
     if let Some(fault) = end_fault(words) {
         return tell(alloc, fault, err);
     }
+    if words.get_flag(QUIET) {
+        files.hush();
+    }
     match obey(alloc, name, words, files, out) {
-        Some(outcome) => finish(alloc, outcome, err),
+        Some(outcome) => finish(alloc, outcome, words, files, err),
         // The grammar has no other command.
         None => 2,
     }
@@ -180,13 +202,24 @@ fn obey<F: Files, O: Sink>(
     ensures list { name.now ≡ codes "list" → IfSome result (λ outcome. IfOk outcome (λ whole. (form : ListForm) × (last : ℕ) × (inputs : List InputPath) × (map asked_for inputs ≡ asked_inputs (found_of words.now)) ×
         IsListForm (found_of words.now) form × IsLast (found_of words.now) last × OfPaths (λ path. F.holds files.old (F.real files.old path)) (⟦<AnySource<F::Input, F::Image> as Source>⟧.remaining) inputs
         (PrintsList form last (O.contents out.old) (O.contents out.new) (O.faults out.old) (O.faults out.new) whole))) }
-    // What is there stays, whatever the answer: only `merge`, `forget`, `reread --mapfile` and `extract` change files at all.
-    ensures reads { (name.now ≡ codes "merge" → ⊥) → (name.now ≡ codes "forget" → ⊥) → (name.now ≡ codes "reread" → ⊥) → (name.now ≡ codes "extract" → ⊥) → files.new ≡ files.old }
-    ensures rereading { name.now ≡ codes "reread" → RereadSpares F.tells F.holds F.real F.in_place (found_of words.now) files.old files.new }
+    ensures summary { name.now ≡ codes "summary" → IfSome result (λ outcome. IfOk outcome (λ whole. (last : ℕ) × (inputs : List InputPath) × (map asked_for inputs ≡ asked_inputs (found_of words.now)) ×
+        IsLast (found_of words.now) last × OfPaths (λ path. F.holds files.old (F.real files.old path)) (⟦<AnySource<F::Input, F::Image> as Source>⟧.remaining) inputs
+        (PrintsSummary last (O.contents out.old) (O.contents out.new) (O.faults out.old) (O.faults out.new) whole))) }
+    ensures done_image { name.now ≡ codes "image" → IfSome result (λ outcome. IfOk outcome (λ whole. whole ≡ true)) }
+    ensures image { name.now ≡ codes "image" → IfSome result (λ outcome. OnOk outcome
+        (WritesImage (λ path. F.holds files.old (F.real files.old path)) (⟦<AnySource<F::Input, F::Image> as Source>⟧.remaining) (found_of words.now)
+        (λ bytes text. F.tells → IsKept (F.holds files.new) (F.may_leave files.new) (F.real files.old (out_text (found_of words.now))) bytes × IsKept (F.holds files.new) (F.may_leave files.new) (F.real files.old (mapfile_text (found_of words.now))) text))) }
+    ensures free_image { name.now ≡ codes "image" → IfSome result (λ outcome. OnOk outcome ((force : Bool) × IsPicked (found_of words.now) (codes "force") true false force ×
+        (F.tells → IsFreePair (F.holds files.old) (F.real files.old) (input_texts (found_of words.now)) (pair_texts (found_of words.now)) force (out_text (found_of words.now)) (mapfile_text (found_of words.now))))) }
+    // What is there stays, whatever the answer: only `merge`, `forget`, `image`, `reread --mapfile` and `extract` change files at all.
+    ensures reads { (name.now ≡ codes "merge" → ⊥) → (name.now ≡ codes "forget" → ⊥) → (name.now ≡ codes "image" → ⊥) → (name.now ≡ codes "reread" → ⊥) → (name.now ≡ codes "extract" → ⊥) → files.new ≡ files.old }
+    ensures rereading { name.now ≡ codes "reread" → RereadSpares F.tells F.holds F.real F.in_place F.may_leave F.moment F.left_since (found_of words.now) files.old files.new
+        (MayDomainAsked (λ path. F.holds files.old (F.real files.old path)) (⟦<AnySource<F::Input, F::Image> as Source>⟧.remaining) (F.real files.old) (found_of words.now)) }
     ensures merging { name.now ≡ codes "merge" → ReplacesOut F.tells F.holds F.real F.in_place F.may_leave F.moment F.left_since (found_of words.now) files.old files.new
         (MayMerge (λ path. F.holds files.old (F.real files.old path)) (⟦<AnySource<F::Input, F::Image> as Source>⟧.remaining) (F.real files.old) (found_of words.now)) }
     ensures forgetting { name.now ≡ codes "forget" → ReplacesOut F.tells F.holds F.real F.in_place F.may_leave F.moment F.left_since (found_of words.now) files.old files.new
         (MayForgetAsked (λ path. F.holds files.old (F.real files.old path)) (⟦<AnySource<F::Input, F::Image> as Source>⟧.remaining) (F.real files.old) (found_of words.now)) }
+    ensures imaging { name.now ≡ codes "image" → ReplacesPair F.tells F.holds F.real F.may_leave F.moment F.left_since (⟦<AnySource<F::Input, F::Image> as Source>⟧.remaining) (found_of words.now) files.old files.new }
     ensures extracting { name.now ≡ codes "extract" → ExtractSpares F.tells F.holds F.may_leave F.moment F.left_since (found_of words.now) files.old files.new }
 {
     match name {
@@ -201,13 +234,24 @@ fn obey<F: Files, O: Sink>(
             Ok(()) => Ok(true),
             Err(refusal) => Err(refusal),
         }),
+        "image" => Some(match image_words(alloc, words, files) {
+            Ok(()) => Ok(true),
+            Err(refusal) => Err(refusal),
+        }),
         "list" => Some(list_words(alloc, words, files, out)),
+        "summary" => Some(summary_words(alloc, words, files, out)),
         _ => None,
     }
 }
 
 /// The exit status of a command that is done, with or without something lacking, or refused.
-fn finish<E: Sink>(alloc: Global, outcome: Result<bool, Refusal>, err: &mut E) -> u8
+fn finish<F: Files, E: Sink>(
+    alloc: Global,
+    outcome: Result<bool, Refusal>,
+    words: &ArgMatches<'_>,
+    files: &F,
+    err: &mut E,
+) -> u8
     ensures status { (result ≡ 0) ⊎ (result ≡ 1) ⊎ (result ≡ 2) }
     ensures silent { result ≢ 2 → err.new ≡ err.old }
     ensures done { IfOk outcome (λ whole. result ≡ cond whole 0 1) }
@@ -216,7 +260,31 @@ fn finish<E: Sink>(alloc: Global, outcome: Result<bool, Refusal>, err: &mut E) -
     match outcome {
         Ok(true) => 0,
         Ok(false) => 1,
-        Err(refusal) => refuse(alloc, &refusal, err),
+        Err(refusal) => {
+            let status = refuse(alloc, &refusal, err);
+            explain(alloc, &refusal, words, files, err);
+            status
+        }
+    }
+}
+
+/// Says more of a refusal beneath its line, where a person watches or the words ask for it.
+fn explain<F: Files, E: Sink>(
+    alloc: Global,
+    refusal: &Refusal,
+    words: &ArgMatches<'_>,
+    files: &F,
+    err: &mut E,
+)
+    ensures quiet { one_text (found_of words.now) (codes "quiet") ≡ Some (codes "true") → err.new ≡ err.old }
+{
+    if words.get_flag(QUIET) || !(files.is_watched() || words.get_flag(VERBOSE)) {
+        return;
+    }
+    if let Ok(Some(more)) = second_line(alloc, refusal, words, files)
+        && let Ok(line) = format!(in alloc; "  {more}\n")
+    {
+        let _ = send(line.as_bytes(), err);
     }
 }
 
@@ -339,16 +407,6 @@ fn asked_outlook<F: Files>(
     Ok(found)
 }
 
-/// What is said of an output that could not be looked at: the inputs are judged before it.
-fn unwritten<F: Files>(alloc: Global, inputs: &[InputPath<'_>], files: &F) -> Refusal
-    ensures { (result ≢ Refusal.Unkept) × (result ≢ Refusal.Spared) }
-{
-    match joined(alloc, inputs, files) {
-        Ok(_) => Refusal::Output,
-        Err(refusal) => refusal,
-    }
-}
-
 /// Whether the words after `merge` ask to write over a reading that is no input.
 fn asked_force(words: &ArgMatches<'_>) -> bool
     ensures { IsPicked (found_of words.now) (codes "force") true false result }
@@ -422,6 +480,9 @@ fn reread_as<F: Files, O: Sink>(
         (O.contents out.old) (O.contents out.new) (O.faults out.old) (O.faults out.new) whole ×
         (F.tells → IsFreeMap (F.holds files.old) (F.real files.old) (F.in_place files.old) (pair_texts (found_of words.now)) (mapfile_text (found_of words.now)))) }
     ensures numbers { is_mapped (found_of words.now) ≡ false → files.new ≡ files.old }
+    // A crash at any moment of the call leaves all as it was, or with the mapfile in its place, whole.
+    ensures any_moment { F.tells → (F.in_place files.old (mapfile_text (found_of words.now)) → ⊥) → (c : Disk) → F.left_since files.new (F.moment files.old) c →
+        After (F.may_leave files.old) (MayDomainAsked (λ path. F.holds files.old (F.real files.old path)) (⟦<AnySource<F::Input, F::Image> as Source>⟧.remaining) (F.real files.old) (found_of words.now)) c }
     // No other path changes, but for those of new files that are to go in its place.
     ensures elsewhere { F.tells → (F.in_place files.old (mapfile_text (found_of words.now)) → ⊥) → (q : List ℕ) → q ≢ F.real files.old (mapfile_text (found_of words.now)) → (¬ IsOwn (F.real files.old (mapfile_text (found_of words.now))) q) → F.holds files.new q ≡ F.holds files.old q }
 {
@@ -449,6 +510,9 @@ fn reread_map_words<F: Files, O: Sink>(
         (O.contents out.old) (O.contents out.new) (O.faults out.old) (O.faults out.new) whole) }
     // It takes the place of no file but a mapfile of ddrescue's kind, and never that of an image or a mapfile of the inputs.
     ensures free { OnOk result (F.tells → IsFreeMap (F.holds files.old) (F.real files.old) (F.in_place files.old) (pair_texts (found_of words.now)) (mapfile_text (found_of words.now))) }
+    // A crash at any moment of the call leaves all as it was, or with the mapfile in its place, whole.
+    ensures any_moment { F.tells → (F.in_place files.old (mapfile_text (found_of words.now)) → ⊥) → (c : Disk) → F.left_since files.new (F.moment files.old) c →
+        After (F.may_leave files.old) (MayDomainAsked (λ path. F.holds files.old (F.real files.old path)) (⟦<AnySource<F::Input, F::Image> as Source>⟧.remaining) (F.real files.old) (found_of words.now)) c }
     // No other path changes, but for those of new files that are to go in its place.
     ensures elsewhere { F.tells → (F.in_place files.old (mapfile_text (found_of words.now)) → ⊥) → (q : List ℕ) → q ≢ F.real files.old (mapfile_text (found_of words.now)) → (¬ IsOwn (F.real files.old (mapfile_text (found_of words.now))) q) → F.holds files.new q ≡ F.holds files.old q }
 {
@@ -549,6 +613,25 @@ fn is_set(words: &ArgMatches<'_>, flag: &str) -> bool
     ensures { IsPicked (found_of words.now) flag.now true false result }
 {
     words.get_flag(flag)
+}
+
+/// Does what the words after `summary` ask for.
+fn summary_words<F: Files, O: Sink>(
+    alloc: Global,
+    words: &ArgMatches<'_>,
+    files: &F,
+    out: &mut O,
+) -> Result<bool, Refusal>
+    ensures printed { IfOk result (λ whole. (last : ℕ) × (inputs : List InputPath) × (map asked_for inputs ≡ asked_inputs (found_of words.now)) ×
+        IsLast (found_of words.now) last × OfPaths (λ path. F.holds files.now (F.real files.now path)) (⟦<AnySource<F::Input, F::Image> as Source>⟧.remaining) inputs
+        (PrintsSummary last (O.contents out.old) (O.contents out.new) (O.faults out.old) (O.faults out.new) whole)) }
+{
+    let inputs = asked_inputs(alloc, words)?;
+    let last = asked_last(words);
+    match summary(alloc, inputs.as_slice(), last, files, out) {
+        Ok(whole) => Ok(whole),
+        Err(refusal) => Err(refusal),
+    }
 }
 
 /// Does what the words after `extract` ask for.

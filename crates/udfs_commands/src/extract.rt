@@ -21,7 +21,7 @@ use crate::refusal::Refusal;
 use crate::sources::{AnySource, InputPath};
 use std::alloc::{AllocError, Global};
 use udfs_file::Kind;
-use udfs_files::{Job, fill_by};
+use udfs_files::{Job, Stage, fill_by};
 use udfs_reading::{DeviceFault, Sink, Source, WriteFault, write_all};
 use udfs_salvage::{
     ExtractError, Fill, Report, Volume, all_whole, extract as write_bytes, is_offered, push_names,
@@ -401,7 +401,7 @@ fn put_report<F: Files, O: Sink>(
             Ok(told.good && all_whole(&report.nodes))
         }
         _ => {
-            write_volume(alloc, report, out)?;
+            write_volume(report, out)?;
             Ok(false)
         }
     }
@@ -428,7 +428,9 @@ pub fn extract<F: Files, O: Sink>(
     ensures crash { F.tells → Goes F.moment F.may_leave F.left_since files.old files.new (Spares folder.now (F.holds files.old)) }
 {
     let table = joined(alloc, inputs, files)?;
+    files.begin(Stage::Walking);
     let report = salvage(alloc, &table, last)?;
+    files.begin(Stage::Writing);
     let good = put_report(alloc, &report, fill, folder, files, out)?;
     Ok(good)
 }

@@ -29,3 +29,13 @@ pub fn joined<F: Files>(
         Err(refusal) => Err(refusal),
     }
 }
+
+/// What is said of an output that could not be looked at: the inputs are judged before it.
+pub fn unwritten<F: Files>(alloc: Global, inputs: &[InputPath<'_>], files: &F) -> Refusal
+    ensures { (result ≢ Refusal.Unkept) × (result ≢ Refusal.Spared) }
+{
+    match joined(alloc, inputs, files) {
+        Ok(_) => Refusal::Output,
+        Err(refusal) => refusal,
+    }
+}

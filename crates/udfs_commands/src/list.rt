@@ -10,6 +10,7 @@ use crate::inputs::joined;
 use crate::refusal::Refusal;
 use crate::sources::{AnySource, InputPath};
 use std::alloc::Global;
+use udfs_files::Stage;
 use udfs_overview::{ListForm, write_list};
 use udfs_reading::{Sink, Source};
 use udfs_salvage::survey_volume;
@@ -28,6 +29,7 @@ pub fn list<F: Files, O: Sink>(
         (PrintsList form last (O.contents out.old) (O.contents out.new) (O.faults out.old) (O.faults out.new) whole)) }
 {
     let table = joined(alloc, inputs, files)?;
+    files.begin(Stage::Walking);
     let survey = survey_volume(alloc, &table, last)?;
     write_list(alloc, &survey, form, out)?;
     Ok(survey.all_whole())

@@ -7,7 +7,7 @@ ghost use Rattle.udfs_commands.specs.Keeping.{IsKept, IsTaken};
 use crate::files::Files;
 use crate::refusal::Refusal;
 use std::alloc::{AllocError, Global};
-use udfs_files::{Content, Kind, ReplaceError, fill, replace};
+use udfs_files::{Content, Kind, ReplaceError, Stage, fill, replace};
 use udfs_reading::DeviceFault;
 
 /// Puts a file with this content at the path, whole or not at all, or writes it to what is there and is no file.
@@ -30,6 +30,7 @@ pub fn put_file<F: Files, C: Content>(
     ensures cause { IfErr result (λ refusal. (refusal ≡ Refusal.Output) ⊎ (refusal ≡ Refusal.Unkept) → F.shut files.old out.now ⊎ Fails F.faults ⊎ Fails F.Output.faults) }
     ensures told { IfErr result (λ refusal. refusal ≢ Refusal.Spared) }
 {
+    files.begin(Stage::Writing);
     let target = match files.resolve(alloc, out) {
         Ok(Ok(target)) => target,
         Ok(Err(DeviceFault)) => return Err(Refusal::Output),

@@ -11,6 +11,7 @@ use crate::inputs::joined;
 use crate::refusal::Refusal;
 use crate::sources::{AnySource, InputPath, open_all, refusal_for};
 use std::alloc::Global;
+use udfs_files::Stage;
 use udfs_reading::{Sink, Source};
 use udfs_salvage::{RunError, report_run, survey_volume, write_json};
 
@@ -52,6 +53,7 @@ fn report_in_json<F: Files, O: Sink>(
         (PrintsJson last (O.contents out.old) (O.contents out.new) (O.faults out.old) (O.faults out.new) whole)) }
 {
     let table = joined(alloc, inputs, files)?;
+    files.begin(Stage::Walking);
     let survey = survey_volume(alloc, &table, last)?;
     match write_json(alloc, &survey, out) {
         Ok(()) => Ok(survey.all_whole()),

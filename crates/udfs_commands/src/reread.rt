@@ -10,7 +10,8 @@ use crate::inputs::joined;
 use crate::refusal::Refusal;
 use crate::sources::{AnySource, InputPath};
 use std::alloc::Global;
-use udfs_reading::{Sink, Source};
+use udfs_files::Stage;
+use udfs_reading::{Sink, Source, WriteFault};
 use udfs_salvage::{survey_volume, write_numbers};
 
 /// Joins the inputs, and prints the numbers of the blocks of the volume, of which `last` is the last, that are worth
@@ -26,7 +27,10 @@ pub fn reread<F: Files, O: Sink>(
         (PrintsNumbers last (O.contents out.old) (O.contents out.new) (O.faults out.old) (O.faults out.new) whole)) }
 {
     let table = joined(alloc, inputs, files)?;
+    files.begin(Stage::Walking);
     let survey = survey_volume(alloc, &table, last)?;
-    write_numbers(alloc, &survey.reread, out)?;
-    Ok(survey.all_whole())
+    match write_numbers(&survey.reread, out) {
+        Ok(()) => Ok(survey.all_whole()),
+        Err(WriteFault) => Err(Refusal::Output),
+    }
 }

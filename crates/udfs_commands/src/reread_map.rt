@@ -1,12 +1,12 @@
 //! The command `reread --mapfile`: readings in, the blocks to read again as a mapfile for GNU ddrescue.
 
 ghost use Rattle.std.specs.Prelude.{◌≡◌, ◌≢◌, ◌⊎◌, ◌≤◌, ℕ, List, IfOk, OnOk, length};
-ghost use Rattle.udfs_files.specs.Disk.{IsOwn};
+ghost use Rattle.udfs_files.specs.Disk.{After, Disk, IsOwn, Replaced};
 ghost use Rattle.std.specs.List.Sorted.{IsNonDecreasing};
 ghost use Rattle.udfs_reading.specs.Writing.{Wrote};
 ghost use Rattle.udfs_rescue.specs.Writing.{map_text, wanted_status};
 ghost use Rattle.udfs_commands.specs.Keeping.{IsKept, IsTaken, OfPaths};
-ghost use Rattle.udfs_commands.specs.Rereading.{PrintsDomain, breaks, domain_line, runs_in};
+ghost use Rattle.udfs_commands.specs.Rereading.{MayDomain, MayDomainOf, PrintsDomain, breaks, domain_line, runs_in};
 ghost use Rattle.udfs_commands.specs.declared.sources.AnySource.{AnySource};
 
 use crate::files::Files;
@@ -15,7 +15,7 @@ use crate::putting::put_file;
 use crate::refusal::Refusal;
 use crate::sources::{AnySource, InputPath};
 use std::alloc::Global;
-use udfs_files::Content;
+use udfs_files::{Content, Stage};
 use udfs_lattice::BlockTable;
 use udfs_reading::{Sink, Source, WriteFault, write_all};
 use udfs_rescue::write_domain;
@@ -92,6 +92,8 @@ fn put_domain<F: Files, O: Sink>(
     ensures written { OnOk result ((F.tells → IsKept (F.holds files.new) (F.may_leave files.new) (F.real files.old path.now) (map_text (wanted_status wanted.now) last))
         ⊎ (F.in_place files.old path.now × IsTaken F.Output.contents (map_text (wanted_status wanted.now) last))) }
     ensures printed { OnOk result (Wrote (O.contents out.old) (O.contents out.new) (O.faults out.old) (O.faults out.new) (domain_line wanted.now)) }
+    // A crash at any moment of the call leaves all as it was, or with the mapfile in its place, whole.
+    ensures any_moment { F.tells → (F.in_place files.old path.now → ⊥) → (c : Disk) → F.left_since files.new (F.moment files.old) c → After (F.may_leave files.old) (Replaced (F.real files.old path.now) (map_text (wanted_status wanted.now) last)) c }
     // No other path changes, but for those of new files that are to go in its place.
     ensures elsewhere { F.tells → (F.in_place files.old path.now → ⊥) → (q : List ℕ) → q ≢ F.real files.old path.now → (¬ IsOwn (F.real files.old path.now) q) → F.holds files.new q ≡ F.holds files.old q }
 {
@@ -118,9 +120,12 @@ fn map_of<F: Files, O: Sink>(
 ) -> Result<bool, Refusal>
     ensures printed { IfOk result (λ whole. PrintsDomain last (λ bytes. (F.tells → IsKept (F.holds files.new) (F.may_leave files.new) (F.real files.old path.now) bytes) ⊎ (F.in_place files.old path.now × IsTaken F.Output.contents bytes))
         (O.contents out.old) (O.contents out.new) (O.faults out.old) (O.faults out.new) whole table.now) }
+    // A crash at any moment of the call leaves all as it was, or with the mapfile in its place, whole.
+    ensures any_moment { F.tells → (F.in_place files.old path.now → ⊥) → (c : Disk) → F.left_since files.new (F.moment files.old) c → After (F.may_leave files.old) (MayDomain last (F.real files.old path.now) table.now) c }
     // No other path changes, but for those of new files that are to go in its place.
     ensures elsewhere { F.tells → (F.in_place files.old path.now → ⊥) → (q : List ℕ) → q ≢ F.real files.old path.now → (¬ IsOwn (F.real files.old path.now) q) → F.holds files.new q ≡ F.holds files.old q }
 {
+    files.begin(Stage::Walking);
     let survey = survey_volume(alloc, table, last)?;
     put_domain(alloc, &survey.reread, last, path, files, out)?;
     Ok(survey.all_whole())
@@ -140,6 +145,8 @@ pub fn reread_map<F: Files, O: Sink>(
     ensures printed { IfOk result (λ whole. OfPaths (λ path. F.holds files.old (F.real files.old path)) (⟦<AnySource<F::Input, F::Image> as Source>⟧.remaining) inputs.now
         (PrintsDomain last (λ bytes. (F.tells → IsKept (F.holds files.new) (F.may_leave files.new) (F.real files.old path.now) bytes) ⊎ (F.in_place files.old path.now × IsTaken F.Output.contents bytes))
         (O.contents out.old) (O.contents out.new) (O.faults out.old) (O.faults out.new) whole)) }
+    // A crash at any moment of the call leaves all as it was, or with the mapfile in its place, whole.
+    ensures any_moment { F.tells → (F.in_place files.old path.now → ⊥) → (c : Disk) → F.left_since files.new (F.moment files.old) c → After (F.may_leave files.old) (MayDomainOf (λ path. F.holds files.old (F.real files.old path)) (⟦<AnySource<F::Input, F::Image> as Source>⟧.remaining) inputs.now last (F.real files.old path.now)) c }
     // No other path changes, but for those of new files that are to go in its place.
     ensures elsewhere { F.tells → (F.in_place files.old path.now → ⊥) → (q : List ℕ) → q ≢ F.real files.old path.now → (¬ IsOwn (F.real files.old path.now) q) → F.holds files.new q ≡ F.holds files.old q }
 {

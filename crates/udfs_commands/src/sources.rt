@@ -11,6 +11,7 @@ ghost use Rattle.udfs_commands.specs.Sources.{left_in, faults_in, IsPathOpened};
 use crate::files::Files;
 use crate::refusal::Refusal;
 use std::alloc::{AllocError, Global};
+use udfs_files::Stage;
 use udfs_lattice::BlockTable;
 use udfs_reading::{DeviceFault, InputError, Source, join_inputs};
 use udfs_rescue::{Image, Pair, PairFault, open_pair};
@@ -121,6 +122,7 @@ pub fn open_all<F: Files>(
     ensures told { IfErr result (λ refusal. (refusal ≢ Refusal.Output) × (refusal ≢ Refusal.Unkept) × (refusal ≢ Refusal.Spared)) }
     ensures named { IfErr result (λ refusal. (input : ℕ) → refusal ≡ Refusal.Open input → (0 < input) × (input ≤ length paths.now)) }
 {
+    files.begin(Stage::Reading);
     let mut sources = Vec::new(alloc);
     for (index, path) in paths.iter().enumerate() {
         match open_one(alloc, *path, index + 1, files) {

@@ -4,7 +4,7 @@ ghost use Rattle.std.specs.Prelude.{◌≡◌, false, IfOk, codes, map};
 ghost use Rattle.std.specs.String.{string_bytes};
 ghost use Rattle.udfs_commands.specs.Obeying.{given_in, is_given, names};
 ghost use Rattle.clap.specs.Words.{app_of, rule_of};
-ghost use Rattle.udfs_commands.specs.Grammar.{blocks_rule, extract_app, flag_rule, forget_app, inputs_rule, last_rule, list_app, mapfile_rule, merge_app, pairs_rule, out_rule, program, program_app, report_app, reread_app, size_rule, value_rule};
+ghost use Rattle.udfs_commands.specs.Grammar.{blocks_rule, extract_app, flag_rule, forget_app, image_app, inputs_rule, last_rule, letter_rule, list_app, mapfile_rule, merge_app, pairs_rule, out_rule, program, program_app, report_app, reread_app, size_rule, summary_app, value_rule, with_inputs};
 
 use clap::{Arg, ArgAction, Command, value_parser};
 use std::alloc::{AllocError, Global};
@@ -56,6 +56,12 @@ pub const NULL: &str = "null";
 
 /// The id of the flag for paths alone among the matches.
 pub const PATHS: &str = "paths";
+
+/// The id of the flag for saying more among the matches.
+pub const VERBOSE: &str = "verbose";
+
+/// The id of the flag for saying no more than has to be said among the matches.
+pub const QUIET: &str = "quiet";
 
 /// What is found among the words before they are parsed: it decides what else has to be given.
 #[derive(Clone, Copy)]
@@ -122,53 +128,52 @@ pub fn grammar<'a>(alloc: Global, given: Given) -> Result<Command<'a>, AllocErro
         .subcommand(reread(alloc, given)?)?
         .subcommand(extract(alloc, given)?)?
         .subcommand(forget(alloc, given)?)?
-        .subcommand(list(alloc, given)?)
+        .subcommand(list(alloc, given)?)?
+        .subcommand(summary(alloc, given)?)?
+        .subcommand(image(alloc, given)?)
 }
 
 /// `merge [--v1] [--force] --out FILE IN...`
 fn merge<'a>(alloc: Global, pairs: bool) -> Result<Command<'a>, AllocError>
     ensures { IfOk result (λ command. app_of command ≡ merge_app pairs) }
 {
-    Command::new(alloc, "merge")
+    let command = Command::new(alloc, "merge")
         .about("Joins readings and table files into one table file")
         .arg(table_file(alloc))?
         .arg(flag(alloc, V1, "Write the table file in version 1, the old form"))?
-        .arg(force(alloc))?
-        .arg(pair_inputs(alloc))?
-        .arg(inputs(alloc, pairs))
+        .arg(force(alloc))?;
+    with_inputs(alloc, command, pairs)
 }
 
 /// `report (--last N | --size BYTES) [--json] IN...`
 fn report<'a>(alloc: Global, given: Given) -> Result<Command<'a>, AllocError>
     ensures { IfOk result (λ command. app_of command ≡ report_app given) }
 {
-    Command::new(alloc, "report")
+    let command = Command::new(alloc, "report")
         .about("Prints what the inputs tell of the volume, and which blocks to read again")
         .arg(last(alloc, given.size))?
         .arg(disc_size(alloc))?
-        .arg(flag(alloc, JSON, "Print it as JSON"))?
-        .arg(pair_inputs(alloc))?
-        .arg(inputs(alloc, given.pairs))
+        .arg(flag(alloc, JSON, "Print it as JSON"))?;
+    with_inputs(alloc, command, given.pairs)
 }
 
 /// `reread (--last N | --size BYTES) [--mapfile FILE] IN...`
 fn reread<'a>(alloc: Global, given: Given) -> Result<Command<'a>, AllocError>
     ensures { IfOk result (λ command. app_of command ≡ reread_app given) }
 {
-    Command::new(alloc, "reread")
+    let command = Command::new(alloc, "reread")
         .about("Prints the numbers of the blocks to read again")
         .arg(last(alloc, given.size))?
         .arg(disc_size(alloc))?
-        .arg(domain(alloc))?
-        .arg(pair_inputs(alloc))?
-        .arg(inputs(alloc, given.pairs))
+        .arg(domain(alloc))?;
+    with_inputs(alloc, command, given.pairs)
 }
 
 /// `extract (--last N | --size BYTES) --to DIR [--fill] IN...`
 fn extract<'a>(alloc: Global, given: Given) -> Result<Command<'a>, AllocError>
     ensures { IfOk result (λ command. app_of command ≡ extract_app given) }
 {
-    Command::new(alloc, "extract")
+    let command = Command::new(alloc, "extract")
         .about("Writes the files that are whole into a new folder")
         .arg(last(alloc, given.size))?
         .arg(disc_size(alloc))?
@@ -177,30 +182,28 @@ fn extract<'a>(alloc: Global, given: Given) -> Result<Command<'a>, AllocError>
             alloc,
             FILL,
             "Write torn files too, with zeros for the bytes that are missing",
-        ))?
-        .arg(pair_inputs(alloc))?
-        .arg(inputs(alloc, given.pairs))
+        ))?;
+    with_inputs(alloc, command, given.pairs)
 }
 
 /// `forget --out FILE (--conflicts | --blocks LIST)... [--force] IN...`
 fn forget<'a>(alloc: Global, given: Given) -> Result<Command<'a>, AllocError>
     ensures { IfOk result (λ command. app_of command ≡ forget_app given) }
 {
-    Command::new(alloc, "forget")
+    let command = Command::new(alloc, "forget")
         .about("Writes the table of the inputs, in which some blocks are unknown again")
         .arg(table_file(alloc))?
         .arg(flag(alloc, CONFLICTS, "Forget the blocks in conflict"))?
         .arg(blocks(alloc, given.conflicts))?
-        .arg(force(alloc))?
-        .arg(pair_inputs(alloc))?
-        .arg(inputs(alloc, given.pairs))
+        .arg(force(alloc))?;
+    with_inputs(alloc, command, given.pairs)
 }
 
 /// `list [--torn] [--null] [--paths] (--last N | --size BYTES) IN...`
 fn list<'a>(alloc: Global, given: Given) -> Result<Command<'a>, AllocError>
     ensures { IfOk result (λ command. app_of command ≡ list_app given) }
 {
-    Command::new(alloc, "list")
+    let command = Command::new(alloc, "list")
         .about(
             "Prints a line for each file and folder: standing, kind, bytes lost, size, time and path",
         )
@@ -208,9 +211,76 @@ fn list<'a>(alloc: Global, given: Given) -> Result<Command<'a>, AllocError>
         .arg(disc_size(alloc))?
         .arg(flag(alloc, TORN, "Leave out what is whole"))?
         .arg(flag(alloc, NULL, "End lines with a zero byte"))?
-        .arg(flag(alloc, PATHS, "Print the paths alone"))?
+        .arg(flag(alloc, PATHS, "Print the paths alone"))?;
+    with_inputs(alloc, command, given.pairs)
+}
+
+/// `image --out IMAGE --mapfile MAPFILE [--force] (--last N | --size BYTES) IN...`
+fn image<'a>(alloc: Global, given: Given) -> Result<Command<'a>, AllocError>
+    ensures { IfOk result (λ command. app_of command ≡ image_app given) }
+{
+    let command = Command::new(alloc, "image")
+        .about("Writes what is known of the disc as an image, with its mapfile")
+        .arg(last(alloc, given.size))?
+        .arg(disc_size(alloc))?
+        .arg(image_file(alloc))?
+        .arg(image_map(alloc))?
+        .arg(flag(
+            alloc,
+            FORCE,
+            "Write over an image or a mapfile that is there and is none of the inputs",
+        ))?;
+    with_inputs(alloc, command, given.pairs)
+}
+
+/// What every command takes: its inputs, and how much it says.
+fn with_inputs<'a>(
+    alloc: Global,
+    command: Command<'a>,
+    pairs: bool,
+) -> Result<Command<'a>, AllocError>
+    ensures { IfOk result (λ whole. app_of whole ≡ with_inputs (app_of command.entry) pairs) }
+{
+    command
+        .arg(verbose(alloc))?
+        .arg(quiet(alloc))?
         .arg(pair_inputs(alloc))?
-        .arg(inputs(alloc, given.pairs))
+        .arg(inputs(alloc, pairs))
+}
+
+/// The flag for saying more.
+fn verbose<'a>(alloc: Global) -> Arg<'a>
+    ensures { (rule_of result ≡ letter_rule (codes "verbose") 118) × (result.global ≡ false) }
+{
+    Arg::new(alloc, VERBOSE)
+        .short('v')
+        .long("verbose")
+        .help(
+            "Say more on standard error, as on a terminal: beneath a refusal, why and what to do next",
+        )
+        .action(ArgAction::SetTrue)
+}
+
+/// The flag for saying no more than has to be said.
+fn quiet<'a>(alloc: Global) -> Arg<'a>
+    ensures { (rule_of result ≡ letter_rule (codes "quiet") 113) × (result.global ≡ false) }
+{
+    Arg::new(alloc, QUIET)
+        .short('q')
+        .long("quiet")
+        .help("Say no more than that on standard error, also on a terminal")
+        .action(ArgAction::SetTrue)
+}
+
+/// `summary (--last N | --size BYTES) IN...`
+fn summary<'a>(alloc: Global, given: Given) -> Result<Command<'a>, AllocError>
+    ensures { IfOk result (λ command. app_of command ≡ summary_app given) }
+{
+    let command = Command::new(alloc, "summary")
+        .about("Prints what a person wants to know of the volume, on one screen")
+        .arg(last(alloc, given.size))?
+        .arg(disc_size(alloc))?;
+    with_inputs(alloc, command, given.pairs)
 }
 
 /// A flag of this name.
@@ -266,6 +336,31 @@ fn table_file<'a>(alloc: Global) -> Arg<'a>
         .long("out")
         .value_name("FILE")
         .help("The table file to write, over an old one")
+        .required(true)
+        .action(ArgAction::Set)
+}
+
+/// The image to write.
+fn image_file<'a>(alloc: Global) -> Arg<'a>
+    ensures { (rule_of result ≡ out_rule) × (result.global ≡ false) }
+{
+    Arg::new(alloc, OUT)
+        .short('o')
+        .long("out")
+        .value_name("IMAGE")
+        .help("The image to write: zeros stand in the place of what is not known")
+        .required(true)
+        .action(ArgAction::Set)
+}
+
+/// The image's mapfile to write.
+fn image_map<'a>(alloc: Global) -> Arg<'a>
+    ensures { (rule_of result ≡ value_rule (codes "mapfile")) × (result.global ≡ false) }
+{
+    Arg::new(alloc, MAPFILE)
+        .long("mapfile")
+        .value_name("MAPFILE")
+        .help("The image's mapfile to write: + known, - in conflict, ? unknown")
         .required(true)
         .action(ArgAction::Set)
 }

@@ -4,3 +4,4 @@ mod figures;
 mod list;
 mod safe_names;
 mod summary;
+mod whole_summary;

@@ -111,9 +111,9 @@ fn loops_faults_and_names(rt: HostRuntime) -> Result<(), Fail> {
 
 /// Takes so many bytes, one in each call, and then fails.
 #[derive(Drop)]
-struct Narrow {
-    bytes: Vec<u8>,
-    good: usize,
+pub(super) struct Narrow {
+    pub(super) bytes: Vec<u8>,
+    pub(super) good: usize,
 }
 
 impl Write for Narrow {

@@ -78,9 +78,9 @@ fn the_json_of_surveys(rt: HostRuntime) -> Result<(), Fail> {
 fn numbers(alloc: Global, table: &BlockTable) -> Result<Vec<u8>, Fail> {
     let report = salvage(alloc, table, LAST)?;
     let mut text = Writer::new(Vec::new(alloc));
-    write_reread(alloc, &report, &mut text)?;
+    write_reread(&report, &mut text)?;
     let survey = survey_volume(alloc, table, LAST)?;
-    write_numbers(alloc, &survey.reread, &mut text)?;
+    write_numbers(&survey.reread, &mut text)?;
     Ok(text.into_inner())
 }
 

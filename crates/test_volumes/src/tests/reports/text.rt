@@ -57,10 +57,10 @@ fn a_report_is_written_whole(rt: HostRuntime) -> Result<(), Fail> {
     assert_eq!(rt; report.last, LAST);
     assert!(rt; report.reread.as_slice() == [256, 344, 600].as_slice());
     let mut text = Writer::new(Vec::new(alloc));
-    write_report(alloc, &report, &mut text)?;
+    write_report(&report, &mut text)?;
     assert_eq!(rt; text.into_inner().as_slice(), TEXT);
     let mut line = Writer::new(Vec::new(alloc));
-    write_volume(alloc, &report, &mut line)?;
+    write_volume(&report, &mut line)?;
     assert_eq!(rt;
         line.into_inner().as_slice(),
         b"volume holes 256 344 600\n".as_slice()
@@ -86,7 +86,7 @@ fn a_survey_is_written_whole(rt: HostRuntime) -> Result<(), Fail> {
     );
     let report = salvage(alloc, &table, LAST)?;
     let mut other = Writer::new(Vec::new(alloc));
-    write_report(alloc, &report, &mut other)?;
+    write_report(&report, &mut other)?;
     assert_eq!(rt; other.into_inner().as_slice(), text.as_str().as_bytes());
     Ok(())
 }
@@ -104,7 +104,7 @@ fn a_sink_that_fails_holds_a_beginning(rt: HostRuntime) -> Result<(), Fail> {
             good,
             takes_none,
         });
-        let outcome = write_report(alloc, &report, &mut sink);
+        let outcome = write_report(&report, &mut sink);
         let expected = if good == TEXT.len() {
             Ok(())
         } else {

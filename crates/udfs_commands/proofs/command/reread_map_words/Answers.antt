@@ -1,4 +1,6 @@
-use Rattle.std.proofs.Common.{rules}
+use Rattle.std.proofs.Common.{subst, rules}
+use Rattle.clap.specs.Matches.{found_of}
+use Rattle.udfs_commands.proofs.LeavingLemmas.{may_domain}
 use Rattle.udfs_commands.proofs.command.reread_map_words.Goals as goal
 
 pub returns-in-Ok-clause-written : goal.returns-in-Ok-clause-written
@@ -10,3 +12,21 @@ returns-in-Ok-clause-written g c =
       asked = search rules;
       prints = rw (← c.asked_mapfile.ensures) c.in-Ok.ensures.printed;
     }
+
+pub returns-in-Ok-clause-any_moment : goal.returns-in-Ok-clause-any_moment
+returns-in-Ok-clause-any_moment g c tells place disk since =
+    let a = c.in-Ok.ensures.any_moment tells (λ at. place (subst (g.F.Files.in_place c.args.files.now) c.asked_mapfile.ensures at)) disk since in (
+      a.0,
+      a.1,
+      may_domain _ _ (g.F.Files.real c.args.files.now) (found_of c.args.words.now) c.asked_last-last.result c.as_slice-2.result.now a.0 disk c.asked_last-last.ensures (search rules)
+          (rw (← c.asked_mapfile.ensures) a.2),
+    )
+
+pub returns-clause-any_moment : goal.returns-clause-any_moment
+returns-clause-any_moment g c tells place disk since =
+    let a = c.in-Err-reread_map.ensures.any_moment tells (λ at. place (subst (g.F.Files.in_place c.args.files.now) c.asked_mapfile.ensures at)) disk since in (
+      a.0,
+      a.1,
+      may_domain _ _ (g.F.Files.real c.args.files.now) (found_of c.args.words.now) c.asked_last-last.result c.as_slice-2.result.now a.0 disk c.asked_last-last.ensures (search rules)
+          (rw (← c.asked_mapfile.ensures) a.2),
+    )

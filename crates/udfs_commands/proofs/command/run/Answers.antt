@@ -1,4 +1,4 @@
-use Rattle.std.proofs.Common.{◌≡◌, Bool, List, ℕ, ap, inr, subst, sym, ◌∙◌, codes, map}
+use Rattle.std.proofs.Common.{◌≡◌, Bool, rules, List, ℕ, ap, inr, subst, sym, ◌∙◌, codes, map}
 use Rattle.std.specs.String.{string_bytes}
 use Rattle.clap.specs.Matches.{found_of}
 use Rattle.clap.specs.Words.{App, HasMatchesOf, takes}
@@ -88,13 +88,13 @@ returns-in-Some-obey-clause-forget g c = λ taken asks some.
     (whole.0, found, named, whole.1, whole.2)
 
 pub returns-in-Some-obey-clause-reads : goal.returns-in-Some-obey-clause-reads
-returns-in-Some-obey-clause-reads g c = λ no_merge no_forget no_reread no_extract.
+returns-in-Some-obey-clause-reads g c = λ no_merge no_forget no_image no_reread no_extract.
     let words = map string_bytes c.args.words.now in
     let found = found_of c.in-Some.found.1.now in
     let ask : IsAsked words c.in-Some.found.0.now found = asked c.in-Ok-try_get_matches_from.matches words c.in-Some.found.0.now found
     (subst (λ (a : App). HasMatchesOf a words c.in-Ok-try_get_matches_from.matches) (c.in-Ok.ensures ∙ ap program_app c.given_in.ensures) c.in-Ok-try_get_matches_from.ensures.matches)
     c.in-Some.ensures.name c.in-Some.ensures.rows in
-    c.in-Some-obey.ensures.reads (λ e. no_merge (asks_by words c.in-Some.found.0.now (codes "merge") found ask e)) (λ e. no_forget (asks_by words c.in-Some.found.0.now (codes "forget") found ask e))
+    c.in-Some-obey.ensures.reads (λ e. no_merge (asks_by words c.in-Some.found.0.now (codes "merge") found ask e)) (λ e. no_forget (asks_by words c.in-Some.found.0.now (codes "forget") found ask e)) (λ e. no_image (asks_by words c.in-Some.found.0.now (codes "image") found ask e))
     (λ e. no_reread (asks_by words c.in-Some.found.0.now (codes "reread") found ask e))
     (λ e. no_extract (asks_by words c.in-Some.found.0.now (codes "extract") found ask e))
 
@@ -121,13 +121,13 @@ returns-in-Some-obey-clause-extracting g c = λ asks.
     inr (found, named, c.in-Some-obey.ensures.extracting is)
 
 pub returns-clause-reads : goal.returns-clause-reads
-returns-clause-reads g c = λ no_merge no_forget no_reread no_extract.
+returns-clause-reads g c = λ no_merge no_forget no_image no_reread no_extract.
     let words = map string_bytes c.args.words.now in
     let found = found_of c.in-Some.found.1.now in
     let ask : IsAsked words c.in-Some.found.0.now found = asked c.in-Ok-try_get_matches_from.matches words c.in-Some.found.0.now found
     (subst (λ (a : App). HasMatchesOf a words c.in-Ok-try_get_matches_from.matches) (c.in-Ok.ensures ∙ ap program_app c.given_in.ensures) c.in-Ok-try_get_matches_from.ensures.matches)
     c.in-Some.ensures.name c.in-Some.ensures.rows in
-    c.in-None-obey.ensures.reads (λ e. no_merge (asks_by words c.in-Some.found.0.now (codes "merge") found ask e)) (λ e. no_forget (asks_by words c.in-Some.found.0.now (codes "forget") found ask e))
+    c.in-None-obey.ensures.reads (λ e. no_merge (asks_by words c.in-Some.found.0.now (codes "merge") found ask e)) (λ e. no_forget (asks_by words c.in-Some.found.0.now (codes "forget") found ask e)) (λ e. no_image (asks_by words c.in-Some.found.0.now (codes "image") found ask e))
     (λ e. no_reread (asks_by words c.in-Some.found.0.now (codes "reread") found ask e))
     (λ e. no_extract (asks_by words c.in-Some.found.0.now (codes "extract") found ask e))
 
@@ -228,3 +228,70 @@ returns-clause-rereading g c = λ asks.
     let is : c.in-Some.found.0.now ≡ codes "reread" = only_name words c.in-Some.found.0.now (codes "reread") found asks ask in
     let named : IsAsked words (codes "reread") found = subst (λ (n : List ℕ). IsAsked words n found) is ask in
     inr (found, named, c.in-None-obey.ensures.rereading is)
+
+pub returns-in-Err-try_get_matches_from-clause-summary : goal.returns-in-Err-try_get_matches_from-clause-summary
+returns-in-Err-try_get_matches_from-clause-summary g c = λ taken asks some.
+    absurd (some (c.show.ensures.memory (c.in-Err-try_get_matches_from.ensures.passes (ap (λ (a : App). takes a (map string_bytes c.args.words.now)) (c.in-Ok.ensures ∙ ap program_app c.given_in.ensures) ∙ taken))))
+
+pub returns-in-Some-obey-clause-summary : goal.returns-in-Some-obey-clause-summary
+returns-in-Some-obey-clause-summary g c = λ taken asks some.
+    let words = map string_bytes c.args.words.now in
+    let found = found_of c.in-Some.found.1.now in
+    let ask : IsAsked words c.in-Some.found.0.now found = asked c.in-Ok-try_get_matches_from.matches words c.in-Some.found.0.now found
+    (subst (λ (a : App). HasMatchesOf a words c.in-Ok-try_get_matches_from.matches) (c.in-Ok.ensures ∙ ap program_app c.given_in.ensures) c.in-Ok-try_get_matches_from.ensures.matches)
+    c.in-Some.ensures.name c.in-Some.ensures.rows in
+    let is : c.in-Some.found.0.now ≡ codes "summary" = only_name words c.in-Some.found.0.now (codes "summary") found asks ask in
+    let named : IsAsked words (codes "summary") found = subst (λ (n : List ℕ). IsAsked words n found) is ask in
+    let said = done c.in-Some-obey.outcome c.finish.result _ c.finish.ensures.done c.finish.ensures.refused some (c.in-Some-obey.ensures.summary is) in
+    (said.0, said.1, found, named, said.2)
+
+pub returns-in-Err-try_get_matches_from-clause-image : goal.returns-in-Err-try_get_matches_from-clause-image
+returns-in-Err-try_get_matches_from-clause-image g c = λ taken asks some.
+    absurd (some (c.show.ensures.memory (c.in-Err-try_get_matches_from.ensures.passes (ap (λ (a : App). takes a (map string_bytes c.args.words.now)) (c.in-Ok.ensures ∙ ap program_app c.given_in.ensures) ∙ taken))))
+
+pub returns-in-Some-obey-clause-image : goal.returns-in-Some-obey-clause-image
+returns-in-Some-obey-clause-image g c = λ taken asks some.
+    let words = map string_bytes c.args.words.now in
+    let found = found_of c.in-Some.found.1.now in
+    let ask : IsAsked words c.in-Some.found.0.now found = asked c.in-Ok-try_get_matches_from.matches words c.in-Some.found.0.now found
+    (subst (λ (a : App). HasMatchesOf a words c.in-Ok-try_get_matches_from.matches) (c.in-Ok.ensures ∙ ap program_app c.given_in.ensures) c.in-Ok-try_get_matches_from.ensures.matches)
+    c.in-Some.ensures.name c.in-Some.ensures.rows in
+    let is : c.in-Some.found.0.now ≡ codes "image" = only_name words c.in-Some.found.0.now (codes "image") found asks ask in
+    let named : IsAsked words (codes "image") found = subst (λ (n : List ℕ). IsAsked words n found) is ask in
+    let whole = done_whole c.in-Some-obey.outcome c.finish.result _ _ c.finish.ensures.done c.finish.ensures.refused some (c.in-Some-obey.ensures.done_image is) (c.in-Some-obey.ensures.image is) (c.in-Some-obey.ensures.free_image is) in
+    (whole.0, found, named, whole.1, whole.2)
+
+pub returns-in-Some-obey-clause-imaging : goal.returns-in-Some-obey-clause-imaging
+returns-in-Some-obey-clause-imaging g c = λ asks.
+    let words = map string_bytes c.args.words.now in
+    let found = found_of c.in-Some.found.1.now in
+    let ask : IsAsked words c.in-Some.found.0.now found = asked c.in-Ok-try_get_matches_from.matches words c.in-Some.found.0.now found
+    (subst (λ (a : App). HasMatchesOf a words c.in-Ok-try_get_matches_from.matches) (c.in-Ok.ensures ∙ ap program_app c.given_in.ensures) c.in-Ok-try_get_matches_from.ensures.matches)
+    c.in-Some.ensures.name c.in-Some.ensures.rows in
+    let is : c.in-Some.found.0.now ≡ codes "image" = only_name words c.in-Some.found.0.now (codes "image") found asks ask in
+    let named : IsAsked words (codes "image") found = subst (λ (n : List ℕ). IsAsked words n found) is ask in
+    inr (found, named, c.in-Some-obey.ensures.imaging is)
+
+pub returns-clause-imaging : goal.returns-clause-imaging
+returns-clause-imaging g c = λ asks.
+    let words = map string_bytes c.args.words.now in
+    let found = found_of c.in-Some.found.1.now in
+    let ask : IsAsked words c.in-Some.found.0.now found = asked c.in-Ok-try_get_matches_from.matches words c.in-Some.found.0.now found
+    (subst (λ (a : App). HasMatchesOf a words c.in-Ok-try_get_matches_from.matches) (c.in-Ok.ensures ∙ ap program_app c.given_in.ensures) c.in-Ok-try_get_matches_from.ensures.matches)
+    c.in-Some.ensures.name c.in-Some.ensures.rows in
+    let is : c.in-Some.found.0.now ≡ codes "image" = only_name words c.in-Some.found.0.now (codes "image") found asks ask in
+    let named : IsAsked words (codes "image") found = subst (λ (n : List ℕ). IsAsked words n found) is ask in
+    inr (found, named, c.in-None-obey.ensures.imaging is)
+
+pub returns-in-Err-try_get_matches_from-clause-one_end : goal.returns-in-Err-try_get_matches_from-clause-one_end
+returns-in-Err-try_get_matches_from-clause-one_end g c = λ taken some.
+    absurd (some (c.show.ensures.memory (c.in-Err-try_get_matches_from.ensures.passes (ap (λ (a : App). takes a (map string_bytes c.args.words.now)) (c.in-Ok.ensures ∙ ap program_app c.given_in.ensures) ∙ taken))))
+
+pub returns-in-Some-obey-clause-one_end : goal.returns-in-Some-obey-clause-one_end
+returns-in-Some-obey-clause-one_end g c = λ taken some.
+    let words = map string_bytes c.args.words.now in
+    let found = found_of c.in-Some.found.1.now in
+    let ask : IsAsked words c.in-Some.found.0.now found = asked c.in-Ok-try_get_matches_from.matches words c.in-Some.found.0.now found
+    (subst (λ (a : App). HasMatchesOf a words c.in-Ok-try_get_matches_from.matches) (c.in-Ok.ensures ∙ ap program_app c.given_in.ensures) c.in-Ok-try_get_matches_from.ensures.matches)
+    c.in-Some.ensures.name c.in-Some.ensures.rows in
+    (c.in-Some.found.0.now, found, ask, c.in_default.ensures (search rules))

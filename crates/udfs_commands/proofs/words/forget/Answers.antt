@@ -1,6 +1,7 @@
-use Rattle.std.proofs.Common.{rules, ap₂, codes, ◌≡◌, ◌∙◌}
+use Rattle.std.proofs.Common.{rules, refl, ap₂, codes, ◌≡◌, ◌∙◌}
 use Rattle.std.proofs.lemmas.Result.{IfOk-weaker}
 use Rattle.clap.specs.Words.{app_of, new_app, with_rule}
+use Rattle.udfs_commands.specs.Grammar.{with_inputs}
 use Rattle.udfs_commands.proofs.words.forget.Goals as goal
 
 pub returns : goal.returns
@@ -9,6 +10,5 @@ returns c =
     let one = c.in_ok-arg.ensures.shape c.table_file.ensures.1 ∙ ap₂ with_rule start c.table_file.ensures.0 in
     let two = c.in_ok-arg-2.ensures.shape c.flag.ensures.1 ∙ ap₂ with_rule one c.flag.ensures.0 in
     let three = c.in_ok-arg-3.ensures.shape c.blocks-2.ensures.1 ∙ ap₂ with_rule two c.blocks-2.ensures.0 in
-    let four = c.in_ok-arg-4.ensures.shape c.force.ensures.1 ∙ ap₂ with_rule three c.force.ensures.0 in
-    let five = c.in_ok-arg-5.ensures.shape c.pair_inputs.ensures.1 ∙ ap₂ with_rule four c.pair_inputs.ensures.0 in
-    IfOk-weaker c.arg-6.result _ _ (λ m h. h.shape c.inputs.ensures.1 ∙ ap₂ with_rule five c.inputs.ensures.0) c.arg-6.ensures
+    let four = c.in_ok-command.ensures.shape c.force.ensures.1 ∙ ap₂ with_rule three c.force.ensures.0 in
+    IfOk-weaker c.with_inputs.result _ _ (λ m h. h ∙ ap₂ with_inputs four refl) c.with_inputs.ensures

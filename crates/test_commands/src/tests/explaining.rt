@@ -1,0 +1,164 @@
+//! What is said to a person beneath a refusal's line.
+
+use super::memory::{Memory, passes, ran, reading, with_table};
+use std::alloc::Global;
+use std::test::Fail;
+use udfs_samples::Disc;
+
+/// Two passes, a reading that is cut in its second record and one that goes on behind its last, a disc's image, and the parts of a pair.
+fn with_faults(alloc: Global) -> Result<Memory, Fail> {
+    let mut memory = passes(alloc)?;
+    let mut bytes = reading(alloc, &[(300, 0x61), (301, 0x62)])?;
+    memory.store("cut.rd", bytes.as_slice().get(..4119).unwrap_or(&[]))?;
+    memory.store("short.rd", bytes.as_slice().get(..15).unwrap_or(&[]))?;
+    bytes.push(0)?;
+    memory.store("long.rd", bytes.as_slice())?;
+    memory.store("my.disc.iso", &[0; 2048])?;
+    memory.store(
+        "order.tab",
+        b"UDFTABL1\x00\x08\x00\x00\x02\x00\x00\x00\x05\x00\x00\x00\x02\x05\x00\x00\x00\x02",
+    )?;
+    memory.store("p.map", b"0 + 1\n0 4096 +\n")?;
+    memory.store("bad.map", b"0 + 1\n0 4096\n")?;
+    Ok(memory)
+}
+
+/// The refusals of inputs, each with the line beneath it.
+const OF_INPUTS: [(&str, &str); 9] = [
+    (
+        "merge -v --out t.tab cut.rd",
+        "udfsalvage: input 1: fault 4 Truncated at record 2\n  cut.rd is cut short in record 2 of 2\n",
+    ),
+    (
+        "merge --out t.tab a.rd short.rd --verbose",
+        "udfsalvage: input 2: fault 4 Truncated at record 0\n  short.rd is cut short in its header\n",
+    ),
+    (
+        "merge --out t.tab -v long.rd",
+        "udfsalvage: input 1: fault 5 Trailing at record 2\n  long.rd goes on behind its last record\n",
+    ),
+    (
+        "merge -v --out t.tab my.disc.iso",
+        "udfsalvage: input 1: fault 1 Magic at record 0\n  my.disc.iso is no reading and no table; an image wants its map: --ddrescue my.disc.iso my.disc.map\n",
+    ),
+    (
+        "merge -v --out t.tab order.tab",
+        "udfsalvage: input 1: fault 6 Order at record 2\n  order.tab is damaged, or was not written as it should be: use another copy of it\n",
+    ),
+    (
+        "report -v --last 600 absent.rd",
+        "udfsalvage: cannot open input 1\n  absent.rd: the system does not say why\n",
+    ),
+    (
+        "merge -v --out t.tab a.rd --ddrescue absent.img p.map",
+        "udfsalvage: cannot open input 2\n  absent.img or p.map: the system does not say why\n",
+    ),
+    (
+        "merge -v --out t.tab --ddrescue my.disc.iso bad.map",
+        "udfsalvage: input 1: mapfile line 2: not a run\n  bad.map is no mapfile of GNU ddrescue; the image comes first: --ddrescue IMAGE MAPFILE, here my.disc.iso and bad.map\n",
+    ),
+    (
+        "merge -v --out t.tab --ddrescue my.disc.iso p.map",
+        "udfsalvage: input 1: image ends before block 1\n  p.map says that block 1 was read, and my.disc.iso ends before it: are they of one pass?\n",
+    ),
+];
+
+#[test]
+fn a_refused_input_is_named_with_what_to_do(rt: HostRuntime) -> Result<(), Fail> {
+    let alloc = rt.alloc();
+    for (words, lines) in OF_INPUTS {
+        let mut memory = with_faults(alloc)?;
+        let ran = ran(alloc, &mut memory, words)?;
+        assert!(rt; ran.is_refused(lines), "{words}: {ran:?}");
+    }
+    Ok(())
+}
+
+/// The refusals that name no input, each with the line beneath it.
+const OF_OTHERS: [(&str, &str); 7] = [
+    (
+        "merge -v --out none/t.tab a.rd",
+        "udfsalvage: cannot write output\n  none/t.tab: the system does not say why\n",
+    ),
+    (
+        "merge -v --out a.rd b.rd",
+        "udfsalvage: cannot write output\n  a.rd is what can not be had again, or not of the kind that is to be written: take another name, or --force where the command has it\n",
+    ),
+    (
+        "extract -v --last 600 --to out disc.tab",
+        "udfsalvage: cannot make the folder\n  out: the system does not say why\n",
+    ),
+    (
+        "forget -v --out t.tab --blocks none.txt disc.tab",
+        "udfsalvage: cannot open list\n  a list of --blocks: the system does not say why\n",
+    ),
+    (
+        "forget -v --out t.tab --blocks a.rd disc.tab",
+        "udfsalvage: list line 1: not a block number\n  a list of --blocks has one decimal number a line, from 0 to 4194303\n",
+    ),
+    (
+        "report -v --last 512 disc.tab",
+        "udfsalvage: fault 1 LastRange\n  the last block is from 513 to 4194303: the disc's size in bytes / 2048 - 1, or give --size\n",
+    ),
+    (
+        "report -v --last 599 disc.tab",
+        "udfsalvage: fault 2 PastEnd 600\n  block 600 is known, so the last block is not 599\n",
+    ),
+];
+
+#[test]
+fn a_refusal_of_no_input_says_what_to_do(rt: HostRuntime) -> Result<(), Fail> {
+    let alloc = rt.alloc();
+    let table = Disc::type1(alloc)?.known_but(alloc, &[])?;
+    for (words, lines) in OF_OTHERS {
+        let mut memory = with_table(alloc, &table)?;
+        memory.store("a.rd", reading(alloc, &[(300, 0x61)])?.as_slice())?;
+        memory.store("b.rd", reading(alloc, &[(301, 0x62)])?.as_slice())?;
+        memory.store("out", b"a file")?;
+        let ran = ran(alloc, &mut memory, words)?;
+        assert!(rt; ran.is_refused(lines), "{words}: {ran:?}");
+    }
+    Ok(())
+}
+
+/// Where nobody watches and nothing more is asked for, and with `-q`, there is one line.
+#[test]
+fn no_more_is_said_than_is_asked_for(rt: HostRuntime) -> Result<(), Fail> {
+    let alloc = rt.alloc();
+    for words in [
+        "merge --out t.tab cut.rd",
+        "merge -q --out t.tab cut.rd",
+        "merge -q -v --out t.tab cut.rd",
+        "merge --verbose --out t.tab cut.rd --quiet",
+    ] {
+        let mut memory = with_faults(alloc)?;
+        let ran = ran(alloc, &mut memory, words)?;
+        assert!(rt;
+            ran.is_refused("udfsalvage: input 1: fault 4 Truncated at record 2\n"),
+            "{words}: {ran:?}"
+        );
+    }
+    let mut memory = with_faults(alloc)?;
+    let ran = ran(alloc, &mut memory, "merge -v --out t.tab a.rd")?;
+    assert!(rt; ran.is_silent(), "{ran:?}");
+    Ok(())
+}
+
+/// What a path has that could forge a line, or turn the direction of text, is escaped.
+#[test]
+fn a_path_forges_no_line(rt: HostRuntime) -> Result<(), Fail> {
+    let alloc = rt.alloc();
+    let mut memory = with_faults(alloc)?;
+    let ran = ran(
+        alloc,
+        &mut memory,
+        "merge -v --out t.tab a\u{202e}b\u{1b}[2J.rd",
+    )?;
+    assert!(rt;
+        ran.is_refused(
+            "udfsalvage: cannot open input 1\n  a\\u202Eb\\u001B[2J.rd: the system does not say why\n"
+        ),
+        "{ran:?}"
+    );
+    Ok(())
+}

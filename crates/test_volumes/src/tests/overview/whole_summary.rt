@@ -1,0 +1,219 @@
+//! The summary, over sample volumes and a sink that fails. The discs have 601 blocks, which are 1,230,848 bytes.
+
+use super::list::Narrow;
+use std::alloc::Global;
+use std::test::Fail;
+use udfs_lattice::BlockTable;
+use udfs_overview::write_summary;
+use udfs_reading::Writer;
+use udfs_salvage::{RunError, survey_volume};
+use udfs_samples::{Disc, LAST, NamedEntry};
+
+fn summed_up(alloc: Global, table: &BlockTable) -> Result<String, Fail> {
+    let survey = survey_volume(alloc, table, LAST)?;
+    let mut text = Writer::new(Vec::new(alloc));
+    write_summary(alloc, &survey, &mut text)?;
+    Ok(String::from_utf8(text.into_inner())?)
+}
+
+/// The blocks that are not known of the volume with one map, and its summary.
+const UNREAD: [(&[u32], &str); 6] = [
+    (
+        &[],
+        "TEST   UDF 1.50, type 1   601 blocks, 1.2 MB\nFiles      2 whole (5.0 kB)   0 torn (0 B of 0 B lost)   0 not yet known\nFolders    1 whole   0 torn\nDisc       601 known   0 not known, of which 0 are needed (0 runs)   0 in conflict\n",
+    ),
+    // 2,048 of 5,000 bytes
+    (
+        &[278],
+        "TEST   UDF 1.50, type 1   601 blocks, 1.2 MB\nFiles      1 whole (2 B)   1 torn (2.0 kB of 5.0 kB lost)   0 not yet known\nFolders    1 whole   0 torn\nDisc       600 known   1 not known, of which 1 are needed (1 runs)   0 in conflict\nTorn       41.0 %  /A   2.0 kB of 5.0 kB lost\nNext       udfsalvage reread --last 600 --mapfile want.map ...\n",
+    ),
+    // the entry of a file
+    (
+        &[275],
+        "TEST   UDF 1.50, type 1   601 blocks, 1.2 MB\nFiles      1 whole (2 B)   0 torn (0 B of 0 B lost)   1 not yet known\nFolders    1 whole   0 torn\nDisc       600 known   1 not known, of which 1 are needed (1 runs)   0 in conflict\nNext       udfsalvage reread --last 600 --mapfile want.map ...\n",
+    ),
+    // the root's body, without which no name leads to the files
+    (
+        &[274],
+        "TEST   UDF 1.50, type 1   601 blocks, 1.2 MB\nFiles      0 whole (0 B)   0 torn (0 B of 0 B lost)   0 not yet known\nFolders    0 whole   1 torn: names may be missing in /\nNo name    2 whole files with data, 0 empty\nDisc       600 known   1 not known, of which 1 are needed (1 runs)   0 in conflict\nNext       udfsalvage reread --last 600 --mapfile want.map ...\n",
+    ),
+    // all places of an anchor
+    (
+        &[256, 344, 600],
+        "does not open: blocks 256, 344 and 600 are needed\nDisc       598 known   3 not known, of which 3 are needed (3 runs)   0 in conflict\nNext       udfsalvage reread --last 600 --mapfile want.map ...\n",
+    ),
+    // the file set
+    (
+        &[272],
+        "does not open: block 272 is needed\nDisc       600 known   1 not known, of which 1 are needed (1 runs)   0 in conflict\nNext       udfsalvage reread --last 600 --mapfile want.map ...\n",
+    ),
+];
+
+#[test]
+fn what_is_and_is_not_known(rt: HostRuntime) -> Result<(), Fail> {
+    let alloc = rt.alloc();
+    for (unread, expected) in UNREAD {
+        let table = Disc::type1(alloc)?.known_but(alloc, unread)?;
+        assert_eq!(rt; summed_up(alloc, &table)?.as_str(), expected);
+    }
+    Ok(())
+}
+
+#[test]
+fn a_fault_in_words(rt: HostRuntime) -> Result<(), Fail> {
+    let alloc = rt.alloc();
+    let table = Disc::blank(alloc).known_but(alloc, &[])?;
+    assert_eq!(rt;
+        summed_up(alloc, &table)?.as_str(),
+        "does not open: there is no anchor\nDisc       601 known   0 not known, of which 0 are needed (0 runs)   0 in conflict\n"
+    );
+    Ok(())
+}
+
+fn first_line(alloc: Global, disc: &Disc) -> Result<String, Fail> {
+    let table = disc.known_but(alloc, &[])?;
+    let text = summed_up(alloc, &table)?;
+    let line = text.lines().next().unwrap_or("");
+    Ok(String::from_str(alloc, line)?)
+}
+
+#[test]
+fn kinds_of_maps_and_labels(rt: HostRuntime) -> Result<(), Fail> {
+    let alloc = rt.alloc();
+    assert_eq!(rt;
+        first_line(alloc, &Disc::sparable(alloc)?)?.as_str(),
+        "TEST   UDF 1.50, sparable   601 blocks, 1.2 MB"
+    );
+    assert_eq!(rt;
+        first_line(alloc, &Disc::two_maps(alloc)?)?.as_str(),
+        "TEST   UDF 1.50, type 1, sparable   601 blocks, 1.2 MB"
+    );
+    let mut disc = Disc::type1(alloc)?;
+    disc.write(&[(32, 84, &[0; 5]), (32, 211, &[0]), (32, 240, &[1, 2])])?;
+    disc.write(&[(48, 84, &[0; 5]), (48, 211, &[0]), (48, 240, &[1, 2])])?;
+    assert_eq!(rt;
+        first_line(alloc, &disc)?.as_str(),
+        "(no label)   UDF 2.01, type 1   601 blocks, 1.2 MB"
+    );
+    Ok(())
+}
+
+/// Three names of the file of which 2,048 of 5,000 bytes are lost, one of them two wide letters, and a name of a file of which 952
+/// of 3,000 are, its entry at the logical block 20 and its bytes from the logical block 8 on.
+#[test]
+fn torn_files_by_loss_and_by_path(rt: HostRuntime) -> Result<(), Fail> {
+    let alloc = rt.alloc();
+    let names: [NamedEntry; 4] = [
+        (b"\x08c", 20),
+        (b"\x10\x65\xe5\x67\x2c", 3),
+        (b"\x08b", 3),
+        (b"\x08a", 3),
+    ];
+    let mut disc = Disc::type1(alloc)?;
+    disc.write_directory(272, 1, &names)?;
+    disc.fill(292, 0)?;
+    disc.write_tag(292, 0, 261, 20)?;
+    disc.write(&[(292, 20, &[4]), (292, 27, &[5]), (292, 56, &[0xb8, 0x0b])])?;
+    disc.write(&[(292, 172, &[8]), (292, 176, &[0xb8, 0x0b, 0, 0, 8])])?;
+    let table = disc.known_but(alloc, &[278, 281])?;
+    assert_eq!(rt;
+        summed_up(alloc, &table)?.as_str(),
+        "TEST   UDF 1.50, type 1   601 blocks, 1.2 MB\nFiles      0 whole (0 B)   4 torn (7.1 kB of 18.0 kB lost)   0 not yet known\nFolders    1 whole   0 torn\nNo name    1 whole files with data, 0 empty\nDisc       599 known   2 not known, of which 2 are needed (2 runs)   0 in conflict\nTorn       41.0 %  /a      2.0 kB of 5.0 kB lost\n           41.0 %  /b      2.0 kB of 5.0 kB lost\n           41.0 %  /日本   2.0 kB of 5.0 kB lost\n           31.7 %  /c       952 B of 3.0 kB lost\nNext       udfsalvage reread --last 600 --mapfile want.map ...\n"
+    );
+    Ok(())
+}
+
+/// Names of one torn file.
+const MANY: [NamedEntry; 22] = [
+    (b"\x08v", 3),
+    (b"\x08u", 3),
+    (b"\x08t", 3),
+    (b"\x08s", 3),
+    (b"\x08r", 3),
+    (b"\x08q", 3),
+    (b"\x08p", 3),
+    (b"\x08o", 3),
+    (b"\x08n", 3),
+    (b"\x08m", 3),
+    (b"\x08l", 3),
+    (b"\x08k", 3),
+    (b"\x08j", 3),
+    (b"\x08i", 3),
+    (b"\x08h", 3),
+    (b"\x08g", 3),
+    (b"\x08f", 3),
+    (b"\x08e", 3),
+    (b"\x08d", 3),
+    (b"\x08c", 3),
+    (b"\x08b", 3),
+    (b"\x08a", 3),
+];
+
+#[test]
+fn no_more_than_twenty_torn_files(rt: HostRuntime) -> Result<(), Fail> {
+    let alloc = rt.alloc();
+    let mut disc = Disc::type1(alloc)?;
+    disc.write_directory(272, 1, &MANY)?;
+    let table = disc.known_but(alloc, &[278])?;
+    let text = summed_up(alloc, &table)?;
+    let mut lines = text.lines();
+    let first = lines.find(|line| line.starts_with("Torn"));
+    assert!(rt; first == Some("Torn       41.0 %  /a   2.0 kB of 5.0 kB lost"));
+    for name in ["b", "c", "d", "e", "f", "g", "h", "i", "j", "k"] {
+        let line = format!(in alloc; "           41.0 %  /{name}   2.0 kB of 5.0 kB lost")?;
+        assert!(rt; lines.next() == Some(line.as_str()), "{name}");
+    }
+    for name in ["l", "m", "n", "o", "p", "q", "r", "s", "t"] {
+        let line = format!(in alloc; "           41.0 %  /{name}   2.0 kB of 5.0 kB lost")?;
+        assert!(rt; lines.next() == Some(line.as_str()), "{name}");
+    }
+    assert!(rt; lines.next() == Some("           and 2 more"));
+    Ok(())
+}
+
+/// A mark that turns the direction of text.
+#[test]
+fn no_name_turns_the_text(rt: HostRuntime) -> Result<(), Fail> {
+    let alloc = rt.alloc();
+    let mut disc = Disc::type1(alloc)?;
+    disc.write_directory(272, 1, &[(b"\x10\x20\x2e\x00a", 3)])?;
+    let table = disc.known_but(alloc, &[278])?;
+    let text = summed_up(alloc, &table)?;
+    let found = text.lines().find(|line| line.starts_with("Torn"));
+    assert!(rt; found == Some("Torn       41.0 %  /\\u202Ea   2.0 kB of 5.0 kB lost"));
+    Ok(())
+}
+
+/// Two directories, at the logical blocks 20 and 22, whose bodies are not known.
+#[test]
+fn several_torn_folders(rt: HostRuntime) -> Result<(), Fail> {
+    let alloc = rt.alloc();
+    let mut disc = Disc::type1(alloc)?;
+    disc.write_directory(272, 1, &[(b"\x08p", 20), (b"\x08q", 22)])?;
+    disc.write_directory(272, 20, &[(b"\x08x", 3)])?;
+    disc.write_directory(272, 22, &[(b"\x08y", 3)])?;
+    let table = disc.known_but(alloc, &[293, 295])?;
+    let text = summed_up(alloc, &table)?;
+    let found = text.lines().find(|line| line.starts_with("Folders"));
+    assert!(rt;
+        found == Some("Folders    1 whole   2 torn: names may be missing in /p and 1 more")
+    );
+    Ok(())
+}
+
+#[test]
+fn a_sink_that_fails_holds_a_beginning(rt: HostRuntime) -> Result<(), Fail> {
+    let alloc = rt.alloc();
+    let (unread, expected) = UNREAD[1];
+    let table = Disc::type1(alloc)?.known_but(alloc, unread)?;
+    let survey = survey_volume(alloc, &table, LAST)?;
+    for good in 0..expected.len() {
+        let bytes = Vec::new(alloc);
+        let mut sink = Writer::new(Narrow { bytes, good });
+        let outcome = write_summary(alloc, &survey, &mut sink);
+        assert!(rt; outcome == Err(RunError::Write), "after {good}");
+        let begun = expected.as_bytes().get(..good).unwrap_or(&[]);
+        assert_eq!(rt; sink.into_inner().bytes.as_slice(), begun, "after {good}");
+    }
+    Ok(())
+}

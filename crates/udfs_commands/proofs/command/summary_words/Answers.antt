@@ -1,0 +1,14 @@
+use Rattle.std.proofs.Common.{rules}
+use Rattle.udfs_commands.proofs.command.summary_words.Goals as goal
+
+pub returns-in-Ok : goal.returns-in-Ok
+returns-in-Ok g c =
+    record {
+      printed = (
+        c.asked_last-last.result,
+        c.as_slice.result.now,
+        search rules,
+        c.asked_last-last.ensures,
+        c.in-Ok.ensures.printed,
+      );
+    }

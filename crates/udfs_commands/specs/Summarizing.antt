@@ -1,0 +1,14 @@
+-- What `summary` prints of a volume.
+--     PrintsSummary     the summary of the table's report
+use Rattle.std.specs.Prelude.{◌≡◌, ℕ, Bool, List, Option}
+use Rattle.udfs_lattice.specs.Tables.{Table, state_of}
+use Rattle.udfs_overview.specs.Summaries.{summary_text}
+use Rattle.udfs_reading.specs.Writing.{Wrote}
+use Rattle.udfs_salvage.specs.Reports.{Report, IsReport, all_whole}
+
+-- the summary of the table's report was printed, and the answer is whether there are nodes and all are whole
+pub record PrintsSummary (last : ℕ) (old new : Option (List ℕ)) (i j : ℕ) (whole : Bool) (table : Table) : Type 0 where
+  pub report : Report
+  pub is_report : IsReport (state_of table) last report
+  pub prints : Wrote old new i j (summary_text table last report)
+  pub says : whole ≡ all_whole report.nodes

@@ -1,0 +1,378 @@
+//! The second line of a refusal, for a person: which file it is, what the system said of it, and what to do next.
+
+use crate::asking::asked_inputs;
+use crate::files::Files;
+use crate::last::asked_last;
+use crate::refusal::Refusal;
+use crate::sources::InputPath;
+use crate::words::{MAPFILE, OUT, TO};
+use clap::ArgMatches;
+use std::alloc::{AllocError, Global};
+use std::fmt;
+use std::io::{Error, ErrorKind};
+use udfs_files::Kind;
+use udfs_overview::push_grouped;
+use udfs_reading::{ReadingError, ReadingFault, Source};
+
+/// What the system says where as many files are open as it lets a program open.
+const TOO_MANY_OPEN: i32 = 24;
+
+/// What the system says of a pipe that is to be read at a position.
+const NO_POSITIONS: i32 = 29;
+
+/// The bytes of a header, of a reading and of a table file: its name, the size of a block, and how many records follow.
+const HEADER: usize = 16;
+
+/// A path as a person is shown it: what could forge a line or turn the direction of text is escaped.
+#[derive(Clone, Copy)]
+struct Shown<'a>(&'a str);
+
+/// Whether a character could forge a line or turn the direction of text.
+fn is_unsafe(c: char) -> bool {
+    matches!(
+        c,
+        '\0'..='\u{1f}'
+            | '\u{7f}'..='\u{9f}'
+            | '\u{61c}'
+            | '\u{200e}'
+            | '\u{200f}'
+            | '\u{2028}'..='\u{202e}'
+            | '\u{2066}'..='\u{2069}'
+    )
+}
+
+impl<'a> fmt::Display for Shown<'a> {
+    fn fmt<W: fmt::Write>(&self, f: &mut fmt::Formatter<W>) -> fmt::Result {
+        for c in self.0.chars() {
+            if is_unsafe(c) {
+                write!(f, "\\u{:04X}", c as u32)?;
+            } else {
+                write!(f, "{c}")?;
+            }
+        }
+        Ok(())
+    }
+}
+
+/// What the system said, where it said something.
+#[derive(Clone, Copy)]
+struct Said(Option<Error>);
+
+impl fmt::Display for Said {
+    fn fmt<W: fmt::Write>(&self, f: &mut fmt::Formatter<W>) -> fmt::Result {
+        match self.0 {
+            Some(error) => write!(f, "{error}"),
+            None => f.write_str("the system does not say why"),
+        }
+    }
+}
+
+/// A mapfile's name beside an image's: that of the image, with `.map` in the place of what follows its last dot.
+#[derive(Clone, Copy)]
+struct MapBeside<'a>(&'a str);
+
+impl<'a> fmt::Display for MapBeside<'a> {
+    fn fmt<W: fmt::Write>(&self, f: &mut fmt::Formatter<W>) -> fmt::Result {
+        let stem = match self.0.rsplit_once('.') {
+            Some((stem, more)) if !stem.is_empty() && !more.contains('/') => stem,
+            _ => self.0,
+        };
+        write!(f, "{}.map", Shown(stem))
+    }
+}
+
+/// The front of a file, read a byte at a time, where it is so long.
+fn front_of<R: Source>(source: &mut R) -> Option<[u8; HEADER]> {
+    let mut header = [0u8; HEADER];
+    for place in &mut header {
+        let mut byte = [0u8; 1];
+        match source.read(&mut byte) {
+            Ok(count) if count > 0 => *place = byte[0],
+            _ => return None,
+        }
+    }
+    Some(header)
+}
+
+/// How many records a file says that it has. What is no file is not read again.
+fn count_of<F: Files>(alloc: Global, path: &str, files: &F) -> Result<Option<u32>, AllocError> {
+    match files.resolve(alloc, path)? {
+        Ok(target) if target.kind == Kind::Regular => {}
+        _ => return Ok(None),
+    }
+    let Ok(mut file) = files.open(path) else {
+        return Ok(None);
+    };
+    let Some(header) = front_of(&mut file) else {
+        return Ok(None);
+    };
+    let count = [header[12], header[13], header[14], header[15]];
+    Ok(Some(u32::from_le_bytes(count)))
+}
+
+/// Appends a number with its thousands separated.
+fn push_number(number: u32, text: &mut String) -> Result<(), AllocError> {
+    match push_grouped(number as u128, text) {
+        Ok(()) => Ok(()),
+        Err(_) => Err(AllocError),
+    }
+}
+
+/// What is said of a reading or a table file that ends inside a record.
+fn of_cut<F: Files>(
+    alloc: Global,
+    path: &str,
+    number: u32,
+    files: &F,
+) -> Result<String, AllocError> {
+    let file = Shown(path);
+    if number == 0 {
+        return format!(in alloc; "{file} is cut short in its header");
+    }
+    let mut line = format!(in alloc; "{file} is cut short in record ")?;
+    push_number(number, &mut line)?;
+    if let Some(count) = count_of(alloc, path, files)? {
+        line.push_str(" of ")?;
+        push_number(count, &mut line)?;
+    }
+    Ok(line)
+}
+
+/// What is said of a reading or a table file that is faulty.
+fn of_file<F: Files>(
+    alloc: Global,
+    path: &str,
+    error: ReadingError,
+    files: &F,
+) -> Result<String, AllocError> {
+    let file = Shown(path);
+    match error.fault {
+        ReadingFault::Magic => {
+            let map = MapBeside(path);
+            format!(in alloc;
+                "{file} is no reading and no table; an image wants its map: --ddrescue {file} {map}"
+            )
+        }
+        ReadingFault::Truncated => of_cut(alloc, path, error.number, files),
+        ReadingFault::Trailing => { format!(in alloc; "{file} goes on behind its last record") }
+        ReadingFault::Io => format!(in alloc; "{file}: {}", Said(files.reason())),
+        _ => {
+            format!(in alloc;
+                "{file} is damaged, or was not written as it should be: use another copy of it"
+            )
+        }
+    }
+}
+
+/// What is said of an input that is faulty.
+fn of_input<F: Files>(
+    alloc: Global,
+    input: InputPath<'_>,
+    error: ReadingError,
+    files: &F,
+) -> Result<String, AllocError> {
+    match input {
+        InputPath::File(path) => of_file(alloc, path, error, files),
+        InputPath::Pair(image, map) => match error.fault {
+            ReadingFault::Io => {
+                format!(in alloc;
+                    "{} or {}: {}",
+                    Shown(image),
+                    Shown(map),
+                    Said(files.reason())
+                )
+            }
+            _ => {
+                format!(in alloc;
+                    "{} is the map of something larger than such a disc",
+                    Shown(map)
+                )
+            }
+        },
+    }
+}
+
+/// What is said of an input that could not be opened.
+fn of_unopened(
+    alloc: Global,
+    input: InputPath<'_>,
+    reason: Option<Error>,
+) -> Result<String, AllocError> {
+    let more = match reason {
+        Some(error) if error.raw_os_error() == Some(TOO_MANY_OPEN) => {
+            ": ulimit -n is how many may be open at once; merge in groups, and then their tables"
+        }
+        Some(error) if error.raw_os_error() == Some(NO_POSITIONS) => {
+            ": the image has to be a file or a device, and no pipe"
+        }
+        _ => "",
+    };
+    let said = Said(reason);
+    match input {
+        InputPath::File(path) => format!(in alloc; "{}: {said}{more}", Shown(path)),
+        InputPath::Pair(image, map) => {
+            format!(in alloc; "{} or {}: {said}{more}", Shown(image), Shown(map))
+        }
+    }
+}
+
+/// What is said of a mapfile that is malformed.
+fn of_map(alloc: Global, input: InputPath<'_>) -> Result<String, AllocError> {
+    match input {
+        InputPath::File(path) => format!(in alloc; "{}", Shown(path)),
+        InputPath::Pair(image, map) => {
+            format!(in alloc;
+                "{} is no mapfile of GNU ddrescue; the image comes first: --ddrescue IMAGE MAPFILE, here {} and {}",
+                Shown(map),
+                Shown(image),
+                Shown(map)
+            )
+        }
+    }
+}
+
+/// What is said of an image that ends too early.
+fn of_short_image(alloc: Global, input: InputPath<'_>, block: u64) -> Result<String, AllocError> {
+    match input {
+        InputPath::File(path) => format!(in alloc; "{}", Shown(path)),
+        InputPath::Pair(image, map) => {
+            format!(in alloc;
+                "{} says that block {block} was read, and {} ends before it: are they of one pass?",
+                Shown(map),
+                Shown(image)
+            )
+        }
+    }
+}
+
+/// What is said of a refusal that names an input.
+fn of_named_input<F: Files>(
+    alloc: Global,
+    refusal: &Refusal,
+    input: InputPath<'_>,
+    files: &F,
+) -> Result<Option<String>, AllocError> {
+    let line = match refusal {
+        Refusal::Input(_, error) => of_input(alloc, input, *error, files)?,
+        Refusal::Mapfile(_, _) => of_map(alloc, input)?,
+        Refusal::ImageEnds(_, block) => of_short_image(alloc, input, *block)?,
+        Refusal::Open(_) => of_unopened(alloc, input, files.reason())?,
+        _ => return Ok(None),
+    };
+    Ok(Some(line))
+}
+
+/// The path of the file that the words ask to write, where they ask for one.
+fn asked_output<'a>(words: &ArgMatches<'a>) -> Option<&'a str> {
+    match words.get_str(OUT) {
+        Some(out) => Some(out),
+        None => words.get_str(MAPFILE),
+    }
+}
+
+/// What is said of an output that could not be written, where it is no stream.
+fn of_output(
+    alloc: Global,
+    words: &ArgMatches<'_>,
+    reason: Option<Error>,
+) -> Result<Option<String>, AllocError> {
+    match asked_output(words) {
+        Some(out) => Ok(Some(format!(in alloc; "{}: {}", Shown(out), Said(reason))?)),
+        None => Ok(None),
+    }
+}
+
+/// What is said of an output that is not to be written over.
+fn of_spared(alloc: Global, words: &ArgMatches<'_>) -> Result<Option<String>, AllocError> {
+    match asked_output(words) {
+        Some(out) => Ok(Some(format!(in alloc;
+            "{} is what can not be had again, or not of the kind that is to be written: take another name, or --force where the command has it",
+            Shown(out)
+        )?)),
+        None => Ok(None),
+    }
+}
+
+/// What is said of a folder that could not be made.
+fn of_folder(
+    alloc: Global,
+    words: &ArgMatches<'_>,
+    reason: Option<Error>,
+) -> Result<Option<String>, AllocError> {
+    let folder = Shown(words.get_str(TO).unwrap_or(""));
+    let line = match reason {
+        Some(error) if error.kind() == ErrorKind::AlreadyExists => {
+            format!(in alloc; "{folder} exists already; extract wants a new folder")?
+        }
+        _ => format!(in alloc; "{folder}: {}", Said(reason))?,
+    };
+    Ok(Some(line))
+}
+
+/// What is said of a refusal that names no input.
+fn of_other(
+    alloc: Global,
+    refusal: &Refusal,
+    words: &ArgMatches<'_>,
+    reason: Option<Error>,
+) -> Result<Option<String>, AllocError> {
+    let line = match refusal {
+        Refusal::Output => return of_output(alloc, words, reason),
+        Refusal::Spared => return of_spared(alloc, words),
+        Refusal::Folder => return of_folder(alloc, words, reason),
+        Refusal::ListOpen | Refusal::ListRead => {
+            format!(in alloc; "a list of --blocks: {}", Said(reason))?
+        }
+        Refusal::ListLine(_) => {
+            format!(in alloc;
+                "a list of --blocks has one decimal number a line, from 0 to 4194303"
+            )?
+        }
+        Refusal::LastRange => {
+            format!(in alloc;
+                "the last block is from 513 to 4194303: the disc's size in bytes / 2048 - 1, or give --size"
+            )?
+        }
+        Refusal::PastEnd(block) => {
+            format!(in alloc;
+                "block {block} is known, so the last block is not {}",
+                asked_last(words)
+            )?
+        }
+        Refusal::Memory(_) => {
+            format!(in alloc;
+                "each known block is held in memory, 2048 bytes of it: free some, or take a larger machine"
+            )?
+        }
+        _ => return Ok(None),
+    };
+    Ok(Some(line))
+}
+
+/// The number of the input that a refusal names, counted from 1.
+fn named_input(refusal: &Refusal) -> Option<usize> {
+    match refusal {
+        Refusal::Input(number, _)
+        | Refusal::Mapfile(number, _)
+        | Refusal::ImageEnds(number, _)
+        | Refusal::Open(number) => Some(*number),
+        _ => None,
+    }
+}
+
+/// What there is to say to a person beneath a refusal's line, if anything: which file it is, what the system said of it, and what to do next.
+pub fn second_line<F: Files>(
+    alloc: Global,
+    refusal: &Refusal,
+    words: &ArgMatches<'_>,
+    files: &F,
+) -> Result<Option<String>, AllocError> {
+    let Some(number) = named_input(refusal) else {
+        return of_other(alloc, refusal, words, files.reason());
+    };
+    let inputs = asked_inputs(alloc, words)?;
+    match inputs.get(number.saturating_sub(1)) {
+        Some(input) => of_named_input(alloc, refusal, *input, files),
+        None => Ok(None),
+    }
+}

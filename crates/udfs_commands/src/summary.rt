@@ -1,0 +1,33 @@
+//! The command `summary`: readings in, what a person wants to know of their volume out.
+
+ghost use Rattle.std.specs.Prelude.{IfOk};
+ghost use Rattle.udfs_commands.specs.Keeping.{OfPaths};
+ghost use Rattle.udfs_commands.specs.Summarizing.{PrintsSummary};
+ghost use Rattle.udfs_commands.specs.declared.sources.AnySource.{AnySource};
+
+use crate::files::Files;
+use crate::inputs::joined;
+use crate::refusal::Refusal;
+use crate::sources::{AnySource, InputPath};
+use std::alloc::Global;
+use udfs_overview::write_summary;
+use udfs_reading::{Sink, Source};
+use udfs_salvage::survey_volume;
+
+/// Joins the inputs, and prints the summary of the volume, of which `last` is the last block. It answers whether there are files and
+/// all of them are whole. All inputs are opened in order before one is read.
+pub fn summary<F: Files, O: Sink>(
+    alloc: Global,
+    inputs: &[InputPath<'_>],
+    last: u32,
+    files: &F,
+    out: &mut O,
+) -> Result<bool, Refusal>
+    ensures printed { IfOk result (λ whole. OfPaths (λ path. F.holds files.now (F.real files.now path)) (⟦<AnySource<F::Input, F::Image> as Source>⟧.remaining) inputs.now
+        (PrintsSummary last (O.contents out.old) (O.contents out.new) (O.faults out.old) (O.faults out.new) whole)) }
+{
+    let table = joined(alloc, inputs, files)?;
+    let survey = survey_volume(alloc, &table, last)?;
+    write_summary(alloc, &survey, out)?;
+    Ok(survey.all_whole())
+}
