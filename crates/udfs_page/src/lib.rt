@@ -1,0 +1,9 @@
+// SPDX-License-Identifier: MIT OR Apache-2.0
+//! The page of a volume: one HTML file with what can be salvaged of a disc, for a person to read, to print and to keep.
+#![tactic(auto)]
+
+mod disc_arcs;
+mod escapes;
+
+pub use disc_arcs::{Mark, arcs};
+pub use escapes::{html_gives_the_text_back, html_injects_nothing, push_html};
