@@ -5,7 +5,7 @@
 #                   goes from a damaged disc to its files with GNU ddrescue where it is installed
 #   make hostile    refuses each allocation of many runs in turn, makes each system call of the program's runs fail or ends it there,
 #                   and changes each byte of the sample discs' descriptors
-#   make try        tries the built program on this machine's own files and devices, and with GNU ddrescue where it is installed
+#   make try        tries the built program on this machine's own files and devices and on a terminal, and with GNU ddrescue where it is installed
 #   make install    puts the program, its man page and its completions below PREFIX; make uninstall takes them away
 #   make clean      removes all that was made
 #   make dist       a tar of the sources, and one of the built program, in out/
@@ -71,7 +71,9 @@ demo: all
 test: have-rt
 	@$(RT) ci
 	@$(MAKE) -s --no-print-directory hostile
+	@tools/try-terminal $(PROGRAM) examples
 	@tools/try-ddrescue $(PROGRAM) examples
+	@tools/try-readme $(PROGRAM) examples
 
 hostile: all
 	@$(MAKE) -s --no-print-directory $(TRIES)
@@ -81,6 +83,7 @@ hostile: all
 
 try: all
 	@tools/try-machine $(PROGRAM) examples
+	@tools/try-terminal $(PROGRAM) examples
 	@tools/try-ddrescue $(PROGRAM) examples
 
 # Where the program is built, neither rt nor anything of the toolchain is needed.

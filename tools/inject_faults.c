@@ -81,27 +81,18 @@ static int open_at(int folder, const char *path, int flags, va_list more) {
     return fails("open") ? -1 : (int)syscall(SYS_openat, folder, path, flags, mode);
 }
 
-#define OPENS(name)                                             \
-    int name(const char *path, int flags, ...) {                \
-        va_list more;                                           \
-        va_start(more, flags);                                  \
-        int made = open_at(AT_FDCWD, path, flags, more);        \
-        va_end(more);                                           \
-        return made;                                            \
-    }
-OPENS(open)
-OPENS(open64)
-
-#define OPENS_AT(name)                                          \
-    int name(int folder, const char *path, int flags, ...) {    \
+#define OPENS(name, parameters, folder)                         \
+    int name parameters {                                       \
         va_list more;                                           \
         va_start(more, flags);                                  \
         int made = open_at(folder, path, flags, more);          \
         va_end(more);                                           \
         return made;                                            \
     }
-OPENS_AT(openat)
-OPENS_AT(openat64)
+OPENS(open, (const char *path, int flags, ...), AT_FDCWD)
+OPENS(open64, (const char *path, int flags, ...), AT_FDCWD)
+OPENS(openat, (int folder, const char *path, int flags, ...), folder)
+OPENS(openat64, (int folder, const char *path, int flags, ...), folder)
 
 ssize_t read(int fd, void *bytes, size_t size) {
     ssize_t most = room("read", size);

@@ -19,7 +19,7 @@ parts (a ∷ b ∷ c ∷ d ∷ ws) = None
 
 -- ---- the words of a status line: a number, what ddrescue was doing, and the pass, a decimal number from 1 on
 
--- one of ? * / - F G +
+-- one of ?, *, /, -, F, G and +
 abbrev pub is_phase_byte : ℕ → Bool
 is_phase_byte b = b == 63 || (b == 42 || (b == 47 || (b == 45 || (b == 70 || (b == 71 || b == 43)))))
 
@@ -46,7 +46,7 @@ status_of ws = status_by (parts ws)
 
 -- ---- the words of a run: where it begins, its size, and its status
 
--- the status of ? * / - +, and of no other byte
+-- the status of ?, *, /, - and +, and of no other byte
 abbrev pub run_status_byte : ℕ → Option RunStatus
 run_status_byte b =
     if b == 63 then Some NonTried else

@@ -28,7 +28,7 @@ table_status t n = state_status (state_of t n)
 
 -- ---- its runs
 
--- the byte ? * / - or +
+-- the byte ?, *, /, - or +
 abbrev pub status_byte : RunStatus → ℕ
 status_byte NonTried = 63
 status_byte NonTrimmed = 42
