@@ -7,3 +7,6 @@ mod escapes;
 
 pub use disc_arcs::{Mark, arcs};
 pub use escapes::{html_gives_the_text_back, html_injects_nothing, push_html};
+
+#[cfg(test)]
+mod tests;
