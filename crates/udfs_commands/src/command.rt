@@ -1,16 +1,16 @@
 //! The program as a function: words and files in, a status out.
 
-ghost use Rattle.std.specs.Prelude.{◌≡◌, ◌≢◌, ◌⊎◌, ℕ, List, Bool, true, false, List, Some, None, Ok, IfOk, IfErr, IfSome, IsErrOf, OnOk, OnErr, codes, cond, length, map};
+ghost use Rattle.std.specs.Prelude.{◌≡◌, ◌≢◌, ◌⊎◌, ℕ, List, Bool, true, false, Some, None, IfOk, IfSome, OnOk, OnErr, codes, cond, map};
 ghost use Rattle.clap.specs.Matches.{found_of, one_text};
 ghost use Rattle.udfs_lattice.specs.Tables.{Table};
 ghost use Rattle.udfs_lattice.specs.Records.{join_all};
-ghost use Rattle.udfs_files.specs.Disk.{After, Disk, Fails, Goes, IsOwn};
+ghost use Rattle.udfs_files.specs.Disk.{Fails};
 ghost use Rattle.udfs_salvage.specs.declared.extraction.Fill.{Fill};
 ghost use Rattle.udfs_commands.specs.Asking.{IsLast, IsOneEnd, IsPicked, asked_for, asked_inputs, folder_text, input_texts, is_mapped, mapfile_text, out_text, pair_texts};
-ghost use Rattle.udfs_commands.specs.Extracting.{ExtractsAll, IsIn, IsPut, Spares, Stay};
+ghost use Rattle.udfs_commands.specs.Extracting.{ExtractsAll, IsPut};
 ghost use Rattle.udfs_commands.specs.Forgetting.{PutsForgotten};
 ghost use Rattle.udfs_commands.specs.Imaging.{IsFreePair, ReplacesPair, WritesImage};
-ghost use Rattle.udfs_commands.specs.Guarding.{IsFree, IsFreeMap, IsSpared, IsSparedMap, SomeShut};
+ghost use Rattle.udfs_commands.specs.Guarding.{IsFree, IsFreeMap};
 ghost use Rattle.udfs_commands.specs.JsonRuns.{PrintsAs};
 ghost use Rattle.udfs_commands.specs.Keeping.{IsKept, IsTaken, Joined, OfPaths};
 ghost use Rattle.udfs_commands.specs.declared.sources.AnySource.{AnySource};
@@ -28,34 +28,23 @@ ghost use Rattle.udfs_commands.specs.Spelling.{table_file};
 ghost use Rattle.udfs_commands.specs.declared.merge.Version.{Version};
 ghost use Rattle.udfs_commands.specs.declared.report.Form.{Form};
 
-use crate::asking::asked_inputs;
-use crate::extract::extract;
+use crate::extract_words::extract_words;
 use crate::files::Files;
-use crate::forget::forget;
-use crate::guard::{Outlook, look_at, look_at_map};
+use crate::forget_words::forget_words;
 use crate::hints::second_line;
 use crate::image_words::image_words;
-use crate::inputs::unwritten;
-use crate::last::{EndFault, asked_last, end_fault};
-use crate::list::list;
-use crate::merge::{Version, merge};
+use crate::last::{EndFault, end_fault};
+use crate::merge_words::merge_words;
 use crate::printing::send;
 use crate::refusal::Refusal;
-use crate::report::{Form, report_as};
-use crate::reread::reread;
-use crate::reread_map::reread_map;
-use crate::sources::{AnySource, InputPath};
-use crate::summary::summary;
-use crate::words::{
-    BLOCKS, CONFLICTS, FILL, FORCE, INPUTS, JSON, MAPFILE, NULL, OUT, PAIRS, PATHS, QUIET, TO,
-    TORN, V1, VERBOSE, given_in, grammar,
-};
+use crate::report_words::{list_words, report_words, summary_words};
+use crate::reread_words::reread_as;
+use crate::sources::AnySource;
+use crate::words::{QUIET, VERBOSE, given_in, grammar};
 use clap::error::ErrorKind;
 use clap::{ArgMatches, Error};
 use std::alloc::{AllocError, Global};
-use udfs_overview::ListForm;
 use udfs_reading::{DeviceFault, Sink, Source};
-use udfs_salvage::Fill;
 
 /// The line for want of memory, which itself takes none.
 const NO_MEMORY: &[u8] = b"udfsalvage: out of memory\n";
@@ -286,397 +275,6 @@ fn explain<F: Files, E: Sink>(
     {
         let _ = send(line.as_bytes(), err);
     }
-}
-
-/// Does what the words after `merge` ask for.
-fn merge_words<F: Files>(
-    alloc: Global,
-    words: &ArgMatches<'_>,
-    files: &mut F,
-) -> Result<(), Refusal>
-    ensures written { OnOk result ((version : Version) × (inputs : List InputPath) × (tables : List Table) × IsPicked (found_of words.now) (codes "v1") Version.One Version.Two version ×
-        (map asked_for inputs ≡ asked_inputs (found_of words.now)) × Joined (λ path. F.holds files.old (F.real files.old path)) (⟦<AnySource<F::Input, F::Image> as Source>⟧.remaining) inputs tables ×
-        ((F.tells → IsKept (F.holds files.new) (F.may_leave files.new) (F.real files.old (out_text (found_of words.now))) (table_file version (join_all tables)))
-        ⊎ (F.in_place files.old (out_text (found_of words.now)) × IsTaken F.Output.contents (table_file version (join_all tables))))) }
-    // A crash at any moment of the call leaves all as it was, or with the output in its place, whole.
-    ensures any_moment { F.tells → (F.in_place files.old (out_text (found_of words.now)) → ⊥) → (c : Disk) → F.left_since files.new (F.moment files.old) c →
-        After (F.may_leave files.old) (MayMerge (λ path. F.holds files.old (F.real files.old path)) (⟦<AnySource<F::Input, F::Image> as Source>⟧.remaining) (F.real files.old) (found_of words.now)) c }
-    ensures untouched { IfErr result (λ refusal. refusal ≢ Refusal.Output → refusal ≢ Refusal.Unkept → files.new ≡ files.old) }
-    // A refused output leaves what its path held.
-    ensures refused { IsErrOf result Refusal.Output → F.tells → (F.in_place files.old (out_text (found_of words.now)) → ⊥) → F.holds files.new (F.real files.old (out_text (found_of words.now))) ≡ F.holds files.old (F.real files.old (out_text (found_of words.now))) }
-    // The table file is in its place where only the folder could not be synced.
-    ensures unkept { IsErrOf result Refusal.Unkept → F.tells → (version : Version) × (inputs : List InputPath) × (tables : List Table) × IsPicked (found_of words.now) (codes "v1") Version.One Version.Two version ×
-        (map asked_for inputs ≡ asked_inputs (found_of words.now)) × Joined (λ path. F.holds files.old (F.real files.old path)) (⟦<AnySource<F::Input, F::Image> as Source>⟧.remaining) inputs tables ×
-        (F.holds files.new (F.real files.old (out_text (found_of words.now))) ≡ Some (Some (table_file version (join_all tables)))) }
-    // No other path changes, but for those of new files that are to go in its place.
-    ensures elsewhere { F.tells → (F.in_place files.old (out_text (found_of words.now)) → ⊥) → (q : List ℕ) → q ≢ F.real files.old (out_text (found_of words.now)) → (¬ IsOwn (F.real files.old (out_text (found_of words.now))) q) → F.holds files.new q ≡ F.holds files.old q }
-    // It takes the place of no pass that is no input, but by force, and never that of an image or a mapfile of the inputs.
-    ensures free { OnOk result ((force : Bool) × IsPicked (found_of words.now) (codes "force") true false force ×
-        (F.tells → IsFree (F.holds files.old) (F.real files.old) (F.in_place files.old) (input_texts (found_of words.now)) (pair_texts (found_of words.now)) force (out_text (found_of words.now)))) }
-    ensures spared { IsErrOf result Refusal.Spared → (force : Bool) × IsPicked (found_of words.now) (codes "force") true false force ×
-        (F.tells → IsSpared (F.holds files.old) (F.real files.old) (input_texts (found_of words.now)) (pair_texts (found_of words.now)) force (out_text (found_of words.now))) }
-{
-    let Ok(inputs) = asked_inputs(alloc, words) else {
-        return Err(Refusal::Memory(AllocError));
-    };
-    let force = asked_force(words);
-    match asked_outlook(alloc, words, force, files) {
-        Ok(Outlook::Free) => {}
-        Ok(Outlook::Spared) => return Err(Refusal::Spared),
-        Ok(Outlook::Unknown) => return Err(unwritten(alloc, inputs.as_slice(), files)),
-        Err(AllocError) => return Err(Refusal::Memory(AllocError)),
-    }
-    match merge(
-        alloc,
-        inputs.as_slice(),
-        asked_out(words),
-        asked_version(words),
-        files,
-    ) {
-        Ok(()) => Ok(()),
-        Err(refusal) => Err(refusal),
-    }
-}
-
-/// Does what the words after `forget` ask for.
-fn forget_words<F: Files>(
-    alloc: Global,
-    words: &ArgMatches<'_>,
-    files: &mut F,
-) -> Result<(), Refusal>
-    ensures written { OnOk result (PutsForgotten (λ path. F.holds files.old (F.real files.old path)) (⟦<AnySource<F::Input, F::Image> as Source>⟧.remaining) (found_of words.now)
-        (λ bytes. (F.tells → IsKept (F.holds files.new) (F.may_leave files.new) (F.real files.old (out_text (found_of words.now))) bytes) ⊎ (F.in_place files.old (out_text (found_of words.now)) × IsTaken F.Output.contents bytes))) }
-    // A crash at any moment of the call leaves all as it was, or with the output in its place, whole.
-    ensures any_moment { F.tells → (F.in_place files.old (out_text (found_of words.now)) → ⊥) → (c : Disk) → F.left_since files.new (F.moment files.old) c →
-        After (F.may_leave files.old) (MayForgetAsked (λ path. F.holds files.old (F.real files.old path)) (⟦<AnySource<F::Input, F::Image> as Source>⟧.remaining) (F.real files.old) (found_of words.now)) c }
-    ensures untouched { IfErr result (λ refusal. refusal ≢ Refusal.Output → refusal ≢ Refusal.Unkept → files.new ≡ files.old) }
-    // A refused output leaves what its path held.
-    ensures refused { IsErrOf result Refusal.Output → F.tells → (F.in_place files.old (out_text (found_of words.now)) → ⊥) → F.holds files.new (F.real files.old (out_text (found_of words.now))) ≡ F.holds files.old (F.real files.old (out_text (found_of words.now))) }
-    // No other path changes, but for those of new files that are to go in its place.
-    ensures elsewhere { F.tells → (F.in_place files.old (out_text (found_of words.now)) → ⊥) → (q : List ℕ) → q ≢ F.real files.old (out_text (found_of words.now)) → (¬ IsOwn (F.real files.old (out_text (found_of words.now))) q) → F.holds files.new q ≡ F.holds files.old q }
-    // It takes the place of no pass that is no input, but by force, and never that of an image or a mapfile of the inputs.
-    ensures free { OnOk result ((force : Bool) × IsPicked (found_of words.now) (codes "force") true false force ×
-        (F.tells → IsFree (F.holds files.old) (F.real files.old) (F.in_place files.old) (input_texts (found_of words.now)) (pair_texts (found_of words.now)) force (out_text (found_of words.now)))) }
-    ensures spared { IsErrOf result Refusal.Spared → (force : Bool) × IsPicked (found_of words.now) (codes "force") true false force ×
-        (F.tells → IsSpared (F.holds files.old) (F.real files.old) (input_texts (found_of words.now)) (pair_texts (found_of words.now)) force (out_text (found_of words.now))) }
-{
-    let Ok(inputs) = asked_inputs(alloc, words) else {
-        return Err(Refusal::Memory(AllocError));
-    };
-    let force = asked_force(words);
-    match asked_outlook(alloc, words, force, files) {
-        Ok(Outlook::Free) => {}
-        Ok(Outlook::Spared) => return Err(Refusal::Spared),
-        Ok(Outlook::Unknown) => return Err(unwritten(alloc, inputs.as_slice(), files)),
-        Err(AllocError) => return Err(Refusal::Memory(AllocError)),
-    }
-    match forget(
-        alloc,
-        inputs.as_slice(),
-        asked_conflicts(words),
-        words.get_strs(BLOCKS).unwrap_or(&[]),
-        asked_out(words),
-        files,
-    ) {
-        Ok(()) => Ok(()),
-        Err(refusal) => Err(refusal),
-    }
-}
-
-/// Whether the words after `forget` name the blocks in conflict.
-fn asked_conflicts(words: &ArgMatches<'_>) -> bool
-    ensures { IsPicked (found_of words.now) (codes "conflicts") true false result }
-{
-    words.get_flag(CONFLICTS)
-}
-
-/// What is known of the output that the words after `merge` ask for.
-fn asked_outlook<F: Files>(
-    alloc: Global,
-    words: &ArgMatches<'_>,
-    force: bool,
-    files: &F,
-) -> Result<Outlook, AllocError>
-    ensures free { IfOk result (λ found. found ≡ Outlook.Free → F.tells → IsFree (F.holds files.now) (F.real files.now) (F.in_place files.now) (input_texts (found_of words.now)) (pair_texts (found_of words.now)) force (out_text (found_of words.now))) }
-    ensures spared { IfOk result (λ found. found ≡ Outlook.Spared → F.tells → IsSpared (F.holds files.now) (F.real files.now) (input_texts (found_of words.now)) (pair_texts (found_of words.now)) force (out_text (found_of words.now))) }
-    ensures unknown { IfOk result (λ found. found ≡ Outlook.Unknown → F.shut files.now (out_text (found_of words.now)) ⊎ SomeShut (F.shut files.now) (pair_texts (found_of words.now)) ⊎ SomeShut (F.shut files.now) (input_texts (found_of words.now)) ⊎ Fails F.Input.faults) }
-{
-    let inputs = words.get_strs(INPUTS).unwrap_or(&[]);
-    let parts = words.get_strs(PAIRS).unwrap_or(&[]);
-    let found = look_at(alloc, inputs, parts, force, asked_out(words), files)?;
-    Ok(found)
-}
-
-/// Whether the words after `merge` ask to write over a reading that is no input.
-fn asked_force(words: &ArgMatches<'_>) -> bool
-    ensures { IsPicked (found_of words.now) (codes "force") true false result }
-{
-    words.get_flag(FORCE)
-}
-
-/// The path of the output among the words after `merge`. The grammar asks for it.
-fn asked_out<'a>(words: &ArgMatches<'a>) -> &'a str
-    ensures { result.now ≡ out_text (found_of words.now) }
-{
-    words.get_str(OUT).unwrap_or("")
-}
-
-/// The version of the table file that the words after `merge` ask for: 1 with `--v1`, and else 2.
-fn asked_version(words: &ArgMatches<'_>) -> Version
-    ensures unset { one_text (found_of words.now) (codes "v1") ≡ None → result ≡ Version.Two }
-    ensures without { one_text (found_of words.now) (codes "v1") ≡ Some (codes "false") → result ≡ Version.Two }
-    ensures with { one_text (found_of words.now) (codes "v1") ≡ Some (codes "true") → result ≡ Version.One }
-{
-    if words.get_flag(V1) {
-        return Version::One;
-    }
-    Version::Two
-}
-
-/// Does what the words after `report` ask for.
-fn report_words<F: Files, O: Sink>(
-    alloc: Global,
-    words: &ArgMatches<'_>,
-    files: &F,
-    out: &mut O,
-) -> Result<bool, Refusal>
-    ensures printed { IfOk result (λ whole. (form : Form) × (last : ℕ) × (inputs : List InputPath) × (map asked_for inputs ≡ asked_inputs (found_of words.now)) ×
-        IsPicked (found_of words.now) (codes "json") Form.Json Form.Text form × IsLast (found_of words.now) last ×
-        OfPaths (λ path. F.holds files.now (F.real files.now path)) (⟦<AnySource<F::Input, F::Image> as Source>⟧.remaining) inputs (PrintsAs form last (O.contents out.old) (O.contents out.new) (O.faults out.old) (O.faults out.new) whole)) }
-{
-    let inputs = asked_inputs(alloc, words)?;
-    let last = asked_last(words);
-    let form = asked_form(words);
-    match report_as(alloc, inputs.as_slice(), last, form, files, out) {
-        Ok(whole) => Ok(whole),
-        Err(refusal) => Err(refusal),
-    }
-}
-
-/// The form of the report that the words after `report` ask for: JSON with `--json`, and else text.
-fn asked_form(words: &ArgMatches<'_>) -> Form
-    ensures unset { one_text (found_of words.now) (codes "json") ≡ None → result ≡ Form.Text }
-    ensures without { one_text (found_of words.now) (codes "json") ≡ Some (codes "false") → result ≡ Form.Text }
-    ensures with { one_text (found_of words.now) (codes "json") ≡ Some (codes "true") → result ≡ Form.Json }
-{
-    if words.get_flag(JSON) {
-        return Form::Json;
-    }
-    Form::Text
-}
-
-/// Does what the words after `reread` ask for: a mapfile with `--mapfile`, and else the numbers.
-fn reread_as<F: Files, O: Sink>(
-    alloc: Global,
-    words: &ArgMatches<'_>,
-    files: &mut F,
-    out: &mut O,
-) -> Result<bool, Refusal>
-    ensures printed { IfOk result (λ whole. is_mapped (found_of words.now) ≡ false → (last : ℕ) × (inputs : List InputPath) × (map asked_for inputs ≡ asked_inputs (found_of words.now)) ×
-        IsLast (found_of words.now) last × OfPaths (λ path. F.holds files.old (F.real files.old path)) (⟦<AnySource<F::Input, F::Image> as Source>⟧.remaining) inputs
-        (PrintsNumbers last (O.contents out.old) (O.contents out.new) (O.faults out.old) (O.faults out.new) whole)) }
-    ensures written { IfOk result (λ whole. is_mapped (found_of words.now) ≡ true → WritesDomain (λ path. F.holds files.old (F.real files.old path)) (⟦<AnySource<F::Input, F::Image> as Source>⟧.remaining) (found_of words.now)
-        (λ bytes. (F.tells → IsKept (F.holds files.new) (F.may_leave files.new) (F.real files.old (mapfile_text (found_of words.now))) bytes) ⊎ (F.in_place files.old (mapfile_text (found_of words.now)) × IsTaken F.Output.contents bytes))
-        (O.contents out.old) (O.contents out.new) (O.faults out.old) (O.faults out.new) whole ×
-        (F.tells → IsFreeMap (F.holds files.old) (F.real files.old) (F.in_place files.old) (pair_texts (found_of words.now)) (mapfile_text (found_of words.now)))) }
-    ensures numbers { is_mapped (found_of words.now) ≡ false → files.new ≡ files.old }
-    // A crash at any moment of the call leaves all as it was, or with the mapfile in its place, whole.
-    ensures any_moment { F.tells → (F.in_place files.old (mapfile_text (found_of words.now)) → ⊥) → (c : Disk) → F.left_since files.new (F.moment files.old) c →
-        After (F.may_leave files.old) (MayDomainAsked (λ path. F.holds files.old (F.real files.old path)) (⟦<AnySource<F::Input, F::Image> as Source>⟧.remaining) (F.real files.old) (found_of words.now)) c }
-    // No other path changes, but for those of new files that are to go in its place.
-    ensures elsewhere { F.tells → (F.in_place files.old (mapfile_text (found_of words.now)) → ⊥) → (q : List ℕ) → q ≢ F.real files.old (mapfile_text (found_of words.now)) → (¬ IsOwn (F.real files.old (mapfile_text (found_of words.now))) q) → F.holds files.new q ≡ F.holds files.old q }
-{
-    if words.contains_id(MAPFILE) {
-        return match reread_map_words(alloc, words, files, out) {
-            Ok(whole) => Ok(whole),
-            Err(refusal) => Err(refusal),
-        };
-    }
-    match reread_words(alloc, words, files, out) {
-        Ok(whole) => Ok(whole),
-        Err(refusal) => Err(refusal),
-    }
-}
-
-/// Does what the words after `reread` ask for where a mapfile is to be written.
-fn reread_map_words<F: Files, O: Sink>(
-    alloc: Global,
-    words: &ArgMatches<'_>,
-    files: &mut F,
-    out: &mut O,
-) -> Result<bool, Refusal>
-    ensures written { IfOk result (λ whole. WritesDomain (λ path. F.holds files.old (F.real files.old path)) (⟦<AnySource<F::Input, F::Image> as Source>⟧.remaining) (found_of words.now)
-        (λ bytes. (F.tells → IsKept (F.holds files.new) (F.may_leave files.new) (F.real files.old (mapfile_text (found_of words.now))) bytes) ⊎ (F.in_place files.old (mapfile_text (found_of words.now)) × IsTaken F.Output.contents bytes))
-        (O.contents out.old) (O.contents out.new) (O.faults out.old) (O.faults out.new) whole) }
-    // It takes the place of no file but a mapfile of ddrescue's kind, and never that of an image or a mapfile of the inputs.
-    ensures free { OnOk result (F.tells → IsFreeMap (F.holds files.old) (F.real files.old) (F.in_place files.old) (pair_texts (found_of words.now)) (mapfile_text (found_of words.now))) }
-    // A crash at any moment of the call leaves all as it was, or with the mapfile in its place, whole.
-    ensures any_moment { F.tells → (F.in_place files.old (mapfile_text (found_of words.now)) → ⊥) → (c : Disk) → F.left_since files.new (F.moment files.old) c →
-        After (F.may_leave files.old) (MayDomainAsked (λ path. F.holds files.old (F.real files.old path)) (⟦<AnySource<F::Input, F::Image> as Source>⟧.remaining) (F.real files.old) (found_of words.now)) c }
-    // No other path changes, but for those of new files that are to go in its place.
-    ensures elsewhere { F.tells → (F.in_place files.old (mapfile_text (found_of words.now)) → ⊥) → (q : List ℕ) → q ≢ F.real files.old (mapfile_text (found_of words.now)) → (¬ IsOwn (F.real files.old (mapfile_text (found_of words.now))) q) → F.holds files.new q ≡ F.holds files.old q }
-{
-    let inputs = asked_inputs(alloc, words)?;
-    match asked_map_outlook(alloc, words, files) {
-        Ok(Outlook::Free) => {}
-        Ok(Outlook::Spared) => return Err(Refusal::Spared),
-        Ok(Outlook::Unknown) => return Err(unwritten(alloc, inputs.as_slice(), files)),
-        Err(AllocError) => return Err(Refusal::Memory(AllocError)),
-    }
-    let last = asked_last(words);
-    match reread_map(
-        alloc,
-        inputs.as_slice(),
-        last,
-        asked_mapfile(words),
-        files,
-        out,
-    ) {
-        Ok(whole) => Ok(whole),
-        Err(refusal) => Err(refusal),
-    }
-}
-
-/// What is known of the mapfile that the words after `reread` ask for.
-fn asked_map_outlook<F: Files>(
-    alloc: Global,
-    words: &ArgMatches<'_>,
-    files: &F,
-) -> Result<Outlook, AllocError>
-    ensures free { IfOk result (λ found. found ≡ Outlook.Free → F.tells → IsFreeMap (F.holds files.now) (F.real files.now) (F.in_place files.now) (pair_texts (found_of words.now)) (mapfile_text (found_of words.now))) }
-    ensures spared { IfOk result (λ found. found ≡ Outlook.Spared → F.tells → IsSparedMap (F.holds files.now) (F.real files.now) (pair_texts (found_of words.now)) (mapfile_text (found_of words.now))) }
-{
-    let parts = words.get_strs(PAIRS).unwrap_or(&[]);
-    let found = look_at_map(alloc, parts, asked_mapfile(words), files)?;
-    Ok(found)
-}
-
-/// The path of the mapfile among the words after `reread`.
-fn asked_mapfile<'a>(words: &ArgMatches<'a>) -> &'a str
-    ensures { result.now ≡ mapfile_text (found_of words.now) }
-{
-    words.get_str(MAPFILE).unwrap_or("")
-}
-
-/// Does what the words after `reread` ask for where no mapfile is to be written.
-fn reread_words<F: Files, O: Sink>(
-    alloc: Global,
-    words: &ArgMatches<'_>,
-    files: &F,
-    out: &mut O,
-) -> Result<bool, Refusal>
-    ensures printed { IfOk result (λ whole. (last : ℕ) × (inputs : List InputPath) × (map asked_for inputs ≡ asked_inputs (found_of words.now)) ×
-        IsLast (found_of words.now) last × OfPaths (λ path. F.holds files.now (F.real files.now path)) (⟦<AnySource<F::Input, F::Image> as Source>⟧.remaining) inputs
-        (PrintsNumbers last (O.contents out.old) (O.contents out.new) (O.faults out.old) (O.faults out.new) whole)) }
-{
-    let inputs = asked_inputs(alloc, words)?;
-    let last = asked_last(words);
-    match reread(alloc, inputs.as_slice(), last, files, out) {
-        Ok(whole) => Ok(whole),
-        Err(refusal) => Err(refusal),
-    }
-}
-
-/// Does what the words after `list` ask for.
-fn list_words<F: Files, O: Sink>(
-    alloc: Global,
-    words: &ArgMatches<'_>,
-    files: &F,
-    out: &mut O,
-) -> Result<bool, Refusal>
-    ensures printed { IfOk result (λ whole. (form : ListForm) × (last : ℕ) × (inputs : List InputPath) × (map asked_for inputs ≡ asked_inputs (found_of words.now)) ×
-        IsListForm (found_of words.now) form × IsLast (found_of words.now) last × OfPaths (λ path. F.holds files.now (F.real files.now path)) (⟦<AnySource<F::Input, F::Image> as Source>⟧.remaining) inputs
-        (PrintsList form last (O.contents out.old) (O.contents out.new) (O.faults out.old) (O.faults out.new) whole)) }
-{
-    let inputs = asked_inputs(alloc, words)?;
-    let last = asked_last(words);
-    let form = asked_list_form(words);
-    match list(alloc, inputs.as_slice(), last, form, files, out) {
-        Ok(whole) => Ok(whole),
-        Err(refusal) => Err(refusal),
-    }
-}
-
-/// What the words after `list` ask to be shown, and how.
-fn asked_list_form(words: &ArgMatches<'_>) -> ListForm
-    ensures { IsListForm (found_of words.now) result }
-{
-    ListForm {
-        torn: is_set(words, TORN),
-        null: is_set(words, NULL),
-        paths: is_set(words, PATHS),
-    }
-}
-
-/// Whether a flag is among the words.
-fn is_set(words: &ArgMatches<'_>, flag: &str) -> bool
-    ensures { IsPicked (found_of words.now) flag.now true false result }
-{
-    words.get_flag(flag)
-}
-
-/// Does what the words after `summary` ask for.
-fn summary_words<F: Files, O: Sink>(
-    alloc: Global,
-    words: &ArgMatches<'_>,
-    files: &F,
-    out: &mut O,
-) -> Result<bool, Refusal>
-    ensures printed { IfOk result (λ whole. (last : ℕ) × (inputs : List InputPath) × (map asked_for inputs ≡ asked_inputs (found_of words.now)) ×
-        IsLast (found_of words.now) last × OfPaths (λ path. F.holds files.now (F.real files.now path)) (⟦<AnySource<F::Input, F::Image> as Source>⟧.remaining) inputs
-        (PrintsSummary last (O.contents out.old) (O.contents out.new) (O.faults out.old) (O.faults out.new) whole)) }
-{
-    let inputs = asked_inputs(alloc, words)?;
-    let last = asked_last(words);
-    match summary(alloc, inputs.as_slice(), last, files, out) {
-        Ok(whole) => Ok(whole),
-        Err(refusal) => Err(refusal),
-    }
-}
-
-/// Does what the words after `extract` ask for.
-fn extract_words<F: Files, O: Sink>(
-    alloc: Global,
-    words: &ArgMatches<'_>,
-    files: &mut F,
-    out: &mut O,
-) -> Result<bool, Refusal>
-    ensures extracted { IfOk result (λ good. (fill : Fill) × (last : ℕ) × (inputs : List InputPath) × (map asked_for inputs ≡ asked_inputs (found_of words.now)) ×
-        IsPicked (found_of words.now) (codes "fill") (Fill.Byte 0) Fill.Refuse fill × IsLast (found_of words.now) last ×
-        OfPaths (λ path. F.holds files.old (F.real files.old path)) (⟦<AnySource<F::Input, F::Image> as Source>⟧.remaining) inputs
-        (ExtractsAll (λ table told. IsPut F.tells (Fails F.faults ⊎ Fails F.Output.faults) table told fill (folder_text (found_of words.now)) (F.holds files.new) (F.moment files.new) (F.left_since files.new))
-        files.old files.new last (O.contents out.old) (O.contents out.new) (O.faults out.old) (O.faults out.new) good)) }
-    ensures stays { F.tells → Stay (F.holds files.old) (F.holds files.new) }
-    ensures outside { (q : List ℕ) → (¬ IsIn (folder_text (found_of words.now)) q) → F.holds files.new q ≡ F.holds files.old q }
-    ensures crash { F.tells → Goes F.moment F.may_leave F.left_since files.old files.new (Spares (folder_text (found_of words.now)) (F.holds files.old)) }
-{
-    let inputs = asked_inputs(alloc, words)?;
-    let last = asked_last(words);
-    let fill = asked_fill(words);
-    let folder = asked_folder(words);
-    match extract(alloc, inputs.as_slice(), last, fill, folder, files, out) {
-        Ok(good) => Ok(good),
-        Err(refusal) => Err(refusal),
-    }
-}
-
-/// The path of the folder among the words after `extract`. The grammar asks for it.
-fn asked_folder<'a>(words: &ArgMatches<'a>) -> &'a str
-    ensures { result.now ≡ folder_text (found_of words.now) }
-{
-    words.get_str(TO).unwrap_or("")
-}
-
-/// What the words after `extract` ask to write of torn files: zeros in the holes with `--fill`, and else nothing.
-fn asked_fill(words: &ArgMatches<'_>) -> Fill
-    ensures unset { one_text (found_of words.now) (codes "fill") ≡ None → result ≡ Fill.Refuse }
-    ensures without { one_text (found_of words.now) (codes "fill") ≡ Some (codes "false") → result ≡ Fill.Refuse }
-    ensures with { one_text (found_of words.now) (codes "fill") ≡ Some (codes "true") → result ≡ Fill.Byte 0 }
-{
-    if words.get_flag(FILL) {
-        return Fill::Byte(0);
-    }
-    Fill::Refuse
 }
 
 /// Says that the words of the command line could not be had, and answers the status.

@@ -6,7 +6,7 @@ use Rattle.udfs_commands.specs.Spelling.{table_file}
 use Rattle.udfs_commands.specs.declared.merge.Version.TheVariants.{Two}
 use Rattle.udfs_commands.proofs.ForgettingLemmas.{of_lists}
 use Rattle.udfs_commands.proofs.LeavingLemmas.{may_forget}
-use Rattle.udfs_commands.proofs.command.forget_words.Goals as goal
+use Rattle.udfs_commands.proofs.forget_words.forget_words.Goals as goal
 
 pub returns-in-Ok-forget-clause-written : goal.returns-in-Ok-forget-clause-written
 returns-in-Ok-forget-clause-written g c =

@@ -1,15 +1,15 @@
 use Rattle.std.proofs.Common.{rules}
-use Rattle.udfs_commands.proofs.command.list_words.Goals as goal
+use Rattle.udfs_commands.proofs.report_words.report_words.Goals as goal
 
 pub returns-in-Ok : goal.returns-in-Ok
 returns-in-Ok g c =
     record {
       printed = (
-        c.asked_list_form-form.result,
+        c.asked_form-form.result,
         c.asked_last-last.result,
         c.as_slice.result.now,
         search rules,
-        c.asked_list_form-form.ensures,
+        record { with_flag = c.asked_form-form.ensures.with; without_flag = c.asked_form-form.ensures.without; unknown_flag = c.asked_form-form.ensures.unset },
         c.asked_last-last.ensures,
         c.in-Ok.ensures.printed,
       );

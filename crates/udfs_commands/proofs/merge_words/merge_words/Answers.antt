@@ -4,7 +4,7 @@ use Rattle.udfs_commands.specs.Keeping.{IsKept, IsTaken}
 use Rattle.udfs_commands.specs.Spelling.{table_file}
 use Rattle.clap.specs.Matches.{found_of}
 use Rattle.udfs_commands.proofs.LeavingLemmas.{may_merge}
-use Rattle.udfs_commands.proofs.command.merge_words.Goals as goal
+use Rattle.udfs_commands.proofs.merge_words.merge_words.Goals as goal
 
 pub returns-in-Ok-merge-clause-written : goal.returns-in-Ok-merge-clause-written
 returns-in-Ok-merge-clause-written g c =

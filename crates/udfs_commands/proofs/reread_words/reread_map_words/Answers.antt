@@ -1,7 +1,7 @@
 use Rattle.std.proofs.Common.{subst, rules}
 use Rattle.clap.specs.Matches.{found_of}
 use Rattle.udfs_commands.proofs.LeavingLemmas.{may_domain}
-use Rattle.udfs_commands.proofs.command.reread_map_words.Goals as goal
+use Rattle.udfs_commands.proofs.reread_words.reread_map_words.Goals as goal
 
 pub returns-in-Ok-clause-written : goal.returns-in-Ok-clause-written
 returns-in-Ok-clause-written g c =

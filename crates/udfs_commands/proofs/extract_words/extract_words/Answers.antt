@@ -1,5 +1,5 @@
 use Rattle.std.proofs.Common.{rules}
-use Rattle.udfs_commands.proofs.command.extract_words.Goals as goal
+use Rattle.udfs_commands.proofs.extract_words.extract_words.Goals as goal
 
 pub returns-in-Ok-clause-extracted : goal.returns-in-Ok-clause-extracted
 returns-in-Ok-clause-extracted g c = (

@@ -1,5 +1,5 @@
 use Rattle.std.proofs.Common.{rules}
-use Rattle.udfs_commands.proofs.command.summary_words.Goals as goal
+use Rattle.udfs_commands.proofs.report_words.summary_words.Goals as goal
 
 pub returns-in-Ok : goal.returns-in-Ok
 returns-in-Ok g c =
