@@ -69,7 +69,7 @@ demo: all
 	@tools/check-readme README.md out/demo.txt
 
 test: have-rt
-	@$(RT) ci
+	@RT_JOBS=$(JOBS) $(RT) ci
 	@$(MAKE) -s --no-print-directory hostile
 	@tools/try-terminal $(PROGRAM) examples
 	@tools/try-ddrescue $(PROGRAM) examples
