@@ -5,7 +5,7 @@ ghost use Rattle.udfs_lattice.specs.Tables.{state_of};
 ghost use Rattle.udfs_space.specs.Places.{view};
 ghost use Rattle.udfs_file.specs.declared.cells.Cell.{Cell};
 ghost use Rattle.udfs_volume.specs.Answers.{found};
-ghost use Rattle.udfs_walk.specs.NodeBodies.{HasCells};
+ghost use Rattle.udfs_walk.specs.NodeBodies.{HasCells, MayTakeMemory};
 ghost use Rattle.udfs_walk.specs.NodeFields.{NodeFields};
 ghost use Rattle.udfs_salvage.specs.Found.{Found, volume_now};
 ghost use Rattle.udfs_salvage.specs.Reports.{IsReport, report_now};
@@ -90,6 +90,7 @@ fn write_at<W: Sink>(
         Extracts (W.contents sink.old) (W.contents sink.new) (W.faults sink.old) (W.faults sink.new) (filled fill cs) result }
     ensures not_whole { IsErrOf result ExtractError.NotWhole → sink.new ≡ sink.old }
     ensures memory { IsErrOf result ExtractError.OutOfMemory → sink.new ≡ sink.old }
+    ensures wanted { IsErrOf result ExtractError.OutOfMemory → MayTakeMemory (view (state_of table.now) space.now) address }
 {
     match body_at(alloc, table, space, address) {
         Ok(Some(body)) => match write_body(View { table, space }, &body, fill, sink) {
@@ -113,7 +114,8 @@ fn write_at<W: Sink>(
 /// # Errors
 ///
 /// `NotWhole` exactly where the node is not to be written; then nothing is. `Write` exactly where the sink failed; then a beginning
-/// of the bytes is out. `OutOfMemory` where memory is refused; then nothing is written.
+/// of the bytes is out. `OutOfMemory` where memory is refused: never of a node without a byte
+/// whose body is not embedded; then nothing is written.
 ///
 /// [`salvage`]: crate::salvage
 pub fn extract<W: Sink>(
@@ -147,6 +149,9 @@ pub fn extract<W: Sink>(
         Extracts (W.contents sink.old) (W.contents sink.new) (W.faults sink.old) (W.faults sink.new) (filled (fill_byte fill) cs) result }
     ensures nothing { IsErrOf result ExtractError.NotWhole → sink.new ≡ sink.old }
     ensures memory { IsErrOf result ExtractError.OutOfMemory → sink.new ≡ sink.old }
+    // Memory is wanted only where the body at the node's address is embedded or has a byte.
+    ensures wanted { (f : Found) (n : NodeFields) → volume_now report.now.volume ≡ found f → slice_get report.now.nodes.items index ≡ Some n →
+        IsErrOf result ExtractError.OutOfMemory → MayTakeMemory (view (state_of report.now.table.now) f.space) n.icb }
 {
     let node = &report.nodes[index];
     if !is_offered(node, fill) {

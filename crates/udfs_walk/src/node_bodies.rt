@@ -1,11 +1,11 @@
 //! The body of what stands at an address.
 
-ghost use Rattle.std.specs.Prelude.{IfOk, List, MatchOption};
+ghost use Rattle.std.specs.Prelude.{IfOk, List, MatchOption, OnErr};
 ghost use Rattle.udfs_lattice.specs.Tables.{state_of};
 ghost use Rattle.udfs_space.specs.Places.{view};
 ghost use Rattle.udfs_file.specs.Stretches.{cells_of};
 ghost use Rattle.udfs_file.specs.declared.cells.Cell.{Cell};
-ghost use Rattle.udfs_walk.specs.NodeBodies.{HasCells};
+ghost use Rattle.udfs_walk.specs.NodeBodies.{HasCells, MayTakeMemory};
 
 use crate::targets::{Target, target_at};
 use std::alloc::{AllocError, Global};
@@ -19,16 +19,17 @@ use udfs_tag::LongAd;
 ///
 /// # Errors
 ///
-/// `AllocError` where memory is refused.
+/// `AllocError` where memory is refused: never of a body without a byte that is not embedded.
 pub fn body_at(
     alloc: Global,
     table: &BlockTable,
     space: &Space,
     address: LongAd,
 ) -> Result<Option<Body>, AllocError>
-    ensures { IfOk result (λ found. MatchOption found
+    ensures value { IfOk result (λ found. MatchOption found
         ((cs : List Cell) → ¬ HasCells (view (state_of table.now) space.now) address cs)
         (λ body. HasCells (view (state_of table.now) space.now) address (cells_of (view (state_of table.now) space.now) body))) }
+    ensures memory { OnErr result (MayTakeMemory (view (state_of table.now) space.now) address) }
 {
     match target_at(View { table, space }, address) {
         Target::Entry(entry) => {

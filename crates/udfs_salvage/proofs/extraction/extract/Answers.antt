@@ -1,7 +1,7 @@
 use Rattle.std.proofs.Common.{◌≡◌, ◌∙◌, sym, ap, subst, true}
 use Rattle.udfs_lattice.specs.Tables.{state_of}
 use Rattle.udfs_space.specs.Places.{view}
-use Rattle.udfs_walk.specs.NodeBodies.{HasCells}
+use Rattle.udfs_walk.specs.NodeBodies.{HasCells, MayTakeMemory}
 use Rattle.udfs_salvage.specs.Found.{found_now, volume_now}
 use Rattle.udfs_salvage.specs.Reports.{report_now}
 use Rattle.udfs_salvage.specs.Extraction.{Extracts, fill_byte, filled, is_offered}
@@ -45,6 +45,15 @@ returns-in-Open-clause-stated g c = λ f n cs opens at offered has.
     let opened : found_now c.in-Open.opened ≡ f = found_same _ _ (sym (ap volume_now c.in-Open.is) ∙ opens) in
     subst (λ x. Extracts (W.contents c.args.sink.now) (W.contents c.write_at.new.sink) (W.faults c.args.sink.now) (W.faults c.write_at.new.sink) (filled x cs) c.write_at.result) c.fill_byte-byte.ensures
     (c.write_at.ensures.cells cs (subst (λ a. HasCells (view b c.in-Open.opened.space) a cs) (sym icb) (subst (λ h. HasCells (view b h.space) n.icb cs) (sym opened) has)))
+
+pub returns-in-Open-clause-wanted : goal.returns-in-Open-clause-wanted
+returns-in-Open-clause-wanted g c = λ f n opens at refused.
+    let r = c.args.report.now in
+    let b = state_of r.table.now in
+    let same = same_node r.nodes.items c.args.index n c.index-node.result.now at c.index-node.ensures in
+    let icb : c.node.inside.icb ≡ n.icb = ap (λ m. m.icb) (c.node.view_is ∙ same) in
+    let opened : found_now c.in-Open.opened ≡ f = found_same _ _ (sym (ap volume_now c.in-Open.is) ∙ opens) in
+    subst (λ h. MayTakeMemory (view b h.space) n.icb) opened (subst (λ a. MayTakeMemory (view b c.in-Open.opened.space) a) icb (c.write_at.ensures.wanted refused))
 
 pub returns-in-Open-clause-tree : goal.returns-in-Open-clause-tree
 returns-in-Open-clause-tree g c = λ last n is at whole.
