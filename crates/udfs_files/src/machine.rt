@@ -1,7 +1,7 @@
 //! The files of the machine. What they hold is not told: no contract can say what the system keeps.
 
 ghost use Rattle.udfs_reading.specs.Device.{CountsFault};
-ghost use Rattle.std.specs.Prelude.{◌≡◌, List, ℕ, Option, None, [], ⊤};
+ghost use Rattle.std.specs.Prelude.{◌≡◌, ◌≤◌, List, ℕ, Option, None, [], length, ⊤};
 
 use crate::files::{Files, Handle, Kind, Target};
 use crate::watch::{Stage, Watch, heeded};
@@ -43,22 +43,92 @@ impl<'a, S: Read, N: Watch> Source for MachineInput<'a, S, N> {
     }
 }
 
-/// An output of the machine. Nothing is buffered here: those who write hand over large pieces.
+/// How many zero bytes are worth a hole in a file: 32 KiB.
+const HOLE: usize = 32_768;
+
+/// Whether these bytes begin with zeros that are worth a hole.
+fn begins_with_hole(bytes: &[u8]) -> bool {
+    bytes.len() >= HOLE && bytes[..HOLE].iter().all(|byte| *byte == 0)
+}
+
+/// Whether the bytes begin with a hole, and how many go on so.
+fn front(bytes: &[u8]) -> (bool, usize)
+    ensures { result.1 ≤ length bytes.now }
+{
+    let is_hole = begins_with_hole(bytes);
+    let mut count: usize = 0;
+    for piece in bytes.chunks(HOLE) {
+        if begins_with_hole(piece) != is_hole {
+            break;
+        }
+        count = count.saturating_add(piece.len());
+    }
+    (is_hole, count.min(bytes.len()))
+}
+
+/// An output of the machine. Nothing is buffered here: those who write hand over large pieces. In a new file long runs of zeros are left out, so
+/// that it is sparse where the file system can.
 #[derive(Drop)]
-pub struct MachineFile<'a, W: Write + OpenFile, N: Watch> {
+pub struct MachineFile<'a, W: Write + Seek + OpenFile, N: Watch> {
     file: W,
     watch: &'a N,
     faults: u64,
+    /// Whether it is a new file, which may have holes.
+    may_have_holes: bool,
+    /// How many bytes it has.
+    size: u64,
+    /// Whether it ends with a hole.
+    ends_with_hole: bool,
 }
 
-impl<'a, W: Write + OpenFile, N: Watch> Sink for MachineFile<'a, W, N> {
+impl<'a, W: Write + Seek + OpenFile, N: Watch> MachineFile<'a, W, N> {
+    /// Leaves so many bytes out.
+    fn skip(&mut self, count: usize) -> Result<usize, Error>
+        ensures { self.new.faults ≡ self.old.faults }
+    {
+        let end = self.size.saturating_add(count as u64);
+        let end = self.file.seek(SeekFrom::Start(end))?;
+        self.size = end;
+        self.ends_with_hole = true;
+        Ok(count)
+    }
+
+    /// Writes a beginning of these bytes, or leaves it out where it is a hole.
+    fn put_front(&mut self, bytes: &[u8]) -> Result<usize, Error>
+        ensures { self.new.faults ≡ self.old.faults }
+    {
+        let (is_hole, count) = if self.may_have_holes {
+            front(bytes)
+        } else {
+            (false, bytes.len())
+        };
+        if is_hole {
+            return self.skip(count);
+        }
+        let count = self.file.write(&bytes[..count])?;
+        self.size = self.size.saturating_add(count as u64);
+        self.ends_with_hole = false;
+        Ok(count)
+    }
+
+    /// Brings the bytes to the disk. A hole at the end counts too.
+    fn finish(&self) -> Result<(), Error> {
+        if self.ends_with_hole {
+            self.file.set_len(self.size)?;
+        }
+        synced(self.file.sync_all())
+    }
+}
+
+impl<'a, W: Write + Seek + OpenFile, N: Watch> Sink for MachineFile<'a, W, N> {
     ghost contents = { λ _. None };
 
     ghost faults = { λ f. f.faults };
 
     fn write(&mut self, buf: &[u8]) -> Result<usize, DeviceFault> {
-        match heeded(self.watch, self.file.write(buf)) {
-            Some(count) if count > 0 || buf.is_empty() => {
+        let outcome = self.put_front(buf);
+        match heeded(self.watch, outcome) {
+            Some(count) if count <= buf.len() && (count > 0 || buf.is_empty()) => {
                 self.watch.wrote(count);
                 Ok(count)
             }
@@ -70,7 +140,7 @@ impl<'a, W: Write + OpenFile, N: Watch> Sink for MachineFile<'a, W, N> {
     }
 }
 
-impl<'a, W: Write + OpenFile, N: Watch> Handle for MachineFile<'a, W, N> {
+impl<'a, W: Write + Seek + OpenFile, N: Watch> Handle for MachineFile<'a, W, N> {
     ghost place = { λ _. [] };
 
     fn put(&mut self, buf: &[u8]) -> Result<usize, DeviceFault> {
@@ -348,6 +418,9 @@ impl<'a, R: std::rt::Files, N: Watch> Files for Machine<'a, R, N> {
             file,
             watch: self.watch,
             faults: 0,
+            may_have_holes: true,
+            size: 0,
+            ends_with_hole: false,
         })
     }
 
@@ -357,11 +430,14 @@ impl<'a, R: std::rt::Files, N: Watch> Files for Machine<'a, R, N> {
             file,
             watch: self.watch,
             faults: 0,
+            may_have_holes: false,
+            size: 0,
+            ends_with_hole: false,
         })
     }
 
     fn sync(&mut self, _path: &str, output: Self::Output) -> Result<(), DeviceFault> {
-        self.heeded(synced(output.file.sync_all()))
+        self.heeded(output.finish())
     }
 
     fn rename(&mut self, from: &str, to: &str) -> Result<(), DeviceFault> {
