@@ -1,7 +1,7 @@
 -- A layout that is found lies within the volume.
 use Rattle.std.proofs.Common.{◌≡◌, refl, sym, ◌∙◌, ap, subst, inl, inr, ◌⊎◌, ℕ, ◌+◌, ◌-◌, ◌*◌, ◌<◌, ◌≤◌, Bool, true, false, not, List, [], ◌∷◌, length, map, drop, cond, ◌&&◌, ◌||◌, arith, Option, Some, None, nat_eq, nat_le, nat_lt}
 use Rattle.std.specs.Prelude.{zero, suc, is_none, option_map, codes}
-use Rattle.std.specs.List.{list_all}
+use Rattle.std.specs.List.{list_all, list_any}
 use Rattle.std.specs.Str.{bytes_eq}
 use Rattle.std.proofs.lemmas.Bool.{leb-true, eqb-true}
 use Rattle.std.proofs.lemmas.List.{length-map}
@@ -12,9 +12,12 @@ use Rattle.udfs_tag.specs.Fields.{uint8_at, uint16_at, uint32_at, long_ad_at, pa
 use Rattle.udfs_tag.specs.Faults.{is_within}
 use Rattle.udfs_osta.specs.Labels.{label_of}
 use Rattle.udfs_volume.specs.Answers.{Answer, found, holes, faulty, and_then, unless_fault}
+use Rattle.udfs_volume.specs.declared.profiles.Profile.{Profile}
+use Rattle.udfs_volume.specs.declared.profiles.Profile.TheVariants.{Strict, Wide}
+use Rattle.udfs_volume.specs.Profiles.{accepts_packet, packet_lengths}
 use Rattle.udfs_volume.specs.declared.faults.VolumeFault.{VolumeFault}
 use Rattle.udfs_volume.specs.declared.faults.VolumeFault.TheVariants.{Domain, BlockSize, MapCount, MapKind, Contents, PartitionRange}
-use Rattle.udfs_volume.specs.Layout.{Layout, Partition, PartitionMap, type1, sparable, NumberedMap, Described, bp, blocks_in, is_type1, is_sparable, are_tables, table_places, read_map, map_size, before_maps, read_maps, repeats_kind, unless_repeated, map_count, the_maps, volume_fault, partition, before_described, described, has_contents, partition_of, is_in_range, partitions_fault, laid_out, with_maps, with_volume, logical_volume, layout_of, layout}
+use Rattle.udfs_volume.specs.Layout.{Layout, Partition, PartitionMap, type1, sparable, NumberedMap, Described, bp, blocks_in, is_type1, is_sparable, are_tables, table_places, read_map, map_size, before_maps, read_maps, repeats_kind, unless_repeated, map_count, the_maps, volume_fault, partition, before_described, has_revision, described, has_contents, partition_of, is_in_range, partitions_fault, laid_out, with_maps, with_volume, logical_volume, layout_of, layout_by}
 use Rattle.udfs_volume.specs.Laws.{AreBounded, IsBoundedMap, IsBoundedPartition, IsBounded, LayoutBounds}
 use Rattle.udfs_volume.proofs.Known.{both}
 
@@ -56,10 +59,28 @@ within_if low high n h = go (nat_le low n) refl h
     go true e h = (leb-true low n e, leb-true n high h)
     go false e h = absurd (let z : ⊥ = cc in z)
 
+-- a number of a list is within its bounds
+accepted_within : (low high : ℕ) (ns : List ℕ) (n : ℕ) → list_all (is_within low high) ns ≡ true → list_any (λ accepted. nat_eq accepted n) ns ≡ true → is_within low high n ≡ true
+accepted_within low high [] n h a = absurd (let z : ⊥ = cc in z)
+accepted_within low high (m ∷ ms) n h a = go (accepted_within low high ms n q.1) (either_if (nat_eq m n) (list_any (λ accepted. nat_eq accepted n) ms) a)
+  where
+    q : (is_within low high m ≡ true) × (list_all (is_within low high) ms ≡ true)
+    q = both (is_within low high m) (list_all (is_within low high) ms) h
+
+    go : (list_any (λ accepted. nat_eq accepted n) ms ≡ true → is_within low high n ≡ true)
+        → (nat_eq m n ≡ true) ⊎ (list_any (λ accepted. nat_eq accepted n) ms ≡ true) → is_within low high n ≡ true
+    go later (inl e) = subst (λ x. is_within low high x ≡ true) (eqb-true m n e) q.0
+    go later (inr i) = later i
+
+-- whatever the rules, a packet has 1 to 128 blocks
+packet_within : (profile : Profile) (n : ℕ) → accepts_packet profile n ≡ true → (1 ≤ n) × (n ≤ 128)
+packet_within Strict n h = within_if 1 128 n (accepted_within 1 128 (packet_lengths Strict) n refl h)
+packet_within Wide n h = within_if 1 128 n (accepted_within 1 128 (packet_lengths Wide) n refl h)
+
 -- the numbers of a sparable map
-tables_bounded : (last : ℕ) (bytes : Bytes) → are_tables last bytes ≡ true → AreBounded last (uint16_at bytes 40) (uint32_at bytes 44) (table_places bytes)
-tables_bounded last bytes h = record {
-  packet_is = packet (either_if (nat_eq (uint16_at bytes 40) 16) (nat_eq (uint16_at bytes 40) 32) q.0.0.1);
+tables_bounded : (profile : Profile) (last : ℕ) (bytes : Bytes) → are_tables profile last bytes ≡ true → AreBounded last (uint16_at bytes 40) (uint32_at bytes 44) (table_places bytes)
+tables_bounded profile last bytes h = record {
+  packet_is = packet_within profile (uint16_at bytes 40) q.0.0.1;
   from = size.0;
   to = size.1;
   one = subst (λ n. 1 ≤ n) (sym len) count.0;
@@ -71,7 +92,7 @@ tables_bounded last bytes h = record {
     a = is_within 1 4 (uint8_at bytes 42)
 
     b : Bool
-    b = nat_eq (uint16_at bytes 40) 16 || nat_eq (uint16_at bytes 40) 32
+    b = accepts_packet profile (uint16_at bytes 40)
 
     c : Bool
     c = is_within 56 65536 (uint32_at bytes 44)
@@ -91,49 +112,45 @@ tables_bounded last bytes h = record {
     len : length (table_places bytes) ≡ uint8_at bytes 42
     len = length-map-range_with_len (λ i. uint32_at bytes (48 + 4 * i)) 0 (uint8_at bytes 42)
 
-    packet : (nat_eq (uint16_at bytes 40) 16 ≡ true) ⊎ (nat_eq (uint16_at bytes 40) 32 ≡ true) → (uint16_at bytes 40 ≡ 16) ⊎ (uint16_at bytes 40 ≡ 32)
-    packet (inl e) = inl (eqb-true (uint16_at bytes 40) 16 e)
-    packet (inr e) = inr (eqb-true (uint16_at bytes 40) 32 e)
-
-map_bounded : (last length : ℕ) (bytes : Bytes) (m : NumberedMap) → read_map last length bytes ≡ Some m → IsBoundedMap last m.0
-map_bounded last length bytes m e = go (is_type1 bytes && nat_le 6 length) e
+map_bounded : (profile : Profile) (last length : ℕ) (bytes : Bytes) (m : NumberedMap) → read_map profile last length bytes ≡ Some m → IsBoundedMap last m.0
+map_bounded profile last length bytes m e = go (is_type1 bytes && nat_le 6 length) e
   where
     S : NumberedMap
     S = (sparable (uint16_at bytes 40) (uint32_at bytes 44) (table_places bytes), uint16_at bytes 38)
 
-    inner : (b : Bool) → (is_sparable bytes && nat_le 64 length && are_tables last bytes) ≡ b → cond b (Some S) None ≡ Some m → IsBoundedMap last m.0
-    inner true q p = subst (λ x. IsBoundedMap last x.0) (some_same S m p) (tables_bounded last bytes (both (is_sparable bytes && nat_le 64 length) (are_tables last bytes) q).1)
+    inner : (b : Bool) → (is_sparable bytes && nat_le 64 length && are_tables profile last bytes) ≡ b → cond b (Some S) None ≡ Some m → IsBoundedMap last m.0
+    inner true q p = subst (λ x. IsBoundedMap last x.0) (some_same S m p) (tables_bounded profile last bytes (both (is_sparable bytes && nat_le 64 length) (are_tables profile last bytes) q).1)
     inner false q p = absurd (let z : ⊥ = cc in z)
 
-    go : (b : Bool) → cond b (Some (type1, uint16_at bytes 4)) (cond (is_sparable bytes && nat_le 64 length && are_tables last bytes) (Some S) None) ≡ Some m → IsBoundedMap last m.0
+    go : (b : Bool) → cond b (Some (type1, uint16_at bytes 4)) (cond (is_sparable bytes && nat_le 64 length && are_tables profile last bytes) (Some S) None) ≡ Some m → IsBoundedMap last m.0
     go true p = subst (λ x. IsBoundedMap last x.0) (some_same (type1, uint16_at bytes 4) m p) tt
-    go false p = inner (is_sparable bytes && nat_le 64 length && are_tables last bytes) refl p
+    go false p = inner (is_sparable bytes && nat_le 64 length && are_tables profile last bytes) refl p
 
 -- so many maps, each within its bounds
 record AreMaps (last n : ℕ) (ms : List NumberedMap) : Type 0 where
   pub count : length ms ≡ n
   pub each : (k : PartitionMap) → Includes (map (λ m. m.0) ms) k → IsBoundedMap last k
 
-maps_bounded : (last n size : ℕ) (bytes : Bytes) (ms : List NumberedMap) → read_maps last n size bytes ≡ Some ms → AreMaps last n ms
-maps_bounded last zero size bytes ms e = subst (λ x. AreMaps last 0 x) (some_same [] ms e) (record { count = refl; each = λ k i. absurd i })
-maps_bounded last (suc n) size bytes ms e = go (λ m later. maps_bounded last n (size - map_size m.0) (drop (map_size m.0) bytes) later) (read_map last size bytes) refl e
+maps_bounded : (profile : Profile) (last n size : ℕ) (bytes : Bytes) (ms : List NumberedMap) → read_maps profile last n size bytes ≡ Some ms → AreMaps last n ms
+maps_bounded profile last zero size bytes ms e = subst (λ x. AreMaps last 0 x) (some_same [] ms e) (record { count = refl; each = λ k i. absurd i })
+maps_bounded profile last (suc n) size bytes ms e = go (λ m later. maps_bounded profile last n (size - map_size m.0) (drop (map_size m.0) bytes) later) (read_map profile last size bytes) refl e
   where
     rest : (m : NumberedMap) → Option (List NumberedMap)
-    rest m = read_maps last n (size - map_size m.0) (drop (map_size m.0) bytes)
+    rest m = read_maps profile last n (size - map_size m.0) (drop (map_size m.0) bytes)
 
     Later : NumberedMap → Type 0
     Later m = (later : List NumberedMap) → rest m ≡ Some later → AreMaps last n later
 
-    on : (m : NumberedMap) → Later m → read_map last size bytes ≡ Some m → (o : Option (List NumberedMap)) → rest m ≡ o → option_map (λ ms. m ∷ ms) o ≡ Some ms → AreMaps last (suc n) ms
+    on : (m : NumberedMap) → Later m → read_map profile last size bytes ≡ Some m → (o : Option (List NumberedMap)) → rest m ≡ o → option_map (λ ms. m ∷ ms) o ≡ Some ms → AreMaps last (suc n) ms
     on m h q None r p = absurd (let z : ⊥ = cc in z)
     on m h q (Some later) r p = let a : AreMaps last n later = h later r in
         subst (λ x. AreMaps last (suc n) x) (some_same (m ∷ later) ms p) (record { count = ap suc a.count; each = each a })
       where
         each : AreMaps last n later → (k : PartitionMap) → Includes (map (λ m. m.0) (m ∷ later)) k → IsBoundedMap last k
-        each a k (inl i) = subst (IsBoundedMap last) i (map_bounded last size bytes m q)
+        each a k (inl i) = subst (IsBoundedMap last) i (map_bounded profile last size bytes m q)
         each a k (inr i) = a.each k i
 
-    go : ((m : NumberedMap) → Later m) → (o : Option NumberedMap) → read_map last size bytes ≡ o → before_maps o (λ s. read_maps last n (size - s) (drop s bytes)) ≡ Some ms → AreMaps last (suc n) ms
+    go : ((m : NumberedMap) → Later m) → (o : Option NumberedMap) → read_map profile last size bytes ≡ o → before_maps o (λ s. read_maps profile last n (size - s) (drop s bytes)) ≡ Some ms → AreMaps last (suc n) ms
     go h None q p = absurd (let z : ⊥ = cc in z)
     go h (Some m) q p = on m (h m) q (rest m) refl p
 
@@ -171,11 +188,11 @@ third_fault f g h i false true c d e = absurd (let z : ⊥ = cc in z)
 third_fault f g h i false false true d e = absurd (let z : ⊥ = cc in z)
 third_fault f g h i false false false d e = refl
 
-count_is : (last : ℕ) (lv : Descriptor) → volume_fault last lv ≡ None → (map_count lv ≡ 1) ⊎ (map_count lv ≡ 2)
-count_is last lv e = go (either_if (nat_eq (map_count lv) 1) (nat_eq (map_count lv) 2) (not-false (nat_eq (map_count lv) 1 || nat_eq (map_count lv) 2)
+count_is : (profile : Profile) (last : ℕ) (lv : Descriptor) → volume_fault profile last lv ≡ None → (map_count lv ≡ 1) ⊎ (map_count lv ≡ 2)
+count_is profile last lv e = go (either_if (nat_eq (map_count lv) 1) (nat_eq (map_count lv) 2) (not-false (nat_eq (map_count lv) 1 || nat_eq (map_count lv) 2)
     (third_fault Domain BlockSize MapCount MapKind
-    (not (bytes_eq ((regid_at lv.content (bp 216)).name) (zero_filled 23 (codes "*OSTA UDF Compliant"))) || not (nat_eq (uint16_at lv.content (bp 240)) 0x0150 || nat_eq (uint16_at lv.content (bp 240)) 0x0201))
-    (not (nat_eq (uint32_at lv.content (bp 212)) 2048)) (not (nat_eq (map_count lv) 1 || nat_eq (map_count lv) 2)) (is_none (the_maps last lv)) e)))
+    (not (bytes_eq ((regid_at lv.content (bp 216)).name) (zero_filled 23 (codes "*OSTA UDF Compliant"))) || not (has_revision profile lv))
+    (not (nat_eq (uint32_at lv.content (bp 212)) 2048)) (not (nat_eq (map_count lv) 1 || nat_eq (map_count lv) 2)) (is_none (the_maps profile last lv)) e)))
   where
     go : (nat_eq (map_count lv) 1 ≡ true) ⊎ (nat_eq (map_count lv) 2 ≡ true) → (map_count lv ≡ 1) ⊎ (map_count lv ≡ 2)
     go (inl h) = inl (eqb-true (map_count lv) 1 h)
@@ -232,25 +249,25 @@ laid_bounded last n ds lv ms l a c r (Some ps) d e = subst (IsBounded last) q.1 
           bounded_map = a.each p.kind (subst (λ ks. Includes ks p.kind) (described_kinds ds ms ps d) (Includes-map (λ p. p.kind) (map partition_of ps) p i));
         }
 
-maps_laid : (last : ℕ) (ds : List Descriptor) (lv : Descriptor) (l : Layout) → (map_count lv ≡ 1) ⊎ (map_count lv ≡ 2)
-    → (o : Option (List NumberedMap)) → the_maps last lv ≡ o → with_maps last ds lv o ≡ found l → IsBounded last l
-maps_laid last ds lv l c None m e = absurd (let z : ⊥ = cc in z)
-maps_laid last ds lv l c (Some ms) m e = let table : Bytes = drop (bp 440) lv.content in let size : ℕ = uint32_at lv.content (bp 264) in
-    let u : (read_maps last (map_count lv) size table ≡ Some ms) × (repeats_kind (map (λ m. m.0) ms) ≡ false) = unrepeated (read_maps last (map_count lv) size table) ms m in
-    laid_bounded last (map_count lv) ds lv ms l (maps_bounded last (map_count lv) size table ms u.0) c u.1 (described ds ms) refl e
+maps_laid : (profile : Profile) (last : ℕ) (ds : List Descriptor) (lv : Descriptor) (l : Layout) → (map_count lv ≡ 1) ⊎ (map_count lv ≡ 2)
+    → (o : Option (List NumberedMap)) → the_maps profile last lv ≡ o → with_maps profile last ds lv o ≡ found l → IsBounded last l
+maps_laid profile last ds lv l c None m e = absurd (let z : ⊥ = cc in z)
+maps_laid profile last ds lv l c (Some ms) m e = let table : Bytes = drop (bp 440) lv.content in let size : ℕ = uint32_at lv.content (bp 264) in
+    let u : (read_maps profile last (map_count lv) size table ≡ Some ms) × (repeats_kind (map (λ m. m.0) ms) ≡ false) = unrepeated (read_maps profile last (map_count lv) size table) ms m in
+    laid_bounded last (map_count lv) ds lv ms l (maps_bounded profile last (map_count lv) size table ms u.0) c u.1 (described ds ms) refl e
 
-by_volume : (last : ℕ) (ds : List Descriptor) (o : Option Descriptor) (l : Layout) → with_volume last ds o ≡ found l → IsBounded last l
-by_volume last ds None l e = absurd (let z : ⊥ = cc in z)
-by_volume last ds (Some lv) l e = let q : (v : Descriptor) × (unless_fault (volume_fault last lv) lv ≡ found v) × (with_maps last ds v (the_maps last v) ≡ found l) =
-    and_then-found (unless_fault (volume_fault last lv) lv) (λ v. with_maps last ds v (the_maps last v)) l e in
-    let f : (volume_fault last lv ≡ None) × (lv ≡ q.0) = unless_fault-found (volume_fault last lv) lv q.0 q.1 in
-    maps_laid last ds q.0 l (subst (λ v. (map_count v ≡ 1) ⊎ (map_count v ≡ 2)) f.1 (count_is last lv f.0)) (the_maps last q.0) refl q.2
+by_volume : (profile : Profile) (last : ℕ) (ds : List Descriptor) (o : Option Descriptor) (l : Layout) → with_volume profile last ds o ≡ found l → IsBounded last l
+by_volume profile last ds None l e = absurd (let z : ⊥ = cc in z)
+by_volume profile last ds (Some lv) l e = let q : (v : Descriptor) × (unless_fault (volume_fault profile last lv) lv ≡ found v) × (with_maps profile last ds v (the_maps profile last v) ≡ found l) =
+    and_then-found (unless_fault (volume_fault profile last lv) lv) (λ v. with_maps profile last ds v (the_maps profile last v)) l e in
+    let f : (volume_fault profile last lv ≡ None) × (lv ≡ q.0) = unless_fault-found (volume_fault profile last lv) lv q.0 q.1 in
+    maps_laid profile last ds q.0 l (subst (λ v. (map_count v ≡ 1) ⊎ (map_count v ≡ 2)) f.1 (count_is profile last lv f.0)) (the_maps profile last q.0) refl q.2
 
 pub layout_bounds : LayoutBounds
 unfolding layout_of
-layout_bounds last ds l e = by_volume last ds (logical_volume ds) l e
+layout_bounds profile last ds l e = by_volume profile last ds (logical_volume ds) l e
 
-pub layout_is_bounded : (T : Blocks) (last : ℕ) (l : Layout) → layout T last ≡ found l → IsBounded last l
-unfolding layout
-layout_is_bounded T last l e = let q : (ds : List Descriptor) × (sequence T last ≡ found ds) × (layout_of last ds ≡ found l) = and_then-found (sequence T last) (layout_of last) l e in
-    layout_bounds last q.0 l q.2
+pub layout_is_bounded : (profile : Profile) (T : Blocks) (last : ℕ) (l : Layout) → layout_by profile T last ≡ found l → IsBounded last l
+unfolding layout_by
+layout_is_bounded profile T last l e = let q : (ds : List Descriptor) × (sequence T last ≡ found ds) × (layout_of profile last ds ≡ found l) = and_then-found (sequence T last) (layout_of profile last) l e in
+    layout_bounds profile last q.0 l q.2

@@ -10,10 +10,11 @@ use Rattle.udfs_lattice.specs.Volumes.{Blocks, Includes, ascending, not_known, V
 use Rattle.udfs_tag.specs.Fields.{part, extent_ad_at}
 use Rattle.udfs_tag.specs.Tags.{is_valid}
 use Rattle.udfs_tag.specs.Faults.{is_within}
+use Rattle.udfs_volume.specs.declared.profiles.Profile.{Profile}
 use Rattle.udfs_volume.specs.Answers.{found, holes, faulty, and_then}
 use Rattle.udfs_volume.specs.declared.faults.VolumeFault.TheVariants.{Extents}
-use Rattle.udfs_volume.specs.Layout.{Layout, layout, layout_of}
-use Rattle.udfs_volume.specs.Laws.{LayoutLaw, IsLawfulLayout, IsThroughEnd, IsPair, IsSequenceGroup, valid_anchors, IsAnswerOf, the_same}
+use Rattle.udfs_volume.specs.Layout.{Layout, layout_by, layout_of}
+use Rattle.udfs_volume.specs.Laws.{LayoutLawBy, IsLawfulLayoutBy, IsThroughEnd, IsPair, IsSequenceGroup, valid_anchors, IsAnswerOf, the_same}
 use Rattle.udfs_lattice.proofs.PublicLaws.{ascending_includes, complete_agrees}
 use Rattle.udfs_volume.proofs.Known.{complete-known, true_false, both, some_in, Includes-filter, Includes-from_filter, FirstAnchor, one_known, none_known, first_anchor_lem}
 use Rattle.udfs_volume.proofs.Positions.{PositionIs, same, neither, position_lem, before, read-on, read-stop}
@@ -115,10 +116,10 @@ is_valid_one : (V : Volume) (N n : ℕ) → Includes (anchor_places N) n → is_
 is_valid_one V N n h v = Includes-filter (λ x. is_valid (V x) x 2) (anchor_places N) n h v
 
 -- the anchor of the complete table
-complete_anchor : (V : Volume) (N : ℕ) → 513 ≤ N → IsLawfulLayout V N
+complete_anchor : (profile : Profile) (V : Volume) (N : ℕ) → 513 ≤ N → IsLawfulLayoutBy profile V N
     → (n : ℕ) × Includes (valid_anchors V N) n × (anchor (complete V N) N ≡ found (extents_of (V n)))
 unfolding anchor
-complete_anchor V N h lw = go (first_anchor_lem (complete V N) V N (complete_agrees V N) (anchor_places N)) (some_in (valid_anchors V N) lw.anchored)
+complete_anchor profile V N h lw = go (first_anchor_lem (complete V N) V N (complete_agrees V N) (anchor_places N)) (some_in (valid_anchors V N) lw.anchored)
   where
     go : FirstAnchor (complete V N) V (anchor_places N) → (n : ℕ) × Includes (valid_anchors V N) n
         → (n : ℕ) × Includes (valid_anchors V N) n × (anchor (complete V N) N ≡ found (extents_of (V n)))
@@ -127,12 +128,12 @@ complete_anchor V N h lw = go (first_anchor_lem (complete V N) V N (complete_agr
         true_false (is_known (complete V N n)) (ap is_known (complete-known V N n (place_fits N n h w.0))) (all n w.0 w.1)
 
 -- where no valid anchor is known, the places that are not known are listed
-no_anchor : (M : Blocks) (V : Volume) (N : ℕ) → IsLawfulLayout V N → first_anchor M (anchor_places N) ≡ None
+no_anchor : (profile : Profile) (M : Blocks) (V : Volume) (N : ℕ) → IsLawfulLayoutBy profile V N → first_anchor M (anchor_places N) ≡ None
     → ((n : ℕ) → Includes (anchor_places N) n → is_valid (V n) n 2 ≡ true → is_known (M n) ≡ false)
-    → IsAnswerOf M (valid_anchors V N) (anchor_places N) (IsSequenceGroup V N) (layout M N) (layout (complete V N) N)
-unfolding layout sequence anchor
-no_anchor M V N lw f all = unread_answer (not_known M (anchor_places N))
-    (ap (λ x. and_then (and_then x (sequence_at M N)) (layout_of N)) (ap (λ o. anchor_or o (not_known M (anchor_places N))) f ∙ anchor_or-none (not_known M (anchor_places N)) one.0 (in_listed one.0 one.1)))
+    → IsAnswerOf M (valid_anchors V N) (anchor_places N) (IsSequenceGroup V N) (layout_by profile M N) (layout_by profile (complete V N) N)
+unfolding layout_by sequence anchor
+no_anchor profile M V N lw f all = unread_answer (not_known M (anchor_places N))
+    (ap (λ x. and_then (and_then x (sequence_at M N)) (layout_of profile N)) (ap (λ o. anchor_or o (not_known M (anchor_places N))) f ∙ anchor_or-none (not_known M (anchor_places N)) one.0 (in_listed one.0 one.1)))
     (record {
       group = valid_anchors V N;
       is_group = inl refl;
@@ -158,16 +159,16 @@ found_same : {A : Type 0} (x y : A) → found x ≡ found y → x ≡ y
 found_same x y e = cc
 
 -- the extents of a volume that has a layout keep the rules
-pub are_extents_of : (V : Volume) (N : ℕ) (e : AnchorExtents) (l : Layout) → anchor (complete V N) N ≡ found e
-    → layout (complete V N) N ≡ found l → are_extents N e ≡ true
-unfolding layout sequence
-are_extents_of V N e l q h = go (are_extents N e) refl
+pub are_extents_of : (profile : Profile) (V : Volume) (N : ℕ) (e : AnchorExtents) (l : Layout) → anchor (complete V N) N ≡ found e
+    → layout_by profile (complete V N) N ≡ found l → are_extents N e ≡ true
+unfolding layout_by sequence
+are_extents_of profile V N e l q h = go (are_extents N e) refl
   where
     go : (b : Bool) → are_extents N e ≡ b → are_extents N e ≡ true
     go true b = b
     go false b = absurd (
-        let chain : faulty Extents ≡ found l = sym (ap (λ x. and_then (and_then x (sequence_at (complete V N) N)) (layout_of N)) q
-        ∙ ap (λ c. and_then (cond c (read_positions (positions (complete V N) e)) (faulty Extents)) (layout_of N)) b) ∙ h in
+        let chain : faulty Extents ≡ found l = sym (ap (λ x. and_then (and_then x (sequence_at (complete V N) N)) (layout_of profile N)) q
+        ∙ ap (λ c. and_then (cond c (read_positions (positions (complete V N) e)) (faulty Extents)) (layout_of profile N)) b) ∙ h in
         let no : ⊥ = cc in no)
 
 pub main_fits : (N : ℕ) (e : AnchorExtents) → are_extents N e ≡ true → e.main.block + e.main.length / 2048 ≤ N + 1
@@ -176,11 +177,11 @@ main_fits N e h = leb-true (e.main.block + e.main.length / 2048) (N + 1) (both (
     && is_within 32768 524288 e.main.length && fits_to N e.main) (fits_to N e.reserve) h).0).1
 
 -- with the anchor's extents, the layout is what the positions give
-pub layout_by : (T : Blocks) (N : ℕ) (e : AnchorExtents) → anchor T N ≡ found e → are_extents N e ≡ true
-    → layout T N ≡ and_then (read_positions (positions T e)) (layout_of N)
-unfolding layout sequence
-layout_by T N e q b = ap (λ x. and_then (and_then x (sequence_at T N)) (layout_of N)) q
-    ∙ ap (λ c. and_then (cond c (read_positions (positions T e)) (faulty Extents)) (layout_of N)) b
+pub layout_at : (profile : Profile) (T : Blocks) (N : ℕ) (e : AnchorExtents) → anchor T N ≡ found e → are_extents N e ≡ true
+    → layout_by profile T N ≡ and_then (read_positions (positions T e)) (layout_of profile N)
+unfolding layout_by sequence
+layout_at profile T N e q b = ap (λ x. and_then (and_then x (sequence_at T N)) (layout_of profile N)) q
+    ∙ ap (λ c. and_then (cond c (read_positions (positions T e)) (faulty Extents)) (layout_of profile N)) b
 
 abbrev pair : AnchorExtents → ℕ → List ℕ
 pair e i = (e.main.block + i) ∷ (e.reserve.block + i) ∷ []
@@ -209,10 +210,10 @@ from_through_end : (V : Volume) (N : ℕ) (e : AnchorExtents) (i : ℕ) → IsTh
 from_through_end V N e i t = (omega arith, (let h : i < e.main.length / 2048 = t.inside in omega arith), λ j l x. t.before j x)
 
 -- the rows of positions of a table that has the volume's extents, beside the complete ones
-rows_alike : (M : Blocks) (V : Volume) (N : ℕ) → Agrees M V N → IsLawfulLayout V N → (e : AnchorExtents)
+rows_alike : (profile : Profile) (M : Blocks) (V : Volume) (N : ℕ) → Agrees M V N → IsLawfulLayoutBy profile V N → (e : AnchorExtents)
     → anchor (complete V N) N ≡ found e → are_extents N e ≡ true
     → ReadsAlike (row M e) (row (complete V N) e) (λ i. ascending (pair e i)) (λ i. IsHere M (pair e i)) (AreUnread M e) 0 (count e)
-rows_alike M V N a lw e q b = reads_alike (row M e) (row (complete V N) e) (λ i. ascending (pair e i)) (λ i. IsHere M (pair e i)) (AreUnread M e) 0 (count e) each
+rows_alike profile M V N a lw e q b = reads_alike (row M e) (row (complete V N) e) (λ i. ascending (pair e i)) (λ i. IsHere M (pair e i)) (AreUnread M e) 0 (count e) each
   where
     fits : (i : ℕ) → i < 0 + count e → e.main.block + i ≤ N
     fits i h = let m : e.main.block + e.main.length / 2048 ≤ N + 1 = main_fits N e b in omega arith
@@ -226,13 +227,13 @@ rows_alike M V N a lw e q b = reads_alike (row M e) (row (complete V N) e) (λ i
         → Alike (row M e) (row (complete V N) e) (λ i. ascending (pair e i)) (λ i. IsHere M (pair e i)) (AreUnread M e) i
     each i t = tell i (position_lem M V N a (e.main.block + i) (e.reserve.block + i) (fits i t.1) (lw.copies e i q (through_end V N e i t)))
 
-answer_with : (M : Blocks) (V : Volume) (N : ℕ) → IsLawfulLayout V N → (e : AnchorExtents)
+answer_with : (profile : Profile) (M : Blocks) (V : Volume) (N : ℕ) → IsLawfulLayoutBy profile V N → (e : AnchorExtents)
     → anchor (complete V N) N ≡ found e → anchor M N ≡ found e → are_extents N e ≡ true
     → IsHere M (valid_anchors V N)
     → ReadsAlike (row M e) (row (complete V N) e) (λ i. ascending (pair e i)) (λ i. IsHere M (pair e i)) (AreUnread M e) 0 (count e)
-    → IsAnswerOf M (valid_anchors V N) (anchor_places N) (IsSequenceGroup V N) (layout M N) (layout (complete V N) N)
-answer_with M V N lw e q r b here (all_same eq all) = the_same
-    (layout_by M N e r b ∙ ap (λ x. and_then x (layout_of N)) eq ∙ sym (layout_by (complete V N) N e q b)) groups
+    → IsAnswerOf M (valid_anchors V N) (anchor_places N) (IsSequenceGroup V N) (layout_by profile M N) (layout_by profile (complete V N) N)
+answer_with profile M V N lw e q r b here (all_same eq all) = the_same
+    (layout_at profile M N e r b ∙ ap (λ x. and_then x (layout_of profile N)) eq ∙ sym (layout_at profile (complete V N) N e q b)) groups
   where
     at_pair : (x : AnchorExtents) → e ≡ x → (i : ℕ) → IsThroughEnd V N x i → IsHere M (pair x i)
     at_pair x p = let Q : AnchorExtents → Type 0 = λ x. (i : ℕ) → IsThroughEnd V N x i → IsHere M (pair x i) in
@@ -241,8 +242,8 @@ answer_with M V N lw e q r b here (all_same eq all) = the_same
     groups : (g : List ℕ) → IsSequenceGroup V N g → IsHere M g
     groups g (inl p) = subst (IsHere M) (sym p) here
     groups g (inr p) = subst (IsHere M) (sym p.is) (at_pair p.extents (found_same e p.extents (sym q ∙ p.from)) p.place p.through)
-answer_with M V N lw e q r b here (one_unread i t eq u) = unread_answer (ascending (pair e i))
-    (layout_by M N e r b ∙ ap (λ x. and_then x (layout_of N)) eq)
+answer_with profile M V N lw e q r b here (one_unread i t eq u) = unread_answer (ascending (pair e i))
+    (layout_at profile M N e r b ∙ ap (λ x. and_then x (layout_of profile N)) eq)
     (record {
       group = pair e i;
       is_group = inr a_pair;
@@ -260,13 +261,13 @@ found_anchor : (M : Blocks) (V : Volume) (N n m : ℕ) → first_anchor M (ancho
 unfolding anchor
 found_anchor M V N n m f p = ap (λ o. anchor_or o (not_known M (anchor_places N))) f ∙ ap found (same_extents (V m) (V n) p)
 
-pub layout_law : LayoutLaw
-layout_law M V N hv lw a = by_complete (complete_anchor V N hv.from lw) (first_anchor_lem M V N a (anchor_places N))
+pub layout_law : (profile : Profile) → LayoutLawBy profile
+layout_law profile M V N hv lw a = by_complete (complete_anchor profile V N hv.from lw) (first_anchor_lem M V N a (anchor_places N))
   where
     by_complete : (n : ℕ) × Includes (valid_anchors V N) n × (anchor (complete V N) N ≡ found (extents_of (V n))) → FirstAnchor M V (anchor_places N)
-        → IsAnswerOf M (valid_anchors V N) (anchor_places N) (IsSequenceGroup V N) (layout M N) (layout (complete V N) N)
-    by_complete (n, i, q) (one_known m im vm km fm) = let b : are_extents N (extents_of (V n)) ≡ true = are_extents_of V N (extents_of (V n)) lw.laid_out.0 q lw.laid_out.1 in
+        → IsAnswerOf M (valid_anchors V N) (anchor_places N) (IsSequenceGroup V N) (layout_by profile M N) (layout_by profile (complete V N) N)
+    by_complete (n, i, q) (one_known m im vm km fm) = let b : are_extents N (extents_of (V n)) ≡ true = are_extents_of profile V N (extents_of (V n)) lw.laid_out.0 q lw.laid_out.1 in
         let va : Includes (valid_anchors V N) m = is_valid_one V N m im vm in
-        answer_with M V N lw (extents_of (V n)) q (found_anchor M V N n m fm (lw.anchors m n va i)) b (m, va, (V m, km))
-        (rows_alike M V N a lw (extents_of (V n)) q b)
-    by_complete (n, i, q) (none_known f all) = no_anchor M V N lw f all
+        answer_with profile M V N lw (extents_of (V n)) q (found_anchor M V N n m fm (lw.anchors m n va i)) b (m, va, (V m, km))
+        (rows_alike profile M V N a lw (extents_of (V n)) q b)
+    by_complete (n, i, q) (none_known f all) = no_anchor profile M V N lw f all

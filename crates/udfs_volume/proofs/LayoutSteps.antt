@@ -6,11 +6,12 @@ use Rattle.udfs_lattice.specs.Volumes.{Blocks}
 use Rattle.udfs_tag.specs.Faults.{first_fault}
 use Rattle.udfs_tag.specs.Fields.{uint16_at, uint32_at, long_ad_at, part}
 use Rattle.udfs_osta.specs.Labels.{label_of}
+use Rattle.udfs_volume.specs.declared.profiles.Profile.{Profile}
 use Rattle.udfs_volume.specs.declared.faults.VolumeFault.{VolumeFault}
 use Rattle.udfs_volume.specs.declared.faults.VolumeFault.TheVariants.{Domain, BlockSize, MapCount, MapKind, NoLogicalVolume, Contents, PartitionRange}
 use Rattle.udfs_volume.specs.Answers.{found, holes, faulty, and_then, unless_fault}
 use Rattle.udfs_volume.specs.Sequence.{Descriptor, sequence}
-use Rattle.udfs_volume.specs.Layout.{Layout, NumberedMap, Described, bp, has_domain, has_revision, map_count, the_maps, volume_fault, described, has_contents, partition_of, is_in_range, laid_out, with_maps, with_volume, logical_volume, layout_of, layout}
+use Rattle.udfs_volume.specs.Layout.{Layout, NumberedMap, Described, bp, has_domain, has_revision, map_count, the_maps, volume_fault, described, has_contents, partition_of, is_in_range, laid_out, with_maps, with_volume, logical_volume, layout_of, layout_by}
 use Rattle.udfs_volume.specs.LayoutParts.{field_tests}
 
 abbrev pub layout_by_parts : ℕ → Descriptor → List Described → Layout
@@ -42,44 +43,44 @@ none_of false true c d e = absurd (let z : ⊥ = cc in z)
 none_of false false true d e = absurd (let z : ⊥ = cc in z)
 none_of false false false d e = refl
 
-fault-some : (last : ℕ) (lv : Descriptor) (f : VolumeFault) → first_fault (field_tests lv) ≡ Some f → volume_fault last lv ≡ Some f
-fault-some last lv f e = some_of (not (has_domain lv) || not (has_revision lv)) (not (nat_eq (uint32_at lv.content (bp 212)) 2048)) (not (nat_eq (map_count lv) 1 || nat_eq (map_count lv) 2)) (is_none (the_maps last lv)) f e
+fault-some : (profile : Profile) (last : ℕ) (lv : Descriptor) (f : VolumeFault) → first_fault (field_tests profile lv) ≡ Some f → volume_fault profile last lv ≡ Some f
+fault-some profile last lv f e = some_of (not (has_domain lv) || not (has_revision profile lv)) (not (nat_eq (uint32_at lv.content (bp 212)) 2048)) (not (nat_eq (map_count lv) 1 || nat_eq (map_count lv) 2)) (is_none (the_maps profile last lv)) f e
 
-fault-none : (last : ℕ) (lv : Descriptor) → first_fault (field_tests lv) ≡ None → volume_fault last lv ≡ cond (is_none (the_maps last lv)) (Some MapKind) None
-fault-none last lv e = none_of (not (has_domain lv) || not (has_revision lv)) (not (nat_eq (uint32_at lv.content (bp 212)) 2048)) (not (nat_eq (map_count lv) 1 || nat_eq (map_count lv) 2)) (is_none (the_maps last lv)) e
+fault-none : (profile : Profile) (last : ℕ) (lv : Descriptor) → first_fault (field_tests profile lv) ≡ None → volume_fault profile last lv ≡ cond (is_none (the_maps profile last lv)) (Some MapKind) None
+fault-none profile last lv e = none_of (not (has_domain lv) || not (has_revision profile lv)) (not (nat_eq (uint32_at lv.content (bp 212)) 2048)) (not (nat_eq (map_count lv) 1 || nat_eq (map_count lv) 2)) (is_none (the_maps profile last lv)) e
 
-pub layout_of-no_volume : (last : ℕ) (ds : List Descriptor) → None ≡ logical_volume ds → layout_of last ds ≡ faulty NoLogicalVolume
+pub layout_of-no_volume : (profile : Profile) (last : ℕ) (ds : List Descriptor) → None ≡ logical_volume ds → layout_of profile last ds ≡ faulty NoLogicalVolume
 unfolding layout_of
-layout_of-no_volume last ds e = sym (ap (with_volume last ds) e)
+layout_of-no_volume profile last ds e = sym (ap (with_volume profile last ds) e)
 
-with_lv : (last : ℕ) (ds : List Descriptor) (lv : Descriptor) (o : Option VolumeFault) → volume_fault last lv ≡ o
-    → with_volume last ds (Some lv) ≡ and_then (unless_fault o lv) (λ v. with_maps last ds v (the_maps last v))
-with_lv last ds lv o e = ap (λ o. and_then (unless_fault o lv) (λ v. with_maps last ds v (the_maps last v))) e
+with_lv : (profile : Profile) (last : ℕ) (ds : List Descriptor) (lv : Descriptor) (o : Option VolumeFault) → volume_fault profile last lv ≡ o
+    → with_volume profile last ds (Some lv) ≡ and_then (unless_fault o lv) (λ v. with_maps profile last ds v (the_maps profile last v))
+with_lv profile last ds lv o e = ap (λ o. and_then (unless_fault o lv) (λ v. with_maps profile last ds v (the_maps profile last v))) e
 
-pub layout_of-fault : (last : ℕ) (ds : List Descriptor) (lv : Descriptor) (f : VolumeFault) → Some lv ≡ logical_volume ds → Some f ≡ first_fault (field_tests lv) → layout_of last ds ≡ faulty f
+pub layout_of-fault : (profile : Profile) (last : ℕ) (ds : List Descriptor) (lv : Descriptor) (f : VolumeFault) → Some lv ≡ logical_volume ds → Some f ≡ first_fault (field_tests profile lv) → layout_of profile last ds ≡ faulty f
 unfolding layout_of
-layout_of-fault last ds lv f e h = sym (ap (with_volume last ds) e) ∙ with_lv last ds lv (Some f) (fault-some last lv f (sym h))
+layout_of-fault profile last ds lv f e h = sym (ap (with_volume profile last ds) e) ∙ with_lv profile last ds lv (Some f) (fault-some profile last lv f (sym h))
 
-pub layout_of-no_maps : (last : ℕ) (ds : List Descriptor) (lv : Descriptor) → Some lv ≡ logical_volume ds → None ≡ first_fault (field_tests lv) → None ≡ the_maps last lv → layout_of last ds ≡ faulty MapKind
+pub layout_of-no_maps : (profile : Profile) (last : ℕ) (ds : List Descriptor) (lv : Descriptor) → Some lv ≡ logical_volume ds → None ≡ first_fault (field_tests profile lv) → None ≡ the_maps profile last lv → layout_of profile last ds ≡ faulty MapKind
 unfolding layout_of
-layout_of-no_maps last ds lv e h m = sym (ap (with_volume last ds) e)
-    ∙ with_lv last ds lv (Some MapKind) (fault-none last lv (sym h) ∙ ap (λ o. cond (is_none o) (Some MapKind) None) (sym m))
+layout_of-no_maps profile last ds lv e h m = sym (ap (with_volume profile last ds) e)
+    ∙ with_lv profile last ds lv (Some MapKind) (fault-none profile last lv (sym h) ∙ ap (λ o. cond (is_none o) (Some MapKind) None) (sym m))
 
-pub layout_of-maps : (last : ℕ) (ds : List Descriptor) (lv : Descriptor) (ms : List NumberedMap) → Some lv ≡ logical_volume ds → None ≡ first_fault (field_tests lv) → Some ms ≡ the_maps last lv
-    → layout_of last ds ≡ laid_out last lv (described ds ms)
+pub layout_of-maps : (profile : Profile) (last : ℕ) (ds : List Descriptor) (lv : Descriptor) (ms : List NumberedMap) → Some lv ≡ logical_volume ds → None ≡ first_fault (field_tests profile lv) → Some ms ≡ the_maps profile last lv
+    → layout_of profile last ds ≡ laid_out last lv (described ds ms)
 unfolding layout_of
-layout_of-maps last ds lv ms e h m = sym (ap (with_volume last ds) e)
-    ∙ with_lv last ds lv None (fault-none last lv (sym h) ∙ ap (λ o. cond (is_none o) (Some MapKind) None) (sym m))
-    ∙ ap (with_maps last ds lv) (sym m)
+layout_of-maps profile last ds lv ms e h m = sym (ap (with_volume profile last ds) e)
+    ∙ with_lv profile last ds lv None (fault-none profile last lv (sym h) ∙ ap (λ o. cond (is_none o) (Some MapKind) None) (sym m))
+    ∙ ap (with_maps profile last ds lv) (sym m)
 
-pub layout-holes : (T : Blocks) (last : ℕ) (ns : List ℕ) → sequence T last ≡ holes ns → layout T last ≡ holes ns
-unfolding layout
-layout-holes T last ns h = ap (λ a. and_then a (layout_of last)) h
+pub layout-holes : (profile : Profile) (T : Blocks) (last : ℕ) (ns : List ℕ) → sequence T last ≡ holes ns → layout_by profile T last ≡ holes ns
+unfolding layout_by
+layout-holes profile T last ns h = ap (λ a. and_then a (layout_of profile last)) h
 
-pub layout_faulty : (T : Blocks) (last : ℕ) (f : VolumeFault) → sequence T last ≡ faulty f → layout T last ≡ faulty f
-unfolding layout
-layout_faulty T last f h = ap (λ a. and_then a (layout_of last)) h
+pub layout_faulty : (profile : Profile) (T : Blocks) (last : ℕ) (f : VolumeFault) → sequence T last ≡ faulty f → layout_by profile T last ≡ faulty f
+unfolding layout_by
+layout_faulty profile T last f h = ap (λ a. and_then a (layout_of profile last)) h
 
-pub layout-read : (T : Blocks) (last : ℕ) (ds : List Descriptor) → sequence T last ≡ found ds → layout T last ≡ layout_of last ds
-unfolding layout
-layout-read T last ds h = ap (λ a. and_then a (layout_of last)) h
+pub layout-read : (profile : Profile) (T : Blocks) (last : ℕ) (ds : List Descriptor) → sequence T last ≡ found ds → layout_by profile T last ≡ layout_of profile last ds
+unfolding layout_by
+layout-read profile T last ds h = ap (λ a. and_then a (layout_of profile last)) h

@@ -1,6 +1,7 @@
 -- What the maps of a logical volume give, one after the other.
 use Rattle.std.proofs.Common.{◌≡◌, ◌⊎◌, inl, inr, refl, sym, ◌∙◌, ap, ℕ, ◌-◌, Bool, true, false, List, [], ◌∷◌, drop, cond, ◌&&◌, ◌||◌, Option, Some, None, nat_le}
 use Rattle.std.specs.Prelude.{option_map}
+use Rattle.udfs_volume.specs.declared.profiles.Profile.{Profile}
 use Rattle.udfs_tag.specs.Fields.{uint16_at, uint32_at}
 use Rattle.udfs_volume.specs.Sequence.{Bytes, Descriptor}
 use Rattle.udfs_volume.specs.Layout.{PartitionMap, NumberedMap, type1, bp, is_type1, is_sparable, is_kind_of, are_tables, read_map, read_maps, before_maps, map_size, map_count, unless_repeated, the_maps}
@@ -20,49 +21,49 @@ sparable_by false true true false x m k o p q e = ap (option_map (λ m. (m, k)))
 sparable_by false true false t x m k o p q e = absurd (let z : ⊥ = cc in z)
 sparable_by false false l t x m k o p q e = absurd (let z : ⊥ = cc in z)
 
-pub read_map-sparable : (last left : ℕ) (bytes : Bytes) (o : Option PartitionMap) → (is_type1 bytes && nat_le 6 left) ≡ false → (is_sparable bytes && nat_le 64 left) ≡ true
-    → o ≡ cond (are_tables last bytes) (Some (map_read bytes)) None → option_map (λ m. (m, uint16_at bytes 38)) o ≡ read_map last left bytes
-read_map-sparable last left bytes o p q e =
-    sparable_by (is_type1 bytes && nat_le 6 left) (is_sparable bytes) (nat_le 64 left) (are_tables last bytes) (Some (type1, uint16_at bytes 4)) (map_read bytes) (uint16_at bytes 38) o p q e
+pub read_map-sparable : (profile : Profile) (last left : ℕ) (bytes : Bytes) (o : Option PartitionMap) → (is_type1 bytes && nat_le 6 left) ≡ false → (is_sparable bytes && nat_le 64 left) ≡ true
+    → o ≡ cond (are_tables profile last bytes) (Some (map_read bytes)) None → option_map (λ m. (m, uint16_at bytes 38)) o ≡ read_map profile last left bytes
+read_map-sparable profile last left bytes o p q e =
+    sparable_by (is_type1 bytes && nat_le 6 left) (is_sparable bytes) (nat_le 64 left) (are_tables profile last bytes) (Some (type1, uint16_at bytes 4)) (map_read bytes) (uint16_at bytes 38) o p q e
 
 -- ---- one map, or two
-abbrev these : ℕ → Descriptor → ℕ → Option (List NumberedMap)
-these last lv n = unless_repeated (read_maps last n (uint32_at lv.content (bp 264)) (drop (bp 440) lv.content))
+abbrev these : Profile → ℕ → Descriptor → ℕ → Option (List NumberedMap)
+these profile last lv n = unless_repeated (read_maps profile last n (uint32_at lv.content (bp 264)) (drop (bp 440) lv.content))
 
-abbrev pub first_of : ℕ → Descriptor → Option NumberedMap
-first_of last lv = read_map last (uint32_at lv.content (bp 264)) (drop (bp 440) lv.content)
+abbrev pub first_of : Profile → ℕ → Descriptor → Option NumberedMap
+first_of profile last lv = read_map profile last (uint32_at lv.content (bp 264)) (drop (bp 440) lv.content)
 
-abbrev pub second_of : ℕ → Descriptor → ℕ → Option NumberedMap
-second_of last lv size = read_map last (uint32_at lv.content (bp 264) - size) (drop size (drop (bp 440) lv.content))
+abbrev pub second_of : Profile → ℕ → Descriptor → ℕ → Option NumberedMap
+second_of profile last lv size = read_map profile last (uint32_at lv.content (bp 264) - size) (drop size (drop (bp 440) lv.content))
 
-abbrev after_first : ℕ → Descriptor → Option NumberedMap → Option (List NumberedMap)
-after_first last lv o = unless_repeated (before_maps o (λ size. before_maps (second_of last lv size) (λ size. Some [])))
+abbrev after_first : Profile → ℕ → Descriptor → Option NumberedMap → Option (List NumberedMap)
+after_first profile last lv o = unless_repeated (before_maps o (λ size. before_maps (second_of profile last lv size) (λ size. Some [])))
 
-pub maps-none-one : (last : ℕ) (lv : Descriptor) → map_count lv ≡ 1 → first_of last lv ≡ None → the_maps last lv ≡ None
-maps-none-one last lv c e = ap (these last lv) c ∙ ap (λ o. unless_repeated (before_maps o (λ size. Some []))) e
+pub maps-none-one : (profile : Profile) (last : ℕ) (lv : Descriptor) → map_count lv ≡ 1 → first_of profile last lv ≡ None → the_maps profile last lv ≡ None
+maps-none-one profile last lv c e = ap (these profile last lv) c ∙ ap (λ o. unless_repeated (before_maps o (λ size. Some []))) e
 
-pub maps-none-two : (last : ℕ) (lv : Descriptor) → map_count lv ≡ 2 → first_of last lv ≡ None → the_maps last lv ≡ None
-maps-none-two last lv c e = ap (these last lv) c ∙ ap (after_first last lv) e
+pub maps-none-two : (profile : Profile) (last : ℕ) (lv : Descriptor) → map_count lv ≡ 2 → first_of profile last lv ≡ None → the_maps profile last lv ≡ None
+maps-none-two profile last lv c e = ap (these profile last lv) c ∙ ap (after_first profile last lv) e
 
-pub maps-one : (last : ℕ) (lv : Descriptor) (m : NumberedMap) → map_count lv ≡ 1 → first_of last lv ≡ Some m → the_maps last lv ≡ Some (m ∷ [])
-maps-one last lv m c e = ap (these last lv) c ∙ ap (λ o. unless_repeated (before_maps o (λ size. Some []))) e
+pub maps-one : (profile : Profile) (last : ℕ) (lv : Descriptor) (m : NumberedMap) → map_count lv ≡ 1 → first_of profile last lv ≡ Some m → the_maps profile last lv ≡ Some (m ∷ [])
+maps-one profile last lv m c e = ap (these profile last lv) c ∙ ap (λ o. unless_repeated (before_maps o (λ size. Some []))) e
 
-pub maps-half : (last : ℕ) (lv : Descriptor) (m : NumberedMap) → map_count lv ≡ 2 → first_of last lv ≡ Some m → second_of last lv (map_size m.0) ≡ None → the_maps last lv ≡ None
-maps-half last lv m c e f = ap (these last lv) c ∙ ap (after_first last lv) e
+pub maps-half : (profile : Profile) (last : ℕ) (lv : Descriptor) (m : NumberedMap) → map_count lv ≡ 2 → first_of profile last lv ≡ Some m → second_of profile last lv (map_size m.0) ≡ None → the_maps profile last lv ≡ None
+maps-half profile last lv m c e f = ap (these profile last lv) c ∙ ap (after_first profile last lv) e
     ∙ ap (λ o. unless_repeated (option_map (λ ms. m ∷ ms) (before_maps o (λ size. Some [])))) f
 
 by_kind : (m n : NumberedMap) (b : Bool) → is_kind_of m.0 n.0 ≡ b → unless_repeated (Some (m ∷ n ∷ [])) ≡ cond b None (Some (m ∷ n ∷ []))
 by_kind m n true e = ap (λ b. cond (b || false || (false || false)) None (Some (m ∷ n ∷ []))) e
 by_kind m n false e = ap (λ b. cond (b || false || (false || false)) None (Some (m ∷ n ∷ []))) e
 
-pub maps-two : (last : ℕ) (lv : Descriptor) (m n : NumberedMap) (b : Bool) → map_count lv ≡ 2 → first_of last lv ≡ Some m → second_of last lv (map_size m.0) ≡ Some n → is_kind_of m.0 n.0 ≡ b
-    → the_maps last lv ≡ cond b None (Some (m ∷ n ∷ []))
-maps-two last lv m n b c e f k = ap (these last lv) c ∙ ap (after_first last lv) e
+pub maps-two : (profile : Profile) (last : ℕ) (lv : Descriptor) (m n : NumberedMap) (b : Bool) → map_count lv ≡ 2 → first_of profile last lv ≡ Some m → second_of profile last lv (map_size m.0) ≡ Some n → is_kind_of m.0 n.0 ≡ b
+    → the_maps profile last lv ≡ cond b None (Some (m ∷ n ∷ []))
+maps-two profile last lv m n b c e f k = ap (these profile last lv) c ∙ ap (after_first profile last lv) e
     ∙ ap (λ o. unless_repeated (option_map (λ ms. m ∷ ms) (before_maps o (λ size. Some [])))) f ∙ by_kind m n b k
 
-pub maps-none : (last : ℕ) (lv : Descriptor) → (map_count lv ≡ 1) ⊎ (map_count lv ≡ 2) → first_of last lv ≡ None → None ≡ the_maps last lv
-maps-none last lv (inl c) e = sym (maps-none-one last lv c e)
-maps-none last lv (inr c) e = sym (maps-none-two last lv c e)
+pub maps-none : (profile : Profile) (last : ℕ) (lv : Descriptor) → (map_count lv ≡ 1) ⊎ (map_count lv ≡ 2) → first_of profile last lv ≡ None → None ≡ the_maps profile last lv
+maps-none profile last lv (inl c) e = sym (maps-none-one profile last lv c e)
+maps-none profile last lv (inr c) e = sym (maps-none-two profile last lv c e)
 
 pub two_if : (n : ℕ) → (n ≡ 1) ⊎ (n ≡ 2) → (n ≡ 1 → ⊥) → n ≡ 2
 two_if n (inl e) h = absurd (h e)

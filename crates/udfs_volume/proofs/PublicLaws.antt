@@ -1,5 +1,8 @@
--- The laws of this crate that proofs above it use. Each has the statement that the function of its name in src/laws.rt ensures.
-use Rattle.udfs_volume.specs.Laws.{AscendingRises, FoundBounds, LayoutLaw, StandardLayout}
+-- The laws of this crate that proofs above it use. Each has the statement that the function of its name in src/laws.rt ensures:
+-- those that end in `_by` for every profile, the others by the strict rules.
+use Rattle.udfs_volume.specs.declared.profiles.Profile.{Profile}
+use Rattle.udfs_volume.specs.declared.profiles.Profile.TheVariants.{Strict}
+use Rattle.udfs_volume.specs.Laws.{AscendingRises, FoundBounds, FoundBoundsBy, LayoutLaw, LayoutLawBy, StandardLayout, StandardLayoutBy}
 use Rattle.udfs_volume.specs.Sample.{SampleLayout}
 use Rattle.udfs_volume.proofs.Bounds as bounds
 use Rattle.udfs_volume.proofs.LayoutLaw as lawful
@@ -7,14 +10,23 @@ use Rattle.udfs_volume.proofs.StandardLaw as standard
 use Rattle.udfs_volume.proofs.Rising as rising
 use Rattle.udfs_volume.proofs.SampleLaw as sample
 
+pub layout_of_lawful_by : (profile : Profile) → LayoutLawBy profile
+layout_of_lawful_by = lawful.layout_law
+
 pub layout_of_lawful : LayoutLaw
-layout_of_lawful = lawful.layout_law
+layout_of_lawful = layout_of_lawful_by Strict
+
+pub layout_of_standard_by : (profile : Profile) → StandardLayoutBy profile
+layout_of_standard_by = standard.standard_layout_law
 
 pub layout_of_standard : StandardLayout
-layout_of_standard = standard.standard_layout_law
+layout_of_standard = layout_of_standard_by Strict
+
+pub layout_is_bounded_by : (profile : Profile) → FoundBoundsBy profile
+layout_is_bounded_by = bounds.layout_is_bounded
 
 pub layout_is_bounded : FoundBounds
-layout_is_bounded = bounds.layout_is_bounded
+layout_is_bounded = layout_is_bounded_by Strict
 
 pub ascending_rises : AscendingRises
 ascending_rises = rising.rising_ascending

@@ -7,15 +7,16 @@ use Rattle.udfs_lattice.specs.Volumes.{Blocks, Includes, Volume, complete, not_k
 use Rattle.udfs_tag.specs.Tags.{is_valid, is_sound, identifier}
 use Rattle.udfs_volume.specs.Answers.{Answer, found, holes, faulty, and_then}
 use Rattle.udfs_volume.specs.declared.faults.VolumeFault.TheVariants.{Pointer}
+use Rattle.udfs_volume.specs.declared.profiles.Profile.{Profile}
 use Rattle.udfs_volume.specs.declared.anchors.AnchorExtents.{AnchorExtents}
 use Rattle.udfs_volume.specs.Sequence.{extents_of, anchor, anchor_places, anchor_or, first_anchor, or_else, anchor_here, are_extents, Position, Descriptor, invalid, descriptor, position, positions, goes_on, read_positions, ended_by}
-use Rattle.udfs_volume.specs.Layout.{layout, layout_of}
-use Rattle.udfs_volume.specs.Standard.{standard_anchor, standard_layout, main_sequence}
-use Rattle.udfs_volume.specs.Laws.{StandardLayout, IsLawfulLayout}
+use Rattle.udfs_volume.specs.Layout.{layout_by, layout_of}
+use Rattle.udfs_volume.specs.Standard.{standard_anchor, standard_layout_by, main_sequence}
+use Rattle.udfs_volume.specs.Laws.{StandardLayoutBy, IsLawfulLayoutBy}
 use Rattle.udfs_volume.proofs.Known.{complete-known}
 use Rattle.udfs_volume.proofs.Bounds.{and_then-found, found_same}
 use Rattle.udfs_volume.proofs.Positions.{described, main_is, before, read-on, read-stop}
-use Rattle.udfs_volume.proofs.LayoutLaw.{place_fits, are_extents_of, main_fits, layout_by}
+use Rattle.udfs_volume.proofs.LayoutLaw.{place_fits, are_extents_of, main_fits, layout_at}
 
 -- over the complete table the first anchor is the first valid one
 first_is : (V : Volume) (N : ℕ) (ns : List ℕ) → ((n : ℕ) → Includes ns n → n ≤ N) → first_anchor (complete V N) ns ≡ option_map V (find (λ n. is_valid (V n) n 2) ns)
@@ -36,9 +37,9 @@ none_found test (n ∷ ns) e = go (test n) e (none_found test ns)
     go true e later = absurd (let z : ⊥ = cc in z)
     go false e later = later e
 
-standard_anchor_is : (V : Volume) (N : ℕ) → 513 ≤ N → IsLawfulLayout V N → (n : ℕ) × (standard_anchor V N ≡ Some n) × (anchor (complete V N) N ≡ found (extents_of (V n)))
+standard_anchor_is : (profile : Profile) (V : Volume) (N : ℕ) → 513 ≤ N → IsLawfulLayoutBy profile V N → (n : ℕ) × (standard_anchor V N ≡ Some n) × (anchor (complete V N) N ≡ found (extents_of (V n)))
 unfolding anchor
-standard_anchor_is V N h lw = go (standard_anchor V N) refl
+standard_anchor_is profile V N h lw = go (standard_anchor V N) refl
   where
     go : (o : Option ℕ) → standard_anchor V N ≡ o → (n : ℕ) × (standard_anchor V N ≡ Some n) × (anchor (complete V N) N ≡ found (extents_of (V n)))
     go None e = absurd (lw.anchored (none_found (λ n. is_valid (V n) n 2) (anchor_places N) e))
@@ -123,26 +124,26 @@ rows_same : (p q : ℕ → Position) (c n : ℕ) → ((i : ℕ) → c ≤ i → 
 rows_same p q c zero h = refl
 rows_same p q c (suc n) h = λ i. h c (omega arith) (omega arith) i ∷ rows_same p q (c + 1) n (λ j l m. h j (omega (arith, l)) (omega (arith, m))) i
 
-pub standard_layout_law : StandardLayout
-standard_layout_law V N hv lw = go (standard_anchor_is V N hv.from lw)
+pub standard_layout_law : (profile : Profile) → StandardLayoutBy profile
+standard_layout_law profile V N hv lw = go (standard_anchor_is profile V N hv.from lw)
   where
     C : Blocks
     C = complete V N
 
-    go : (n : ℕ) × (standard_anchor V N ≡ Some n) × (anchor C N ≡ found (extents_of (V n))) → (n : ℕ) × (standard_anchor V N ≡ Some n) × (standard_layout V N n ≡ layout C N)
-    go (n, f, q) = (n, f, ap (layout_of N) main_is_ds ∙ sym (by ∙ ap (λ x. and_then x (layout_of N)) r.1))
+    go : (n : ℕ) × (standard_anchor V N ≡ Some n) × (anchor C N ≡ found (extents_of (V n))) → (n : ℕ) × (standard_anchor V N ≡ Some n) × (standard_layout_by profile V N n ≡ layout_by profile C N)
+    go (n, f, q) = (n, f, ap (layout_of profile N) main_is_ds ∙ sym (by ∙ ap (λ x. and_then x (layout_of profile N)) r.1))
       where
         e : AnchorExtents
         e = extents_of (V n)
 
         b : are_extents N e ≡ true
-        b = are_extents_of V N e lw.laid_out.0 q lw.laid_out.1
+        b = are_extents_of profile V N e lw.laid_out.0 q lw.laid_out.1
 
-        by : layout C N ≡ and_then (read_positions (positions C e)) (layout_of N)
-        by = layout_by C N e q b
+        by : layout_by profile C N ≡ and_then (read_positions (positions C e)) (layout_of profile N)
+        by = layout_at profile C N e q b
 
-        r : (ds : List Descriptor) × (read_positions (positions C e) ≡ found ds) × (layout_of N ds ≡ found lw.laid_out.0)
-        r = and_then-found (read_positions (positions C e)) (layout_of N) lw.laid_out.0 (sym by ∙ lw.laid_out.1)
+        r : (ds : List Descriptor) × (read_positions (positions C e) ≡ found ds) × (layout_of profile N ds ≡ found lw.laid_out.0)
+        r = and_then-found (read_positions (positions C e)) (layout_of profile N) lw.laid_out.0 (sym by ∙ lw.laid_out.1)
 
         rows : map (λ i. described V (e.main.block + i)) (range_with_len 0 (e.main.length / 2048)) ≡ positions C e
         rows = rows_same (λ i. described V (e.main.block + i)) (λ i. position C (e.main.block + i) (e.reserve.block + i)) 0 (e.main.length / 2048)

@@ -1,20 +1,23 @@
 -- What holds of the layout of a lawful volume of which a part is known.
---     IsLawfulLayout volume last      anchors and copies of the sequence that say the same, and no fault
---     IsSequenceGroup                 blocks of which one has to be known: the valid anchors, and each pair
---     LayoutLaw                       the layout is the volume's, or a group is unread
---     LayoutBounds, FoundBounds       a layout that is found lies within the volume
---     StandardLayout                  with all known it is that of the first anchor and the main sequence
---     AscendingRises                  what is listed ascending rises
+--     IsLawfulLayoutBy profile volume last      anchors and copies of the sequence that say the same, and no fault
+--     IsSequenceGroup                           blocks of which one has to be known: the valid anchors, and each pair
+--     LayoutLawBy profile                       the layout is the volume's, or a group is unread
+--     LayoutBounds, FoundBoundsBy profile       a layout that is found lies within the volume
+--     StandardLayoutBy profile                  with all known it is that of the first anchor and the main sequence
+--     AscendingRises                            what is listed ascending rises
+-- IsLawfulLayout, LayoutLaw, FoundBounds and StandardLayout are these by the strict rules.
 use Rattle.std.specs.Prelude.{◌≡◌, ◌≢◌, ℕ, ◌+◌, ◌/◌, ◌<◌, ◌≤◌, true, false, List, [], ◌∷◌, filter, map, length, drop, ◌⊎◌, ⊤, Some}
 use Rattle.udfs_lattice.specs.Volumes.{Blocks, Includes, Volume, IsVolume, Agrees, ascending, complete, IsUnread, IsKnownAt}
 use Rattle.udfs_tag.specs.Fields.{part}
 use Rattle.udfs_tag.specs.Tags.{is_valid, is_sound, identifier}
 use Rattle.udfs_volume.specs.Answers.{Answer, found, holes}
 use Rattle.udfs_volume.specs.declared.anchors.AnchorExtents.{AnchorExtents}
+use Rattle.udfs_volume.specs.declared.profiles.Profile.{Profile}
+use Rattle.udfs_volume.specs.declared.profiles.Profile.TheVariants.{Strict}
 use Rattle.udfs_volume.specs.Seen.{IsRising}
 use Rattle.udfs_volume.specs.Sequence.{Descriptor, anchor, anchor_places, position, goes_on}
-use Rattle.udfs_volume.specs.Standard.{standard_anchor, standard_layout}
-use Rattle.udfs_volume.specs.Layout.{Layout, Partition, PartitionMap, type1, sparable, repeats_kind, blocks_in, layout, layout_of}
+use Rattle.udfs_volume.specs.Standard.{standard_anchor, standard_layout_by}
+use Rattle.udfs_volume.specs.Layout.{Layout, Partition, PartitionMap, type1, sparable, repeats_kind, blocks_in, layout_by, layout_of}
 
 -- the anchor places at which the volume has a valid anchor volume descriptor pointer (ECMA-167 3/10.2)
 abbrev pub valid_anchors : Volume → ℕ → List ℕ
@@ -32,13 +35,17 @@ pub record SaysTheSame (volume : Volume) (main reserve : ℕ) : Type 0 where
   pub contents : is_sound (volume main) main ≡ true → drop 16 (volume main) ≡ drop 16 (volume reserve)
 
 -- a volume has an anchor, its anchors name the same extents, and both copies of its descriptor sequence say the same
-pub record IsLawfulLayout (volume : Volume) (last : ℕ) : Type 0 where
+pub record IsLawfulLayoutBy (profile : Profile) (volume : Volume) (last : ℕ) : Type 0 where
   pub anchored : valid_anchors volume last ≢ []
   pub anchors : (a b : ℕ) → Includes (valid_anchors volume last) a → Includes (valid_anchors volume last) b
       → part (volume a) 16 16 ≡ part (volume b) 16 16
   pub copies : (e : AnchorExtents) (i : ℕ) → anchor (complete volume last) last ≡ found e → IsThroughEnd volume last e i
       → SaysTheSame volume (e.main.block + i) (e.reserve.block + i)
-  pub laid_out : (l : Layout) × (layout (complete volume last) last ≡ found l)
+  pub laid_out : (l : Layout) × (layout_by profile (complete volume last) last ≡ found l)
+
+-- the same by the strict rules
+abbrev pub IsLawfulLayout : Volume → ℕ → Type 0
+IsLawfulLayout = IsLawfulLayoutBy Strict
 
 -- the copies of a position through the end
 pub record IsPair (volume : Volume) (last : ℕ) (group : List ℕ) : Type 0 where
@@ -69,14 +76,18 @@ pub data IsAnswerOf {A : Type 0} (blocks : Blocks) (anchors places : List ℕ) (
   unread : (listed : List ℕ) → some ≡ holes listed → ListsGroup blocks anchors places IsGroup listed → IsAnswerOf blocks anchors places IsGroup some all
 
 -- over a table that agrees with a lawful volume the layout is the volume's, or holes hold an unread group
-abbrev pub LayoutLaw : Type 0
-LayoutLaw = (blocks : Blocks) (volume : Volume) (last : ℕ) → IsVolume volume last → IsLawfulLayout volume last → Agrees blocks volume last
+abbrev pub LayoutLawBy : Profile → Type 0
+LayoutLawBy profile = (blocks : Blocks) (volume : Volume) (last : ℕ) → IsVolume volume last → IsLawfulLayoutBy profile volume last → Agrees blocks volume last
     → IsAnswerOf blocks (valid_anchors volume last) (anchor_places last) (IsSequenceGroup volume last)
-    (layout blocks last) (layout (complete volume last) last)
+    (layout_by profile blocks last) (layout_by profile (complete volume last) last)
+
+-- the same by the strict rules
+abbrev pub LayoutLaw : Type 0
+LayoutLaw = LayoutLawBy Strict
 
 -- the numbers of a sparable map: blocks in a packet, the size of a table, and tables that lie within the volume
 pub record AreBounded (last packet size : ℕ) (tables : List ℕ) : Type 0 where
-  pub packet_is : (packet ≡ 16) ⊎ (packet ≡ 32)
+  pub packet_is : (1 ≤ packet) × (packet ≤ 128)
   pub from : 56 ≤ size
   pub to : size ≤ 65536
   pub one : 1 ≤ length tables
@@ -102,18 +113,26 @@ pub record IsBounded (last : ℕ) (l : Layout) : Type 0 where
   pub of_each : (p : Partition) → Includes l.partitions p → IsBoundedPartition last p
   pub kinds : repeats_kind (map (λ p. p.kind) l.partitions) ≡ false
 
--- a layout that is found lies within the volume
+-- a layout that is found lies within the volume, by whatever rules
 abbrev pub LayoutBounds : Type 0
-LayoutBounds = (last : ℕ) (ds : List Descriptor) (l : Layout) → layout_of last ds ≡ found l → IsBounded last l
+LayoutBounds = (profile : Profile) (last : ℕ) (ds : List Descriptor) (l : Layout) → layout_of profile last ds ≡ found l → IsBounded last l
 
 -- and so does the layout of a table
+abbrev pub FoundBoundsBy : Profile → Type 0
+FoundBoundsBy profile = (blocks : Blocks) (last : ℕ) (l : Layout) → layout_by profile blocks last ≡ found l → IsBounded last l
+
+-- the same by the strict rules
 abbrev pub FoundBounds : Type 0
-FoundBounds = (blocks : Blocks) (last : ℕ) (l : Layout) → layout blocks last ≡ found l → IsBounded last l
+FoundBounds = FoundBoundsBy Strict
 
 -- with all known, the layout is that of the first anchor and the main sequence
+abbrev pub StandardLayoutBy : Profile → Type 0
+StandardLayoutBy profile = (volume : Volume) (last : ℕ) → IsVolume volume last → IsLawfulLayoutBy profile volume last
+    → (n : ℕ) × (standard_anchor volume last ≡ Some n) × (standard_layout_by profile volume last n ≡ layout_by profile (complete volume last) last)
+
+-- the same by the strict rules
 abbrev pub StandardLayout : Type 0
-StandardLayout = (volume : Volume) (last : ℕ) → IsVolume volume last → IsLawfulLayout volume last
-    → (n : ℕ) × (standard_anchor volume last ≡ Some n) × (standard_layout volume last n ≡ layout (complete volume last) last)
+StandardLayout = StandardLayoutBy Strict
 
 -- the ascending list of some numbers rises strictly
 abbrev pub AscendingRises : Type 0

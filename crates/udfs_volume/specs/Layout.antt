@@ -1,6 +1,7 @@
 -- The layout of a volume: its prevailing descriptors (ECMA-167 3/8.4.3, 3/10.5, 3/10.6; UDF 2.2.4).
 --     prevailing sequence_number ds       the first descriptor whose sequence_number no other passes
---     layout blocks last         revision, label, partitions and the file set's address
+--     layout_by profile blocks last       revision, label, partitions and the file set's address, by the rules of a profile
+--     layout blocks last                  the same by the strict rules
 use Rattle.std.specs.Prelude.{ℕ, zero, suc, ◌+◌, ◌-◌, ◌*◌, ◌/◌, Bool, true, false, not, List, [], ◌∷◌, length, drop, map, filter, cond, nat_eq, nat_le, nat_lt, ◌&&◌, ◌||◌, Option, Some, None, find, codes, is_none, option_map}
 use Rattle.std.specs.List.{range_with_len, list_all, list_any}
 use Rattle.std.specs.Str.{bytes_eq}
@@ -12,6 +13,9 @@ use Rattle.udfs_tag.specs.Faults.{is_within, first_fault}
 use Rattle.udfs_osta.specs.declared.labels.Label.{Label}
 use Rattle.udfs_osta.specs.Labels.{label_of}
 use Rattle.udfs_volume.specs.Answers.{Answer, faulty, and_then, unless_fault}
+use Rattle.udfs_volume.specs.declared.profiles.Profile.{Profile}
+use Rattle.udfs_volume.specs.declared.profiles.Profile.TheVariants.{Strict}
+use Rattle.udfs_volume.specs.Profiles.{accepts_packet, accepts_revision}
 use Rattle.udfs_volume.specs.declared.faults.VolumeFault.{VolumeFault}
 use Rattle.udfs_volume.specs.declared.faults.VolumeFault.TheVariants.{NoLogicalVolume, Domain, BlockSize, MapCount, MapKind, NoPartition, Contents, PartitionRange}
 
@@ -81,9 +85,9 @@ abbrev pub table_places : Bytes → List ℕ
 table_places bytes = map (λ i. uint32_at bytes (48 + 4 * i)) (range_with_len 0 (uint8_at bytes 42))
 
 -- the rules of a sparable map's numbers (this project's own rule)
-abbrev pub has_numbers : Bytes → Bool
-has_numbers bytes = is_within 1 4 (uint8_at bytes 42)
-    && (nat_eq (uint16_at bytes 40) 16 || nat_eq (uint16_at bytes 40) 32)
+abbrev pub has_numbers : Profile → Bytes → Bool
+has_numbers profile bytes = is_within 1 4 (uint8_at bytes 42)
+    && accepts_packet profile (uint16_at bytes 40)
     && is_within 56 65536 (uint32_at bytes 44)
 
 -- whether tables of this size lie within the volume
@@ -91,18 +95,18 @@ abbrev pub are_within : ℕ → ℕ → List ℕ → Bool
 are_within last size places = list_all (λ place. nat_le (place + blocks_in size) (last + 1)) places
 
 -- whether a sparable map has good numbers and its tables lie within the volume
-abbrev pub are_tables : ℕ → Bytes → Bool
-are_tables last bytes = has_numbers bytes && are_within last (uint32_at bytes 44) (table_places bytes)
+abbrev pub are_tables : Profile → ℕ → Bytes → Bool
+are_tables profile last bytes = has_numbers profile bytes && are_within last (uint32_at bytes 44) (table_places bytes)
 
 -- A map and the sequence_number of its partition.
 abbrev pub NumberedMap : Type 0
 NumberedMap = PartitionMap × ℕ
 
 -- the map at the front of these bytes, in what is left of the map table
-abbrev pub read_map : ℕ → ℕ → Bytes → Option NumberedMap
-read_map last length bytes =
+abbrev pub read_map : Profile → ℕ → ℕ → Bytes → Option NumberedMap
+read_map profile last length bytes =
     cond (is_type1 bytes && nat_le 6 length) (Some (type1, uint16_at bytes 4))
-    (cond (is_sparable bytes && nat_le 64 length && are_tables last bytes)
+    (cond (is_sparable bytes && nat_le 64 length && are_tables profile last bytes)
     (Some (sparable (uint16_at bytes 40) (uint32_at bytes 44) (table_places bytes), uint16_at bytes 38)) None)
 
 -- how many bytes a partition map takes
@@ -116,10 +120,10 @@ before_maps None later = None
 before_maps (Some m) later = option_map (λ ms. m ∷ ms) (later (map_size m.0))
 
 -- so many maps, one after the other, in a table of that length
-abbrev pub read_maps : ℕ → ℕ → ℕ → Bytes → Option (List NumberedMap)
-read_maps last zero length bytes = Some []
-read_maps last (suc n) length bytes =
-    before_maps (read_map last length bytes) (λ size. read_maps last n (length - size) (drop size bytes))
+abbrev pub read_maps : Profile → ℕ → ℕ → ℕ → Bytes → Option (List NumberedMap)
+read_maps profile last zero length bytes = Some []
+read_maps profile last (suc n) length bytes =
+    before_maps (read_map profile last length bytes) (λ size. read_maps profile last n (length - size) (drop size bytes))
 
 -- whether two maps are of one kind
 abbrev pub is_kind_of : PartitionMap → PartitionMap → Bool
@@ -143,24 +147,24 @@ abbrev pub map_count : Descriptor → ℕ
 map_count lv = uint32_at lv.content (bp 268)
 
 -- the maps, no two of one kind (this project's own rule)
-abbrev pub the_maps : ℕ → Descriptor → Option (List NumberedMap)
-the_maps last lv = unless_repeated (read_maps last (map_count lv) (uint32_at lv.content (bp 264)) (drop (bp 440) lv.content))
+abbrev pub the_maps : Profile → ℕ → Descriptor → Option (List NumberedMap)
+the_maps profile last lv = unless_repeated (read_maps profile last (map_count lv) (uint32_at lv.content (bp 264)) (drop (bp 440) lv.content))
 
 -- whether the domain is that of OSTA UDF (UDF 2.2.4.3)
 abbrev pub has_domain : Descriptor → Bool
 has_domain lv = bytes_eq (regid_at lv.content (bp 216)).name (zero_filled 23 (codes "*OSTA UDF Compliant"))
 
--- whether the revision is 1.50 or 2.01, as the domain's suffix tells it
-abbrev pub has_revision : Descriptor → Bool
-has_revision lv = nat_eq (uint16_at lv.content (bp 240)) 0x0150 || nat_eq (uint16_at lv.content (bp 240)) 0x0201
+-- whether the revision that the domain's suffix tells is accepted
+abbrev pub has_revision : Profile → Descriptor → Bool
+has_revision profile lv = accepts_revision profile (uint16_at lv.content (bp 240))
 
 -- the first rule that a logical volume descriptor breaks
-abbrev pub volume_fault : ℕ → Descriptor → Option VolumeFault
-volume_fault last lv = first_fault (
-    (not (has_domain lv) || not (has_revision lv), Domain)
+abbrev pub volume_fault : Profile → ℕ → Descriptor → Option VolumeFault
+volume_fault profile last lv = first_fault (
+    (not (has_domain lv) || not (has_revision profile lv), Domain)
     ∷ (not (nat_eq (uint32_at lv.content (bp 212)) 2048), BlockSize)
     ∷ (not (nat_eq (map_count lv) 1 || nat_eq (map_count lv) 2), MapCount)
-    ∷ (is_none (the_maps last lv), MapKind)
+    ∷ (is_none (the_maps profile last lv), MapKind)
     ∷ [])
 
 -- A map with the prevailing descriptor of its partition.
@@ -209,19 +213,23 @@ laid_out last lv (Some ps) = unless_fault (partitions_fault last ps) (record {
 })
 
 -- the layout by the maps of a logical volume
-abbrev pub with_maps : ℕ → List Descriptor → Descriptor → Option (List NumberedMap) → Answer Layout
-with_maps last ds lv None = faulty MapKind
-with_maps last ds lv (Some ms) = laid_out last lv (described ds ms)
+abbrev pub with_maps : Profile → ℕ → List Descriptor → Descriptor → Option (List NumberedMap) → Answer Layout
+with_maps profile last ds lv None = faulty MapKind
+with_maps profile last ds lv (Some ms) = laid_out last lv (described ds ms)
 
 -- the layout by the prevailing logical volume descriptor
-abbrev pub with_volume : ℕ → List Descriptor → Option Descriptor → Answer Layout
-with_volume last ds None = faulty NoLogicalVolume
-with_volume last ds (Some lv) = and_then (unless_fault (volume_fault last lv) lv) (λ v. with_maps last ds v (the_maps last v))
+abbrev pub with_volume : Profile → ℕ → List Descriptor → Option Descriptor → Answer Layout
+with_volume profile last ds None = faulty NoLogicalVolume
+with_volume profile last ds (Some lv) = and_then (unless_fault (volume_fault profile last lv) lv) (λ v. with_maps profile last ds v (the_maps profile last v))
 
 -- the layout that a descriptor sequence describes, or its least fault
-unfoldable pub layout_of : ℕ → List Descriptor → Answer Layout
-layout_of last ds = with_volume last ds (logical_volume ds)
+unfoldable pub layout_of : Profile → ℕ → List Descriptor → Answer Layout
+layout_of profile last ds = with_volume profile last ds (logical_volume ds)
 
 -- the layout of a volume, by what is known of its blocks
-unfoldable pub layout : Blocks → ℕ → Answer Layout
-layout blocks last = and_then (sequence blocks last) (layout_of last)
+unfoldable pub layout_by : Profile → Blocks → ℕ → Answer Layout
+layout_by profile blocks last = and_then (sequence blocks last) (layout_of profile last)
+
+-- the same by the strict rules
+abbrev pub layout : Blocks → ℕ → Answer Layout
+layout = layout_by Strict

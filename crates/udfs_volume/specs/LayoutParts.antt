@@ -4,6 +4,7 @@ use Rattle.std.specs.Str.{bytes_eq}
 use Rattle.udfs_tag.specs.Fields.{uint32_at, regid_at, zero_filled}
 use Rattle.udfs_volume.specs.declared.faults.VolumeFault.{VolumeFault}
 use Rattle.udfs_volume.specs.declared.faults.VolumeFault.TheVariants.{Domain, BlockSize, MapCount}
+use Rattle.udfs_volume.specs.declared.profiles.Profile.{Profile}
 use Rattle.udfs_volume.specs.declared.layouts.Partition as code_partition
 use Rattle.udfs_volume.specs.declared.layouts.VolumeParts as code_parts
 use Rattle.udfs_volume.specs.declared.layouts.Described as code_described
@@ -31,9 +32,9 @@ abbrev pub described_now : code_described.Described → Described
 described_now d = (map_now d.kind, descriptor_now d.descriptor)
 
 -- the tests of a logical volume descriptor before those of its maps
-abbrev pub field_tests : Descriptor → List (Bool × VolumeFault)
-field_tests lv =
-    (not (has_domain lv) || not (has_revision lv), Domain)
+abbrev pub field_tests : Profile → Descriptor → List (Bool × VolumeFault)
+field_tests profile lv =
+    (not (has_domain lv) || not (has_revision profile lv), Domain)
     ∷ (not (nat_eq (uint32_at lv.content (bp 212)) 2048), BlockSize)
     ∷ (not (nat_eq (map_count lv) 1 || nat_eq (map_count lv) 2), MapCount)
     ∷ []

@@ -1,13 +1,16 @@
 -- What the standard reads of a volume's layout from complete bytes (ECMA-167 3/8.4): one anchor, the main
 -- sequence alone.
 --     standard_anchor volume last            the first place of a valid anchor
---     standard_layout volume last anchor     the layout by the descriptors that prevail in its main sequence
+--     standard_layout_by profile volume last anchor   the layout by the descriptors that prevail in its main sequence
+--     standard_layout volume last anchor              the same by the strict rules
 use Rattle.std.specs.Prelude.{ℕ, ◌/◌, not, List, drop, map, take_while, nat_eq, ◌&&◌, Option, find}
 use Rattle.std.specs.List.{range_with_len}
 use Rattle.udfs_lattice.specs.Volumes.{Volume}
 use Rattle.udfs_tag.specs.Tags.{is_valid, is_sound, identifier}
 use Rattle.udfs_volume.specs.Answers.{Answer}
 use Rattle.udfs_volume.specs.declared.anchors.AnchorExtents.{AnchorExtents}
+use Rattle.udfs_volume.specs.declared.profiles.Profile.{Profile}
+use Rattle.udfs_volume.specs.declared.profiles.Profile.TheVariants.{Strict}
 use Rattle.udfs_volume.specs.Sequence.{Descriptor, extents_of, anchor_places}
 use Rattle.udfs_volume.specs.Layout.{Layout, layout_of}
 
@@ -25,6 +28,10 @@ abbrev pub main_sequence : Volume → AnchorExtents → List Descriptor
 main_sequence volume e =
     map (λ n. record { identifier = identifier (volume n); content = drop 16 (volume n) }) (main_blocks volume e)
 
--- the layout of a volume, as the standard reads it from this anchor
+-- the layout of a volume, as the standard reads it from this anchor by the rules of a profile
+abbrev pub standard_layout_by : Profile → Volume → ℕ → ℕ → Answer Layout
+standard_layout_by profile volume last anchor = layout_of profile last (main_sequence volume (extents_of (volume anchor)))
+
+-- the same by the strict rules
 abbrev pub standard_layout : Volume → ℕ → ℕ → Answer Layout
-standard_layout volume last anchor = layout_of last (main_sequence volume (extents_of (volume anchor)))
+standard_layout = standard_layout_by Strict

@@ -1,33 +1,40 @@
 -- What a call tells of a lawful volume of which a part is known.
---     IsLayoutOf volume blocks last got     the volume's layout, as the standard reads it
---     TellsLawfulLayout blocks last seen          of each lawful volume: its layout, or all of an unread group
+--     IsLayoutOf profile volume blocks last got     the volume's layout, as the standard reads it
+--     TellsLawfulLayoutBy profile blocks last seen  of each lawful volume: its layout, or all of an unread group
+--     TellsLawfulLayout blocks last seen            the same by the strict rules
 use Rattle.std.specs.Prelude.{◌≡◌, ⊤, ℕ, List, Some}
 use Rattle.udfs_lattice.specs.Volumes.{Blocks, Includes, Volume, IsVolume, Agrees, complete, IsKnownAt}
 use Rattle.udfs_volume.specs.declared.layouts.VolumeParts.{VolumeParts}
+use Rattle.udfs_volume.specs.declared.profiles.Profile.{Profile}
+use Rattle.udfs_volume.specs.declared.profiles.Profile.TheVariants.{Strict}
 use Rattle.udfs_volume.specs.declared.seen.Seen.{Seen}
 use Rattle.udfs_volume.specs.declared.seen.Seen.TheVariants.{Got, Holes, Fault, OutOfMemory}
 use Rattle.udfs_volume.specs.Answers.{found}
 use Rattle.udfs_volume.specs.Sequence.{anchor_places}
-use Rattle.udfs_volume.specs.Layout.{Layout, layout}
+use Rattle.udfs_volume.specs.Layout.{Layout, layout_by}
 use Rattle.udfs_volume.specs.LayoutParts.{parts_now}
-use Rattle.udfs_volume.specs.Standard.{standard_anchor, standard_layout}
-use Rattle.udfs_volume.specs.Laws.{IsLawfulLayout, IsSequenceGroup, ListsGroup, valid_anchors}
+use Rattle.udfs_volume.specs.Standard.{standard_anchor, standard_layout_by}
+use Rattle.udfs_volume.specs.Laws.{IsLawfulLayoutBy, IsSequenceGroup, ListsGroup, valid_anchors}
 
 -- the layout of the volume, which the standard reads by its first anchor; and each group has a known block
-pub record IsLayoutOf (volume : Volume) (blocks : Blocks) (last : ℕ) (got : Layout) : Type 0 where
-  pub whole : layout (complete volume last) last ≡ found got
-  pub standard : (n : ℕ) × (standard_anchor volume last ≡ Some n) × (standard_layout volume last n ≡ found got)
+pub record IsLayoutOf (profile : Profile) (volume : Volume) (blocks : Blocks) (last : ℕ) (got : Layout) : Type 0 where
+  pub whole : layout_by profile (complete volume last) last ≡ found got
+  pub standard : (n : ℕ) × (standard_anchor volume last ≡ Some n) × (standard_layout_by profile volume last n ≡ found got)
   pub known : (group : List ℕ) → IsSequenceGroup volume last group → (n : ℕ) × Includes group n × IsKnownAt blocks n
 
 -- a lawful volume has no fault
-abbrev pub IsLayoutTold : Volume → Blocks → ℕ → Seen VolumeParts → Type 0
-IsLayoutTold volume blocks last (Got parts) = IsLayoutOf volume blocks last (parts_now parts)
-IsLayoutTold volume blocks last (Holes listed) =
+abbrev pub IsLayoutTold : Profile → Volume → Blocks → ℕ → Seen VolumeParts → Type 0
+IsLayoutTold profile volume blocks last (Got parts) = IsLayoutOf profile volume blocks last (parts_now parts)
+IsLayoutTold profile volume blocks last (Holes listed) =
     ListsGroup blocks (valid_anchors volume last) (anchor_places last) (IsSequenceGroup volume last) listed.items
-IsLayoutTold volume blocks last (Fault fault) = ⊥
-IsLayoutTold volume blocks last OutOfMemory = ⊤
+IsLayoutTold profile volume blocks last (Fault fault) = ⊥
+IsLayoutTold profile volume blocks last OutOfMemory = ⊤
 
 -- for each lawful volume that agrees with the table, what is answered is told of it
+abbrev pub TellsLawfulLayoutBy : Profile → Blocks → ℕ → Seen VolumeParts → Type 0
+TellsLawfulLayoutBy profile blocks last seen = (volume : Volume) → IsVolume volume last → IsLawfulLayoutBy profile volume last → Agrees blocks volume last
+    → IsLayoutTold profile volume blocks last seen
+
+-- the same by the strict rules
 abbrev pub TellsLawfulLayout : Blocks → ℕ → Seen VolumeParts → Type 0
-TellsLawfulLayout blocks last seen = (volume : Volume) → IsVolume volume last → IsLawfulLayout volume last → Agrees blocks volume last
-    → IsLayoutTold volume blocks last seen
+TellsLawfulLayout = TellsLawfulLayoutBy Strict

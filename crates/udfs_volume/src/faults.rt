@@ -18,7 +18,8 @@ pub enum VolumeFault {
     Pointer = 3,
     /// The sequence has no logical volume descriptor (ECMA-167 3/10.6).
     NoLogicalVolume = 4,
-    /// The domain is not OSTA's, or its revision is neither 1.50 nor 2.01 (UDF 2.2.4.3).
+    /// The domain is not OSTA's, or its revision is none that the profile accepts (UDF 2.2.4.3): by the
+    /// strict rules it is neither 1.50 nor 2.01.
     Domain = 5,
     /// A logical block has not 2048 bytes (UDF 2.2.4.2).
     BlockSize = 6,

@@ -4,26 +4,30 @@ ghost use Rattle.udfs_lattice.specs.declared.facts.Fact.TheVariants.{Unknown};
 ghost use Rattle.udfs_volume.specs.Answers.{holes};
 ghost use Rattle.udfs_volume.specs.Layout.{layout};
 ghost use Rattle.udfs_volume.specs.Sequence.{anchor_places};
-ghost use Rattle.udfs_volume.specs.Laws.{AscendingRises, FoundBounds, LayoutLaw, LayoutBounds, StandardLayout};
+ghost use Rattle.udfs_volume.specs.Laws.{AscendingRises, FoundBounds, FoundBoundsBy, LayoutBounds, LayoutLaw, LayoutLawBy, StandardLayout, StandardLayoutBy};
+ghost use Rattle.udfs_volume.specs.declared.profiles.Profile.{Profile};
 ghost use Rattle.udfs_volume.specs.Sample.{SampleLayout};
 
 /// Over a table that agrees with a lawful volume, the layout is the volume's and each group of blocks of
 /// which one is needed has a known block; or there are holes, which hold a whole group of which no block
 /// is known, and nothing that is known.
 pub fn layout_of_lawful()
-    ensures { LayoutLaw }
+    ensures strict { LayoutLaw }
+    ensures by_profile { (profile : Profile) → LayoutLawBy profile }
 {}
 
 /// A layout that is found lies within the volume.
 pub fn layout_is_bounded()
     ensures of_descriptors { LayoutBounds }
     ensures of_table { FoundBounds }
+    ensures by_profile { (profile : Profile) → FoundBoundsBy profile }
 {}
 
 /// With all blocks of a lawful volume known, the layout is that of the first valid anchor and the main
 /// sequence.
 pub fn layout_of_standard()
-    ensures { StandardLayout }
+    ensures strict { StandardLayout }
+    ensures by_profile { (profile : Profile) → StandardLayoutBy profile }
 {}
 
 /// Of a disc of which nothing is known, the three places of an anchor have to be read.

@@ -5,18 +5,19 @@ ghost use Rattle.std.specs.List.{list_all};
 ghost use Rattle.udfs_lattice.specs.Tables.{state_of};
 ghost use Rattle.udfs_tag.specs.Faults.{first_fault};
 ghost use Rattle.udfs_tag.specs.Fields.{part, uint32_at};
-ghost use Rattle.udfs_volume.specs.Layout.{bp, described, has_contents, has_domain, has_revision, is_in_range, laid_out, layout, layout_of, map_count, partition_of};
+ghost use Rattle.udfs_volume.specs.Layout.{bp, described, has_contents, has_domain, has_revision, is_in_range, laid_out, layout, layout_by, layout_of, map_count, partition_of};
 ghost use Rattle.udfs_volume.specs.LayoutParts.{described_now, field_tests, has_contents_of, is_range, parts_now, partition_now};
 ghost use Rattle.udfs_osta.specs.Labels.{label_of};
 ghost use Rattle.udfs_volume.specs.Laws.{IsBounded};
 ghost use Rattle.udfs_volume.specs.Seen.{Sees, HolesRise, IfGot, TellsFault};
-ghost use Rattle.udfs_volume.specs.Told.{TellsLawfulLayout};
+ghost use Rattle.udfs_volume.specs.Told.{TellsLawfulLayout, TellsLawfulLayoutBy};
 ghost use Rattle.udfs_volume.specs.Parts.{numbered_now};
 ghost use Rattle.udfs_volume.specs.Sequences.{descriptor_now, sequence_now};
 
 use crate::descriptors::{Descriptor, Sequence, is_named};
 use crate::faults::VolumeFault;
 use crate::maps::{NumberedMap, PartitionMap, read_maps};
+use crate::profiles::Profile;
 use crate::seen::Seen;
 use crate::sequences::sequence;
 use std::alloc::{AllocError, Global};
@@ -40,7 +41,7 @@ pub struct Partition {
 pub struct VolumeParts {
     /// The last block of the volume.
     pub last: u32,
-    /// The revision of UDF, 0x0150 or 0x0201.
+    /// The revision of UDF, one that the profile accepts: by the strict rules 0x0150 or 0x0201.
     pub revision: u16,
     /// The name of the logical volume.
     pub label: Label,
@@ -64,21 +65,20 @@ fn has_domain(volume: &Descriptor<'_>) -> bool
     is_named(volume.from(216), b"*OSTA UDF Compliant\0\0\0\0")
 }
 
-/// Whether the domain's revision is 1.50 or 2.01 (UDF 2.2.4.3).
-fn has_revision(volume: &Descriptor<'_>) -> bool
-    ensures { result ≡ has_revision (descriptor_now volume.now) }
+/// Whether the profile accepts the domain's revision (UDF 2.2.4.3).
+fn has_revision(profile: Profile, volume: &Descriptor<'_>) -> bool
+    ensures { result ≡ has_revision profile (descriptor_now volume.now) }
 {
-    let revision = volume.uint16(240);
-    revision == 0x0150 || revision == 0x0201
+    profile.accepts_revision(volume.uint16(240))
 }
 
 /// Of the faults of a logical volume descriptor before those of its maps the first.
-fn field_fault(volume: &Descriptor<'_>) -> Option<VolumeFault>
-    ensures value { result ≡ first_fault (field_tests (descriptor_now volume.now)) }
+fn field_fault(profile: Profile, volume: &Descriptor<'_>) -> Option<VolumeFault>
+    ensures value { result ≡ first_fault (field_tests profile (descriptor_now volume.now)) }
     ensures count { MatchOption result
         ((map_count (descriptor_now volume.now) ≡ 1) ⊎ (map_count (descriptor_now volume.now) ≡ 2)) (λ fault. ⊤) }
 {
-    if !has_domain(volume) || !has_revision(volume) {
+    if !has_domain(volume) || !has_revision(profile, volume) {
         return Some(VolumeFault::Domain);
     }
     if volume.uint32(212) != 2048 {
@@ -217,43 +217,68 @@ fn lay_out(
 /// The layout by the descriptors of a sequence.
 fn layout_of(
     alloc: Global,
+    profile: Profile,
     last: u32,
     sequence: &Sequence<'_>,
 ) -> Result<Seen<VolumeParts>, AllocError>
-    ensures { IfOk result (λ seen. Sees parts_now seen (layout_of last (sequence_now sequence.now))) }
+    ensures { IfOk result (λ seen. Sees parts_now seen (layout_of profile last (sequence_now sequence.now))) }
 {
     let Some(volume) = sequence.logical_volume() else {
         return Ok(Seen::Fault(VolumeFault::NoLogicalVolume));
     };
-    if let Some(fault) = field_fault(&volume) {
+    if let Some(fault) = field_fault(profile, &volume) {
         return Ok(Seen::Fault(fault));
     }
-    let Some(maps) = read_maps(alloc, last, &volume)? else {
+    let Some(maps) = read_maps(alloc, profile, last, &volume)? else {
         return Ok(Seen::Fault(VolumeFault::MapKind));
     };
     lay_out(alloc, last, &volume, sequence, maps)
 }
 
 /// The layout by the descriptors of a sequence, if memory is not refused.
-fn see_layout(alloc: Global, last: u32, sequence: Sequence<'_>) -> Seen<VolumeParts>
-    ensures { Sees parts_now result (layout_of last (sequence_now sequence.entry)) }
+fn see_layout(
+    alloc: Global,
+    profile: Profile,
+    last: u32,
+    sequence: Sequence<'_>,
+) -> Seen<VolumeParts>
+    ensures { Sees parts_now result (layout_of profile last (sequence_now sequence.entry)) }
 {
-    match layout_of(alloc, last, &sequence) {
+    match layout_of(alloc, profile, last, &sequence) {
         Ok(seen) => seen,
         Err(_) => Seen::OutOfMemory,
     }
 }
 
-/// The layout of a volume: the revision, the label, the partitions and the file set's address, by the
-/// logical volume descriptor and the partition descriptors that prevail in the volume descriptor
-/// sequence. Of several faults the one with the least number is told.
+/// The layout of a volume by the rules of a profile: the revision, the label, the partitions and the file
+/// set's address, by the logical volume descriptor and the partition descriptors that prevail in the volume
+/// descriptor sequence. Of several faults the one with the least number is told.
 ///
-/// Of a lawful volume with which the table agrees it tells the volume's own layout, as the standard reads
-/// it (ECMA-167 3/8.4), or holes: then all blocks of some group are among them, of which one is needed and
-/// none is known. A layout that is found lies within the volume.
+/// Of a volume that is lawful by these rules and with which the table agrees it tells the volume's own
+/// layout, as the standard reads it (ECMA-167 3/8.4), or holes: then all blocks of some group are among them,
+/// of which one is needed and none is known. A layout that is found lies within the volume.
 ///
 /// A fault of the anchor is told whatever memory there is.
 #[tactic(auto, using(crate::proofs::LayoutSteps::layout_faulty, crate::proofs::Early::same_fault, crate::proofs::Told::no_fault))]
+pub fn layout_by(
+    alloc: Global,
+    table: &BlockTable,
+    last: u32,
+    profile: Profile,
+) -> Seen<VolumeParts>
+    requires from { 513 ≤ last }
+    requires to { last ≤ 4194303 }
+    ensures value { Sees parts_now result (layout_by profile (state_of table.now) last) }
+    ensures lawful { TellsLawfulLayoutBy profile (state_of table.now) last result }
+    ensures bounded { IfGot result (λ parts. IsBounded last (parts_now parts)) }
+    ensures rising { HolesRise result }
+    ensures no_anchor { TellsFault VolumeFault.NoAnchor result (layout_by profile (state_of table.now) last) }
+    ensures extents { TellsFault VolumeFault.Extents result (layout_by profile (state_of table.now) last) }
+{
+    sequence(alloc, table, last).and_then(|found| see_layout(alloc, profile, last, found))
+}
+
+/// The layout of a volume by the strict rules: [`layout_by`] with [`Profile::Strict`].
 pub fn layout(alloc: Global, table: &BlockTable, last: u32) -> Seen<VolumeParts>
     requires from { 513 ≤ last }
     requires to { last ≤ 4194303 }
@@ -264,5 +289,5 @@ pub fn layout(alloc: Global, table: &BlockTable, last: u32) -> Seen<VolumeParts>
     ensures no_anchor { TellsFault VolumeFault.NoAnchor result (layout (state_of table.now) last) }
     ensures extents { TellsFault VolumeFault.Extents result (layout (state_of table.now) last) }
 {
-    sequence(alloc, table, last).and_then(|found| see_layout(alloc, last, found))
+    layout_by(alloc, table, last, Profile::Strict)
 }

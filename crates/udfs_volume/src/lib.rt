@@ -8,6 +8,7 @@ pub mod faults;
 pub mod laws;
 pub mod layouts;
 pub mod maps;
+pub mod profiles;
 pub mod seen;
 pub mod sequences;
 
@@ -16,4 +17,5 @@ pub use descriptors::{Descriptor, Sequence};
 pub use faults::VolumeFault;
 pub use layouts::{Partition, VolumeParts};
 pub use maps::{PartitionMap, SparableMap};
+pub use profiles::Profile;
 pub use seen::Seen;

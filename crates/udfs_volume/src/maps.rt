@@ -1,12 +1,13 @@
 //! Partition maps (ECMA-167 3/10.7, UDF 2.2.9).
 
-ghost use Rattle.std.specs.Prelude.{◌≡◌, ◌≤◌, ◌⊎◌, length, map, cond, option_map, IfOk, Some, None, nat_eq, nat_le, ◌&&◌, ◌||◌};
+ghost use Rattle.std.specs.Prelude.{◌≡◌, ◌≤◌, ◌⊎◌, length, map, cond, option_map, IfOk, Some, None, nat_le, ◌&&◌};
 ghost use Rattle.udfs_tag.specs.Fields.{uint8_at};
 ghost use Rattle.udfs_volume.specs.Layout.{are_tables, are_within, blocks_in, has_numbers, is_kind_of, is_sparable, is_type1, map_count, map_size, read_map, table_places, the_maps};
 ghost use Rattle.udfs_volume.specs.Parts.{map_now, map_read, numbered_now, sparable_now};
 ghost use Rattle.udfs_volume.specs.Sequences.{descriptor_now};
 
 use crate::descriptors::{Descriptor, behind, is_named};
+use crate::profiles::Profile;
 use byteorder::{ByteOrder, LittleEndian};
 use std::alloc::{AllocError, Global};
 
@@ -22,7 +23,7 @@ const LONGEST_TABLE: u32 = 65_536;
 /// A sparable partition map (UDF 2.2.9).
 #[derive(Debug, Drop)]
 pub struct SparableMap {
-    /// The blocks of a packet, 16 or 32.
+    /// The blocks of a packet: a power of two from 1 to 128, by the strict rules 16 or 32.
     pub packet: u16,
     /// The bytes of a sparing table.
     pub size: u32,
@@ -85,21 +86,17 @@ fn is_whole_sparable(left: u32, bytes: &[u8]) -> bool
     is_sparable(bytes) && left >= SPARABLE_LENGTH
 }
 
-/// Whether a packet has 16 or 32 blocks.
-fn is_packet(packet: u16) -> bool
-    ensures { result ≡ (nat_eq packet 16 || nat_eq packet 32) }
-{
-    packet == 16 || packet == 32
-}
-
-/// Whether a sparable map has 1 to 4 tables of 56 to 65,536 bytes and packets of 16 or 32 blocks.
-fn has_numbers(bytes: &[u8]) -> bool
+/// Whether a sparable map has 1 to 4 tables of 56 to 65,536 bytes and packets of a length that the profile
+/// accepts.
+fn has_numbers(profile: Profile, bytes: &[u8]) -> bool
     requires { 64 ≤ length bytes.now }
-    ensures { result ≡ has_numbers bytes.now }
+    ensures { result ≡ has_numbers profile bytes.now }
 {
     let packet = LittleEndian::read_u16(behind(bytes, 40));
     let size = LittleEndian::read_u32(behind(bytes, 44));
-    (1..=4).contains(&bytes[42]) && is_packet(packet) && (56..=LONGEST_TABLE).contains(&size)
+    (1..=4).contains(&bytes[42])
+        && profile.accepts_packet(packet)
+        && (56..=LONGEST_TABLE).contains(&size)
 }
 
 /// Where the tables of a sparable map stand.
@@ -128,11 +125,16 @@ fn are_within(last: u32, size: u32, places: &[u32]) -> bool
 }
 
 /// The sparable map, if it keeps the rules of its numbers.
-fn read_sparable(alloc: Global, last: u32, bytes: &[u8]) -> Result<Option<SparableMap>, AllocError>
+fn read_sparable(
+    alloc: Global,
+    profile: Profile,
+    last: u32,
+    bytes: &[u8],
+) -> Result<Option<SparableMap>, AllocError>
     requires { 64 ≤ length bytes.now }
-    ensures { IfOk result (λ read. option_map sparable_now read ≡ cond (are_tables last bytes.now) (Some (map_read bytes.now)) None) }
+    ensures { IfOk result (λ read. option_map sparable_now read ≡ cond (are_tables profile last bytes.now) (Some (map_read bytes.now)) None) }
 {
-    if !has_numbers(bytes) {
+    if !has_numbers(profile, bytes) {
         return Ok(None);
     }
     let size = LittleEndian::read_u32(behind(bytes, 44));
@@ -151,12 +153,13 @@ fn read_sparable(alloc: Global, last: u32, bytes: &[u8]) -> Result<Option<Sparab
 /// The map at the front of the bytes, in what is left of the map table.
 fn read_map(
     alloc: Global,
+    profile: Profile,
     last: u32,
     left: u32,
     bytes: &[u8],
 ) -> Result<Option<NumberedMap>, AllocError>
     requires { 64 ≤ length bytes.now }
-    ensures { IfOk result (λ read. option_map numbered_now read ≡ read_map last left bytes.now) }
+    ensures { IfOk result (λ read. option_map numbered_now read ≡ read_map profile last left bytes.now) }
 {
     if is_whole_type1(left, bytes) {
         return Ok(Some(NumberedMap {
@@ -167,7 +170,7 @@ fn read_map(
     if !is_whole_sparable(left, bytes) {
         return Ok(None);
     }
-    let Some(map) = read_sparable(alloc, last, bytes)? else {
+    let Some(map) = read_sparable(alloc, profile, last, bytes)? else {
         return Ok(None);
     };
     Ok(Some(NumberedMap {
@@ -202,15 +205,16 @@ fn is_kind_of(first: &PartitionMap, second: &PartitionMap) -> bool
 /// The one or two maps of a logical volume, if each has a form of the two and they are not of one kind.
 pub(crate) fn read_maps(
     alloc: Global,
+    profile: Profile,
     last: u32,
     volume: &Descriptor<'_>,
 ) -> Result<Option<Vec<NumberedMap>>, AllocError>
     requires { (map_count (descriptor_now volume.now) ≡ 1) ⊎ (map_count (descriptor_now volume.now) ≡ 2) }
-    ensures { IfOk result (λ read. option_map (λ maps. map numbered_now maps.items) read ≡ the_maps last (descriptor_now volume.now)) }
+    ensures { IfOk result (λ read. option_map (λ maps. map numbered_now maps.items) read ≡ the_maps profile last (descriptor_now volume.now)) }
 {
     let table = volume.from(440);
     let left = volume.uint32(264);
-    let Some(first) = read_map(alloc, last, left, table)? else {
+    let Some(first) = read_map(alloc, profile, last, left, table)? else {
         return Ok(None);
     };
     if volume.uint32(268) == 1 {
@@ -219,6 +223,7 @@ pub(crate) fn read_maps(
     let size = size_of(&first.kind);
     let Some(second) = read_map(
         alloc,
+        profile,
         last,
         left.saturating_sub(size),
         behind(table, size as usize),

@@ -1,0 +1,47 @@
+//! The rules by which a volume is read.
+
+ghost use Rattle.std.specs.Prelude.{◌≡◌};
+ghost use Rattle.udfs_volume.specs.Profiles.{accepts_packet, accepts_revision, takes_tail};
+
+/// A set of rules: which revisions of UDF and which packets are read, and what a last extent may leave out.
+#[derive(Clone, Copy, Debug, PartialEq, Eq)]
+pub enum Profile {
+    /// Revisions 1.50 and 2.01, and packets of 16 or 32 blocks; an extent that ends inside a block ends its file.
+    Strict,
+    /// Also revisions 1.02 and 2.00, whose layouts are the same, packets of each power of two from 1 to 128
+    /// blocks, and last extents that were not made longer with their file.
+    Wide,
+}
+
+impl Profile {
+    /// Whether volumes of this revision of UDF are read, 0x0150 for 1.50 (UDF 2.1.5.3). It takes no memory.
+    pub fn accepts_revision(self, revision: u16) -> bool
+        ensures { result ≡ accepts_revision self revision }
+    {
+        match self {
+            Profile::Strict => [0x0150, 0x0201].contains(&revision),
+            Profile::Wide => [0x0102, 0x0150, 0x0200, 0x0201].contains(&revision),
+        }
+    }
+
+    /// Whether a packet of a sparable partition may have so many blocks (UDF 2.2.9). It takes no memory.
+    pub fn accepts_packet(self, packet: u16) -> bool
+        ensures { result ≡ accepts_packet self packet }
+    {
+        match self {
+            Profile::Strict => [16, 32].contains(&packet),
+            Profile::Wide => [1, 2, 4, 8, 16, 32, 64, 128].contains(&packet),
+        }
+    }
+
+    /// Whether the last extent of a file may end inside a block, short of the file's length, while the rest of
+    /// that block is the file's too. It takes no memory.
+    pub fn takes_tail(self) -> bool
+        ensures { result ≡ takes_tail self }
+    {
+        match self {
+            Profile::Strict => false,
+            Profile::Wide => true,
+        }
+    }
+}
