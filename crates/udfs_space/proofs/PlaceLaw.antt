@@ -9,13 +9,14 @@ use Rattle.udfs_volume.specs.Sequence.{Bytes}
 use Rattle.udfs_lattice.specs.Volumes.{complete}
 use Rattle.udfs_tag.specs.Tags.{is_valid}
 use Rattle.udfs_volume.specs.Answers.{found, and_then}
+use Rattle.udfs_volume.specs.declared.profiles.Profile.{Profile}
 use Rattle.udfs_volume.specs.declared.faults.VolumeFault.{VolumeFault}
 use Rattle.udfs_volume.specs.declared.faults.VolumeFault.TheVariants.{SparingTag, SparingShape, SparingOrder, MappedRange}
-use Rattle.udfs_volume.specs.Layout.{Layout, Partition, PartitionMap, type1, sparable, blocks_in, layout}
+use Rattle.udfs_volume.specs.Layout.{Layout, Partition, PartitionMap, type1, sparable, blocks_in, layout_by}
 use Rattle.udfs_volume.specs.Laws.{IsBounded, IsBoundedMap, IsBoundedPartition}
-use Rattle.udfs_volume.proofs.PublicLaws.{layout_is_bounded}
+use Rattle.udfs_volume.proofs.PublicLaws.{layout_is_bounded_by}
 use Rattle.udfs_space.proofs.Facts.{and_then-found, complete-known, found_same, known_is, unless_fault-found}
-use Rattle.udfs_space.specs.Laws.{PlaceLaw}
+use Rattle.udfs_space.specs.Laws.{PlaceLawBy}
 use Rattle.udfs_space.specs.declared.entries.SparingEntry.{SparingEntry}
 use Rattle.udfs_space.specs.Sparing.{Span, Space, Spared, spared, spared_unless, spared_by, spared_in, unread, is_used, is_sparing_table, is_misshapen, passes_end, is_out_of_order, entries, copies, place_of, sparing_fault, packet_of, span_of, span, spans, space, sparing_table_bytes}
 use Rattle.udfs_space.specs.Places.{place, place_in, place_by, placed_at}
@@ -81,13 +82,9 @@ record IsWithin (last : ℕ) (s : Span) : Type 0 where
   pub ends : s.start + s.size ≤ last + 1
   pub spared : FitsAll last s.packet s.spared
 
-packet_if : (n : ℕ) → (n ≡ 16) ⊎ (n ≡ 32) → 0 < n
-packet_if n (inl e) = omega (arith, e)
-packet_if n (inr e) = omega (arith, e)
-
 pub has_packet : (last : ℕ) (m : PartitionMap) → IsBoundedMap last m → 0 < packet_of m
 has_packet last type1 b = omega arith
-has_packet last (sparable packet size tables) b = packet_if packet b.packet_is
+has_packet last (sparable packet size tables) b = b.packet_is.0
 
 span_within : (T : Blocks) (last : ℕ) (p : Partition) (s : Span) → IsBoundedPartition last p → span T last p ≡ found s → IsWithin last s
 span_within T last p s b e = let q : (sp : Spared) × (spared T last p.kind ≡ found sp) × (found (span_of p sp) ≡ found s) =
@@ -143,19 +140,19 @@ any_within last ss all r b n e = go (slice_get ss r) refl e
     go None q p = absurd (let z : ⊥ = cc in z)
     go (Some s) q p = place_within last s (all s (included ss r s q)) b n p
 
-space_within : (T : Blocks) (last : ℕ) (l : Layout) (ss : Space) → layout T last ≡ found l → space T l ≡ found ss → (r b n : ℕ) → place ss r b ≡ Some n → n ≤ last
+space_within : (profile : Profile) (T : Blocks) (last : ℕ) (l : Layout) (ss : Space) → layout_by profile T last ≡ found l → space T l ≡ found ss → (r b n : ℕ) → place ss r b ≡ Some n → n ≤ last
 unfolding space
-space_within T last l ss h e = let bounds : IsBounded last l = layout_is_bounded T last l h in
+space_within profile T last l ss h e = let bounds : IsBounded last l = layout_is_bounded_by profile T last l h in
     any_within last ss (spans_within T last l.partitions ss bounds.of_each (ap (λ x. spans T x l.partitions) (sym bounds.is_last) ∙ e))
 
 pub places_up_to : (T : Blocks) (l : Layout) (ss : Space) → IsBounded l.last l → space T l ≡ found ss → (r b n : ℕ) → place ss r b ≡ Some n → n ≤ l.last
 unfolding space
 places_up_to T l ss bounds e = any_within l.last ss (spans_within T l.last l.partitions ss bounds.of_each e)
 
-pub place_law : PlaceLaw
-place_law M V N l s hv hl hs a = record {
+pub place_law : (profile : Profile) → PlaceLawBy profile
+place_law profile M V N l s hv hl hs a = record {
   partitions = refl;
   places = λ r b. refl;
-  complete = λ r b n e. (V n, complete-known V N n (space_within (complete V N) N l s hl hs r b n e));
-  agrees = λ r b n bytes e k. complete-known V N n (space_within (complete V N) N l s hl hs r b n e) ∙ sym (known_is M V N a n bytes k) ∙ k;
+  complete = λ r b n e. (V n, complete-known V N n (space_within profile (complete V N) N l s hl hs r b n e));
+  agrees = λ r b n bytes e k. complete-known V N n (space_within profile (complete V N) N l s hl hs r b n e) ∙ sym (known_is M V N a n bytes k) ∙ k;
 }

@@ -10,7 +10,7 @@ use Rattle.udfs_volume.specs.Layout.{Partition, PartitionMap, type1, sparable, b
 use Rattle.udfs_volume.specs.Laws.{IsBounded, IsBoundedPartition}
 use Rattle.udfs_volume.specs.declared.faults.VolumeFault.{VolumeFault}
 use Rattle.udfs_volume.specs.declared.faults.VolumeFault.TheVariants.{SparingTag, SparingShape}
-use Rattle.udfs_volume.proofs.PublicLaws.{layout_is_bounded}
+use Rattle.udfs_volume.proofs.PublicLaws.{layout_is_bounded_by}
 use Rattle.udfs_space.proofs.Facts.{and_then-found, found_same, unless_fault-found}
 use Rattle.udfs_space.specs.Laws.{SoundSpace}
 use Rattle.udfs_space.specs.Parts.{AreSound, IsSoundEntry, IsSound}
@@ -59,6 +59,6 @@ span_sound T last p s l b e = let q : (sp : Spared) × (spared T last p.kind ≡
 
 pub sound_space : SoundSpace
 unfolding space
-sound_space T last l ss h k e r s g = let bounds : IsBounded last l = layout_is_bounded T last l k in
+sound_space profile T last l ss h k e r s g = let bounds : IsBounded last l = layout_is_bounded_by profile T last l k in
     spans_each IsSound T last l.partitions ss (λ p x i f. span_sound T last p x h (bounds.of_each p i) f)
     (ap (λ x. spans T x l.partitions) (sym bounds.is_last) ∙ e) s (included ss r s g)

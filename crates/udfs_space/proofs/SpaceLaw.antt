@@ -16,11 +16,12 @@ use Rattle.udfs_volume.specs.Layout.{Partition, PartitionMap, type1, sparable, b
 use Rattle.udfs_volume.specs.Laws.{AreBounded, IsBoundedMap, IsBounded, ListsGroup, IsAnswerOf, the_same}
 use Rattle.udfs_volume.specs.Laws.IsAnswerOf.{unread as unread_answer}
 use Rattle.udfs_lattice.proofs.PublicLaws.{ascending_includes, complete_agrees}
-use Rattle.udfs_volume.proofs.PublicLaws.{layout_is_bounded}
+use Rattle.udfs_volume.specs.declared.profiles.Profile.{Profile}
+use Rattle.udfs_volume.proofs.PublicLaws.{layout_is_bounded_by}
 use Rattle.udfs_space.proofs.Facts.{and_then-found, complete-known, found_same, known_is, true_false, unless_fault-found, Includes-from_filter, Includes-map}
 use Rattle.udfs_space.specs.Sparing.{Span, Space, Spared, copies, unread, piece, place_of, sparing_table_bytes, spared_by, spared_from, spared_in, sparing_fault, spared_unless, spared, span_of, span, spans, space}
 use Rattle.udfs_space.specs.Standard.{table_at, first_table}
-use Rattle.udfs_space.specs.Laws.{StandardSpace, AreTheSameTables, SparingAgrees, IsTableGroup, IsSparingGroup, SpaceLaw}
+use Rattle.udfs_space.specs.Laws.{StandardSpace, AreTheSameTables, SparingAgrees, IsTableGroup, IsSparingGroup, SpaceLawBy}
 use Rattle.udfs_space.proofs.JoinedBlocks.{joined, joined_is, from_place, AreFull, Same, same_joined, same_behind, same_mixed}
 
 -- the first copy of a block that is known is the volume's, or none is known
@@ -336,9 +337,9 @@ spans_law M V N last (p ∷ ps) ss hv b same a e = go (map_law M V N last p.kind
     go (unread_answer listed q x) rest = unread_answer listed (by_first M (holes listed) q)
         (lists_more M (IsTableGroup p.kind) G listed (λ g h. (p, inl refl, h)) x)
 
-pub space_law : SpaceLaw
+pub space_law : (profile : Profile) → SpaceLawBy profile
 unfolding space
-space_law M V N l hv h lawful a = let bounds : IsBounded N l = layout_is_bounded (complete V N) N l h in
+space_law profile M V N l hv h lawful a = let bounds : IsBounded N l = layout_is_bounded_by profile (complete V N) N l h in
     spans_law M V N l.last l.partitions lawful.placed.0 hv (λ p i. (bounds.of_each p i).bounded_map) lawful.tables a lawful.placed.1
 
 -- with all known, the packets are those of the first table
@@ -369,5 +370,5 @@ spans_are V N last (p ∷ ps) ss hv b same e =
 
 pub standard_space_law : StandardSpace
 unfolding space
-standard_space_law V N l hv h lawful = let bounds : IsBounded N l = layout_is_bounded (complete V N) N l h in
+standard_space_law profile V N l hv h lawful = let bounds : IsBounded N l = layout_is_bounded_by profile (complete V N) N l h in
     lawful.placed.1 ∙ ap found (sym (spans_are V N l.last l.partitions lawful.placed.0 hv (λ p i. (bounds.of_each p i).bounded_map) lawful.tables lawful.placed.1))

@@ -4,9 +4,10 @@ use Rattle.std.specs.Prelude.{option_map, ◌↔◌}
 use Rattle.udfs_lattice.specs.Volumes.{Blocks, Volume, complete}
 use Rattle.udfs_lattice.specs.declared.facts.Fact.TheVariants.{Known}
 use Rattle.udfs_lattice.proofs.PublicLaws.{complete_agrees, complete_knows}
+use Rattle.udfs_volume.specs.declared.profiles.Profile.{Profile}
 use Rattle.udfs_volume.specs.Sequence.{Bytes}
 use Rattle.udfs_space.proofs.Facts.{found_same}
-use Rattle.udfs_space.specs.Laws.{AreBlocksOf, StandardBlocks, blocks_by}
+use Rattle.udfs_space.specs.Laws.{AreBlocksOf, StandardBlocksBy, blocks_by}
 use Rattle.udfs_space.specs.Places.{IsPartOf, StandsIn, place, view}
 use Rattle.udfs_space.specs.Sparing.{Space}
 use Rattle.udfs_space.specs.Standard.{standard_space}
@@ -35,8 +36,8 @@ blocks_are V s sound blocks are r b = go (place s r b) refl
     go None p = are.no_block r b (λ n h. let q : None ≡ Some n = sym p ∙ (placing s sound r b n).1 h in let z : ⊥ = cc in z) ∙ sym (ap (option_map V) p)
     go (Some n) p = are.block r b n ((placing s sound r b n).0 p) ∙ sym (ap (option_map V) p)
 
-pub standard_blocks : StandardBlocks
-standard_blocks V N l s hv by lawful placed = record {
+pub standard_blocks : (profile : Profile) → StandardBlocksBy profile
+standard_blocks profile V N l s hv by lawful placed = record {
   space_is = same;
   reads = subst (λ z. AreBlocksOf V z (blocks_by V s)) (sym same) (are_blocks V s sound);
   only = λ other are i r b. blocks_are V s sound other (subst (λ z. AreBlocksOf V z other) same are) r b i;
@@ -47,10 +48,10 @@ standard_blocks V N l s hv by lawful placed = record {
     C = complete V N
 
     same : standard_space V l ≡ s
-    same = found_same (standard_space V l) s (sym (standard_space_law V N l hv by lawful) ∙ placed)
+    same = found_same (standard_space V l) s (sym (standard_space_law profile V N l hv by lawful) ∙ placed)
 
     sound : (r : ℕ) → SoundAt s r
-    sound r = sound_space C N l s hv.to by placed r
+    sound r = sound_space profile C N l s hv.to by placed r
 
     part : IsPartOf (view C s) (view C s)
-    part = place_law C V N l s hv by placed (complete_agrees V N)
+    part = place_law profile C V N l s hv by placed (complete_agrees V N)

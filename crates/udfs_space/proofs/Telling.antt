@@ -2,11 +2,12 @@
 use Rattle.std.proofs.Common.{◌≡◌, sym, ◌∙◌, subst, ℕ, Bool, Option, Some, None, drop, List, [], ◌∷◌}
 use Rattle.udfs_lattice.specs.Volumes.{Blocks, first_known, Volume, IsVolume, Agrees, complete}
 use Rattle.udfs_tag.specs.Tags.{is_valid}
+use Rattle.udfs_volume.specs.declared.profiles.Profile.{Profile}
 use Rattle.udfs_volume.specs.declared.faults.VolumeFault.{VolumeFault}
 use Rattle.udfs_volume.specs.declared.seen.Seen.{Seen}
 use Rattle.udfs_volume.specs.declared.seen.Seen.TheVariants.{Got, Holes, Fault, OutOfMemory}
 use Rattle.udfs_volume.specs.Answers.{Answer, found, holes, faulty, and_then, unless_fault}
-use Rattle.udfs_volume.specs.Layout.{Layout, Partition, PartitionMap, type1, sparable, blocks_in, layout}
+use Rattle.udfs_volume.specs.Layout.{Layout, Partition, PartitionMap, type1, sparable, blocks_in, layout_by}
 use Rattle.udfs_volume.specs.Laws.{IsBounded, ListsGroup, IsAnswerOf, the_same, unread}
 use Rattle.udfs_volume.specs.Seen.{Sees, HolesRise, IfGot, IsRising}
 use Rattle.udfs_volume.proofs.PublicLaws.{ascending_rises}
@@ -22,12 +23,12 @@ use Rattle.udfs_space.proofs.PlaceLaw.{place_law, places_up_to}
 use Rattle.udfs_space.proofs.SpaceLaw.{space_law, standard_space_law}
 
 -- ---- a lawful volume
-got_of : (T : Blocks) (V : Volume) (N : ℕ) (l : Layout) (got : Space) → IsVolume V N → layout (complete V N) N ≡ found l → IsLawfulSparing V N l → Agrees T V N → space T l ≡ found got
+got_of : (profile : Profile) (T : Blocks) (V : Volume) (N : ℕ) (l : Layout) (got : Space) → IsVolume V N → layout_by profile (complete V N) N ≡ found l → IsLawfulSparing V N l → Agrees T V N → space T l ≡ found got
     → IsAnswerOf T [] [] (IsSparingGroup l.partitions) (space T l) (space (complete V N) l) → IsSpaceOf V N T l got
-got_of T V N l got hv hl lw a is (the_same e known) =
+got_of profile T V N l got hv hl lw a is (the_same e known) =
     let all : space (complete V N) l ≡ found got = sym e ∙ is in
-    record { whole = all; standard = found_same (standard_space V l) got (sym (standard_space_law V N l hv hl lw) ∙ all); known = known; part = place_law T V N l got hv hl all a }
-got_of T V N l got hv hl lw a is (unread listed e lists) = absurd (let no : ⊥ = cc in no)
+    record { whole = all; standard = found_same (standard_space V l) got (sym (standard_space_law profile V N l hv hl lw) ∙ all); known = known; part = place_law profile T V N l got hv hl all a }
+got_of profile T V N l got hv hl lw a is (unread listed e lists) = absurd (let no : ⊥ = cc in no)
 
 holes_of : (T : Blocks) (V : Volume) (N : ℕ) (l : Layout) (ns : List ℕ) → IsLawfulSparing V N l → space T l ≡ holes ns
     → IsAnswerOf T [] [] (IsSparingGroup l.partitions) (space T l) (space (complete V N) l) → ListsGroup T [] [] (IsSparingGroup l.partitions) ns
@@ -40,10 +41,10 @@ no_fault_of T V N l f lw is (the_same e known) = let q : space (complete V N) l 
 no_fault_of T V N l f lw is (unread listed e lists) = cc
 
 tells_lawful : (T : Blocks) (l : Layout) (seen : Seen code_space.Space) → Sees (λ s. s) seen (space T l) → TellsLawfulSpace T l seen
-tells_lawful T l (Got got) s V N hv hl lw a = got_of T V N l got hv hl lw a s (space_law T V N l hv hl lw a)
-tells_lawful T l (Holes blocks) s V N hv hl lw a = holes_of T V N l blocks.items lw s (space_law T V N l hv hl lw a)
-tells_lawful T l (Fault fault) s V N hv hl lw a = no_fault_of T V N l fault lw s (space_law T V N l hv hl lw a)
-tells_lawful T l OutOfMemory s V N hv hl lw a = tt
+tells_lawful T l (Got got) s profile V N hv hl lw a = got_of profile T V N l got hv hl lw a s (space_law profile T V N l hv hl lw a)
+tells_lawful T l (Holes blocks) s profile V N hv hl lw a = holes_of T V N l blocks.items lw s (space_law profile T V N l hv hl lw a)
+tells_lawful T l (Fault fault) s profile V N hv hl lw a = no_fault_of T V N l fault lw s (space_law profile T V N l hv hl lw a)
+tells_lawful T l OutOfMemory s profile V N hv hl lw a = tt
 
 -- ---- holes rise
 -- the answer's holes rise

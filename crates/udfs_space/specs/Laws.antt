@@ -1,16 +1,19 @@
 -- What holds of the places of a lawful volume of which a part is known.
 --     IsLawfulSparing volume last layout      copies of the sparing table that say the same, and no fault
 --     IsSparingGroup                          the copies of one block of the table
---     SpaceLaw, PlaceLaw                      the places are the volume's, or a group is unread
+--     SpaceLawBy, PlaceLawBy profile          the places are the volume's, or a group is unread
 --     StandardSpace                           with all known they are those of the first sparing table
 --     PlacingLaw, OldPlaceLaw                 where a block stands, and that nothing is read where it stood
 --     SoundSpace                              the partitions of a layout are sound, so placing is that relation
---     StandardBlocks                          with all known, the standard reads the blocks by their places, and in one way
+--     StandardBlocksBy profile                with all known, the standard reads the blocks by their places, and in one way
+-- SpaceLaw, PlaceLaw and StandardBlocks are these by the strict rules; the others are by those of any profile.
 use Rattle.std.specs.Prelude.{◌≡◌, ◌↔◌, ℕ, ◌+◌, ◌-◌, ◌<◌, ◌≤◌, List, [], drop, slice_get, true, Option, Some, None, option_map, ⊤}
 use Rattle.udfs_lattice.specs.Volumes.{Blocks, Includes, Volume, IsVolume, Agrees, complete}
 use Rattle.udfs_tag.specs.Tags.{is_valid}
+use Rattle.udfs_volume.specs.declared.profiles.Profile.{Profile}
+use Rattle.udfs_volume.specs.declared.profiles.Profile.TheVariants.{Strict}
 use Rattle.udfs_volume.specs.Answers.{found}
-use Rattle.udfs_volume.specs.Layout.{Layout, Partition, PartitionMap, type1, sparable, blocks_in, layout}
+use Rattle.udfs_volume.specs.Layout.{Layout, Partition, PartitionMap, type1, sparable, blocks_in, layout_by}
 use Rattle.udfs_volume.specs.Laws.{IsAnswerOf}
 use Rattle.udfs_volume.specs.Sequence.{Bytes}
 use Rattle.udfs_space.specs.declared.entries.SparingEntry.{SparingEntry}
@@ -45,20 +48,28 @@ abbrev pub IsSparingGroup : List Partition → List ℕ → Type 0
 IsSparingGroup partitions group = (p : Partition) × Includes partitions p × IsTableGroup p.kind group
 
 -- over a table that agrees with a lawful volume the places are the volume's, or holes hold all copies of an unread block
-abbrev pub SpaceLaw : Type 0
-SpaceLaw = (blocks : Blocks) (volume : Volume) (last : ℕ) (l : Layout) → IsVolume volume last
-    → layout (complete volume last) last ≡ found l → IsLawfulSparing volume last l → Agrees blocks volume last
+abbrev pub SpaceLawBy : Profile → Type 0
+SpaceLawBy profile = (blocks : Blocks) (volume : Volume) (last : ℕ) (l : Layout) → IsVolume volume last
+    → layout_by profile (complete volume last) last ≡ found l → IsLawfulSparing volume last l → Agrees blocks volume last
     → IsAnswerOf blocks [] [] (IsSparingGroup l.partitions) (space blocks l) (space (complete volume last) l)
 
+-- the same by the strict rules
+abbrev pub SpaceLaw : Type 0
+SpaceLaw = SpaceLawBy Strict
+
 -- every place is a block of the volume, so what is known of the partitions is part of the complete ones
-abbrev pub PlaceLaw : Type 0
-PlaceLaw = (blocks : Blocks) (volume : Volume) (last : ℕ) (l : Layout) (s : Space) → IsVolume volume last
-    → layout (complete volume last) last ≡ found l → space (complete volume last) l ≡ found s → Agrees blocks volume last
+abbrev pub PlaceLawBy : Profile → Type 0
+PlaceLawBy profile = (blocks : Blocks) (volume : Volume) (last : ℕ) (l : Layout) (s : Space) → IsVolume volume last
+    → layout_by profile (complete volume last) last ≡ found l → space (complete volume last) l ≡ found s → Agrees blocks volume last
     → IsPartOf (view blocks s) (view (complete volume last) s)
+
+-- the same by the strict rules
+abbrev pub PlaceLaw : Type 0
+PlaceLaw = PlaceLawBy Strict
 
 -- with all known, the places are those that the first copy of a table gives
 abbrev pub StandardSpace : Type 0
-StandardSpace = (volume : Volume) (last : ℕ) (l : Layout) → IsVolume volume last → layout (complete volume last) last ≡ found l
+StandardSpace = (profile : Profile) (volume : Volume) (last : ℕ) (l : Layout) → IsVolume volume last → layout_by profile (complete volume last) last ≡ found l
     → IsLawfulSparing volume last l → space (complete volume last) l ≡ found (standard_space volume l)
 
 -- placing as a function is placing as a relation
@@ -75,7 +86,7 @@ OldPlaceLaw = (space : Space) (blocks other : Blocks) (reference b : ℕ) (span 
 
 -- the partitions of a layout that is found are sound, whichever copies of a table are known
 abbrev pub SoundSpace : Type 0
-SoundSpace = (blocks : Blocks) (last : ℕ) (l : Layout) (s : Space) → last ≤ 4194303 → layout blocks last ≡ found l → space blocks l ≡ found s
+SoundSpace = (profile : Profile) (blocks : Blocks) (last : ℕ) (l : Layout) (s : Space) → last ≤ 4194303 → layout_by profile blocks last ≡ found l → space blocks l ≡ found s
     → (reference : ℕ) (span : Span) → slice_get s reference ≡ Some span → IsSound span
 
 -- the blocks of a volume's partitions by their places, each with its bytes
@@ -96,6 +107,10 @@ pub record HasStandardBlocks (volume : Volume) (last : ℕ) (l : Layout) (s : Sp
   pub inside : (r b n : ℕ) → place s r b ≡ Some n → n ≤ last
 
 -- the blocks of a lawful volume's partitions are those that the standard reads by the first sparing table
-abbrev pub StandardBlocks : Type 0
-StandardBlocks = (volume : Volume) (last : ℕ) (l : Layout) (s : Space) → IsVolume volume last → layout (complete volume last) last ≡ found l
+abbrev pub StandardBlocksBy : Profile → Type 0
+StandardBlocksBy profile = (volume : Volume) (last : ℕ) (l : Layout) (s : Space) → IsVolume volume last → layout_by profile (complete volume last) last ≡ found l
     → IsLawfulSparing volume last l → space (complete volume last) l ≡ found s → HasStandardBlocks volume last l s
+
+-- the same by the strict rules
+abbrev pub StandardBlocks : Type 0
+StandardBlocks = StandardBlocksBy Strict

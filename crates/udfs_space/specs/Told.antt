@@ -6,8 +6,9 @@ use Rattle.std.specs.Prelude.{◌≡◌, ◌≤◌, ⊤, ℕ, List, [], Some}
 use Rattle.udfs_lattice.specs.Volumes.{Blocks, Includes, Volume, IsVolume, Agrees, complete, IsKnownAt}
 use Rattle.udfs_volume.specs.declared.seen.Seen.{Seen}
 use Rattle.udfs_volume.specs.declared.seen.Seen.TheVariants.{Got, Holes, Fault, OutOfMemory}
+use Rattle.udfs_volume.specs.declared.profiles.Profile.{Profile}
 use Rattle.udfs_volume.specs.Answers.{found}
-use Rattle.udfs_volume.specs.Layout.{Layout, layout}
+use Rattle.udfs_volume.specs.Layout.{Layout, layout_by}
 use Rattle.udfs_volume.specs.Laws.{ListsGroup}
 use Rattle.udfs_space.specs.Laws.{IsLawfulSparing, IsSparingGroup}
 use Rattle.udfs_space.specs.Places.{IsPartOf, place, view}
@@ -30,9 +31,9 @@ IsSpaceTold volume last blocks l (Holes listed) = ListsGroup blocks [] [] (IsSpa
 IsSpaceTold volume last blocks l (Fault fault) = ⊥
 IsSpaceTold volume last blocks l OutOfMemory = ⊤
 
--- for each lawful volume that agrees with the table, what is answered is told of it
+-- for each volume that is lawful by the rules of a profile and agrees with the table, what is answered is told of it
 abbrev pub TellsLawfulSpace : Blocks → Layout → Seen code_space.Space → Type 0
-TellsLawfulSpace blocks l seen = (volume : Volume) (last : ℕ) → IsVolume volume last → layout (complete volume last) last ≡ found l
+TellsLawfulSpace blocks l seen = (profile : Profile) (volume : Volume) (last : ℕ) → IsVolume volume last → layout_by profile (complete volume last) last ≡ found l
     → IsLawfulSparing volume last l → Agrees blocks volume last → IsSpaceTold volume last blocks l seen
 
 -- each place is a block of the volume

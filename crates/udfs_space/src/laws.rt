@@ -1,18 +1,21 @@
 //! Laws of sparing tables and places, each the contract of a function that does nothing.
-ghost use Rattle.udfs_space.specs.Laws.{OldPlaceLaw, PlaceLaw, PlacingLaw, SoundSpace, SpaceLaw, StandardBlocks, StandardSpace};
+ghost use Rattle.udfs_space.specs.Laws.{OldPlaceLaw, PlaceLaw, PlaceLawBy, PlacingLaw, SoundSpace, SpaceLaw, SpaceLawBy, StandardBlocks, StandardBlocksBy, StandardSpace};
+ghost use Rattle.udfs_volume.specs.declared.profiles.Profile.{Profile};
 ghost use Rattle.udfs_space.specs.Sample.{SampleSpace};
 
 /// Over a table that agrees with a lawful volume, the places are the volume's and of each block of a
 /// sparing table a copy is known; or there are holes: all copies of some block of which none is known, and
 /// nothing else than copies of such blocks.
 pub fn space_of_lawful()
-    ensures { SpaceLaw }
+    ensures strict { SpaceLaw }
+    ensures by_profile { (profile : Profile) → SpaceLawBy profile }
 {}
 
 /// Every place of a volume that has a layout is one of its blocks, so what is known of the partitions is
 /// part of the whole.
 pub fn places_are_blocks()
-    ensures { PlaceLaw }
+    ensures strict { PlaceLaw }
+    ensures by_profile { (profile : Profile) → PlaceLawBy profile }
 {}
 
 /// With all blocks of a lawful volume known, the places are those that the first copy of a sparing table
@@ -43,7 +46,8 @@ pub fn space_is_sound()
 /// With all blocks of a lawful volume known, the places that are found give the blocks of the partitions as the standard
 /// reads them, each of them a block of the volume; and there is no other way to read them.
 pub fn blocks_of_standard()
-    ensures { StandardBlocks }
+    ensures strict { StandardBlocks }
+    ensures by_profile { (profile : Profile) → StandardBlocksBy profile }
 {}
 
 /// There are lawful places: those of the sample layouts, whatever stands in their partitions.

@@ -72,11 +72,11 @@ impl Space {
     /// a number without a meaning or not the first block of a packet; `SparingOrder`, originals fall, or two
     /// packets have the same; `MappedRange`, a packet is mapped to a block behind the last one.
     ///
-    /// Of a lawful volume with which the table agrees it tells the volume's own places, as the standard reads
-    /// them from the first sparing table, or holes: then all copies of some block of a sparing table are
-    /// among them, of which none is known.
+    /// Of a volume that is lawful by the rules of some profile and with which the table agrees it tells the
+    /// volume's own places, as the standard reads them from the first sparing table, or holes: then all copies
+    /// of some block of a sparing table are among them, of which none is known.
     ///
-    /// The parts are those that [`udfs_volume::layouts::layout`] gives, or others that lie within a volume.
+    /// The parts are those that [`udfs_volume::layouts::layout_by`] gives, or others that lie within a volume.
     pub fn build(alloc: Global, table: &BlockTable, parts: &VolumeParts) -> Seen<Space>
         requires to { parts.now.last ≤ 4194303 }
         requires bounded { IsBounded parts.now.last (parts_now parts.now) }
