@@ -1,2 +1,4 @@
 mod Counts
 mod Html
+mod Roots
+mod Texts

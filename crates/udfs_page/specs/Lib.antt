@@ -1,2 +1,4 @@
 pub mod Escapes
 pub mod Arcs
+pub mod Markups
+pub mod Spirals

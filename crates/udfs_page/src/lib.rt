@@ -4,9 +4,12 @@
 
 mod disc_arcs;
 mod escapes;
+mod markups;
+mod spiral;
 
 pub use disc_arcs::{Mark, arcs};
 pub use escapes::{html_gives_the_text_back, html_injects_nothing, push_html};
+pub use spiral::{arcs_part_the_blocks, roots_are_square_roots};
 
 #[cfg(test)]
 mod tests;

@@ -1,0 +1,24 @@
+//! The page's own text, and figures in it. Each function appends to a text; where memory is refused, a part may be appended.
+
+ghost use Rattle.std.specs.Prelude.{◌≡◌, ◌++◌, OnOk};
+ghost use Rattle.std.specs.String.{string_bytes};
+ghost use Rattle.udfs_page.specs.Markups.{figure, markup};
+
+use std::fmt::Write;
+use udfs_osta::OutOfMemory;
+
+/// Text of the page's own, as it stands.
+#[tactic(auto, unfolding(crate::specs::Markups::markup))]
+pub(crate) fn push_markup(text: &mut String, words: &str) -> Result<(), OutOfMemory>
+    ensures { OnOk result (string_bytes text.new ≡ string_bytes text.old ++ markup words.now) }
+{
+    text.push_str(words)
+}
+
+/// A number in decimal digits.
+#[tactic(auto, unfolding(crate::specs::Markups::figure))]
+pub(crate) fn push_figure(text: &mut String, number: u128) -> Result<(), OutOfMemory>
+    ensures { OnOk result (string_bytes text.new ≡ string_bytes text.old ++ figure number) }
+{
+    write!(text, "{number}")
+}
