@@ -1,4 +1,5 @@
 mod Counts
 mod Html
+mod Lines
 mod Roots
 mod Texts

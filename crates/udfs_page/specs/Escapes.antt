@@ -24,6 +24,14 @@ html_characters characters = flat_map html_character characters
 unfoldable pub html_text : List ℕ → List ℕ
 html_text text = encode_utf8_all (html_characters (chars text))
 
+-- a line feed (10) ends a division and begins the next
+abbrev pub line_character : ℕ → List ℕ
+line_character c = if c == 10 then codes "</div>\n<div>" else html_character c
+
+-- the HTML of a text of several lines, which stands in a division: a division a line
+unfoldable pub html_lines : List ℕ → List ℕ
+html_lines text = encode_utf8_all (flat_map line_character (chars text))
+
 -- ---- what a browser reads
 
 -- the characters begin with these

@@ -3,7 +3,7 @@
 ghost use Rattle.std.specs.Prelude.{◌≡◌, ◌++◌, ℕ, List, OnOk, true, chars};
 ghost use Rattle.std.specs.String.{string_bytes};
 ghost use Rattle.std.specs.Str.{encode_utf8_all};
-ghost use Rattle.udfs_page.specs.Escapes.{html_character, html_characters, html_text, is_inert, unescaped};
+ghost use Rattle.udfs_page.specs.Escapes.{html_character, html_characters, html_lines, html_text, is_inert, line_character, unescaped};
 
 use udfs_osta::OutOfMemory;
 
@@ -31,6 +31,26 @@ pub fn push_html(text: &mut String, shown: &str) -> Result<(), OutOfMemory>
 {
     for character in shown.chars() {
         push_character(text, character)?;
+    }
+    Ok(())
+}
+
+/// Appends a character of a text of several lines.
+fn push_line_character(text: &mut String, character: char) -> Result<(), OutOfMemory>
+    ensures { OnOk result (string_bytes text.new ≡ string_bytes text.old ++ encode_utf8_all (line_character character)) }
+{
+    match character {
+        '\n' => text.push_str("</div>\n<div>"),
+        _ => push_character(text, character),
+    }
+}
+
+/// Appends a text of several lines as HTML shows it, each line in a division of its own.
+pub(crate) fn push_lines(text: &mut String, shown: &str) -> Result<(), OutOfMemory>
+    ensures { OnOk result (string_bytes text.new ≡ string_bytes text.old ++ html_lines shown.now) }
+{
+    for character in shown.chars() {
+        push_line_character(text, character)?;
     }
     Ok(())
 }

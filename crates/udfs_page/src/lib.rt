@@ -4,6 +4,7 @@
 
 mod disc_arcs;
 mod escapes;
+mod heads;
 mod markups;
 mod spiral;
 
