@@ -2,6 +2,7 @@
 
 mod faults;
 mod memory;
+mod packets;
 mod places;
 mod said;
 mod two_blocks;

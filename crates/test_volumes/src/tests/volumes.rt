@@ -1,6 +1,7 @@
 //! Layouts, holes and faults of small volumes. What is expected comes from the formats' description, byte by byte.
 
 mod memory;
+mod profiles;
 mod said;
 mod sparable;
 mod texts;

@@ -7,15 +7,23 @@ use std::test::Fail;
 use udfs_lattice::BlockTable;
 use udfs_samples::{Disc, LAST};
 use udfs_space::spaces::Space;
-use udfs_volume::Seen;
-use udfs_volume::layouts::layout;
+use udfs_volume::layouts::layout_by;
+use udfs_volume::{Profile, Seen};
 
 /// The space by the layout of a volume.
 pub fn space_of(alloc: Global, table: &BlockTable, last: u32) -> Seen<Space>
     requires from { 513 ≤ last }
     requires to { last ≤ 4194303 }
 {
-    match layout(alloc, table, last) {
+    space_by(alloc, table, last, Profile::Strict)
+}
+
+/// The same by the rules of a profile.
+pub fn space_by(alloc: Global, table: &BlockTable, last: u32, profile: Profile) -> Seen<Space>
+    requires from { 513 ≤ last }
+    requires to { last ≤ 4194303 }
+{
+    match layout_by(alloc, table, last, profile) {
         Seen::Got(parts) => Space::build(alloc, table, &parts),
         Seen::Holes(blocks) => Seen::Holes(blocks),
         Seen::Fault(fault) => Seen::Fault(fault),

@@ -5,9 +5,10 @@ use std::test::Fail;
 use udfs_lattice::BlockTable;
 use udfs_osta::Label;
 use udfs_samples::{Disc, LAST};
-use udfs_volume::layouts::layout;
+use udfs_volume::layouts::{layout, layout_by};
 use udfs_volume::maps::PartitionMap;
 use udfs_volume::seen::Seen;
+use udfs_volume::{Profile, VolumeParts};
 
 /// What is said of the disc with all blocks known.
 pub fn said_of(alloc: Global, disc: &Disc) -> Result<String, Fail> {
@@ -17,7 +18,16 @@ pub fn said_of(alloc: Global, disc: &Disc) -> Result<String, Fail> {
 
 /// What the layout says: `ok`, the revision and the maps, or holes, or a fault with its number.
 pub fn said(alloc: Global, table: &BlockTable) -> Result<String, Fail> {
-    match layout(alloc, table, LAST) {
+    text_of(alloc, layout(alloc, table, LAST))
+}
+
+/// The same by the rules of a profile.
+pub fn said_by(alloc: Global, table: &BlockTable, profile: Profile) -> Result<String, Fail> {
+    text_of(alloc, layout_by(alloc, table, LAST, profile))
+}
+
+fn text_of(alloc: Global, seen: Seen<VolumeParts>) -> Result<String, Fail> {
+    match seen {
         Seen::Got(parts) => {
             let high = parts.revision / 256;
             let low = parts.revision % 256;
