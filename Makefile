@@ -2,7 +2,7 @@
 #   make            proves the program and all that it stands on, builds it, and says where it lies
 #   make demo       the same, and then runs it on the readings of examples/
 #   make test       judges the whole repository from nothing, as the gate does, and then tries what make hostile tries, and
-#                   goes from a damaged disc to its files with GNU ddrescue where it is installed
+#                   goes from a damaged disc to its files with GNU ddrescue and reads volumes that mkudffs makes, where they are installed
 #   make hostile    refuses each allocation of many runs in turn, makes each system call of the program's runs fail or ends it there,
 #                   and changes each byte of the sample discs' descriptors
 #   make try        tries the built program on this machine's own files and devices and on a terminal, and with GNU ddrescue where it is installed
@@ -73,6 +73,7 @@ test: have-rt
 	@$(MAKE) -s --no-print-directory hostile
 	@tools/try-terminal $(PROGRAM) examples
 	@tools/try-ddrescue $(PROGRAM) examples
+	@tools/try-volumes $(PROGRAM) examples
 	@tools/try-readme $(PROGRAM) examples
 
 hostile: all
@@ -85,6 +86,7 @@ try: all
 	@tools/try-machine $(PROGRAM) examples
 	@tools/try-terminal $(PROGRAM) examples
 	@tools/try-ddrescue $(PROGRAM) examples
+	@tools/try-volumes $(PROGRAM) examples
 
 # Where the program is built, neither rt nor anything of the toolchain is needed.
 install:

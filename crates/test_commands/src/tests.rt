@@ -1,6 +1,7 @@
 //! The command over files in memory. What is expected comes from the formats' description, byte by byte.
 
 mod devices;
+mod ends;
 mod explaining;
 mod extracting;
 mod forgetting;
@@ -11,8 +12,11 @@ mod keeping;
 mod listing;
 mod memory;
 mod merging;
+mod only;
+mod paging;
 mod pair_faults;
 mod pairs;
+mod profiles;
 mod refusals;
 mod reporting;
 mod rereading;

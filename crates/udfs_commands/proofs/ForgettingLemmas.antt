@@ -2,17 +2,18 @@
 use Rattle.std.proofs.Common.{◌≡◌, ◌∙◌, ◌≤◌, ◌-◌, ℕ, List, [], ◌∷◌, ◌++◌, Bool, Bor, Option, arith, ap, drop, take, length, map, refl, slice_index_or, subst, sym}
 use Rattle.std.proofs.lemmas.List.{append_assoc, take_all}
 use Rattle.udfs_lattice.specs.Tables.{Table}
-use Rattle.udfs_commands.specs.Forgetting.{HasList, IsForgottenJoin, Lists, list_path}
+use Rattle.udfs_commands.specs.Forgetting.{HasList, IsForgottenJoin, Lists}
+use Rattle.udfs_commands.specs.Asking.{stream_path}
 use Rattle.udfs_commands.specs.declared.sources.InputPath.{InputPath}
 
 more : (found : List ℕ → Option (Option (List ℕ))) (p : List ℕ) (ps : List (List ℕ)) (old middle new first others : List ℕ) →
-    HasList (found (list_path p)) first → Lists found ps others → middle ≡ old ++ first → new ≡ middle ++ others →
+    HasList (found (stream_path p)) first → Lists found ps others → middle ≡ old ++ first → new ≡ middle ++ others →
     (all : List ℕ) × Lists found (p ∷ ps) all × (new ≡ old ++ all)
 more found p ps old middle new first others has lists e f =
     (first ++ others, (first, others, has, lists, refl), f ∙ ap (λ l. l ++ others) e ∙ append_assoc old first others)
 
 pub lists_more : (found : List ℕ → Option (Option (List ℕ))) (paths : List (Bor (List ℕ))) (d : Bor (List ℕ)) (old middle new first others : List ℕ) → 1 ≤ length paths →
-    HasList (found (list_path (slice_index_or paths 0 d).now)) first → Lists found (map (λ path. path.now) (take (length paths - 1) (drop 1 paths))) others →
+    HasList (found (stream_path (slice_index_or paths 0 d).now)) first → Lists found (map (λ path. path.now) (take (length paths - 1) (drop 1 paths))) others →
     middle ≡ old ++ first → new ≡ middle ++ others → (all : List ℕ) × Lists found (map (λ path. path.now) paths) all × (new ≡ old ++ all)
 lists_more found [] d old middle new first others some has lists e f = absurd (omega (arith, some))
 lists_more found (p ∷ ps) d old middle new first others some has lists e f =

@@ -2,7 +2,8 @@
 use Rattle.std.proofs.Common.{◌≡◌, ℕ, Bool, true, false, List, Option, codes, inl, inr, map, subst}
 use Rattle.clap.specs.declared.parser.matches.Found.{Found}
 use Rattle.udfs_files.specs.Disk.{Disk}
-use Rattle.udfs_commands.specs.Asking.{IsLast, IsPicked, asked_for, asked_inputs, list_texts, mapfile_text, out_text}
+use Rattle.udfs_volume.specs.declared.profiles.Profile.{Profile}
+use Rattle.udfs_commands.specs.Asking.{IsLast, IsPicked, IsProfile, asked_for, asked_inputs, asked_streams, list_texts, mapfile_text, out_text}
 use Rattle.udfs_commands.specs.Forgetting.{IsForgottenJoin, MayForget}
 use Rattle.udfs_commands.specs.Keeping.{MayReplace}
 use Rattle.udfs_commands.specs.Leaving.{MayDomainAsked, MayForgetAsked, MayMerge}
@@ -18,7 +19,7 @@ may_merge found remaining real words version inputs d c picked asked (inr put) =
 
 -- the same of `forget`
 pub may_forget : {R : Type 0} (found : List ℕ → Option (Option (List ℕ))) (remaining : R → Option (List ℕ)) (real : List ℕ → List ℕ) (words : Found) (conflicts : Bool) (inputs : List InputPath) (lists : List (List ℕ)) (d c : Disk) →
-    IsPicked words (codes "conflicts") true false conflicts → map asked_for inputs ≡ asked_inputs words → lists ≡ list_texts words → MayForget found remaining inputs conflicts lists (real (out_text words)) d c → MayForgetAsked found remaining real words d c
+    IsPicked words (codes "conflicts") true false conflicts → map asked_for inputs ≡ asked_streams words → lists ≡ list_texts words → MayForget found remaining inputs conflicts lists (real (out_text words)) d c → MayForgetAsked found remaining real words d c
 may_forget found remaining real words conflicts inputs lists d c picked asked same_lists (inl same) = inl same
 may_forget found remaining real words conflicts inputs lists d c picked asked same_lists (inr put) =
     inr (record {
@@ -32,7 +33,7 @@ may_forget found remaining real words conflicts inputs lists d c picked asked sa
     })
 
 -- the same of `reread --mapfile`
-pub may_domain : {R : Type 0} (found : List ℕ → Option (Option (List ℕ))) (remaining : R → Option (List ℕ)) (real : List ℕ → List ℕ) (words : Found) (last : ℕ) (inputs : List InputPath) (d c : Disk) →
-    IsLast words last → map asked_for inputs ≡ asked_inputs words → MayDomainOf found remaining inputs last (real (mapfile_text words)) d c → MayDomainAsked found remaining real words d c
-may_domain found remaining real words last inputs d c is_last asked (inl same) = inl same
-may_domain found remaining real words last inputs d c is_last asked (inr put) = inr (last, inputs, is_last, asked, put)
+pub may_domain : {R : Type 0} (found : List ℕ → Option (Option (List ℕ))) (remaining : R → Option (List ℕ)) (real : List ℕ → List ℕ) (words : Found) (profile : Profile) (last : ℕ) (inputs : List InputPath) (d c : Disk) →
+    IsProfile words profile → IsLast found inputs words last → map asked_for inputs ≡ asked_inputs words → MayDomainOf found remaining inputs profile last (real (mapfile_text words)) d c → MayDomainAsked found remaining real words d c
+may_domain found remaining real words profile last inputs d c is_profile is_last asked (inl same) = inl same
+may_domain found remaining real words profile last inputs d c is_profile is_last asked (inr put) = inr (profile, last, inputs, is_profile, is_last, asked, put)

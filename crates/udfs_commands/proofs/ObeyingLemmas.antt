@@ -25,7 +25,7 @@ both f g None y z h k = absurd (none h)
     none e = cc
 both {Y = Y} {Z = Z} f g (Some x) y z h k = ap₂ (λ (a : Y) (b : Z). Some (a, b)) (sym (some_is y (f x) h)) (sym (some_is z (g x) k))
 
-simple_by : (pairs size conflicts : Bool) → is_simple (program_app (record { pairs = pairs; size = size; conflicts = conflicts })) ≡ true
+simple_by : (pairs needs_last conflicts : Bool) → is_simple (program_app (record { pairs = pairs; needs_last = needs_last; conflicts = conflicts })) ≡ true
 simple_by true true true = refl
 simple_by true true false = refl
 simple_by true false true = refl
@@ -36,7 +36,7 @@ simple_by false false true = refl
 simple_by false false false = refl
 
 simple : (given : Given) → is_simple (program_app given) ≡ true
-simple given = simple_by given.pairs given.size given.conflicts
+simple given = simple_by given.pairs given.needs_last given.conflicts
 
 pub asked : (m : ArgMatches) (words : List Text) (name : Text) (found : Found) → HasMatchesOf (program_app (given_in words)) words m
     → Some name ≡ subcommand_name_of m → Some (rows_of found) ≡ option_map (λ (p : Text × List Row). p.1) (subcommand_rows_of m) → IsAsked words name found

@@ -15,7 +15,7 @@ use Rattle.udfs_walk.specs.declared.standings.Standing.TheVariants as standing
 use Rattle.udfs_salvage.specs.Extraction.{is_offered}
 use Rattle.udfs_salvage.specs.Reports.{Report}
 use Rattle.udfs_salvage.specs.declared.extraction.Fill.{Fill}
-use Rattle.udfs_commands.specs.Extracting.{Each, IsIn, IsPut, IsSafe, Spares, Stay, TellsLines, TellsOn, all_good, deed, fate_line, fate_lines, is_good}
+use Rattle.udfs_commands.specs.Extracting.{Each, IsDone, IsIn, IsPut, IsSafe, Spares, Stay, TellsLines, TellsOn, all_good, deed, fate_line, fate_lines, is_good}
 use Rattle.udfs_commands.specs.Keeping.{IsKept}
 use Rattle.udfs_commands.specs.declared.extract.Deed.TheVariants.{Folder, File, Skip}
 use Rattle.udfs_commands.specs.declared.extract.Fate.{Fate}
@@ -129,8 +129,17 @@ module _ {F : Type 0} (moment : F → ℕ) (may_leave : F → Disk → Type 0) (
       → IsPut tells fails table report fill folder before (moment mid) (left_since mid) k n fate → IsPut tells fails table report fill folder after (moment new) (left_since new) k n fate
   put_still tells fails table report fill folder mid new before after counts_now stay goes k n fate put = record {
     done = put.done;
-    written = λ is told last reported. let w = put.written is told last reported in (w.0, w.1, safe_still mid new folder _ _ before after counts_now (stay told) (goes told) w.2);
+    written = λ is told profile last reported. let w = put.written is told profile last reported in (w.0, w.1, safe_still mid new folder _ _ before after counts_now (stay told) (goes told) w.2);
     failed = put.failed;
+  }
+
+  -- and so did what was done of nodes that are asked for
+  pub done_still : (only : List (List ℕ)) (tells fails : Type 0) (table : Table) (report : Report) (fill : Fill) (folder : List ℕ) (mid new : F) (before after : Held) → ((t : ℕ) (c : Disk) → t ≤ moment mid → may_leave mid c → left_since mid t c)
+      → (tells → Stay before after) → (tells → GoesBy mid new (Spares folder before)) → (k : ℕ) (n : NodeFields) (fate : Fate)
+      → IsDone only (IsPut tells fails table report fill folder before (moment mid) (left_since mid)) k n fate → IsDone only (IsPut tells fails table report fill folder after (moment new) (left_since new)) k n fate
+  done_still only tells fails table report fill folder mid new before after counts_now stay goes k n fate done = record {
+    asked = λ is. put_still tells fails table report fill folder mid new before after counts_now stay goes k n fate (done.asked is);
+    passed = done.passed;
   }
 
 pub each_map : (P Q : ℕ → NodeFields → Fate → Type 0) → ((k : ℕ) (n : NodeFields) (fate : Fate) → P k n fate → Q k n fate) → (k : ℕ) (ns : List NodeFields) (fates : List Fate) → Each P k ns fates → Each Q k ns fates

@@ -7,12 +7,16 @@
 --     IsPut .. index node fate         what the fate of a node says of its file
 --     Puts                             nodes from the first behind the root on, with their fates and lines
 --     PutsReport                       all nodes with their files and lines, or the line of a volume that does not open
-use Rattle.std.specs.Prelude.{◌≡◌, ◌≢◌, ℕ, ◌≤◌, Bool, true, false, List, [], ◌∷◌, ◌++◌, ⊤, suc, Option, Some, cond, codes, drop, length, if◌then◌else◌, ◌&&◌}
+--     IsDone only P index node fate    this holds of a node that is asked for, and nothing is made or told of another
+--     ExtractsChosen                   what is made and told of the nodes that are asked for, and of no other
+use Rattle.std.specs.Prelude.{◌≡◌, ◌≢◌, ℕ, ◌≤◌, Bool, true, false, List, [], ◌∷◌, ◌++◌, ⊤, suc, Option, Some, cond, codes, drop, length, slice_get, if◌then◌else◌, ◌&&◌}
+use Rattle.std.specs.List.{list_all}
 use Rattle.udfs_file.specs.declared.cells.Cell.{Cell}
 use Rattle.udfs_files.specs.Disk.{Disk}
 use Rattle.udfs_reading.specs.Writing.{Wrote, Failed as WriteFailed}
 use Rattle.udfs_walk.specs.NodeFields.{NodeFields}
-use Rattle.udfs_salvage.specs.Extraction.{HasCellsIn, fill_byte, filled}
+use Rattle.udfs_volume.specs.declared.profiles.Profile.{Profile}
+use Rattle.udfs_salvage.specs.Extraction.{HasCellsInBy, fill_byte, filled}
 use Rattle.udfs_salvage.specs.NodeTexts.{names_text}
 use Rattle.udfs_salvage.specs.Texts.{line, volume_line}
 use Rattle.udfs_salvage.specs.Found.{Found}
@@ -23,12 +27,13 @@ use Rattle.udfs_lattice.specs.Tables.{Table, state_of}
 use Rattle.udfs_walk.specs.declared.standings.Standing.{Standing}
 use Rattle.udfs_walk.specs.declared.standings.Standing.TheVariants as standing
 use Rattle.udfs_salvage.specs.Extraction.{is_offered}
-use Rattle.udfs_salvage.specs.Reports.{Report, IsReport, all_whole}
+use Rattle.udfs_salvage.specs.Reports.{Report, IsReportBy, all_whole, is_whole}
 use Rattle.udfs_salvage.specs.declared.extraction.Fill.{Fill}
+use Rattle.udfs_commands.specs.Choosing.{chosen, is_chosen, is_node}
 use Rattle.udfs_commands.specs.declared.extract.Deed.{Deed}
 use Rattle.udfs_commands.specs.declared.extract.Deed.TheVariants.{Folder, File, Skip}
 use Rattle.udfs_commands.specs.declared.extract.Fate.{Fate}
-use Rattle.udfs_commands.specs.declared.extract.Fate.TheVariants.{Made, Written, Failed, Left, Skipped}
+use Rattle.udfs_commands.specs.declared.extract.Fate.TheVariants.{Made, Written, Failed, Left, Skipped, Passed}
 
 -- a loop is a directory that is not entered
 abbrev pub directory_deed : Standing → Deed
@@ -47,17 +52,18 @@ deed kind.Unread s size fill = Skip
 
 -- what may become of a node of which this is done
 abbrev pub IsFateOf : Deed → Fate → Type 0
-IsFateOf Folder fate = (fate ≢ Written) × (fate ≢ Skipped)
-IsFateOf File fate = (fate ≢ Made) × (fate ≢ Skipped)
+IsFateOf Folder fate = (fate ≢ Written) × (fate ≢ Skipped) × (fate ≢ Passed)
+IsFateOf File fate = (fate ≢ Made) × (fate ≢ Skipped) × (fate ≢ Passed)
 IsFateOf Skip fate = fate ≡ Skipped
 
--- a folder that was made has no line
+-- a folder that was made has no line, nor has a node that is not asked for
 abbrev pub fate_line : Fate → List (List ℕ) → List ℕ
 fate_line Made path = []
 fate_line Written path = line (codes "written " ++ names_text path)
 fate_line Failed path = line (codes "failed " ++ names_text path)
 fate_line Left path = line (codes "failed " ++ names_text path)
 fate_line Skipped path = line (codes "skipped " ++ names_text path)
+fate_line Passed path = []
 
 abbrev pub fate_lines : List NodeFields → List Fate → List ℕ
 fate_lines ns [] = []
@@ -71,6 +77,7 @@ is_good Written = true
 is_good Failed = false
 is_good Left = false
 is_good Skipped = true
+is_good Passed = true
 
 abbrev pub all_good : List Fate → Bool
 all_good [] = true
@@ -103,9 +110,9 @@ pub record IsSafe (holds : List ℕ → Option (Option (List ℕ))) (moment : �
 pub record IsPut (tells fails : Type 0) (table : Table) (report : Report) (fill : Fill) (folder : List ℕ) (holds : List ℕ → Option (Option (List ℕ))) (moment : ℕ) (left_since : ℕ → Disk → Type 0)
     (index : ℕ) (n : NodeFields) (fate : Fate) : Type 0 where
   pub done : IsFateOf (deed n.kind n.standing n.size fill) fate
-  pub written : fate ≡ Written → tells → (last : ℕ) → IsReport (state_of table) last report → (cs : List Cell) × HasCellsIn (state_of table) last index cs
+  pub written : fate ≡ Written → tells → (profile : Profile) (last : ℕ) → IsReportBy profile (state_of table) last report → (cs : List Cell) × HasCellsInBy profile (state_of table) last index cs
       × IsSafe holds moment left_since (path_below folder n.path) (filled (fill_byte fill) cs)
-  pub failed : is_good fate ≡ false → (last : ℕ) → IsReport (state_of table) last report → fails
+  pub failed : is_good fate ≡ false → (profile : Profile) (last : ℕ) → IsReportBy profile (state_of table) last report → fails
 
 -- this holds of each node, of which the first has this index, and its fate, as far as there are fates
 abbrev pub Each : (ℕ → NodeFields → Fate → Type 0) → ℕ → List NodeFields → List Fate → Type 0
@@ -150,8 +157,37 @@ PutsBy (faulty fault) opens does_not = does_not
 abbrev pub PutsReport : {F : Type 0} → (Report → ℕ → NodeFields → Fate → Type 0) → F → F → Report → Option (List ℕ) → Option (List ℕ) → ℕ → ℕ → Bool → Type 0
 PutsReport P before after report old new i j good = PutsBy report.volume (PutsAll (P report) report.nodes old new i j good) (PutsNone before after report.volume old new i j good)
 
--- of the report of the table
-pub record ExtractsAll {F : Type 0} (P : Table → Report → ℕ → NodeFields → Fate → Type 0) (before after : F) (last : ℕ) (old new : Option (List ℕ)) (i j : ℕ) (good : Bool) (table : Table) : Type 0 where
+-- of the report of the table by the rules of a profile
+pub record ExtractsAll {F : Type 0} (P : Table → Report → ℕ → NodeFields → Fate → Type 0) (before after : F) (profile : Profile) (last : ℕ) (old new : Option (List ℕ)) (i j : ℕ) (good : Bool) (table : Table) : Type 0 where
   pub report : Report
-  pub is_report : IsReport (state_of table) last report
+  pub is_report : IsReportBy profile (state_of table) last report
   pub puts : PutsReport (P table) before after report old new i j good
+
+-- of a node that one of the words asks for this holds, and nothing is made or told of another
+pub record IsDone (only : List (List ℕ)) (P : ℕ → NodeFields → Fate → Type 0) (index : ℕ) (n : NodeFields) (fate : Fate) : Type 0 where
+  pub asked : is_chosen only n.path ≡ true → P index n fate
+  pub passed : is_chosen only n.path ≡ false → fate ≡ Passed
+
+-- each word is the path of a node; and it is good where nothing failed and all nodes that are asked for are whole
+pub record PutsChosen (only : List (List ℕ)) (P : ℕ → NodeFields → Fate → Type 0) (nodes : List NodeFields) (old new : Option (List ℕ)) (i j : ℕ) (good : Bool) : Type 0 where
+  pub named : list_all (is_node nodes) only ≡ true
+  pub fates : List Fate
+  pub puts : Puts (IsDone only P) nodes old new i j true fates
+  pub all : length fates ≡ length (drop 1 nodes)
+  pub says : good ≡ (all_good fates && list_all (λ n. is_whole n.standing) (chosen only nodes))
+
+-- what is made and told of the nodes of a report that are asked for
+abbrev pub PutsOf : {F : Type 0} → List (List ℕ) → (Report → ℕ → NodeFields → Fate → Type 0) → F → F → Report → Option (List ℕ) → Option (List ℕ) → ℕ → ℕ → Bool → Type 0
+PutsOf only P before after report old new i j good = PutsBy report.volume (PutsChosen only (P report) report.nodes old new i j good) (PutsNone before after report.volume old new i j good)
+
+-- no node that is asked for has its file at this path
+abbrev pub IsElsewhere : List (List ℕ) → List NodeFields → List ℕ → List ℕ → Type 0
+IsElsewhere only nodes folder q = (k : ℕ) (n : NodeFields) → slice_get nodes k ≡ Some n → is_chosen only n.path ≡ true → q ≢ path_below folder n.path
+
+-- of the report of the table by the rules of a profile; and no path changes but those of nodes that are asked for
+pub record ExtractsChosen {F : Type 0} (only : List (List ℕ)) (P : Table → Report → ℕ → NodeFields → Fate → Type 0) (holds : F → List ℕ → Option (Option (List ℕ))) (folder : List ℕ) (before after : F) (profile : Profile) (last : ℕ)
+    (old new : Option (List ℕ)) (i j : ℕ) (good : Bool) (table : Table) : Type 0 where
+  pub report : Report
+  pub is_report : IsReportBy profile (state_of table) last report
+  pub puts : PutsOf only (P table) before after report old new i j good
+  pub elsewhere : (q : List ℕ) → IsElsewhere only report.nodes folder q → holds after q ≡ holds before q

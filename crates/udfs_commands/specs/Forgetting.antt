@@ -4,22 +4,17 @@
 --     IsForgottenJoin               the join of the inputs without what the words name
 --     MayForget                     what a crash in the middle shows: what was there, or that table in its place
 --     PutsForgotten                 its table file is put, as the words of the command ask for
-use Rattle.std.specs.Prelude.{◌≡◌, ◌⊎◌, ◌++◌, ℕ, List, [], ◌∷◌, Bool, true, false, cond, Option, IfSome, Ok, codes, map, if◌then◌else◌}
+use Rattle.std.specs.Prelude.{◌≡◌, ◌⊎◌, ◌++◌, ℕ, List, [], ◌∷◌, Bool, true, false, cond, Option, IfSome, Ok, codes, map}
 use Rattle.clap.specs.declared.parser.matches.Found.{Found}
-use Rattle.std.specs.Str.{bytes_eq}
 use Rattle.udfs_files.specs.Disk.{Disk, Same, Replaced}
 use Rattle.udfs_lattice.specs.declared.facts.Fact.TheVariants.{Unknown}
 use Rattle.udfs_lattice.specs.Tables.{Table, is_named, state_of, without_conflict}
 use Rattle.udfs_rescue.specs.BlockLists.{list_outcome}
-use Rattle.udfs_commands.specs.Asking.{IsPicked, asked_for, asked_inputs, list_texts}
+use Rattle.udfs_commands.specs.Asking.{IsPicked, asked_for, asked_streams, list_texts, stream_path}
 use Rattle.udfs_commands.specs.Keeping.{OfPaths}
 use Rattle.udfs_commands.specs.Spelling.{table_file}
 use Rattle.udfs_commands.specs.declared.merge.Version.TheVariants.{Two}
 use Rattle.udfs_commands.specs.declared.sources.InputPath.{InputPath}
-
--- `-` is standard input
-abbrev pub list_path : List ℕ → List ℕ
-list_path path = if bytes_eq path (codes "-") then codes "/dev/stdin" else path
 
 -- the numbers are those of the list that is held, where that is told
 abbrev pub HasList : Option (Option (List ℕ)) → List ℕ → Type 0
@@ -28,7 +23,7 @@ HasList held blocks = IfSome held (λ file. IfSome file (λ bytes. list_outcome 
 -- those of the first list, and those of the others
 abbrev pub Lists : (List ℕ → Option (Option (List ℕ))) → List (List ℕ) → List ℕ → Type 0
 Lists found [] blocks = blocks ≡ []
-Lists found (path ∷ paths) blocks = (first : List ℕ) × (others : List ℕ) × HasList (found (list_path path)) first × Lists found paths others × (blocks ≡ first ++ others)
+Lists found (path ∷ paths) blocks = (first : List ℕ) × (others : List ℕ) × HasList (found (stream_path path)) first × Lists found paths others × (blocks ≡ first ++ others)
 
 abbrev pub Forgets : Bool → List ℕ → Table → Table → Type 0
 Forgets conflicts blocks t u = (n : ℕ) → state_of u n ≡ cond (is_named blocks n) Unknown (cond conflicts (without_conflict (state_of t n)) (state_of t n))
@@ -49,6 +44,6 @@ pub record PutsForgotten {R : Type 0} (found : List ℕ → Option (Option (List
   pub inputs : List InputPath
   pub table : Table
   pub picked : IsPicked words (codes "conflicts") true false conflicts
-  pub asked : map asked_for inputs ≡ asked_inputs words
+  pub asked : map asked_for inputs ≡ asked_streams words
   pub join : IsForgottenJoin found remaining inputs conflicts (list_texts words) table
   pub put : Put (table_file Two table)

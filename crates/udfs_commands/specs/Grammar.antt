@@ -17,9 +17,9 @@ letter_rule name letter = record (flag_rule name) { short = Some letter }
 abbrev pub value_rule : Text → Rule
 value_rule name = record (new_rule name) { long = Some name; action = Some Set; value_names = 1; required = true }
 
--- `--last N`, a number of 32 bits, which has to be given where no size is
+-- `--last N`, a number of 32 bits, which may have to be given
 abbrev pub last_rule : Bool → Rule
-last_rule size = record (value_rule (codes "last")) { parser = Some (Signed (pos 0) (pos 4294967295)); required = not size }
+last_rule needed = record (value_rule (codes "last")) { parser = Some (Signed (pos 0) (pos 4294967295)); required = needed }
 
 -- `--size BYTES`, a number of 64 bits
 abbrev pub size_rule : Rule
@@ -28,6 +28,10 @@ size_rule = record (new_rule (codes "size")) { long = Some (codes "size"); actio
 -- `--mapfile FILE`
 abbrev pub mapfile_rule : Rule
 mapfile_rule = record (value_rule (codes "mapfile")) { required = false }
+
+-- `--profile PROFILE`
+abbrev pub profile_rule : Rule
+profile_rule = record (value_rule (codes "profile")) { required = false }
 
 -- `--out FILE` or `-o FILE`
 abbrev pub out_rule : Rule
@@ -55,35 +59,47 @@ merge_app pairs = with_inputs (with_rule (with_rule (with_rule (new_app (codes "
 
 -- a command of this name that is told where the disc ends
 abbrev pub with_last : Text → Bool → App
-with_last name size = with_rule (with_rule (new_app name) (last_rule size)) size_rule
+with_last name needed = with_rule (with_rule (new_app name) (last_rule needed)) size_rule
 
--- `report (--last N | --size BYTES) [--json] IN...`
+-- a command of this name that is told where the disc ends, and by which rules it is read
+abbrev pub with_profile : Text → Bool → App
+with_profile name size = with_rule (with_last name size) profile_rule
+
+-- `report (--last N | --size BYTES) [--profile PROFILE] [--json] IN...`
 abbrev pub report_app : Given → App
-report_app given = with_inputs (with_rule (with_last (codes "report") given.size) (flag_rule (codes "json"))) given.pairs
+report_app given = with_inputs (with_rule (with_profile (codes "report") given.needs_last) (flag_rule (codes "json"))) given.pairs
 
--- `reread (--last N | --size BYTES) [--mapfile FILE] IN...`
+-- `reread (--last N | --size BYTES) [--profile PROFILE] [--mapfile FILE] IN...`
 abbrev pub reread_app : Given → App
-reread_app given = with_inputs (with_rule (with_last (codes "reread") given.size) mapfile_rule) given.pairs
+reread_app given = with_inputs (with_rule (with_profile (codes "reread") given.needs_last) mapfile_rule) given.pairs
 
--- `extract (--last N | --size BYTES) --to DIR [--fill] IN...`
+-- `--only PATH`, any number of times
+abbrev pub only_rule : Rule
+only_rule = record (new_rule (codes "only")) { long = Some (codes "only"); value_names = 1; action = Some Append }
+
+-- `extract (--last N | --size BYTES) [--profile PROFILE] --to DIR [--fill] [--only PATH]... IN...`
 abbrev pub extract_app : Given → App
-extract_app given = with_inputs (with_rule (with_rule (with_last (codes "extract") given.size) (value_rule (codes "to"))) (flag_rule (codes "fill"))) given.pairs
+extract_app given = with_inputs (with_rule (with_rule (with_rule (with_profile (codes "extract") given.needs_last) (value_rule (codes "to"))) (flag_rule (codes "fill"))) only_rule) given.pairs
 
 -- `forget --out FILE (--conflicts | --blocks LIST)... [--force] IN...`
 abbrev pub forget_app : Given → App
 forget_app given = with_inputs (with_rule (with_rule (with_rule (with_rule (new_app (codes "forget")) out_rule) (flag_rule (codes "conflicts"))) (blocks_rule given.conflicts)) (flag_rule (codes "force"))) given.pairs
 
--- `list [--torn] [--null] [--paths] (--last N | --size BYTES) IN...`
+-- `list [--torn] [--null] [--paths] (--last N | --size BYTES) [--profile PROFILE] IN...`
 abbrev pub list_app : Given → App
-list_app given = with_inputs (with_rule (with_rule (with_rule (with_last (codes "list") given.size) (flag_rule (codes "torn"))) (flag_rule (codes "null"))) (flag_rule (codes "paths"))) given.pairs
+list_app given = with_inputs (with_rule (with_rule (with_rule (with_profile (codes "list") given.needs_last) (flag_rule (codes "torn"))) (flag_rule (codes "null"))) (flag_rule (codes "paths"))) given.pairs
 
--- `summary (--last N | --size BYTES) IN...`
+-- `summary (--last N | --size BYTES) [--profile PROFILE] IN...`
 abbrev pub summary_app : Given → App
-summary_app given = with_inputs (with_last (codes "summary") given.size) given.pairs
+summary_app given = with_inputs (with_profile (codes "summary") given.needs_last) given.pairs
 
 -- `image --out IMAGE --mapfile MAPFILE [--force] (--last N | --size BYTES) IN...`
 abbrev pub image_app : Given → App
-image_app given = with_inputs (with_rule (with_rule (with_rule (with_last (codes "image") given.size) out_rule) (value_rule (codes "mapfile"))) (flag_rule (codes "force"))) given.pairs
+image_app given = with_inputs (with_rule (with_rule (with_rule (with_last (codes "image") given.needs_last) out_rule) (value_rule (codes "mapfile"))) (flag_rule (codes "force"))) given.pairs
+
+-- `page --out FILE (--last N | --size BYTES) [--profile PROFILE] IN...`
+abbrev pub page_app : Given → App
+page_app given = with_inputs (with_rule (with_profile (codes "page") given.needs_last) out_rule) given.pairs
 
 -- the program before its commands: one of them has to be named, and there is `--version`
 abbrev pub program : App
@@ -91,4 +107,4 @@ program = record (new_app (codes "udfsalvage")) { top = record (new_app (codes "
 
 -- the program, by what is found among the words
 abbrev pub program_app : Given → App
-program_app given = with_subcommand (with_subcommand (with_subcommand (with_subcommand (with_subcommand (with_subcommand (with_subcommand (with_subcommand program (merge_app given.pairs).top) (report_app given).top) (reread_app given).top) (extract_app given).top) (forget_app given).top) (list_app given).top) (summary_app given).top) (image_app given).top
+program_app given = with_subcommand (with_subcommand (with_subcommand (with_subcommand (with_subcommand (with_subcommand (with_subcommand (with_subcommand (with_subcommand program (merge_app given.pairs).top) (report_app given).top) (reread_app given).top) (extract_app given).top) (forget_app given).top) (list_app given).top) (summary_app given).top) (image_app given).top) (page_app given).top

@@ -14,7 +14,7 @@ use Rattle.udfs_lattice.specs.Tables.{Table, state_of}
 use Rattle.udfs_rescue.specs.Images.{image_bytes}
 use Rattle.udfs_rescue.specs.Writing.{map_text, table_status}
 use Rattle.udfs_salvage.specs.Reports.{IsNothingPast, IsOutOfRange}
-use Rattle.udfs_commands.specs.Asking.{IsLast, asked_for, asked_inputs, mapfile_text, out_text}
+use Rattle.udfs_commands.specs.Asking.{IsLast, asked_for, asked_streams, mapfile_text, out_text}
 use Rattle.udfs_commands.specs.Guarding.{NoneLeads}
 use Rattle.udfs_commands.specs.Keeping.{OfPaths}
 use Rattle.udfs_commands.specs.declared.sources.InputPath.{InputPath}
@@ -58,8 +58,8 @@ MayImage found remaining inputs last image mapfile d c = Same d c ⊎ OfPaths fo
 pub record WritesImage {R : Type 0} (found : List ℕ → Option (Option (List ℕ))) (remaining : R → Option (List ℕ)) (words : Found) (Holds : List ℕ → List ℕ → Type 0) : Type 0 where
   pub last : ℕ
   pub inputs : List InputPath
-  pub is_last : IsLast words last
-  pub asked : map asked_for inputs ≡ asked_inputs words
+  pub is_last : IsLast found inputs words last
+  pub asked : map asked_for inputs ≡ asked_streams words
   pub writes : OfPaths found remaining inputs (HasImage last Holds)
 
 -- the same by the words

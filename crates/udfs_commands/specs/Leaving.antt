@@ -10,7 +10,8 @@ use Rattle.clap.specs.declared.parser.matches.Found.{Found}
 use Rattle.udfs_files.specs.Disk.{Disk, After, Goes, IsOwn, Same, Replaced}
 use Rattle.udfs_lattice.specs.Tables.{Table}
 use Rattle.udfs_lattice.specs.Records.{join_all}
-use Rattle.udfs_commands.specs.Asking.{IsLast, IsPicked, asked_for, asked_inputs, folder_text, is_mapped, mapfile_text, out_text}
+use Rattle.udfs_volume.specs.declared.profiles.Profile.{Profile}
+use Rattle.udfs_commands.specs.Asking.{IsLast, IsPicked, IsProfile, asked_for, asked_inputs, folder_text, is_mapped, mapfile_text, out_text}
 use Rattle.udfs_commands.specs.Extracting.{IsIn, Spares, Stay}
 use Rattle.udfs_commands.specs.Forgetting.{PutsForgotten}
 use Rattle.udfs_commands.specs.Keeping.{Joined, OfPaths}
@@ -34,8 +35,8 @@ MayForgetAsked found remaining real words d c = Same d c ⊎ PutsForgotten found
 
 -- the same of `reread --mapfile`
 abbrev pub MayDomainAsked : {R : Type 0} → (List ℕ → Option (Option (List ℕ))) → (R → Option (List ℕ)) → (List ℕ → List ℕ) → Found → Disk → Disk → Type 0
-MayDomainAsked found remaining real words d c = Same d c ⊎ ((last : ℕ) × (inputs : List InputPath) × IsLast words last × (map asked_for inputs ≡ asked_inputs words) ×
-    OfPaths found remaining inputs (IsDomain last (λ bytes. Replaced (real (mapfile_text words)) bytes d c)))
+MayDomainAsked found remaining real words d c = Same d c ⊎ ((profile : Profile) × (last : ℕ) × (inputs : List InputPath) × IsProfile words profile × IsLast found inputs words last × (map asked_for inputs ≡ asked_inputs words) ×
+    OfPaths found remaining inputs (IsDomain profile last (λ bytes. Replaced (real (mapfile_text words)) bytes d c)))
 
 -- unless the output is a device or a pipe: a crash at any moment leaves what this step makes of what it might have left before; and no other path changes, but those of new files that are to go in the output's place
 pub record ReplacesOut {F : Type 0} (tells : Type 0) (holds : F → List ℕ → Option (Option (List ℕ))) (real : F → List ℕ → List ℕ) (in_place : F → List ℕ → Type 0) (may_leave : F → Disk → Type 0) (moment : F → ℕ) (left_since : F → ℕ → Disk → Type 0)

@@ -1,10 +1,12 @@
 pub mod Refusing
 pub mod Spelling
+pub mod Choosing
 pub mod Extracting
 pub mod Rereading
 pub mod Listing
 pub mod Summarizing
-pub mod JsonRuns
+pub mod Reporting
+pub mod Paging
 pub mod Asking
 pub mod Keeping
 pub mod Forgetting

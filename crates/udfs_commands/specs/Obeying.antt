@@ -2,7 +2,7 @@
 --     given_in words                 what is found among them before they are parsed
 --     GrammarTakes words             the program's grammar takes the words, the program's name first
 --     IsAsked words name found       they name this command, and these are the arguments that it has
-use Rattle.std.specs.Prelude.{◌≡◌, ◌||◌, ◌&&◌, Bool, true, false, List, [], ◌∷◌, Some, codes, length, take, nat_le, option_map}
+use Rattle.std.specs.Prelude.{◌≡◌, ◌||◌, ◌&&◌, Bool, true, false, not, List, [], ◌∷◌, Some, codes, length, take, nat_le, option_map}
 use Rattle.std.specs.Str.{bytes_eq}
 use Rattle.clap.specs.Words.{Text, rows_of, subcommand_of, takes}
 use Rattle.clap.specs.declared.parser.matches.Found.{Found}
@@ -18,9 +18,9 @@ abbrev pub is_given : Text → Text → List Text → Bool
 is_given option signed [] = false
 is_given option signed (word ∷ words) = names option signed word || is_given option signed words
 
--- images with their mapfiles, the disc's size, and that conflicts are to be forgotten
+-- images with their mapfiles; that neither they nor the disc's size tell the last block, which has to be given then; and that conflicts are to be forgotten
 abbrev pub given_in : List Text → Given
-given_in words = record { pairs = is_given (codes "--ddrescue") (codes "--ddrescue=") words; size = is_given (codes "--size") (codes "--size=") words; conflicts = is_given (codes "--conflicts") (codes "--conflicts=") words }
+given_in words = record { pairs = is_given (codes "--ddrescue") (codes "--ddrescue=") words; needs_last = not (is_given (codes "--size") (codes "--size=") words) && not (is_given (codes "--ddrescue") (codes "--ddrescue=") words); conflicts = is_given (codes "--conflicts") (codes "--conflicts=") words }
 
 -- the grammar takes the words, of which the first is the program's name
 abbrev pub GrammarTakes : List Text → Type 0

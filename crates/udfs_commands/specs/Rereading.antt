@@ -8,18 +8,19 @@ use Rattle.clap.specs.declared.parser.matches.Found.{Found}
 use Rattle.udfs_files.specs.Disk.{Disk, Same, Replaced}
 use Rattle.udfs_lattice.specs.Tables.{Table, state_of}
 use Rattle.udfs_reading.specs.Writing.{Wrote}
+use Rattle.udfs_volume.specs.declared.profiles.Profile.{Profile}
 use Rattle.udfs_rescue.specs.Writing.{map_text, wanted_status}
-use Rattle.udfs_salvage.specs.Reports.{Report, IsReport, all_whole}
+use Rattle.udfs_salvage.specs.Reports.{Report, IsReportBy, all_whole}
 use Rattle.udfs_salvage.specs.RereadTexts.{number_lines}
 use Rattle.udfs_salvage.specs.Texts.{line}
-use Rattle.udfs_commands.specs.Asking.{IsLast, asked_for, asked_inputs}
+use Rattle.udfs_commands.specs.Asking.{IsLast, IsProfile, asked_for, asked_inputs}
 use Rattle.udfs_commands.specs.Keeping.{OfPaths}
 use Rattle.udfs_commands.specs.declared.sources.InputPath.{InputPath}
 
--- the numbers of the table's report were printed, and the answer is whether there are nodes and all are whole
-pub record PrintsNumbers (last : ℕ) (old new : Option (List ℕ)) (i j : ℕ) (whole : Bool) (table : Table) : Type 0 where
+-- the numbers of the table's report by the rules of a profile were printed, and the answer is whether there are nodes and all are whole
+pub record PrintsNumbers (profile : Profile) (last : ℕ) (old new : Option (List ℕ)) (i j : ℕ) (whole : Bool) (table : Table) : Type 0 where
   pub report : Report
-  pub is_report : IsReport (state_of table) last report
+  pub is_report : IsReportBy profile (state_of table) last report
   pub prints : Wrote old new i j (number_lines report.reread)
   pub says : whole ≡ all_whole report.nodes
 
@@ -37,30 +38,32 @@ runs_in (n ∷ ns) = 1 + breaks n ns
 abbrev pub domain_line : List ℕ → List ℕ
 domain_line blocks = line (decimal (length blocks) ++ codes " blocks in " ++ decimal (runs_in blocks) ++ codes " runs")
 
--- the mapfile in which the blocks of the table's report that are to be read again are wanted was put, and the answer is whether there are nodes and all are whole
-pub record PrintsDomain (last : ℕ) (Put : List ℕ → Type 0) (old new : Option (List ℕ)) (i j : ℕ) (whole : Bool) (table : Table) : Type 0 where
+-- the mapfile in which the blocks of the table's report by the rules of a profile that are to be read again are wanted was put, and the answer is whether there are nodes and all are whole
+pub record PrintsDomain (profile : Profile) (last : ℕ) (Put : List ℕ → Type 0) (old new : Option (List ℕ)) (i j : ℕ) (whole : Bool) (table : Table) : Type 0 where
   pub report : Report
-  pub is_report : IsReport (state_of table) last report
+  pub is_report : IsReportBy profile (state_of table) last report
   pub put : Put (map_text (wanted_status report.reread) last)
   pub prints : Wrote old new i j (domain_line report.reread)
   pub says : whole ≡ all_whole report.nodes
 
--- of the inputs and the last block that the words ask for
+-- of the inputs, the last block and the rules that the words ask for
 pub record WritesDomain {R : Type 0} (found : List ℕ → Option (Option (List ℕ))) (remaining : R → Option (List ℕ)) (words : Found) (Put : List ℕ → Type 0) (old new : Option (List ℕ)) (i j : ℕ) (whole : Bool) : Type 0 where
   pub last : ℕ
+  pub profile : Profile
   pub inputs : List InputPath
-  pub is_last : IsLast words last
+  pub is_last : IsLast found inputs words last
+  pub is_profile : IsProfile words profile
   pub asked : map asked_for inputs ≡ asked_inputs words
-  pub prints : OfPaths found remaining inputs (PrintsDomain last Put old new i j whole)
+  pub prints : OfPaths found remaining inputs (PrintsDomain profile last Put old new i j whole)
 
 -- this holds of the mapfile in which the blocks of the table's report that are to be read again are wanted
-abbrev pub IsDomain : ℕ → (List ℕ → Type 0) → Table → Type 0
-IsDomain last Holds table = (report : Report) × IsReport (state_of table) last report × Holds (map_text (wanted_status report.reread) last)
+abbrev pub IsDomain : Profile → ℕ → (List ℕ → Type 0) → Table → Type 0
+IsDomain profile last Holds table = (report : Report) × IsReportBy profile (state_of table) last report × Holds (map_text (wanted_status report.reread) last)
 
 -- the disk is as it was, or the mapfile of a table is in the place of what was at a path
-abbrev pub MayDomain : ℕ → List ℕ → Table → Disk → Disk → Type 0
-MayDomain last path table d c = Same d c ⊎ IsDomain last (λ bytes. Replaced path bytes d c) table
+abbrev pub MayDomain : Profile → ℕ → List ℕ → Table → Disk → Disk → Type 0
+MayDomain profile last path table d c = Same d c ⊎ IsDomain profile last (λ bytes. Replaced path bytes d c) table
 
 -- the same of the join of inputs
-abbrev pub MayDomainOf : {R : Type 0} → (List ℕ → Option (Option (List ℕ))) → (R → Option (List ℕ)) → List InputPath → ℕ → List ℕ → Disk → Disk → Type 0
-MayDomainOf found remaining inputs last path d c = Same d c ⊎ OfPaths found remaining inputs (IsDomain last (λ bytes. Replaced path bytes d c))
+abbrev pub MayDomainOf : {R : Type 0} → (List ℕ → Option (Option (List ℕ))) → (R → Option (List ℕ)) → List InputPath → Profile → ℕ → List ℕ → Disk → Disk → Type 0
+MayDomainOf found remaining inputs profile last path d c = Same d c ⊎ OfPaths found remaining inputs (IsDomain profile last (λ bytes. Replaced path bytes d c))

@@ -7,7 +7,7 @@ ghost use Rattle.udfs_overview.specs.declared.node_list.ListForm.{ListForm};
 ghost use Rattle.udfs_commands.specs.declared.merge.Version.{Version};
 ghost use Rattle.udfs_commands.specs.declared.report.Form.{Form};
 ghost use Rattle.udfs_commands.specs.Listing.{IsListForm};
-ghost use Rattle.udfs_commands.specs.Asking.{Asked, IsPicked, asked_for, asked_inputs, folder_text, mapfile_text, out_text, pairs_of};
+ghost use Rattle.udfs_commands.specs.Asking.{Asked, IsPicked, asked_for, asked_inputs, asked_streams, folder_text, mapfile_text, out_text, pairs_of, stream_path};
 ghost use Rattle.udfs_commands.specs.Asking.Asked.{AskedFile};
 
 use crate::merge::Version;
@@ -28,6 +28,24 @@ fn push_files<'a>(inputs: &mut Vec<InputPath<'a>>, paths: &[&'a str]) -> Result<
 {
     for path in paths {
         inputs.push(InputPath::File(path))?;
+    }
+    Ok(())
+}
+
+/// A path where `-` is standard input.
+pub fn stream_path(path: &str) -> &str
+    ensures { result.now ≡ stream_path path.now }
+{
+    if path == "-" { "/dev/stdin" } else { path }
+}
+
+/// Adds files, of which `-` is standard input.
+#[tactic(auto, using(crate::proofs::AskingLemmas::one_more))]
+fn push_streams<'a>(inputs: &mut Vec<InputPath<'a>>, paths: &[&'a str]) -> Result<(), AllocError>
+    ensures { OnOk result (map asked_for inputs.new.items ≡ map asked_for inputs.old.items ++ map AskedFile (map stream_path (map (λ path. path.now) paths.now))) }
+{
+    for path in paths {
+        inputs.push(InputPath::File(stream_path(path)))?;
     }
     Ok(())
 }
@@ -54,6 +72,19 @@ pub fn asked_inputs<'a>(
 {
     let mut inputs = Vec::new(alloc);
     push_files(&mut inputs, words.get_strs(INPUTS).unwrap_or(&[]))?;
+    push_pairs(&mut inputs, words.get_strs(PAIRS).unwrap_or(&[]))?;
+    Ok(inputs)
+}
+
+/// The inputs of a command that takes `-` for standard input: all files, and then all images with their mapfiles.
+pub fn asked_streams<'a>(
+    alloc: Global,
+    words: &ArgMatches<'a>,
+) -> Result<Vec<InputPath<'a>>, AllocError>
+    ensures { IfOk result (λ inputs. map asked_for inputs.items ≡ asked_streams (found_of words.now)) }
+{
+    let mut inputs = Vec::new(alloc);
+    push_streams(&mut inputs, words.get_strs(INPUTS).unwrap_or(&[]))?;
     push_pairs(&mut inputs, words.get_strs(PAIRS).unwrap_or(&[]))?;
     Ok(inputs)
 }

@@ -5,13 +5,14 @@ ghost use Rattle.clap.specs.Matches.{found_of, one_text};
 ghost use Rattle.udfs_lattice.specs.Tables.{Table};
 ghost use Rattle.udfs_lattice.specs.Records.{join_all};
 ghost use Rattle.udfs_files.specs.Disk.{Fails};
+ghost use Rattle.udfs_volume.specs.declared.profiles.Profile.{Profile};
 ghost use Rattle.udfs_salvage.specs.declared.extraction.Fill.{Fill};
-ghost use Rattle.udfs_commands.specs.Asking.{IsLast, IsOneEnd, IsPicked, asked_for, asked_inputs, folder_text, input_texts, is_mapped, mapfile_text, out_text, pair_texts};
-ghost use Rattle.udfs_commands.specs.Extracting.{ExtractsAll, IsPut};
+ghost use Rattle.udfs_commands.specs.Asking.{IsKnownProfile, IsLast, IsOneEnd, IsPicked, IsProfile, are_two_streams, asked_for, asked_inputs, asked_streams, folder_text, has_only, input_texts, is_mapped, mapfile_text, only_texts, out_text, pair_texts};
+ghost use Rattle.udfs_commands.specs.Extracting.{ExtractsAll, ExtractsChosen, IsPut};
 ghost use Rattle.udfs_commands.specs.Forgetting.{PutsForgotten};
 ghost use Rattle.udfs_commands.specs.Imaging.{IsFreePair, ReplacesPair, WritesImage};
 ghost use Rattle.udfs_commands.specs.Guarding.{IsFree, IsFreeMap};
-ghost use Rattle.udfs_commands.specs.JsonRuns.{PrintsAs};
+ghost use Rattle.udfs_commands.specs.Reporting.{PrintsAs};
 ghost use Rattle.udfs_commands.specs.Keeping.{IsKept, IsTaken, Joined, OfPaths};
 ghost use Rattle.udfs_commands.specs.declared.sources.AnySource.{AnySource};
 ghost use Rattle.udfs_commands.specs.declared.sources.InputPath.{InputPath};
@@ -21,6 +22,7 @@ ghost use Rattle.std.specs.String.{string_bytes};
 ghost use Rattle.clap.specs.Words.{kind_of};
 ghost use Rattle.udfs_commands.specs.Leaving.{ExtractSpares, MayDomainAsked, MayForgetAsked, MayMerge, ReplacesOut, RereadSpares};
 ghost use Rattle.udfs_commands.specs.Listing.{IsListForm, PrintsList};
+ghost use Rattle.udfs_commands.specs.Paging.{IsFreePage, MayPageAsked, ReplacesPage, WritesPage, page_path};
 ghost use Rattle.udfs_commands.specs.Summarizing.{PrintsSummary};
 ghost use Rattle.udfs_commands.specs.Obeying.{Asks, GrammarTakes, IsAsked};
 ghost use Rattle.udfs_overview.specs.declared.node_list.ListForm.{ListForm};
@@ -35,11 +37,14 @@ use crate::hints::second_line;
 use crate::image_words::image_words;
 use crate::last::{EndFault, end_fault};
 use crate::merge_words::merge_words;
+use crate::page_words::page_words;
 use crate::printing::send;
+use crate::profile::unknown_profile;
 use crate::refusal::Refusal;
 use crate::report_words::{list_words, report_words, summary_words};
 use crate::reread_words::reread_as;
 use crate::sources::AnySource;
+use crate::streams::are_two_streams;
 use crate::words::{QUIET, VERBOSE, given_in, grammar};
 use clap::error::ErrorKind;
 use clap::{ArgMatches, Error};
@@ -48,6 +53,10 @@ use udfs_reading::{DeviceFault, Sink, Source};
 
 /// The line for want of memory, which itself takes none.
 const NO_MEMORY: &[u8] = b"udfsalvage: out of memory\n";
+
+/// What is said where standard input is to be read twice.
+const TWO_STREAMS: &[u8] =
+    b"error: the argument '-' cannot be used multiple times\n\nFor more information, try '--help'.\n";
 
 /// What is said of a word that is not text.
 const NOT_TEXT: &[u8] =
@@ -72,46 +81,60 @@ pub fn run<F: Files, O: Sink, E: Sink>(
         ⊎ (F.in_place files.old (out_text found) × IsTaken F.Output.contents (table_file version (join_all tables))))) × ((force : Bool) × IsPicked found (codes "force") true false force ×
         (F.tells → IsFree (F.holds files.old) (F.real files.old) (F.in_place files.old) (input_texts found) (pair_texts found) force (out_text found))) }
     ensures report { GrammarTakes (map string_bytes words.now) → Asks (map string_bytes words.now) (codes "report") → result ≢ 2 → (whole : Bool) × (result ≡ cond whole 0 1) × (found : Found) × IsAsked (map string_bytes words.now) (codes "report") found ×
-        ((form : Form) × (last : ℕ) × (inputs : List InputPath) × (map asked_for inputs ≡ asked_inputs found) ×
-        IsPicked found (codes "json") Form.Json Form.Text form × IsLast found last ×
-        OfPaths (λ path. F.holds files.old (F.real files.old path)) (⟦<AnySource<F::Input, F::Image> as Source>⟧.remaining) inputs (PrintsAs form last (O.contents out.old) (O.contents out.new) (O.faults out.old) (O.faults out.new) whole)) }
+        ((form : Form) × (last : ℕ) × (profile : Profile) × (inputs : List InputPath) × (map asked_for inputs ≡ asked_inputs found) ×
+        IsPicked found (codes "json") Form.Json Form.Text form × IsLast (λ path. F.holds files.old (F.real files.old path)) inputs found last × IsProfile found profile ×
+        OfPaths (λ path. F.holds files.old (F.real files.old path)) (⟦<AnySource<F::Input, F::Image> as Source>⟧.remaining) inputs (PrintsAs profile form last (O.contents out.old) (O.contents out.new) (O.faults out.old) (O.faults out.new) whole)) }
     ensures reread { GrammarTakes (map string_bytes words.now) → Asks (map string_bytes words.now) (codes "reread") → result ≢ 2 → (whole : Bool) × (result ≡ cond whole 0 1) × (found : Found) × IsAsked (map string_bytes words.now) (codes "reread") found ×
-        (is_mapped found ≡ false → (last : ℕ) × (inputs : List InputPath) × (map asked_for inputs ≡ asked_inputs found) ×
-        IsLast found last × OfPaths (λ path. F.holds files.old (F.real files.old path)) (⟦<AnySource<F::Input, F::Image> as Source>⟧.remaining) inputs
-        (PrintsNumbers last (O.contents out.old) (O.contents out.new) (O.faults out.old) (O.faults out.new) whole)) }
+        (is_mapped found ≡ false → (last : ℕ) × (profile : Profile) × (inputs : List InputPath) × (map asked_for inputs ≡ asked_inputs found) ×
+        IsLast (λ path. F.holds files.old (F.real files.old path)) inputs found last × IsProfile found profile × OfPaths (λ path. F.holds files.old (F.real files.old path)) (⟦<AnySource<F::Input, F::Image> as Source>⟧.remaining) inputs
+        (PrintsNumbers profile last (O.contents out.old) (O.contents out.new) (O.faults out.old) (O.faults out.new) whole)) }
     ensures reread_map { GrammarTakes (map string_bytes words.now) → Asks (map string_bytes words.now) (codes "reread") → result ≢ 2 → (whole : Bool) × (result ≡ cond whole 0 1) × (found : Found) × IsAsked (map string_bytes words.now) (codes "reread") found ×
         (is_mapped found ≡ true → WritesDomain (λ path. F.holds files.old (F.real files.old path)) (⟦<AnySource<F::Input, F::Image> as Source>⟧.remaining) found
         (λ bytes. (F.tells → IsKept (F.holds files.new) (F.may_leave files.new) (F.real files.old (mapfile_text found)) bytes) ⊎ (F.in_place files.old (mapfile_text found) × IsTaken F.Output.contents bytes))
         (O.contents out.old) (O.contents out.new) (O.faults out.old) (O.faults out.new) whole ×
         (F.tells → IsFreeMap (F.holds files.old) (F.real files.old) (F.in_place files.old) (pair_texts found) (mapfile_text found))) }
     ensures extract { GrammarTakes (map string_bytes words.now) → Asks (map string_bytes words.now) (codes "extract") → result ≢ 2 → (good : Bool) × (result ≡ cond good 0 1) × (found : Found) × IsAsked (map string_bytes words.now) (codes "extract") found ×
-        ((fill : Fill) × (last : ℕ) × (inputs : List InputPath) × (map asked_for inputs ≡ asked_inputs found) ×
-        IsPicked found (codes "fill") (Fill.Byte 0) Fill.Refuse fill × IsLast found last ×
+        (has_only found ≡ false → (fill : Fill) × (last : ℕ) × (profile : Profile) × (inputs : List InputPath) × (map asked_for inputs ≡ asked_inputs found) ×
+        IsPicked found (codes "fill") (Fill.Byte 0) Fill.Refuse fill × IsLast (λ path. F.holds files.old (F.real files.old path)) inputs found last × IsProfile found profile ×
         OfPaths (λ path. F.holds files.old (F.real files.old path)) (⟦<AnySource<F::Input, F::Image> as Source>⟧.remaining) inputs
         (ExtractsAll (λ table told. IsPut F.tells (Fails F.faults ⊎ Fails F.Output.faults) table told fill (folder_text found) (F.holds files.new) (F.moment files.new) (F.left_since files.new))
-        files.old files.new last (O.contents out.old) (O.contents out.new) (O.faults out.old) (O.faults out.new) good)) }
+        files.old files.new profile last (O.contents out.old) (O.contents out.new) (O.faults out.old) (O.faults out.new) good)) }
+    ensures chosen { GrammarTakes (map string_bytes words.now) → Asks (map string_bytes words.now) (codes "extract") → result ≢ 2 → (good : Bool) × (result ≡ cond good 0 1) × (found : Found) × IsAsked (map string_bytes words.now) (codes "extract") found ×
+        ((fill : Fill) × (last : ℕ) × (profile : Profile) × (inputs : List InputPath) × (map asked_for inputs ≡ asked_inputs found) ×
+        IsPicked found (codes "fill") (Fill.Byte 0) Fill.Refuse fill × IsLast (λ path. F.holds files.old (F.real files.old path)) inputs found last × IsProfile found profile ×
+        OfPaths (λ path. F.holds files.old (F.real files.old path)) (⟦<AnySource<F::Input, F::Image> as Source>⟧.remaining) inputs
+        (ExtractsChosen (only_texts found) (λ table told. IsPut F.tells (Fails F.faults ⊎ Fails F.Output.faults) table told fill (folder_text found) (F.holds files.new) (F.moment files.new) (F.left_since files.new))
+        F.holds (folder_text found) files.old files.new profile last (O.contents out.old) (O.contents out.new) (O.faults out.old) (O.faults out.new) good)) }
     ensures forget { GrammarTakes (map string_bytes words.now) → Asks (map string_bytes words.now) (codes "forget") → result ≢ 2 → (result ≡ 0) × (found : Found) × IsAsked (map string_bytes words.now) (codes "forget") found ×
         PutsForgotten (λ path. F.holds files.old (F.real files.old path)) (⟦<AnySource<F::Input, F::Image> as Source>⟧.remaining) found
         (λ bytes. (F.tells → IsKept (F.holds files.new) (F.may_leave files.new) (F.real files.old (out_text found)) bytes) ⊎ (F.in_place files.old (out_text found) × IsTaken F.Output.contents bytes)) ×
         ((force : Bool) × IsPicked found (codes "force") true false force ×
         (F.tells → IsFree (F.holds files.old) (F.real files.old) (F.in_place files.old) (input_texts found) (pair_texts found) force (out_text found))) }
     ensures list { GrammarTakes (map string_bytes words.now) → Asks (map string_bytes words.now) (codes "list") → result ≢ 2 → (whole : Bool) × (result ≡ cond whole 0 1) × (found : Found) × IsAsked (map string_bytes words.now) (codes "list") found ×
-        ((form : ListForm) × (last : ℕ) × (inputs : List InputPath) × (map asked_for inputs ≡ asked_inputs found) ×
-        IsListForm found form × IsLast found last × OfPaths (λ path. F.holds files.old (F.real files.old path)) (⟦<AnySource<F::Input, F::Image> as Source>⟧.remaining) inputs
-        (PrintsList form last (O.contents out.old) (O.contents out.new) (O.faults out.old) (O.faults out.new) whole)) }
+        ((form : ListForm) × (last : ℕ) × (profile : Profile) × (inputs : List InputPath) × (map asked_for inputs ≡ asked_streams found) ×
+        IsListForm found form × IsLast (λ path. F.holds files.old (F.real files.old path)) inputs found last × IsProfile found profile × OfPaths (λ path. F.holds files.old (F.real files.old path)) (⟦<AnySource<F::Input, F::Image> as Source>⟧.remaining) inputs
+        (PrintsList profile form last (O.contents out.old) (O.contents out.new) (O.faults out.old) (O.faults out.new) whole)) }
     ensures summary { GrammarTakes (map string_bytes words.now) → Asks (map string_bytes words.now) (codes "summary") → result ≢ 2 → (whole : Bool) × (result ≡ cond whole 0 1) × (found : Found) × IsAsked (map string_bytes words.now) (codes "summary") found ×
-        ((last : ℕ) × (inputs : List InputPath) × (map asked_for inputs ≡ asked_inputs found) ×
-        IsLast found last × OfPaths (λ path. F.holds files.old (F.real files.old path)) (⟦<AnySource<F::Input, F::Image> as Source>⟧.remaining) inputs
-        (PrintsSummary last (O.contents out.old) (O.contents out.new) (O.faults out.old) (O.faults out.new) whole)) }
+        ((last : ℕ) × (profile : Profile) × (inputs : List InputPath) × (map asked_for inputs ≡ asked_streams found) ×
+        IsLast (λ path. F.holds files.old (F.real files.old path)) inputs found last × IsProfile found profile × OfPaths (λ path. F.holds files.old (F.real files.old path)) (⟦<AnySource<F::Input, F::Image> as Source>⟧.remaining) inputs
+        (PrintsSummary profile last (O.contents out.old) (O.contents out.new) (O.faults out.old) (O.faults out.new) whole)) }
     ensures image { GrammarTakes (map string_bytes words.now) → Asks (map string_bytes words.now) (codes "image") → result ≢ 2 → (result ≡ 0) × (found : Found) × IsAsked (map string_bytes words.now) (codes "image") found ×
         WritesImage (λ path. F.holds files.old (F.real files.old path)) (⟦<AnySource<F::Input, F::Image> as Source>⟧.remaining) found
         (λ bytes text. F.tells → IsKept (F.holds files.new) (F.may_leave files.new) (F.real files.old (out_text found)) bytes × IsKept (F.holds files.new) (F.may_leave files.new) (F.real files.old (mapfile_text found)) text) ×
         ((force : Bool) × IsPicked found (codes "force") true false force ×
         (F.tells → IsFreePair (F.holds files.old) (F.real files.old) (input_texts found) (pair_texts found) force (out_text found) (mapfile_text found))) }
+    ensures page { GrammarTakes (map string_bytes words.now) → Asks (map string_bytes words.now) (codes "page") → result ≢ 2 → (whole : Bool) × (result ≡ cond whole 0 1) × (found : Found) × IsAsked (map string_bytes words.now) (codes "page") found ×
+        (WritesPage (λ path. F.holds files.old (F.real files.old path)) (⟦<AnySource<F::Input, F::Image> as Source>⟧.remaining) found
+        (λ bytes. (F.tells → IsKept (F.holds files.new) (F.may_leave files.new) (F.real files.old (page_path found)) bytes) ⊎ (F.in_place files.old (page_path found) × IsTaken F.Output.contents bytes)) whole ×
+        (F.tells → IsFreePage (F.holds files.old) (F.real files.old) (F.in_place files.old) (input_texts found) (pair_texts found) (page_path found))) }
     // A last block and a size are never taken together, nor a size that is not that of whole blocks.
     ensures one_end { GrammarTakes (map string_bytes words.now) → result ≢ 2 → (name : List ℕ) × (found : Found) × IsAsked (map string_bytes words.now) name found × IsOneEnd found }
-    // What is there stays, whatever the status: only `merge`, `forget`, `image`, `reread --mapfile` and `extract` change files at all, and only as their words ask.
-    ensures reads { (Asks (map string_bytes words.now) (codes "merge") → ⊥) → (Asks (map string_bytes words.now) (codes "forget") → ⊥) → (Asks (map string_bytes words.now) (codes "image") → ⊥) → (Asks (map string_bytes words.now) (codes "reread") → ⊥) → (Asks (map string_bytes words.now) (codes "extract") → ⊥) → files.new ≡ files.old }
+    // Nor are rules named that there are not.
+    ensures known_profile { GrammarTakes (map string_bytes words.now) → result ≢ 2 → (name : List ℕ) × (found : Found) × IsAsked (map string_bytes words.now) name found × IsKnownProfile found }
+    // Standard input is taken once, by the commands that take `-` for it.
+    ensures one_stream { GrammarTakes (map string_bytes words.now) → result ≢ 2 → (name : List ℕ) × (found : Found) × IsAsked (map string_bytes words.now) name found × (are_two_streams name found ≡ false) }
+    // What is there stays, whatever the status: only `merge`, `forget`, `image`, `page`, `reread --mapfile` and `extract` change files at all, and only as their words ask.
+    ensures reads { (Asks (map string_bytes words.now) (codes "merge") → ⊥) → (Asks (map string_bytes words.now) (codes "forget") → ⊥) → (Asks (map string_bytes words.now) (codes "image") → ⊥) → (Asks (map string_bytes words.now) (codes "page") → ⊥) → (Asks (map string_bytes words.now) (codes "reread") → ⊥) → (Asks (map string_bytes words.now) (codes "extract") → ⊥) → files.new ≡ files.old }
     ensures rereading { Asks (map string_bytes words.now) (codes "reread") → (files.new ≡ files.old) ⊎ ((found : Found) × IsAsked (map string_bytes words.now) (codes "reread") found ×
         RereadSpares F.tells F.holds F.real F.in_place F.may_leave F.moment F.left_since found files.old files.new
         (MayDomainAsked (λ path. F.holds files.old (F.real files.old path)) (⟦<AnySource<F::Input, F::Image> as Source>⟧.remaining) (F.real files.old) found)) }
@@ -123,6 +146,9 @@ pub fn run<F: Files, O: Sink, E: Sink>(
         (MayForgetAsked (λ path. F.holds files.old (F.real files.old path)) (⟦<AnySource<F::Input, F::Image> as Source>⟧.remaining) (F.real files.old) found)) }
     ensures imaging { Asks (map string_bytes words.now) (codes "image") → (files.new ≡ files.old) ⊎ ((found : Found) × IsAsked (map string_bytes words.now) (codes "image") found ×
         ReplacesPair F.tells F.holds F.real F.may_leave F.moment F.left_since (⟦<AnySource<F::Input, F::Image> as Source>⟧.remaining) found files.old files.new) }
+    ensures paging { Asks (map string_bytes words.now) (codes "page") → (files.new ≡ files.old) ⊎ ((found : Found) × IsAsked (map string_bytes words.now) (codes "page") found ×
+        ReplacesPage F.tells F.holds F.real F.in_place F.may_leave F.moment F.left_since found files.old files.new
+        (MayPageAsked (λ path. F.holds files.old (F.real files.old path)) (⟦<AnySource<F::Input, F::Image> as Source>⟧.remaining) (F.real files.old) found)) }
     ensures extracting { Asks (map string_bytes words.now) (codes "extract") → (files.new ≡ files.old) ⊎ ((found : Found) × IsAsked (map string_bytes words.now) (codes "extract") found ×
         ExtractSpares F.tells F.holds F.may_leave F.moment F.left_since found files.old files.new) }
 {
@@ -134,19 +160,24 @@ pub fn run<F: Files, O: Sink, E: Sink>(
         Ok(matches) => matches,
         Err(error) => return show(alloc, &error, out, err),
     };
-    let (name, words) = match matches.subcommand() {
+    let (name, found) = match matches.subcommand() {
         Some(found) => found,
         // The grammar asks for a command.
         None => return 2,
     };
-    if let Some(fault) = end_fault(words) {
+    if let Some(fault) = end_fault(found) {
         return tell(alloc, fault, err);
     }
-    if words.get_flag(QUIET) {
-        files.hush();
+    if let Some(profile) = unknown_profile(found) {
+        return tell_profile(alloc, profile, err);
     }
-    match obey(alloc, name, words, files, out) {
-        Some(outcome) => finish(alloc, outcome, words, files, err),
+    if are_two_streams(name, found) {
+        let _ = send(TWO_STREAMS, err);
+        return 2;
+    }
+    set_tone(found, files);
+    match obey(alloc, name, found, files, out) {
+        Some(outcome) => finish(alloc, outcome, found, words, files, err),
         // The grammar has no other command.
         None => 2,
     }
@@ -167,41 +198,49 @@ fn obey<F: Files, O: Sink>(
         ⊎ (F.in_place files.old (out_text (found_of words.now)) × IsTaken F.Output.contents (table_file version (join_all tables)))))) }
     ensures free { name.now ≡ codes "merge" → IfSome result (λ outcome. OnOk outcome ((force : Bool) × IsPicked (found_of words.now) (codes "force") true false force ×
         (F.tells → IsFree (F.holds files.old) (F.real files.old) (F.in_place files.old) (input_texts (found_of words.now)) (pair_texts (found_of words.now)) force (out_text (found_of words.now))))) }
-    ensures report { name.now ≡ codes "report" → IfSome result (λ outcome. IfOk outcome (λ whole. (form : Form) × (last : ℕ) × (inputs : List InputPath) × (map asked_for inputs ≡ asked_inputs (found_of words.now)) ×
-        IsPicked (found_of words.now) (codes "json") Form.Json Form.Text form × IsLast (found_of words.now) last ×
-        OfPaths (λ path. F.holds files.old (F.real files.old path)) (⟦<AnySource<F::Input, F::Image> as Source>⟧.remaining) inputs (PrintsAs form last (O.contents out.old) (O.contents out.new) (O.faults out.old) (O.faults out.new) whole))) }
+    ensures report { name.now ≡ codes "report" → IfSome result (λ outcome. IfOk outcome (λ whole. (form : Form) × (last : ℕ) × (profile : Profile) × (inputs : List InputPath) × (map asked_for inputs ≡ asked_inputs (found_of words.now)) ×
+        IsPicked (found_of words.now) (codes "json") Form.Json Form.Text form × IsLast (λ path. F.holds files.old (F.real files.old path)) inputs (found_of words.now) last × IsProfile (found_of words.now) profile ×
+        OfPaths (λ path. F.holds files.old (F.real files.old path)) (⟦<AnySource<F::Input, F::Image> as Source>⟧.remaining) inputs (PrintsAs profile form last (O.contents out.old) (O.contents out.new) (O.faults out.old) (O.faults out.new) whole))) }
     ensures reread_map { name.now ≡ codes "reread" → IfSome result (λ outcome. IfOk outcome (λ whole. is_mapped (found_of words.now) ≡ true → WritesDomain (λ path. F.holds files.old (F.real files.old path)) (⟦<AnySource<F::Input, F::Image> as Source>⟧.remaining) (found_of words.now)
         (λ bytes. (F.tells → IsKept (F.holds files.new) (F.may_leave files.new) (F.real files.old (mapfile_text (found_of words.now))) bytes) ⊎ (F.in_place files.old (mapfile_text (found_of words.now)) × IsTaken F.Output.contents bytes))
         (O.contents out.old) (O.contents out.new) (O.faults out.old) (O.faults out.new) whole ×
         (F.tells → IsFreeMap (F.holds files.old) (F.real files.old) (F.in_place files.old) (pair_texts (found_of words.now)) (mapfile_text (found_of words.now))))) }
-    ensures reread { name.now ≡ codes "reread" → IfSome result (λ outcome. IfOk outcome (λ whole. is_mapped (found_of words.now) ≡ false → (last : ℕ) × (inputs : List InputPath) × (map asked_for inputs ≡ asked_inputs (found_of words.now)) ×
-        IsLast (found_of words.now) last × OfPaths (λ path. F.holds files.old (F.real files.old path)) (⟦<AnySource<F::Input, F::Image> as Source>⟧.remaining) inputs
-        (PrintsNumbers last (O.contents out.old) (O.contents out.new) (O.faults out.old) (O.faults out.new) whole))) }
-    ensures extract { name.now ≡ codes "extract" → IfSome result (λ outcome. IfOk outcome (λ good. (fill : Fill) × (last : ℕ) × (inputs : List InputPath) × (map asked_for inputs ≡ asked_inputs (found_of words.now)) ×
-        IsPicked (found_of words.now) (codes "fill") (Fill.Byte 0) Fill.Refuse fill × IsLast (found_of words.now) last ×
+    ensures reread { name.now ≡ codes "reread" → IfSome result (λ outcome. IfOk outcome (λ whole. is_mapped (found_of words.now) ≡ false → (last : ℕ) × (profile : Profile) × (inputs : List InputPath) × (map asked_for inputs ≡ asked_inputs (found_of words.now)) ×
+        IsLast (λ path. F.holds files.old (F.real files.old path)) inputs (found_of words.now) last × IsProfile (found_of words.now) profile × OfPaths (λ path. F.holds files.old (F.real files.old path)) (⟦<AnySource<F::Input, F::Image> as Source>⟧.remaining) inputs
+        (PrintsNumbers profile last (O.contents out.old) (O.contents out.new) (O.faults out.old) (O.faults out.new) whole))) }
+    ensures extract { name.now ≡ codes "extract" → IfSome result (λ outcome. IfOk outcome (λ good. has_only (found_of words.now) ≡ false → (fill : Fill) × (last : ℕ) × (profile : Profile) × (inputs : List InputPath) × (map asked_for inputs ≡ asked_inputs (found_of words.now)) ×
+        IsPicked (found_of words.now) (codes "fill") (Fill.Byte 0) Fill.Refuse fill × IsLast (λ path. F.holds files.old (F.real files.old path)) inputs (found_of words.now) last × IsProfile (found_of words.now) profile ×
         OfPaths (λ path. F.holds files.old (F.real files.old path)) (⟦<AnySource<F::Input, F::Image> as Source>⟧.remaining) inputs
         (ExtractsAll (λ table told. IsPut F.tells (Fails F.faults ⊎ Fails F.Output.faults) table told fill (folder_text (found_of words.now)) (F.holds files.new) (F.moment files.new) (F.left_since files.new))
-        files.old files.new last (O.contents out.old) (O.contents out.new) (O.faults out.old) (O.faults out.new) good))) }
+        files.old files.new profile last (O.contents out.old) (O.contents out.new) (O.faults out.old) (O.faults out.new) good))) }
+    ensures chosen { name.now ≡ codes "extract" → IfSome result (λ outcome. IfOk outcome (λ good. (fill : Fill) × (last : ℕ) × (profile : Profile) × (inputs : List InputPath) × (map asked_for inputs ≡ asked_inputs (found_of words.now)) ×
+        IsPicked (found_of words.now) (codes "fill") (Fill.Byte 0) Fill.Refuse fill × IsLast (λ path. F.holds files.old (F.real files.old path)) inputs (found_of words.now) last × IsProfile (found_of words.now) profile ×
+        OfPaths (λ path. F.holds files.old (F.real files.old path)) (⟦<AnySource<F::Input, F::Image> as Source>⟧.remaining) inputs
+        (ExtractsChosen (only_texts (found_of words.now)) (λ table told. IsPut F.tells (Fails F.faults ⊎ Fails F.Output.faults) table told fill (folder_text (found_of words.now)) (F.holds files.new) (F.moment files.new) (F.left_since files.new))
+        F.holds (folder_text (found_of words.now)) files.old files.new profile last (O.contents out.old) (O.contents out.new) (O.faults out.old) (O.faults out.new) good))) }
     ensures done_forget { name.now ≡ codes "forget" → IfSome result (λ outcome. IfOk outcome (λ whole. whole ≡ true)) }
     ensures forget { name.now ≡ codes "forget" → IfSome result (λ outcome. OnOk outcome
         (PutsForgotten (λ path. F.holds files.old (F.real files.old path)) (⟦<AnySource<F::Input, F::Image> as Source>⟧.remaining) (found_of words.now)
         (λ bytes. (F.tells → IsKept (F.holds files.new) (F.may_leave files.new) (F.real files.old (out_text (found_of words.now))) bytes) ⊎ (F.in_place files.old (out_text (found_of words.now)) × IsTaken F.Output.contents bytes)))) }
     ensures free_forget { name.now ≡ codes "forget" → IfSome result (λ outcome. OnOk outcome ((force : Bool) × IsPicked (found_of words.now) (codes "force") true false force ×
         (F.tells → IsFree (F.holds files.old) (F.real files.old) (F.in_place files.old) (input_texts (found_of words.now)) (pair_texts (found_of words.now)) force (out_text (found_of words.now))))) }
-    ensures list { name.now ≡ codes "list" → IfSome result (λ outcome. IfOk outcome (λ whole. (form : ListForm) × (last : ℕ) × (inputs : List InputPath) × (map asked_for inputs ≡ asked_inputs (found_of words.now)) ×
-        IsListForm (found_of words.now) form × IsLast (found_of words.now) last × OfPaths (λ path. F.holds files.old (F.real files.old path)) (⟦<AnySource<F::Input, F::Image> as Source>⟧.remaining) inputs
-        (PrintsList form last (O.contents out.old) (O.contents out.new) (O.faults out.old) (O.faults out.new) whole))) }
-    ensures summary { name.now ≡ codes "summary" → IfSome result (λ outcome. IfOk outcome (λ whole. (last : ℕ) × (inputs : List InputPath) × (map asked_for inputs ≡ asked_inputs (found_of words.now)) ×
-        IsLast (found_of words.now) last × OfPaths (λ path. F.holds files.old (F.real files.old path)) (⟦<AnySource<F::Input, F::Image> as Source>⟧.remaining) inputs
-        (PrintsSummary last (O.contents out.old) (O.contents out.new) (O.faults out.old) (O.faults out.new) whole))) }
+    ensures list { name.now ≡ codes "list" → IfSome result (λ outcome. IfOk outcome (λ whole. (form : ListForm) × (last : ℕ) × (profile : Profile) × (inputs : List InputPath) × (map asked_for inputs ≡ asked_streams (found_of words.now)) ×
+        IsListForm (found_of words.now) form × IsLast (λ path. F.holds files.old (F.real files.old path)) inputs (found_of words.now) last × IsProfile (found_of words.now) profile × OfPaths (λ path. F.holds files.old (F.real files.old path)) (⟦<AnySource<F::Input, F::Image> as Source>⟧.remaining) inputs
+        (PrintsList profile form last (O.contents out.old) (O.contents out.new) (O.faults out.old) (O.faults out.new) whole))) }
+    ensures summary { name.now ≡ codes "summary" → IfSome result (λ outcome. IfOk outcome (λ whole. (last : ℕ) × (profile : Profile) × (inputs : List InputPath) × (map asked_for inputs ≡ asked_streams (found_of words.now)) ×
+        IsLast (λ path. F.holds files.old (F.real files.old path)) inputs (found_of words.now) last × IsProfile (found_of words.now) profile × OfPaths (λ path. F.holds files.old (F.real files.old path)) (⟦<AnySource<F::Input, F::Image> as Source>⟧.remaining) inputs
+        (PrintsSummary profile last (O.contents out.old) (O.contents out.new) (O.faults out.old) (O.faults out.new) whole))) }
     ensures done_image { name.now ≡ codes "image" → IfSome result (λ outcome. IfOk outcome (λ whole. whole ≡ true)) }
     ensures image { name.now ≡ codes "image" → IfSome result (λ outcome. OnOk outcome
         (WritesImage (λ path. F.holds files.old (F.real files.old path)) (⟦<AnySource<F::Input, F::Image> as Source>⟧.remaining) (found_of words.now)
         (λ bytes text. F.tells → IsKept (F.holds files.new) (F.may_leave files.new) (F.real files.old (out_text (found_of words.now))) bytes × IsKept (F.holds files.new) (F.may_leave files.new) (F.real files.old (mapfile_text (found_of words.now))) text))) }
     ensures free_image { name.now ≡ codes "image" → IfSome result (λ outcome. OnOk outcome ((force : Bool) × IsPicked (found_of words.now) (codes "force") true false force ×
         (F.tells → IsFreePair (F.holds files.old) (F.real files.old) (input_texts (found_of words.now)) (pair_texts (found_of words.now)) force (out_text (found_of words.now)) (mapfile_text (found_of words.now))))) }
-    // What is there stays, whatever the answer: only `merge`, `forget`, `image`, `reread --mapfile` and `extract` change files at all.
-    ensures reads { (name.now ≡ codes "merge" → ⊥) → (name.now ≡ codes "forget" → ⊥) → (name.now ≡ codes "image" → ⊥) → (name.now ≡ codes "reread" → ⊥) → (name.now ≡ codes "extract" → ⊥) → files.new ≡ files.old }
+    ensures page { name.now ≡ codes "page" → IfSome result (λ outcome. IfOk outcome (λ whole. WritesPage (λ path. F.holds files.old (F.real files.old path)) (⟦<AnySource<F::Input, F::Image> as Source>⟧.remaining) (found_of words.now)
+        (λ bytes. (F.tells → IsKept (F.holds files.new) (F.may_leave files.new) (F.real files.old (page_path (found_of words.now))) bytes) ⊎ (F.in_place files.old (page_path (found_of words.now)) × IsTaken F.Output.contents bytes)) whole ×
+        (F.tells → IsFreePage (F.holds files.old) (F.real files.old) (F.in_place files.old) (input_texts (found_of words.now)) (pair_texts (found_of words.now)) (page_path (found_of words.now))))) }
+    // What is there stays, whatever the answer: only `merge`, `forget`, `image`, `page`, `reread --mapfile` and `extract` change files at all.
+    ensures reads { (name.now ≡ codes "merge" → ⊥) → (name.now ≡ codes "forget" → ⊥) → (name.now ≡ codes "image" → ⊥) → (name.now ≡ codes "page" → ⊥) → (name.now ≡ codes "reread" → ⊥) → (name.now ≡ codes "extract" → ⊥) → files.new ≡ files.old }
     ensures rereading { name.now ≡ codes "reread" → RereadSpares F.tells F.holds F.real F.in_place F.may_leave F.moment F.left_since (found_of words.now) files.old files.new
         (MayDomainAsked (λ path. F.holds files.old (F.real files.old path)) (⟦<AnySource<F::Input, F::Image> as Source>⟧.remaining) (F.real files.old) (found_of words.now)) }
     ensures merging { name.now ≡ codes "merge" → ReplacesOut F.tells F.holds F.real F.in_place F.may_leave F.moment F.left_since (found_of words.now) files.old files.new
@@ -209,6 +248,8 @@ fn obey<F: Files, O: Sink>(
     ensures forgetting { name.now ≡ codes "forget" → ReplacesOut F.tells F.holds F.real F.in_place F.may_leave F.moment F.left_since (found_of words.now) files.old files.new
         (MayForgetAsked (λ path. F.holds files.old (F.real files.old path)) (⟦<AnySource<F::Input, F::Image> as Source>⟧.remaining) (F.real files.old) (found_of words.now)) }
     ensures imaging { name.now ≡ codes "image" → ReplacesPair F.tells F.holds F.real F.may_leave F.moment F.left_since (⟦<AnySource<F::Input, F::Image> as Source>⟧.remaining) (found_of words.now) files.old files.new }
+    ensures paging { name.now ≡ codes "page" → ReplacesPage F.tells F.holds F.real F.in_place F.may_leave F.moment F.left_since (found_of words.now) files.old files.new
+        (MayPageAsked (λ path. F.holds files.old (F.real files.old path)) (⟦<AnySource<F::Input, F::Image> as Source>⟧.remaining) (F.real files.old) (found_of words.now)) }
     ensures extracting { name.now ≡ codes "extract" → ExtractSpares F.tells F.holds F.may_leave F.moment F.left_since (found_of words.now) files.old files.new }
 {
     match name {
@@ -229,7 +270,18 @@ fn obey<F: Files, O: Sink>(
         }),
         "list" => Some(list_words(alloc, words, files, out)),
         "summary" => Some(summary_words(alloc, words, files, out)),
+        "page" => Some(page_words(alloc, words, files)),
         _ => None,
+    }
+}
+
+/// Says how much is to be told on standard error.
+fn set_tone<F: Files>(words: &ArgMatches<'_>, files: &F) {
+    if words.get_flag(VERBOSE) {
+        files.speak();
+    }
+    if words.get_flag(QUIET) {
+        files.hush();
     }
 }
 
@@ -238,6 +290,7 @@ fn finish<F: Files, E: Sink>(
     alloc: Global,
     outcome: Result<bool, Refusal>,
     words: &ArgMatches<'_>,
+    line: &[String],
     files: &F,
     err: &mut E,
 ) -> u8
@@ -249,6 +302,7 @@ fn finish<F: Files, E: Sink>(
     match outcome {
         Ok(true) => 0,
         Ok(false) => 1,
+        Err(Refusal::NoLast) => ask_for_last(alloc, line, err),
         Err(refusal) => {
             let status = refuse(alloc, &refusal, err);
             explain(alloc, &refusal, words, files, err);
@@ -292,19 +346,48 @@ fn show<O: Sink, E: Sink>(alloc: Global, error: &Error, out: &mut O, err: &mut E
     ensures silent { result ≡ 0 → err.new ≡ err.old }
     ensures memory { kind_of error.now ≡ ErrorKind.OutOfMemory → result ≡ 2 }
 {
-    if error.kind() == ErrorKind::OutOfMemory {
-        return refuse(alloc, &Refusal::Memory(AllocError), err);
+    if error.use_stderr() || error.kind() == ErrorKind::OutOfMemory {
+        return show_fault(alloc, error, err);
     }
     let Ok(text) = format!(in alloc; "{error}") else {
         return refuse(alloc, &Refusal::Memory(AllocError), err);
     };
-    if error.use_stderr() {
-        let _ = send(text.as_bytes(), err);
-        return 2;
-    }
     match send(text.as_bytes(), out) {
         (_, Ok(())) => 0,
         (_, Err(DeviceFault)) => refuse(alloc, &Refusal::Output, err),
+    }
+}
+
+/// Shows clap's text of a fault of the words, and answers the status.
+fn show_fault<E: Sink>(alloc: Global, error: &Error, err: &mut E) -> u8
+    ensures { result ≡ 2 }
+{
+    if error.kind() == ErrorKind::OutOfMemory {
+        return refuse(alloc, &Refusal::Memory(AllocError), err);
+    }
+    match format!(in alloc; "{error}") {
+        Ok(text) => {
+            let _ = send(text.as_bytes(), err);
+            2
+        }
+        Err(AllocError) => refuse(alloc, &Refusal::Memory(AllocError), err),
+    }
+}
+
+/// Says, as clap does where nothing could tell it, that the last block has to be given, and answers the status.
+fn ask_for_last<E: Sink>(alloc: Global, line: &[String], err: &mut E) -> u8
+    ensures { result ≡ 2 }
+{
+    let mut given = given_in(line);
+    given.needs_last = true;
+    let command = match grammar(alloc, given) {
+        Ok(command) => command,
+        Err(AllocError) => return refuse(alloc, &Refusal::Memory(AllocError), err),
+    };
+    match command.try_get_matches_from(line) {
+        Err(error) => show_fault(alloc, &error, err),
+        // The grammar asks for it.
+        Ok(_) => refuse(alloc, &Refusal::NoLast, err),
     }
 }
 
@@ -313,6 +396,19 @@ fn tell<E: Sink>(alloc: Global, fault: EndFault<'_>, err: &mut E) -> u8
     ensures { result ≡ 2 }
 {
     let _ = match format!(in alloc; "error: {fault}\n\nFor more information, try '--help'.\n") {
+        Ok(text) => send(text.as_bytes(), err),
+        Err(AllocError) => send(NO_MEMORY, err),
+    };
+    2
+}
+
+/// Says in clap's form that these rules are none, and answers the status.
+fn tell_profile<E: Sink>(alloc: Global, name: &str, err: &mut E) -> u8
+    ensures { result ≡ 2 }
+{
+    let _ = match format!(in alloc;
+        "error: invalid value '{name}' for '--profile <PROFILE>'\n  [possible values: strict, wide]\n\nFor more information, try '--help'.\n"
+    ) {
         Ok(text) => send(text.as_bytes(), err),
         Err(AllocError) => send(NO_MEMORY, err),
     };

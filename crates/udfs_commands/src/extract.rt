@@ -1,20 +1,22 @@
 //! The command `extract`: readings in, the files of their volume out into a new folder.
 
-ghost use Rattle.std.specs.Prelude.{◌≡◌, ◌≢◌, ◌<◌, ◌⊎◌, ◌++◌, ℕ, Bool, true, false, List, [], Some, IfOk, IfErr, OnErr, length, slice_get, drop, None, Option, string_bytes, if◌then◌else◌};
+ghost use Rattle.std.specs.Prelude.{◌≡◌, ◌≢◌, ◌<◌, ◌⊎◌, ◌++◌, ℕ, Bool, true, false, List, [], Some, IfOk, IfErr, OnErr, length, slice_get, drop, None, Option, map, string_bytes, if◌then◌else◌};
 ghost use Rattle.std.specs.Io.KnownBytes.{Appends};
 ghost use Rattle.udfs_file.specs.declared.cells.Cell.{Cell};
 ghost use Rattle.udfs_files.specs.Disk.{Disk, Same, SameBut, Goes, Fails};
 ghost use Rattle.udfs_lattice.specs.Tables.{state_of};
+ghost use Rattle.udfs_volume.specs.declared.profiles.Profile.{Profile};
 ghost use Rattle.udfs_walk.specs.NodeFields.{NodeFields};
 ghost use Rattle.udfs_salvage.specs.declared.extraction.ExtractError.TheVariants as extract_error;
-ghost use Rattle.udfs_salvage.specs.Extraction.{HasCellsIn, fill_byte, filled, is_offered};
+ghost use Rattle.udfs_salvage.specs.Extraction.{HasCellsInBy, fill_byte, filled, is_offered};
 ghost use Rattle.udfs_salvage.specs.NodeTexts.{names_text};
-ghost use Rattle.udfs_salvage.specs.Reports.{IsReport, report_now};
+ghost use Rattle.udfs_salvage.specs.Reports.{IsReportBy, report_now};
 ghost use Rattle.udfs_salvage.specs.Texts.{line};
-ghost use Rattle.udfs_commands.specs.Extracting.{ExtractsAll, IsFateOf, IsIn, IsPut, Puts, PutsReport, Spares, Stay, TellsOn, all_good, deed, fate_line, is_good, path_below};
+ghost use Rattle.udfs_commands.specs.Extracting.{ExtractsChosen, IsDone, IsElsewhere, IsFateOf, IsIn, IsPut, Puts, PutsOf, Spares, Stay, TellsOn, all_good, deed, fate_line, is_good, path_below};
 ghost use Rattle.udfs_commands.specs.Keeping.{IsKept, OfPaths};
 ghost use Rattle.udfs_commands.specs.declared.sources.AnySource.{AnySource};
 
+use crate::choosing::{all_are_nodes, chosen_are_whole, is_above, is_chosen};
 use crate::files::Files;
 use crate::inputs::joined;
 use crate::refusal::Refusal;
@@ -24,9 +26,10 @@ use udfs_file::Kind;
 use udfs_files::{Job, Stage, fill_by};
 use udfs_reading::{DeviceFault, Sink, Source, WriteFault, write_all};
 use udfs_salvage::{
-    ExtractError, Fill, Report, Volume, all_whole, extract as write_bytes, is_offered, push_names,
-    salvage, write_volume,
+    ExtractError, Fill, Report, Volume, extract_by as write_bytes, is_offered, push_names,
+    salvage_by, write_volume,
 };
+use udfs_volume::Profile;
 use udfs_walk::{Node, Path, Standing};
 
 /// What is done with a node.
@@ -74,6 +77,8 @@ pub enum Fate {
     Left,
     /// Nothing is made for it.
     Skipped,
+    /// It is not asked for.
+    Passed,
 }
 
 /// The path of a node in a folder: the folder's, and each name in its escaped form behind a `/`. An escaped name has no
@@ -111,7 +116,7 @@ fn tell<O: Sink>(
         return Ok(false);
     }
     let line = match fate {
-        Fate::Made => return Ok(true),
+        Fate::Made | Fate::Passed => return Ok(true),
         Fate::Written => line_of(alloc, "written ", names)?,
         Fate::Failed | Fate::Left => line_of(alloc, "failed ", names)?,
         Fate::Skipped => line_of(alloc, "skipped ", names)?,
@@ -142,12 +147,12 @@ struct NodeBytes<'a, 'r> {
 impl<'a, 'r> Job for NodeBytes<'a, 'r> {
     type Refusal = ExtractError;
 
-    ghost wrote = { λ job old new. (last : ℕ) (n : NodeFields) → (job.index < length job.report.now.nodes.items) →
-        IsReport (state_of job.report.now.table.now) last (report_now job.report.now) → slice_get job.report.now.nodes.items job.index ≡ Some n → is_offered n.standing n.size job.fill ≡ true →
-        (cs : List Cell) × HasCellsIn (state_of job.report.now.table.now) last job.index cs × Appends old new (filled (fill_byte job.fill) cs) };
+    ghost wrote = { λ job old new. (profile : Profile) (last : ℕ) (n : NodeFields) → (job.index < length job.report.now.nodes.items) →
+        IsReportBy profile (state_of job.report.now.table.now) last (report_now job.report.now) → slice_get job.report.now.nodes.items job.index ≡ Some n → is_offered n.standing n.size job.fill ≡ true →
+        (cs : List Cell) × HasCellsInBy profile (state_of job.report.now.table.now) last job.index cs × Appends old new (filled (fill_byte job.fill) cs) };
 
-    ghost blames_sink = { λ job refusal. (refusal ≢ extract_error.OutOfMemory) × (job.index < length job.report.now.nodes.items) × (last : ℕ) × (n : NodeFields) ×
-        IsReport (state_of job.report.now.table.now) last (report_now job.report.now) × (slice_get job.report.now.nodes.items job.index ≡ Some n) × (is_offered n.standing n.size job.fill ≡ true) };
+    ghost blames_sink = { λ job refusal. (refusal ≢ extract_error.OutOfMemory) × (job.index < length job.report.now.nodes.items) × (profile : Profile) × (last : ℕ) × (n : NodeFields) ×
+        IsReportBy profile (state_of job.report.now.table.now) last (report_now job.report.now) × (slice_get job.report.now.nodes.items job.index ≡ Some n) × (is_offered n.standing n.size job.fill ≡ true) };
 
     fn write_to<W: Sink>(&self, sink: &mut W) -> Result<(), ExtractError> {
         if self.index >= self.report.nodes.len() {
@@ -205,13 +210,13 @@ fn fill_file<F: Files>(
     requires place { F.tells → F.Output.place output ≡ path.now }
     requires empty { F.tells → F.Output.contents output ≡ Some [] }
     requires open { F.holds files.old path.now ≡ None }
-    ensures written { IfOk result (λ fate. fate ≡ Fate.Written → F.tells → (last : ℕ) (n : NodeFields) →
-        IsReport (state_of report.now.table.now) last (report_now report.now) → slice_get report.now.nodes.items index ≡ Some n → is_offered n.standing n.size fill ≡ true →
-        (cs : List Cell) × HasCellsIn (state_of report.now.table.now) last index cs × IsKept (F.holds files.new) (F.may_leave files.new) path.now (filled (fill_byte fill) cs)) }
+    ensures written { IfOk result (λ fate. fate ≡ Fate.Written → F.tells → (profile : Profile) (last : ℕ) (n : NodeFields) →
+        IsReportBy profile (state_of report.now.table.now) last (report_now report.now) → slice_get report.now.nodes.items index ≡ Some n → is_offered n.standing n.size fill ≡ true →
+        (cs : List Cell) × HasCellsInBy profile (state_of report.now.table.now) last index cs × IsKept (F.holds files.new) (F.may_leave files.new) path.now (filled (fill_byte fill) cs)) }
     ensures gone { IfOk result (λ fate. fate ≡ Fate.Failed → F.tells → F.holds files.new path.now ≡ Some None) }
     ensures fate { IfOk result (λ fate. IsFateOf Deed.File fate) }
-    ensures cause { IfOk result (λ fate. fate ≢ Fate.Written → (last : ℕ) (n : NodeFields) →
-        IsReport (state_of report.now.table.now) last (report_now report.now) → slice_get report.now.nodes.items index ≡ Some n → is_offered n.standing n.size fill ≡ true → Fails F.faults ⊎ Fails F.Output.faults) }
+    ensures cause { IfOk result (λ fate. fate ≢ Fate.Written → (profile : Profile) (last : ℕ) (n : NodeFields) →
+        IsReportBy profile (state_of report.now.table.now) last (report_now report.now) → slice_get report.now.nodes.items index ≡ Some n → is_offered n.standing n.size fill ≡ true → Fails F.faults ⊎ Fails F.Output.faults) }
     ensures others { (q : List ℕ) → q ≢ path.now → F.holds files.new q ≡ F.holds files.old q }
     ensures crash { Goes F.moment F.may_leave F.left_since files.old files.new (SameBut path.now) }
 {
@@ -242,13 +247,13 @@ fn write_file<F: Files>(
     files: &mut F,
 ) -> Result<Fate, AllocError>
     requires { index < length report.now.nodes.items }
-    ensures written { IfOk result (λ fate. fate ≡ Fate.Written → F.tells → (last : ℕ) (n : NodeFields) →
-        IsReport (state_of report.now.table.now) last (report_now report.now) → slice_get report.now.nodes.items index ≡ Some n → is_offered n.standing n.size fill ≡ true →
-        (cs : List Cell) × HasCellsIn (state_of report.now.table.now) last index cs × IsKept (F.holds files.new) (F.may_leave files.new) path.now (filled (fill_byte fill) cs)) }
+    ensures written { IfOk result (λ fate. fate ≡ Fate.Written → F.tells → (profile : Profile) (last : ℕ) (n : NodeFields) →
+        IsReportBy profile (state_of report.now.table.now) last (report_now report.now) → slice_get report.now.nodes.items index ≡ Some n → is_offered n.standing n.size fill ≡ true →
+        (cs : List Cell) × HasCellsInBy profile (state_of report.now.table.now) last index cs × IsKept (F.holds files.new) (F.may_leave files.new) path.now (filled (fill_byte fill) cs)) }
     ensures gone { IfOk result (λ fate. fate ≡ Fate.Failed → F.tells → F.holds files.new path.now ≡ F.holds files.old path.now) }
     ensures fate { IfOk result (λ fate. IsFateOf Deed.File fate) }
-    ensures cause { IfOk result (λ fate. fate ≢ Fate.Written → (last : ℕ) (n : NodeFields) →
-        IsReport (state_of report.now.table.now) last (report_now report.now) → slice_get report.now.nodes.items index ≡ Some n → is_offered n.standing n.size fill ≡ true → Fails F.faults ⊎ Fails F.Output.faults) }
+    ensures cause { IfOk result (λ fate. fate ≢ Fate.Written → (profile : Profile) (last : ℕ) (n : NodeFields) →
+        IsReportBy profile (state_of report.now.table.now) last (report_now report.now) → slice_get report.now.nodes.items index ≡ Some n → is_offered n.standing n.size fill ≡ true → Fails F.faults ⊎ Fails F.Output.faults) }
     ensures others { (q : List ℕ) → q ≢ path.now → F.holds files.new q ≡ F.holds files.old q }
     ensures there { F.tells → F.holds files.old path.now ≢ Some None → F.holds files.new path.now ≡ F.holds files.old path.now }
     ensures stays { F.tells → F.holds files.old path.now ≢ Some None → Goes F.moment F.may_leave F.left_since files.old files.new Same }
@@ -317,12 +322,64 @@ fn put_node<F: Files>(
         IsPut F.tells (Fails F.faults ⊎ Fails F.Output.faults) report.now.table.now (report_now report.now) fill folder.now (F.holds files.new) (F.moment files.new) (F.left_since files.new) index n fate) }
     ensures stays { F.tells → Stay (F.holds files.old) (F.holds files.new) }
     ensures outside { (q : List ℕ) → (¬ IsIn folder.now q) → F.holds files.new q ≡ F.holds files.old q }
+    ensures elsewhere { (q : List ℕ) → ((n : NodeFields) → slice_get report.now.nodes.items index ≡ Some n → q ≢ path_below folder.now n.path) → F.holds files.new q ≡ F.holds files.old q }
     ensures crash { F.tells → Goes F.moment F.may_leave F.left_since files.old files.new (Spares folder.now (F.holds files.old)) }
 {
     let node = node_at(report, index);
     let path = path_in(alloc, folder, &node.path)?;
     let fate = put_at(alloc, report, index, fill, path.as_str(), files)?;
     Ok(fate)
+}
+
+/// Makes the folder of the node of this index, if it is one. Whether it could be made is seen by what is put into it.
+fn put_way<F: Files>(
+    alloc: Global,
+    report: &Report<'_>,
+    index: usize,
+    folder: &str,
+    files: &mut F,
+) -> Result<(), AllocError>
+    requires { index < length report.now.nodes.items }
+    ensures others { (q : List ℕ) → F.holds files.new q ≡ F.holds files.old q }
+    ensures crash { Goes F.moment F.may_leave F.left_since files.old files.new Same }
+{
+    let node = node_at(report, index);
+    if deed_for(node, Fill::Refuse) == Deed::Folder {
+        let path = path_in(alloc, folder, &node.path)?;
+        let _ = put_folder(path.as_str(), files);
+    }
+    Ok(())
+}
+
+/// Does what is to be done with the node of this index, if it is asked for. If not, it is passed over, but for the folder that leads to one that is.
+fn put_chosen<F: Files>(
+    alloc: Global,
+    report: &Report<'_>,
+    index: usize,
+    only: &[&str],
+    fill: Fill,
+    folder: &str,
+    files: &mut F,
+) -> Result<Fate, AllocError>
+    requires { index < length report.now.nodes.items }
+    ensures put { IfOk result (λ fate. (n : NodeFields) → slice_get report.now.nodes.items index ≡ Some n → IsDone (map (λ word. word.now) only.now)
+        (IsPut F.tells (Fails F.faults ⊎ Fails F.Output.faults) report.now.table.now (report_now report.now) fill folder.now (F.holds files.new) (F.moment files.new) (F.left_since files.new)) index n fate) }
+    ensures stays { F.tells → Stay (F.holds files.old) (F.holds files.new) }
+    ensures outside { (q : List ℕ) → (¬ IsIn folder.now q) → F.holds files.new q ≡ F.holds files.old q }
+    ensures elsewhere { (q : List ℕ) → IsElsewhere (map (λ word. word.now) only.now) report.now.nodes.items folder.now q → F.holds files.new q ≡ F.holds files.old q }
+    ensures crash { F.tells → Goes F.moment F.may_leave F.left_since files.old files.new (Spares folder.now (F.holds files.old)) }
+{
+    let node = node_at(report, index);
+    if is_chosen(alloc, only, &node.path)? {
+        return match put_node(alloc, report, index, fill, folder, files) {
+            Ok(fate) => Ok(fate),
+            Err(AllocError) => Err(AllocError),
+        };
+    }
+    if is_above(alloc, only, &node.path)? {
+        put_way(alloc, report, index, folder, files)?;
+    }
+    Ok(Fate::Passed)
 }
 
 /// What became of the nodes of a volume.
@@ -339,7 +396,7 @@ fn still_good(good: bool, fate: Fate) -> bool
     ensures { result ≡ (if is_good fate then good else false) }
 {
     match fate {
-        Fate::Made | Fate::Written | Fate::Skipped => good,
+        Fate::Made | Fate::Written | Fate::Skipped | Fate::Passed => good,
         Fate::Failed | Fate::Left => false,
     }
 }
@@ -348,23 +405,25 @@ fn still_good(good: bool, fate: Fate) -> bool
 fn put_nodes<F: Files, O: Sink>(
     alloc: Global,
     report: &Report<'_>,
+    only: &[&str],
     fill: Fill,
     folder: &str,
     files: &mut F,
     out: &mut O,
 ) -> Result<Told, AllocError>
-    ensures put { (heard : Bool) × (fates : List Fate) × Puts
-        (IsPut F.tells (Fails F.faults ⊎ Fails F.Output.faults) report.now.table.now (report_now report.now) fill folder.now (F.holds files.new) (F.moment files.new) (F.left_since files.new))
+    ensures put { (heard : Bool) × (fates : List Fate) × Puts (IsDone (map (λ word. word.now) only.now)
+        (IsPut F.tells (Fails F.faults ⊎ Fails F.Output.faults) report.now.table.now (report_now report.now) fill folder.now (F.holds files.new) (F.moment files.new) (F.left_since files.new)))
         report.now.nodes.items (O.contents out.old) (O.contents out.new) (O.faults out.old) (O.faults out.new) heard fates ×
         IfOk result (λ told. (length fates ≡ length (drop 1 report.now.nodes.items)) × (told.heard ≡ heard) × (told.good ≡ all_good fates)) }
     ensures stays { F.tells → Stay (F.holds files.old) (F.holds files.new) }
     ensures outside { (q : List ℕ) → (¬ IsIn folder.now q) → F.holds files.new q ≡ F.holds files.old q }
+    ensures elsewhere { (q : List ℕ) → IsElsewhere (map (λ word. word.now) only.now) report.now.nodes.items folder.now q → F.holds files.new q ≡ F.holds files.old q }
     ensures crash { F.tells → Goes F.moment F.may_leave F.left_since files.old files.new (Spares folder.now (F.holds files.old)) }
 {
     let mut good = true;
     let mut heard = true;
     for index in 1..report.nodes.len() {
-        let fate = put_node(alloc, report, index, fill, folder, files)?;
+        let fate = put_chosen(alloc, report, index, only, fill, folder, files)?;
         let node = node_at(report, index);
         good = still_good(good, fate);
         heard = tell(alloc, heard, fate, &node.path, out)?;
@@ -372,33 +431,41 @@ fn put_nodes<F: Files, O: Sink>(
     Ok(Told { good, heard })
 }
 
-/// Makes the folder and what the report has for it; where the volume does not open, it makes nothing, and prints the line of the volume.
-/// It answers whether all nodes are whole and nothing failed.
+/// Makes the folder and what the report has for it, as far as it is asked for; where the volume does not open, it makes nothing, and prints the line of the
+/// volume. It answers whether all nodes that are asked for are whole and nothing failed.
 fn put_report<F: Files, O: Sink>(
     alloc: Global,
     report: &Report<'_>,
+    only: &[&str],
     fill: Fill,
     folder: &str,
     files: &mut F,
     out: &mut O,
 ) -> Result<bool, Refusal>
-    ensures put { IfOk result (λ good. PutsReport
+    ensures put { IfOk result (λ good. PutsOf (map (λ word. word.now) only.now)
         (λ told. IsPut F.tells (Fails F.faults ⊎ Fails F.Output.faults) report.now.table.now told fill folder.now (F.holds files.new) (F.moment files.new) (F.left_since files.new))
         files.old files.new (report_now report.now) (O.contents out.old) (O.contents out.new) (O.faults out.old) (O.faults out.new) good) }
+    ensures no_node { IfErr result (λ refusal. (i : ℕ) → refusal ≡ Refusal.NoNode i → files.new ≡ files.old) }
     ensures stays { F.tells → Stay (F.holds files.old) (F.holds files.new) }
     ensures outside { (q : List ℕ) → (¬ IsIn folder.now q) → F.holds files.new q ≡ F.holds files.old q }
+    ensures elsewhere { (q : List ℕ) → IsElsewhere (map (λ word. word.now) only.now) report.now.nodes.items folder.now q → F.holds files.new q ≡ F.holds files.old q }
     ensures crash { F.tells → Goes F.moment F.may_leave F.left_since files.old files.new (Spares folder.now (F.holds files.old)) }
 {
     match &report.volume {
         Volume::Open(_) => {
+            all_are_nodes(alloc, only, &report.nodes)?;
+            let whole = chosen_are_whole(alloc, only, &report.nodes)?;
             if put_folder(folder, files) != Fate::Made {
                 return Err(Refusal::Folder);
             }
-            let told = put_nodes(alloc, report, fill, folder, files, out)?;
+            let told = match put_nodes(alloc, report, only, fill, folder, files, out) {
+                Ok(told) => told,
+                Err(AllocError) => return Err(Refusal::Memory(AllocError)),
+            };
             if !told.heard {
                 return Err(Refusal::Output);
             }
-            Ok(told.good && all_whole(&report.nodes))
+            Ok(told.good && whole)
         }
         _ => {
             write_volume(report, out)?;
@@ -407,21 +474,26 @@ fn put_report<F: Files, O: Sink>(
     }
 }
 
-/// Joins the inputs, and writes the files of the volume of which `last` is the last block into a folder that is not there
-/// yet. It answers whether all nodes are whole and nothing failed. All inputs are opened in order before one is read.
+/// Joins the inputs, and writes the files of the volume by the rules of a profile, where `last` is its last block, into a folder that is not there yet: of the nodes that `only` asks
+/// for, by their paths as the report prints them, where `/` asks for all. The folders that lead to them are made. It answers whether all of these nodes are
+/// whole and nothing failed. All inputs are opened in order before one is read.
 pub fn extract<F: Files, O: Sink>(
     alloc: Global,
     inputs: &[InputPath<'_>],
     last: u32,
+    profile: Profile,
+    only: &[&str],
     fill: Fill,
     folder: &str,
     files: &mut F,
     out: &mut O,
 ) -> Result<bool, Refusal>
-    // At `Ok` each node behind the root has its line, and each file that is told as written is there, whole, and each crash since then leaves it.
-    ensures extracted { IfOk result (λ good. OfPaths (λ path. F.holds files.old (F.real files.old path)) (⟦<AnySource<F::Input, F::Image> as Source>⟧.remaining) inputs.now
-        (ExtractsAll (λ table told. IsPut F.tells (Fails F.faults ⊎ Fails F.Output.faults) table told fill folder.now (F.holds files.new) (F.moment files.new) (F.left_since files.new))
-        files.old files.new last (O.contents out.old) (O.contents out.new) (O.faults out.old) (O.faults out.new) good)) }
+    // At `Ok` each node behind the root that is asked for has its line, and each file that is told as written is there, whole, and each crash since then leaves it. No path changes but theirs.
+    ensures chosen { IfOk result (λ good. OfPaths (λ path. F.holds files.old (F.real files.old path)) (⟦<AnySource<F::Input, F::Image> as Source>⟧.remaining) inputs.now
+        (ExtractsChosen (map (λ word. word.now) only.now) (λ table told. IsPut F.tells (Fails F.faults ⊎ Fails F.Output.faults) table told fill folder.now (F.holds files.new) (F.moment files.new) (F.left_since files.new))
+        F.holds folder.now files.old files.new profile last (O.contents out.old) (O.contents out.new) (O.faults out.old) (O.faults out.new) good)) }
+    // A path that is no node's is refused before anything is made.
+    ensures no_node { IfErr result (λ refusal. (i : ℕ) → refusal ≡ Refusal.NoNode i → files.new ≡ files.old) }
     // Whatever the answer, no file that was there is changed, and nothing outside of the folder; nor by a crash at any moment.
     ensures stays { F.tells → Stay (F.holds files.old) (F.holds files.new) }
     ensures outside { (q : List ℕ) → (¬ IsIn folder.now q) → F.holds files.new q ≡ F.holds files.old q }
@@ -429,8 +501,8 @@ pub fn extract<F: Files, O: Sink>(
 {
     let table = joined(alloc, inputs, files)?;
     files.begin(Stage::Walking);
-    let report = salvage(alloc, &table, last)?;
+    let report = salvage_by(alloc, &table, last, profile)?;
     files.begin(Stage::Writing);
-    let good = put_report(alloc, &report, fill, folder, files, out)?;
+    let good = put_report(alloc, &report, only, fill, folder, files, out)?;
     Ok(good)
 }

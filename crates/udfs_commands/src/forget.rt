@@ -4,12 +4,14 @@ ghost use Rattle.std.specs.Prelude.{◌≡◌, ◌≢◌, ◌⊎◌, ◌++◌, �
 ghost use Rattle.udfs_files.specs.Disk.{Disk, After, Fails, IsOwn};
 ghost use Rattle.udfs_lattice.specs.Tables.{Table};
 ghost use Rattle.udfs_lattice.specs.Records.{join_all};
-ghost use Rattle.udfs_commands.specs.Forgetting.{HasList, Lists, Forgets, IsForgottenJoin, MayForget, list_path};
+ghost use Rattle.udfs_commands.specs.Asking.{stream_path};
+ghost use Rattle.udfs_commands.specs.Forgetting.{HasList, Lists, Forgets, IsForgottenJoin, MayForget};
 ghost use Rattle.udfs_commands.specs.Keeping.{Joined, IsKept, IsTaken};
 ghost use Rattle.udfs_commands.specs.Spelling.{table_file};
 ghost use Rattle.udfs_commands.specs.declared.merge.Version.{Version};
 ghost use Rattle.udfs_commands.specs.declared.sources.AnySource.{AnySource};
 
+use crate::asking::stream_path;
 use crate::files::Files;
 use crate::inputs::joined;
 use crate::merge::{TableFile, Version};
@@ -21,19 +23,12 @@ use udfs_lattice::BlockTable;
 use udfs_reading::Source;
 use udfs_rescue::{BlockList, ListError};
 
-/// The path of a list: `-` is standard input.
-fn list_path(path: &str) -> &str
-    ensures { result.now ≡ list_path path.now }
-{
-    if path == "-" { "/dev/stdin" } else { path }
-}
-
 /// Reads the list at a path.
 fn read_list<F: Files>(alloc: Global, path: &str, files: &F) -> Result<BlockList, Refusal>
-    ensures listed { IfOk result (λ list. HasList (F.holds files.now (F.real files.now (list_path path.now))) list) }
+    ensures listed { IfOk result (λ list. HasList (F.holds files.now (F.real files.now (stream_path path.now))) list) }
     ensures told { IfErr result (λ refusal. (refusal ≢ Refusal.Output) × (refusal ≢ Refusal.Unkept) × (refusal ≢ Refusal.Spared)) }
 {
-    let Ok(mut source) = files.open(list_path(path)) else {
+    let Ok(mut source) = files.open(stream_path(path)) else {
         return Err(Refusal::ListOpen);
     };
     match BlockList::read(alloc, &mut source) {

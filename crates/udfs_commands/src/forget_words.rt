@@ -3,14 +3,14 @@
 ghost use Rattle.std.specs.Prelude.{◌≡◌, ◌≢◌, ◌⊎◌, ℕ, List, Bool, true, false, IfErr, IsErrOf, OnOk, codes};
 ghost use Rattle.clap.specs.Matches.{found_of};
 ghost use Rattle.udfs_files.specs.Disk.{After, Disk, IsOwn};
-ghost use Rattle.udfs_commands.specs.Asking.{IsPicked, asked_inputs, input_texts, out_text, pair_texts};
+ghost use Rattle.udfs_commands.specs.Asking.{IsPicked, asked_streams, input_texts, out_text, pair_texts};
 ghost use Rattle.udfs_commands.specs.Forgetting.{PutsForgotten};
 ghost use Rattle.udfs_commands.specs.Guarding.{IsFree, IsSpared};
 ghost use Rattle.udfs_commands.specs.Keeping.{IsKept, IsTaken};
 ghost use Rattle.udfs_commands.specs.declared.sources.AnySource.{AnySource};
 ghost use Rattle.udfs_commands.specs.Leaving.{MayForgetAsked};
 
-use crate::asking::{asked_conflicts, asked_force, asked_inputs, asked_out};
+use crate::asking::{asked_conflicts, asked_force, asked_out, asked_streams};
 use crate::files::Files;
 use crate::forget::forget;
 use crate::guard::Outlook;
@@ -45,7 +45,7 @@ pub fn forget_words<F: Files>(
     ensures spared { IsErrOf result Refusal.Spared → (force : Bool) × IsPicked (found_of words.now) (codes "force") true false force ×
         (F.tells → IsSpared (F.holds files.old) (F.real files.old) (input_texts (found_of words.now)) (pair_texts (found_of words.now)) force (out_text (found_of words.now))) }
 {
-    let Ok(inputs) = asked_inputs(alloc, words) else {
+    let Ok(inputs) = asked_streams(alloc, words) else {
         return Err(Refusal::Memory(AllocError));
     };
     let force = asked_force(words);

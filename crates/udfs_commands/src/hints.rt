@@ -5,7 +5,7 @@ use crate::files::Files;
 use crate::last::asked_last;
 use crate::refusal::Refusal;
 use crate::sources::InputPath;
-use crate::words::{MAPFILE, OUT, TO};
+use crate::words::{MAPFILE, ONLY, OUT, TO};
 use clap::ArgMatches;
 use std::alloc::{AllocError, Global};
 use std::fmt;
@@ -276,9 +276,25 @@ fn of_output(
     words: &ArgMatches<'_>,
     reason: Option<Error>,
 ) -> Result<Option<String>, AllocError> {
-    match asked_output(words) {
-        Some(out) => Ok(Some(format!(in alloc; "{}: {}", Shown(out), Said(reason))?)),
-        None => Ok(None),
+    let Some(out) = asked_output(words) else {
+        return Ok(None);
+    };
+    let mut line = format!(in alloc; "{}: {}", Shown(out), Said(reason))?;
+    if is_there(reason) {
+        let more = format!(in alloc;
+            "; new files that ended runs left can be removed: {}.unfinished, and with ~ behind it",
+            Shown(out)
+        )?;
+        line.push_str(more.as_str())?;
+    }
+    Ok(Some(line))
+}
+
+/// Whether the system said that something is there already.
+fn is_there(reason: Option<Error>) -> bool {
+    match reason {
+        Some(error) => error.kind() == ErrorKind::AlreadyExists,
+        None => false,
     }
 }
 
@@ -300,13 +316,28 @@ fn of_folder(
     reason: Option<Error>,
 ) -> Result<Option<String>, AllocError> {
     let folder = Shown(words.get_str(TO).unwrap_or(""));
-    let line = match reason {
-        Some(error) if error.kind() == ErrorKind::AlreadyExists => {
-            format!(in alloc; "{folder} exists already; extract wants a new folder")?
-        }
-        _ => format!(in alloc; "{folder}: {}", Said(reason))?,
+    let line = if is_there(reason) {
+        format!(in alloc; "{folder} exists already; extract wants a new folder")?
+    } else {
+        format!(in alloc; "{folder}: {}", Said(reason))?
     };
     Ok(Some(line))
+}
+
+/// What is said of a path of `--only` that is that of no node.
+fn of_no_node(
+    alloc: Global,
+    words: &ArgMatches<'_>,
+    number: usize,
+) -> Result<Option<String>, AllocError> {
+    let only = words.get_strs(ONLY).unwrap_or(&[]);
+    match only.get(number.saturating_sub(1)) {
+        Some(path) => Ok(Some(format!(in alloc;
+            "{} is none of the paths that report prints at the ends of its node lines",
+            Shown(path)
+        )?)),
+        None => Ok(None),
+    }
 }
 
 /// What is said of a refusal that names no input.
@@ -320,6 +351,7 @@ fn of_other(
         Refusal::Output => return of_output(alloc, words, reason),
         Refusal::Spared => return of_spared(alloc, words),
         Refusal::Folder => return of_folder(alloc, words, reason),
+        Refusal::NoNode(number) => return of_no_node(alloc, words, *number),
         Refusal::ListOpen | Refusal::ListRead => {
             format!(in alloc; "a list of --blocks: {}", Said(reason))?
         }

@@ -7,11 +7,11 @@ ghost use Rattle.udfs_commands.specs.Imaging.{IsFreePair, ReplacesPair, WritesIm
 ghost use Rattle.udfs_commands.specs.Keeping.{IsKept};
 ghost use Rattle.udfs_commands.specs.declared.sources.AnySource.{AnySource};
 
-use crate::asking::asked_inputs;
+use crate::asking::asked_streams;
+use crate::ends::asked_end;
 use crate::files::Files;
 use crate::image::{Outputs, image};
 use crate::inputs::unwritten;
-use crate::last::asked_last;
 use crate::placing::look_at_both;
 use crate::refusal::Refusal;
 use crate::sources::AnySource;
@@ -73,16 +73,18 @@ pub fn image_words<F: Files>(
     // Whatever it answers, and at each moment of it: a crash leaves no mapfile beside an image that lacks what it tells, and no other path changes.
     ensures replaces { ReplacesPair F.tells F.holds F.real F.may_leave F.moment F.left_since (⟦<AnySource<F::Input, F::Image> as Source>⟧.remaining) (found_of words.now) files.old files.new }
 {
-    let Ok(inputs) = asked_inputs(alloc, words) else {
+    let Ok(inputs) = asked_streams(alloc, words) else {
         return Err(Refusal::Memory(AllocError));
     };
+    let paths = inputs.as_slice();
     let outputs = asked_outputs(words);
     match look_at_asked(alloc, words, outputs, files) {
         Ok(()) => {}
-        Err(Refusal::Output) => return Err(unwritten(alloc, inputs.as_slice(), files)),
+        Err(Refusal::Output) => return Err(unwritten(alloc, paths, files)),
         Err(refusal) => return Err(refusal),
     }
-    match image(alloc, inputs.as_slice(), asked_last(words), outputs, files) {
+    let last = asked_end(alloc, words, paths, files)?;
+    match image(alloc, paths, last, outputs, files) {
         Ok(()) => Ok(()),
         Err(refusal) => Err(refusal),
     }

@@ -2,7 +2,7 @@
 
 ghost use Rattle.std.specs.Prelude.{◌≡◌, ◌≢◌, ◌⊎◌, ◌↔◌, ◌+◌, ◌*◌, ◌%◌, IsTrue, None};
 ghost use Rattle.clap.specs.Matches.{found_of};
-ghost use Rattle.udfs_commands.specs.Asking.{IsLast, IsOneEnd};
+ghost use Rattle.udfs_commands.specs.Asking.{IsOneEnd, IsToldLast};
 
 use crate::words::{LAST, SIZE};
 use clap::ArgMatches;
@@ -33,7 +33,7 @@ impl<'a> fmt::Display for EndFault<'a> {
 }
 
 /// Whether some disc of whole blocks has so many bytes.
-fn is_whole(size: u64) -> bool
+pub fn is_whole(size: u64) -> bool
     ensures { IsTrue result ↔ (size ≢ 0) × (size % 2048 ≡ 0) }
 {
     size != 0 && size % 2048 == 0
@@ -57,7 +57,7 @@ pub fn end_fault<'a>(words: &ArgMatches<'a>) -> Option<EndFault<'a>>
 }
 
 /// The block with which a disc of so many bytes ends; 0, of which there is no report, where there is none that a number of 32 bits names.
-fn last_of_size(size: u64) -> u32
+pub fn last_of_size(size: u64) -> u32
     ensures { (size ≡ 2048 * (result + 1)) ⊎ (result ≡ 0) }
 {
     if !is_whole(size) {
@@ -72,7 +72,7 @@ fn last_of_size(size: u64) -> u32
 
 /// The last block among the words, or that of the size among them; 0, of which there is no report, where neither is.
 pub fn asked_last(words: &ArgMatches<'_>) -> u32
-    ensures { IsLast (found_of words.now) result }
+    ensures { IsToldLast (found_of words.now) result }
 {
     if let Some(last) = words.get_one::<u32>(LAST) {
         return last;

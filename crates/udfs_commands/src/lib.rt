@@ -3,7 +3,9 @@
 #![tactic(auto)]
 
 mod asking;
+mod choosing;
 mod command;
+mod ends;
 mod extract;
 mod extract_words;
 mod files;
@@ -18,18 +20,24 @@ mod last;
 mod list;
 mod merge;
 mod merge_words;
+mod page;
+mod page_words;
 mod pairing;
 mod placing;
 mod printing;
+mod profile;
 mod putting;
 mod refusal;
+mod remarks;
 mod report;
 mod report_words;
 mod reread;
 mod reread_map;
 mod reread_words;
 mod sources;
+mod streams;
 mod summary;
 mod words;
 
+pub use choosing::asks_by_names;
 pub use command::{refuse_words, run};

@@ -8,29 +8,33 @@ ghost use Rattle.udfs_commands.specs.declared.sources.AnySource.{AnySource};
 use crate::files::Files;
 use crate::inputs::joined;
 use crate::refusal::Refusal;
+use crate::remarks::remark_on;
 use crate::sources::{AnySource, InputPath};
 use std::alloc::Global;
 use udfs_files::Stage;
 use udfs_overview::{ListForm, write_list};
 use udfs_reading::{Sink, Source};
-use udfs_salvage::survey_volume;
+use udfs_salvage::survey_volume_by;
+use udfs_volume::Profile;
 
-/// Joins the inputs, and prints a line in this form for each node of the volume but its root, of which `last` is the last block. It
-/// answers whether there are files and all of them are whole. All inputs are opened in order before one is read.
+/// Joins the inputs, and prints a line in this form for each node of the volume but its root, by the rules of a profile, where `last` is its last
+/// block. It answers whether there are files and all of them are whole. All inputs are opened in order before one is read.
 pub fn list<F: Files, O: Sink>(
     alloc: Global,
     inputs: &[InputPath<'_>],
     last: u32,
+    profile: Profile,
     form: ListForm,
     files: &F,
     out: &mut O,
 ) -> Result<bool, Refusal>
     ensures printed { IfOk result (λ whole. OfPaths (λ path. F.holds files.now (F.real files.now path)) (⟦<AnySource<F::Input, F::Image> as Source>⟧.remaining) inputs.now
-        (PrintsList form last (O.contents out.old) (O.contents out.new) (O.faults out.old) (O.faults out.new) whole)) }
+        (PrintsList profile form last (O.contents out.old) (O.contents out.new) (O.faults out.old) (O.faults out.new) whole)) }
 {
     let table = joined(alloc, inputs, files)?;
     files.begin(Stage::Walking);
-    let survey = survey_volume(alloc, &table, last)?;
+    let survey = survey_volume_by(alloc, &table, last, profile)?;
     write_list(alloc, &survey, form, out)?;
+    remark_on(alloc, &survey, files);
     Ok(survey.all_whole())
 }

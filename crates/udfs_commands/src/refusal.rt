@@ -40,6 +40,10 @@ pub enum Refusal {
     #[error("cannot write output\n  the new file is in its place, whole, but a power cut may bring the old one back")]
     Unkept,
 
+    /// The last block was not given, and the inputs do not tell it. What is said of it is clap's text of a word that is missing.
+    #[error("the last block was not given")]
+    NoLast,
+
     /// A list of blocks cannot be opened.
     #[error("cannot open list")]
     ListOpen,
@@ -51,6 +55,10 @@ pub enum Refusal {
     /// The device of a list failed.
     #[error("cannot read list")]
     ListRead,
+
+    /// The path of `--only` with this number, counted from 1, is that of no node. Nothing was made.
+    #[error("--only {0} is no node")]
+    NoNode(usize),
 
     /// The new folder cannot be made.
     #[error("cannot make the folder")]

@@ -2,8 +2,9 @@
 
 ghost use Rattle.std.specs.Prelude.{◌≡◌, ℕ, List, IfOk, codes, map};
 ghost use Rattle.clap.specs.Matches.{found_of};
-ghost use Rattle.udfs_commands.specs.Asking.{IsLast, IsPicked, asked_for, asked_inputs};
-ghost use Rattle.udfs_commands.specs.JsonRuns.{PrintsAs};
+ghost use Rattle.udfs_volume.specs.declared.profiles.Profile.{Profile};
+ghost use Rattle.udfs_commands.specs.Asking.{IsLast, IsPicked, IsProfile, asked_for, asked_inputs, asked_streams};
+ghost use Rattle.udfs_commands.specs.Reporting.{PrintsAs};
 ghost use Rattle.udfs_commands.specs.Keeping.{OfPaths};
 ghost use Rattle.udfs_commands.specs.declared.sources.AnySource.{AnySource};
 ghost use Rattle.udfs_commands.specs.declared.sources.InputPath.{InputPath};
@@ -12,10 +13,11 @@ ghost use Rattle.udfs_commands.specs.Summarizing.{PrintsSummary};
 ghost use Rattle.udfs_overview.specs.declared.node_list.ListForm.{ListForm};
 ghost use Rattle.udfs_commands.specs.declared.report.Form.{Form};
 
-use crate::asking::{asked_form, asked_inputs, asked_list_form};
+use crate::asking::{asked_form, asked_inputs, asked_list_form, asked_streams};
+use crate::ends::asked_end;
 use crate::files::Files;
-use crate::last::asked_last;
 use crate::list::list;
+use crate::profile::asked_profile;
 use crate::refusal::Refusal;
 use crate::report::report_as;
 use crate::sources::AnySource;
@@ -31,14 +33,16 @@ pub fn report_words<F: Files, O: Sink>(
     files: &F,
     out: &mut O,
 ) -> Result<bool, Refusal>
-    ensures printed { IfOk result (λ whole. (form : Form) × (last : ℕ) × (inputs : List InputPath) × (map asked_for inputs ≡ asked_inputs (found_of words.now)) ×
-        IsPicked (found_of words.now) (codes "json") Form.Json Form.Text form × IsLast (found_of words.now) last ×
-        OfPaths (λ path. F.holds files.now (F.real files.now path)) (⟦<AnySource<F::Input, F::Image> as Source>⟧.remaining) inputs (PrintsAs form last (O.contents out.old) (O.contents out.new) (O.faults out.old) (O.faults out.new) whole)) }
+    ensures printed { IfOk result (λ whole. (form : Form) × (last : ℕ) × (profile : Profile) × (inputs : List InputPath) × (map asked_for inputs ≡ asked_inputs (found_of words.now)) ×
+        IsPicked (found_of words.now) (codes "json") Form.Json Form.Text form × IsLast (λ path. F.holds files.now (F.real files.now path)) inputs (found_of words.now) last × IsProfile (found_of words.now) profile ×
+        OfPaths (λ path. F.holds files.now (F.real files.now path)) (⟦<AnySource<F::Input, F::Image> as Source>⟧.remaining) inputs (PrintsAs profile form last (O.contents out.old) (O.contents out.new) (O.faults out.old) (O.faults out.new) whole)) }
 {
     let inputs = asked_inputs(alloc, words)?;
-    let last = asked_last(words);
+    let paths = inputs.as_slice();
+    let last = asked_end(alloc, words, paths, files)?;
+    let profile = asked_profile(words);
     let form = asked_form(words);
-    match report_as(alloc, inputs.as_slice(), last, form, files, out) {
+    match report_as(alloc, paths, last, profile, form, files, out) {
         Ok(whole) => Ok(whole),
         Err(refusal) => Err(refusal),
     }
@@ -51,14 +55,16 @@ pub fn list_words<F: Files, O: Sink>(
     files: &F,
     out: &mut O,
 ) -> Result<bool, Refusal>
-    ensures printed { IfOk result (λ whole. (form : ListForm) × (last : ℕ) × (inputs : List InputPath) × (map asked_for inputs ≡ asked_inputs (found_of words.now)) ×
-        IsListForm (found_of words.now) form × IsLast (found_of words.now) last × OfPaths (λ path. F.holds files.now (F.real files.now path)) (⟦<AnySource<F::Input, F::Image> as Source>⟧.remaining) inputs
-        (PrintsList form last (O.contents out.old) (O.contents out.new) (O.faults out.old) (O.faults out.new) whole)) }
+    ensures printed { IfOk result (λ whole. (form : ListForm) × (last : ℕ) × (profile : Profile) × (inputs : List InputPath) × (map asked_for inputs ≡ asked_streams (found_of words.now)) ×
+        IsListForm (found_of words.now) form × IsLast (λ path. F.holds files.now (F.real files.now path)) inputs (found_of words.now) last × IsProfile (found_of words.now) profile × OfPaths (λ path. F.holds files.now (F.real files.now path)) (⟦<AnySource<F::Input, F::Image> as Source>⟧.remaining) inputs
+        (PrintsList profile form last (O.contents out.old) (O.contents out.new) (O.faults out.old) (O.faults out.new) whole)) }
 {
-    let inputs = asked_inputs(alloc, words)?;
-    let last = asked_last(words);
+    let inputs = asked_streams(alloc, words)?;
+    let paths = inputs.as_slice();
+    let last = asked_end(alloc, words, paths, files)?;
+    let profile = asked_profile(words);
     let form = asked_list_form(words);
-    match list(alloc, inputs.as_slice(), last, form, files, out) {
+    match list(alloc, paths, last, profile, form, files, out) {
         Ok(whole) => Ok(whole),
         Err(refusal) => Err(refusal),
     }
@@ -71,13 +77,15 @@ pub fn summary_words<F: Files, O: Sink>(
     files: &F,
     out: &mut O,
 ) -> Result<bool, Refusal>
-    ensures printed { IfOk result (λ whole. (last : ℕ) × (inputs : List InputPath) × (map asked_for inputs ≡ asked_inputs (found_of words.now)) ×
-        IsLast (found_of words.now) last × OfPaths (λ path. F.holds files.now (F.real files.now path)) (⟦<AnySource<F::Input, F::Image> as Source>⟧.remaining) inputs
-        (PrintsSummary last (O.contents out.old) (O.contents out.new) (O.faults out.old) (O.faults out.new) whole)) }
+    ensures printed { IfOk result (λ whole. (last : ℕ) × (profile : Profile) × (inputs : List InputPath) × (map asked_for inputs ≡ asked_streams (found_of words.now)) ×
+        IsLast (λ path. F.holds files.now (F.real files.now path)) inputs (found_of words.now) last × IsProfile (found_of words.now) profile × OfPaths (λ path. F.holds files.now (F.real files.now path)) (⟦<AnySource<F::Input, F::Image> as Source>⟧.remaining) inputs
+        (PrintsSummary profile last (O.contents out.old) (O.contents out.new) (O.faults out.old) (O.faults out.new) whole)) }
 {
-    let inputs = asked_inputs(alloc, words)?;
-    let last = asked_last(words);
-    match summary(alloc, inputs.as_slice(), last, files, out) {
+    let inputs = asked_streams(alloc, words)?;
+    let paths = inputs.as_slice();
+    let last = asked_end(alloc, words, paths, files)?;
+    let profile = asked_profile(words);
+    match summary(alloc, paths, last, profile, files, out) {
         Ok(whole) => Ok(whole),
         Err(refusal) => Err(refusal),
     }

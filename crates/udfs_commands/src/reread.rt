@@ -12,23 +12,25 @@ use crate::sources::{AnySource, InputPath};
 use std::alloc::Global;
 use udfs_files::Stage;
 use udfs_reading::{Sink, Source, WriteFault};
-use udfs_salvage::{survey_volume, write_numbers};
+use udfs_salvage::{survey_volume_by, write_numbers};
+use udfs_volume::Profile;
 
 /// Joins the inputs, and prints the numbers of the blocks of the volume, of which `last` is the last, that are worth
-/// reading again. It answers whether there are files and all of them are whole. All inputs are opened in order before one is read.
+/// reading again by the rules of a profile. It answers whether there are files and all of them are whole. All inputs are opened in order before one is read.
 pub fn reread<F: Files, O: Sink>(
     alloc: Global,
     inputs: &[InputPath<'_>],
     last: u32,
+    profile: Profile,
     files: &F,
     out: &mut O,
 ) -> Result<bool, Refusal>
     ensures printed { IfOk result (λ whole. OfPaths (λ path. F.holds files.now (F.real files.now path)) (⟦<AnySource<F::Input, F::Image> as Source>⟧.remaining) inputs.now
-        (PrintsNumbers last (O.contents out.old) (O.contents out.new) (O.faults out.old) (O.faults out.new) whole)) }
+        (PrintsNumbers profile last (O.contents out.old) (O.contents out.new) (O.faults out.old) (O.faults out.new) whole)) }
 {
     let table = joined(alloc, inputs, files)?;
     files.begin(Stage::Walking);
-    let survey = survey_volume(alloc, &table, last)?;
+    let survey = survey_volume_by(alloc, &table, last, profile)?;
     match write_numbers(&survey.reread, out) {
         Ok(()) => Ok(survey.all_whole()),
         Err(WriteFault) => Err(Refusal::Output),

@@ -19,7 +19,8 @@ use udfs_files::{Content, Stage};
 use udfs_lattice::BlockTable;
 use udfs_reading::{Sink, Source, WriteFault, write_all};
 use udfs_rescue::write_domain;
-use udfs_salvage::survey_volume;
+use udfs_salvage::survey_volume_by;
+use udfs_volume::Profile;
 
 /// The mapfile in which these blocks are wanted, up to the last block of a volume.
 #[derive(Drop)]
@@ -108,45 +109,47 @@ fn put_domain<F: Files, O: Sink>(
     }
 }
 
-/// Puts the mapfile of the blocks of a table's volume that are worth reading again at a path, and prints how many they are.
+/// Puts the mapfile of the blocks of a table's volume that are worth reading again by the rules of a profile at a path, and prints how many they are.
 #[tactic(auto, using(crate::proofs::RereadingLemmas::rising_does_not_fall, crate::proofs::RereadingLemmas::in_range))]
 fn map_of<F: Files, O: Sink>(
     alloc: Global,
     table: &BlockTable,
     last: u32,
+    profile: Profile,
     path: &str,
     files: &mut F,
     out: &mut O,
 ) -> Result<bool, Refusal>
-    ensures printed { IfOk result (λ whole. PrintsDomain last (λ bytes. (F.tells → IsKept (F.holds files.new) (F.may_leave files.new) (F.real files.old path.now) bytes) ⊎ (F.in_place files.old path.now × IsTaken F.Output.contents bytes))
+    ensures printed { IfOk result (λ whole. PrintsDomain profile last (λ bytes. (F.tells → IsKept (F.holds files.new) (F.may_leave files.new) (F.real files.old path.now) bytes) ⊎ (F.in_place files.old path.now × IsTaken F.Output.contents bytes))
         (O.contents out.old) (O.contents out.new) (O.faults out.old) (O.faults out.new) whole table.now) }
     // A crash at any moment of the call leaves all as it was, or with the mapfile in its place, whole.
-    ensures any_moment { F.tells → (F.in_place files.old path.now → ⊥) → (c : Disk) → F.left_since files.new (F.moment files.old) c → After (F.may_leave files.old) (MayDomain last (F.real files.old path.now) table.now) c }
+    ensures any_moment { F.tells → (F.in_place files.old path.now → ⊥) → (c : Disk) → F.left_since files.new (F.moment files.old) c → After (F.may_leave files.old) (MayDomain profile last (F.real files.old path.now) table.now) c }
     // No other path changes, but for those of new files that are to go in its place.
     ensures elsewhere { F.tells → (F.in_place files.old path.now → ⊥) → (q : List ℕ) → q ≢ F.real files.old path.now → (¬ IsOwn (F.real files.old path.now) q) → F.holds files.new q ≡ F.holds files.old q }
 {
     files.begin(Stage::Walking);
-    let survey = survey_volume(alloc, table, last)?;
+    let survey = survey_volume_by(alloc, table, last, profile)?;
     put_domain(alloc, &survey.reread, last, path, files, out)?;
     Ok(survey.all_whole())
 }
 
-/// Joins the inputs, puts the mapfile of the blocks of the volume, of which `last` is the last, that are worth reading again at a path, whole or not at all,
+/// Joins the inputs, puts the mapfile of the blocks of the volume, of which `last` is the last, that are worth reading again by the rules of a profile at a path, whole or not at all,
 /// and prints how many they are. It answers whether there are files and all of them are whole. All inputs are opened in order before one is read, and the
 /// mapfile is begun only after that.
 pub fn reread_map<F: Files, O: Sink>(
     alloc: Global,
     inputs: &[InputPath<'_>],
     last: u32,
+    profile: Profile,
     path: &str,
     files: &mut F,
     out: &mut O,
 ) -> Result<bool, Refusal>
     ensures printed { IfOk result (λ whole. OfPaths (λ path. F.holds files.old (F.real files.old path)) (⟦<AnySource<F::Input, F::Image> as Source>⟧.remaining) inputs.now
-        (PrintsDomain last (λ bytes. (F.tells → IsKept (F.holds files.new) (F.may_leave files.new) (F.real files.old path.now) bytes) ⊎ (F.in_place files.old path.now × IsTaken F.Output.contents bytes))
+        (PrintsDomain profile last (λ bytes. (F.tells → IsKept (F.holds files.new) (F.may_leave files.new) (F.real files.old path.now) bytes) ⊎ (F.in_place files.old path.now × IsTaken F.Output.contents bytes))
         (O.contents out.old) (O.contents out.new) (O.faults out.old) (O.faults out.new) whole)) }
     // A crash at any moment of the call leaves all as it was, or with the mapfile in its place, whole.
-    ensures any_moment { F.tells → (F.in_place files.old path.now → ⊥) → (c : Disk) → F.left_since files.new (F.moment files.old) c → After (F.may_leave files.old) (MayDomainOf (λ path. F.holds files.old (F.real files.old path)) (⟦<AnySource<F::Input, F::Image> as Source>⟧.remaining) inputs.now last (F.real files.old path.now)) c }
+    ensures any_moment { F.tells → (F.in_place files.old path.now → ⊥) → (c : Disk) → F.left_since files.new (F.moment files.old) c → After (F.may_leave files.old) (MayDomainOf (λ path. F.holds files.old (F.real files.old path)) (⟦<AnySource<F::Input, F::Image> as Source>⟧.remaining) inputs.now profile last (F.real files.old path.now)) c }
     // No other path changes, but for those of new files that are to go in its place.
     ensures elsewhere { F.tells → (F.in_place files.old path.now → ⊥) → (q : List ℕ) → q ≢ F.real files.old path.now → (¬ IsOwn (F.real files.old path.now) q) → F.holds files.new q ≡ F.holds files.old q }
 {
@@ -154,7 +157,7 @@ pub fn reread_map<F: Files, O: Sink>(
         Ok(table) => table,
         Err(refusal) => return Err(refusal),
     };
-    match map_of(alloc, &table, last, path, files, out) {
+    match map_of(alloc, &table, last, profile, path, files, out) {
         Ok(whole) => Ok(whole),
         Err(refusal) => Err(refusal),
     }

@@ -2,8 +2,9 @@
 
 ghost use Rattle.std.specs.Prelude.{◌≡◌, ◌≢◌, ◌⊎◌, ℕ, List, true, false, IfOk, OnOk, map};
 ghost use Rattle.clap.specs.Matches.{found_of};
+ghost use Rattle.udfs_volume.specs.declared.profiles.Profile.{Profile};
 ghost use Rattle.udfs_files.specs.Disk.{After, Disk, IsOwn};
-ghost use Rattle.udfs_commands.specs.Asking.{IsLast, asked_for, asked_inputs, is_mapped, mapfile_text, pair_texts};
+ghost use Rattle.udfs_commands.specs.Asking.{IsLast, IsProfile, asked_for, asked_inputs, is_mapped, mapfile_text, pair_texts};
 ghost use Rattle.udfs_commands.specs.Guarding.{IsFreeMap, IsSparedMap};
 ghost use Rattle.udfs_commands.specs.Keeping.{IsKept, IsTaken, OfPaths};
 ghost use Rattle.udfs_commands.specs.declared.sources.AnySource.{AnySource};
@@ -12,10 +13,11 @@ ghost use Rattle.udfs_commands.specs.Rereading.{PrintsNumbers, WritesDomain};
 ghost use Rattle.udfs_commands.specs.Leaving.{MayDomainAsked};
 
 use crate::asking::{asked_inputs, asked_mapfile};
+use crate::ends::asked_end;
 use crate::files::Files;
 use crate::guard::{Outlook, look_at_map};
 use crate::inputs::unwritten;
-use crate::last::asked_last;
+use crate::profile::asked_profile;
 use crate::refusal::Refusal;
 use crate::reread::reread;
 use crate::reread_map::reread_map;
@@ -58,17 +60,20 @@ fn reread_map_words<F: Files, O: Sink>(
     ensures elsewhere { F.tells → (F.in_place files.old (mapfile_text (found_of words.now)) → ⊥) → (q : List ℕ) → q ≢ F.real files.old (mapfile_text (found_of words.now)) → (¬ IsOwn (F.real files.old (mapfile_text (found_of words.now))) q) → F.holds files.new q ≡ F.holds files.old q }
 {
     let inputs = asked_inputs(alloc, words)?;
+    let paths = inputs.as_slice();
     match asked_map_outlook(alloc, words, files) {
         Ok(Outlook::Free) => {}
         Ok(Outlook::Spared) => return Err(Refusal::Spared),
-        Ok(Outlook::Unknown) => return Err(unwritten(alloc, inputs.as_slice(), files)),
+        Ok(Outlook::Unknown) => return Err(unwritten(alloc, paths, files)),
         Err(AllocError) => return Err(Refusal::Memory(AllocError)),
     }
-    let last = asked_last(words);
+    let last = asked_end(alloc, words, paths, files)?;
+    let profile = asked_profile(words);
     match reread_map(
         alloc,
-        inputs.as_slice(),
+        paths,
         last,
+        profile,
         asked_mapfile(words),
         files,
         out,
@@ -85,13 +90,15 @@ fn reread_words<F: Files, O: Sink>(
     files: &F,
     out: &mut O,
 ) -> Result<bool, Refusal>
-    ensures printed { IfOk result (λ whole. (last : ℕ) × (inputs : List InputPath) × (map asked_for inputs ≡ asked_inputs (found_of words.now)) ×
-        IsLast (found_of words.now) last × OfPaths (λ path. F.holds files.now (F.real files.now path)) (⟦<AnySource<F::Input, F::Image> as Source>⟧.remaining) inputs
-        (PrintsNumbers last (O.contents out.old) (O.contents out.new) (O.faults out.old) (O.faults out.new) whole)) }
+    ensures printed { IfOk result (λ whole. (last : ℕ) × (profile : Profile) × (inputs : List InputPath) × (map asked_for inputs ≡ asked_inputs (found_of words.now)) ×
+        IsLast (λ path. F.holds files.now (F.real files.now path)) inputs (found_of words.now) last × IsProfile (found_of words.now) profile × OfPaths (λ path. F.holds files.now (F.real files.now path)) (⟦<AnySource<F::Input, F::Image> as Source>⟧.remaining) inputs
+        (PrintsNumbers profile last (O.contents out.old) (O.contents out.new) (O.faults out.old) (O.faults out.new) whole)) }
 {
     let inputs = asked_inputs(alloc, words)?;
-    let last = asked_last(words);
-    match reread(alloc, inputs.as_slice(), last, files, out) {
+    let paths = inputs.as_slice();
+    let last = asked_end(alloc, words, paths, files)?;
+    let profile = asked_profile(words);
+    match reread(alloc, paths, last, profile, files, out) {
         Ok(whole) => Ok(whole),
         Err(refusal) => Err(refusal),
     }
@@ -104,9 +111,9 @@ pub fn reread_as<F: Files, O: Sink>(
     files: &mut F,
     out: &mut O,
 ) -> Result<bool, Refusal>
-    ensures printed { IfOk result (λ whole. is_mapped (found_of words.now) ≡ false → (last : ℕ) × (inputs : List InputPath) × (map asked_for inputs ≡ asked_inputs (found_of words.now)) ×
-        IsLast (found_of words.now) last × OfPaths (λ path. F.holds files.old (F.real files.old path)) (⟦<AnySource<F::Input, F::Image> as Source>⟧.remaining) inputs
-        (PrintsNumbers last (O.contents out.old) (O.contents out.new) (O.faults out.old) (O.faults out.new) whole)) }
+    ensures printed { IfOk result (λ whole. is_mapped (found_of words.now) ≡ false → (last : ℕ) × (profile : Profile) × (inputs : List InputPath) × (map asked_for inputs ≡ asked_inputs (found_of words.now)) ×
+        IsLast (λ path. F.holds files.old (F.real files.old path)) inputs (found_of words.now) last × IsProfile (found_of words.now) profile × OfPaths (λ path. F.holds files.old (F.real files.old path)) (⟦<AnySource<F::Input, F::Image> as Source>⟧.remaining) inputs
+        (PrintsNumbers profile last (O.contents out.old) (O.contents out.new) (O.faults out.old) (O.faults out.new) whole)) }
     ensures written { IfOk result (λ whole. is_mapped (found_of words.now) ≡ true → WritesDomain (λ path. F.holds files.old (F.real files.old path)) (⟦<AnySource<F::Input, F::Image> as Source>⟧.remaining) (found_of words.now)
         (λ bytes. (F.tells → IsKept (F.holds files.new) (F.may_leave files.new) (F.real files.old (mapfile_text (found_of words.now))) bytes) ⊎ (F.in_place files.old (mapfile_text (found_of words.now)) × IsTaken F.Output.contents bytes))
         (O.contents out.old) (O.contents out.new) (O.faults out.old) (O.faults out.new) whole ×

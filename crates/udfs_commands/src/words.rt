@@ -4,7 +4,7 @@ ghost use Rattle.std.specs.Prelude.{◌≡◌, false, IfOk, codes, map};
 ghost use Rattle.std.specs.String.{string_bytes};
 ghost use Rattle.udfs_commands.specs.Obeying.{given_in, is_given, names};
 ghost use Rattle.clap.specs.Words.{app_of, rule_of};
-ghost use Rattle.udfs_commands.specs.Grammar.{blocks_rule, extract_app, flag_rule, forget_app, image_app, inputs_rule, last_rule, letter_rule, list_app, mapfile_rule, merge_app, pairs_rule, out_rule, program, program_app, report_app, reread_app, size_rule, summary_app, value_rule, with_inputs};
+ghost use Rattle.udfs_commands.specs.Grammar.{blocks_rule, extract_app, flag_rule, forget_app, image_app, inputs_rule, last_rule, letter_rule, list_app, mapfile_rule, merge_app, only_rule, page_app, pairs_rule, out_rule, profile_rule, program, program_app, report_app, reread_app, size_rule, summary_app, value_rule, with_inputs};
 
 use clap::{Arg, ArgAction, Command, value_parser};
 use std::alloc::{AllocError, Global};
@@ -27,6 +27,9 @@ pub const LAST: &str = "last";
 /// The id of the disc's size among the matches.
 pub const SIZE: &str = "size";
 
+/// The id of the rules by which the volume is read among the matches.
+pub const PROFILE: &str = "profile";
+
 /// The id of the mapfile to write among the matches.
 pub const MAPFILE: &str = "mapfile";
 
@@ -44,6 +47,9 @@ pub const TO: &str = "to";
 
 /// The id of the flag for writing torn files.
 pub const FILL: &str = "fill";
+
+/// The id of the paths that alone are asked for among the matches.
+pub const ONLY: &str = "only";
 
 /// The id of the flag for JSON among the matches.
 pub const JSON: &str = "json";
@@ -68,8 +74,8 @@ pub const QUIET: &str = "quiet";
 pub struct Given {
     /// Images with their mapfiles: then there need be no other input.
     pub pairs: bool,
-    /// The size of the disc: then there need be no last block.
-    pub size: bool,
+    /// Neither the size of the disc nor images, whose mapfiles may tell it: then there has to be the last block.
+    pub needs_last: bool,
     /// That conflicts are to be forgotten: then there need be no list of blocks.
     pub conflicts: bool,
 }
@@ -103,7 +109,8 @@ pub fn given_in(words: &[String]) -> Given
 {
     Given {
         pairs: is_given("--ddrescue", b"--ddrescue=", words),
-        size: is_given("--size", b"--size=", words),
+        needs_last: !is_given("--size", b"--size=", words)
+            && !is_given("--ddrescue", b"--ddrescue=", words),
         conflicts: is_given("--conflicts", b"--conflicts=", words),
     }
 }
@@ -130,7 +137,8 @@ pub fn grammar<'a>(alloc: Global, given: Given) -> Result<Command<'a>, AllocErro
         .subcommand(forget(alloc, given)?)?
         .subcommand(list(alloc, given)?)?
         .subcommand(summary(alloc, given)?)?
-        .subcommand(image(alloc, given)?)
+        .subcommand(image(alloc, given)?)?
+        .subcommand(page(alloc, given)?)
 }
 
 /// `merge [--v1] [--force] --out FILE IN...`
@@ -145,44 +153,48 @@ fn merge<'a>(alloc: Global, pairs: bool) -> Result<Command<'a>, AllocError>
     with_inputs(alloc, command, pairs)
 }
 
-/// `report (--last N | --size BYTES) [--json] IN...`
+/// `report (--last N | --size BYTES) [--profile PROFILE] [--json] IN...`
 fn report<'a>(alloc: Global, given: Given) -> Result<Command<'a>, AllocError>
     ensures { IfOk result (λ command. app_of command ≡ report_app given) }
 {
     let command = Command::new(alloc, "report")
         .about("Prints what the inputs tell of the volume, and which blocks to read again")
-        .arg(last(alloc, given.size))?
+        .arg(last(alloc, given.needs_last))?
         .arg(disc_size(alloc))?
+        .arg(profile(alloc))?
         .arg(flag(alloc, JSON, "Print it as JSON"))?;
     with_inputs(alloc, command, given.pairs)
 }
 
-/// `reread (--last N | --size BYTES) [--mapfile FILE] IN...`
+/// `reread (--last N | --size BYTES) [--profile PROFILE] [--mapfile FILE] IN...`
 fn reread<'a>(alloc: Global, given: Given) -> Result<Command<'a>, AllocError>
     ensures { IfOk result (λ command. app_of command ≡ reread_app given) }
 {
     let command = Command::new(alloc, "reread")
         .about("Prints the numbers of the blocks to read again")
-        .arg(last(alloc, given.size))?
+        .arg(last(alloc, given.needs_last))?
         .arg(disc_size(alloc))?
+        .arg(profile(alloc))?
         .arg(domain(alloc))?;
     with_inputs(alloc, command, given.pairs)
 }
 
-/// `extract (--last N | --size BYTES) --to DIR [--fill] IN...`
+/// `extract (--last N | --size BYTES) [--profile PROFILE] --to DIR [--fill] [--only PATH]... IN...`
 fn extract<'a>(alloc: Global, given: Given) -> Result<Command<'a>, AllocError>
     ensures { IfOk result (λ command. app_of command ≡ extract_app given) }
 {
     let command = Command::new(alloc, "extract")
         .about("Writes the files that are whole into a new folder")
-        .arg(last(alloc, given.size))?
+        .arg(last(alloc, given.needs_last))?
         .arg(disc_size(alloc))?
+        .arg(profile(alloc))?
         .arg(folder(alloc))?
         .arg(flag(
             alloc,
             FILL,
             "Write torn files too, with zeros for the bytes that are missing",
-        ))?;
+        ))?
+        .arg(only(alloc))?;
     with_inputs(alloc, command, given.pairs)
 }
 
@@ -199,7 +211,7 @@ fn forget<'a>(alloc: Global, given: Given) -> Result<Command<'a>, AllocError>
     with_inputs(alloc, command, given.pairs)
 }
 
-/// `list [--torn] [--null] [--paths] (--last N | --size BYTES) IN...`
+/// `list [--torn] [--null] [--paths] (--last N | --size BYTES) [--profile PROFILE] IN...`
 fn list<'a>(alloc: Global, given: Given) -> Result<Command<'a>, AllocError>
     ensures { IfOk result (λ command. app_of command ≡ list_app given) }
 {
@@ -207,8 +219,9 @@ fn list<'a>(alloc: Global, given: Given) -> Result<Command<'a>, AllocError>
         .about(
             "Prints a line for each file and folder: standing, kind, bytes lost, size, time and path",
         )
-        .arg(last(alloc, given.size))?
+        .arg(last(alloc, given.needs_last))?
         .arg(disc_size(alloc))?
+        .arg(profile(alloc))?
         .arg(flag(alloc, TORN, "Leave out what is whole"))?
         .arg(flag(alloc, NULL, "End lines with a zero byte"))?
         .arg(flag(alloc, PATHS, "Print the paths alone"))?;
@@ -221,7 +234,7 @@ fn image<'a>(alloc: Global, given: Given) -> Result<Command<'a>, AllocError>
 {
     let command = Command::new(alloc, "image")
         .about("Writes what is known of the disc as an image, with its mapfile")
-        .arg(last(alloc, given.size))?
+        .arg(last(alloc, given.needs_last))?
         .arg(disc_size(alloc))?
         .arg(image_file(alloc))?
         .arg(image_map(alloc))?
@@ -272,14 +285,28 @@ fn quiet<'a>(alloc: Global) -> Arg<'a>
         .action(ArgAction::SetTrue)
 }
 
-/// `summary (--last N | --size BYTES) IN...`
+/// `summary (--last N | --size BYTES) [--profile PROFILE] IN...`
 fn summary<'a>(alloc: Global, given: Given) -> Result<Command<'a>, AllocError>
     ensures { IfOk result (λ command. app_of command ≡ summary_app given) }
 {
     let command = Command::new(alloc, "summary")
         .about("Prints what a person wants to know of the volume, on one screen")
-        .arg(last(alloc, given.size))?
-        .arg(disc_size(alloc))?;
+        .arg(last(alloc, given.needs_last))?
+        .arg(disc_size(alloc))?
+        .arg(profile(alloc))?;
+    with_inputs(alloc, command, given.pairs)
+}
+
+/// `page --out FILE (--last N | --size BYTES) [--profile PROFILE] IN...`
+fn page<'a>(alloc: Global, given: Given) -> Result<Command<'a>, AllocError>
+    ensures { IfOk result (λ command. app_of command ≡ page_app given) }
+{
+    let command = Command::new(alloc, "page")
+        .about("Writes what is known of the volume as a page for a browser, to print or to keep")
+        .arg(last(alloc, given.needs_last))?
+        .arg(disc_size(alloc))?
+        .arg(profile(alloc))?
+        .arg(page_file(alloc))?;
     with_inputs(alloc, command, given.pairs)
 }
 
@@ -302,6 +329,17 @@ fn force<'a>(alloc: Global) -> Arg<'a>
         FORCE,
         "Write over a reading that is none of the inputs",
     )
+}
+
+/// The rules by which the volume is read.
+fn profile<'a>(alloc: Global) -> Arg<'a>
+    ensures { (rule_of result ≡ profile_rule) × (result.global ≡ false) }
+{
+    Arg::new(alloc, PROFILE)
+        .long("profile")
+        .value_name("PROFILE")
+        .help("The rules by which the volume is read: strict, as without it, or wide")
+        .action(ArgAction::Set)
 }
 
 /// The mapfile to write.
@@ -336,6 +374,19 @@ fn table_file<'a>(alloc: Global) -> Arg<'a>
         .long("out")
         .value_name("FILE")
         .help("The table file to write, over an old one")
+        .required(true)
+        .action(ArgAction::Set)
+}
+
+/// The page to write.
+fn page_file<'a>(alloc: Global) -> Arg<'a>
+    ensures { (rule_of result ≡ out_rule) × (result.global ≡ false) }
+{
+    Arg::new(alloc, OUT)
+        .short('o')
+        .long("out")
+        .value_name("FILE")
+        .help("The page to write, over an old one; - is standard output")
         .required(true)
         .action(ArgAction::Set)
 }
@@ -377,15 +428,28 @@ fn folder<'a>(alloc: Global) -> Arg<'a>
         .action(ArgAction::Set)
 }
 
-/// The volume's last block, which has to be given where no size is.
-fn last<'a>(alloc: Global, size: bool) -> Arg<'a>
-    ensures { (rule_of result ≡ last_rule size) × (result.global ≡ false) }
+/// Paths of nodes that alone are asked for.
+fn only<'a>(alloc: Global) -> Arg<'a>
+    ensures { (rule_of result ≡ only_rule) × (result.global ≡ false) }
+{
+    Arg::new(alloc, ONLY)
+        .long("only")
+        .value_name("PATH")
+        .help(
+            "Write only this file, or this folder with all below it: its path as report prints it",
+        )
+        .action(ArgAction::Append)
+}
+
+/// The volume's last block, which may have to be given.
+fn last<'a>(alloc: Global, needed: bool) -> Arg<'a>
+    ensures { (rule_of result ≡ last_rule needed) × (result.global ≡ false) }
 {
     Arg::new(alloc, LAST)
         .long("last")
         .value_name("N")
         .help("The number of the volume's last block")
-        .required(!size)
+        .required(needed)
         .value_parser(value_parser!(u32))
         .action(ArgAction::Set)
 }

@@ -3,12 +3,13 @@ use Rattle.std.proofs.Common.{◌≡◌, refl, sym, ◌∙◌, ap, ℕ, ◌-◌,
 use Rattle.std.proofs.lemmas.Bool.{leb-true}
 use Rattle.std.proofs.lemmas.List.{length-map, length-take-le}
 use Rattle.udfs_file.specs.Entries.{EntryFields}
-use Rattle.udfs_file.specs.Bodies.{allocation_descriptors, cells, faulty_body, extents_body, embedded_body, body}
+use Rattle.udfs_file.specs.Bodies.{allocation_descriptors, cells, faulty_body, extents_body_by, embedded_body, body}
 use Rattle.udfs_file.specs.Laws.{BodyLength}
 use Rattle.udfs_file.specs.declared.cells.Cell.{Cell}
 use Rattle.udfs_file.specs.declared.cells.Cell.TheVariants.{Byte}
 use Rattle.udfs_file.specs.declared.faults.NodeFault.TheVariants.{Short}
 use Rattle.udfs_file.proofs.BodyFrom.{body-from}
+use Rattle.udfs_file.proofs.Tails.{counted_body}
 use Rattle.udfs_file.proofs.Parts.{from-length, cells-same, no_cells}
 
 embedded_length : (b : ℕ) (e : EntryFields) (cs : List Cell) → embedded_body b e ≡ cells cs → length cs ≡ e.size
@@ -23,7 +24,7 @@ pub body_length : BodyLength
 unfolding body
 body_length v r b e cs = go (nat_eq e.form 3)
   where
-    go : (x : Bool) → cond x (embedded_body b e) (extents_body v e.size (allocation_descriptors v r e)) ≡ cells cs → length cs ≡ e.size
+    go : (x : Bool) → cond x (embedded_body b e) (extents_body_by v e.form r e.size e.area) ≡ cells cs → length cs ≡ e.size
     go true q = embedded_length b e cs q
-    go false q = from-length v e.size (allocation_descriptors v r e).behind 0 (allocation_descriptors v r e).all cs (sym (body-from v e.size (allocation_descriptors v r e)) ∙ q)
+    go false q = from-length v e.size (allocation_descriptors v r e).behind 0 (allocation_descriptors v r e).all cs (sym (body-from v e.size (allocation_descriptors v r e)) ∙ counted_body v r e cs q)
         ∙ (let z : e.size - 0 ≡ e.size = omega arith in z)

@@ -184,8 +184,8 @@ area_fits s w p form is_last ls lw later (d ∷ ds) = go (area_fits s w p form i
         not_three : IsFollowed s w d
         not_three k n q = absurd (let t : nat_eq d.kind 3 ≡ true = ap (λ x. nat_eq x 3) k in let x : ⊥ = cc in x)
 
-pub chain_fits : (s w : View) → IsPartOf s w → (form r left : ℕ) (area : Bytes) → ChainFits s w (chain s form r left area) (chain w form r left area)
-chain_fits s w p form r zero area = area_fits s w p form true (λ a. no_descriptors) (λ a. no_descriptors)
-    (λ a. record { rest = []; splits = refl; fits = record { no_rest = refl; same = refl; read = λ n e. let x : ⊥ = cc in x } }) (descriptors_in form r area)
-chain_fits s w p form r (suc left) area = area_fits s w p form false (λ a. chain s form r left a) (λ a. chain w form r left a)
-    (λ a. chain_fits s w p form r left a) (descriptors_in form r area)
+pub chain_fits : (t : Bool) (s w : View) → IsPartOf s w → (form r left : ℕ) (area : Bytes) → ChainFits s w (chain t s form r left area) (chain t w form r left area)
+chain_fits t s w p form r zero area = area_fits s w p form true (λ a. no_descriptors) (λ a. no_descriptors)
+    (λ a. record { rest = []; splits = refl; fits = record { no_rest = refl; same = refl; read = λ n e. let x : ⊥ = cc in x } }) (descriptors_in t form r area)
+chain_fits t s w p form r (suc left) area = area_fits s w p form false (λ a. chain t s form r left a) (λ a. chain t w form r left a)
+    (λ a. chain_fits t s w p form r left a) (descriptors_in t form r area)

@@ -1,4 +1,4 @@
--- A body as its entry gives it: listed by allocation_descriptors, or embedded.
+-- A body as its entry gives it: listed by descriptors, or embedded.
 use Rattle.std.proofs.Common.{◌≡◌, ◌≢◌, refl, sym, ◌∙◌, ap, subst, inr, ℕ, ◌+◌, ◌/◌, ◌%◌, ◌<◌, ◌≤◌, Bool, true, false, cond, List, [], ◌∷◌, ◌++◌, length, take, drop, map, get_or, arith, Some, slice_index, drop-cons, append-nil}
 use Rattle.std.proofs.lemmas.List.{length-take}
 use Rattle.udfs_file.specs.declared.stretches.Stretch.{Stretch}
@@ -7,10 +7,10 @@ use Rattle.std.specs.List.{range_with_len}
 use Rattle.udfs_lattice.specs.declared.facts.Fact.TheVariants.{Known}
 use Rattle.udfs_space.specs.Places.{View, block_at}
 use Rattle.udfs_file.specs.Entries.{entry_of, area_start, descriptors_length, FitsBlock}
-use Rattle.udfs_file.specs.Bodies.{cell_at, recorded_cell, cells, faulty_body, body, embedded_body, extents_body, allocation_descriptors}
+use Rattle.udfs_file.specs.Bodies.{cell_at, recorded_cell, cells, faulty_body, body, embedded_body, extents_body_by}
 use Rattle.udfs_file.specs.declared.cells.Cell.{Cell}
 use Rattle.udfs_file.specs.declared.cells.Cell.TheVariants.{Byte}
-use Rattle.udfs_file.specs.Stretches.{LieInBlocks, listed_body, cells_of}
+use Rattle.udfs_file.specs.Stretches.{LieInBlocks, cells_of}
 use Rattle.udfs_file.specs.declared.stretches.Stretch.TheVariants.{Recorded}
 use Rattle.udfs_file.specs.declared.faults.NodeFault.TheVariants.{Short}
 use Rattle.udfs_file.proofs.BodyFrom.{not_le, is_le}
@@ -23,13 +23,13 @@ sum_le : (a b c : ℕ) → b ≤ c → a + c ≤ 2048 → a + b ≤ 2048
 sum_le a b c h k = omega arith
 
 pub body-listed : (v : View) (r b : ℕ) (bytes : List ℕ) → (entry_of bytes).form ≢ 3
-    → listed_body v (entry_of bytes).form r (entry_of bytes).size (entry_of bytes).area ≡ body v r b (entry_of bytes)
-unfolding body allocation_descriptors listed_body
-body-listed v r b bytes h = sym (ap (λ t. cond t (embedded_body b (entry_of bytes)) (extents_body v (entry_of bytes).size (allocation_descriptors v r (entry_of bytes)))) (is_not (entry_of bytes).form 3 h))
+    → extents_body_by v (entry_of bytes).form r (entry_of bytes).size (entry_of bytes).area ≡ body v r b (entry_of bytes)
+unfolding body
+body-listed v r b bytes h = sym (ap (λ t. cond t (embedded_body b (entry_of bytes)) (extents_body_by v (entry_of bytes).form r (entry_of bytes).size (entry_of bytes).area)) (is_not (entry_of bytes).form 3 h))
 
 body-embedded : (v : View) (r b : ℕ) (bytes : List ℕ) → (entry_of bytes).form ≡ 3 → body v r b (entry_of bytes) ≡ embedded_body b (entry_of bytes)
 unfolding body
-body-embedded v r b bytes h = ap (λ t. cond t (embedded_body b (entry_of bytes)) (extents_body v (entry_of bytes).size (allocation_descriptors v r (entry_of bytes)))) (is_same (entry_of bytes).form 3 h)
+body-embedded v r b bytes h = ap (λ t. cond t (embedded_body b (entry_of bytes)) (extents_body_by v (entry_of bytes).form r (entry_of bytes).size (entry_of bytes).area)) (is_same (entry_of bytes).form 3 h)
 
 pub body-short : (v : View) (r b : ℕ) (bytes : List ℕ) → (entry_of bytes).form ≡ 3 → length (entry_of bytes).area < (entry_of bytes).size
     → body v r b (entry_of bytes) ≡ faulty_body Short
@@ -101,9 +101,9 @@ body-recorded v r b n bytes items f e w fit k is =
 
 -- the same, by what the entry tells
 pub body-by : (v : View) (r b : ℕ) (bytes : List ℕ) (form size : ℕ) (area : List ℕ) → form ≡ (entry_of bytes).form → size ≡ (entry_of bytes).size → area ≡ (entry_of bytes).area
-    → (form ≡ 3 → ⊥) → listed_body v form r size area ≡ body v r b (entry_of bytes)
+    → (form ≡ 3 → ⊥) → extents_body_by v form r size area ≡ body v r b (entry_of bytes)
 body-by v r b bytes form size area f s a h =
-    ap (λ n. listed_body v n r size area) f ∙ ap (λ n. listed_body v (entry_of bytes).form r n area) s ∙ ap (λ (xs : List ℕ). listed_body v (entry_of bytes).form r (entry_of bytes).size xs) a
+    ap (λ n. extents_body_by v n r size area) f ∙ ap (λ n. extents_body_by v (entry_of bytes).form r n area) s ∙ ap (λ (xs : List ℕ). extents_body_by v (entry_of bytes).form r (entry_of bytes).size xs) a
     ∙ body-listed v r b bytes (λ z. h (f ∙ z))
 
 pub pushed_alone : {A : Type 0} (old new : List A) (x y : A) (ok : Bool) → old ≡ [] → new ≡ cond ok (old ++ x ∷ []) old → ok ≡ true → x ≡ y → new ≡ y ∷ []

@@ -13,6 +13,9 @@ pub mod Parts
 pub mod PartFronts
 pub mod Reached
 pub mod ChainFits
+pub mod Tails
+pub mod KeptBodies
+pub mod PartBodies
 pub mod Gaps
 pub mod PartialBodies
 pub mod Readings

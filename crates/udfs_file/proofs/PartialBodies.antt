@@ -9,13 +9,15 @@ use Rattle.udfs_lattice.specs.Volumes.{Includes}
 use Rattle.udfs_tag.specs.declared.layouts.LongAd.{LongAd}
 use Rattle.udfs_space.specs.Places.{View, IsPartOf}
 use Rattle.udfs_file.specs.Entries.{EntryFields}
-use Rattle.udfs_file.specs.Bodies.{covers, with_start, used, allocation_descriptors, cells, faulty_body, extents_body, embedded_body, body, IsRecordedFor, IsContinuedFor, IsNeededFor}
+use Rattle.udfs_file.specs.Bodies.{covers, with_start, used, allocation_descriptors, cells, chain, faulty_body, extents_body_by, embedded_body, body, IsRecordedFor, IsContinuedFor, IsNeededFor}
 use Rattle.udfs_file.specs.declared.cells.Cell.{Cell}
 use Rattle.udfs_file.specs.declared.cells.Cell.TheVariants.{Byte, Gap}
 use Rattle.udfs_file.specs.Laws.{IsMissingAt, PartialBodies}
 use Rattle.udfs_file.specs.declared.faults.NodeFault.TheVariants.{Short}
 use Rattle.udfs_file.proofs.BodyFrom.{from, takes, taken_from, is_lt, body-from}
-use Rattle.udfs_file.proofs.Parts.{PartIs, part_body, from-length, cells-same, no_cells}
+use Rattle.udfs_file.proofs.Tails.{counted_body}
+use Rattle.udfs_file.proofs.PartBodies.{part_body}
+use Rattle.udfs_file.proofs.Parts.{PartIs, from-length, cells-same, no_cells}
 use Rattle.udfs_file.proofs.PartFronts.{AllZip-length}
 use Rattle.udfs_file.proofs.Reached.{partial_directory}
 use Rattle.udfs_file.proofs.ChainFits.{ChainFits, chain_fits}
@@ -89,7 +91,8 @@ record Gaps (s w : View) (r : ℕ) (e : EntryFields) (part : List Cell) (k : ℕ
 
 descriptors_fit : (s w : View) → IsPartOf s w → (r : ℕ) (e : EntryFields) → ChainFits s w (allocation_descriptors s r e) (allocation_descriptors w r e)
 unfolding allocation_descriptors
-descriptors_fit s w p r e = chain_fits s w p e.form r 256 e.area
+descriptors_fit s w p r e = subst (λ t. ChainFits s w (chain s.takes_tail s e.form r 256 e.area) (chain t w e.form r 256 e.area)) p.tail
+    (chain_fits s.takes_tail s w p e.form r 256 e.area)
 
 gaps_of : (s w : View) → IsPartOf s w → (r b : ℕ) (e : EntryFields) (whole part : List Cell) → body w r b e ≡ cells whole → body s r b e ≡ cells part → length part ≡ length whole
     → (k : ℕ) → Gaps s w r e part k
@@ -99,8 +102,8 @@ gaps_of s w p r b e whole part ew es len k = go (nat_eq e.form 3) refl ew es
     f : ChainFits s w (allocation_descriptors s r e) (allocation_descriptors w r e)
     f = descriptors_fit s w p r e
 
-    go : (x : Bool) → nat_eq e.form 3 ≡ x → cond x (embedded_body b e) (extents_body w e.size (allocation_descriptors w r e)) ≡ cells whole
-        → cond x (embedded_body b e) (extents_body s e.size (allocation_descriptors s r e)) ≡ cells part → Gaps s w r e part k
+    go : (x : Bool) → nat_eq e.form 3 ≡ x → cond x (embedded_body b e) (extents_body_by w e.form r e.size e.area) ≡ cells whole
+        → cond x (embedded_body b e) (extents_body_by s e.form r e.size e.area) ≡ cells part → Gaps s w r e part k
     go true x qw qs = record {
       names = λ n m. absurd (no_gap b (take e.size e.area) k (subst (λ z. IsMissingAt z k) (embedded_cells b e part qs) (n, m)));
       gaps = (
@@ -111,10 +114,10 @@ gaps_of s w p r b e whole part ew es len k = go (nat_eq e.form 3) refl ew es
     go false x qw qs = record { names = needed; gaps = ((λ (n, m). let q : (is_known (s.blocks n) ≡ false) × IsNeededFor w r e k n = needed n m in (n, q.0, q.1)), open_if) }
       where
         fw : from w e.size (allocation_descriptors w r e).behind 0 ((allocation_descriptors s r e).all ++ f.rest) ≡ cells whole
-        fw = ap (from w e.size (allocation_descriptors w r e).behind 0) (sym f.splits) ∙ sym (body-from w e.size (allocation_descriptors w r e)) ∙ qw
+        fw = ap (from w e.size (allocation_descriptors w r e).behind 0) (sym f.splits) ∙ sym (body-from w e.size (allocation_descriptors w r e)) ∙ counted_body w r e whole qw
 
         fs : from s e.size (allocation_descriptors s r e).behind 0 (allocation_descriptors s r e).all ≡ cells part
-        fs = sym (body-from s e.size (allocation_descriptors s r e)) ∙ qs
+        fs = sym (body-from s e.size (allocation_descriptors s r e)) ∙ counted_body s r e part qs
 
         g : GapsAt s w e.size 0 ((allocation_descriptors s r e).all ++ f.rest) part k
         g = gaps_from s w p e.size (allocation_descriptors s r e).behind (allocation_descriptors w r e).behind f.rest 0 (allocation_descriptors s r e).all f.fits whole part fw fs k

@@ -11,7 +11,7 @@ use Rattle.udfs_lattice.specs.declared.facts.Fact.TheVariants.{Unknown, Known, C
 use Rattle.udfs_tag.specs.declared.layouts.LongAd.{LongAd}
 use Rattle.udfs_space.specs.Places.{View, IsPartOf}
 use Rattle.udfs_file.specs.Entries.{EntryFields}
-use Rattle.udfs_file.specs.Bodies.{Next, no_more, area_at, unread_at, broken, Descriptors, covers, cells_in, extent_fault, continuation_fault, next_of, next_if, next_area, next_descriptor, up_to_next, descriptors_in, joined, no_descriptors, chain, allocation_descriptors, cell_in, cell_at, extent_cells, recorded_cell, Body, cells, faulty_body, ended_body, body_unless, extents_body, embedded_body, body}
+use Rattle.udfs_file.specs.Bodies.{Next, no_more, area_at, unread_at, broken, Descriptors, covers, cells_in, extent_fault, continuation_fault, next_of, next_if, next_area, next_descriptor, up_to_next, descriptors_in, joined, no_descriptors, chain, allocation_descriptors, cell_in, cell_at, extent_cells, recorded_cell, Body, cells, faulty_body, ended_body, body_unless, extents_body}
 use Rattle.udfs_file.specs.declared.cells.Cell.{Cell}
 use Rattle.udfs_file.specs.declared.cells.Cell.TheVariants.{Byte, Gap}
 use Rattle.udfs_file.specs.Laws.{IsCellOf}
@@ -21,10 +21,10 @@ use Rattle.udfs_file.proofs.BodyFrom.{onto, from, le_or_lt, not_le, is_le, body-
 
 -- what depends on the places alone is the same
 pub same_fault : (s w : View) → IsPartOf s w → (size : ℕ) (e : ℕ × LongAd) → extent_fault s size e ≡ extent_fault w size e
-same_fault s w p size e = λ i. extent_fault (record { partitions = p.partitions i; place = λ r b. p.places r b i; blocks = s.blocks }) size e
+same_fault s w p size e = λ i. extent_fault (record { partitions = p.partitions i; place = λ r b. p.places r b i; blocks = s.blocks; takes_tail = p.tail i }) size e
 
 pub same_continuation : (s w : View) → IsPartOf s w → (is_last : Bool) (d : LongAd) → continuation_fault s is_last d ≡ continuation_fault w is_last d
-same_continuation s w p is_last d = λ i. continuation_fault (record { partitions = p.partitions i; place = λ r b. p.places r b i; blocks = s.blocks }) is_last d
+same_continuation s w p is_last d = λ i. continuation_fault (record { partitions = p.partitions i; place = λ r b. p.places r b i; blocks = s.blocks; takes_tail = p.tail i }) is_last d
 
 -- a cell is the complete one's or missing
 IsCellOf-refl : (c : Cell) → IsCellOf c c
@@ -59,7 +59,7 @@ AllZip-map : (f g : ℕ → Cell) → ((i : ℕ) → IsCellOf (f i) (g i)) → (
 AllZip-map f g h [] = tt
 AllZip-map f g h (x ∷ xs) = (h x, AllZip-map f g h xs)
 
-AllZip-refl : (cs : List Cell) → AllZip IsCellOf cs cs
+pub AllZip-refl : (cs : List Cell) → AllZip IsCellOf cs cs
 AllZip-refl [] = tt
 AllZip-refl (c ∷ cs) = (IsCellOf-refl c, AllZip-refl cs)
 
@@ -246,7 +246,7 @@ next_is s w p form is_last (Some d) = go (continuation_fault w is_last d) refl (
         (to w (continuation_fault w is_last d) None (w.place d.reference d.block) (Some n) eo ek) (s.blocks n) refl
 
 -- All allocation_descriptors: the same, or those up to a continuation that is not known.
-data ChainIs (s : View) (cs cw : Descriptors) : Type 0 where
+pub data ChainIs (s : View) (cs cw : Descriptors) : Type 0 where
   chain_same : cs.all ≡ cw.all → cs.behind ≡ cw.behind → ChainIs s cs cw
   chain_cut : (rest : List LongAd) (n : ℕ) → cw.all ≡ cs.all ++ rest → cs.behind ≡ unread_at n → is_known (s.blocks n) ≡ false → ChainIs s cs cw
 
@@ -276,19 +276,20 @@ chain_with : (s : View) (ds : List LongAd) (ns nw : Next) (ls lw : Bytes → Des
 chain_with s ds ns nw ls lw (next_same e) h = subst (λ x. ChainIs s (joined ds x ls) (joined ds nw lw)) (sym e) (joined_is s ds nw ls lw h)
 chain_with s ds ns nw ls lw (next_cut n e u) h = cut_chain s ds ns nw ls lw n e u
 
-chain_is : (s w : View) → IsPartOf s w → (form r left : ℕ) (area : Bytes) → ChainIs s (chain s form r left area) (chain w form r left area)
-chain_is s w p form r zero area = let ds : List LongAd = descriptors_in form r area in
+chain_is : (t : Bool) (s w : View) → IsPartOf s w → (form r left : ℕ) (area : Bytes) → ChainIs s (chain t s form r left area) (chain t w form r left area)
+chain_is t s w p form r zero area = let ds : List LongAd = descriptors_in t form r area in
     chain_with s (up_to_next ds) (next_of s form true (next_descriptor ds)) (next_of w form true (next_descriptor ds)) (λ a. no_descriptors) (λ a. no_descriptors)
     (next_is s w p form true (next_descriptor ds)) (λ a. chain_same refl refl)
-chain_is s w p form r (suc left) area = let ds : List LongAd = descriptors_in form r area in
-    chain_with s (up_to_next ds) (next_of s form false (next_descriptor ds)) (next_of w form false (next_descriptor ds)) (λ a. chain s form r left a) (λ a. chain w form r left a)
-    (next_is s w p form false (next_descriptor ds)) (λ a. chain_is s w p form r left a)
+chain_is t s w p form r (suc left) area = let ds : List LongAd = descriptors_in t form r area in
+    chain_with s (up_to_next ds) (next_of s form false (next_descriptor ds)) (next_of w form false (next_descriptor ds)) (λ a. chain t s form r left a) (λ a. chain t w form r left a)
+    (next_is s w p form false (next_descriptor ds)) (λ a. chain_is t s w p form r left a)
 
-descriptors_is : (s w : View) → IsPartOf s w → (r : ℕ) (e : EntryFields) → ChainIs s (allocation_descriptors s r e) (allocation_descriptors w r e)
+pub descriptors_is : (s w : View) → IsPartOf s w → (r : ℕ) (e : EntryFields) → ChainIs s (allocation_descriptors s r e) (allocation_descriptors w r e)
 unfolding allocation_descriptors
-descriptors_is s w p r e = chain_is s w p e.form r 256 e.area
+descriptors_is s w p r e = subst (λ t. ChainIs s (chain s.takes_tail s e.form r 256 e.area) (chain t w e.form r 256 e.area)) p.tail
+    (chain_is s.takes_tail s w p e.form r 256 e.area)
 
-part_extents : (s w : View) → IsPartOf s w → (size : ℕ) (ds dw : Descriptors) → ChainIs s ds dw → (whole : List Cell)
+pub part_extents : (s w : View) → IsPartOf s w → (size : ℕ) (ds dw : Descriptors) → ChainIs s ds dw → (whole : List Cell)
     → extents_body w size dw ≡ cells whole → PartIs (extents_body s size ds) whole
 part_extents s w p size ds dw (chain_same ea eb) whole e =
     let q : PartIs (from s size ds.behind 0 ds.all) whole = compare_from s w p size ds.behind dw.behind [] base 0 ds.all whole
@@ -308,13 +309,3 @@ part_extents s w p size ds dw (chain_cut rest n ea eb u) whole e =
       is = ap (λ b. ended_body (size - c) b []) eb;
       each = subst (λ m. AllZip IsCellOf (replicate m (Gap n)) x) (from-length w size dw.behind c rest x k) (AllZip-missing n x);
     }
-
--- over a part of a complete view a body without a fault has none, and each cell is the whole's or missing
-pub part_body : (s w : View) → IsPartOf s w → (r b : ℕ) (entry : EntryFields) (whole : List Cell) → body w r b entry ≡ cells whole → PartIs (body s r b entry) whole
-unfolding body
-part_body s w p r b entry whole e = go (nat_eq entry.form 3) e
-  where
-    go : (x : Bool) → cond x (embedded_body b entry) (extents_body w entry.size (allocation_descriptors w r entry)) ≡ cells whole
-        → PartIs (cond x (embedded_body b entry) (extents_body s entry.size (allocation_descriptors s r entry))) whole
-    go true k = record { part = whole; is = k; each = AllZip-refl whole }
-    go false k = part_extents s w p entry.size (allocation_descriptors s r entry) (allocation_descriptors w r entry) (descriptors_is s w p r entry) whole k

@@ -1,6 +1,6 @@
 -- The laws of this crate that proofs above it use. Each has the statement that the function of its name in src/laws.rt ensures.
 use Rattle.udfs_file.specs.Complete.{BodyLaw, DescriptorsAreShort, DirectoryLaw, FileSetLaw, NeverStops, StandardBodies, StandardDirectories}
-use Rattle.udfs_file.specs.Laws.{BodyLength, NamesAreParts, PartialBodies, PartialDescriptors, PartialFileSet}
+use Rattle.udfs_file.specs.Laws.{BodyLength, NamesAreParts, PartialBodies, PartialDescriptors, PartialFileSet, TailKeepsBodies}
 use Rattle.udfs_file.specs.Sample.{HaveSampleFiles, SampleFileSet}
 use Rattle.udfs_file.proofs.BodyLengths as lengths
 use Rattle.udfs_file.proofs.EntryNames as names
@@ -10,6 +10,7 @@ use Rattle.udfs_file.proofs.PartialBodies as parts
 use Rattle.udfs_file.proofs.Readings as readings
 use Rattle.udfs_file.proofs.WholeBodies as bodies
 use Rattle.udfs_file.proofs.SampleLaw as sample
+use Rattle.udfs_file.proofs.KeptBodies as tails
 use Rattle.udfs_file.proofs.StandardBodies as standard
 use Rattle.udfs_file.proofs.StandardDirectories as listed
 
@@ -27,6 +28,9 @@ partial_descriptors = fronts.part_ids
 
 pub body_is_read : BodyLaw
 body_is_read = bodies.body_law
+
+pub the_tail_keeps_bodies : TailKeepsBodies
+the_tail_keeps_bodies = tails.tail_keeps
 
 pub body_has_its_length : BodyLength
 body_has_its_length = lengths.body_length

@@ -13,7 +13,7 @@ use Rattle.udfs_volume.specs.Sample.{Maps, one_type1, one_sparable, type1_and_sp
 use Rattle.udfs_volume.specs.Sequence.{Bytes}
 use Rattle.udfs_space.specs.Places.{place}
 use Rattle.udfs_file.specs.Addresses.{file_set}
-use Rattle.udfs_file.specs.Bodies.{body, allocation_descriptors, used}
+use Rattle.udfs_file.specs.Bodies.{body, allocation_descriptors, used, listed_body, extents_body_by}
 use Rattle.udfs_file.specs.Entries.{entry_fault, entry_of}
 use Rattle.udfs_file.specs.Fronts.{directory, step}
 use Rattle.udfs_file.specs.declared.faults.Kind.TheVariants.{Directory, File}
@@ -61,19 +61,19 @@ sample_file_set_law maps = (are_blocks maps, file_set_is maps)
 
 -- ---- the files
 root_file : (maps : Maps) → IsSampleFile maps sample_root Directory (root_cells maps)
-unfolding polynomial reduced crc_of tag_of place entry_fault entry_of allocation_descriptors used body
+unfolding polynomial reduced crc_of tag_of place entry_fault entry_of allocation_descriptors used listed_body extents_body_by body
 root_file one_type1 = record { is_good = refl; block = 273; bytes = root_block; there = refl; is_sound = refl; kind_is = refl; has_body = refl }
 root_file one_sparable = record { is_good = refl; block = 97; bytes = root_block; there = refl; is_sound = refl; kind_is = refl; has_body = refl }
 root_file type1_and_sparable = record { is_good = refl; block = 273; bytes = root_block; there = refl; is_sound = refl; kind_is = refl; has_body = refl }
 
 a_file : (maps : Maps) → IsSampleFile maps icb_of_a File a_cells
-unfolding polynomial reduced crc_of tag_of place entry_fault entry_of allocation_descriptors used body
+unfolding polynomial reduced crc_of tag_of place entry_fault entry_of allocation_descriptors used listed_body extents_body_by body
 a_file one_type1 = record { is_good = refl; block = 275; bytes = a_block; there = refl; is_sound = refl; kind_is = refl; has_body = refl }
 a_file one_sparable = record { is_good = refl; block = 99; bytes = a_block; there = refl; is_sound = refl; kind_is = refl; has_body = refl }
 a_file type1_and_sparable = record { is_good = refl; block = 275; bytes = a_block; there = refl; is_sound = refl; kind_is = refl; has_body = refl }
 
 b_file : (maps : Maps) → IsSampleFile maps (icb_of_b maps) File b_cells
-unfolding polynomial reduced crc_of tag_of place entry_fault entry_of allocation_descriptors used body
+unfolding polynomial reduced crc_of tag_of place entry_fault entry_of allocation_descriptors used listed_body extents_body_by body
 b_file one_type1 = record { is_good = refl; block = 276; bytes = b_block; there = refl; is_sound = refl; kind_is = refl; has_body = refl }
 b_file one_sparable = record { is_good = refl; block = 100; bytes = b_block; there = refl; is_sound = refl; kind_is = refl; has_body = refl }
 b_file type1_and_sparable = record { is_good = refl; block = 100; bytes = b_block; there = refl; is_sound = refl; kind_is = refl; has_body = refl }

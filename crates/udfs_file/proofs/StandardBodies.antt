@@ -14,16 +14,17 @@ use Rattle.udfs_tag.specs.Fields.{part, uint32_at}
 use Rattle.udfs_tag.specs.Tags.{is_valid}
 use Rattle.udfs_space.specs.Places.{View}
 use Rattle.udfs_file.specs.Entries.{EntryFields, descriptor_size}
-use Rattle.udfs_file.specs.Bodies.{Next, no_more, area_at, broken, Descriptors, covers, cells_in, extent_fault, continuation_fault, next_of, next_if, next_area, next_descriptor, descriptors_in, joined, no_descriptors, chain, allocation_descriptors, extent_cells, Body, cells, faulty_body, body_unless, extents_body, embedded_body, body}
+use Rattle.udfs_file.specs.Bodies.{Next, no_more, area_at, broken, Descriptors, covers, cells_in, extent_fault, continuation_fault, next_of, next_if, next_area, next_descriptor, descriptors_in, joined, no_descriptors, chain, allocation_descriptors, extent_cells, Body, cells, faulty_body, body_unless, extents_body, extents_body_by, embedded_body, body}
 use Rattle.udfs_file.specs.declared.cells.Cell.{Cell}
 use Rattle.udfs_file.specs.declared.cells.Cell.TheVariants.{Byte}
 use Rattle.udfs_file.specs.declared.faults.NodeFault.TheVariants.{Short, Chain, Range, Reference, Odd}
-use Rattle.udfs_file.specs.Standard.{Located, block_bytes, extent_bytes, up_to_end, IsExtentAt, IsExtentOf, AreExtentsOf, IsJoined, IsExtentsBody, IsEmbeddedBody, IsBodyOf}
+use Rattle.udfs_file.specs.Standard.{PartitionBlocks, Located, block_bytes, extent_bytes, up_to_end, IsExtentAt, IsExtentOf, AreExtentsOf, IsJoined, IsExtentsBody, IsEmbeddedBody, IsBodyOf}
 use Rattle.udfs_file.specs.Complete.{HasPartitions, IsReadBody, IsComplete, StandardBodies, as_cells}
 use Rattle.udfs_file.proofs.BodyFrom.{from, le_or_lt, body-from, is_lt, not_le, not_lt}
 use Rattle.udfs_file.proofs.BodyFrom as front
 use Rattle.udfs_file.proofs.Parts.{from-done, from-on}
 use Rattle.udfs_file.proofs.ChainFits.{is_other, next-cons, onto}
+use Rattle.udfs_file.proofs.Tails.{body_counted}
 use Rattle.udfs_file.proofs.WholeBodies.{IsJoinedBy, area-cons, area_chain, body_law, bytes_of, is_three, not_three}
 
 -- the body has no fault
@@ -37,12 +38,12 @@ record IsPlaced (all : View) (r b : ℕ) (bytes : Bytes) : Type 0 where
   known : all.blocks at ≡ Known bytes
   within : nat_le all.partitions r ≡ false
 
-placed : (all : View) (blocks : ℕ → ℕ → Option Bytes) → IsComplete all blocks → HasPartitions all → (r b : ℕ) (bytes : Bytes) → blocks r b ≡ Some bytes → IsPlaced all r b bytes
+placed : (all : View) (blocks : PartitionBlocks) → IsComplete all blocks → HasPartitions all → (r b : ℕ) (bytes : Bytes) → blocks.at r b ≡ Some bytes → IsPlaced all r b bytes
 placed all blocks w has r b bytes e = go (all.place r b) refl
   where
     go : (o : Option ℕ) → all.place r b ≡ o → IsPlaced all r b bytes
     go None q = absurd (let z : None ≡ Some bytes = sym (w.nowhere r b q) ∙ e in let x : ⊥ = cc in x)
-    go (Some n) q = let t : (x : Bytes) × (all.blocks n ≡ Known x) × (blocks r b ≡ Some x) × (length x ≡ 2048) = w.there r b n q in
+    go (Some n) q = let t : (x : Bytes) × (all.blocks n ≡ Known x) × (blocks.at r b ≡ Some x) × (length x ≡ 2048) = w.there r b n q in
         let same : t.0 ≡ bytes = (let z : Some (t.0) ≡ Some bytes = sym t.2 ∙ e in cc) in
         record { at = n; place = q; known = t.1 ∙ ap Known same; within = not_le all.partitions r (has r b n q) }
 
@@ -75,7 +76,7 @@ in_first j m l p q = omega (arith, p, q)
 in_body : (j l s c : ℕ) → c < s → j < blocks_in (min l (s - c)) → c + 2048 * j < s
 in_body j l s c q p = let h : min l (s - c) ≤ s - c = grind arith in omega (arith, p, q, h)
 
-sound_extent : (all : View) (blocks : ℕ → ℕ → Option Bytes) → IsComplete all blocks → HasPartitions all → (size c : ℕ) (d : LongAd) → c < size → 0 < d.length → covers d ≡ d.length
+sound_extent : (all : View) (blocks : PartitionBlocks) → IsComplete all blocks → HasPartitions all → (size c : ℕ) (d : LongAd) → c < size → 0 < d.length → covers d ≡ d.length
     → IsExtentOf blocks c size d → extent_fault all size (c, d) ≡ None
 sound_extent all blocks w has size c d l long cover x = clear_three (nat_eq d.kind 0 && nat_le all.partitions d.reference) (nat_eq d.kind 0 && list_any absent (range_with_len 0 (blocks_in m)))
     (not (nat_eq d.kind 3) && nat_lt (c + d.length) size && not (nat_eq (d.length % 2048) 0)) Reference Range Odd
@@ -89,7 +90,7 @@ sound_extent all blocks w has size c d l long cover x = clear_three (nat_eq d.ki
 
     block : nat_eq d.kind 0 ≡ true → (j : ℕ) → j < blocks_in m → (bytes : Bytes) × IsPlaced all d.reference (d.block + j) bytes
     block e j h = let less : m ≤ d.length = subst (λ z. m ≤ z) cover (min_left (covers d) (size - c)) in
-        let t : (bytes : Bytes) × (blocks d.reference (d.block + j) ≡ Some bytes) = x.there (eqb-true d.kind 0 e) j (in_first j m d.length h less) (in_body j (covers d) size c l h) in
+        let t : (bytes : Bytes) × (blocks.at d.reference (d.block + j) ≡ Some bytes) = x.there (eqb-true d.kind 0 e) j (in_first j m d.length h less) (in_body j (covers d) size c l h) in
         (t.0, placed all blocks w has d.reference (d.block + j) t.0 t.1)
 
     some : 0 < blocks_in m
@@ -118,11 +119,11 @@ done v size behind c ds h = ([], from-done v size behind c ds h)
 
 -- ---- the extents that are left
 -- What the standard reads from cell c on.
-record Left (blocks : ℕ → ℕ → Option Bytes) (size c : ℕ) (xs : List LongAd) : Type 0 where
+record Left (blocks : PartitionBlocks) (size c : ℕ) (xs : List LongAd) : Type 0 where
   sound : AreExtentsOf blocks c size (up_to_end xs)
   enough : size - c ≤ length (bytes_of blocks xs)
 
-nothing_left : (blocks : ℕ → ℕ → Option Bytes) (size c : ℕ) (xs : List LongAd) → Left blocks size c xs → xs ≡ [] → size ≤ c
+nothing_left : (blocks : PartitionBlocks) (size c : ℕ) (xs : List LongAd) → Left blocks size c xs → xs ≡ [] → size ≤ c
 nothing_left blocks size c xs h e = let p : size - c ≤ 0 = subst (λ z. size - c ≤ length (bytes_of blocks z)) e h.enough in omega (arith, p)
 
 short : (n : ℕ) (xs : List Located) → length (take n xs) ≤ n
@@ -134,18 +135,18 @@ zeros n = replicate n (0, None)
 same_length : (n : ℕ) → length (zeros n) ≤ n
 same_length n = let e : length (zeros n) ≡ n = length-replicate n (0, None) in omega (arith, e)
 
-bytes_most : (blocks : ℕ → ℕ → Option Bytes) (d : LongAd) → length (extent_bytes blocks d) ≤ d.length
+bytes_most : (blocks : PartitionBlocks) (d : LongAd) → length (extent_bytes blocks d) ≤ d.length
 bytes_most blocks d = go (nat_eq d.kind 0)
   where
     X : List Located
-    X = flat_map (λ b. block_bytes b (blocks d.reference b)) (range_with_len d.block (blocks_in d.length))
+    X = flat_map (λ b. block_bytes b (blocks.at d.reference b)) (range_with_len d.block (blocks_in d.length))
 
     go : (b : Bool) → length (cond b (take d.length X) (replicate d.length (0, None))) ≤ d.length
     go true = short d.length X
     go false = same_length d.length
 
 -- behind the first extent
-left_on : (blocks : ℕ → ℕ → Option Bytes) (size c : ℕ) (d : LongAd) (xs : List LongAd) → nat_lt 0 d.length ≡ true → Left blocks size c (d ∷ xs) → IsExtentOf blocks c size d × Left blocks size (c + d.length) xs
+left_on : (blocks : PartitionBlocks) (size c : ℕ) (d : LongAd) (xs : List LongAd) → nat_lt 0 d.length ≡ true → Left blocks size c (d ∷ xs) → IsExtentOf blocks c size d × Left blocks size (c + d.length) xs
 left_on blocks size c d xs long h = (both.0, record { sound = both.1; enough = enough })
   where
     ends : up_to_end (d ∷ xs) ≡ d ∷ up_to_end xs
@@ -160,7 +161,7 @@ left_on blocks size c d xs long h = (both.0, record { sound = both.1; enough = e
         let b : size - c ≤ length (bytes_of blocks (d ∷ xs)) = h.enough in let m : length (extent_bytes blocks d) ≤ d.length = bytes_most blocks d in omega (arith, a, b, m)
 
 -- where cells are left, the first extent is not empty
-is_long : (blocks : ℕ → ℕ → Option Bytes) (size c : ℕ) (d : LongAd) (xs : List LongAd) → c < size → Left blocks size c (d ∷ xs) → nat_lt 0 d.length ≡ true
+is_long : (blocks : PartitionBlocks) (size c : ℕ) (d : LongAd) (xs : List LongAd) → c < size → Left blocks size c (d ∷ xs) → nat_lt 0 d.length ≡ true
 is_long blocks size c d xs l h = go (nat_lt 0 d.length) refl
   where
     go : (b : Bool) → nat_lt 0 d.length ≡ b → nat_lt 0 d.length ≡ true
@@ -172,7 +173,7 @@ is_long blocks size c d xs l h = go (nat_lt 0 d.length) refl
 extent_true : (form b : ℕ) (bytes : Bytes) → IsExtentAt form b bytes → (is_valid bytes b 258 && nat_le (24 + uint32_at bytes 20) 2048 && nat_eq (uint32_at bytes 20 % descriptor_size form) 0) ≡ true
 extent_true form b bytes (v, fits, even) = λ i. v i && le-leb (24 + uint32_at bytes 20) 2048 fits i && nat_eq (even i) 0
 
-follows : (all : View) (blocks : ℕ → ℕ → Option Bytes) → IsComplete all blocks → HasPartitions all → (form : ℕ) (d : LongAd) (bytes : Bytes) → d.length ≤ 2048 → blocks d.reference d.block ≡ Some bytes
+follows : (all : View) (blocks : PartitionBlocks) → IsComplete all blocks → HasPartitions all → (form : ℕ) (d : LongAd) (bytes : Bytes) → d.length ≤ 2048 → blocks.at d.reference d.block ≡ Some bytes
     → IsExtentAt form d.block bytes → next_of all form false (Some d) ≡ area_at (part bytes 24 (uint32_at bytes 20))
 follows all blocks w has form d bytes short k v = (λ i. next_if form d.block (clear i) (option_map (λ n. (n, all.blocks n)) (p.place i))) ∙ (λ i. next_area form d.block p.at (p.known i))
     ∙ ap (λ b. cond b (area_at (part bytes 24 (uint32_at bytes 20))) (broken Chain)) (extent_true form d.block bytes v)
@@ -199,7 +200,7 @@ no_extent all size c d three = clear_three (nat_eq d.kind 0 && nat_le all.partit
 
 -- ---- area after area
 -- what is shown of the areas behind this one
-abbrev Later : View → (ℕ → ℕ → Option Bytes) → ℕ → ℕ → ℕ → ℕ → (Bytes → Descriptors) → Type 0
+abbrev Later : View → PartitionBlocks → ℕ → ℕ → ℕ → ℕ → (Bytes → Descriptors) → Type 0
 Later all blocks form r size below later = (a : Bytes) (c : ℕ) (f : List Bytes) (xs : List LongAd) → IsJoined blocks form r a f xs → length f ≤ below → Left blocks size c xs
     → HasCells (from all size (later a).behind c (later a).all)
 
@@ -207,7 +208,7 @@ Later all blocks form r size below later = (a : Bytes) (c : ℕ) (f : List Bytes
 abbrev HasRoom : Bool → ℕ → List Bytes → Type 0
 HasRoom is_last below f = (bytes : Bytes) (more : List Bytes) → f ≡ bytes ∷ more → (is_last ≡ false) × (length more ≤ below)
 
-more_extents : (blocks : ℕ → ℕ → Option Bytes) (form r : ℕ) (d : LongAd) (ds : List LongAd) (f : List Bytes) (xs : List LongAd) → is_other d ≡ true → IsJoinedBy blocks form r (d ∷ ds) f xs
+more_extents : (blocks : PartitionBlocks) (form r : ℕ) (d : LongAd) (ds : List LongAd) (f : List Bytes) (xs : List LongAd) → is_other d ≡ true → IsJoinedBy blocks form r (d ∷ ds) f xs
     → (rest : List LongAd) × (xs ≡ d ∷ rest) × IsJoinedBy blocks form r ds f rest
 more_extents blocks form r d ds [] xs e h = (take_while is_other ds, h ∙ take_while-cons is_other d ds ∙ ap (λ b. cond b (d ∷ take_while is_other ds) []) e, refl)
 more_extents blocks form r d ds (b ∷ f) xs e (a, later, n, o, k, v, j, x) = (
@@ -216,7 +217,7 @@ more_extents blocks form r d ds (b ∷ f) xs e (a, later, n, o, k, v, j, x) = (
   (a, later, sym (ap (λ b. cond b (next_descriptor ds) (Some d)) e) ∙ sym (next-cons d ds) ∙ n, o, k, v, j, refl),
 )
 
-area_back : (all : View) (blocks : ℕ → ℕ → Option Bytes) → IsComplete all blocks → HasPartitions all → (form r size below : ℕ) (is_last : Bool) (later : Bytes → Descriptors) → (is_last ≡ false → Later all blocks form r size below later)
+area_back : (all : View) (blocks : PartitionBlocks) → IsComplete all blocks → HasPartitions all → (form r size below : ℕ) (is_last : Bool) (later : Bytes → Descriptors) → (is_last ≡ false → Later all blocks form r size below later)
     → (ds : List LongAd) (c : ℕ) (f : List Bytes) (xs : List LongAd) → HasRoom is_last below f → IsJoinedBy blocks form r ds f xs → Left blocks size c xs
     → HasCells (from all size (area_chain all form is_last later ds).behind c (area_chain all form is_last later ds).all)
 area_back all blocks w has form r size below is_last later h [] c [] xs room j left = done all size no_more c [] (nothing_left blocks size c xs left j)
@@ -252,7 +253,7 @@ area_back all blocks w has form r size below is_last later h (d ∷ ds) c f xs r
 
         next : next_of all form is_last (Some d) ≡ area_at area
         next = ap (λ b. next_of all form b (Some d)) (room bytes more q).0
-            ∙ follows all blocks w has form d bytes (subst (λ z. z.length ≤ 2048) at o.1) (subst (λ z. blocks z.reference z.block ≡ Some bytes) at k) (subst (λ z. IsExtentAt form z.block bytes) at v)
+            ∙ follows all blocks w has form d bytes (subst (λ z. z.length ≤ 2048) at o.1) (subst (λ z. blocks.at z.reference z.block ≡ Some bytes) at k) (subst (λ z. IsExtentAt form z.block bytes) at v)
 
         none : take_while is_other (d ∷ ds) ++ rest ≡ rest
         none = ap (λ z. z ++ rest) (take_while-cons is_other d ds ∙ ap (λ b. cond b (d ∷ take_while is_other ds) []) e)
@@ -283,38 +284,40 @@ area_back all blocks w has form r size below is_last later h (d ∷ ds) c f xs r
         cover = ap (λ b. cond b 0 d.length) (not_three (nat_eq d.kind 3) e)
     go ih false e (inr l) = on_next e l f refl j
 
-by_area : (blocks : ℕ → ℕ → Option Bytes) (form r : ℕ) (area : Bytes) (f : List Bytes) (xs : List LongAd) → IsJoined blocks form r area f xs → IsJoinedBy blocks form r (descriptors_in form r area) f xs
+by_area : (blocks : PartitionBlocks) (form r : ℕ) (area : Bytes) (f : List Bytes) (xs : List LongAd) → IsJoined blocks form r area f xs → IsJoinedBy blocks form r (descriptors_in blocks.takes_tail form r area) f xs
 by_area blocks form r area [] xs h = h
 by_area blocks form r area (b ∷ f) xs h = h
 
-chain_back : (all : View) (blocks : ℕ → ℕ → Option Bytes) → IsComplete all blocks → HasPartitions all → (form r size most : ℕ) (area : Bytes) (c : ℕ) (f : List Bytes) (xs : List LongAd)
-    → IsJoined blocks form r area f xs → length f ≤ most → Left blocks size c xs → HasCells (from all size (chain all form r most area).behind c (chain all form r most area).all)
+chain_back : (all : View) (blocks : PartitionBlocks) → IsComplete all blocks → HasPartitions all → (form r size most : ℕ) (area : Bytes) (c : ℕ) (f : List Bytes) (xs : List LongAd)
+    → IsJoined blocks form r area f xs → length f ≤ most → Left blocks size c xs → HasCells (from all size (chain blocks.takes_tail all form r most area).behind c (chain blocks.takes_tail all form r most area).all)
 chain_back all blocks w has form r size zero area c f xs j few left = area_back all blocks w has form r size 0 true (λ a. no_descriptors) (λ last. absurd (let z : ⊥ = cc in z))
-    (descriptors_in form r area) c f xs (λ bytes more q. absurd (let p : length f ≡ suc (length more) = ap length q in let z : ⊥ = omega (arith, few, p) in z)) (by_area blocks form r area f xs j) left
-chain_back all blocks w has form r size (suc most) area c f xs j few left = area_back all blocks w has form r size most false (λ a. chain all form r most a)
-    (λ last a. chain_back all blocks w has form r size most a) (descriptors_in form r area) c f xs
+    (descriptors_in blocks.takes_tail form r area) c f xs (λ bytes more q. absurd (let p : length f ≡ suc (length more) = ap length q in let z : ⊥ = omega (arith, few, p) in z)) (by_area blocks form r area f xs j) left
+chain_back all blocks w has form r size (suc most) area c f xs j few left = area_back all blocks w has form r size most false (λ a. chain blocks.takes_tail all form r most a)
+    (λ last a. chain_back all blocks w has form r size most a) (descriptors_in blocks.takes_tail form r area) c f xs
     (λ bytes more q. (refl, let p : length f ≡ suc (length more) = ap length q in omega (arith, few, p))) (by_area blocks form r area f xs j) left
 
-extents_back : (all : View) (blocks : ℕ → ℕ → Option Bytes) → IsComplete all blocks → HasPartitions all → (r : ℕ) (entry : EntryFields) (whole : List Located) → IsExtentsBody blocks r entry whole
+extents_back : (all : View) (blocks : PartitionBlocks) → IsComplete all blocks → HasPartitions all → (r : ℕ) (entry : EntryFields) (whole : List Located) → IsExtentsBody blocks r entry whole
     → HasCells (extents_body all entry.size (allocation_descriptors all r entry))
 unfolding allocation_descriptors
 extents_back all blocks w has r entry whole x = (got.0, body-from all entry.size (allocation_descriptors all r entry) ∙ got.1)
   where
     got : HasCells (from all entry.size (allocation_descriptors all r entry).behind 0 (allocation_descriptors all r entry).all)
-    got = chain_back all blocks w has entry.form r entry.size 256 entry.area 0 x.followed x.extents x.joined x.limit
-        (record { sound = x.sound; enough = let e : entry.size ≤ length x.bytes = x.enough in let z : length x.bytes ≡ length (bytes_of blocks x.extents) = ap length x.together in omega (arith, e, z) })
+    got = subst (λ t. HasCells (from all entry.size (chain t all entry.form r 256 entry.area).behind 0 (chain t all entry.form r 256 entry.area).all)) w.tail
+        (chain_back all blocks w has entry.form r entry.size 256 entry.area 0 x.followed x.extents x.joined x.limit
+        (record { sound = x.sound; enough = let e : entry.size ≤ length x.bytes = x.enough in let z : length x.bytes ≡ length (bytes_of blocks x.extents) = ap length x.together in omega (arith, e, z) }))
 
-body_back : (all : View) (blocks : ℕ → ℕ → Option Bytes) → IsComplete all blocks → HasPartitions all → (r b : ℕ) (entry : EntryFields) (whole : List Located) → IsBodyOf blocks r b entry whole
+body_back : (all : View) (blocks : PartitionBlocks) → IsComplete all blocks → HasPartitions all → (r b : ℕ) (entry : EntryFields) (whole : List Located) → IsBodyOf blocks r b entry whole
     → HasCells (body all r b entry)
 unfolding body
 body_back all blocks w has r b entry whole = go (nat_eq entry.form 3)
   where
-    go : (x : Bool) → cond x (IsEmbeddedBody b entry whole) (IsExtentsBody blocks r entry whole) → HasCells (cond x (embedded_body b entry) (extents_body all entry.size (allocation_descriptors all r entry)))
+    go : (x : Bool) → cond x (IsEmbeddedBody b entry whole) (IsExtentsBody blocks r entry whole) → HasCells (cond x (embedded_body b entry) (extents_body_by all entry.form r entry.size entry.area))
     go true e = (
       map (λ x. Byte x (Some b)) (take entry.size entry.area),
       ap (λ t. cond t (cells (map (λ x. Byte x (Some b)) (take entry.size entry.area))) (faulty_body Short)) (le-leb entry.size (length entry.area) e.enough),
     )
-    go false e = extents_back all blocks w has r entry whole e
+    go false e = let q : HasCells (extents_body all entry.size (allocation_descriptors all r entry)) = extents_back all blocks w has r entry whole e in
+        (q.0, body_counted all r entry q.0 q.1)
 
 pub standard_bodies : StandardBodies
 standard_bodies all blocks w has r b entry whole is = got.1 ∙ ap cells (read.is ∙ ap as_cells (sym (read.only whole is)))

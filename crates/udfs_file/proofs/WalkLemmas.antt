@@ -1,19 +1,19 @@
 -- The walk over the descriptors of an entry, from the middle of an area on.
---     chain_from v form r left ds     all descriptors from here on: those that this area has left, and what follows
+--     chain_from t v form r left ds     all descriptors from here on: those that this area has left, and what follows
 --     rest_from ..                    the body from cell c on, where descriptor i is the next one of the area
 -- What the rest gives, put behind what was taken, is the whole: each lemma is one way to go on.
-use Rattle.std.proofs.Common.{◌≡◌, ◌≢◌, refl, sym, ◌∙◌, ap, inl, inr, ◌⊎◌, ℕ, ◌+◌, ◌-◌, ◌%◌, ◌<◌, ◌≤◌, min, true, false, not, cond, ◌&&◌, List, [], ◌∷◌, ◌++◌, length, take, map, arith, Option, Some, None, slice_get, nat_lt, nat_le, replicate, add-zero, append_assoc, append-nil}
+use Rattle.std.proofs.Common.{◌≡◌, ◌≢◌, refl, sym, ◌∙◌, ap, inl, inr, ◌⊎◌, ℕ, ◌+◌, ◌-◌, ◌%◌, ◌<◌, ◌≤◌, min, Bool, true, false, not, cond, ◌&&◌, List, [], ◌∷◌, ◌++◌, length, take, map, arith, Option, Some, None, slice_get, nat_lt, nat_le, replicate, add-zero, append_assoc, append-nil}
 use Rattle.std.proofs.lemmas.List.Concat.{flat_map-append}
 use Rattle.std.specs.Prelude.{take_while, zero, suc, flat_map, ◌==◌}
 use Rattle.std.specs.List.{range_with_len}
 use Rattle.std.proofs.lemmas.List.Sums.{take_while-cons}
 use Rattle.udfs_tag.specs.declared.layouts.LongAd.{LongAd}
 use Rattle.udfs_space.specs.Places.{View, is_past}
-use Rattle.udfs_file.specs.Bodies.{Next, no_more, area_at, unread_at, broken, Descriptors, no_descriptors, joined, chain, up_to_next, next_descriptor, next_of, next_by, descriptor_at, descriptor_count, descriptors_in, covers, cells_in, extent_fault, extent_cells, Body, cells, faulty_body, ended_body, body_unless, is_odd, is_misreferred, is_misplaced, recorded_cell}
+use Rattle.udfs_file.specs.Bodies.{Next, no_more, area_at, unread_at, broken, Descriptors, no_descriptors, joined, chain, up_to_next, next_descriptor, next_of, next_by, descriptor_at, descriptor_count, descriptors_in, listed_body, covers, cells_in, extent_fault, extent_cells, Body, cells, faulty_body, ended_body, body_unless, is_odd, is_misreferred, is_misplaced, recorded_cell}
 use Rattle.udfs_volume.specs.Layout.{blocks_in}
 use Rattle.udfs_file.specs.declared.cells.Cell.{Cell}
 use Rattle.udfs_file.specs.declared.cells.Cell.TheVariants.{Byte}
-use Rattle.udfs_file.specs.Stretches.{stretch_cells, stretch_count, cells_of, IsExtent, listed_body}
+use Rattle.udfs_file.specs.Stretches.{stretch_cells, stretch_count, cells_of, IsExtent}
 use Rattle.udfs_file.specs.declared.stretches.Stretch.{Stretch}
 use Rattle.udfs_file.specs.declared.stretches.Stretch.TheVariants.{Missing}
 use Rattle.udfs_file.specs.declared.faults.NodeFault.{NodeFault}
@@ -22,17 +22,17 @@ use Rattle.udfs_file.proofs.BodyFrom.{from, onto, body-from, le_or_lt, not_le, n
 use Rattle.udfs_file.proofs.ExtentLemmas.{is_not, is_same, none_of_three}
 
 -- ---- the descriptors from the middle of an area on
-abbrev pub later : View → ℕ → ℕ → ℕ → List ℕ → Descriptors
-later v form r zero area = no_descriptors
-later v form r (suc left) area = chain v form r left area
+abbrev pub later : Bool → View → ℕ → ℕ → ℕ → List ℕ → Descriptors
+later t v form r zero area = no_descriptors
+later t v form r (suc left) area = chain t v form r left area
 
-abbrev pub chain_from : View → ℕ → ℕ → ℕ → List LongAd → Descriptors
-chain_from v form r left ds = joined (up_to_next ds) (next_of v form (left == 0) (next_descriptor ds)) (later v form r left)
+abbrev pub chain_from : Bool → View → ℕ → ℕ → ℕ → List LongAd → Descriptors
+chain_from t v form r left ds = joined (up_to_next ds) (next_of v form (left == 0) (next_descriptor ds)) (later t v form r left)
 
-pub chain-from : (v : View) (form r left : ℕ) (area : List ℕ) → chain v form r left area ≡ chain_from v form r left (descriptors_in form r area)
-chain-from v form r zero area = refl
-chain-from v form r (suc left) area = let ds = descriptors_in form r area in
-    ap (λ b. joined (up_to_next ds) (next_of v form b (next_descriptor ds)) (chain v form r left)) (sym (is_not (suc left) 0 (λ e. absurd (omega arith))))
+pub chain-from : (t : Bool) (v : View) (form r left : ℕ) (area : List ℕ) → chain t v form r left area ≡ chain_from t v form r left (descriptors_in t form r area)
+chain-from t v form r zero area = refl
+chain-from t v form r (suc left) area = let ds = descriptors_in t form r area in
+    ap (λ b. joined (up_to_next ds) (next_of v form b (next_descriptor ds)) (chain t v form r left)) (sym (is_not (suc left) 0 (λ e. absurd (omega arith))))
 
 one_more : (n : ℕ) → suc n + 1 ≡ suc (n + 1)
 one_more n = omega arith
@@ -47,19 +47,19 @@ joined-cons d ds (unread_at n) more = refl
 joined-cons d ds (broken f) more = refl
 
 -- a descriptor of type 0, 1 or 2 is the next one
-pub chain_from-cons : (v : View) (form r left : ℕ) (d : LongAd) (ds : List LongAd) → d.kind ≢ 3
-    → chain_from v form r left (d ∷ ds) ≡ with_first d (chain_from v form r left ds)
-chain_from-cons v form r left d ds h =
-    ap (λ (t : List LongAd). joined (take (length t + 1) (d ∷ ds)) (next_of v form (left == 0) (slice_get (d ∷ ds) (length t))) (later v form r left))
+pub chain_from-cons : (t : Bool) (v : View) (form r left : ℕ) (d : LongAd) (ds : List LongAd) → d.kind ≢ 3
+    → chain_from t v form r left (d ∷ ds) ≡ with_first d (chain_from t v form r left ds)
+chain_from-cons t v form r left d ds h =
+    ap (λ (u : List LongAd). joined (take (length u + 1) (d ∷ ds)) (next_of v form (left == 0) (slice_get (d ∷ ds) (length u))) (later t v form r left))
     (take_while-cons (λ d. not (d.kind == 3)) d ds ∙ ap (λ b. cond (not b) (d ∷ take_while (λ d. not (d.kind == 3)) ds) []) (is_not d.kind 3 h))
-    ∙ ap (λ (m : ℕ). joined (take m (d ∷ ds)) (next_of v form (left == 0) (next_descriptor ds)) (later v form r left)) (one_more (length (take_while (λ d. not (d.kind == 3)) ds)))
-    ∙ joined-cons d (up_to_next ds) (next_of v form (left == 0) (next_descriptor ds)) (later v form r left)
+    ∙ ap (λ (m : ℕ). joined (take m (d ∷ ds)) (next_of v form (left == 0) (next_descriptor ds)) (later t v form r left)) (one_more (length (take_while (λ d. not (d.kind == 3)) ds)))
+    ∙ joined-cons d (up_to_next ds) (next_of v form (left == 0) (next_descriptor ds)) (later t v form r left)
 
 -- one of type 3 is the last of its area
-pub chain_from-next : (v : View) (form r left : ℕ) (d : LongAd) (ds : List LongAd) → d.kind ≡ 3
-    → chain_from v form r left (d ∷ ds) ≡ joined (d ∷ []) (next_by v form (left == 0) d) (later v form r left)
-chain_from-next v form r left d ds h =
-    ap (λ (t : List LongAd). joined (take (length t + 1) (d ∷ ds)) (next_of v form (left == 0) (slice_get (d ∷ ds) (length t))) (later v form r left))
+pub chain_from-next : (t : Bool) (v : View) (form r left : ℕ) (d : LongAd) (ds : List LongAd) → d.kind ≡ 3
+    → chain_from t v form r left (d ∷ ds) ≡ joined (d ∷ []) (next_by v form (left == 0) d) (later t v form r left)
+chain_from-next t v form r left d ds h =
+    ap (λ (u : List LongAd). joined (take (length u + 1) (d ∷ ds)) (next_of v form (left == 0) (slice_get (d ∷ ds) (length u))) (later t v form r left))
     (take_while-cons (λ d. not (d.kind == 3)) d ds ∙ ap (λ b. cond (not b) (d ∷ take_while (λ d. not (d.kind == 3)) ds) []) (is_same d.kind 3 h))
 
 -- ---- the body from cell c on
@@ -145,11 +145,11 @@ from-next v size behind c d ds h e k = from-taken v size behind c d ds h e
         ∙ ap (λ n. replicate n (Byte 0 None)) none
 
 -- ---- where descriptor i of an area is the next one
-abbrev pub left_in : ℕ → ℕ → List ℕ → ℕ → List LongAd
-left_in form r area i = map (descriptor_at form r area) (range_with_len i (descriptor_count form area - i))
+abbrev pub left_in : Bool → ℕ → ℕ → List ℕ → ℕ → List LongAd
+left_in t form r area i = map (descriptor_at t form r area) (range_with_len i (descriptor_count form area - i))
 
-abbrev pub rest_from : View → ℕ → ℕ → ℕ → ℕ → ℕ → List ℕ → ℕ → Body
-rest_from v size form r left c area i = body_of v size c (chain_from v form r left (left_in form r area i))
+abbrev pub rest_from : Bool → View → ℕ → ℕ → ℕ → ℕ → ℕ → List ℕ → ℕ → Body
+rest_from t v size form r left c area i = body_of v size c (chain_from t v form r left (left_in t form r area i))
 
 numbers_first : {A : Type 0} (f : ℕ → A) (i n : ℕ) → i < n → map f (range_with_len i (n - i)) ≡ f i ∷ map f (range_with_len (i + 1) (n - (i + 1)))
 numbers_first f i n h = let e : n - i ≡ suc (n - (i + 1)) = omega arith in ap (λ m. map f (range_with_len i m)) e
@@ -157,37 +157,37 @@ numbers_first f i n h = let e : n - i ≡ suc (n - (i + 1)) = omega arith in ap 
 numbers_none : {A : Type 0} (f : ℕ → A) (i n : ℕ) → n ≤ i → map f (range_with_len i (n - i)) ≡ []
 numbers_none f i n h = let e : n - i ≡ 0 = omega arith in ap (λ m. map f (range_with_len i m)) e
 
-left_first : (form r : ℕ) (area : List ℕ) (i : ℕ) (d : LongAd) → i < descriptor_count form area → d ≡ descriptor_at form r area i
-    → left_in form r area i ≡ d ∷ left_in form r area (i + 1)
-left_first form r area i d h e = numbers_first (descriptor_at form r area) i (descriptor_count form area) h ∙ ap (λ x. x ∷ left_in form r area (i + 1)) (sym e)
+left_first : (t : Bool) (form r : ℕ) (area : List ℕ) (i : ℕ) (d : LongAd) → i < descriptor_count form area → d ≡ descriptor_at t form r area i
+    → left_in t form r area i ≡ d ∷ left_in t form r area (i + 1)
+left_first t form r area i d h e = numbers_first (descriptor_at t form r area) i (descriptor_count form area) h ∙ ap (λ x. x ∷ left_in t form r area (i + 1)) (sym e)
 
 -- the first of an area
-rest-start : (v : View) (size form r left c : ℕ) (area : List ℕ) → body_of v size c (chain v form r left area) ≡ rest_from v size form r left c area 0
-rest-start v size form r left c area = ap (body_of v size c) (chain-from v form r left area)
-    ∙ ap (λ n. body_of v size c (chain_from v form r left (map (descriptor_at form r area) (range_with_len 0 n)))) (let e : descriptor_count form area ≡ descriptor_count form area - 0 = omega arith in e)
+rest-start : (t : Bool) (v : View) (size form r left c : ℕ) (area : List ℕ) → body_of v size c (chain t v form r left area) ≡ rest_from t v size form r left c area 0
+rest-start t v size form r left c area = ap (body_of v size c) (chain-from t v form r left area)
+    ∙ ap (λ n. body_of v size c (chain_from t v form r left (map (descriptor_at t form r area) (range_with_len 0 n)))) (let e : descriptor_count form area ≡ descriptor_count form area - 0 = omega arith in e)
 
-rest-end : (v : View) (size form r left c : ℕ) (area : List ℕ) (i : ℕ) → c < size → descriptor_count form area ≤ i
-    → rest_from v size form r left c area i ≡ faulty_body Short
-rest-end v size form r left c area i h k =
-    ap (λ ds. body_of v size c (chain_from v form r left ds)) (numbers_none (descriptor_at form r area) i (descriptor_count form area) k)
+rest-end : (t : Bool) (v : View) (size form r left c : ℕ) (area : List ℕ) (i : ℕ) → c < size → descriptor_count form area ≤ i
+    → rest_from t v size form r left c area i ≡ faulty_body Short
+rest-end t v size form r left c area i h k =
+    ap (λ ds. body_of v size c (chain_from t v form r left ds)) (numbers_none (descriptor_at t form r area) i (descriptor_count form area) k)
     ∙ from-end v size no_more c h
 
 -- an extent is next
-rest-cons : (v : View) (size form r left c : ℕ) (area : List ℕ) (i : ℕ) (d : LongAd) → i < descriptor_count form area → d ≡ descriptor_at form r area i → d.kind ≢ 3
-    → rest_from v size form r left c area i
-    ≡ from v size (chain_from v form r left (left_in form r area (i + 1))).behind c (d ∷ (chain_from v form r left (left_in form r area (i + 1))).all)
-rest-cons v size form r left c area i d h e k =
-    ap (λ ds. body_of v size c (chain_from v form r left ds)) (left_first form r area i d h e)
-    ∙ ap (body_of v size c) (chain_from-cons v form r left d (left_in form r area (i + 1)) k)
+rest-cons : (t : Bool) (v : View) (size form r left c : ℕ) (area : List ℕ) (i : ℕ) (d : LongAd) → i < descriptor_count form area → d ≡ descriptor_at t form r area i → d.kind ≢ 3
+    → rest_from t v size form r left c area i
+    ≡ from v size (chain_from t v form r left (left_in t form r area (i + 1))).behind c (d ∷ (chain_from t v form r left (left_in t form r area (i + 1))).all)
+rest-cons t v size form r left c area i d h e k =
+    ap (λ ds. body_of v size c (chain_from t v form r left ds)) (left_first t form r area i d h e)
+    ∙ ap (body_of v size c) (chain_from-cons t v form r left d (left_in t form r area (i + 1)) k)
 
 -- a continuation is next
-rest-next : (v : View) (size form r left c : ℕ) (area : List ℕ) (i : ℕ) (d : LongAd) (next : Next) → i < descriptor_count form area → d ≡ descriptor_at form r area i → d.kind ≡ 3
+rest-next : (t : Bool) (v : View) (size form r left c : ℕ) (area : List ℕ) (i : ℕ) (d : LongAd) (next : Next) → i < descriptor_count form area → d ≡ descriptor_at t form r area i → d.kind ≡ 3
     → next_by v form (left == 0) d ≡ next
-    → rest_from v size form r left c area i ≡ body_of v size c (joined (d ∷ []) next (later v form r left))
-rest-next v size form r left c area i d next h e k g =
-    ap (λ ds. body_of v size c (chain_from v form r left ds)) (left_first form r area i d h e)
-    ∙ ap (body_of v size c) (chain_from-next v form r left d (left_in form r area (i + 1)) k)
-    ∙ ap (λ n. body_of v size c (joined (d ∷ []) n (later v form r left))) g
+    → rest_from t v size form r left c area i ≡ body_of v size c (joined (d ∷ []) next (later t v form r left))
+rest-next t v size form r left c area i d next h e k g =
+    ap (λ ds. body_of v size c (chain_from t v form r left ds)) (left_first t form r area i d h e)
+    ∙ ap (body_of v size c) (chain_from-next t v form r left d (left_in t form r area (i + 1)) k)
+    ∙ ap (λ n. body_of v size c (joined (d ∷ []) n (later t v form r left))) g
 
 same_is : (a b : ℕ) → (a == b) ≡ true → a ≡ b
 same_is a b h = grind arith
@@ -196,86 +196,86 @@ not_is : (a b : ℕ) → (a == b) ≡ false → a ≢ b
 not_is a b h = grind arith
 
 -- a descriptor of length 0 is next, whatever else it holds
-rest-zero : (v : View) (size form r left c : ℕ) (area : List ℕ) (i : ℕ) (d : LongAd) → c < size → i < descriptor_count form area → d ≡ descriptor_at form r area i → d.length ≡ 0
-    → rest_from v size form r left c area i ≡ faulty_body Short
-rest-zero v size form r left c area i d h k e z = elim (d.kind == 3) as (λ b. (d.kind == 3) ≡ b → rest_from v size form r left c area i ≡ faulty_body Short) [
-  | true ↦ λ t. rest-next v size form r left c area i d (next_by v form (left == 0) d) k e (same_is d.kind 3 t) refl ∙ joined-zero (next_by v form (left == 0) d)
-  | false ↦ λ t. rest-cons v size form r left c area i d k e (not_is d.kind 3 t)
-      ∙ from-zero v size (chain_from v form r left (left_in form r area (i + 1))).behind c d (chain_from v form r left (left_in form r area (i + 1))).all h z
+rest-zero : (t : Bool) (v : View) (size form r left c : ℕ) (area : List ℕ) (i : ℕ) (d : LongAd) → c < size → i < descriptor_count form area → d ≡ descriptor_at t form r area i → d.length ≡ 0
+    → rest_from t v size form r left c area i ≡ faulty_body Short
+rest-zero t v size form r left c area i d h k e z = elim (d.kind == 3) as (λ b. (d.kind == 3) ≡ b → rest_from t v size form r left c area i ≡ faulty_body Short) [
+  | true ↦ λ k3. rest-next t v size form r left c area i d (next_by v form (left == 0) d) k e (same_is d.kind 3 k3) refl ∙ joined-zero (next_by v form (left == 0) d)
+  | false ↦ λ k3. rest-cons t v size form r left c area i d k e (not_is d.kind 3 k3)
+      ∙ from-zero v size (chain_from t v form r left (left_in t form r area (i + 1))).behind c d (chain_from t v form r left (left_in t form r area (i + 1))).all h z
 ] refl
   where
-    joined-zero : (next : Next) → body_of v size c (joined (d ∷ []) next (later v form r left)) ≡ faulty_body Short
+    joined-zero : (next : Next) → body_of v size c (joined (d ∷ []) next (later t v form r left)) ≡ faulty_body Short
     joined-zero no_more = from-zero v size no_more c d [] h z
-    joined-zero (area_at a) = from-zero v size (later v form r left a).behind c d (later v form r left a).all h z
+    joined-zero (area_at a) = from-zero v size (later t v form r left a).behind c d (later t v form r left a).all h z
     joined-zero (unread_at n) = from-zero v size (unread_at n) c d [] h z
     joined-zero (broken f) = from-zero v size (broken f) c d [] h z
 
 -- ---- the walk: what the rest gives, put behind what was taken, is the whole
-pub record IsWalk (v : View) (size form r : ℕ) (whole : Body) (left c : ℕ) (area : List ℕ) (i : ℕ) (taken : List Stretch) : Type 0 where
-  pub so_far : onto (cells_of v taken) (rest_from v size form r left c area i) ≡ whole
+pub record IsWalk (t : Bool) (v : View) (size form r : ℕ) (whole : Body) (left c : ℕ) (area : List ℕ) (i : ℕ) (taken : List Stretch) : Type 0 where
+  pub so_far : onto (cells_of v taken) (rest_from t v size form r left c area i) ≡ whole
 
 onto-onto : (x y : List Cell) (b : Body) → onto (x ++ y) b ≡ onto x (onto y b)
 onto-onto x y (cells cs) = ap cells (append_assoc x y cs)
 onto-onto x y (faulty_body f) = refl
 
-onto-fault : (v : View) (size form r : ℕ) (whole : Body) (left c : ℕ) (area : List ℕ) (i : ℕ) (taken : List Stretch) (f : NodeFault)
-    → IsWalk v size form r whole left c area i taken → rest_from v size form r left c area i ≡ faulty_body f → whole ≡ faulty_body f
-onto-fault v size form r whole left c area i taken f w e = sym w.so_far ∙ ap (onto (cells_of v taken)) e
+onto-fault : (t : Bool) (v : View) (size form r : ℕ) (whole : Body) (left c : ℕ) (area : List ℕ) (i : ℕ) (taken : List Stretch) (f : NodeFault)
+    → IsWalk t v size form r whole left c area i taken → rest_from t v size form r left c area i ≡ faulty_body f → whole ≡ faulty_body f
+onto-fault t v size form r whole left c area i taken f w e = sym w.so_far ∙ ap (onto (cells_of v taken)) e
 
 pub cells_of-push : (v : View) (taken : List Stretch) (s : Stretch) → cells_of v (taken ++ s ∷ []) ≡ cells_of v taken ++ stretch_cells v s
 unfolding cells_of
 cells_of-push v taken s = flat_map-append (stretch_cells v) taken (s ∷ []) ∙ ap (λ cs. flat_map (stretch_cells v) taken ++ cs) (append-nil (stretch_cells v s))
 
-pub walk-start : (v : View) (size form r : ℕ) (area : List ℕ) → IsWalk v size form r (listed_body v form r size area) 256 0 area 0 []
+pub walk-start : (t : Bool) (v : View) (size form r : ℕ) (area : List ℕ) → IsWalk t v size form r (listed_body t v form r size area) 256 0 area 0 []
 unfolding cells_of listed_body
-walk-start v size form r area = record {
+walk-start t v size form r area = record {
   so_far =
-      onto-nothing (rest_from v size form r 256 0 area 0) ∙ sym (rest-start v size form r 256 0 area) ∙ sym (body-from v size (chain v form r 256 area));
+      onto-nothing (rest_from t v size form r 256 0 area 0) ∙ sym (rest-start t v size form r 256 0 area) ∙ sym (body-from v size (chain t v form r 256 area));
 }
 
-module _ (v : View) (size form r : ℕ) (whole : Body) (left c : ℕ) (area : List ℕ) (i : ℕ) (taken : List Stretch) (w : IsWalk v size form r whole left c area i taken) where
+module _ (t : Bool) (v : View) (size form r : ℕ) (whole : Body) (left c : ℕ) (area : List ℕ) (i : ℕ) (taken : List Stretch) (w : IsWalk t v size form r whole left c area i taken) where
   pub walk-done : size ≤ c → whole ≡ cells (cells_of v taken)
   walk-done h = sym w.so_far
-      ∙ ap (onto (cells_of v taken)) (from-done v size (chain_from v form r left (left_in form r area i)).behind c (chain_from v form r left (left_in form r area i)).all h)
+      ∙ ap (onto (cells_of v taken)) (from-done v size (chain_from t v form r left (left_in t form r area i)).behind c (chain_from t v form r left (left_in t form r area i)).all h)
       ∙ ap cells (append-nil (cells_of v taken))
 
   pub walk-end : c < size → descriptor_count form area ≤ i → whole ≡ faulty_body Short
-  walk-end h k = onto-fault v size form r whole left c area i taken Short w (rest-end v size form r left c area i h k)
+  walk-end h k = onto-fault t v size form r whole left c area i taken Short w (rest-end t v size form r left c area i h k)
 
-  module _ (d : LongAd) (here : c < size) (is_here : i < descriptor_count form area) (is : d ≡ descriptor_at form r area i) where
+  module _ (d : LongAd) (here : c < size) (is_here : i < descriptor_count form area) (is : d ≡ descriptor_at t form r area i) where
     pub walk-zero : d.length ≡ 0 → whole ≡ faulty_body Short
-    walk-zero e = onto-fault v size form r whole left c area i taken Short w (rest-zero v size form r left c area i d here is_here is e)
+    walk-zero e = onto-fault t v size form r whole left c area i taken Short w (rest-zero t v size form r left c area i d here is_here is e)
 
-    pub walk-extent : d.length ≢ 0 → d.kind ≢ 3 → (s : Stretch) → IsExtent v size c d s → IsWalk v size form r whole left (c + stretch_count s) area (i + 1) (taken ++ s ∷ [])
+    pub walk-extent : d.length ≢ 0 → d.kind ≢ 3 → (s : Stretch) → IsExtent v size c d s → IsWalk t v size form r whole left (c + stretch_count s) area (i + 1) (taken ++ s ∷ [])
     walk-extent e k s x = record {
       so_far =
-          ap (λ (cs : List Cell). onto cs (rest_from v size form r left (c + stretch_count s) area (i + 1))) (cells_of-push v taken s)
-          ∙ onto-onto (cells_of v taken) (stretch_cells v s) (rest_from v size form r left (c + stretch_count s) area (i + 1))
-          ∙ ap (onto (cells_of v taken)) (sym (rest-cons v size form r left c area i d is_here is k
-          ∙ from-extent v size (chain_from v form r left (left_in form r area (i + 1))).behind c d (chain_from v form r left (left_in form r area (i + 1))).all s here e x))
+          ap (λ (cs : List Cell). onto cs (rest_from t v size form r left (c + stretch_count s) area (i + 1))) (cells_of-push v taken s)
+          ∙ onto-onto (cells_of v taken) (stretch_cells v s) (rest_from t v size form r left (c + stretch_count s) area (i + 1))
+          ∙ ap (onto (cells_of v taken)) (sym (rest-cons t v size form r left c area i d is_here is k
+          ∙ from-extent v size (chain_from t v form r left (left_in t form r area (i + 1))).behind c d (chain_from t v form r left (left_in t form r area (i + 1))).all s here e x))
           ∙ w.so_far;
     }
 
     pub walk-fault : d.length ≢ 0 → d.kind ≢ 3 → (f : NodeFault) → extent_fault v size (c, d) ≡ Some f → whole ≡ faulty_body f
-    walk-fault e k f x = onto-fault v size form r whole left c area i taken f w (rest-cons v size form r left c area i d is_here is k
-        ∙ from-fault v size (chain_from v form r left (left_in form r area (i + 1))).behind c d (chain_from v form r left (left_in form r area (i + 1))).all f here e x)
+    walk-fault e k f x = onto-fault t v size form r whole left c area i taken f w (rest-cons t v size form r left c area i d is_here is k
+        ∙ from-fault v size (chain_from t v form r left (left_in t form r area (i + 1))).behind c d (chain_from t v form r left (left_in t form r area (i + 1))).all f here e x)
 
-    pub walk-area : d.length ≢ 0 → d.kind ≡ 3 → (a : List ℕ) → next_by v form (left == 0) d ≡ area_at a → (l : ℕ) → left ≡ suc l → IsWalk v size form r whole l c a 0 taken
+    pub walk-area : d.length ≢ 0 → d.kind ≡ 3 → (a : List ℕ) → next_by v form (left == 0) d ≡ area_at a → (l : ℕ) → left ≡ suc l → IsWalk t v size form r whole l c a 0 taken
     walk-area e k a g l s = record {
       so_far =
-          ap (onto (cells_of v taken)) (sym (rest-start v size form r l c a)
-          ∙ ap (λ m. body_of v size c (later v form r m a)) (sym s)
-          ∙ sym (from-next v size (later v form r left a).behind c d (later v form r left a).all here e k)
-          ∙ sym (rest-next v size form r left c area i d (area_at a) is_here is k g))
+          ap (onto (cells_of v taken)) (sym (rest-start t v size form r l c a)
+          ∙ ap (λ m. body_of v size c (later t v form r m a)) (sym s)
+          ∙ sym (from-next v size (later t v form r left a).behind c d (later t v form r left a).all here e k)
+          ∙ sym (rest-next t v size form r left c area i d (area_at a) is_here is k g))
           ∙ w.so_far;
     }
 
     pub walk-unread : d.length ≢ 0 → d.kind ≡ 3 → (n : ℕ) → next_by v form (left == 0) d ≡ unread_at n → whole ≡ cells (cells_of v (taken ++ Missing n (size - c) ∷ []))
     walk-unread e k n g = sym w.so_far
-        ∙ ap (onto (cells_of v taken)) (rest-next v size form r left c area i d (unread_at n) is_here is k g
+        ∙ ap (onto (cells_of v taken)) (rest-next t v size form r left c area i d (unread_at n) is_here is k g
         ∙ from-next v size (unread_at n) c d [] here e k ∙ from-end v size (unread_at n) c here)
         ∙ ap cells (sym (cells_of-push v taken (Missing n (size - c))))
 
     pub walk-broken : d.length ≢ 0 → d.kind ≡ 3 → (f : NodeFault) → next_by v form (left == 0) d ≡ broken f → whole ≡ faulty_body f
-    walk-broken e k f g = onto-fault v size form r whole left c area i taken f w (rest-next v size form r left c area i d (broken f) is_here is k g
+    walk-broken e k f g = onto-fault t v size form r whole left c area i taken f w (rest-next t v size form r left c area i d (broken f) is_here is k g
         ∙ from-next v size (broken f) c d [] here e k ∙ from-end v size (broken f) c here)

@@ -12,11 +12,11 @@ use Rattle.udfs_tag.specs.Fields.{part, uint32_at}
 use Rattle.udfs_tag.specs.Tags.{is_valid}
 use Rattle.udfs_space.specs.Places.{View}
 use Rattle.udfs_file.specs.Entries.{EntryFields, descriptor_size}
-use Rattle.udfs_file.specs.Bodies.{Next, no_more, area_at, broken, Descriptors, covers, cells_in, continuation_fault, next_of, next_if, next_area, next_descriptor, up_to_next, descriptors_in, joined, no_descriptors, chain, allocation_descriptors, extent_cells, cells, faulty_body, ended_body, extents_body, embedded_body, body}
+use Rattle.udfs_file.specs.Bodies.{Next, no_more, area_at, broken, Descriptors, covers, cells_in, continuation_fault, next_of, next_if, next_area, next_descriptor, up_to_next, descriptors_in, joined, no_descriptors, chain, allocation_descriptors, extent_cells, cells, faulty_body, ended_body, extents_body, extents_body_by, embedded_body, body}
 use Rattle.udfs_file.specs.declared.cells.Cell.{Cell}
 use Rattle.udfs_file.specs.declared.cells.Cell.TheVariants.{Byte}
 use Rattle.udfs_tag.specs.Faults.{first_fault}
-use Rattle.udfs_file.specs.Standard.{Located, located, extent_bytes, extents_in, up_to_end, IsOneBlock, IsExtentAt, AreExtentsOf, IsJoined, IsExtentsBody, IsEmbeddedBody, IsBodyOf}
+use Rattle.udfs_file.specs.Standard.{PartitionBlocks, Located, located, extent_bytes, extents_in, up_to_end, IsOneBlock, IsExtentAt, AreExtentsOf, IsJoined, IsExtentsBody, IsEmbeddedBody, IsBodyOf}
 use Rattle.udfs_file.specs.Complete.{IsComplete, as_cell, as_cells, BodyLaw}
 use Rattle.udfs_file.specs.declared.faults.NodeFault.{NodeFault}
 use Rattle.udfs_file.specs.declared.faults.NodeFault.TheVariants.{Short, Chain, Range, Reference}
@@ -24,23 +24,24 @@ use Rattle.udfs_file.proofs.BodyFrom.{from, le_or_lt, body-from}
 use Rattle.udfs_file.proofs.Parts.{cells-same, no_cells, from-done, from-end, Taken, taken-inv, length-extent}
 use Rattle.udfs_file.proofs.ChainFits.{is_other, up-cons, next-cons, onto, joined-cons}
 use Rattle.udfs_file.proofs.WholeExtents.{ExtentIs, extent_is}
+use Rattle.udfs_file.proofs.Tails.{counted_body}
 use Rattle.udfs_file.proofs.Joins.{only_body}
 
 -- the standard's joined extents, of these allocation_descriptors in place of an area's
-abbrev pub IsJoinedBy : (ℕ → ℕ → Option Bytes) → ℕ → ℕ → List LongAd → List Bytes → List LongAd → Type 0
+abbrev pub IsJoinedBy : PartitionBlocks → ℕ → ℕ → List LongAd → List Bytes → List LongAd → Type 0
 IsJoinedBy blocks form r ds [] xs = xs ≡ take_while is_other ds
 IsJoinedBy blocks form r ds (bytes ∷ more) xs = (d : LongAd) × (later : List LongAd)
-    × (next_descriptor ds ≡ Some d) × IsOneBlock d × (blocks d.reference d.block ≡ Some bytes) × IsExtentAt form d.block bytes
+    × (next_descriptor ds ≡ Some d) × IsOneBlock d × (blocks.at d.reference d.block ≡ Some bytes) × IsExtentAt form d.block bytes
     × IsJoined blocks form r (part bytes 24 (uint32_at bytes 20)) more later
     × (xs ≡ take_while is_other ds ++ later)
 
-pub joined_by : (blocks : ℕ → ℕ → Option Bytes) (form r : ℕ) (area : Bytes) (f : List Bytes) (xs : List LongAd) → IsJoinedBy blocks form r (descriptors_in form r area) f xs
+pub joined_by : (blocks : PartitionBlocks) (form r : ℕ) (area : Bytes) (f : List Bytes) (xs : List LongAd) → IsJoinedBy blocks form r (descriptors_in blocks.takes_tail form r area) f xs
     → IsJoined blocks form r area f xs
 joined_by blocks form r area [] xs h = h
 joined_by blocks form r area (b ∷ f) xs h = h
 
 -- one more extent
-joined_more : (blocks : ℕ → ℕ → Option Bytes) (form r : ℕ) (d : LongAd) (ds : List LongAd) (f : List Bytes) (xs : List LongAd) → is_other d ≡ true
+joined_more : (blocks : PartitionBlocks) (form r : ℕ) (d : LongAd) (ds : List LongAd) (f : List Bytes) (xs : List LongAd) → is_other d ≡ true
     → IsJoinedBy blocks form r ds f xs → IsJoinedBy blocks form r (d ∷ ds) f (d ∷ xs)
 joined_more blocks form r d ds [] xs e h = ap (λ z. d ∷ z) h ∙ sym (take_while-cons is_other d ds ∙ ap (λ b. cond b (d ∷ take_while is_other ds) []) e)
 joined_more blocks form r d ds (b ∷ f) xs e (a, later, n, o, k, v, j, x) = (
@@ -54,11 +55,11 @@ joined_more blocks form r d ds (b ∷ f) xs e (a, later, n, o, k, v, j, x) = (
   ap (λ z. d ∷ z) x ∙ ap (λ z. z ++ later) (sym (take_while-cons is_other d ds ∙ ap (λ b. cond b (d ∷ take_while is_other ds) []) e)),
 )
 
-abbrev pub bytes_of : (ℕ → ℕ → Option Bytes) → List LongAd → List Located
+abbrev pub bytes_of : PartitionBlocks → List LongAd → List Located
 bytes_of blocks xs = flat_map (extent_bytes blocks) (up_to_end xs)
 
 -- The standard's reading from cell c on, with at most so many continuations.
-record Reading (blocks : ℕ → ℕ → Option Bytes) (size most : ℕ) (joins : List Bytes → List LongAd → Type 0) (c : ℕ) (cs : List Cell) : Type 0 where
+record Reading (blocks : PartitionBlocks) (size most : ℕ) (joins : List Bytes → List LongAd → Type 0) (c : ℕ) (cs : List Cell) : Type 0 where
   followed : List Bytes
   extents : List LongAd
   joined : joins followed extents
@@ -71,7 +72,7 @@ none_left : (size c : ℕ) → size ≤ c → size - c ≡ 0
 none_left size c h = omega arith
 
 -- behind the end of the body nothing is asked of an extent
-sound_behind : (blocks : ℕ → ℕ → Option Bytes) (c size : ℕ) (ds : List LongAd) → size ≤ c → AreExtentsOf blocks c size ds
+sound_behind : (blocks : PartitionBlocks) (c size : ℕ) (ds : List LongAd) → size ≤ c → AreExtentsOf blocks c size ds
 sound_behind blocks c size [] h = tt
 sound_behind blocks c size (d ∷ ds) h = (
   record { there = λ k j l q. absurd (let no : ⊥ = omega (arith, h, q) in no); full = λ l. absurd (let no : ⊥ = omega (arith, h, l) in no) },
@@ -82,7 +83,7 @@ nothing_below : (n : ℕ) → 0 ≤ n
 nothing_below n = omega arith
 
 -- where no cells are left
-reading_done : (v : View) (blocks : ℕ → ℕ → Option Bytes) (size most : ℕ) (joins : List Bytes → List LongAd → Type 0) (behind : Next) (c : ℕ) (ds : List LongAd) (cs : List Cell) (xs : List LongAd)
+reading_done : (v : View) (blocks : PartitionBlocks) (size most : ℕ) (joins : List Bytes → List LongAd → Type 0) (behind : Next) (c : ℕ) (ds : List LongAd) (cs : List Cell) (xs : List LongAd)
     → joins [] xs → size ≤ c → from v size behind c ds ≡ cells cs → Reading blocks size most joins c cs
 reading_done v blocks size most joins behind c ds cs xs j h e = record {
   followed = [];
@@ -106,18 +107,18 @@ not_more : (n : ℕ) → nat_lt 2048 n ≡ false → n ≤ 2048
 not_more n h = grind arith
 
 -- What stands behind the allocation_descriptors of an area in a complete partition.
-record IsFollowing (blocks : ℕ → ℕ → Option Bytes) (form : ℕ) (is_last : Bool) (d : LongAd) (x : Next) (bytes : Bytes) : Type 0 where
+record IsFollowing (blocks : PartitionBlocks) (form : ℕ) (is_last : Bool) (d : LongAd) (x : Next) (bytes : Bytes) : Type 0 where
   is : x ≡ area_at (part bytes 24 (uint32_at bytes 20))
-  given : blocks d.reference d.block ≡ Some bytes
+  given : blocks.at d.reference d.block ≡ Some bytes
   extent : IsExtentAt form d.block bytes
   long : nat_lt 2048 d.length ≡ false
   allowed : is_last ≡ false
 
-data Then (blocks : ℕ → ℕ → Option Bytes) (form : ℕ) (is_last : Bool) (d : LongAd) (x : Next) : Type 0 where
+data Then (blocks : PartitionBlocks) (form : ℕ) (is_last : Bool) (d : LongAd) (x : Next) : Type 0 where
   then_area : (bytes : Bytes) → IsFollowing blocks form is_last d x bytes → Then blocks form is_last d x
   then_broken : (f : NodeFault) → x ≡ broken f → Then blocks form is_last d x
 
-then_in : (blocks : ℕ → ℕ → Option Bytes) (form n : ℕ) (is_last : Bool) (d : LongAd) (bytes : Bytes) → blocks d.reference d.block ≡ Some bytes → (nat_lt 2048 d.length ≡ false) × (is_last ≡ false)
+then_in : (blocks : PartitionBlocks) (form n : ℕ) (is_last : Bool) (d : LongAd) (bytes : Bytes) → blocks.at d.reference d.block ≡ Some bytes → (nat_lt 2048 d.length ≡ false) × (is_last ≡ false)
     → Then blocks form is_last d (next_area form d.block n (Known bytes))
 then_in blocks form n is_last d bytes k short =
     go (is_valid bytes d.block 258) refl (nat_le (24 + uint32_at bytes 20) 2048) refl (nat_eq (uint32_at bytes 20 % descriptor_size form) 0) refl
@@ -138,7 +139,7 @@ then_in blocks form n is_last d bytes k short =
     go true e false p y q = then_broken Chain refl
     go false e x p y q = then_broken Chain refl
 
-then_is : (all : View) (blocks : ℕ → ℕ → Option Bytes) → IsComplete all blocks → (form : ℕ) (is_last : Bool) (d : LongAd) → Then blocks form is_last d (next_of all form is_last (Some d))
+then_is : (all : View) (blocks : PartitionBlocks) → IsComplete all blocks → (form : ℕ) (is_last : Bool) (d : LongAd) → Then blocks form is_last d (next_of all form is_last (Some d))
 then_is all blocks w form is_last d = go (continuation_fault all is_last d) refl (all.place d.reference d.block) refl
   where
     F : Option NodeFault → Option ℕ → Next
@@ -150,7 +151,7 @@ then_is all blocks w form is_last d = go (continuation_fault all is_last d) refl
     go : (o : Option NodeFault) → continuation_fault all is_last d ≡ o → (x : Option ℕ) → all.place d.reference d.block ≡ x → Then blocks form is_last d (next_of all form is_last (Some d))
     go (Some f) a x b = then_broken f (sym (to (Some f) x a b))
     go None a None b = then_broken Range (sym (to None None a b))
-    go None a (Some n) b = let t : (bytes : Bytes) × (all.blocks n ≡ Known bytes) × (blocks d.reference d.block ≡ Some bytes) × (length bytes ≡ 2048) = w.there d.reference d.block n b in
+    go None a (Some n) b = let t : (bytes : Bytes) × (all.blocks n ≡ Known bytes) × (blocks.at d.reference d.block ≡ Some bytes) × (length bytes ≡ 2048) = w.there d.reference d.block n b in
         subst (Then blocks form is_last d) (ap (next_area form d.block n) (sym t.1) ∙ to None (Some n) a b)
         (then_in blocks form n is_last d t.0 t.2 (third_none (nat_le all.partitions d.reference) (is_none (all.place d.reference d.block)) (nat_lt 2048 d.length) is_last a))
 
@@ -224,7 +225,7 @@ area-cons v form is_last later d ds b e = (λ i. joined (up-cons d ds i) (next_o
     go false = refl
 
 -- an extent, and the reading behind it
-extent_reads : (all : View) (blocks : ℕ → ℕ → Option Bytes) → IsComplete all blocks → (form r size most c : ℕ) (behind : Next) (d : LongAd) (ds all_ds : List LongAd) (cs : List Cell) → is_other d ≡ true
+extent_reads : (all : View) (blocks : PartitionBlocks) → IsComplete all blocks → (form r size most c : ℕ) (behind : Next) (d : LongAd) (ds all_ds : List LongAd) (cs : List Cell) → is_other d ≡ true
     → (t : Taken all size behind c d all_ds cs) → Reading blocks size most (IsJoinedBy blocks form r ds) (c + covers d) t.then.rest → Reading blocks size most (IsJoinedBy blocks form r (d ∷ ds)) c cs
 extent_reads all blocks w form r size most c behind d ds all_ds cs e t q = record {
   followed = q.followed;
@@ -262,7 +263,7 @@ extent_reads all blocks w form r size most c behind d ds all_ds cs e t q = recor
     m = meet (covers d) (size - c) E B x.enough (subst (λ z. length E ≤ z) (sym cover) x.most) (subst (λ z. z ≤ length B) left q.enough)
 
 -- a continuation, and the reading in its area
-next_reads : (all : View) (blocks : ℕ → ℕ → Option Bytes) → IsComplete all blocks → (form r size most below c : ℕ) (is_last : Bool) → (is_last ≡ false → suc below ≤ most) → (later : Bytes → Descriptors)
+next_reads : (all : View) (blocks : PartitionBlocks) → IsComplete all blocks → (form r size most below c : ℕ) (is_last : Bool) → (is_last ≡ false → suc below ≤ most) → (later : Bytes → Descriptors)
     → ((a : Bytes) (c : ℕ) (cs : List Cell) → from all size (later a).behind c (later a).all ≡ cells cs → Reading blocks size below (IsJoined blocks form r a) c cs)
     → (d : LongAd) (ds : List LongAd) (cs : List Cell) → is_other d ≡ false → c < size → (x : Next) → Then blocks form is_last d x
     → from all size (joined (d ∷ []) x later).behind c (joined (d ∷ []) x later).all ≡ cells cs → Reading blocks size most (IsJoinedBy blocks form r (d ∷ ds)) c cs
@@ -313,7 +314,7 @@ next_reads all blocks w form r size most below c is_last room later h d ds cs e 
         read : Reading blocks size below (IsJoined blocks form r area) (c + covers d) t.then.rest
         read = h area (c + covers d) t.then.rest t.then.is
 
-area_reads : (all : View) (blocks : ℕ → ℕ → Option Bytes) → IsComplete all blocks → (form r size most below : ℕ) (is_last : Bool) → (is_last ≡ false → suc below ≤ most) → (later : Bytes → Descriptors)
+area_reads : (all : View) (blocks : PartitionBlocks) → IsComplete all blocks → (form r size most below : ℕ) (is_last : Bool) → (is_last ≡ false → suc below ≤ most) → (later : Bytes → Descriptors)
     → ((a : Bytes) (c : ℕ) (cs : List Cell) → from all size (later a).behind c (later a).all ≡ cells cs → Reading blocks size below (IsJoined blocks form r a) c cs)
     → (ds : List LongAd) (c : ℕ) (cs : List Cell) → from all size (area_chain all form is_last later ds).behind c (area_chain all form is_last later ds).all ≡ cells cs
     → Reading blocks size most (IsJoinedBy blocks form r ds) c cs
@@ -339,34 +340,34 @@ area_reads all blocks w form r size most below is_last room later h (d ∷ ds) c
     go (inr l) false q ih = next_reads all blocks w form r size most below c is_last room later h d ds cs q l (next_of all form is_last (Some d)) (then_is all blocks w form is_last d)
         (to (joined (d ∷ []) (next_of all form is_last (Some d)) later) (area-cons all form is_last later d ds false q))
 
-of_area : (blocks : ℕ → ℕ → Option Bytes) (form r size most : ℕ) (area : Bytes) (c : ℕ) (cs : List Cell) → Reading blocks size most (IsJoinedBy blocks form r (descriptors_in form r area)) c cs
+of_area : (blocks : PartitionBlocks) (form r size most : ℕ) (area : Bytes) (c : ℕ) (cs : List Cell) → Reading blocks size most (IsJoinedBy blocks form r (descriptors_in blocks.takes_tail form r area)) c cs
     → Reading blocks size most (IsJoined blocks form r area) c cs
 of_area blocks form r size most area c cs q = record { followed = q.followed; extents = q.extents; joined = joined_by blocks form r area q.followed q.extents q.joined; limit = q.limit; sound = q.sound; enough = q.enough; same = q.same }
 
 no_less : (n : ℕ) → n ≤ n
 no_less n = omega arith
 
-chain_reads : (all : View) (blocks : ℕ → ℕ → Option Bytes) → IsComplete all blocks → (form r size left : ℕ) (area : Bytes) (c : ℕ) (cs : List Cell)
-    → from all size (chain all form r left area).behind c (chain all form r left area).all ≡ cells cs → Reading blocks size left (IsJoined blocks form r area) c cs
+chain_reads : (all : View) (blocks : PartitionBlocks) → IsComplete all blocks → (form r size left : ℕ) (area : Bytes) (c : ℕ) (cs : List Cell)
+    → from all size (chain blocks.takes_tail all form r left area).behind c (chain blocks.takes_tail all form r left area).all ≡ cells cs → Reading blocks size left (IsJoined blocks form r area) c cs
 chain_reads all blocks w form r size zero area c cs e = of_area blocks form r size 0 area c cs
-    (area_reads all blocks w form r size 0 0 true (λ t. absurd (let no : ⊥ = cc in no)) (λ a. no_descriptors) nothing_more (descriptors_in form r area) c cs e)
+    (area_reads all blocks w form r size 0 0 true (λ t. absurd (let no : ⊥ = cc in no)) (λ a. no_descriptors) nothing_more (descriptors_in blocks.takes_tail form r area) c cs e)
   where
     nothing_more : (a : Bytes) (c : ℕ) (cs : List Cell) → from all size no_more c [] ≡ cells cs → Reading blocks size 0 (IsJoined blocks form r a) c cs
     nothing_more a c cs e = go (le_or_lt size c)
       where
         go : (size ≤ c) ⊎ (c < size) → Reading blocks size 0 (IsJoined blocks form r a) c cs
-        go (inl l) = reading_done all blocks size 0 (IsJoined blocks form r a) no_more c [] cs (extents_in form r a) refl l e
+        go (inl l) = reading_done all blocks size 0 (IsJoined blocks form r a) no_more c [] cs (extents_in blocks.takes_tail form r a) refl l e
         go (inr l) = no_cells Short cs (sym (from-end all size no_more c l) ∙ e)
 chain_reads all blocks w form r size (suc left) area c cs e = of_area blocks form r size (suc left) area c cs
-    (area_reads all blocks w form r size (suc left) left false (λ t. no_less (suc left)) (λ a. chain all form r left a) (λ a. chain_reads all blocks w form r size left a) (descriptors_in form r area) c cs e)
+    (area_reads all blocks w form r size (suc left) left false (λ t. no_less (suc left)) (λ a. chain blocks.takes_tail all form r left a) (λ a. chain_reads all blocks w form r size left a) (descriptors_in blocks.takes_tail form r area) c cs e)
 
 -- the body is read
-record Found (blocks : ℕ → ℕ → Option Bytes) (cs : List Cell) (reads : List Located → Type 0) : Type 0 where
+record Found (blocks : PartitionBlocks) (cs : List Cell) (reads : List Located → Type 0) : Type 0 where
   whole : List Located
   is : cs ≡ as_cells whole
   read : reads whole
 
-extents_read : (all : View) (blocks : ℕ → ℕ → Option Bytes) → IsComplete all blocks → (r : ℕ) (entry : EntryFields) (cs : List Cell)
+extents_read : (all : View) (blocks : PartitionBlocks) → IsComplete all blocks → (r : ℕ) (entry : EntryFields) (cs : List Cell)
     → extents_body all entry.size (allocation_descriptors all r entry) ≡ cells cs → Found blocks cs (IsExtentsBody blocks r entry)
 unfolding allocation_descriptors
 extents_read all blocks w r entry cs e = record {
@@ -389,7 +390,8 @@ extents_read all blocks w r entry cs e = record {
     whole_size = omega arith
 
     q : Reading blocks entry.size 256 (IsJoined blocks entry.form r entry.area) 0 cs
-    q = chain_reads all blocks w entry.form r entry.size 256 entry.area 0 cs (sym (body-from all entry.size (allocation_descriptors all r entry)) ∙ e)
+    q = chain_reads all blocks w entry.form r entry.size 256 entry.area 0 cs
+        (ap (λ t. from all entry.size (chain t all entry.form r 256 entry.area).behind 0 (chain t all entry.form r 256 entry.area).all) w.tail ∙ sym (body-from all entry.size (allocation_descriptors all r entry)) ∙ e)
 
 le_is : (a b : ℕ) → nat_le a b ≡ true → a ≤ b
 le_is a b e = grind arith
@@ -398,7 +400,7 @@ cells_embedded : (b : ℕ) (xs : Bytes) → map (λ x. Byte x (Some b)) xs ≡ a
 cells_embedded b [] = refl
 cells_embedded b (x ∷ xs) = ap (λ z. Byte x (Some b) ∷ z) (cells_embedded b xs)
 
-embedded_read : (blocks : ℕ → ℕ → Option Bytes) (b : ℕ) (entry : EntryFields) (cs : List Cell) → embedded_body b entry ≡ cells cs → Found blocks cs (IsEmbeddedBody b entry)
+embedded_read : (blocks : PartitionBlocks) (b : ℕ) (entry : EntryFields) (cs : List Cell) → embedded_body b entry ≡ cells cs → Found blocks cs (IsEmbeddedBody b entry)
 embedded_read blocks b entry cs e = go (nat_le entry.size (length entry.area)) refl e
   where
     front : List Cell
@@ -412,14 +414,14 @@ embedded_read blocks b entry cs e = go (nat_le entry.size (length entry.area)) r
     }
     go false q k = no_cells Short cs k
 
-body_read : (all : View) (blocks : ℕ → ℕ → Option Bytes) → IsComplete all blocks → (r b : ℕ) (entry : EntryFields) (cs : List Cell) → body all r b entry ≡ cells cs → Found blocks cs (IsBodyOf blocks r b entry)
+body_read : (all : View) (blocks : PartitionBlocks) → IsComplete all blocks → (r b : ℕ) (entry : EntryFields) (cs : List Cell) → body all r b entry ≡ cells cs → Found blocks cs (IsBodyOf blocks r b entry)
 unfolding body
 body_read all blocks w r b entry cs e = go (nat_eq entry.form 3) e
   where
-    go : (x : Bool) → cond x (embedded_body b entry) (extents_body all entry.size (allocation_descriptors all r entry)) ≡ cells cs
+    go : (x : Bool) → cond x (embedded_body b entry) (extents_body_by all entry.form r entry.size entry.area) ≡ cells cs
         → Found blocks cs (λ whole. cond x (IsEmbeddedBody b entry whole) (IsExtentsBody blocks r entry whole))
     go true k = embedded_read blocks b entry cs k
-    go false k = extents_read all blocks w r entry cs k
+    go false k = extents_read all blocks w r entry cs (counted_body all r entry cs k)
 
 pub body_law : BodyLaw
 body_law all blocks w r b entry cs e = let f : Found blocks cs (IsBodyOf blocks r b entry) = body_read all blocks w r b entry cs e in

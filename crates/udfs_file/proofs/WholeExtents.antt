@@ -15,7 +15,7 @@ use Rattle.udfs_space.specs.Places.{block_at}
 use Rattle.udfs_file.specs.Bodies.{covers, cells_in, extent_fault, cell_in, cell_at, recorded_cell, extent_cells}
 use Rattle.udfs_file.specs.declared.cells.Cell.{Cell}
 use Rattle.udfs_file.specs.declared.cells.Cell.TheVariants.{Byte, Gap}
-use Rattle.udfs_file.specs.Standard.{Located, located, block_bytes, extent_bytes, IsExtentOf}
+use Rattle.udfs_file.specs.Standard.{PartitionBlocks, Located, located, block_bytes, extent_bytes, IsExtentOf}
 use Rattle.udfs_file.specs.Complete.{IsComplete, as_cell, as_cells}
 use Rattle.udfs_file.specs.declared.faults.NodeFault.TheVariants.{Reference, Range, Odd}
 use Rattle.std.proofs.lemmas.Bool.{eqb-true}
@@ -23,22 +23,22 @@ use Rattle.udfs_file.proofs.BodyFrom.{le_or_lt, is_lt}
 use Rattle.udfs_file.proofs.ExtentLemmas.{last_of}
 
 -- A block that has a place.
-pub record IsHeld (all : View) (blocks : ℕ → ℕ → Option Bytes) (r b : ℕ) : Type 0 where
+pub record IsHeld (all : View) (blocks : PartitionBlocks) (r b : ℕ) : Type 0 where
   pub at : ℕ
   pub place : all.place r b ≡ Some at
   pub bytes : Bytes
   pub known : all.blocks at ≡ Known bytes
-  pub given : blocks r b ≡ Some bytes
+  pub given : blocks.at r b ≡ Some bytes
   pub size : length bytes ≡ 2048
 
-pub held : (all : View) (blocks : ℕ → ℕ → Option Bytes) → IsComplete all blocks → (r b n : ℕ) → all.place r b ≡ Some n → IsHeld all blocks r b
-held all blocks w r b n e = let t : (bytes : Bytes) × (all.blocks n ≡ Known bytes) × (blocks r b ≡ Some bytes) × (length bytes ≡ 2048) = w.there r b n e in
+pub held : (all : View) (blocks : PartitionBlocks) → IsComplete all blocks → (r b n : ℕ) → all.place r b ≡ Some n → IsHeld all blocks r b
+held all blocks w r b n e = let t : (bytes : Bytes) × (all.blocks n ≡ Known bytes) × (blocks.at r b ≡ Some bytes) × (length bytes ≡ 2048) = w.there r b n e in
     record { at = n; place = e; bytes = t.0; known = t.1; given = t.2; size = t.3 }
 
 abbrev cell_from : View → ℕ → ℕ → ℕ → Cell
 cell_from v r s i = let b = s + i / 2048 in cell_at b (i % 2048) (block_at v r b)
 
-cell_held : (all : View) (blocks : ℕ → ℕ → Option Bytes) (r b i : ℕ) (h : IsHeld all blocks r b) → cell_at b i (block_at all r b) ≡ Byte (slice_index h.bytes i) (Some b)
+cell_held : (all : View) (blocks : PartitionBlocks) (r b i : ℕ) (h : IsHeld all blocks r b) → cell_at b i (block_at all r b) ≡ Byte (slice_index h.bytes i) (Some b)
 cell_held all blocks r b i h = ap (λ o. cell_at b i (option_map (λ n. (n, all.blocks n)) o)) h.place ∙ ap (cell_in b h.at i) h.known
 
 cells_located : (m s : ℕ) (bytes : Bytes) → as_cells (take m (located s bytes)) ≡ map (λ x. Byte x (Some s)) (take m bytes)
@@ -47,7 +47,7 @@ cells_located (suc m) s [] = refl
 cells_located (suc m) s (x ∷ xs) = ap (λ z. Byte x (Some s) ∷ z) (cells_located m s xs)
 
 -- the cells in the first block
-in_block : (all : View) (blocks : ℕ → ℕ → Option Bytes) (r s m : ℕ) → m ≤ 2048 → (h : IsHeld all blocks r s)
+in_block : (all : View) (blocks : PartitionBlocks) (r s m : ℕ) → m ≤ 2048 → (h : IsHeld all blocks r s)
     → as_cells (take m (located s h.bytes)) ≡ map (cell_from all r s) (range_with_len 0 m)
 in_block all blocks r s m l h = cells_located m s h.bytes ∙ fill_by_all (cell_from all r s) (map f (take m h.bytes)) m (Gap 0)
     (length-map (take m h.bytes) f ∙ long) each
@@ -85,15 +85,15 @@ range_shift f g a b (suc n) h = λ i. first i ∷ range_shift f g (a + 1) (b + 1
     later : (i : ℕ) → f (a + 1 + i) ≡ g (b + 1 + i)
     later i = ap f (let e : a + 1 + i ≡ a + (1 + i) = omega arith in e) ∙ h (1 + i) ∙ ap g (let e : b + (1 + i) ≡ b + 1 + i = omega arith in e)
 
-abbrev blocks_from : (ℕ → ℕ → Option Bytes) → ℕ → ℕ → ℕ → List Located
-blocks_from blocks r s n = flat_map (λ b. block_bytes b (blocks r b)) (range_with_len s n)
+abbrev blocks_from : PartitionBlocks → ℕ → ℕ → ℕ → List Located
+blocks_from blocks r s n = flat_map (λ b. block_bytes b (blocks.at r b)) (range_with_len s n)
 
-pub record FlatIs (all : View) (blocks : ℕ → ℕ → Option Bytes) (r s n m : ℕ) : Type 0 where
+pub record FlatIs (all : View) (blocks : PartitionBlocks) (r s n m : ℕ) : Type 0 where
   pub same : as_cells (take m (blocks_from blocks r s n)) ≡ map (cell_from all r s) (range_with_len 0 m)
   pub enough : m ≤ length (blocks_from blocks r s n)
 
 -- the cells go on in the next block
-on_block : (all : View) (blocks : ℕ → ℕ → Option Bytes) (r s n m l : ℕ) → l ≡ 2048 → l < m → IsHeld all blocks r s → FlatIs all blocks r (s + 1) n (m - l)
+on_block : (all : View) (blocks : PartitionBlocks) (r s n m l : ℕ) → l ≡ 2048 → l < m → IsHeld all blocks r s → FlatIs all blocks r (s + 1) n (m - l)
     → FlatIs all blocks r s (suc n) m
 on_block all blocks r s n m l e q h t = record { same = same; enough = enough }
   where
@@ -134,7 +134,7 @@ on_block all blocks r s n m l e q h t = record { same = same; enough = enough }
     enough = subst (λ z. m ≤ length z) (sym front) (let k : m - l ≤ length R = t.enough in
         let g : length (B ++ R) ≡ length B + length R = length-append B R in omega (arith, g, long, k))
 
-end_block : (all : View) (blocks : ℕ → ℕ → Option Bytes) (r s n m : ℕ) → m ≤ 2048 → IsHeld all blocks r s → FlatIs all blocks r s (suc n) m
+end_block : (all : View) (blocks : PartitionBlocks) (r s n m : ℕ) → m ≤ 2048 → IsHeld all blocks r s → FlatIs all blocks r s (suc n) m
 end_block all blocks r s n m l h = record {
   same = ap (λ z. as_cells (take m z)) front ∙ ap as_cells (take-append-le m B R (subst (λ z. m ≤ z) (sym long) l)) ∙ in_block all blocks r s m l h;
   enough = subst (λ z. m ≤ length z) (sym front) (let g : length (B ++ R) ≡ length B + length R = length-append B R in omega (arith, g, long, l));
@@ -152,7 +152,7 @@ end_block all blocks r s n m l h = record {
     front : blocks_from blocks r s (suc n) ≡ B ++ R
     front = ap (λ o. block_bytes s o ++ R) h.given
 
-pub flat_is : (all : View) (blocks : ℕ → ℕ → Option Bytes) (r n s m : ℕ) → m ≤ 2048 * n → ((j : ℕ) → 2048 * j < m → IsHeld all blocks r (s + j)) → FlatIs all blocks r s n m
+pub flat_is : (all : View) (blocks : PartitionBlocks) (r n s m : ℕ) → m ≤ 2048 * n → ((j : ℕ) → 2048 * j < m → IsHeld all blocks r (s + j)) → FlatIs all blocks r s n m
 flat_is all blocks r n s zero h k = record { same = refl; enough = omega arith }
 flat_is all blocks r zero s (suc m) h k = absurd (let x : ⊥ = omega (arith, h) in x)
 flat_is all blocks r (suc n) s (suc m) h k = go (flat_is all blocks r n (s + 1) (suc m - 2048)) (le_or_lt (suc m) 2048)
@@ -169,7 +169,7 @@ flat_is all blocks r (suc n) s (suc m) h k = go (flat_is all blocks r n (s + 1) 
         next j q = subst (IsHeld all blocks r) (let e : s + (1 + j) ≡ s + 1 + j = omega arith in e) (k (1 + j) (omega (arith, q)))
 
 -- What an extent is that has no fault.
-pub record ExtentIs (all : View) (blocks : ℕ → ℕ → Option Bytes) (size c : ℕ) (d : LongAd) : Type 0 where
+pub record ExtentIs (all : View) (blocks : PartitionBlocks) (size c : ℕ) (d : LongAd) : Type 0 where
   pub same : as_cells (take (cells_in size (c, d)) (extent_bytes blocks d)) ≡ extent_cells all size (c, d)
   pub enough : cells_in size (c, d) ≤ length (extent_bytes blocks d)
   pub most : length (extent_bytes blocks d) ≤ d.length
@@ -207,7 +207,7 @@ third_clear false false false x y z e = refl
 within_both : (a l s c : ℕ) → a < l → c + a < s → a < min l (s - c)
 within_both a l s c p q = grind arith
 
-pub extent_is : (all : View) (blocks : ℕ → ℕ → Option Bytes) → IsComplete all blocks → (size c : ℕ) (d : LongAd) → not (nat_eq d.kind 3) ≡ true → covers d ≡ d.length
+pub extent_is : (all : View) (blocks : PartitionBlocks) → IsComplete all blocks → (size c : ℕ) (d : LongAd) → not (nat_eq d.kind 3) ≡ true → covers d ≡ d.length
     → extent_fault all size (c, d) ≡ None → ExtentIs all blocks size c d
 extent_is all blocks w size c d other cover fault = go (nat_eq d.kind 0) refl
   where

@@ -1,6 +1,7 @@
 -- The body of an entry (ECMA-167 4/14.5, 4/14.14): its allocation allocation_descriptors, and the cells that they give.
 --     chain view form r left area       all allocation_descriptors, area after area
 --     used size ds                      those that are taken, each with its first cell
+--     in_whole_blocks d                 the last extent of a list, where its tail is taken
 --     body view r b entry               the cells, or the fault
 use Rattle.std.specs.Prelude.{◌≡◌, ℕ, zero, suc, ◌+◌, ◌-◌, ◌*◌, ◌/◌, ◌%◌, ◌<◌, ◌≤◌, min, Bool, true, false, not, List, [], ◌∷◌, ◌++◌, length, take, map, flat_map, replicate, take_while, slice_get, slice_index, cond, ◌==◌, nat_le, nat_lt, ◌&&◌, ◌||◌, Option, Some, None, is_none, ◌⊎◌}
 use Rattle.std.specs.List.{range_with_len}
@@ -26,16 +27,28 @@ abbrev pub long_of : ℕ → ShortAd → LongAd
 long_of r s = record { kind = s.kind; length = s.length; block = s.block; reference = r }
 
 -- descriptor i of an area
-abbrev pub descriptor_at : ℕ → ℕ → List ℕ → ℕ → LongAd
-descriptor_at form r area i = cond (form == 0) (long_of r (short_ad_at area (8 * i))) (long_ad_at area (16 * i))
+abbrev pub recorded_at : ℕ → ℕ → List ℕ → ℕ → LongAd
+recorded_at form r area i = cond (form == 0) (long_of r (short_ad_at area (8 * i))) (long_ad_at area (16 * i))
 
 -- how many there are
 abbrev pub descriptor_count : ℕ → List ℕ → ℕ
 descriptor_count form area = length area / descriptor_size form
 
+-- no other extent is behind descriptor i of an area: there is no descriptor, or one of length 0
+abbrev pub is_last_at : ℕ → ℕ → List ℕ → ℕ → Bool
+is_last_at form r area i = nat_le (descriptor_count form area) (i + 1) || ((recorded_at form r area (i + 1)).length == 0)
+
+-- an extent up to the end of its last block
+abbrev pub in_whole_blocks : LongAd → LongAd
+in_whole_blocks d = record { kind = d.kind; length = cond (d.kind == 3) d.length (2048 * blocks_in d.length); block = d.block; reference = d.reference }
+
+-- descriptor i, as it is counted: where the tail is taken, the last extent goes on to the end of its last block
+abbrev pub descriptor_at : Bool → ℕ → ℕ → List ℕ → ℕ → LongAd
+descriptor_at tail form r area i = cond (tail && is_last_at form r area i) (in_whole_blocks (recorded_at form r area i)) (recorded_at form r area i)
+
 -- the allocation_descriptors in an area
-abbrev pub descriptors_in : ℕ → ℕ → List ℕ → List LongAd
-descriptors_in form r area = map (descriptor_at form r area) (range_with_len 0 (descriptor_count form area))
+abbrev pub descriptors_in : Bool → ℕ → ℕ → List ℕ → List LongAd
+descriptors_in tail form r area = map (descriptor_at tail form r area) (range_with_len 0 (descriptor_count form area))
 
 -- What stands behind the allocation_descriptors of an area: nothing, another area, a block that is not known, or a fault.
 pub data Next : Type 0 where
@@ -103,15 +116,15 @@ abbrev pub no_descriptors : Descriptors
 no_descriptors = record { all = []; behind = no_more }
 
 -- the areas of an entry joined, with at most so many continuations
-abbrev pub chain : View → ℕ → ℕ → ℕ → List ℕ → Descriptors
-chain view form r zero area = let ds = descriptors_in form r area in
+abbrev pub chain : Bool → View → ℕ → ℕ → ℕ → List ℕ → Descriptors
+chain tail view form r zero area = let ds = descriptors_in tail form r area in
     joined (up_to_next ds) (next_of view form true (next_descriptor ds)) (λ a. no_descriptors)
-chain view form r (suc left) area = let ds = descriptors_in form r area in
-    joined (up_to_next ds) (next_of view form false (next_descriptor ds)) (λ a. chain view form r left a)
+chain tail view form r (suc left) area = let ds = descriptors_in tail form r area in
+    joined (up_to_next ds) (next_of view form false (next_descriptor ds)) (λ a. chain tail view form r left a)
 
 -- the allocation allocation_descriptors of an entry, with those of at most 256 continuations
 unfoldable pub allocation_descriptors : View → ℕ → EntryFields → Descriptors
-allocation_descriptors view r entry = chain view entry.form r 256 entry.area
+allocation_descriptors view r entry = chain view.takes_tail view entry.form r 256 entry.area
 
 -- how many cells a descriptor covers
 abbrev pub covers : LongAd → ℕ
@@ -212,6 +225,20 @@ extents_body view size ds = let taken = used size ds.all in
     body_unless (first_of_all (map (extent_fault view size) taken))
     (covered_body size taken ds (flat_map (extent_cells view size) taken))
 
+-- the body that the descriptors in this area begin, with the tail of the last extent or without it
+unfoldable pub listed_body : Bool → View → ℕ → ℕ → ℕ → List ℕ → Body
+listed_body tail view form r size area = extents_body view size (chain tail view form r 256 area)
+
+-- a body, or where it has a fault the other one
+abbrev pub or_body : Body → Body → Body
+or_body (cells cs) other = cells cs
+or_body (faulty_body fault) other = other
+
+-- the same with the tail, where it is taken and gives a body; else without it
+unfoldable pub extents_body_by : View → ℕ → ℕ → ℕ → List ℕ → Body
+extents_body_by view form r size area = cond view.takes_tail (or_body (listed_body true view form r size area) (listed_body false view form r size area))
+    (listed_body false view form r size area)
+
 -- the body that stands in its entry (ECMA-167 4/14.6.8)
 abbrev pub embedded_body : ℕ → EntryFields → Body
 embedded_body b entry = cond (nat_le entry.size (length entry.area))
@@ -220,7 +247,7 @@ embedded_body b entry = cond (nat_le entry.size (length entry.area))
 -- the body of an entry in logical block b of partition r
 unfoldable pub body : View → ℕ → ℕ → EntryFields → Body
 body view r b entry = cond (entry.form == 3) (embedded_body b entry)
-    (extents_body view entry.size (allocation_descriptors view r entry))
+    (extents_body_by view entry.form r entry.size entry.area)
 
 -- block n holds cell k, or it holds the continuation that is followed at or before cell k
 pub record IsRecordedFor (view : View) (size : ℕ) (taken : List (ℕ × LongAd)) (k n : ℕ) : Type 0 where

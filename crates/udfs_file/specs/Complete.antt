@@ -6,7 +6,7 @@
 --     NeverStops                  a directory that is all there is not ended by a missing block
 --     ReadsLaw                    `directory` gives the only reading that there is
 --     StandardBodies, StandardDirectories     back: what the standard reads has no fault
-use Rattle.std.specs.Prelude.{◌≡◌, ◌≢◌, ◌<◌, ◌≤◌, ℕ, List, length, map, Option, Some, None, ◌↔◌}
+use Rattle.std.specs.Prelude.{◌≡◌, ◌≢◌, ◌<◌, ◌≤◌, ℕ, List, length, map, Some, None, ◌↔◌}
 use Rattle.udfs_volume.specs.Sequence.{Bytes}
 use Rattle.udfs_lattice.specs.Volumes.{Includes}
 use Rattle.udfs_lattice.specs.declared.facts.Fact.TheVariants.{Known}
@@ -22,13 +22,14 @@ use Rattle.udfs_file.specs.Identifiers.{Nothing, Stopped}
 use Rattle.udfs_tag.specs.declared.layouts.LongAd.{LongAd}
 use Rattle.udfs_volume.specs.Answers.{found}
 use Rattle.udfs_file.specs.Addresses.{file_set}
-use Rattle.udfs_file.specs.Standard.{Located, IsFileSetAt, IsBodyOf, IsDirectoryBody}
+use Rattle.udfs_file.specs.Standard.{PartitionBlocks, Located, IsFileSetAt, IsBodyOf, IsDirectoryBody}
 
--- the blocks of a view of which each block that has a place is known, and is whole
-pub record IsComplete (all : View) (blocks : ℕ → ℕ → Option Bytes) : Type 0 where
-  pub nowhere : (r b : ℕ) → all.place r b ≡ None → blocks r b ≡ None
+-- the blocks of a view of which each block that has a place is known, and is whole; the last extent is read in one way
+pub record IsComplete (all : View) (blocks : PartitionBlocks) : Type 0 where
+  pub nowhere : (r b : ℕ) → all.place r b ≡ None → blocks.at r b ≡ None
   pub there : (r b n : ℕ) → all.place r b ≡ Some n
-      → (bytes : Bytes) × (all.blocks n ≡ Known bytes) × (blocks r b ≡ Some bytes) × (length bytes ≡ 2048)
+      → (bytes : Bytes) × (all.blocks n ≡ Known bytes) × (blocks.at r b ≡ Some bytes) × (length bytes ≡ 2048)
+  pub tail : blocks.takes_tail ≡ all.takes_tail
 
 -- a byte of the standard's, as a cell
 abbrev pub as_cell : Located → Cell
@@ -39,25 +40,25 @@ abbrev pub as_cells : List Located → List Cell
 as_cells xs = map as_cell xs
 
 -- these cells are the bytes of one body, and the standard reads that body alone
-pub record IsReadBody (blocks : ℕ → ℕ → Option Bytes) (r b : ℕ) (entry : EntryFields) (cs : List Cell) : Type 0 where
+pub record IsReadBody (blocks : PartitionBlocks) (r b : ℕ) (entry : EntryFields) (cs : List Cell) : Type 0 where
   pub whole : List Located
   pub is : cs ≡ as_cells whole
   pub reads : IsBodyOf blocks r b entry whole
   pub only : (other : List Located) → IsBodyOf blocks r b entry other → other ≡ whole
 
 -- the standard reads this root from the file set at the address, and no other
-pub record IsReadFileSet (blocks : ℕ → ℕ → Option Bytes) (a root : LongAd) : Type 0 where
+pub record IsReadFileSet (blocks : PartitionBlocks) (a root : LongAd) : Type 0 where
   pub reads : IsFileSetAt blocks a root
   pub only : (other : LongAd) → IsFileSetAt blocks a other → other ≡ root
 
 -- over a complete view the root's address is the one that the standard reads
 abbrev pub FileSetLaw : Type 0
-FileSetLaw = (all : View) (blocks : ℕ → ℕ → Option Bytes) → IsComplete all blocks → (a root : LongAd)
+FileSetLaw = (all : View) (blocks : PartitionBlocks) → IsComplete all blocks → (a root : LongAd)
     → file_set all a ≡ found root → IsReadFileSet blocks a root
 
 -- over a complete view a body without a fault is the one that the standard reads
 abbrev pub BodyLaw : Type 0
-BodyLaw = (all : View) (blocks : ℕ → ℕ → Option Bytes) → IsComplete all blocks → (r b : ℕ) (entry : EntryFields)
+BodyLaw = (all : View) (blocks : PartitionBlocks) → IsComplete all blocks → (r b : ℕ) (entry : EntryFields)
     (cs : List Cell) → body all r b entry ≡ cells cs → IsReadBody blocks r b entry cs
 
 -- the descriptors and the rest are those that the cells read as, and no others
@@ -85,7 +86,7 @@ HasPartitions all = (r b n : ℕ) → all.place r b ≡ Some n → r < all.parti
 
 -- back: a body that the standard reads has no fault, and is the one by the definition
 abbrev pub StandardBodies : Type 0
-StandardBodies = (all : View) (blocks : ℕ → ℕ → Option Bytes) → IsComplete all blocks → HasPartitions all → (r b : ℕ) (entry : EntryFields)
+StandardBodies = (all : View) (blocks : PartitionBlocks) → IsComplete all blocks → HasPartitions all → (r b : ℕ) (entry : EntryFields)
     (whole : List Located) → IsBodyOf blocks r b entry whole → body all r b entry ≡ cells (as_cells whole)
 
 -- no descriptor is longer than a block (own choice)

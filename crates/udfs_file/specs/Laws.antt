@@ -5,7 +5,7 @@ use Rattle.udfs_lattice.specs.States.{is_known}
 use Rattle.udfs_lattice.specs.Volumes.{Includes}
 use Rattle.udfs_osta.specs.Escapes.{escaped}
 use Rattle.udfs_osta.specs.Parts.{IsPathPart}
-use Rattle.std.specs.Prelude.{true, false}
+use Rattle.std.specs.Prelude.{Bool, true, false}
 use Rattle.udfs_space.specs.Places.{View, IsPartOf}
 use Rattle.udfs_tag.specs.declared.layouts.LongAd.{LongAd}
 use Rattle.udfs_volume.specs.Answers.{found, holes}
@@ -95,6 +95,15 @@ PartialDescriptors = (part whole : List Cell) → AllZip IsCellOf part whole
 -- a body without a fault has the information length
 abbrev pub BodyLength : Type 0
 BodyLength = (v : View) (r b : ℕ) (entry : EntryFields) (cs : List Cell) → body v r b entry ≡ cells cs → length cs ≡ entry.size
+
+-- the same view, whose last extents may end inside a block that goes on, or may not
+abbrev pub with_tail : Bool → View → View
+with_tail tail v = record { partitions = v.partitions; place = v.place; blocks = v.blocks; takes_tail = tail }
+
+-- a body without a fault is the same where the tail of a last extent is taken
+abbrev pub TailKeepsBodies : Type 0
+TailKeepsBodies = (v : View) (r b : ℕ) (entry : EntryFields) (cs : List Cell)
+    → body (with_tail false v) r b entry ≡ cells cs → body (with_tail true v) r b entry ≡ cells cs
 
 -- the escaped name of each entry of a directory can stand in a path
 abbrev pub NamesAreParts : Type 0

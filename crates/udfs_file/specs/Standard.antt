@@ -3,7 +3,7 @@
 --     IsFileSetAt blocks a root        the file set descriptor at an address, and the root's ICB that it names
 --     IsBodyOf blocks r b e body       the body of the entry at block b of partition r
 --     IsDirectoryBody body ids         the descriptors in a directory's body
-use Rattle.std.specs.Prelude.{◌≡◌, ◌≢◌, ⊤, ℕ, ◌+◌, ◌*◌, ◌%◌, ◌<◌, ◌≤◌, true, not, List, [], ◌∷◌, ◌++◌, length, take, map, flat_map, replicate, take_while, cond, nat_eq, nat_lt, Option, Some, None}
+use Rattle.std.specs.Prelude.{◌≡◌, ◌≢◌, ⊤, ℕ, ◌+◌, ◌*◌, ◌%◌, ◌<◌, ◌≤◌, Bool, true, not, List, [], ◌∷◌, ◌++◌, length, take, map, flat_map, replicate, take_while, cond, nat_eq, nat_lt, Option, Some, None}
 use Rattle.std.specs.List.{range_with_len}
 use Rattle.udfs_volume.specs.Sequence.{Bytes}
 use Rattle.udfs_tag.specs.declared.layouts.LongAd.{LongAd}
@@ -16,12 +16,18 @@ use Rattle.udfs_file.specs.Fronts.{identifier_size, identifier_in}
 use Rattle.udfs_file.specs.Identifiers.{Identifier}
 use Rattle.udfs_file.specs.Identifiers.{One}
 
+-- The blocks of the partitions, by partition reference and logical block, and whether the last extent of a body may
+-- end inside a block that goes on.
+pub record PartitionBlocks : Type 0 where
+  pub at : ℕ → ℕ → Option Bytes
+  pub takes_tail : Bool
+
 -- the file set descriptor at an address names this ICB of the root directory (4/14.1)
-pub record IsFileSetAt (blocks : ℕ → ℕ → Option Bytes) (a root : LongAd) : Type 0 where
+pub record IsFileSetAt (blocks : PartitionBlocks) (a root : LongAd) : Type 0 where
   pub recorded : a.kind ≡ 0
   pub not_empty : a.length ≢ 0
   pub bytes : Bytes
-  pub block : blocks a.reference a.block ≡ Some bytes
+  pub block : blocks.at a.reference a.block ≡ Some bytes
   pub valid : is_valid bytes a.block 256 ≡ true
   pub is : root ≡ long_ad_at bytes 400
 
@@ -39,14 +45,14 @@ block_bytes b None = []
 block_bytes b (Some bytes) = located b bytes
 
 -- consecutive blocks, or zeros where nothing is recorded
-abbrev pub extent_bytes : (ℕ → ℕ → Option Bytes) → LongAd → List Located
+abbrev pub extent_bytes : PartitionBlocks → LongAd → List Located
 extent_bytes blocks d = cond (nat_eq d.kind 0)
-    (take d.length (flat_map (λ b. block_bytes b (blocks d.reference b)) (range_with_len d.block (blocks_in d.length))))
+    (take d.length (flat_map (λ b. block_bytes b (blocks.at d.reference b)) (range_with_len d.block (blocks_in d.length))))
     (replicate d.length (0, None))
 
--- the allocation descriptors of an area, up to the first of type 3
-abbrev pub extents_in : ℕ → ℕ → Bytes → List LongAd
-extents_in form r area = take_while (λ d. not (nat_eq d.kind 3)) (descriptors_in form r area)
+-- the allocation descriptors of an area, as they are counted, up to the first of type 3
+abbrev pub extents_in : Bool → ℕ → ℕ → Bytes → List LongAd
+extents_in tail form r area = take_while (λ d. not (nat_eq d.kind 3)) (descriptors_in tail form r area)
 
 -- the extent that continues a list of descriptors is one block, and not empty (4/12.1; one block: own choice)
 abbrev pub IsOneBlock : LongAd → Type 0
@@ -57,12 +63,12 @@ abbrev pub IsExtentAt : ℕ → ℕ → Bytes → Type 0
 IsExtentAt form b bytes = (is_valid bytes b 258 ≡ true) × (24 + uint32_at bytes 20 ≤ 2048) × (uint32_at bytes 20 % descriptor_size form ≡ 0)
 
 -- the extents of an area, and those of each continuation in turn, as far as these blocks hold them
-abbrev pub IsJoined : (ℕ → ℕ → Option Bytes) → ℕ → ℕ → Bytes → List Bytes → List LongAd → Type 0
-IsJoined blocks form r area [] ds = ds ≡ extents_in form r area
+abbrev pub IsJoined : PartitionBlocks → ℕ → ℕ → Bytes → List Bytes → List LongAd → Type 0
+IsJoined blocks form r area [] ds = ds ≡ extents_in blocks.takes_tail form r area
 IsJoined blocks form r area (bytes ∷ more) ds = (d : LongAd) × (later : List LongAd)
-    × (next_descriptor (descriptors_in form r area) ≡ Some d) × IsOneBlock d × (blocks d.reference d.block ≡ Some bytes)
+    × (next_descriptor (descriptors_in blocks.takes_tail form r area) ≡ Some d) × IsOneBlock d × (blocks.at d.reference d.block ≡ Some bytes)
     × IsExtentAt form d.block bytes × IsJoined blocks form r (part bytes 24 (uint32_at bytes 20)) more later
-    × (ds ≡ extents_in form r area ++ later)
+    × (ds ≡ extents_in blocks.takes_tail form r area ++ later)
 
 -- the extents up to one of length 0, which is the end (4/12.1)
 abbrev pub up_to_end : List LongAd → List LongAd
@@ -70,18 +76,18 @@ up_to_end ds = take_while (λ d. nat_lt 0 d.length) ds
 
 -- An extent that begins at byte c of a body of this size: each of its recorded blocks that holds a byte of the body
 -- is there, and where it ends before the body does, it fills its blocks (4/12.1).
-pub record IsExtentOf (blocks : ℕ → ℕ → Option Bytes) (c size : ℕ) (d : LongAd) : Type 0 where
+pub record IsExtentOf (blocks : PartitionBlocks) (c size : ℕ) (d : LongAd) : Type 0 where
   pub there : d.kind ≡ 0 → (j : ℕ) → 2048 * j < d.length → c + 2048 * j < size
-      → (bytes : Bytes) × (blocks d.reference (d.block + j) ≡ Some bytes)
+      → (bytes : Bytes) × (blocks.at d.reference (d.block + j) ≡ Some bytes)
   pub full : c + d.length < size → d.length % 2048 ≡ 0
 
 -- each descriptor is a good extent of a body of this size, from byte c on
-abbrev pub AreExtentsOf : (ℕ → ℕ → Option Bytes) → ℕ → ℕ → List LongAd → Type 0
+abbrev pub AreExtentsOf : PartitionBlocks → ℕ → ℕ → List LongAd → Type 0
 AreExtentsOf blocks c size [] = ⊤
 AreExtentsOf blocks c size (d ∷ ds) = IsExtentOf blocks c size d × AreExtentsOf blocks (c + d.length) size ds
 
 -- a body is the first bytes of its extents put together (256 continuations: own choice)
-pub record IsExtentsBody (blocks : ℕ → ℕ → Option Bytes) (r : ℕ) (e : EntryFields) (body : List Located) : Type 0 where
+pub record IsExtentsBody (blocks : PartitionBlocks) (r : ℕ) (e : EntryFields) (body : List Located) : Type 0 where
   pub followed : List Bytes
   pub extents : List LongAd
   pub joined : IsJoined blocks e.form r e.area followed extents
@@ -98,7 +104,7 @@ pub record IsEmbeddedBody (b : ℕ) (e : EntryFields) (body : List Located) : Ty
   pub is : body ≡ located b (take e.size e.area)
 
 -- these are the bytes of an entry's body, as the standard reads them
-abbrev pub IsBodyOf : (ℕ → ℕ → Option Bytes) → ℕ → ℕ → EntryFields → List Located → Type 0
+abbrev pub IsBodyOf : PartitionBlocks → ℕ → ℕ → EntryFields → List Located → Type 0
 IsBodyOf blocks r b e body = cond (nat_eq e.form 3) (IsEmbeddedBody b e body) (IsExtentsBody blocks r e body)
 
 -- these bytes are one valid file identifier descriptor

@@ -8,7 +8,7 @@ use Rattle.std.specs.List.{range_with_len}
 use Rattle.udfs_tag.specs.declared.layouts.LongAd.{LongAd}
 use Rattle.udfs_space.specs.Places.{View, block_at}
 use Rattle.udfs_lattice.specs.declared.facts.Fact.TheVariants.{Known}
-use Rattle.udfs_file.specs.Bodies.{recorded_cell, Body, cells, faulty_body, extent_fault, extent_cells, cells_in, Next, area_at, unread_at, broken, extents_body, chain}
+use Rattle.udfs_file.specs.Bodies.{recorded_cell, Body, cells, faulty_body, extent_fault, extent_cells, cells_in, Next, area_at, unread_at, broken}
 use Rattle.udfs_file.specs.declared.cells.Cell.{Cell}
 use Rattle.udfs_file.specs.declared.cells.Cell.TheVariants.{Byte, Gap}
 use Rattle.udfs_file.specs.declared.faults.NodeFault.{NodeFault}
@@ -89,10 +89,6 @@ abbrev pub GivesStretches : View → Result (List Stretch) WalkError → Body �
 GivesStretches view (Ok stretches) whole = whole ≡ cells (cells_of view stretches)
 GivesStretches view (Err (Fault fault)) whole = whole ≡ faulty_body fault
 GivesStretches view (Err OutOfMemory) whole = Unit {0}
-
--- the body that the descriptors in this area begin
-unfoldable pub listed_body : View → ℕ → ℕ → ℕ → List ℕ → Body
-listed_body view form r size area = extents_body view size (chain view form r 256 area)
 
 -- these bytes are what is known at logical block b
 abbrev pub IsStanding : View → ℕ → ℕ → List ℕ → Type 0

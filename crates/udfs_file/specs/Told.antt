@@ -3,22 +3,21 @@
 --     TellsBody some r b entry told      each cell of the complete body, or a block that is not known and that it needs
 --     TellsFront part front              the first entries of the whole directory, up to a missing cell
 -- What they tell of a complete view itself is what the standard reads from its blocks, and nothing else.
-use Rattle.std.specs.Prelude.{◌≡◌, ◌↔◌, ◌<◌, ⊤, ℕ, true, false, List, [], ◌∷◌, ◌++◌, length, slice_get, Option, Some, None, Result, Ok, Err}
+use Rattle.std.specs.Prelude.{◌≡◌, ◌↔◌, ◌<◌, ⊤, ℕ, true, false, List, [], ◌∷◌, ◌++◌, length, slice_get, Some, None, Result, Ok, Err}
 use Rattle.std.specs.List.{AllZip}
 use Rattle.udfs_lattice.specs.States.{is_known}
 use Rattle.udfs_tag.specs.declared.layouts.LongAd.{LongAd}
 use Rattle.udfs_volume.specs.Answers.{found}
-use Rattle.udfs_volume.specs.Sequence.{Bytes}
 use Rattle.udfs_volume.specs.declared.seen.Seen.{Seen}
 use Rattle.udfs_volume.specs.declared.seen.Seen.TheVariants as seen
 use Rattle.udfs_space.specs.Places.{View, IsPartOf}
 use Rattle.udfs_file.specs.Addresses.{file_set}
-use Rattle.udfs_file.specs.Bodies.{cells, body, IsNeededFor}
+use Rattle.udfs_file.specs.Bodies.{cells, body}
 use Rattle.udfs_file.specs.Complete.{IsComplete, IsReadBody, IsReadDirectory, IsReadFileSet, as_cells}
 use Rattle.udfs_file.specs.Entries.{EntryFields}
 use Rattle.udfs_file.specs.Fronts.{directory, directory_entries, listed_entries}
-use Rattle.udfs_file.specs.Laws.{ArePartOf, IsBeginningOf, IsCellOf, IsClearTo, IsMissingAt, descriptor_end}
-use Rattle.udfs_file.specs.Standard.{Located}
+use Rattle.udfs_file.specs.Laws.{ArePartOf, IsBeginningOf, IsCellOf, IsClearTo, descriptor_end}
+use Rattle.udfs_file.specs.Standard.{PartitionBlocks, Located}
 use Rattle.udfs_file.specs.Stretches.{cells_of}
 use Rattle.udfs_file.specs.declared.cells.Cell.{Cell}
 use Rattle.udfs_file.specs.declared.cells.Cell.TheVariants.{Gap}
@@ -43,7 +42,7 @@ pub record IsFileSetTold (some all : View) (a root : LongAd) (told : Seen LongAd
   pub block : ℕ
   pub place : all.place a.reference a.block ≡ Some block
   pub root_or_hole : IsRootOf some block root told
-  pub standard : (blocks : ℕ → ℕ → Option Bytes) → IsComplete all blocks → IsReadFileSet blocks a root
+  pub standard : (blocks : PartitionBlocks) → IsComplete all blocks → IsReadFileSet blocks a root
 
 -- over a part of each view in which the file set names a root, what is told is told of that root
 abbrev pub TellsFileSet : View → LongAd → Seen LongAd → Type 0
@@ -55,7 +54,7 @@ TellsFileSet some a told = (all : View) → IsPartOf some all → (root : LongAd
 pub record IsToldBody (some all : View) (r b : ℕ) (entry : EntryFields) (part whole : List Cell) : Type 0 where
   pub size : length part ≡ entry.size
   pub cells_are : ArePartOf some all r entry part whole
-  pub standard : (blocks : ℕ → ℕ → Option Bytes) → IsComplete all blocks → IsReadBody blocks r b entry whole
+  pub standard : (blocks : PartitionBlocks) → IsComplete all blocks → IsReadBody blocks r b entry whole
 
 -- such a body has no fault in a part of the view; memory may be wanted
 abbrev pub IsBodyTold : View → View → ℕ → ℕ → EntryFields → List Cell → Result (List Stretch) WalkError → Type 0

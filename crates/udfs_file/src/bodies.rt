@@ -35,9 +35,9 @@ impl Model for Body {
 }
 
 impl Body {
-    ghost use Rattle.udfs_file.specs.Stretches.{GivesStretches, LieInBlocks, listed_body, IsStanding};
+    ghost use Rattle.udfs_file.specs.Stretches.{GivesStretches, LieInBlocks, IsStanding};
     ghost use Rattle.udfs_file.specs.Entries.{entry_of};
-    ghost use Rattle.udfs_file.specs.Bodies.{body};
+    ghost use Rattle.udfs_file.specs.Bodies.{body, extents_body_by, listed_body};
     ghost use Rattle.udfs_file.specs.Told.{TellsBody};
     ghost use Rattle.std.specs.Prelude.{◌⊎◌, ◌<◌, Err};
 
@@ -57,6 +57,10 @@ impl Body {
     /// Recorded extents take consecutive logical blocks, others are zeros. A descriptor of type 3 goes on in an
     /// allocation extent descriptor (ECMA-167 4/14.5); where its block is not known, all further bytes are missing
     /// with it. It takes a walk over the descriptors, and memory for one stretch of each.
+    ///
+    /// Where the rules take the tail, the last extent of the list (a descriptor of length 0 is behind it, or none) goes
+    /// on to the end of its last block if the body needs it and is whole with it: a file that grew inside its last
+    /// block may still have the length that it had.
     ///
     /// Where the partitions are a part of complete ones, in which the body has no fault and is the one that the
     /// standard reads, it has none here, and each of its cells is that body's or missing: missing exactly if some
@@ -85,7 +89,7 @@ impl Body {
         ensures memory { result ≡ Err WalkError.OutOfMemory → ((entry_of entry.now).form ≡ 3) ⊎ (0 < (entry_of entry.now).size) }
     {
         if entry.form() != 3 {
-            return Body::walk(
+            return Body::listed(
                 alloc,
                 View { table, space },
                 entry.form(),
@@ -110,8 +114,9 @@ impl Body {
         Ok(Body { stretches })
     }
 
-    /// Follows the descriptors in this area, and at most 256 continuations.
-    fn walk(
+    /// The body of the descriptors in this area: with the tail of the last extent where the rules take it and it gives
+    /// a body, else without it, and so with the fault that there is without it.
+    fn listed(
         alloc: Global,
         view: View<'_>,
         form: u16,
@@ -121,7 +126,32 @@ impl Body {
     ) -> Result<Body, WalkError>
         requires { length area.now ≤ 2048 }
         ensures value { GivesStretches (view_now view.entry) result
-            (listed_body (view_now view.entry) form reference size area.now) }
+            (extents_body_by (view_now view.entry) form reference size area.now) }
+        ensures memory { result ≡ Err WalkError.OutOfMemory → 0 < size }
+    {
+        if view.space.takes_tail() {
+            match Body::walk(alloc, view, true, form, reference, size, area) {
+                Ok(body) => return Ok(body),
+                Err(WalkError::OutOfMemory) => return Err(WalkError::OutOfMemory),
+                Err(WalkError::Fault(_)) => {}
+            }
+        }
+        Body::walk(alloc, view, false, form, reference, size, area)
+    }
+
+    /// Follows the descriptors in this area, and at most 256 continuations.
+    fn walk(
+        alloc: Global,
+        view: View<'_>,
+        tail: bool,
+        form: u16,
+        reference: u16,
+        size: u64,
+        area: &[u8],
+    ) -> Result<Body, WalkError>
+        requires { length area.now ≤ 2048 }
+        ensures value { GivesStretches (view_now view.entry) result
+            (listed_body tail (view_now view.entry) form reference size area.now) }
         ensures memory { result ≡ Err WalkError.OutOfMemory → 0 < size }
     {
         let mut stretches = Vec::new(alloc);
@@ -133,7 +163,7 @@ impl Body {
             if i >= descriptor_count(form, area) {
                 return Err(WalkError::Fault(NodeFault::Short));
             }
-            let d = descriptor(form, reference, area, i);
+            let d = descriptor(tail, form, reference, area, i);
             if d.length == 0 {
                 return Err(WalkError::Fault(NodeFault::Short));
             }

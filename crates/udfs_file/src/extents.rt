@@ -5,7 +5,7 @@ ghost use Rattle.udfs_lattice.specs.Volumes.{Blocks};
 ghost use Rattle.udfs_lattice.specs.States.{fact_now};
 ghost use Rattle.udfs_space.specs.Places.{view as seen, place, block_now};
 ghost use Rattle.udfs_space.specs.Views.{view_now};
-ghost use Rattle.udfs_file.specs.Bodies.{descriptor_at, descriptor_count, continuation_fault, is_misreferred, is_misplaced, is_odd, cells_in, is_extent, next_area, next_if, next_by};
+ghost use Rattle.udfs_file.specs.Bodies.{descriptor_at, recorded_at, is_last_at, in_whole_blocks, descriptor_count, continuation_fault, is_misreferred, is_misplaced, is_odd, cells_in, is_extent, next_area, next_if, next_by};
 ghost use Rattle.udfs_tag.specs.Fields.{uint32_at};
 ghost use Rattle.udfs_tag.specs.Fields.{part};
 ghost use Rattle.udfs_file.specs.Stretches.{IsExtentRead, next_now, IsFollowed, FitsArea};
@@ -26,10 +26,11 @@ pub(crate) fn descriptor_count(form: u16, area: &[u8]) -> usize
     area.len() / descriptor_size(form) as usize
 }
 
-/// Descriptor i of an area.
-pub(crate) fn descriptor(form: u16, reference: u16, area: &[u8], i: usize) -> LongAd
+/// Descriptor i of an area, as it is recorded.
+fn recorded(form: u16, reference: u16, area: &[u8], i: usize) -> LongAd
     requires { i < descriptor_count form area.now }
-    ensures { result ≡ descriptor_at form reference area.now i }
+    ensures value { result ≡ recorded_at form reference area.now i }
+    ensures short { result.length < 1073741824 }
 {
     if form == 0 {
         let (_, rest) = area.split_at(8 * i);
@@ -44,6 +45,43 @@ pub(crate) fn descriptor(form: u16, reference: u16, area: &[u8], i: usize) -> Lo
         let (_, rest) = area.split_at(16 * i);
         LongAd::read(rest)
     }
+}
+
+/// Whether no other extent is behind descriptor i of an area.
+fn is_last(form: u16, reference: u16, area: &[u8], i: usize) -> bool
+    requires { i < descriptor_count form area.now }
+    ensures { result ≡ is_last_at form reference area.now i }
+{
+    i + 1 >= descriptor_count(form, area) || recorded(form, reference, area, i + 1).length == 0
+}
+
+/// An extent up to the end of its last block.
+fn in_whole_blocks(d: LongAd) -> LongAd
+    requires { d.length < 1073741824 }
+    ensures { result ≡ in_whole_blocks d }
+{
+    if d.kind == extent_types::NEXT_EXTENT {
+        return d;
+    }
+    LongAd {
+        kind: d.kind,
+        length: (d.length + 2047) / 2048 * 2048,
+        block: d.block,
+        reference: d.reference,
+    }
+}
+
+/// Descriptor i of an area, as it is counted: where the tail is taken, the last extent goes on to the end of its
+/// last block.
+pub(crate) fn descriptor(tail: bool, form: u16, reference: u16, area: &[u8], i: usize) -> LongAd
+    requires { i < descriptor_count form area.now }
+    ensures { result ≡ descriptor_at tail form reference area.now i }
+{
+    let d = recorded(form, reference, area, i);
+    if tail && is_last(form, reference, area, i) {
+        return in_whole_blocks(d);
+    }
+    d
 }
 
 fn is_misreferred(space: &Space, d: LongAd) -> bool

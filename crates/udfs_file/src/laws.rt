@@ -1,5 +1,5 @@
 //! Laws of bodies and directories, each the contract of a function that does nothing.
-ghost use Rattle.udfs_file.specs.Laws.{BodyLength, NamesAreParts, PartialBodies, PartialDescriptors, PartialFileSet};
+ghost use Rattle.udfs_file.specs.Laws.{BodyLength, NamesAreParts, PartialBodies, PartialDescriptors, PartialFileSet, TailKeepsBodies};
 ghost use Rattle.udfs_file.specs.Complete.{BodyLaw, DescriptorsAreShort, DirectoryLaw, FileSetLaw, NeverStops, ReadsLaw, StandardBodies, StandardDirectories};
 ghost use Rattle.udfs_file.specs.Sample.{HaveSampleFiles, SampleFileSet};
 
@@ -63,6 +63,11 @@ pub fn descriptors_are_short()
 /// The escaped name of each entry of a directory can stand in a path: it is not empty, not `.` or `..`, and has no `/` and no control.
 pub fn names_are_parts()
     ensures { NamesAreParts }
+{}
+
+/// A body without a fault stays as it is where the tail of a last extent is taken too.
+pub fn the_tail_keeps_bodies()
+    ensures { TailKeepsBodies }
 {}
 
 /// A body without a fault has as many cells as the information length says.

@@ -246,8 +246,14 @@ pub trait Files {
     /// Something else is done from now on, which who watches may be told.
     fn begin(&self, stage: Stage);
 
-    /// Who watches is to be told nothing more.
+    /// Who reads standard error is to be told nothing more.
     fn hush(&self);
+
+    /// Who reads standard error is to be told more than has to be said, also where it is no terminal.
+    fn speak(&self);
+
+    /// Tells who watches, or is to be told more, a line of text beside what is printed.
+    fn remark(&self, text: &str);
 
     /// A crash leaves something.
     ghost some_crash: { (files : Self) → (c : Disk) × may_leave files c };

@@ -481,4 +481,12 @@ impl<'a, R: std::rt::Files, N: Watch> Files for Machine<'a, R, N> {
     fn hush(&self) {
         self.watch.hush()
     }
+
+    fn speak(&self) {
+        self.watch.speak()
+    }
+
+    fn remark(&self, text: &str) {
+        self.watch.remark(text)
+    }
 }

@@ -40,6 +40,12 @@ pub trait Watch {
 
     /// Nothing more is to be said.
     fn hush(&self);
+
+    /// More is to be said than has to be, whoever watches.
+    fn speak(&self);
+
+    /// There is a line of text to be told, where a person watches or more is to be said.
+    fn remark(&self, text: &str);
 }
 
 /// The value of a call's outcome. Why it failed is told.

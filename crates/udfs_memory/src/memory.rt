@@ -9,7 +9,7 @@ ghost use Rattle.udfs_reading.specs.Device.{CountsFault};
 
 use crate::devices::{Device, MemoryFile, MemoryImage, MemoryInput, SOUND};
 use std::alloc::{AllocError, Global};
-use std::cell::Cell;
+use std::cell::{Cell, RefCell};
 use std::io::Error;
 use udfs_files::{Files, Kind, Stage, Target};
 use udfs_reading::DeviceFault;
@@ -151,6 +151,8 @@ pub struct Memory {
     faults: u64,
     calls: u64,
     wanted: Cell<bool>,
+    speaks: Cell<bool>,
+    remarks: RefCell<String>,
     /// What inputs are read from.
     pub inputs: Device,
     /// What outputs are written to.
@@ -175,6 +177,8 @@ impl Memory {
             faults: 0,
             calls: 0,
             wanted: Cell::new(false),
+            speaks: Cell::new(false),
+            remarks: RefCell::new(String::new(alloc)),
             inputs: SOUND,
             outputs: SOUND,
             terminal: SOUND,
@@ -450,11 +454,36 @@ impl Files for Memory {
 
     fn begin(&self, _stage: Stage) {}
 
-    fn hush(&self) {}
+    fn hush(&self) {
+        self.speaks.set(false);
+    }
+
+    fn speak(&self) {
+        self.speaks.set(true);
+    }
+
+    fn remark(&self, text: &str) {
+        if !self.speaks.get() {
+            return;
+        }
+        if let Ok(mut held) = self.remarks.try_borrow_mut() {
+            for piece in [text, "\n"] {
+                let _ = held.push_str(piece);
+            }
+        }
+    }
 }
 
 /// What tests ask.
 impl Memory {
+    /// Whether exactly these lines were remarked, while more was to be said.
+    pub fn has_remarked(&self, lines: &str) -> bool {
+        match self.remarks.try_borrow() {
+            Ok(held) => held.as_str() == lines,
+            Err(_) => false,
+        }
+    }
+
     /// Whether the file is there and has these bytes.
     pub fn has(&self, path: &str, bytes: &[u8]) -> bool {
         match self.bytes(path) {

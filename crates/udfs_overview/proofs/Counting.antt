@@ -4,7 +4,7 @@ use Rattle.std.specs.Prelude.{fold, min}
 use Rattle.std.proofs.lemmas.List.Sums.{sum_by-cons, sum_by_more}
 use Rattle.udfs_lattice.specs.Volumes.{Blocks}
 use Rattle.udfs_volume.specs.Answers.{Answer, found, holes, faulty}
-use Rattle.udfs_space.specs.Places.{view}
+use Rattle.udfs_space.specs.Places.{View, view}
 use Rattle.udfs_file.specs.declared.faults.Kind.{Kind}
 use Rattle.udfs_file.specs.declared.faults.Kind.TheVariants as kind
 use Rattle.udfs_walk.specs.Bare.{full_node, lists_at, with_lists}
@@ -39,6 +39,11 @@ sum_same : (w : NodeFields → ℕ) (g : NodeFields → NodeFields) → ((n : No
     → fold (λ b n. b + w n) a (map g ns) ≡ fold (λ b n. b + w n) a ns
 sum_same w g same a [] = refl
 sum_same w g same a (n ∷ ns) = ap (λ x. fold (λ b n. b + w n) (a + x) (map g ns)) (same n) ∙ sum_same w g same (a + w n) ns
+
+-- how many nodes of a sort there are is told without their blocks and holes
+pub count_viewed : (v : View) (a : NodeSort) (ns : List NodeFields) → count_of a (map (full_node v) ns) ≡ count_of a ns
+count_viewed v a ns =
+    sum_same (λ n. cond (is_node_of a n) 1 0) (full_node v) (λ n. ap (λ b. cond b 1 0) (same_of a (lists_at v n.icb) n.standing n.kind)) 0 ns
 
 pub count_full : (M : Blocks) (answer : Answer Found) (a : NodeSort) (ns : List NodeFields) → count_of a (full_nodes M answer ns) ≡ count_of a ns
 count_full M (found f) a ns =

@@ -16,9 +16,11 @@ mod volume_lines;
 
 pub use disc_tallies::{DiscTally, UnnamedTally, count_disc, count_unnamed};
 pub use figures::{push_grouped, push_percent, push_size};
+pub use node_columns::lost_of;
 pub use node_list::{ListForm, write_list};
 pub use safe_names::{push_safe_name, safe_names_are_safe, safe_names_tell_units};
-pub use summary::write_summary;
+pub use summary::{first_torn_folder, write_summary};
 pub use summary_lines::{push_disc, push_files, push_others, push_unnamed};
 pub use tallies::{Tally, count_nodes};
-pub use torn_rows::torn_files_are_by_loss;
+pub use torn_rows::{TornFiles, TornRow, push_shown_path, torn_files, torn_files_are_by_loss};
+pub use volume_lines::{push_disc_size, push_label, push_revision, push_volume};

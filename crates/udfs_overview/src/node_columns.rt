@@ -34,8 +34,8 @@ fn lost_bytes(holes: &[(u64, u64)]) -> u128
     lost
 }
 
-/// What is lost of a node, in bytes.
-pub(crate) fn lost_of(standing: &Standing, kind: Kind) -> Option<u128>
+/// How many bytes of a node are lost: none of a whole one, and of one that was not read, a loop or a fault nobody knows.
+pub fn lost_of(standing: &Standing, kind: Kind) -> Option<u128>
     ensures { result ≡ lost_of standing.now kind }
 {
     match standing {

@@ -41,6 +41,14 @@ fn torn_folder(nodes: &[Node]) -> Option<&Path>
     None
 }
 
+/// The path of the first torn directory of a survey, in which names may be missing.
+#[tactic(auto, using(crate::proofs::FullFolders::folder_full))]
+pub fn first_torn_folder<'a>(survey: &'a Survey<'_>) -> Option<&'a Path>
+    ensures { option_map (λ path. path.now) result ≡ torn_folder (survey_now survey.now).nodes }
+{
+    torn_folder(&survey.nodes)
+}
+
 /// How many torn directories there are beside the first.
 fn push_other_folders(text: &mut String, others: usize) -> Result<(), OutOfMemory>
     ensures { OnOk result (string_bytes text.new ≡ string_bytes text.old ++ other_folders others) }

@@ -5,21 +5,24 @@ ghost use Rattle.std.specs.String.{string_bytes};
 ghost use Rattle.udfs_volume.specs.LayoutParts.{partition_now, parts_now};
 ghost use Rattle.udfs_volume.specs.Parts.{map_now};
 ghost use Rattle.udfs_salvage.specs.Found.{volume_now};
-ghost use Rattle.udfs_salvage.specs.Texts.{revision_text};
 ghost use Rattle.udfs_overview.specs.VolumeLines.{closed_line, disc_size_text, fault_words, holes_text, kind_text, kind_texts, label_text, numbers_text, open_line, revision_and_kinds, volume_line};
 
 use crate::figures::{push_grouped, push_size};
 use crate::safe_names::push_safe_name;
 use std::fmt::Write;
 use udfs_osta::{Label, OutOfMemory};
-use udfs_salvage::Volume;
+use udfs_salvage::{Volume, revision_name};
 use udfs_volume::{Partition, PartitionMap, VolumeFault, VolumeParts};
 
 /// How many bytes a block has.
 const BLOCK_BYTES: u128 = 2048;
 
-/// The label, as a person is shown it.
-fn push_label(text: &mut String, label: &Label) -> Result<(), OutOfMemory>
+/// Appends the label, as a person is shown it: `(no label)` where there is none.
+///
+/// # Errors
+///
+/// Where memory is refused, and then a part may be appended.
+pub fn push_label(text: &mut String, label: &Label) -> Result<(), OutOfMemory>
     ensures { OnOk result (string_bytes text.new ≡ string_bytes text.old ++ label_text label.now) }
 {
     match label {
@@ -49,16 +52,12 @@ fn push_kinds(text: &mut String, partitions: &[Partition]) -> Result<(), OutOfMe
     Ok(())
 }
 
-/// A revision of UDF, of which there are two.
-#[tactic(auto, unfolding(udfs_salvage::specs::Texts::revision_text))]
-fn revision_name(revision: u16) -> &'static str
-    ensures { result.now ≡ revision_text revision }
-{
-    if revision == 0x0150 { "1.50" } else { "2.01" }
-}
-
-/// The revision, and the kinds of the maps.
-fn push_revision(text: &mut String, parts: &VolumeParts) -> Result<(), OutOfMemory>
+/// Appends the revision, and the kinds of the maps: `UDF 2.01, sparable`.
+///
+/// # Errors
+///
+/// Where memory is refused, and then a part may be appended.
+pub fn push_revision(text: &mut String, parts: &VolumeParts) -> Result<(), OutOfMemory>
     ensures { OnOk result (string_bytes text.new ≡ string_bytes text.old ++ revision_and_kinds (parts_now parts.now)) }
 {
     text.push_str("UDF ")?;
@@ -66,9 +65,13 @@ fn push_revision(text: &mut String, parts: &VolumeParts) -> Result<(), OutOfMemo
     push_kinds(text, &parts.partitions)
 }
 
-/// How many blocks and bytes a disc with this last block has.
+/// Appends how many blocks and bytes a disc with this last block has: `5,120 blocks, 10.5 MB`.
+///
+/// # Errors
+///
+/// Where memory is refused, and then a part may be appended.
 #[tactic(auto, unfolding(crate::specs::VolumeLines::disc_size_text))]
-fn push_disc_size(text: &mut String, last: u32) -> Result<(), OutOfMemory>
+pub fn push_disc_size(text: &mut String, last: u32) -> Result<(), OutOfMemory>
     ensures { OnOk result (string_bytes text.new ≡ string_bytes text.old ++ disc_size_text last) }
 {
     let blocks = u128::from(last) + 1;
@@ -130,7 +133,7 @@ fn fault_words(fault: VolumeFault) -> &'static str
         VolumeFault::Extents => "the anchor's extents are wrong",
         VolumeFault::Pointer => "the volume's descriptors go on elsewhere",
         VolumeFault::NoLogicalVolume => "there is no logical volume",
-        VolumeFault::Domain => "the volume is not of UDF 1.50 or 2.01",
+        VolumeFault::Domain => "the volume is not of a UDF revision that the rules take",
         VolumeFault::BlockSize => "a logical block has not 2048 bytes",
         VolumeFault::MapCount => "there are not one or two partition maps",
         VolumeFault::MapKind => "a partition map is not of a known kind",
@@ -168,7 +171,7 @@ fn push_faulty(text: &mut String, fault: VolumeFault) -> Result<(), OutOfMemory>
 /// # Errors
 ///
 /// Where memory is refused, and then a part may be appended.
-pub(crate) fn push_volume(text: &mut String, volume: &Volume, last: u32) -> Result<(), OutOfMemory>
+pub fn push_volume(text: &mut String, volume: &Volume, last: u32) -> Result<(), OutOfMemory>
     ensures { OnOk result (string_bytes text.new ≡ string_bytes text.old ++ volume_line (volume_now volume.now) last) }
 {
     match volume {

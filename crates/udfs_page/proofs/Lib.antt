@@ -1,5 +1,10 @@
+mod Beginnings
+mod Closings
 mod Counts
+mod Fewness
 mod Html
 mod Lines
+mod Nesting
 mod Roots
 mod Texts
+mod TreeNodes

@@ -3,3 +3,11 @@ pub mod Arcs
 pub mod Markups
 pub mod Heads
 pub mod Spirals
+pub mod Holes
+pub mod Pictures
+pub mod NextSteps
+pub mod Overviews
+pub mod TornTables
+pub mod Trees
+pub mod Pages
+pub mod Nestings

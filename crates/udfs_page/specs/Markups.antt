@@ -1,7 +1,9 @@
 -- The page's own text, and figures in it.
 --     markup words      text of the page's own, as it stands
 --     figure n          a number in decimal digits
-use Rattle.std.specs.Prelude.{ℕ, List, decimal}
+--     shown_name text   a name or a path, by itself
+use Rattle.std.specs.Prelude.{ℕ, List, ◌++◌, codes, decimal}
+use Rattle.udfs_page.specs.Escapes.{html_text}
 
 -- what the page itself says; what a disc says is html_text
 unfoldable pub markup : List ℕ → List ℕ
@@ -10,3 +12,7 @@ markup words = words
 -- a number in decimal digits
 unfoldable pub figure : ℕ → List ℕ
 figure n = decimal n
+
+-- a name of the disc's, or a path, by itself: its direction turns nothing round that stands beside it
+abbrev pub shown_name : List ℕ → List ℕ
+shown_name text = markup (codes "<bdi>") ++ html_text text ++ markup (codes "</bdi>")

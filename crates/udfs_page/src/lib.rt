@@ -5,12 +5,21 @@
 mod disc_arcs;
 mod escapes;
 mod heads;
+mod holes;
 mod markups;
+mod next_steps;
+mod overviews;
+mod pages;
+mod pictures;
 mod spiral;
+mod torn_tables;
+mod trees;
 
 pub use disc_arcs::{Mark, arcs};
 pub use escapes::{html_gives_the_text_back, html_injects_nothing, push_html};
+pub use pages::{pages_begin_so, push_page, write_page};
 pub use spiral::{arcs_part_the_blocks, roots_are_square_roots};
+pub use trees::folders_nest;
 
 #[cfg(test)]
 mod tests;

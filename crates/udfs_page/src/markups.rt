@@ -2,8 +2,9 @@
 
 ghost use Rattle.std.specs.Prelude.{◌≡◌, ◌++◌, OnOk};
 ghost use Rattle.std.specs.String.{string_bytes};
-ghost use Rattle.udfs_page.specs.Markups.{figure, markup};
+ghost use Rattle.udfs_page.specs.Markups.{figure, markup, shown_name};
 
+use crate::escapes::push_html;
 use std::fmt::Write;
 use udfs_osta::OutOfMemory;
 
@@ -21,4 +22,13 @@ pub(crate) fn push_figure(text: &mut String, number: u128) -> Result<(), OutOfMe
     ensures { OnOk result (string_bytes text.new ≡ string_bytes text.old ++ figure number) }
 {
     write!(text, "{number}")
+}
+
+/// A name or a path, by itself.
+pub(crate) fn push_shown(text: &mut String, shown: &str) -> Result<(), OutOfMemory>
+    ensures { OnOk result (string_bytes text.new ≡ string_bytes text.old ++ shown_name shown.now) }
+{
+    push_markup(text, "<bdi>")?;
+    push_html(text, shown)?;
+    push_markup(text, "</bdi>")
 }

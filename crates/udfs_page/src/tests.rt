@@ -1,6 +1,7 @@
 //! Worked rows: what the arcs of small and of large discs show, and text in HTML.
 
 use super::*;
+use crate::holes::{push_closings, push_ranges};
 use std::test::Fail;
 use udfs_lattice::{BlockTable, Fact};
 
@@ -66,5 +67,38 @@ fn five_characters_are_references(rt: HostRuntime) -> Result<(), Fail> {
         push_html(&mut text, shown)?;
         assert_eq!(rt; text.as_str(), html);
     }
+    Ok(())
+}
+
+/// Runs of one byte at 0, 2, 4 and so on, of which the fiftieth is at 98; a run of 2,048 bytes; and one at the end of what 64 bits count.
+#[test]
+fn no_more_than_fifty_runs_of_lost_bytes(rt: HostRuntime) -> Result<(), Fail> {
+    let alloc = rt.alloc();
+    let mut holes = Vec::new(alloc);
+    for place in 0..50u64 {
+        holes.push((2 * place, 1))?;
+    }
+    for (more, end) in [
+        (0u64, " 96&ndash;96 98&ndash;98"),
+        (1, " 98&ndash;98 and 1 more"),
+        (2, " 98&ndash;98 and 2 more"),
+    ] {
+        let mut text = String::new(alloc);
+        push_ranges(&mut text, &holes)?;
+        assert!(rt;
+            text.as_str().starts_with(" 0&ndash;0 2&ndash;2 "),
+            "{more}"
+        );
+        assert!(rt; text.as_str().ends_with(end), "{more}");
+        holes.push((200 + more, 1))?;
+    }
+    let mut text = String::new(alloc);
+    push_ranges(&mut text, &[(4096, 2048), (u64::MAX, u64::MAX)])?;
+    assert_eq!(rt;
+        text.as_str(),
+        " 4096&ndash;6143 18446744073709551615&ndash;36893488147419103229"
+    );
+    push_closings(&mut text, 2)?;
+    assert!(rt; text.as_str().ends_with("229</details>\n</details>\n"));
     Ok(())
 }

@@ -2,6 +2,7 @@
 use Rattle.std.proofs.Common.{◌≡◌, refl, sym, ◌∙◌, subst, ℕ, List, get_or, Option, Some, None, true, false, Bool}
 use Rattle.std.specs.Prelude.{slice_get, IsErrOf, MatchOption, Result, Ok, Err}
 use Rattle.std.proofs.lemmas.Option.{get_or_from_slice_get}
+use Rattle.udfs_volume.specs.declared.profiles.Profile.{Profile}
 use Rattle.udfs_lattice.specs.Volumes.{Blocks}
 use Rattle.udfs_volume.specs.Answers.{found}
 use Rattle.udfs_space.specs.Places.{view}
@@ -14,8 +15,8 @@ use Rattle.udfs_walk.specs.declared.standings.Standing.{Standing}
 use Rattle.udfs_walk.specs.declared.standings.Standing.TheVariants.{Whole, Torn, Loop, Fault}
 use Rattle.udfs_walk.proofs.PublicLaws.{node_has_cells}
 use Rattle.udfs_salvage.specs.Found.{Found}
-use Rattle.udfs_salvage.specs.Reports.{Report, IsReport, ReportsBy, ReportsNodes}
-use Rattle.udfs_salvage.specs.Extraction.{Extracts, HasCellsIn, is_offered}
+use Rattle.udfs_salvage.specs.Reports.{Report, IsReportBy, ReportsBy, ReportsNodes}
+use Rattle.udfs_salvage.specs.Extraction.{Extracts, HasCellsInBy, is_offered}
 use Rattle.udfs_salvage.specs.declared.extraction.Fill.{Fill}
 use Rattle.udfs_salvage.specs.declared.extraction.ExtractError.{ExtractError}
 use Rattle.udfs_salvage.specs.declared.extraction.ExtractError.TheVariants.{NotWhole, Write, OutOfMemory}
@@ -29,9 +30,9 @@ offered_body Loop size fill o = absurd (let z : ⊥ = cc in z)
 offered_body (Fault f) size fill o = absurd (let z : ⊥ = cc in z)
 
 -- the cells of a node that is to be written, at the end of its route and at its address
-pub report_cells : (blocks : Blocks) (last i : ℕ) (r : Report) (f : Found) (n : NodeFields) (fill : Fill) → IsReport blocks last r → r.volume ≡ found f
-    → slice_get r.nodes i ≡ Some n → is_offered n.standing n.size fill ≡ true → (cs : List Cell) × HasCellsIn blocks last i cs × HasCells (view blocks f.space) n.icb cs
-report_cells blocks last i r f n fill is opens at offered = (
+pub report_cells : (P : Profile) (blocks : Blocks) (last i : ℕ) (r : Report) (f : Found) (n : NodeFields) (fill : Fill) → IsReportBy P blocks last r → r.volume ≡ found f
+    → slice_get r.nodes i ≡ Some n → is_offered n.standing n.size fill ≡ true → (cs : List Cell) × HasCellsInBy P blocks last i cs × HasCells (view blocks f.space) n.icb cs
+report_cells P blocks last i r f n fill is opens at offered = (
   there.3.0,
   record {
     opened = f;

@@ -1,6 +1,7 @@
 -- A table has one report, and what is promised holds of it.
 use Rattle.std.proofs.Common.{◌≡◌, refl, sym, ◌∙◌, ap, subst, ℕ, ◌≤◌, List, [], length, map, true, false, Bool, nat_le}
 use Rattle.std.proofs.lemmas.Bool.{leb-true, leb-false}
+use Rattle.udfs_volume.specs.declared.profiles.Profile.{Profile}
 use Rattle.udfs_lattice.specs.Tables.{state_of}
 use Rattle.udfs_lattice.specs.Volumes.{Blocks, Volume, Agrees, Includes}
 use Rattle.udfs_osta.specs.Escapes.{escaped}
@@ -13,11 +14,11 @@ use Rattle.udfs_walk.specs.Rereads.{reread}
 use Rattle.udfs_walk.specs.Routes.{Walked, IsWalk}
 use Rattle.udfs_walk.specs.UnnamedEntries.{unnamed}
 use Rattle.udfs_walk.proofs.PublicLaws.{more_routes, only_walk, paths_have_parts, some_walk}
-use Rattle.udfs_salvage.specs.Found.{Found, volume as volume_of}
-use Rattle.udfs_salvage.specs.Headline.{OneReport, OneText, ReportsKeepIt, SomeReport}
-use Rattle.udfs_salvage.specs.NodeTexts.{report_text}
-use Rattle.udfs_salvage.specs.Reports.{Report, ReportsBy, IsReport}
-use Rattle.udfs_salvage.specs.VolumeTrees.{IsLawful}
+use Rattle.udfs_salvage.specs.Found.{Found, volume_by}
+use Rattle.udfs_salvage.specs.Headline.{OneReportBy, OneTextBy, ReportsKeepItBy, SomeReportBy}
+use Rattle.udfs_salvage.specs.NodeTexts.{report_text_by}
+use Rattle.udfs_salvage.specs.Reports.{Report, ReportsBy, IsReportBy}
+use Rattle.udfs_salvage.specs.VolumeTrees.{IsLawfulBy}
 use Rattle.udfs_salvage.proofs.Rereading.{met_is_reported, rereads_suffice, stays_whole}
 use Rattle.udfs_salvage.proofs.TreeReports.{out_of_range, tells_tree, tells_whole_tree, too_many}
 use Rattle.udfs_salvage.proofs.VolumeLaw.{tells_lawful}
@@ -37,14 +38,14 @@ same_by M (found f) r s v x y = same_report r s v nodes (y.unnamed_is ∙ ap (un
 same_by M (holes listed) r s v x y = same_report r s v (y.no_nodes ∙ sym x.no_nodes) (y.no_unnamed ∙ sym x.no_unnamed) (y.reread_is ∙ sym x.reread_is)
 same_by M (faulty fault) r s v x y = same_report r s v (y.no_nodes ∙ sym x.no_nodes) (y.no_unnamed ∙ sym x.no_unnamed) (y.reread_is ∙ sym x.reread_is)
 
-pub one_report : OneReport
-one_report M N r s x y = same_by M r.volume r s same x.by_volume (subst (λ told. ReportsBy M told s) same y.by_volume)
+pub one_report : (P : Profile) → OneReportBy P
+one_report P M N r s x y = same_by M r.volume r s same x.by_volume (subst (λ told. ReportsBy M told s) same y.by_volume)
   where
     same : s.volume ≡ r.volume
     same = y.volume_is ∙ sym x.volume_is
 
-pub one_text : OneText
-one_text table N r s x y = ap (report_text table N) (one_report (state_of table) N r s x y)
+pub one_text : (P : Profile) → OneTextBy P
+one_text P table N r s x y = ap (report_text_by P table N) (one_report P (state_of table) N r s x y)
 
 -- ---- paths
 parts_by : (M : Blocks) (told : Answer Found) (r : Report) → ReportsBy M told r → (n : NodeFields) → Includes r.nodes n → (part : List ℕ) → Includes n.path part → IsPathPart (escaped part)
@@ -52,30 +53,30 @@ parts_by M (found f) r x n i part j = paths_have_parts (view M f.space) f.root r
 parts_by M (holes listed) r x n i part j = absurd (subst (λ z. Includes z n) x.no_nodes i)
 parts_by M (faulty fault) r x n i part j = absurd (subst (λ z. Includes z n) x.no_nodes i)
 
-pub reports_keep_it : ReportsKeepIt
-reports_keep_it M N r x = record {
+pub reports_keep_it : (P : Profile) → ReportsKeepItBy P
+reports_keep_it P M N r x = record {
   report_is = x;
-  only = λ s y. one_report M N r s x y;
+  only = λ s y. one_report P M N r s x y;
   parts = parts_by M r.volume r x.by_volume;
-  volume = tells_lawful M N r.volume x.volume_is;
-  tree = tells_tree M N r x;
-  whole_tree = tells_whole_tree M N r x;
-  met = met_is_reported M N r x;
-  stays = stays_whole M N r x;
-  rereads = rereads_suffice M N r x;
+  volume = tells_lawful P M N r.volume x.volume_is;
+  tree = tells_tree P M N r x;
+  whole_tree = tells_whole_tree P M N r x;
+  met = met_is_reported P M N r x;
+  stays = stays_whole P M N r x;
+  rereads = rereads_suffice P M N r x;
 }
 
 -- ---- under agreement, one
-report_of : (M : Blocks) (V : Volume) (N : ℕ) → IsLawful V N → Agrees M V N → (told : Answer Found) → volume_of M N ≡ told
-    → ((report : Report) → report.volume ≡ told → ReportsBy M told report → IsReport M N report) → (report : Report) × IsReport M N report
-report_of M V N l a (found f) e is = (r, is r refl (record { nodes_are = record { walks = w.0; walk = w.1; few = few; is = refl }; unnamed_is = refl; reread_is = refl }))
+report_of : (P : Profile) (M : Blocks) (V : Volume) (N : ℕ) → IsLawfulBy P V N → Agrees M V N → (told : Answer Found) → volume_by P M N ≡ told
+    → ((report : Report) → report.volume ≡ told → ReportsBy M told report → IsReportBy P M N report) → (report : Report) × IsReportBy P M N report
+report_of P M V N l a (found f) e is = (r, is r refl (record { nodes_are = record { walks = w.0; walk = w.1; few = few; is = refl }; unnamed_is = refl; reread_is = refl }))
   where
     w : (walks : List Walked) × IsWalk (view M f.space) f.root walks
     w = some_walk (view M f.space) f.root
 
     few_by : (b : Bool) → nat_le (length w.0) 65536 ≡ b → length w.0 ≤ 65536
     few_by true q = leb-true (length w.0) 65536 q
-    few_by false q = absurd (too_many M N (f, e, more_routes (view M f.space) f.root w.0 65536 w.1 (leb-false (length w.0) 65536 q)) V l a)
+    few_by false q = absurd (too_many P M N (f, e, more_routes (view M f.space) f.root w.0 65536 w.1 (leb-false (length w.0) 65536 q)) V l a)
 
     few : length w.0 ≤ 65536
     few = few_by (nat_le (length w.0) 65536) refl
@@ -85,18 +86,18 @@ report_of M V N l a (found f) e is = (r, is r refl (record { nodes_are = record 
 
     r : Report
     r = record { volume = found f; nodes = nodes; unnamed = unnamed (view M f.space) f.space nodes; reread = reread nodes }
-report_of M V N l a (holes listed) e is = (r, is r refl (record { no_nodes = refl; no_unnamed = refl; reread_is = refl }))
+report_of P M V N l a (holes listed) e is = (r, is r refl (record { no_nodes = refl; no_unnamed = refl; reread_is = refl }))
   where
     r : Report
     r = record { volume = holes listed; nodes = []; unnamed = []; reread = listed }
-report_of M V N l a (faulty fault) e is = (r, is r refl (record { no_nodes = refl; no_unnamed = refl; reread_is = refl }))
+report_of P M V N l a (faulty fault) e is = (r, is r refl (record { no_nodes = refl; no_unnamed = refl; reread_is = refl }))
   where
     r : Report
     r = record { volume = faulty fault; nodes = []; unnamed = []; reread = [] }
 
-pub some_report : SomeReport
-some_report M V N l a = report_of M V N l a (volume_of M N) refl (λ report same by. record {
-  in_range = λ out. out_of_range M N out V l a;
+pub some_report : (P : Profile) → SomeReportBy P
+some_report P M V N l a = report_of P M V N l a (volume_by P M N) refl (λ report same by. record {
+  in_range = λ out. out_of_range P M N out V l a;
   nothing_past = a.above;
   volume_is = same;
   by_volume = subst (λ told. ReportsBy M told report) (sym same) by;

@@ -8,6 +8,8 @@ use Rattle.udfs_lattice.specs.Volumes.{Blocks}
 use Rattle.udfs_osta.specs.declared.labels.Label.{Label}
 use Rattle.udfs_osta.specs.declared.labels.Label.TheVariants as label
 use Rattle.udfs_osta.specs.declared.stamps.Stamp.{Stamp}
+use Rattle.udfs_volume.specs.declared.profiles.Profile.{Profile}
+use Rattle.udfs_volume.specs.declared.profiles.Profile.TheVariants.{Strict, Wide}
 use Rattle.udfs_volume.specs.Answers.{Answer, found, holes, faulty}
 use Rattle.udfs_volume.specs.Layout.{Partition}
 use Rattle.udfs_walk.specs.NodeFields.{NodeFields}
@@ -17,7 +19,7 @@ use Rattle.udfs_salvage.specs.Reports.{Report}
 use Rattle.udfs_salvage.specs.Texts.{has_two}
 use Rattle.udfs_walk.specs.Rereads.{holes_of, missing_of}
 use Rattle.udfs_salvage.specs.JsonNodes.{count, hole_data, list_data, node_data, size_data, time_data, unnamed_data}
-use Rattle.udfs_salvage.specs.JsonReports.{label_data, label_data_of, map_name, open_members, packet_length_of, report_data, reread_data, volume_data, with_map_members, with_packet}
+use Rattle.udfs_salvage.specs.JsonReports.{label_data, label_data_of, map_name, open_members, packet_length_of, report_data_by, reread_data, volume_data, with_map_members, with_packet}
 
 pub none_in : {A : Type 0} (f : A → Data) (xs : List A) → ((x : A) → has_float (f x) ≡ false) → has_float (list_data f xs) ≡ false
 none_in f [] h = refl
@@ -67,9 +69,16 @@ label_of_none (found f) = label_none f.layout.label
 label_of_none (holes blocks) = refl
 label_of_none (faulty f) = refl
 
-pub report_none : (t : Table) (last : ℕ) (r : Report) → has_float (report_data t last r) ≡ false
-unfolding report_data
-report_none t last r = rw (
+pub report_none : (P : Profile) (t : Table) (last : ℕ) (r : Report) → has_float (report_data_by P t last r) ≡ false
+unfolding report_data_by
+report_none Strict t last r = rw (
+  label_of_none r.volume,
+  none_in node_data r.nodes node_none,
+  none_in (reread_data (state_of t)) r.reread (reread_none (state_of t)),
+  none_in (unnamed_data (has_two r.volume)) r.unnamed (unnamed_none (has_two r.volume)),
+  volume_none r.volume,
+) refl
+report_none Wide t last r = rw (
   label_of_none r.volume,
   none_in node_data r.nodes node_none,
   none_in (reread_data (state_of t)) r.reread (reread_none (state_of t)),

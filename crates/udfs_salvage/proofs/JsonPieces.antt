@@ -8,6 +8,8 @@ use Rattle.serde_json.specs.View.{items_of}
 use Rattle.serde_json.specs.Written.{compact_text, items_text}
 use Rattle.udfs_lattice.specs.Tables.{Table, conflict_count, known_count, state_of}
 use Rattle.udfs_lattice.specs.Volumes.{Blocks}
+use Rattle.udfs_volume.specs.declared.profiles.Profile.{Profile}
+use Rattle.udfs_volume.specs.declared.profiles.Profile.TheVariants.{Strict, Wide}
 use Rattle.udfs_volume.specs.Answers.{Answer, found}
 use Rattle.udfs_space.specs.Places.{View, view}
 use Rattle.udfs_file.specs.declared.faults.Kind.{Kind}
@@ -24,8 +26,8 @@ use Rattle.udfs_salvage.specs.NodeTexts.{kind_name, path_name}
 use Rattle.udfs_salvage.specs.Texts.{has_two, line}
 use Rattle.udfs_walk.specs.Rereads.{holes_of, missing_of}
 use Rattle.udfs_salvage.specs.JsonNodes.{count, hole_data, list_data, node_data, size_data, time_data, unnamed_data}
-use Rattle.udfs_salvage.specs.JsonReports.{json_text, label_data_of, report_data, reread_data, volume_data}
-use Rattle.udfs_salvage.specs.JsonPieces.{counts_piece, end_piece, entry_end, entry_front, kind_piece, more_values, node_end, node_front, reference_piece, report_end, report_front, standing_piece, told_piece}
+use Rattle.udfs_salvage.specs.JsonReports.{json_text_by, label_data_of, report_data_by, reread_data, volume_data}
+use Rattle.udfs_salvage.specs.JsonPieces.{counts_piece, end_piece, entry_end, entry_front, kind_piece, more_values, node_end, node_front, reference_piece, report_end, report_front, reread_words, standing_piece, told_piece}
 use Rattle.udfs_salvage.proofs.FullTexts.{same_name}
 
 -- the values behind the first one, and the closing bracket
@@ -134,19 +136,33 @@ in_report a b c d e label f last g rest = simp append_assoc
 in_line : (a nodes b rereads c unnamed d volume e z : List ℕ) → (a ++ (nodes ++ (b ++ (rereads ++ (c ++ (unnamed ++ (d ++ (volume ++ e)))))))) ++ z ≡ a ++ (nodes ++ (b ++ (rereads ++ (c ++ (unnamed ++ ((d ++ (volume ++ e)) ++ z))))))
 in_line a nodes b rereads c unnamed d volume e z = simp append_assoc
 
-pub report_pieces : (t : Table) (last : ℕ) (r : Report) →
+-- the object of a report, key by key: what stands between the nodes and the blocks to read again is by the rules
+pub keys_of : (P : Profile) (t : Table) (last : ℕ) (r : Report) →
+    codes "{\"conflict\":" ++ (compact_text (count (conflict_count t)) ++ (codes ",\"known\":" ++ (compact_text (count (known_count t))
+    ++ (codes ",\"label\":" ++ (compact_text (label_data_of r.volume) ++ (codes ",\"last\":" ++ (compact_text (count last)
+    ++ (codes ",\"nodes\":" ++ (compact_text (list_data node_data r.nodes)
+    ++ (reread_words P ++ (compact_text (list_data (reread_data (state_of t)) r.reread)
+    ++ (codes ",\"unnamed\":" ++ (compact_text (list_data (unnamed_data (has_two r.volume)) r.unnamed)
+    ++ (codes ",\"volume\":" ++ (compact_text (volume_data r.volume) ++ codes "}")))))))))))))))
+    ≡ json_text_by P t last r
+unfolding report_data_by serde_json_on_literals
+keys_of Strict t last r = refl
+keys_of Wide t last r = refl
+
+pub report_pieces : (P : Profile) (t : Table) (last : ℕ) (r : Report) →
     report_front t last r.volume ++ (compact_text (list_data node_data r.nodes)
-    ++ (codes ",\"reread\":" ++ (compact_text (list_data (reread_data (state_of t)) r.reread)
+    ++ (reread_words P ++ (compact_text (list_data (reread_data (state_of t)) r.reread)
     ++ (codes ",\"unnamed\":" ++ (compact_text (list_data (unnamed_data (has_two r.volume)) r.unnamed)
     ++ (report_end r.volume ++ codes "\n"))))))
-    ≡ line (json_text t last r)
-unfolding report_front counts_piece report_end report_data serde_json_on_literals
-report_pieces t last r =
+    ≡ line (json_text_by P t last r)
+unfolding report_front counts_piece report_end
+report_pieces P t last r =
     let nodes = compact_text (list_data node_data r.nodes) in
     let rereads = compact_text (list_data (reread_data (state_of t)) r.reread) in
     let unnamed = compact_text (list_data (unnamed_data (has_two r.volume)) r.unnamed) in
     let volume = compact_text (volume_data r.volume) in
-    sym (in_line (report_front t last r.volume) nodes (codes ",\"reread\":") rereads (codes ",\"unnamed\":") unnamed (codes ",\"volume\":") volume (codes "}") (codes "\n"))
+    sym (in_line (report_front t last r.volume) nodes (reread_words P) rereads (codes ",\"unnamed\":") unnamed (codes ",\"volume\":") volume (codes "}") (codes "\n"))
     ∙ ap line (in_report (codes "{\"conflict\":") (compact_text (count (conflict_count t))) (codes ",\"known\":") (compact_text (count (known_count t)))
     (codes ",\"label\":") (compact_text (label_data_of r.volume)) (codes ",\"last\":") (compact_text (count last)) (codes ",\"nodes\":")
-    (nodes ++ (codes ",\"reread\":" ++ (rereads ++ (codes ",\"unnamed\":" ++ (unnamed ++ (codes ",\"volume\":" ++ (volume ++ codes "}"))))))))
+    (nodes ++ (reread_words P ++ (rereads ++ (codes ",\"unnamed\":" ++ (unnamed ++ (codes ",\"volume\":" ++ (volume ++ codes "}")))))))
+    ∙ keys_of P t last r)

@@ -1,11 +1,10 @@
 -- Text that is put piece after piece, by the laws of udfs_printing: all of it, or a beginning of it.
-use Rattle.std.proofs.Common.{◌≡◌, refl, sym, ap, subst, ◌∙◌, ℕ, ◌+◌, ◌<◌, ◌≤◌, List, [], ◌++◌, length, take, drop, get_or, append_assoc, append-nil, arith}
+use Rattle.std.proofs.Common.{◌≡◌, refl, sym, ap, subst, ◌∙◌, ℕ, ◌+◌, ◌<◌, List, [], ◌++◌, length, take, drop, get_or, append_assoc, append-nil}
 use Rattle.std.specs.Prelude.{Option, Some, None, Result, Ok, Err, IfErr, is_ok, ⊤}
 use Rattle.std.specs.List.{flat_map}
-use Rattle.std.proofs.lemmas.List.{length-append}
 use Rattle.udfs_reading.specs.Writing.{Failed, Wrote}
 use Rattle.udfs_reading.specs.declared.writing.WriteFault.{WriteFault}
-use Rattle.udfs_printing.specs.Puts.{Finishes, LeftAlone, Puts}
+use Rattle.udfs_printing.specs.Puts.{Finishes, Puts}
 use Rattle.udfs_printing.proofs.PublicLaws as printing
 use Rattle.udfs_walk.specs.NodeFields.{NodeFields}
 use Rattle.udfs_salvage.specs.NodeTexts.{node_text, nodes_text}

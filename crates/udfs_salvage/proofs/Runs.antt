@@ -3,6 +3,7 @@ use Rattle.std.proofs.Common.{◌≡◌, ◌⊎◌, inl, ◌≢◌, refl, sym, a
 use Rattle.std.proofs.lemmas.List.{map-append}
 use Rattle.std.specs.Prelude.{Result, Ok, Err, MatchResult}
 use Rattle.std.proofs.KnownBytes.{Appends-nil}
+use Rattle.udfs_volume.specs.declared.profiles.Profile.{Profile}
 use Rattle.udfs_lattice.specs.Tables.{Table, state_of}
 use Rattle.udfs_lattice.specs.Volumes.{Blocks}
 use Rattle.udfs_reading.specs.Answers.{IsOfFile}
@@ -12,17 +13,17 @@ use Rattle.udfs_reading.specs.declared.error.ReadingFault.{ReadingFault}
 use Rattle.udfs_reading.specs.declared.error.ReadingFault.TheVariants as reading
 use Rattle.udfs_space.specs.Places.{view}
 use Rattle.udfs_walk.proofs.PublicLaws.{no_more_routes}
-use Rattle.udfs_salvage.specs.Reports.{Report, ReportsBy, ReportsNodes, IsReport, IsNothingPast, IsOutOfRange, IsPastEnd, HasTooManyPaths}
-use Rattle.udfs_salvage.specs.TreeReports.{IsOfNoLawful}
-use Rattle.udfs_salvage.specs.Running.{AnswersFor, IfNoInput, IsRefusedFor, Names, PrintsNothing, PrintsOf, RefusesWith, by_fault, run_error_of, salvage_run_error}
+use Rattle.udfs_salvage.specs.Reports.{Report, ReportsBy, ReportsNodes, IsReportBy, IsNothingPast, IsOutOfRange, IsPastEnd, HasTooManyPathsBy}
+use Rattle.udfs_salvage.specs.TreeReports.{IsOfNoLawfulBy}
+use Rattle.udfs_salvage.specs.Running.{AnswersForBy, IfNoInput, IsRefusedForBy, Names, PrintsNothing, PrintsOfBy, RefusesWith, by_fault, run_error_of, salvage_run_error}
 use Rattle.udfs_salvage.specs.declared.errors.RunError.{RunError}
 use Rattle.udfs_salvage.specs.declared.errors.RunError.TheVariants.{Reading, Salvage, Write, OutOfMemory}
 use Rattle.udfs_salvage.specs.declared.errors.SalvageError.{SalvageError}
 use Rattle.udfs_salvage.specs.declared.errors.SalvageError.TheVariants as errors
 
 -- nothing was printed yet
-pub nothing_out : (old : Option (List ℕ)) (i : ℕ) (last : ℕ) (table : Table) → PrintsNothing old old i i ⊎ PrintsOf last old old i i (Err OutOfMemory) table
-nothing_out old i last table = inl (record { given = Appends-nil old; kept = refl })
+pub nothing_out : (P : Profile) (old : Option (List ℕ)) (i : ℕ) (last : ℕ) (table : Table) → PrintsNothing old old i i ⊎ PrintsOfBy P last old old i i (Err OutOfMemory) table
+nothing_out P old i last table = inl (record { given = Appends-nil old; kept = refl })
 
 abbrev IsNamed : InputError → ℕ → ReadingFault → ℕ → Type 0
 IsNamed e input fault number = IsOfFile e.error.fault → (e.input ≡ input) × (e.error.fault ≡ fault) × (e.error.number ≡ number)
@@ -57,59 +58,59 @@ pub never_memory : (e : InputError) (r : RunError) → r ≡ run_error_of e → 
 never_memory e r is other q = by_memory e e.error.fault refl other (sym is ∙ q)
 
 -- ---- a table that has no report
-one_reason : (table : Table) (last : ℕ) (e why : SalvageError) → IsRefusedFor table last e → IsRefusedFor table last why → e ≡ why
-one_reason table last errors.LastRange errors.LastRange h g = refl
-one_reason table last errors.LastRange (errors.PastEnd n) h g = absurd (g.0 h)
-one_reason table last errors.LastRange errors.TooManyPaths h g = absurd (g.0 h)
-one_reason table last errors.LastRange errors.OutOfMemory h g = absurd g
-one_reason table last (errors.PastEnd n) errors.LastRange h g = absurd (h.0 g)
-one_reason table last (errors.PastEnd n) (errors.PastEnd m) h g = ap errors.PastEnd (let a : n ≤ m = h.1.least m g.1.past g.1.not_unknown in let b : m ≤ n = g.1.least n h.1.past h.1.not_unknown in omega (arith, a, b))
-one_reason table last (errors.PastEnd n) errors.TooManyPaths h g = absurd (h.1.not_unknown (g.1 n h.1.past))
-one_reason table last (errors.PastEnd n) errors.OutOfMemory h g = absurd g
-one_reason table last errors.TooManyPaths errors.LastRange h g = absurd (h.0 g)
-one_reason table last errors.TooManyPaths (errors.PastEnd n) h g = absurd (g.1.not_unknown (h.1 n g.1.past))
-one_reason table last errors.TooManyPaths errors.TooManyPaths h g = refl
-one_reason table last errors.TooManyPaths errors.OutOfMemory h g = absurd g
-one_reason table last errors.OutOfMemory why h g = absurd h
+one_reason : (P : Profile) (table : Table) (last : ℕ) (e why : SalvageError) → IsRefusedForBy P table last e → IsRefusedForBy P table last why → e ≡ why
+one_reason P table last errors.LastRange errors.LastRange h g = refl
+one_reason P table last errors.LastRange (errors.PastEnd n) h g = absurd (g.0 h)
+one_reason P table last errors.LastRange errors.TooManyPaths h g = absurd (g.0 h)
+one_reason P table last errors.LastRange errors.OutOfMemory h g = absurd g
+one_reason P table last (errors.PastEnd n) errors.LastRange h g = absurd (h.0 g)
+one_reason P table last (errors.PastEnd n) (errors.PastEnd m) h g = ap errors.PastEnd (let a : n ≤ m = h.1.least m g.1.past g.1.not_unknown in let b : m ≤ n = g.1.least n h.1.past h.1.not_unknown in omega (arith, a, b))
+one_reason P table last (errors.PastEnd n) errors.TooManyPaths h g = absurd (h.1.not_unknown (g.1 n h.1.past))
+one_reason P table last (errors.PastEnd n) errors.OutOfMemory h g = absurd g
+one_reason P table last errors.TooManyPaths errors.LastRange h g = absurd (h.0 g)
+one_reason P table last errors.TooManyPaths (errors.PastEnd n) h g = absurd (g.1.not_unknown (h.1 n g.1.past))
+one_reason P table last errors.TooManyPaths errors.TooManyPaths h g = refl
+one_reason P table last errors.TooManyPaths errors.OutOfMemory h g = absurd g
+one_reason P table last errors.OutOfMemory why h g = absurd h
 
 -- a volume with a report has no more nodes than there may be
-not_too_many : (M : Blocks) (last : ℕ) (r : Report) → IsReport M last r → HasTooManyPaths M last → ⊥
-not_too_many M last r is (f, e, more) = no_more_routes (view M f.space) f.root by.nodes_are.walks 65536 by.nodes_are.walk by.nodes_are.few more
+not_too_many : (P : Profile) (M : Blocks) (last : ℕ) (r : Report) → IsReportBy P M last r → HasTooManyPathsBy P M last → ⊥
+not_too_many P M last r is (f, e, more) = no_more_routes (view M f.space) f.root by.nodes_are.walks 65536 by.nodes_are.walk by.nodes_are.few more
   where
     by : ReportsNodes M f r
     by = subst (λ told. ReportsBy M told r) (is.volume_is ∙ e) is.by_volume
 
 -- what is reported is not refused
-not_reported : (table : Table) (last : ℕ) (r : Report) (why : SalvageError) → IsReport (state_of table) last r → IsRefusedFor table last why → ⊥
-not_reported table last r errors.LastRange is q = is.in_range q
-not_reported table last r (errors.PastEnd n) is q = q.1.not_unknown (is.nothing_past n q.1.past)
-not_reported table last r errors.TooManyPaths is q = not_too_many (state_of table) last r is q.2
-not_reported table last r errors.OutOfMemory is q = q
+not_reported : (P : Profile) (table : Table) (last : ℕ) (r : Report) (why : SalvageError) → IsReportBy P (state_of table) last r → IsRefusedForBy P table last why → ⊥
+not_reported P table last r errors.LastRange is q = is.in_range q
+not_reported P table last r (errors.PastEnd n) is q = q.1.not_unknown (is.nothing_past n q.1.past)
+not_reported P table last r errors.TooManyPaths is q = not_too_many P (state_of table) last r is q.2
+not_reported P table last r errors.OutOfMemory is q = q
 
 -- what refuses a table is told, and no lawful volume agrees with it; or memory was wanted, and nothing is out
-refused_as : (table : Table) (last : ℕ) (old : Option (List ℕ)) (i : ℕ) {X : Type 0} (r : Result X SalvageError) (e : SalvageError) → r ≡ Err e → (r ≡ Err errors.LastRange → IsOutOfRange last)
+refused_as : (P : Profile) (table : Table) (last : ℕ) (old : Option (List ℕ)) (i : ℕ) {X : Type 0} (r : Result X SalvageError) (e : SalvageError) → r ≡ Err e → (r ≡ Err errors.LastRange → IsOutOfRange last)
     → ((n : ℕ) → r ≡ Err (errors.PastEnd n) → (¬ IsOutOfRange last) × IsPastEnd (state_of table) last n)
-    → (r ≡ Err errors.TooManyPaths → (¬ IsOutOfRange last) × IsNothingPast (state_of table) last × HasTooManyPaths (state_of table) last)
-    → IsOfNoLawful (state_of table) last e → AnswersFor last old old i i (Err (salvage_run_error e)) table
-refused_as table last old i r errors.LastRange is range past many none = (range is, none)
-refused_as table last old i r (errors.PastEnd n) is range past many none = (past n is, none)
-refused_as table last old i r errors.TooManyPaths is range past many none = (many is, none)
-refused_as table last old i r errors.OutOfMemory is range past many none = nothing_out old i last table
+    → (r ≡ Err errors.TooManyPaths → (¬ IsOutOfRange last) × IsNothingPast (state_of table) last × HasTooManyPathsBy P (state_of table) last)
+    → IsOfNoLawfulBy P (state_of table) last e → AnswersForBy P last old old i i (Err (salvage_run_error e)) table
+refused_as P table last old i r errors.LastRange is range past many none = (range is, none)
+refused_as P table last old i r (errors.PastEnd n) is range past many none = (past n is, none)
+refused_as P table last old i r errors.TooManyPaths is range past many none = (many is, none)
+refused_as P table last old i r errors.OutOfMemory is range past many none = nothing_out P old i last table
 
-pub refused_by : (table : Table) (last : ℕ) (old : Option (List ℕ)) (i : ℕ) {X : Type 0} (r : Result X SalvageError) (e : SalvageError) (x : RunError) → x ≡ salvage_run_error e → r ≡ Err e
+pub refused_by : (P : Profile) (table : Table) (last : ℕ) (old : Option (List ℕ)) (i : ℕ) {X : Type 0} (r : Result X SalvageError) (e : SalvageError) (x : RunError) → x ≡ salvage_run_error e → r ≡ Err e
     → (r ≡ Err errors.LastRange → IsOutOfRange last) → ((n : ℕ) → r ≡ Err (errors.PastEnd n) → (¬ IsOutOfRange last) × IsPastEnd (state_of table) last n)
-    → (r ≡ Err errors.TooManyPaths → (¬ IsOutOfRange last) × IsNothingPast (state_of table) last × HasTooManyPaths (state_of table) last)
-    → IsOfNoLawful (state_of table) last e → AnswersFor last old old i i (Err x) table
-refused_by table last old i r e x same is range past many none = subst (λ z. AnswersFor last old old i i (Err z) table) (sym same) (refused_as table last old i r e is range past many none)
+    → (r ≡ Err errors.TooManyPaths → (¬ IsOutOfRange last) × IsNothingPast (state_of table) last × HasTooManyPathsBy P (state_of table) last)
+    → IsOfNoLawfulBy P (state_of table) last e → AnswersForBy P last old old i i (Err x) table
+refused_by P table last old i r e x same is range past many none = subst (λ z. AnswersForBy P last old old i i (Err z) table) (sym same) (refused_as P table last old i r e is range past many none)
 
 -- of a table that has no report, nothing but the reason is told
-pub refuses : (last : ℕ) (old new : Option (List ℕ)) (i j : ℕ) (result : Result Bool RunError) (table : Table) (why : SalvageError) → AnswersFor last old new i j result table
-    → IsRefusedFor table last why → MatchResult result (λ _. ⊥) (RefusesWith why)
-refuses last old new i j (Ok x) table why h q = not_reported table last h.report why h.headline.report_is q
-refuses last old new i j (Err (Reading e)) table why h q = tt
-refuses last old new i j (Err (Salvage e)) table why h q = one_reason table last e why h.0 q
-refuses last old new i j (Err Write) table why h q = not_reported table last h.report why h.headline.report_is q
-refuses last old new i j (Err OutOfMemory) table why h q = tt
+pub refuses : (P : Profile) (last : ℕ) (old new : Option (List ℕ)) (i j : ℕ) (result : Result Bool RunError) (table : Table) (why : SalvageError) → AnswersForBy P last old new i j result table
+    → IsRefusedForBy P table last why → MatchResult result (λ _. ⊥) (RefusesWith why)
+refuses P last old new i j (Ok x) table why h q = not_reported P table last h.report why h.headline.report_is q
+refuses P last old new i j (Err (Reading e)) table why h q = tt
+refuses P last old new i j (Err (Salvage e)) table why h q = one_reason P table last e why h.0 q
+refuses P last old new i j (Err Write) table why h q = not_reported P table last h.report why h.headline.report_is q
+refuses P last old new i j (Err OutOfMemory) table why h q = tt
 
 -- ---- counts of faults, where no input was to blame
 

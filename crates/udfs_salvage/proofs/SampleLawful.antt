@@ -1,5 +1,6 @@
 -- The sample volumes are lawful: what the layers below say of it, joined.
 use Rattle.std.proofs.Common.{◌≡◌, refl, ap, ◌∙◌, [], ◌∷◌}
+use Rattle.udfs_volume.specs.declared.profiles.Profile.TheVariants.{Strict}
 use Rattle.udfs_lattice.specs.Volumes.{Blocks, Volume}
 use Rattle.udfs_volume.specs.Answers.{found, and_then}
 use Rattle.udfs_volume.specs.Sample.{Maps, IsLawfulSample, sample, sample_blocks, sample_layout}
@@ -10,9 +11,9 @@ use Rattle.udfs_file.specs.Sample.{sample_contents, sample_root}
 use Rattle.udfs_file.proofs.PublicLaws.{sample_file_set_is_found}
 use Rattle.udfs_tree.specs.Sample.{HasSampleFiles}
 use Rattle.udfs_tree.proofs.PublicLaws.{sample_tree_is_lawful}
-use Rattle.udfs_salvage.specs.Found.{Found, placed, rooted, volume as volume_of}
+use Rattle.udfs_salvage.specs.Found.{Found, placed, rooted, volume_by}
 use Rattle.udfs_salvage.specs.TreeReports.{SomeLawful}
-use Rattle.udfs_salvage.specs.VolumeTrees.{AllIsWhole, IsLawful}
+use Rattle.udfs_salvage.specs.VolumeTrees.{AllIsWhole, IsLawfulBy}
 use Rattle.udfs_salvage.proofs.Openings.{ReadAs, lawful_by, open_as}
 use Rattle.udfs_salvage.proofs.TreeReports.{in_volume}
 
@@ -29,13 +30,13 @@ blocks maps = sample_blocks maps (sample_contents maps)
 lawful_layout : (maps : Maps) → IsLawfulSample maps (sample_contents maps)
 lawful_layout maps = sample_layout_is_lawful maps (sample_contents maps) (sample_file_set_is_found maps).0
 
-finds : (maps : Maps) → volume_of (blocks maps) 600 ≡ found (sample_found maps)
-unfolding volume_of
+finds : (maps : Maps) → volume_by Strict (blocks maps) 600 ≡ found (sample_found maps)
+unfolding volume_by
 finds maps = ap (λ x. and_then x (placed (blocks maps))) (lawful_layout maps).layout_is
     ∙ ap (λ x. and_then x (rooted (blocks maps) (sample_layout maps))) (sample_places_are_lawful maps (sample_contents maps)).0
     ∙ ap (λ x. and_then x (λ root. found (record { layout = sample_layout maps; space = sample_space maps; root = root }))) (sample_file_set_is_found maps).1
 
-sample_is_whole : (maps : Maps) → AllIsWhole (volume maps) 600
+sample_is_whole : (maps : Maps) → AllIsWhole Strict (volume maps) 600
 sample_is_whole maps = record {
   is_volume = record {
     volume_is = (lawful_layout maps).is_volume;
@@ -47,8 +48,8 @@ sample_is_whole maps = record {
   tree = (sample_tree_is_lawful maps).0;
 }
 
-sample_is_lawful : (maps : Maps) → IsLawful (volume maps) 600
-sample_is_lawful maps = lawful_by (volume maps) 600 (sample_is_whole maps)
+sample_is_lawful : (maps : Maps) → IsLawfulBy Strict (volume maps) 600
+sample_is_lawful maps = lawful_by Strict (volume maps) 600 (sample_is_whole maps)
 
 -- the file B stands in it, in the last of its partitions
 pub some_lawful : SomeLawful
@@ -58,11 +59,11 @@ some_lawful maps = (
   600,
   sample_is_lawful maps,
   (sample_layout maps, (lawful_layout maps).layout_is, refl),
-  (0x42 ∷ [], h.b.0, in_volume (volume maps) 600 (sample_found maps) r ((0x42 ∷ []) ∷ []) h.b.0 h.b.1),
+  (0x42 ∷ [], h.b.0, in_volume Strict (volume maps) 600 (sample_found maps) r ((0x42 ∷ []) ∷ []) h.b.0 h.b.1),
 )
   where
-    r : ReadAs (volume maps) 600 (sample_found maps)
-    r = open_as (volume maps) 600 (sample_is_whole maps).is_volume
+    r : ReadAs Strict (volume maps) 600 (sample_found maps)
+    r = open_as Strict (volume maps) 600 (sample_is_whole maps).is_volume
 
     h : HasSampleFiles r.opened.blocks
     h = (sample_tree_is_lawful maps).1 r.opened.blocks r.is_whole

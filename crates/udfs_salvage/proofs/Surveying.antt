@@ -2,9 +2,10 @@
 use Rattle.std.proofs.Common.{◌≡◌, refl, sym, ◌∙◌, subst, ℕ, List, [], ◌∷◌, map}
 use Rattle.std.specs.Prelude.{◌&&◌}
 use Rattle.std.specs.List.{list_all}
+use Rattle.udfs_volume.specs.declared.profiles.Profile.{Profile}
 use Rattle.udfs_lattice.specs.Volumes.{Blocks}
 use Rattle.udfs_volume.specs.Answers.{Answer, found, holes, faulty}
-use Rattle.udfs_volume.specs.Layout.{Layout, layout}
+use Rattle.udfs_volume.specs.Layout.{Layout, layout_by}
 use Rattle.udfs_volume.specs.declared.faults.VolumeFault.{VolumeFault}
 use Rattle.udfs_space.specs.Places.{View, view}
 use Rattle.udfs_walk.specs.Bare.{full_node, lists_at, with_lists}
@@ -12,8 +13,8 @@ use Rattle.udfs_walk.specs.NodeFields.{NodeFields}
 use Rattle.udfs_walk.specs.TornFields.{TornFields}
 use Rattle.udfs_walk.specs.declared.standings.Standing.{Standing}
 use Rattle.udfs_walk.specs.declared.standings.Standing.TheVariants.{Whole, Torn, Loop, Fault}
-use Rattle.udfs_salvage.specs.Found.{Found, volume}
-use Rattle.udfs_salvage.specs.Reports.{IsLookRefused, MayWantMemory, all_whole, is_whole}
+use Rattle.udfs_salvage.specs.Found.{Found, volume_by}
+use Rattle.udfs_salvage.specs.Reports.{IsLookRefused, MayWantMemoryBy, all_whole, is_whole}
 use Rattle.udfs_salvage.specs.Surveys.{IsVolumeFound, full_nodes}
 use Rattle.udfs_salvage.specs.declared.errors.SalvageError.{SalvageError}
 use Rattle.udfs_salvage.specs.declared.errors.SalvageError.TheVariants as errors
@@ -23,10 +24,10 @@ no_fault : (l : Layout) (f : VolumeFault) → found l ≡ faulty f → ⊥
 no_fault l f e = let z : ⊥ = cc in z
 
 -- of a volume that opens memory may be wanted
-pub wants_memory : (M : Blocks) (N : ℕ) (a : Answer Found) (e : SalvageError) → a ≡ volume M N → e ≡ errors.OutOfMemory → IsVolumeFound a → IsLookRefused M N e
-wants_memory M N a e is of f = subst (IsLookRefused M N) (sym of) (may (found_by M N f.opened (sym is ∙ f.is)).layout_is)
+pub wants_memory : (P : Profile) (M : Blocks) (N : ℕ) (a : Answer Found) (e : SalvageError) → a ≡ volume_by P M N → e ≡ errors.OutOfMemory → IsVolumeFound a → IsLookRefused P M N e
+wants_memory P M N a e is of f = subst (IsLookRefused P M N) (sym of) (may (found_by P M N f.opened (sym is ∙ f.is)).layout_is)
   where
-    may : layout M N ≡ found (f.opened).layout → MayWantMemory M N
+    may : layout_by P M N ≡ found (f.opened).layout → MayWantMemoryBy P M N
     may l = (λ h. no_fault (f.opened).layout _ (sym l ∙ h), λ h. no_fault (f.opened).layout _ (sym l ∙ h))
 
 -- ---- the blocks and holes do not say whether a node is whole

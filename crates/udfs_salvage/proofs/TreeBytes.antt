@@ -3,6 +3,7 @@ use Rattle.std.proofs.Common.{◌≡◌, refl, sym, ◌∙◌, ap, subst, inl, i
 use Rattle.std.proofs.lemmas.Option.{slice_get-map}
 use Rattle.std.specs.Prelude.{zero, suc, slice_get, option_map}
 use Rattle.std.specs.List.{AllZip}
+use Rattle.udfs_volume.specs.declared.profiles.Profile.{Profile}
 use Rattle.udfs_lattice.specs.Volumes.{Blocks}
 use Rattle.udfs_volume.specs.Answers.{found}
 use Rattle.udfs_space.specs.Places.{view}
@@ -17,10 +18,10 @@ use Rattle.udfs_walk.specs.Rereads.{holes_of}
 use Rattle.udfs_tree.specs.Cells.{HasCellsAt, IsByteOf, IsByteOrMissing, IsTornAs, IsUntold}
 use Rattle.udfs_tree.specs.Laws.{IsTold}
 use Rattle.udfs_tree.proofs.PublicLaws.{one_reading}
-use Rattle.udfs_salvage.specs.Found.{Found, volume as volume_of}
-use Rattle.udfs_salvage.specs.Reports.{Report, IsReport}
-use Rattle.udfs_salvage.specs.Extraction.{HasCellsIn, cell_byte, filled, is_offered}
-use Rattle.udfs_salvage.specs.TreeReports.{AreFilled, FillsFile, IsNodeOfVolume, IsReportedAs, WritesFile, file_bytes}
+use Rattle.udfs_salvage.specs.Found.{Found, volume_by}
+use Rattle.udfs_salvage.specs.Reports.{Report, IsReportBy}
+use Rattle.udfs_salvage.specs.Extraction.{HasCellsInBy, cell_byte, filled, is_offered}
+use Rattle.udfs_salvage.specs.TreeReports.{AreFilled, FillsFileBy, IsNodeOfVolume, IsReportedAs, WritesFileBy, file_bytes}
 use Rattle.udfs_salvage.specs.declared.extraction.Fill.{Fill}
 use Rattle.udfs_salvage.proofs.Founds.{found_same}
 use Rattle.udfs_salvage.proofs.TreeReports.{tells_tree}
@@ -35,16 +36,16 @@ all_there x (Byte b o ∷ cs) (l ∷ ls) z = λ i. z.0 i ∷ all_there x cs ls z
 all_there x (Gap n ∷ cs) (l ∷ ls) z = absurd z.0
 
 -- the cells at a place of a report, as the tree's laws say it
-as_tree : (M : Blocks) (N index : ℕ) (cs : List Cell) (f : Found) → volume_of M N ≡ found f → HasCellsIn M N index cs → HasCellsAt (view M f.space) f.root index cs
-as_tree M N index cs f e h = subst (λ (g : Found). HasCellsAt (view M g.space) g.root index cs) (found_same h.opened f (sym h.opens ∙ e)) h.has_cells
+as_tree : (P : Profile) (M : Blocks) (N index : ℕ) (cs : List Cell) (f : Found) → volume_by P M N ≡ found f → HasCellsInBy P M N index cs → HasCellsAt (view M f.space) f.root index cs
+as_tree P M N index cs f e h = subst (λ (g : Found). HasCellsAt (view M g.space) g.root index cs) (found_same h.opened f (sym h.opens ∙ e)) h.has_cells
 
 -- what holds of the cells that are written holds of the file's bytes
-pub writes_file : (M : Blocks) (N index : ℕ) (report : Report) (fill : ℕ) (Writes : List ℕ → Type 0) → IsReport M N report → (n : NodeFields) → slice_get report.nodes index ≡ Some n → n.standing ≡ Whole
-    → ((cs : List Cell) × HasCellsIn M N index cs × Writes (filled fill cs)) → WritesFile M N report index n Writes
-writes_file M N index report fill Writes is n at whole w V lawful agrees = (y.file, y.in_volume, told.2.told, subst Writes (all_there fill cs y.file.body bytes) w.2)
+pub writes_file : (P : Profile) (M : Blocks) (N index : ℕ) (report : Report) (fill : ℕ) (Writes : List ℕ → Type 0) → IsReportBy P M N report → (n : NodeFields) → slice_get report.nodes index ≡ Some n → n.standing ≡ Whole
+    → ((cs : List Cell) × HasCellsInBy P M N index cs × Writes (filled fill cs)) → WritesFileBy P M N report index n Writes
+writes_file P M N index report fill Writes is n at whole w V lawful agrees = (y.file, y.in_volume, told.2.told, subst Writes (all_there fill cs y.file.body bytes) w.2)
   where
-    y : IsNodeOfVolume M V N report.volume index n
-    y = (tells_tree M N report is V lawful agrees).nodes index n at
+    y : IsNodeOfVolume P M V N report.volume index n
+    y = (tells_tree P M N report is V lawful agrees).nodes index n at
 
     told : IsReportedAs M y.opened index n y.file
     told = (y.whole whole).0
@@ -53,7 +54,7 @@ writes_file M N index report fill Writes is n at whole w V lawful agrees = (y.fi
     cs = w.0
 
     same : told.0 ≡ cs
-    same = one_reading (view M y.opened.space) y.opened.root index told.0 cs told.1 (as_tree M N index cs y.opened (sym is.volume_is ∙ y.opens) w.1)
+    same = one_reading (view M y.opened.space) y.opened.root index told.0 cs told.1 (as_tree P M N index cs y.opened (sym is.volume_is ∙ y.opens) w.1)
 
     bytes : AllZip IsByteOf cs y.file.body
     bytes = subst (λ z. AllZip IsByteOf z y.file.body) same told.2.bytes
@@ -82,12 +83,12 @@ as_long x (c ∷ cs) [] z = absurd z
 as_long x (c ∷ cs) (l ∷ ls) z = ap suc (as_long x cs ls z.1)
 
 -- what holds of the cells that are written holds of the file's bytes, with the node's holes filled
-pub fills_file : (M : Blocks) (N index : ℕ) (report : Report) (fill : ℕ) (given : Fill) (Writes : List ℕ → Type 0) → IsReport M N report → (n : NodeFields) → slice_get report.nodes index ≡ Some n
-    → is_offered n.standing n.size given ≡ true → ((cs : List Cell) × HasCellsIn M N index cs × Writes (filled fill cs)) → FillsFile M N n fill Writes
-fills_file M N index report fill given Writes is n at offered w V lawful agrees = (y.file, y.in_volume, told.2.told, (filled fill cs, bytes, w.2))
+pub fills_file : (P : Profile) (M : Blocks) (N index : ℕ) (report : Report) (fill : ℕ) (given : Fill) (Writes : List ℕ → Type 0) → IsReportBy P M N report → (n : NodeFields) → slice_get report.nodes index ≡ Some n
+    → is_offered n.standing n.size given ≡ true → ((cs : List Cell) × HasCellsInBy P M N index cs × Writes (filled fill cs)) → FillsFileBy P M N n fill Writes
+fills_file P M N index report fill given Writes is n at offered w V lawful agrees = (y.file, y.in_volume, told.2.told, (filled fill cs, bytes, w.2))
   where
-    y : IsNodeOfVolume M V N report.volume index n
-    y = (tells_tree M N report is V lawful agrees).nodes index n at
+    y : IsNodeOfVolume P M V N report.volume index n
+    y = (tells_tree P M N report is V lawful agrees).nodes index n at
 
     -- of a node that is written something is told
     known : IsUntold n → (s : Standing) → n.standing ≡ s → ⊥
@@ -107,7 +108,7 @@ fills_file M N index report fill given Writes is n at offered w V lawful agrees 
     cs = w.0
 
     same : told.0 ≡ cs
-    same = one_reading (view M y.opened.space) y.opened.root index told.0 cs told.1 (as_tree M N index cs y.opened (sym is.volume_is ∙ y.opens) w.1)
+    same = one_reading (view M y.opened.space) y.opened.root index told.0 cs told.1 (as_tree P M N index cs y.opened (sym is.volume_is ∙ y.opens) w.1)
 
     torn : IsTornAs n y.file cs
     torn = subst (λ z. IsTornAs n y.file z) same told.2

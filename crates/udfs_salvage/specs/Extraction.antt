@@ -1,9 +1,11 @@
 -- What is written of a node.
 --     is_offered standing size fill     it is whole; or torn and of known size, with leave to fill it
 --     filled byte cells                 the bytes of the cells, and this byte for each that is missing
---     HasCellsIn blocks last i cells    the cells of the body at the end of route i
+--     HasCellsInBy profile blocks last i cells    the cells of the body at the end of route i
 --     Extracts                          what writing these bytes did
 use Rattle.std.specs.Prelude.{◌≡◌, ℕ, Bool, true, false, List, map, Option, Some, None, Result, Ok, Err}
+use Rattle.udfs_volume.specs.declared.profiles.Profile.{Profile}
+use Rattle.udfs_volume.specs.declared.profiles.Profile.TheVariants.{Strict}
 use Rattle.udfs_lattice.specs.Volumes.{Blocks}
 use Rattle.udfs_volume.specs.Answers.{found}
 use Rattle.udfs_space.specs.Places.{view}
@@ -13,7 +15,7 @@ use Rattle.udfs_walk.specs.declared.standings.Standing.{Standing}
 use Rattle.udfs_walk.specs.declared.standings.Standing.TheVariants.{Whole, Torn, Loop, Fault}
 use Rattle.udfs_reading.specs.Writing.{Wrote, Failed}
 use Rattle.udfs_tree.specs.Cells.{HasCellsAt}
-use Rattle.udfs_salvage.specs.Found.{Found, volume}
+use Rattle.udfs_salvage.specs.Found.{Found, volume_by}
 use Rattle.udfs_salvage.specs.declared.extraction.Fill.{Fill}
 use Rattle.udfs_salvage.specs.declared.extraction.Fill.TheVariants.{Refuse, Byte}
 use Rattle.udfs_salvage.specs.declared.extraction.ExtractError.{ExtractError}
@@ -47,10 +49,14 @@ unfoldable pub filled : ℕ → List Cell → List ℕ
 filled fill cs = map (cell_byte fill) cs
 
 -- the cells of the body that stands at the end of the route with this index, in the order of words
-pub record HasCellsIn (blocks : Blocks) (last index : ℕ) (cs : List Cell) : Type 0 where
+pub record HasCellsInBy (profile : Profile) (blocks : Blocks) (last index : ℕ) (cs : List Cell) : Type 0 where
   pub opened : Found
-  pub opens : volume blocks last ≡ found opened
+  pub opens : volume_by profile blocks last ≡ found opened
   pub has_cells : HasCellsAt (view blocks opened.space) opened.root index cs
+
+-- the same by the strict rules
+abbrev pub HasCellsIn : Blocks → ℕ → ℕ → List Cell → Type 0
+HasCellsIn = HasCellsInBy Strict
 
 -- all of the bytes were written; or a beginning of them, and then the sink failed; or nothing, for want of memory
 abbrev pub Extracts : {X : Type 0} → Option (List ℕ) → Option (List ℕ) → ℕ → ℕ → List ℕ → Result X ExtractError → Type 0

@@ -1,11 +1,14 @@
 -- What is found of a volume before its files are looked at.
 --     Found                  the layout, the places of its blocks, and the address of the root's ICB
---     volume blocks last     these; or blocks that would have to be read first, or a fault
+--     volume_by profile blocks last     these, by the rules of a profile; or blocks that would have to be read first, or a fault
+--     volume blocks last     the same by the strict rules
 use Rattle.std.specs.Prelude.{ℕ}
 use Rattle.udfs_lattice.specs.Volumes.{Blocks}
 use Rattle.udfs_tag.specs.declared.layouts.LongAd.{LongAd}
+use Rattle.udfs_volume.specs.declared.profiles.Profile.{Profile}
+use Rattle.udfs_volume.specs.declared.profiles.Profile.TheVariants.{Strict}
 use Rattle.udfs_volume.specs.Answers.{Answer, found, holes, faulty, and_then}
-use Rattle.udfs_volume.specs.Layout.{Layout, layout}
+use Rattle.udfs_volume.specs.Layout.{Layout, layout_by}
 use Rattle.udfs_volume.specs.LayoutParts.{parts_now}
 use Rattle.udfs_space.specs.Sparing.{Space, space}
 use Rattle.udfs_space.specs.Places.{view}
@@ -29,8 +32,12 @@ abbrev pub placed : Blocks → Layout → Answer Found
 placed blocks l = and_then (space blocks l) (rooted blocks l)
 
 -- the volume that opens, or the blocks to read first, or its fault
-unfoldable pub volume : Blocks → ℕ → Answer Found
-volume blocks last = and_then (layout blocks last) (placed blocks)
+unfoldable pub volume_by : Profile → Blocks → ℕ → Answer Found
+volume_by profile blocks last = and_then (layout_by profile blocks last) (placed blocks)
+
+-- the same by the strict rules
+abbrev pub volume : Blocks → ℕ → Answer Found
+volume = volume_by Strict
 
 -- the same things of the code
 

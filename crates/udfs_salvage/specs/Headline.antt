@@ -1,57 +1,81 @@
 -- All that is promised of a report, on one page.
---     Headline blocks last report      it is the only report of the table; and for each lawful volume that agrees with the table, it tells of
---                                      the volume and its tree, what is known enough is whole and stays so, and the list to read again is right
---     OneReport, SomeReport            a table has one report; under agreement with a lawful volume it has one
---     OneText                          and one text
+--     HeadlineBy profile blocks last report    by the rules of a profile it is the only report of the table; and for each lawful volume that agrees
+--                                      with the table, it tells of the volume and its tree, what is known enough is whole and stays so, and the
+--                                      list to read again is right
+--     OneReportBy, SomeReportBy        a table has one report; under agreement with a lawful volume it has one
+--     OneTextBy                        and one text
+-- The same names without By are these by the strict rules.
 use Rattle.std.specs.Prelude.{◌≡◌, ℕ, List}
+use Rattle.udfs_volume.specs.declared.profiles.Profile.{Profile}
+use Rattle.udfs_volume.specs.declared.profiles.Profile.TheVariants.{Strict}
 use Rattle.udfs_lattice.specs.Tables.{Table, state_of}
 use Rattle.udfs_lattice.specs.Volumes.{Blocks, Volume, Agrees, Includes}
 use Rattle.udfs_osta.specs.Escapes.{escaped}
 use Rattle.udfs_osta.specs.Parts.{IsPathPart}
 use Rattle.udfs_walk.specs.NodeFields.{NodeFields}
-use Rattle.udfs_salvage.specs.Laws.{TellsLawful}
+use Rattle.udfs_salvage.specs.Laws.{TellsLawfulBy}
 use Rattle.udfs_salvage.specs.KnownEnough.{MetIsReported, RereadsSuffice, StaysWhole}
-use Rattle.udfs_salvage.specs.NodeTexts.{report_text}
-use Rattle.udfs_salvage.specs.Reports.{Report, IsReport}
-use Rattle.udfs_salvage.specs.TreeReports.{TellsTree, TellsWholeTree}
-use Rattle.udfs_salvage.specs.VolumeTrees.{IsLawful}
+use Rattle.udfs_salvage.specs.NodeTexts.{report_text_by}
+use Rattle.udfs_salvage.specs.Reports.{Report, IsReportBy}
+use Rattle.udfs_salvage.specs.TreeReports.{TellsTreeBy, TellsWholeTreeBy}
+use Rattle.udfs_salvage.specs.VolumeTrees.{IsLawfulBy}
 
 -- What is promised of a report over what is known of a volume's blocks, of which this is the last.
-pub record Headline (blocks : Blocks) (last : ℕ) (report : Report) : Type 0 where
+pub record HeadlineBy (profile : Profile) (blocks : Blocks) (last : ℕ) (report : Report) : Type 0 where
   -- it is the report of the table, and there is no other
-  pub report_is : IsReport blocks last report
-  pub only : (other : Report) → IsReport blocks last other → other ≡ report
+  pub report_is : IsReportBy profile blocks last report
+  pub only : (other : Report) → IsReportBy profile blocks last other → other ≡ report
   -- Each part of each node's path, in its escaped form, is not empty, not `.` or `..`, and has no `/` and no control.
   pub parts : (n : NodeFields) → Includes report.nodes n → (part : List ℕ) → Includes n.path part → IsPathPart (escaped part)
   -- The rest is said of each lawful volume with which the table agrees.
   -- The volume that is found is that one, or all blocks of a needed group of which none is known are named.
-  pub volume : TellsLawful blocks last report.volume
+  pub volume : TellsLawfulBy profile blocks last report.volume
   -- Each node is one of the volume's tree at its path, no fault and no loop, with the tree's bytes outside its holes; if it is whole, with
   -- its kind, size, stamp and all its bytes, and of each group of blocks that it needs one is known. No path has two nodes.
-  pub tree : TellsTree blocks last report
+  pub tree : TellsTreeBy profile blocks last report
   -- Where all of the volume is known, the nodes are those of its tree, each once and all whole.
-  pub whole_tree : TellsWholeTree blocks last report
+  pub whole_tree : TellsWholeTreeBy profile blocks last report
   -- What is in the tree, and of each needed group of which a block is known, is whole.
-  pub met : MetIsReported blocks last report
+  pub met : MetIsReported profile blocks last report
   -- What is whole stays whole, at its path and with its bytes, for each table that knows more and disputes nothing of it.
-  pub stays : StaysWhole blocks last report
+  pub stays : StaysWhole profile blocks last report
   -- The list to read again is empty exactly if all of the tree is whole. None of it is known, each of it is needed, and of each node that is
   -- not whole it holds a needed group of which none is known: so a pass that reads none of it makes no further node whole.
-  pub rereads : RereadsSuffice blocks last report
+  pub rereads : RereadsSuffice profile blocks last report
+
+-- the same by the strict rules
+abbrev pub Headline : Blocks → ℕ → Report → Type 0
+Headline = HeadlineBy Strict
 
 -- a table has at most one report
+abbrev pub OneReportBy : Profile → Type 0
+OneReportBy profile = (blocks : Blocks) (last : ℕ) (report other : Report) → IsReportBy profile blocks last report → IsReportBy profile blocks last other → other ≡ report
+
+-- the same by the strict rules
 abbrev pub OneReport : Type 0
-OneReport = (blocks : Blocks) (last : ℕ) (report other : Report) → IsReport blocks last report → IsReport blocks last other → other ≡ report
+OneReport = OneReportBy Strict
 
 -- a table that agrees with a lawful volume has a report
+abbrev pub SomeReportBy : Profile → Type 0
+SomeReportBy profile = (blocks : Blocks) (volume : Volume) (last : ℕ) → IsLawfulBy profile volume last → Agrees blocks volume last → (report : Report) × IsReportBy profile blocks last report
+
+-- the same by the strict rules
 abbrev pub SomeReport : Type 0
-SomeReport = (blocks : Blocks) (volume : Volume) (last : ℕ) → IsLawful volume last → Agrees blocks volume last → (report : Report) × IsReport blocks last report
+SomeReport = SomeReportBy Strict
 
 -- and its text is one
+abbrev pub OneTextBy : Profile → Type 0
+OneTextBy profile = (table : Table) (last : ℕ) (report other : Report) → IsReportBy profile (state_of table) last report → IsReportBy profile (state_of table) last other
+    → report_text_by profile table last other ≡ report_text_by profile table last report
+
+-- the same by the strict rules
 abbrev pub OneText : Type 0
-OneText = (table : Table) (last : ℕ) (report other : Report) → IsReport (state_of table) last report → IsReport (state_of table) last other
-    → report_text table last other ≡ report_text table last report
+OneText = OneTextBy Strict
 
 -- of every report this is so
+abbrev pub ReportsKeepItBy : Profile → Type 0
+ReportsKeepItBy profile = (blocks : Blocks) (last : ℕ) (report : Report) → IsReportBy profile blocks last report → HeadlineBy profile blocks last report
+
+-- the same by the strict rules
 abbrev pub ReportsKeepIt : Type 0
-ReportsKeepIt = (blocks : Blocks) (last : ℕ) (report : Report) → IsReport blocks last report → Headline blocks last report
+ReportsKeepIt = ReportsKeepItBy Strict

@@ -5,6 +5,8 @@ use Rattle.serde_json.specs.Data.{Data, boolean, string}
 use Rattle.serde_json.specs.Written.{compact_text}
 use Rattle.udfs_lattice.specs.Tables.{Table, known_count, conflict_count}
 use Rattle.udfs_volume.specs.Answers.{Answer}
+use Rattle.udfs_volume.specs.declared.profiles.Profile.{Profile}
+use Rattle.udfs_volume.specs.declared.profiles.Profile.TheVariants.{Strict, Wide}
 use Rattle.udfs_file.specs.declared.faults.Kind.{Kind}
 use Rattle.udfs_walk.specs.NodeFields.{NodeFields}
 use Rattle.udfs_walk.specs.declared.answers.Unnamed.{Unnamed}
@@ -64,6 +66,11 @@ counts_piece table = codes "{\"conflict\":" ++ (compact_text (count (conflict_co
 unfoldable pub report_front : Table → ℕ → Answer Found → List ℕ
 report_front table last volume =
     counts_piece table ++ (codes ",\"label\":" ++ (compact_text (label_data_of volume) ++ (codes ",\"last\":" ++ (compact_text (count last) ++ codes ",\"nodes\":"))))
+
+-- what stands between the nodes and the blocks to read again
+abbrev pub reread_words : Profile → List ℕ
+reread_words Strict = codes ",\"reread\":"
+reread_words Wide = codes ",\"profile\":\"wide\",\"reread\":"
 
 -- the object of a report behind its entries without names
 unfoldable pub report_end : Answer Found → List ℕ

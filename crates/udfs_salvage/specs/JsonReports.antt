@@ -1,9 +1,11 @@
 -- The JSON of a report. Keys stand in byte order.
---     report_data table last r     all of it
---     json_text table last r       its compact text
+--     report_data_by profile table last r    all of it, by the rules of a profile
+--     json_text_by profile table last r      its compact text
 use Rattle.std.specs.Prelude.{ℕ, List, [], ◌∷◌, codes, Option, Some, None}
 use Rattle.serde_json.specs.Data.{Data, null, string, object, Members, member, no_members, put}
 use Rattle.serde_json.specs.Written.{compact_text}
+use Rattle.udfs_volume.specs.declared.profiles.Profile.{Profile}
+use Rattle.udfs_volume.specs.declared.profiles.Profile.TheVariants.{Strict, Wide}
 use Rattle.udfs_lattice.specs.Tables.{Table, known_count, conflict_count, state_of}
 use Rattle.udfs_lattice.specs.Volumes.{Blocks}
 use Rattle.udfs_lattice.specs.States.{State}
@@ -106,19 +108,33 @@ reread_data blocks n = object (member (codes "block") (count n) (member (codes "
 
 -- ---- all of it
 
+-- rules other than the strict ones are named, before other members
+abbrev pub with_profile : Profile → Members → Members
+with_profile Strict ms = ms
+with_profile Wide ms = member (codes "profile") (string (codes "wide")) ms
+
+-- the same by the place of the key
+abbrev pub put_profile : Profile → Members → Members
+put_profile Strict ms = ms
+put_profile Wide ms = put (codes "profile") (string (codes "wide")) ms
+
 -- the object of a report
-unfoldable pub report_data : Table → ℕ → Report → Data
-report_data table last report = object (
+unfoldable pub report_data_by : Profile → Table → ℕ → Report → Data
+report_data_by profile table last report = object (
     member (codes "conflict") (count (conflict_count table))
     (member (codes "known") (count (known_count table))
     (member (codes "label") (label_data_of report.volume)
     (member (codes "last") (count last)
     (member (codes "nodes") (list_data node_data report.nodes)
-    (member (codes "reread") (list_data (reread_data (state_of table)) report.reread)
+    (with_profile profile (member (codes "reread") (list_data (reread_data (state_of table)) report.reread)
     (member (codes "unnamed") (list_data (unnamed_data (has_two report.volume)) report.unnamed)
     (member (codes "volume") (volume_data report.volume)
-    no_members))))))))
+    no_members)))))))))
 
 -- its text
+abbrev pub json_text_by : Profile → Table → ℕ → Report → List ℕ
+json_text_by profile table last report = compact_text (report_data_by profile table last report)
+
+-- the same by the strict rules
 abbrev pub json_text : Table → ℕ → Report → List ℕ
-json_text table last report = compact_text (report_data table last report)
+json_text = json_text_by Strict

@@ -3,6 +3,8 @@
 --     unnamed_texts two entries    the lines of the entries
 --     report_text table last r     all lines of a report
 use Rattle.std.specs.Prelude.{ℕ, ◌+◌, Bool, List, [], ◌∷◌, ◌++◌, flat_map, cond, Option, Some, None, codes, decimal}
+use Rattle.udfs_volume.specs.declared.profiles.Profile.{Profile}
+use Rattle.udfs_volume.specs.declared.profiles.Profile.TheVariants.{Strict}
 use Rattle.udfs_osta.specs.Escapes.{escaped}
 use Rattle.udfs_osta.specs.StampTexts.{stamp_text}
 use Rattle.udfs_osta.specs.declared.stamps.Stamp.{Stamp}
@@ -16,7 +18,7 @@ use Rattle.udfs_walk.specs.declared.standings.Standing.TheVariants as standing
 use Rattle.udfs_walk.specs.declared.answers.Unnamed.{Unnamed}
 use Rattle.udfs_lattice.specs.Tables.{Table, state_of}
 use Rattle.udfs_salvage.specs.Reports.{Report}
-use Rattle.udfs_salvage.specs.Texts.{end_line, has_two, head_text, line, reread_lines}
+use Rattle.udfs_salvage.specs.Texts.{end_line, has_two, head_text_by, line, reread_lines}
 
 -- the number of a node's fault
 abbrev pub node_fault_number : NodeFault → ℕ
@@ -158,7 +160,11 @@ unnamed_texts two us = flat_map (unnamed_text two) us
 -- ---- all of it
 
 -- the text of a report
-unfoldable pub report_text : Table → ℕ → Report → List ℕ
-report_text table last report =
-    head_text table last report.volume ++ nodes_text 0 report.nodes ++ unnamed_texts (has_two report.volume) report.unnamed
+unfoldable pub report_text_by : Profile → Table → ℕ → Report → List ℕ
+report_text_by profile table last report =
+    head_text_by profile table last report.volume ++ nodes_text 0 report.nodes ++ unnamed_texts (has_two report.volume) report.unnamed
     ++ reread_lines (state_of table) report.reread ++ end_line
+
+-- the same by the strict rules
+abbrev pub report_text : Table → ℕ → Report → List ℕ
+report_text = report_text_by Strict

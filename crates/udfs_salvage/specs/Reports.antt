@@ -1,13 +1,16 @@
 -- What is reported of a volume.
---     IsReport blocks last report          what is found of it, its nodes, and the blocks to read again
+--     IsReportBy profile blocks last report    what is found of it by the rules of a profile, its nodes, and the blocks to read again
+--     IsReport blocks last report          the same by the strict rules
 --     IsPastEnd blocks last n              the least block behind the last one of which something is known
---     HasTooManyPaths blocks last          it has more nodes than there may be
+--     HasTooManyPathsBy profile blocks last    it has more nodes than there may be
 use Rattle.std.specs.Prelude.{◌≡◌, ◌≢◌, ◌⊎◌, ⊤, ℕ, ◌<◌, ◌≤◌, Bool, true, false, List, [], ◌∷◌}
 use Rattle.std.specs.List.{list_all}
+use Rattle.udfs_volume.specs.declared.profiles.Profile.{Profile}
+use Rattle.udfs_volume.specs.declared.profiles.Profile.TheVariants.{Strict}
 use Rattle.udfs_lattice.specs.Volumes.{Blocks}
 use Rattle.udfs_lattice.specs.declared.facts.Fact.TheVariants.{Unknown}
 use Rattle.udfs_volume.specs.Answers.{Answer, found, holes, faulty}
-use Rattle.udfs_volume.specs.Layout.{layout}
+use Rattle.udfs_volume.specs.Layout.{layout_by}
 use Rattle.udfs_volume.specs.declared.faults.VolumeFault.TheVariants.{NoAnchor, Extents}
 use Rattle.udfs_space.specs.Places.{view}
 use Rattle.udfs_walk.specs.NodeFields.{NodeFields}
@@ -18,7 +21,7 @@ use Rattle.udfs_walk.specs.Rereads.{reread}
 use Rattle.udfs_walk.specs.declared.answers.Unnamed.{Unnamed}
 use Rattle.udfs_walk.specs.declared.standings.Standing.{Standing}
 use Rattle.udfs_walk.specs.declared.standings.Standing.TheVariants.{Whole, Torn, Loop, Fault}
-use Rattle.udfs_salvage.specs.Found.{Found, volume, volume_now}
+use Rattle.udfs_salvage.specs.Found.{Found, volume_by, volume_now}
 use Rattle.udfs_salvage.specs.declared.errors.SalvageError.{SalvageError}
 use Rattle.udfs_salvage.specs.declared.errors.SalvageError.TheVariants as errors
 use Rattle.udfs_salvage.specs.declared.reports.Report as code_report
@@ -58,11 +61,15 @@ IsOutOfRange last = (last < 513) ⊎ (4194303 < last)
 
 -- There is a report only of a last block in range, behind which nothing is known: it says what is found of the volume, and
 -- of a volume that opens its nodes, of which there are at most 65,536.
-pub record IsReport (blocks : Blocks) (last : ℕ) (report : Report) : Type 0 where
+pub record IsReportBy (profile : Profile) (blocks : Blocks) (last : ℕ) (report : Report) : Type 0 where
   pub in_range : ¬ IsOutOfRange last
   pub nothing_past : IsNothingPast blocks last
-  pub volume_is : report.volume ≡ volume blocks last
+  pub volume_is : report.volume ≡ volume_by profile blocks last
   pub by_volume : ReportsBy blocks report.volume report
+
+-- the same by the strict rules
+abbrev pub IsReport : Blocks → ℕ → Report → Type 0
+IsReport = IsReportBy Strict
 
 -- n is the least block behind the last one of which something is known
 pub record IsPastEnd (blocks : Blocks) (last n : ℕ) : Type 0 where
@@ -71,8 +78,12 @@ pub record IsPastEnd (blocks : Blocks) (last n : ℕ) : Type 0 where
   pub least : (m : ℕ) → last < m → blocks m ≢ Unknown → n ≤ m
 
 -- more than 65,536 routes lead from the root of the volume to a node
+abbrev pub HasTooManyPathsBy : Profile → Blocks → ℕ → Type 0
+HasTooManyPathsBy profile blocks last = (f : Found) × (volume_by profile blocks last ≡ found f) × HasMoreRoutes (view blocks f.space) f.root 65536
+
+-- the same by the strict rules
 abbrev pub HasTooManyPaths : Blocks → ℕ → Type 0
-HasTooManyPaths blocks last = (f : Found) × (volume blocks last ≡ found f) × HasMoreRoutes (view blocks f.space) f.root 65536
+HasTooManyPaths = HasTooManyPathsBy Strict
 
 -- whether a standing is whole
 abbrev pub is_whole : Standing → Bool
@@ -98,12 +109,16 @@ IsWalkRefused blocks f errors.TooManyPaths = HasMoreRoutes (view blocks f.space)
 IsWalkRefused blocks f errors.OutOfMemory = ⊤
 
 -- a volume without an anchor, or with wrong extents, is reported whatever memory there is
+abbrev pub MayWantMemoryBy : Profile → Blocks → ℕ → Type 0
+MayWantMemoryBy profile blocks last = (layout_by profile blocks last ≢ faulty NoAnchor) × (layout_by profile blocks last ≢ faulty Extents)
+
+-- the same by the strict rules
 abbrev pub MayWantMemory : Blocks → ℕ → Type 0
-MayWantMemory blocks last = (layout blocks last ≢ faulty NoAnchor) × (layout blocks last ≢ faulty Extents)
+MayWantMemory = MayWantMemoryBy Strict
 
 -- why a volume within its last block has no report: too many paths, or want of memory where it may come
-abbrev pub IsLookRefused : Blocks → ℕ → SalvageError → Type 0
-IsLookRefused blocks last errors.LastRange = ⊥
-IsLookRefused blocks last (errors.PastEnd n) = ⊥
-IsLookRefused blocks last errors.TooManyPaths = HasTooManyPaths blocks last
-IsLookRefused blocks last errors.OutOfMemory = MayWantMemory blocks last
+abbrev pub IsLookRefused : Profile → Blocks → ℕ → SalvageError → Type 0
+IsLookRefused profile blocks last errors.LastRange = ⊥
+IsLookRefused profile blocks last (errors.PastEnd n) = ⊥
+IsLookRefused profile blocks last errors.TooManyPaths = HasTooManyPathsBy profile blocks last
+IsLookRefused profile blocks last errors.OutOfMemory = MayWantMemoryBy profile blocks last

@@ -1,9 +1,11 @@
 -- What a run over the inputs of a disc answers.
---     PrintsOf                       the text of the table's report
---     IsRefusedFor table last e      why the table has no report
+--     PrintsOfBy profile             the text of the table's report, by the rules of a profile
+--     IsRefusedForBy profile table last e    why the table has no report
 --     Runs                           the inputs' tables, and what was printed of their join
 use Rattle.std.specs.Prelude.{◌≡◌, ◌⊎◌, ⊤, ℕ, Bool, List, [], Option, Result, Ok, Err}
 use Rattle.std.specs.Io.KnownBytes.{Appends}
+use Rattle.udfs_volume.specs.declared.profiles.Profile.{Profile}
+use Rattle.udfs_volume.specs.declared.profiles.Profile.TheVariants.{Strict}
 use Rattle.udfs_lattice.specs.Tables.{Table, state_of}
 use Rattle.udfs_lattice.specs.Records.{join_all}
 use Rattle.udfs_reading.specs.Answers.{IsOfFile}
@@ -11,10 +13,10 @@ use Rattle.udfs_reading.specs.Several.{TablesAre}
 use Rattle.udfs_reading.specs.declared.inputs.InputError.{InputError}
 use Rattle.udfs_reading.specs.declared.error.ReadingFault.{ReadingFault}
 use Rattle.udfs_reading.specs.declared.error.ReadingFault.TheVariants as reading
-use Rattle.udfs_salvage.specs.Headline.{Headline}
-use Rattle.udfs_salvage.specs.Reports.{Report, IsNothingPast, IsOutOfRange, IsPastEnd, HasTooManyPaths, all_whole}
-use Rattle.udfs_salvage.specs.TreeReports.{AgreesWithNone}
-use Rattle.udfs_salvage.specs.NodeTexts.{report_text}
+use Rattle.udfs_salvage.specs.Headline.{HeadlineBy}
+use Rattle.udfs_salvage.specs.Reports.{Report, IsNothingPast, IsOutOfRange, IsPastEnd, HasTooManyPathsBy, all_whole}
+use Rattle.udfs_salvage.specs.TreeReports.{AgreesWithNoneBy}
+use Rattle.udfs_salvage.specs.NodeTexts.{report_text_by}
 use Rattle.udfs_salvage.specs.Printing.{Prints}
 use Rattle.udfs_salvage.specs.declared.errors.SalvageError.{SalvageError}
 use Rattle.udfs_salvage.specs.declared.errors.SalvageError.TheVariants as salvage
@@ -22,11 +24,15 @@ use Rattle.udfs_salvage.specs.declared.errors.RunError.{RunError}
 use Rattle.udfs_salvage.specs.declared.errors.RunError.TheVariants.{Reading, Salvage, Write, OutOfMemory}
 
 -- why a table has no report: the first reason in order
+abbrev pub IsRefusedForBy : Profile → Table → ℕ → SalvageError → Type 0
+IsRefusedForBy profile table last salvage.LastRange = IsOutOfRange last
+IsRefusedForBy profile table last (salvage.PastEnd n) = (¬ IsOutOfRange last) × IsPastEnd (state_of table) last n
+IsRefusedForBy profile table last salvage.TooManyPaths = (¬ IsOutOfRange last) × IsNothingPast (state_of table) last × HasTooManyPathsBy profile (state_of table) last
+IsRefusedForBy profile table last salvage.OutOfMemory = ⊥
+
+-- the same by the strict rules
 abbrev pub IsRefusedFor : Table → ℕ → SalvageError → Type 0
-IsRefusedFor table last salvage.LastRange = IsOutOfRange last
-IsRefusedFor table last (salvage.PastEnd n) = (¬ IsOutOfRange last) × IsPastEnd (state_of table) last n
-IsRefusedFor table last salvage.TooManyPaths = (¬ IsOutOfRange last) × IsNothingPast (state_of table) last × HasTooManyPaths (state_of table) last
-IsRefusedFor table last salvage.OutOfMemory = ⊥
+IsRefusedFor = IsRefusedForBy Strict
 
 -- each input has a table, and this holds of their join
 abbrev pub OfJoin : {R : Type 0} → (R → Option (List ℕ)) → List R → (Table → Type 0) → Type 0
@@ -38,11 +44,15 @@ SaysWhole (Ok whole) report = whole ≡ all_whole report.nodes
 SaysWhole (Err e) report = ⊤
 
 -- the text of the table's report was printed, or a beginning of it; and of that report all holds that is promised of reports
-pub record PrintsOf (last : ℕ) (old new : Option (List ℕ)) (i j : ℕ) (result : Result Bool RunError) (table : Table) : Type 0 where
+pub record PrintsOfBy (profile : Profile) (last : ℕ) (old new : Option (List ℕ)) (i j : ℕ) (result : Result Bool RunError) (table : Table) : Type 0 where
   pub report : Report
-  pub headline : Headline (state_of table) last report
-  pub prints : Prints old new i j (report_text table last report) result
+  pub headline : HeadlineBy profile (state_of table) last report
+  pub prints : Prints old new i j (report_text_by profile table last report) result
   pub says : SaysWhole result report
+
+-- the same by the strict rules
+abbrev pub PrintsOf : ℕ → Option (List ℕ) → Option (List ℕ) → ℕ → ℕ → Result Bool RunError → Table → Type 0
+PrintsOf = PrintsOfBy Strict
 
 -- nothing was printed
 pub record PrintsNothing (old new : Option (List ℕ)) (i j : ℕ) : Type 0 where
@@ -51,12 +61,16 @@ pub record PrintsNothing (old new : Option (List ℕ)) (i j : ℕ) : Type 0 wher
 
 -- what a run says of the table of its inputs: its report; or why there is none, and then nothing is out, and no lawful
 -- volume agrees with the table
+abbrev pub AnswersForBy : Profile → ℕ → Option (List ℕ) → Option (List ℕ) → ℕ → ℕ → Result Bool RunError → Table → Type 0
+AnswersForBy profile last old new i j (Ok x) table = PrintsOfBy profile last old new i j (Ok x) table
+AnswersForBy profile last old new i j (Err (Reading e)) table = ⊥
+AnswersForBy profile last old new i j (Err (Salvage e)) table = IsRefusedForBy profile table last e × AgreesWithNoneBy profile (state_of table) last
+AnswersForBy profile last old new i j (Err Write) table = PrintsOfBy profile last old new i j (Err Write) table
+AnswersForBy profile last old new i j (Err OutOfMemory) table = PrintsNothing old new i j ⊎ PrintsOfBy profile last old new i j (Err OutOfMemory) table
+
+-- the same by the strict rules
 abbrev pub AnswersFor : ℕ → Option (List ℕ) → Option (List ℕ) → ℕ → ℕ → Result Bool RunError → Table → Type 0
-AnswersFor last old new i j (Ok x) table = PrintsOf last old new i j (Ok x) table
-AnswersFor last old new i j (Err (Reading e)) table = ⊥
-AnswersFor last old new i j (Err (Salvage e)) table = IsRefusedFor table last e × AgreesWithNone (state_of table) last
-AnswersFor last old new i j (Err Write) table = PrintsOf last old new i j (Err Write) table
-AnswersFor last old new i j (Err OutOfMemory) table = PrintsNothing old new i j ⊎ PrintsOf last old new i j (Err OutOfMemory) table
+AnswersFor = AnswersForBy Strict
 
 -- the inputs were read, as far as the answer alone tells: want of memory may have come before
 abbrev pub IfRead : Result Bool RunError → Type 0 → Type 0

@@ -1,8 +1,10 @@
 -- The text of a report.
---     head_text table last answer       the lines before those of nodes
+--     head_text_by profile table last answer    the lines before those of nodes, by the rules of a profile
 --     reread_lines blocks ns            those of the blocks to read again
---     volume_line answer                its third line
+--     volume_line answer                the line of the volume
 use Rattle.std.specs.Prelude.{ℕ, Bool, false, List, [], ◌∷◌, ◌++◌, length, nat_le, flat_map, cond, nat_eq, codes, decimal}
+use Rattle.udfs_volume.specs.declared.profiles.Profile.{Profile}
+use Rattle.udfs_volume.specs.declared.profiles.Profile.TheVariants.{Strict, Wide}
 use Rattle.udfs_lattice.specs.Tables.{Table, known_count, conflict_count}
 use Rattle.udfs_lattice.specs.Volumes.{Blocks}
 use Rattle.udfs_lattice.specs.States.{State}
@@ -44,7 +46,8 @@ volume_fault_number fault.FileSet = 16
 
 -- the revision, as it is printed
 unfoldable pub revision_text : ℕ → List ℕ
-revision_text revision = cond (nat_eq revision 0x0150) (codes "1.50") (codes "2.01")
+revision_text revision = cond (nat_eq revision 0x0102) (codes "1.02") (cond (nat_eq revision 0x0150) (codes "1.50")
+    (cond (nat_eq revision 0x0200) (codes "2.00") (codes "2.01")))
 
 -- what is told of each volume that opens
 abbrev pub open_text : ℕ → List ℕ
@@ -89,6 +92,11 @@ form_text answer = cond (has_two answer) (codes "UDFREPORT2") (codes "UDFREPORT1
 abbrev pub first_line : Answer Found → ℕ → List ℕ
 first_line answer last = line (form_text answer ++ codes " last " ++ decimal last)
 
+-- rules other than the strict ones have a line
+abbrev pub profile_lines : Profile → List ℕ
+profile_lines Strict = []
+profile_lines Wide = line (codes "profile wide")
+
 -- the line of the counts
 abbrev pub count_line : Table → List ℕ
 count_line table = line (codes "known " ++ decimal (known_count table) ++ codes " conflict " ++ decimal (conflict_count table))
@@ -106,8 +114,8 @@ label_lines (holes blocks) = []
 label_lines (faulty f) = []
 
 -- the lines before those of the nodes
-unfoldable pub head_text : Table → ℕ → Answer Found → List ℕ
-head_text table last answer = first_line answer last ++ count_line table ++ volume_line answer ++ label_lines answer
+unfoldable pub head_text_by : Profile → Table → ℕ → Answer Found → List ℕ
+head_text_by profile table last answer = first_line answer last ++ profile_lines profile ++ count_line table ++ volume_line answer ++ label_lines answer
 
 -- ---- the blocks to read again
 

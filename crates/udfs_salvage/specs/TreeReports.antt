@@ -1,13 +1,16 @@
--- What a report says of every lawful volume that agrees with the table.
---     TellsTree blocks last report           each node is one of the volume's tree, and what is whole is the tree's
---     TellsWholeTree blocks last report      where all of the volume is known, the nodes are its tree, all whole
---     IsOfNoLawful blocks last e             there is no report only where no lawful volume agrees, or for want of memory
---     WritesFile blocks last report i n      what is done with the bytes of a whole node is done with the tree's
---     FillsFile blocks last n fill           what is done with the bytes of a node that is filled is done with the tree's, its holes filled
---     OpensOnce, OneFileAt                   the standard opens a lawful volume in one way, and a path leads to one file
---     ReportsTellTree                        every report of a table tells this
+-- What a report says of every volume that is lawful by the rules of a profile and agrees with the table.
+--     TellsTreeBy profile blocks last report        each node is one of the volume's tree, and what is whole is the tree's
+--     TellsWholeTreeBy profile blocks last report   where all of the volume is known, the nodes are its tree, all whole
+--     IsOfNoLawfulBy profile blocks last e   there is no report only where no lawful volume agrees, or for want of memory
+--     WritesFileBy profile blocks last report i n   what is done with the bytes of a whole node is done with the tree's
+--     FillsFileBy profile blocks last n fill        what is done with the bytes of a node that is filled is done with the tree's, its holes filled
+--     OpensOnceBy, OneFileAtBy               the standard opens a lawful volume in one way, and a path leads to one file
+--     ReportsTellTreeBy profile              every report of a table tells this
+-- The same names without By are these by the strict rules.
 --     SomeLawful                             there are lawful volumes with files, by the maps that a volume can have
 use Rattle.std.specs.Prelude.{◌≡◌, ◌⊎◌, ⊤, ℕ, List, [], ◌∷◌, length, slice_get, Some, map}
+use Rattle.udfs_volume.specs.declared.profiles.Profile.{Profile}
+use Rattle.udfs_volume.specs.declared.profiles.Profile.TheVariants.{Strict}
 use Rattle.udfs_lattice.specs.Volumes.{Blocks, Volume, Agrees, complete}
 use Rattle.udfs_volume.specs.Answers.{Answer, found, holes}
 use Rattle.udfs_volume.specs.Layout.{Layout, Partition, layout}
@@ -21,8 +24,8 @@ use Rattle.udfs_walk.specs.Rereads.{holes_of}
 use Rattle.udfs_tree.specs.Cells.{HasCellsAt, HasNoFault, IsInRuns, IsWholeAs, IsToldAs}
 use Rattle.udfs_tree.specs.Laws.{HasPathsOnce, IsTold}
 use Rattle.udfs_salvage.specs.Found.{Found}
-use Rattle.udfs_salvage.specs.Reports.{Report, IsReport}
-use Rattle.udfs_salvage.specs.VolumeTrees.{Opened, IsOpened, IsInVolume, IsLawful, IsMetBy}
+use Rattle.udfs_salvage.specs.Reports.{Report, IsReportBy}
+use Rattle.udfs_salvage.specs.VolumeTrees.{Opened, IsOpenedBy, IsInVolume, IsInVolumeBy, IsLawful, IsLawfulBy, IsMetBy}
 use Rattle.udfs_salvage.specs.declared.errors.SalvageError.{SalvageError}
 use Rattle.udfs_salvage.specs.declared.errors.SalvageError.TheVariants as errors
 
@@ -39,67 +42,87 @@ abbrev pub IsReportedAs : Blocks → Found → ℕ → NodeFields → TreeFile �
 IsReportedAs blocks f index n file = (cs : List Cell) × HasReportCells blocks f index cs × IsWholeAs n file cs
 
 -- Of the node at this place in the report of a volume that opens.
-pub record IsNodeOfVolume (blocks : Blocks) (volume : Volume) (last : ℕ) (told : Answer Found) (index : ℕ) (n : NodeFields) : Type 0 where
+pub record IsNodeOfVolume (profile : Profile) (blocks : Blocks) (volume : Volume) (last : ℕ) (told : Answer Found) (index : ℕ) (n : NodeFields) : Type 0 where
   pub opened : Found
   pub opens : told ≡ found opened
   -- it is one of the tree at its path
   pub file : TreeFile
-  pub in_volume : IsInVolume volume last n.path file
+  pub in_volume : IsInVolumeBy profile volume last n.path file
   pub no_fault : HasNoFault n
   -- it is told as the tree has it, with the tree's bytes outside its holes; or nothing is told of it
   pub as_far : IsTold (view blocks opened.space) opened.root index n file
   -- if it is whole, it has all of the tree's bytes, and of each group that it needs a block is known
-  pub whole : n.standing ≡ Whole → IsReportedAs blocks opened index n file × IsMetBy blocks volume last n.path
+  pub whole : n.standing ≡ Whole → IsReportedAs blocks opened index n file × IsMetBy profile blocks volume last n.path
 
 -- the report tells of this volume: each node is one of its files or directories, as it has it, and none twice
-pub record IsReportOf (blocks : Blocks) (volume : Volume) (last : ℕ) (report : Report) : Type 0 where
+pub record IsReportOf (profile : Profile) (blocks : Blocks) (volume : Volume) (last : ℕ) (report : Report) : Type 0 where
   pub no_fault : OpensOrHasHoles report.volume
-  pub nodes : (index : ℕ) (n : NodeFields) → slice_get report.nodes index ≡ Some n → IsNodeOfVolume blocks volume last report.volume index n
+  pub nodes : (index : ℕ) (n : NodeFields) → slice_get report.nodes index ≡ Some n → IsNodeOfVolume profile blocks volume last report.volume index n
   pub once : HasPathsOnce report.nodes
 
 -- for every lawful volume with which the table agrees
-abbrev pub TellsTree : Blocks → ℕ → Report → Type 0
-TellsTree blocks last report = (volume : Volume) → IsLawful volume last → Agrees blocks volume last → IsReportOf blocks volume last report
+abbrev pub TellsTreeBy : Profile → Blocks → ℕ → Report → Type 0
+TellsTreeBy profile blocks last report = (volume : Volume) → IsLawfulBy profile volume last → Agrees blocks volume last → IsReportOf profile blocks volume last report
 
 -- The nodes are those of the volume's tree, each once, and all are whole.
-pub record IsWholeReportOf (blocks : Blocks) (volume : Volume) (last : ℕ) (report : Report) : Type 0 where
+pub record IsWholeReportOf (profile : Profile) (blocks : Blocks) (volume : Volume) (last : ℕ) (report : Report) : Type 0 where
   pub opened : Found
   pub opens : report.volume ≡ found opened
   pub in_volume : (index : ℕ) (n : NodeFields) → slice_get report.nodes index ≡ Some n
-      → (file : TreeFile) × IsInVolume volume last n.path file × IsReportedAs blocks opened index n file
-  pub is_listed : (path : List (List ℕ)) (file : TreeFile) → IsInVolume volume last path file
+      → (file : TreeFile) × IsInVolumeBy profile volume last n.path file × IsReportedAs blocks opened index n file
+  pub is_listed : (path : List (List ℕ)) (file : TreeFile) → IsInVolumeBy profile volume last path file
       → (index : ℕ) × (n : NodeFields) × (slice_get report.nodes index ≡ Some n) × (n.path ≡ path) × IsReportedAs blocks opened index n file
   pub once : HasPathsOnce report.nodes
 
 -- for every lawful volume of which the table knows all
-abbrev pub TellsWholeTree : Blocks → ℕ → Report → Type 0
-TellsWholeTree blocks last report = (volume : Volume) → IsLawful volume last → ((n : ℕ) → blocks n ≡ complete volume last n)
-    → IsWholeReportOf blocks volume last report
+abbrev pub TellsWholeTreeBy : Profile → Blocks → ℕ → Report → Type 0
+TellsWholeTreeBy profile blocks last report = (volume : Volume) → IsLawfulBy profile volume last → ((n : ℕ) → blocks n ≡ complete volume last n)
+    → IsWholeReportOf profile blocks volume last report
 
 -- no lawful volume agrees with the table
+abbrev pub AgreesWithNoneBy : Profile → Blocks → ℕ → Type 0
+AgreesWithNoneBy profile blocks last = (volume : Volume) → IsLawfulBy profile volume last → ¬ Agrees blocks volume last
+
+-- the same by the strict rules
 abbrev pub AgreesWithNone : Blocks → ℕ → Type 0
-AgreesWithNone blocks last = (volume : Volume) → IsLawful volume last → ¬ Agrees blocks volume last
+AgreesWithNone = AgreesWithNoneBy Strict
 
 -- any other error than want of memory is told only where no lawful volume agrees with the table
+abbrev pub IsOfNoLawfulBy : Profile → Blocks → ℕ → SalvageError → Type 0
+IsOfNoLawfulBy profile blocks last errors.LastRange = AgreesWithNoneBy profile blocks last
+IsOfNoLawfulBy profile blocks last (errors.PastEnd n) = AgreesWithNoneBy profile blocks last
+IsOfNoLawfulBy profile blocks last errors.TooManyPaths = AgreesWithNoneBy profile blocks last
+IsOfNoLawfulBy profile blocks last errors.OutOfMemory = ⊤
+
+-- the same by the strict rules
 abbrev pub IsOfNoLawful : Blocks → ℕ → SalvageError → Type 0
-IsOfNoLawful blocks last errors.LastRange = AgreesWithNone blocks last
-IsOfNoLawful blocks last (errors.PastEnd n) = AgreesWithNone blocks last
-IsOfNoLawful blocks last errors.TooManyPaths = AgreesWithNone blocks last
-IsOfNoLawful blocks last errors.OutOfMemory = ⊤
+IsOfNoLawful = IsOfNoLawfulBy Strict
 
 -- the standard opens a lawful volume, and in one way only
+abbrev pub OpensOnceBy : Profile → Type 0
+OpensOnceBy profile = (volume : Volume) (last : ℕ) → IsLawfulBy profile volume last
+    → (opened : Opened) × IsOpenedBy profile volume last opened × ((other : Opened) → IsOpenedBy profile volume last other → other ≡ opened)
+
+-- the same by the strict rules
 abbrev pub OpensOnce : Type 0
-OpensOnce = (volume : Volume) (last : ℕ) → IsLawful volume last
-    → (opened : Opened) × IsOpened volume last opened × ((other : Opened) → IsOpened volume last other → other ≡ opened)
+OpensOnce = OpensOnceBy Strict
 
 -- and a path leads to one file
+abbrev pub OneFileAtBy : Profile → Type 0
+OneFileAtBy profile = (volume : Volume) (last : ℕ) → IsLawfulBy profile volume last → (path : List (List ℕ)) (file other : TreeFile)
+    → IsInVolumeBy profile volume last path file → IsInVolumeBy profile volume last path other → other ≡ file
+
+-- the same by the strict rules
 abbrev pub OneFileAt : Type 0
-OneFileAt = (volume : Volume) (last : ℕ) → IsLawful volume last → (path : List (List ℕ)) (file other : TreeFile)
-    → IsInVolume volume last path file → IsInVolume volume last path other → other ≡ file
+OneFileAt = OneFileAtBy Strict
 
 -- the same for whoever has a report and not the call
+abbrev pub ReportsTellTreeBy : Profile → Type 0
+ReportsTellTreeBy profile = (blocks : Blocks) (last : ℕ) (report : Report) → IsReportBy profile blocks last report → TellsTreeBy profile blocks last report × TellsWholeTreeBy profile blocks last report
+
+-- the same by the strict rules
 abbrev pub ReportsTellTree : Type 0
-ReportsTellTree = (blocks : Blocks) (last : ℕ) (report : Report) → IsReport blocks last report → TellsTree blocks last report × TellsWholeTree blocks last report
+ReportsTellTree = ReportsTellTreeBy Strict
 
 -- the layout of the volume names these partitions
 abbrev pub NamesPartitions : Volume → ℕ → List Partition → Type 0
@@ -120,9 +143,13 @@ file_bytes file = map (λ x. x.0) file.body
 
 -- of every lawful volume with which the table agrees: this is done with the bytes of the file of its tree that stands at the
 -- node's path and has its kind, size and stamp
+abbrev pub WritesFileBy : Profile → Blocks → ℕ → Report → ℕ → NodeFields → (List ℕ → Type 0) → Type 0
+WritesFileBy profile blocks last report index n Writes = (volume : Volume) → IsLawfulBy profile volume last → Agrees blocks volume last
+    → (file : TreeFile) × IsInVolumeBy profile volume last n.path file × IsToldAs n file × Writes (file_bytes file)
+
+-- the same by the strict rules
 abbrev pub WritesFile : Blocks → ℕ → Report → ℕ → NodeFields → (List ℕ → Type 0) → Type 0
-WritesFile blocks last report index n Writes = (volume : Volume) → IsLawful volume last → Agrees blocks volume last
-    → (file : TreeFile) × IsInVolume volume last n.path file × IsToldAs n file × Writes (file_bytes file)
+WritesFile = WritesFileBy Strict
 
 -- These bytes are the file's outside the runs, and this byte in them.
 pub record AreFilled (runs : List (ℕ × ℕ)) (fill : ℕ) (file out : List ℕ) : Type 0 where
@@ -132,6 +159,10 @@ pub record AreFilled (runs : List (ℕ × ℕ)) (fill : ℕ) (file out : List �
 
 -- of every lawful volume with which the table agrees: this is done with the bytes of the file of its tree that stands at the
 -- node's path and has its kind, size and stamp, where in the node's holes the byte stands that fills them
+abbrev pub FillsFileBy : Profile → Blocks → ℕ → NodeFields → ℕ → (List ℕ → Type 0) → Type 0
+FillsFileBy profile blocks last n fill Writes = (volume : Volume) → IsLawfulBy profile volume last → Agrees blocks volume last
+    → (file : TreeFile) × IsInVolumeBy profile volume last n.path file × IsToldAs n file × ((bytes : List ℕ) × AreFilled (holes_of n.standing) fill (file_bytes file) bytes × Writes bytes)
+
+-- the same by the strict rules
 abbrev pub FillsFile : Blocks → ℕ → NodeFields → ℕ → (List ℕ → Type 0) → Type 0
-FillsFile blocks last n fill Writes = (volume : Volume) → IsLawful volume last → Agrees blocks volume last
-    → (file : TreeFile) × IsInVolume volume last n.path file × IsToldAs n file × ((bytes : List ℕ) × AreFilled (holes_of n.standing) fill (file_bytes file) bytes × Writes bytes)
+FillsFile = FillsFileBy Strict

@@ -5,12 +5,13 @@ ghost use Rattle.udfs_lattice.specs.Tables.{state_of};
 ghost use Rattle.udfs_space.specs.Places.{view};
 ghost use Rattle.udfs_file.specs.declared.cells.Cell.{Cell};
 ghost use Rattle.udfs_volume.specs.Answers.{found};
+ghost use Rattle.udfs_volume.specs.declared.profiles.Profile.{Profile};
 ghost use Rattle.udfs_walk.specs.NodeBodies.{HasCells, MayTakeMemory};
 ghost use Rattle.udfs_walk.specs.NodeFields.{NodeFields};
 ghost use Rattle.udfs_salvage.specs.Found.{Found, volume_now};
-ghost use Rattle.udfs_salvage.specs.Reports.{IsReport, report_now};
-ghost use Rattle.udfs_salvage.specs.TreeReports.{FillsFile, WritesFile};
-ghost use Rattle.udfs_salvage.specs.Extraction.{Extracts, HasCellsIn, fill_byte, filled, is_offered};
+ghost use Rattle.udfs_salvage.specs.Reports.{IsReport, IsReportBy, report_now};
+ghost use Rattle.udfs_salvage.specs.TreeReports.{FillsFile, FillsFileBy, WritesFile, WritesFileBy};
+ghost use Rattle.udfs_salvage.specs.Extraction.{Extracts, HasCellsIn, HasCellsInBy, fill_byte, filled, is_offered};
 
 use crate::body_bytes::write_body;
 use crate::reports::Report;
@@ -102,6 +103,70 @@ fn write_at<W: Sink>(
     }
 }
 
+/// Writes the bytes of the node at this index, counted from 0 and below the number of nodes, of a report that
+/// [`salvage_by`] answered, by the rules of whatever profile: where the node is whole; and where it is torn, its size is known and `fill` has a byte, with this byte in place of those
+/// that are missing.
+///
+/// They are the bytes of the body that stands at the end of the route to that node, whatever other node has the same path; of a whole
+/// node they are those of the file at its path in every volume that is lawful by these rules and with which the table agrees, and of a torn one those
+/// outside its holes are. Nothing bounds
+/// their number but the node's size, which can be up to 2^64 - 1.
+///
+/// # Errors
+///
+/// `NotWhole` exactly where the node is not to be written; then nothing is. `Write` exactly where the sink failed; then a beginning
+/// of the bytes is out. `OutOfMemory` where memory is refused: never of a node without a byte
+/// whose body is not embedded; then nothing is written.
+///
+/// [`salvage_by`]: crate::salvage_by
+pub fn extract_by<W: Sink>(
+    alloc: Global,
+    report: &Report<'_>,
+    index: usize,
+    fill: Fill,
+    sink: &mut W,
+) -> Result<(), ExtractError>
+    requires { index < length report.now.nodes.items }
+    // The bytes are those of the cells at the end of the route of this index.
+    ensures cells { (profile : Profile) (last : ℕ) (n : NodeFields) → IsReportBy profile (state_of report.now.table.now) last (report_now report.now) →
+        slice_get report.now.nodes.items index ≡ Some n → is_offered n.standing n.size fill ≡ true →
+        (cs : List Cell) × HasCellsInBy profile (state_of report.now.table.now) last index cs ×
+        Extracts (W.contents sink.old) (W.contents sink.new) (W.faults sink.old) (W.faults sink.new) (filled (fill_byte fill) cs) result }
+    ensures not_whole { (profile : Profile) (last : ℕ) (n : NodeFields) → IsReportBy profile (state_of report.now.table.now) last (report_now report.now) →
+        slice_get report.now.nodes.items index ≡ Some n → (IsErrOf result ExtractError.NotWhole ↔ (is_offered n.standing n.size fill ≡ false)) }
+    // Of a whole node they are those of the volume's file at its path, for every lawful volume with which the table agrees.
+    ensures tree { (profile : Profile) (last : ℕ) (n : NodeFields) → IsReportBy profile (state_of report.now.table.now) last (report_now report.now) →
+        slice_get report.now.nodes.items index ≡ Some n → n.standing ≡ Standing.Whole →
+        WritesFileBy profile (state_of report.now.table.now) last (report_now report.now) index n
+        (λ bytes. Extracts (W.contents sink.old) (W.contents sink.new) (W.faults sink.old) (W.faults sink.new) bytes result) }
+    // Of any node that is written, a torn one too, they are that file's bytes outside the node's holes, and in them the byte that fills.
+    ensures filled { (profile : Profile) (last : ℕ) (n : NodeFields) → IsReportBy profile (state_of report.now.table.now) last (report_now report.now) →
+        slice_get report.now.nodes.items index ≡ Some n → is_offered n.standing n.size fill ≡ true →
+        FillsFileBy profile (state_of report.now.table.now) last n (fill_byte fill)
+        (λ bytes. Extracts (W.contents sink.old) (W.contents sink.new) (W.faults sink.old) (W.faults sink.new) bytes result) }
+    // Of a report that was put together otherwise, they are those that its volume and the node's own address give.
+    ensures stated { (f : Found) (n : NodeFields) (cs : List Cell) → volume_now report.now.volume ≡ found f →
+        slice_get report.now.nodes.items index ≡ Some n → is_offered n.standing n.size fill ≡ true → HasCells (view (state_of report.now.table.now) f.space) n.icb cs →
+        Extracts (W.contents sink.old) (W.contents sink.new) (W.faults sink.old) (W.faults sink.new) (filled (fill_byte fill) cs) result }
+    ensures nothing { IsErrOf result ExtractError.NotWhole → sink.new ≡ sink.old }
+    ensures memory { IsErrOf result ExtractError.OutOfMemory → sink.new ≡ sink.old }
+    // Memory is wanted only where the body at the node's address is embedded or has a byte.
+    ensures wanted { (f : Found) (n : NodeFields) → volume_now report.now.volume ≡ found f → slice_get report.now.nodes.items index ≡ Some n →
+        IsErrOf result ExtractError.OutOfMemory → MayTakeMemory (view (state_of report.now.table.now) f.space) n.icb }
+{
+    let node = &report.nodes[index];
+    if !is_offered(node, fill) {
+        return Err(ExtractError::NotWhole);
+    }
+    match &report.volume {
+        Volume::Open(opened) => {
+            let byte = fill_byte(fill);
+            write_at(alloc, report.table, &opened.space, node.icb, byte, sink)
+        }
+        _ => Err(ExtractError::NotWhole),
+    }
+}
+
 /// Writes the bytes of the node at this index, counted from 0 and below the number of nodes, of a report that [`salvage`]
 /// answered: where the node is whole; and where it is torn, its size is known and `fill` has a byte, with this byte in place of those
 /// that are missing.
@@ -153,15 +218,5 @@ pub fn extract<W: Sink>(
     ensures wanted { (f : Found) (n : NodeFields) → volume_now report.now.volume ≡ found f → slice_get report.now.nodes.items index ≡ Some n →
         IsErrOf result ExtractError.OutOfMemory → MayTakeMemory (view (state_of report.now.table.now) f.space) n.icb }
 {
-    let node = &report.nodes[index];
-    if !is_offered(node, fill) {
-        return Err(ExtractError::NotWhole);
-    }
-    match &report.volume {
-        Volume::Open(opened) => {
-            let byte = fill_byte(fill);
-            write_at(alloc, report.table, &opened.space, node.icb, byte, sink)
-        }
-        _ => Err(ExtractError::NotWhole),
-    }
+    extract_by(alloc, report, index, fill, sink)
 }

@@ -6,7 +6,7 @@ ghost use Rattle.serde_json.specs.View.{view};
 ghost use Rattle.serde_json.specs.Written.{compact_text, has_float};
 ghost use Rattle.udfs_salvage.specs.Found.{volume_now};
 ghost use Rattle.udfs_salvage.specs.JsonNodes.{count};
-ghost use Rattle.udfs_salvage.specs.JsonPieces.{counts_piece, end_piece, entry_end, entry_front, kind_piece, node_end, node_front, reference_piece, report_end, report_front, standing_piece};
+ghost use Rattle.udfs_salvage.specs.JsonPieces.{counts_piece, end_piece, entry_end, entry_front, kind_piece, node_end, node_front, reference_piece, report_end, report_front, reread_words, standing_piece};
 
 use crate::json_nodes::{kind_value, path_value, size_value, standing_value, time_value};
 use crate::json_reports::{label_in, volume_value};
@@ -16,6 +16,7 @@ use std::alloc::Global;
 use udfs_file::Kind;
 use udfs_lattice::BlockTable;
 use udfs_osta::OutOfMemory;
+use udfs_volume::Profile;
 use udfs_walk::{Node, Standing, Unnamed};
 
 /// Appends what stands before a value, and the value.
@@ -178,6 +179,16 @@ pub(crate) fn push_report_front(
     push_value(alloc, text, ",\"label\":", &label)?;
     push_count(alloc, text, ",\"last\":", u64::from(last))?;
     text.push_str(",\"nodes\":")
+}
+
+/// What stands between the nodes of a report and the blocks to read again.
+pub(crate) fn reread_words(profile: Profile) -> &'static str
+    ensures { result.now ≡ reread_words profile }
+{
+    match profile {
+        Profile::Strict => ",\"reread\":",
+        Profile::Wide => ",\"profile\":\"wide\",\"reread\":",
+    }
 }
 
 /// Appends the object of a report behind its entries that no name leads to.

@@ -10,7 +10,7 @@ ghost use Rattle.udfs_volume.specs.Parts.{map_now};
 ghost use Rattle.udfs_salvage.specs.Found.{found_now, volume_now};
 ghost use Rattle.udfs_salvage.specs.Reports.{report_now};
 ghost use Rattle.udfs_salvage.specs.JsonNodes.{list_data};
-ghost use Rattle.udfs_salvage.specs.JsonReports.{json_text, label_data, label_data_of, map_name, name_data, packet_length_of, put_maps, put_packet, report_data, reread_data, state_data, state_name, volume_data};
+ghost use Rattle.udfs_salvage.specs.JsonReports.{json_text_by, label_data, label_data_of, map_name, name_data, packet_length_of, put_maps, put_packet, put_profile, report_data_by, reread_data, state_data, state_name, volume_data};
 
 use crate::json_nodes::{all_unnamed_value, blocks_value, nodes_value};
 use crate::lines::has_two;
@@ -21,7 +21,7 @@ use serde_json::{Map, Value, put};
 use std::alloc::{AllocError, Global};
 use udfs_lattice::{BlockTable, Fact};
 use udfs_osta::{Label, Name, OutOfMemory};
-use udfs_volume::{Partition, PartitionMap, VolumeFault};
+use udfs_volume::{Partition, PartitionMap, Profile, VolumeFault};
 
 /// The name of a map.
 fn map_name(kind: &PartitionMap) -> &'static str
@@ -235,9 +235,27 @@ fn rereads_value(alloc: Global, table: &BlockTable, blocks: &[u32]) -> Result<Va
     Ok(Value::Array(items))
 }
 
+/// Adds the name of the rules, where they are not the strict ones.
+fn with_profile(
+    alloc: Global,
+    mut members: Map<String, Value>,
+    profile: Profile,
+) -> Result<Map<String, Value>, AllocError>
+    ensures { IfOk result (λ with. members_view with.entries ≡ put_profile profile (members_view members.entries)) }
+{
+    match profile {
+        Profile::Strict => Ok(members),
+        Profile::Wide => {
+            let name = Value::try_from_str(alloc, "wide")?;
+            put(&mut members, alloc, "profile", name)?;
+            Ok(members)
+        }
+    }
+}
+
 /// A report.
 fn report_value(alloc: Global, report: &Report<'_>) -> Result<Value, AllocError>
-    ensures { IfOk result (λ v. view v ≡ report_data report.now.table.now report.now.last (report_now report.now)) }
+    ensures { IfOk result (λ v. view v ≡ report_data_by report.now.profile report.now.table.now report.now.last (report_now report.now)) }
 {
     let label = label_in(alloc, &report.volume)?;
     let nodes = nodes_value(alloc, &report.nodes)?;
@@ -264,7 +282,8 @@ fn report_value(alloc: Global, report: &Report<'_>) -> Result<Value, AllocError>
     put(&mut members, alloc, "reread", reread)?;
     put(&mut members, alloc, "unnamed", unnamed)?;
     put(&mut members, alloc, "volume", volume)?;
-    Ok(Value::Object(members))
+    let all = with_profile(alloc, members, report.profile)?;
+    Ok(Value::Object(all))
 }
 
 /// The JSON of a report: one object without a space or a line feed, its keys in byte order at every level.
@@ -273,7 +292,7 @@ fn report_value(alloc: Global, report: &Report<'_>) -> Result<Value, AllocError>
 ///
 /// `OutOfMemory` where memory is refused. The whole text is held in memory, and a tree of what it says beside it.
 pub fn report_json(alloc: Global, report: &Report<'_>) -> Result<String, OutOfMemory>
-    ensures { IfOk result (λ text. string_bytes text ≡ json_text report.now.table.now report.now.last (report_now report.now)) }
+    ensures { IfOk result (λ text. string_bytes text ≡ json_text_by report.now.profile report.now.table.now report.now.last (report_now report.now)) }
 {
     let value = report_value(alloc, report)?;
     let text = value.to_string(alloc)?;

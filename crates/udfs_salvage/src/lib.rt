@@ -32,13 +32,14 @@ mod words;
 
 pub use appending::push_names;
 pub use errors::{RunError, SalvageError};
-pub use extraction::{ExtractError, Fill, extract, is_offered};
+pub use extraction::{ExtractError, Fill, extract, extract_by, is_offered};
 pub use json_reports::report_json;
 pub use printing::{flush, pass_on, write_report, write_volume};
-pub use reports::{Report, all_whole, salvage};
+pub use reports::{Report, all_whole, salvage, salvage_by};
 pub use reread_printing::{write_numbers, write_reread};
-pub use running::report_run;
+pub use running::{report_run, report_run_by};
 pub use survey_json::write_json;
 pub use survey_printing::write_survey;
-pub use surveys::{Survey, survey_volume};
+pub use surveys::{Survey, survey_volume, survey_volume_by};
 pub use volumes::{OpenVolume, Volume};
+pub use words::revision_name;

@@ -7,7 +7,7 @@ ghost use Rattle.udfs_volume.specs.LayoutParts.{partition_now};
 ghost use Rattle.udfs_volume.specs.Parts.{map_now};
 ghost use Rattle.udfs_printing.specs.Puts.{Puts};
 ghost use Rattle.udfs_salvage.specs.Found.{found_now, volume_now};
-ghost use Rattle.udfs_salvage.specs.Texts.{block_text, block_texts, count_line, end_line, first_line, form_text, has_two, head_text, label_line, label_lines, map_texts, open_text, partition_map_text, reread_line, reread_lines, state_text, volume_line};
+ghost use Rattle.udfs_salvage.specs.Texts.{block_text, block_texts, count_line, end_line, first_line, form_text, has_two, head_text_by, label_line, label_lines, map_texts, open_text, partition_map_text, profile_lines, reread_line, reread_lines, state_text, volume_line};
 
 use crate::volumes::{OpenVolume, Volume};
 use crate::word_printing::{put_count, put_escaped};
@@ -16,7 +16,7 @@ use udfs_lattice::{BlockTable, Fact};
 use udfs_osta::{Label, Name};
 use udfs_printing::Printer;
 use udfs_reading::Sink;
-use udfs_volume::{Partition, PartitionMap, VolumeFault};
+use udfs_volume::{Partition, PartitionMap, Profile, VolumeFault};
 
 /// Whether the volume opens and has two partitions.
 pub(crate) fn has_two(volume: &Volume) -> bool
@@ -48,6 +48,16 @@ fn put_first<W: Sink>(out: &mut Printer, sink: &mut W, volume: &Volume, last: u3
     out.put(sink, " last ");
     out.put_number(sink, u64::from(last));
     out.put(sink, "\n");
+}
+
+/// The line of the rules, where they are not the strict ones.
+fn put_profile<W: Sink>(out: &mut Printer, sink: &mut W, profile: Profile)
+    ensures { Puts (W.contents sink.old) (W.contents sink.new) (W.faults sink.old) (W.faults sink.new) out.old out.new (profile_lines profile) }
+{
+    match profile {
+        Profile::Strict => {}
+        Profile::Wide => out.put(sink, "profile wide\n"),
+    }
 }
 
 /// The line of the table's counts.
@@ -181,11 +191,13 @@ pub(crate) fn put_head<W: Sink>(
     sink: &mut W,
     table: &BlockTable,
     last: u32,
+    profile: Profile,
     volume: &Volume,
 )
-    ensures { Puts (W.contents sink.old) (W.contents sink.new) (W.faults sink.old) (W.faults sink.new) out.old out.new (head_text table.now last (volume_now volume.now)) }
+    ensures { Puts (W.contents sink.old) (W.contents sink.new) (W.faults sink.old) (W.faults sink.new) out.old out.new (head_text_by profile table.now last (volume_now volume.now)) }
 {
     put_first(out, sink, volume, last);
+    put_profile(out, sink, profile);
     put_counts(out, sink, table);
     put_volume(out, sink, volume);
     put_label_of(out, sink, volume);

@@ -6,7 +6,7 @@ ghost use Rattle.udfs_printing.specs.Puts.{Finishes, Puts};
 ghost use Rattle.udfs_salvage.specs.Found.{volume_now};
 ghost use Rattle.udfs_salvage.specs.Printing.{PassesOn, Prints};
 ghost use Rattle.udfs_salvage.specs.Reports.{report_now};
-ghost use Rattle.udfs_salvage.specs.NodeTexts.{report_text};
+ghost use Rattle.udfs_salvage.specs.NodeTexts.{report_text_by};
 ghost use Rattle.udfs_salvage.specs.Texts.{volume_line};
 ghost use Rattle.udfs_salvage.specs.declared.errors.RunError.{RunError};
 
@@ -57,9 +57,17 @@ pub fn pass_on<W: Sink>(text: &mut String, sink: &mut W) -> Result<(), RunError>
 /// All lines.
 fn put_report<W: Sink>(out: &mut Printer, sink: &mut W, report: &Report<'_>)
     ensures { Puts (W.contents sink.old) (W.contents sink.new) (W.faults sink.old) (W.faults sink.new) out.old out.new
-        (report_text report.now.table.now report.now.last (report_now report.now)) }
+        (report_text_by report.now.profile report.now.table.now report.now.last (report_now report.now)) }
 {
-    put_head(out, sink, report.table, report.last, &report.volume);
+    let profile = report.profile;
+    put_head(
+        out,
+        sink,
+        report.table,
+        report.last,
+        profile,
+        &report.volume,
+    );
     put_nodes(out, sink, &report.nodes);
     put_all_unnamed(out, sink, has_two(&report.volume), &report.unnamed);
     put_rereads(out, sink, report.table, &report.reread);
@@ -81,14 +89,14 @@ pub(crate) fn finish<W: Sink>(out: &mut Printer, sink: &mut W) -> Result<(), Run
     }
 }
 
-/// Writes the text of a report. It takes no memory.
+/// Writes the text of a report, by whose rules its second line is `profile wide` or left out. It takes no memory.
 ///
 /// # Errors
 ///
 /// `Write` exactly where the sink failed, and never another. Then a beginning of the text is out.
 pub fn write_report<W: Sink>(report: &Report<'_>, sink: &mut W) -> Result<(), RunError>
     ensures text { Prints (W.contents sink.old) (W.contents sink.new) (W.faults sink.old) (W.faults sink.new)
-        (report_text report.now.table.now report.now.last (report_now report.now)) result }
+        (report_text_by report.now.profile report.now.table.now report.now.last (report_now report.now)) result }
     ensures fault { IfErr result (λ e. e ≡ RunError.Write) }
 {
     let mut out = Printer::new();
@@ -96,7 +104,7 @@ pub fn write_report<W: Sink>(report: &Report<'_>, sink: &mut W) -> Result<(), Ru
     finish(&mut out, sink)
 }
 
-/// Writes the third line of a report's text alone, which tells whether the volume opens. It takes no memory.
+/// Writes the volume's line of a report's text alone, which tells whether the volume opens. It takes no memory.
 ///
 /// # Errors
 ///

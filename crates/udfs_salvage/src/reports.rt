@@ -3,9 +3,10 @@
 ghost use Rattle.std.specs.Prelude.{◌≡◌, ◌↔◌, ℕ, IfOk, IfErr, IsErrOf, MatchOption};
 ghost use Rattle.udfs_lattice.specs.Tables.{state_of};
 ghost use Rattle.udfs_volume.specs.Seen.{IsRising};
-ghost use Rattle.udfs_salvage.specs.Headline.{Headline};
-ghost use Rattle.udfs_salvage.specs.TreeReports.{IsOfNoLawful};
-ghost use Rattle.udfs_salvage.specs.Reports.{HasTooManyPaths, IsNothingPast, IsOutOfRange, IsPastEnd, IsReport, MayWantMemory, all_whole, is_whole, report_now};
+ghost use Rattle.udfs_volume.specs.declared.profiles.Profile.TheVariants.{Strict};
+ghost use Rattle.udfs_salvage.specs.Headline.{Headline, HeadlineBy};
+ghost use Rattle.udfs_salvage.specs.TreeReports.{IsOfNoLawful, IsOfNoLawfulBy};
+ghost use Rattle.udfs_salvage.specs.Reports.{HasTooManyPaths, HasTooManyPathsBy, IsNothingPast, IsOutOfRange, IsPastEnd, IsReport, IsReportBy, MayWantMemory, MayWantMemoryBy, all_whole, is_whole, report_now};
 
 use crate::errors::SalvageError;
 use crate::surveys::look_full;
@@ -13,6 +14,7 @@ use crate::volumes::Volume;
 use std::alloc::Global;
 use udfs_lattice::BlockTable;
 use udfs_lattice::table::LAST_BLOCK;
+use udfs_volume::Profile;
 use udfs_walk::{Node, Standing, Unnamed};
 
 /// The least last block of a volume.
@@ -25,6 +27,8 @@ pub struct Report<'a> {
     pub table: &'a BlockTable,
     /// The last block of the volume.
     pub last: u32,
+    /// The rules by which it is told.
+    pub profile: Profile,
     /// Whether the volume opens.
     pub volume: Volume,
     /// The nodes: the root, and behind each directory its entries in their order, each with all that is below it.
@@ -66,7 +70,7 @@ pub(crate) fn past_end(table: &BlockTable, last: u32) -> Option<u32>
     None
 }
 
-/// What the table tells of the volume, of which `last` is the last block: whether it opens, its files and directories
+/// What the table tells of the volume by the rules of a profile, where `last` is its last block: whether it opens, its files and directories
 /// and how whole they are, and which blocks are worth reading again.
 ///
 /// Of a lawful volume with which the table agrees, it tells what is found of the volume itself; or it has holes: then all
@@ -89,6 +93,40 @@ pub(crate) fn past_end(table: &BlockTable, last: u32) -> Option<u32>
 /// root to a node; and `OutOfMemory` where memory is refused, but never where one of the first two is due, nor for a volume without
 /// an anchor or with wrong extents.
 #[tactic(auto, using(crate::proofs::TreeReports::out_of_range, crate::proofs::TreeReports::past_end, crate::proofs::TreeReports::look_refused))]
+pub fn salvage_by<'a>(
+    alloc: Global,
+    table: &'a BlockTable,
+    last: u32,
+    profile: Profile,
+) -> Result<Report<'a>, SalvageError>
+    ensures range { IsErrOf result SalvageError.LastRange ↔ IsOutOfRange last }
+    ensures past { (n : ℕ) → (IsErrOf result (SalvageError.PastEnd n) ↔ ((¬ IsOutOfRange last) × IsPastEnd (state_of table.now) last n)) }
+    ensures too_many { IsErrOf result SalvageError.TooManyPaths → (¬ IsOutOfRange last) × IsNothingPast (state_of table.now) last × HasTooManyPathsBy profile (state_of table.now) last }
+    ensures report { IfOk result (λ report. IsReportBy profile (state_of table.now) last (report_now report)) }
+    // All that is promised of it: it is the only report of the table; and of every lawful volume with which the table agrees, each node is the
+    // tree's; what is known enough is whole, and stays so as more is known; and what is listed to be read again is needed, and enough of it.
+    ensures headline { IfOk result (λ report. HeadlineBy profile (state_of table.now) last (report_now report)) }
+    ensures memory { IsErrOf result SalvageError.OutOfMemory → (¬ IsOutOfRange last) × IsNothingPast (state_of table.now) last × MayWantMemoryBy profile (state_of table.now) last }
+    ensures of_no_lawful { IfErr result (IsOfNoLawfulBy profile (state_of table.now) last) }
+    ensures rising { IfOk result (λ report. IsRising report.reread.items) }
+    ensures rules { IfOk result (λ report. report.profile ≡ profile) }
+    ensures of { IfOk result (λ report. (report.table.now ≡ table.now) × (report.last ≡ last)) }
+{
+    if last < FIRST_LAST || last > LAST_BLOCK {
+        return Err(SalvageError::LastRange);
+    }
+    if let Some(block) = past_end(table, last) {
+        return Err(SalvageError::PastEnd(block));
+    }
+    look_full(alloc, table, last, profile)
+}
+
+/// What the table tells of the volume by the strict rules, of which `last` is the last block: [`salvage_by`] with
+/// [`Profile::Strict`].
+///
+/// # Errors
+///
+/// As those of [`salvage_by`].
 pub fn salvage<'a>(
     alloc: Global,
     table: &'a BlockTable,
@@ -104,13 +142,8 @@ pub fn salvage<'a>(
     ensures memory { IsErrOf result SalvageError.OutOfMemory → (¬ IsOutOfRange last) × IsNothingPast (state_of table.now) last × MayWantMemory (state_of table.now) last }
     ensures of_no_lawful { IfErr result (IsOfNoLawful (state_of table.now) last) }
     ensures rising { IfOk result (λ report. IsRising report.reread.items) }
+    ensures rules { IfOk result (λ report. report.profile ≡ Strict) }
     ensures of { IfOk result (λ report. (report.table.now ≡ table.now) × (report.last ≡ last)) }
 {
-    if last < FIRST_LAST || last > LAST_BLOCK {
-        return Err(SalvageError::LastRange);
-    }
-    if let Some(block) = past_end(table, last) {
-        return Err(SalvageError::PastEnd(block));
-    }
-    look_full(alloc, table, last)
+    salvage_by(alloc, table, last, Profile::Strict)
 }

@@ -9,8 +9,8 @@ ghost use Rattle.udfs_walk.specs.Bare.{full_entry, full_node};
 ghost use Rattle.udfs_salvage.specs.Found.{volume_now};
 ghost use Rattle.udfs_salvage.specs.Printing.{PassesOn, Prints};
 ghost use Rattle.udfs_salvage.specs.JsonNodes.{list_data, node_data, unnamed_data};
-ghost use Rattle.udfs_salvage.specs.JsonPieces.{entry_end, entry_front, more_values, node_end, node_front, report_end, report_front};
-ghost use Rattle.udfs_salvage.specs.JsonReports.{json_text, reread_data};
+ghost use Rattle.udfs_salvage.specs.JsonPieces.{entry_end, entry_front, more_values, node_end, node_front, report_end, report_front, reread_words};
+ghost use Rattle.udfs_salvage.specs.JsonReports.{json_text_by, reread_data};
 ghost use Rattle.udfs_salvage.specs.Surveys.{survey_now};
 ghost use Rattle.udfs_salvage.specs.Texts.{has_two, line};
 
@@ -18,7 +18,7 @@ use crate::errors::RunError;
 use crate::json_nodes::{all_unnamed_value, nodes_value};
 use crate::json_pieces::{
     push_entry_end, push_entry_front, push_node_end, push_node_front, push_report_end,
-    push_report_front,
+    push_report_front, reread_words,
 };
 use crate::json_printing::{put_rereads, put_told, put_value, put_words};
 use crate::lines::has_two;
@@ -311,12 +311,12 @@ fn put_lists_of<W: Sink>(
 ) -> Result<(), RunError>
     ensures { PassesOn (W.contents sink.old) (W.contents sink.new) (W.faults sink.old) (W.faults sink.new) (string_bytes text.old) (string_bytes text.new)
         (compact_text (list_data node_data (survey_now survey.now).nodes)
-        ++ (codes ",\"reread\":" ++ (compact_text (list_data (reread_data (state_of survey.now.table.now)) survey.now.reread.items)
+        ++ (reread_words survey.now.profile ++ (compact_text (list_data (reread_data (state_of survey.now.table.now)) survey.now.reread.items)
         ++ (codes ",\"unnamed\":" ++ (compact_text (list_data (unnamed_data (has_two (volume_now survey.now.volume))) (survey_now survey.now).unnamed)
         ++ (report_end (volume_now survey.now.volume) ++ codes "\n")))))) result }
 {
     put_survey_nodes(alloc, text, sink, survey)?;
-    put_words(text, sink, ",\"reread\":")?;
+    put_words(text, sink, reread_words(survey.profile))?;
     put_later(alloc, text, sink, survey)
 }
 
@@ -328,7 +328,7 @@ fn put_survey<W: Sink>(
     survey: &Survey<'_>,
 ) -> Result<(), RunError>
     ensures { PassesOn (W.contents sink.old) (W.contents sink.new) (W.faults sink.old) (W.faults sink.new) (string_bytes text.old) (string_bytes text.new)
-        (line (json_text survey.now.table.now survey.now.last (survey_now survey.now))) result }
+        (line (json_text_by survey.now.profile survey.now.table.now survey.now.last (survey_now survey.now))) result }
 {
     put_front(alloc, text, sink, survey)?;
     put_lists_of(alloc, text, sink, survey)
@@ -342,7 +342,7 @@ fn put_survey<W: Sink>(
 /// `Write` exactly where the sink failed, and `OutOfMemory` where memory is refused. Then a beginning of the text is out.
 pub fn write_json<W: Sink>(alloc: Global, survey: &Survey<'_>, sink: &mut W) -> Result<(), RunError>
     ensures { Prints (W.contents sink.old) (W.contents sink.new) (W.faults sink.old) (W.faults sink.new)
-        (line (json_text survey.now.table.now survey.now.last (survey_now survey.now))) result }
+        (line (json_text_by survey.now.profile survey.now.table.now survey.now.last (survey_now survey.now))) result }
 {
     let mut text = String::new(alloc);
     put_survey(alloc, &mut text, sink, survey)?;

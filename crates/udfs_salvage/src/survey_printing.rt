@@ -1,7 +1,7 @@
 //! Surveys are printed: what is missing of a node is found where its lines are written.
 
 ghost use Rattle.udfs_salvage.specs.Found.{volume_now};
-ghost use Rattle.udfs_salvage.specs.NodeTexts.{nodes_text, report_text, unnamed_texts};
+ghost use Rattle.udfs_salvage.specs.NodeTexts.{nodes_text, report_text_by, unnamed_texts};
 ghost use Rattle.udfs_salvage.specs.Printing.{Prints, PutsMost};
 ghost use Rattle.udfs_salvage.specs.Surveys.{survey_now};
 ghost use Rattle.udfs_salvage.specs.Texts.{has_two};
@@ -76,9 +76,17 @@ fn put_survey<W: Sink>(
     survey: &Survey<'_>,
 ) -> Result<(), AllocError>
     ensures { PutsMost (W.contents sink.old) (W.contents sink.new) (W.faults sink.old) (W.faults sink.new) out.old out.new
-        (report_text survey.now.table.now survey.now.last (survey_now survey.now)) result }
+        (report_text_by survey.now.profile survey.now.table.now survey.now.last (survey_now survey.now)) result }
 {
-    put_head(out, sink, survey.table, survey.last, &survey.volume);
+    let profile = survey.profile;
+    put_head(
+        out,
+        sink,
+        survey.table,
+        survey.last,
+        profile,
+        &survey.volume,
+    );
     put_survey_nodes(alloc, out, sink, survey)?;
     put_survey_entries(alloc, out, sink, survey)?;
     put_rereads(out, sink, survey.table, &survey.reread);
@@ -97,7 +105,7 @@ pub fn write_survey<W: Sink>(
     sink: &mut W,
 ) -> Result<(), RunError>
     ensures { Prints (W.contents sink.old) (W.contents sink.new) (W.faults sink.old) (W.faults sink.new)
-        (report_text survey.now.table.now survey.now.last (survey_now survey.now)) result }
+        (report_text_by survey.now.profile survey.now.table.now survey.now.last (survey_now survey.now)) result }
 {
     let mut out = Printer::new();
     let told = put_survey(alloc, &mut out, sink, survey);

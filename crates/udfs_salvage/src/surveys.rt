@@ -4,13 +4,14 @@ ghost use Rattle.std.specs.Prelude.{◌≡◌, ◌≤◌, ◌↔◌, ℕ, [], If
 ghost use Rattle.udfs_lattice.specs.Tables.{state_of};
 ghost use Rattle.udfs_volume.specs.Answers.{found};
 ghost use Rattle.udfs_volume.specs.Seen.{IsRising};
+ghost use Rattle.udfs_volume.specs.declared.profiles.Profile.TheVariants.{Strict};
 ghost use Rattle.udfs_space.specs.Places.{view};
 ghost use Rattle.udfs_walk.specs.Bare.{full_node};
 ghost use Rattle.udfs_walk.specs.Walks.{AreNodes};
 ghost use Rattle.udfs_salvage.specs.Found.{found_now, volume_now};
-ghost use Rattle.udfs_salvage.specs.Headline.{Headline};
-ghost use Rattle.udfs_salvage.specs.TreeReports.{IsOfNoLawful};
-ghost use Rattle.udfs_salvage.specs.Reports.{HasTooManyPaths, IsLookRefused, IsNothingPast, IsOutOfRange, IsPastEnd, IsReport, IsWalkRefused, MayWantMemory, ReportsBy, all_whole, report_now};
+ghost use Rattle.udfs_salvage.specs.Headline.{Headline, HeadlineBy};
+ghost use Rattle.udfs_salvage.specs.TreeReports.{IsOfNoLawful, IsOfNoLawfulBy};
+ghost use Rattle.udfs_salvage.specs.Reports.{HasTooManyPaths, HasTooManyPathsBy, IsLookRefused, IsNothingPast, IsOutOfRange, IsPastEnd, IsReport, IsReportBy, IsWalkRefused, MayWantMemory, MayWantMemoryBy, ReportsBy, all_whole, report_now};
 ghost use Rattle.udfs_salvage.specs.Surveys.{IsClosed, IsVolumeFound, survey_now};
 
 use crate::errors::SalvageError;
@@ -20,7 +21,7 @@ use std::alloc::{AllocError, Global};
 use udfs_lattice::BlockTable;
 use udfs_lattice::table::LAST_BLOCK;
 use udfs_space::View;
-use udfs_volume::Seen;
+use udfs_volume::{Profile, Seen};
 use udfs_walk::unnamed_entries::bare_unnamed;
 use udfs_walk::{Node, NodesError, Unnamed, bare_nodes, bare_reread, full_entries, full_nodes};
 
@@ -32,6 +33,8 @@ pub struct Survey<'a> {
     pub table: &'a BlockTable,
     /// The last block of the volume.
     pub last: u32,
+    /// The rules by which it is told.
+    pub profile: Profile,
     /// Whether the volume opens.
     pub volume: Volume,
     /// The nodes, as a report has them; a torn one without its blocks and holes.
@@ -69,11 +72,13 @@ fn survey_open<'a>(
     alloc: Global,
     table: &'a BlockTable,
     last: u32,
+    profile: Profile,
     opened: OpenVolume,
 ) -> Result<Survey<'a>, SalvageError>
     ensures report { IfOk result (λ survey. ReportsBy (state_of table.now) (found (found_now opened)) (survey_now survey)) }
     ensures volume { IfOk result (λ survey. volume_now survey.volume ≡ found (found_now opened)) }
     ensures of { IfOk result (λ survey. (survey.table.now ≡ table.now) × (survey.last ≡ last)) }
+    ensures rules { IfOk result (λ survey. survey.profile ≡ profile) }
     ensures rising { IfOk result (λ survey. IsRising survey.reread.items) }
     ensures refused { IfErr result (IsWalkRefused (state_of table.now) (found_now opened)) }
 {
@@ -83,6 +88,7 @@ fn survey_open<'a>(
     Ok(Survey {
         table,
         last,
+        profile,
         volume: Volume::Open(opened),
         nodes: listed,
         unnamed,
@@ -95,16 +101,19 @@ fn survey_closed<'a>(
     alloc: Global,
     table: &'a BlockTable,
     last: u32,
+    profile: Profile,
     volume: Volume,
     reread: Vec<u32>,
 ) -> Survey<'a>
     requires { IsClosed (volume_now volume) }
     ensures value { survey_now result ≡ record { volume = volume_now volume; nodes = []; unnamed = []; reread = reread.items } }
     ensures of { (result.table.now ≡ table.now) × (result.last ≡ last) }
+    ensures rules { result.profile ≡ profile }
 {
     Survey {
         table,
         last,
+        profile,
         volume,
         nodes: Vec::new(alloc),
         unnamed: Vec::new(alloc),
@@ -113,25 +122,33 @@ fn survey_closed<'a>(
 }
 
 /// The survey of a volume, by what is found of it, where nothing is known behind its last block.
-fn look<'a>(alloc: Global, table: &'a BlockTable, last: u32) -> Result<Survey<'a>, SalvageError>
+fn look<'a>(
+    alloc: Global,
+    table: &'a BlockTable,
+    last: u32,
+    profile: Profile,
+) -> Result<Survey<'a>, SalvageError>
     requires from { 513 ≤ last }
     requires to { last ≤ 4194303 }
     requires nothing_past { IsNothingPast (state_of table.now) last }
-    ensures report { IfOk result (λ survey. IsReport (state_of table.now) last (survey_now survey)) }
+    ensures report { IfOk result (λ survey. IsReportBy profile (state_of table.now) last (survey_now survey)) }
     ensures of { IfOk result (λ survey. (survey.table.now ≡ table.now) × (survey.last ≡ last)) }
+    ensures rules { IfOk result (λ survey. survey.profile ≡ profile) }
     ensures rising { IfOk result (λ survey. IsRising survey.reread.items) }
-    ensures refused { IfErr result (IsLookRefused (state_of table.now) last) }
+    ensures refused { IfErr result (IsLookRefused profile (state_of table.now) last) }
 {
-    match open(alloc, table, last) {
-        Seen::Got(opened) => survey_open(alloc, table, last, opened),
+    match open(alloc, table, last, profile) {
+        Seen::Got(opened) => survey_open(alloc, table, last, profile, opened),
         Seen::Holes(blocks) => {
             let reread = blocks.clone()?;
-            Ok(survey_closed(alloc, table, last, Volume::Holes(blocks), reread))
+            let volume = Volume::Holes(blocks);
+            Ok(survey_closed(alloc, table, last, profile, volume, reread))
         }
         Seen::Fault(fault) => Ok(survey_closed(
             alloc,
             table,
             last,
+            profile,
             Volume::Fault(fault),
             Vec::new(alloc),
         )),
@@ -143,12 +160,14 @@ fn look<'a>(alloc: Global, table: &'a BlockTable, last: u32) -> Result<Survey<'a
 fn filled<'a>(alloc: Global, survey: Survey<'a>) -> Result<Report<'a>, SalvageError>
     ensures report { IfOk result (λ report. report_now report ≡ survey_now survey.entry) }
     ensures of { IfOk result (λ report. (report.table.now ≡ survey.entry.table.now) × (report.last ≡ survey.entry.last)) }
+    ensures rules { IfOk result (λ report. report.profile ≡ survey.entry.profile) }
     ensures reread { IfOk result (λ report. report.reread.items ≡ survey.entry.reread.items) }
     ensures refused { IfErr result (λ error. (error ≡ SalvageError.OutOfMemory) × IsVolumeFound (volume_now survey.entry.volume)) }
 {
     let Survey {
         table,
         last,
+        profile,
         volume,
         nodes,
         unnamed,
@@ -165,6 +184,7 @@ fn filled<'a>(alloc: Global, survey: Survey<'a>) -> Result<Report<'a>, SalvageEr
             Ok(Report {
                 table,
                 last,
+                profile,
                 volume: Volume::Open(opened),
                 nodes,
                 unnamed,
@@ -174,6 +194,7 @@ fn filled<'a>(alloc: Global, survey: Survey<'a>) -> Result<Report<'a>, SalvageEr
         Volume::Holes(blocks) => Ok(Report {
             table,
             last,
+            profile,
             volume: Volume::Holes(blocks),
             nodes,
             unnamed,
@@ -182,6 +203,7 @@ fn filled<'a>(alloc: Global, survey: Survey<'a>) -> Result<Report<'a>, SalvageEr
         Volume::Fault(fault) => Ok(Report {
             table,
             last,
+            profile,
             volume: Volume::Fault(fault),
             nodes,
             unnamed,
@@ -195,19 +217,56 @@ pub(crate) fn look_full<'a>(
     alloc: Global,
     table: &'a BlockTable,
     last: u32,
+    profile: Profile,
 ) -> Result<Report<'a>, SalvageError>
     requires from { 513 ≤ last }
     requires to { last ≤ 4194303 }
     requires nothing_past { IsNothingPast (state_of table.now) last }
-    ensures report { IfOk result (λ report. IsReport (state_of table.now) last (report_now report)) }
+    ensures report { IfOk result (λ report. IsReportBy profile (state_of table.now) last (report_now report)) }
     ensures of { IfOk result (λ report. (report.table.now ≡ table.now) × (report.last ≡ last)) }
+    ensures rules { IfOk result (λ report. report.profile ≡ profile) }
     ensures rising { IfOk result (λ report. IsRising report.reread.items) }
-    ensures refused { IfErr result (IsLookRefused (state_of table.now) last) }
+    ensures refused { IfErr result (IsLookRefused profile (state_of table.now) last) }
 {
-    match look(alloc, table, last) {
+    match look(alloc, table, last, profile) {
         Ok(survey) => filled(alloc, survey),
         Err(error) => Err(error),
     }
+}
+
+/// What the table tells of the volume, of which `last` is the last block, by the rules of a profile, as [`salvage_by`](crate::salvage_by)
+/// tells it, but for
+/// the blocks and the holes of torn nodes and entries, which are found again where they are told.
+///
+/// # Errors
+///
+/// As those of [`salvage_by`](crate::salvage_by).
+#[tactic(auto, using(crate::proofs::TreeReports::out_of_range, crate::proofs::TreeReports::past_end, crate::proofs::TreeReports::look_refused))]
+pub fn survey_volume_by<'a>(
+    alloc: Global,
+    table: &'a BlockTable,
+    last: u32,
+    profile: Profile,
+) -> Result<Survey<'a>, SalvageError>
+    ensures range { IsErrOf result SalvageError.LastRange ↔ IsOutOfRange last }
+    ensures past { (n : ℕ) → (IsErrOf result (SalvageError.PastEnd n) ↔ ((¬ IsOutOfRange last) × IsPastEnd (state_of table.now) last n)) }
+    ensures too_many { IsErrOf result SalvageError.TooManyPaths → (¬ IsOutOfRange last) × IsNothingPast (state_of table.now) last × HasTooManyPathsBy profile (state_of table.now) last }
+    ensures report { IfOk result (λ survey. IsReportBy profile (state_of table.now) last (survey_now survey)) }
+    // All that is promised of a report holds of the one that the survey stands for.
+    ensures headline { IfOk result (λ survey. HeadlineBy profile (state_of table.now) last (survey_now survey)) }
+    ensures memory { IsErrOf result SalvageError.OutOfMemory → (¬ IsOutOfRange last) × IsNothingPast (state_of table.now) last × MayWantMemoryBy profile (state_of table.now) last }
+    ensures of_no_lawful { IfErr result (IsOfNoLawfulBy profile (state_of table.now) last) }
+    ensures rising { IfOk result (λ survey. IsRising survey.reread.items) }
+    ensures rules { IfOk result (λ survey. survey.profile ≡ profile) }
+    ensures of { IfOk result (λ survey. (survey.table.now ≡ table.now) × (survey.last ≡ last)) }
+{
+    if last < FIRST_LAST || last > LAST_BLOCK {
+        return Err(SalvageError::LastRange);
+    }
+    if let Some(block) = past_end(table, last) {
+        return Err(SalvageError::PastEnd(block));
+    }
+    look(alloc, table, last, profile)
 }
 
 /// What the table tells of the volume, of which `last` is the last block, as [`salvage`](crate::salvage) tells it, but for
@@ -216,7 +275,6 @@ pub(crate) fn look_full<'a>(
 /// # Errors
 ///
 /// As those of [`salvage`](crate::salvage).
-#[tactic(auto, using(crate::proofs::TreeReports::out_of_range, crate::proofs::TreeReports::past_end, crate::proofs::TreeReports::look_refused))]
 pub fn survey_volume<'a>(
     alloc: Global,
     table: &'a BlockTable,
@@ -231,13 +289,8 @@ pub fn survey_volume<'a>(
     ensures memory { IsErrOf result SalvageError.OutOfMemory → (¬ IsOutOfRange last) × IsNothingPast (state_of table.now) last × MayWantMemory (state_of table.now) last }
     ensures of_no_lawful { IfErr result (IsOfNoLawful (state_of table.now) last) }
     ensures rising { IfOk result (λ survey. IsRising survey.reread.items) }
+    ensures rules { IfOk result (λ survey. survey.profile ≡ Strict) }
     ensures of { IfOk result (λ survey. (survey.table.now ≡ table.now) × (survey.last ≡ last)) }
 {
-    if last < FIRST_LAST || last > LAST_BLOCK {
-        return Err(SalvageError::LastRange);
-    }
-    if let Some(block) = past_end(table, last) {
-        return Err(SalvageError::PastEnd(block));
-    }
-    look(alloc, table, last)
+    survey_volume_by(alloc, table, last, Profile::Strict)
 }

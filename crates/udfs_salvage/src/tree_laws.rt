@@ -1,20 +1,24 @@
 //! Laws of reports and trees, each the contract of a function that does nothing.
-ghost use Rattle.udfs_salvage.specs.TreeReports.{OneFileAt, OpensOnce, ReportsTellTree, SomeLawful};
-ghost use Rattle.udfs_salvage.specs.VolumeTrees.{LawfulIsWhole};
+ghost use Rattle.udfs_volume.specs.declared.profiles.Profile.{Profile};
+ghost use Rattle.udfs_salvage.specs.TreeReports.{OneFileAt, OneFileAtBy, OpensOnce, OpensOnceBy, ReportsTellTree, ReportsTellTreeBy, SomeLawful};
+ghost use Rattle.udfs_salvage.specs.VolumeTrees.{LawfulIsWhole, LawfulIsWholeBy};
 
 /// The standard opens a lawful volume, and in one way only.
 pub fn opens_once()
-    ensures { OpensOnce }
+    ensures strict { OpensOnce }
+    ensures by_profile { (profile : Profile) → OpensOnceBy profile }
 {}
 
 /// A path of a lawful volume leads to one file: its fields and its bytes are determined.
 pub fn one_file_at()
-    ensures { OneFileAt }
+    ensures strict { OneFileAt }
+    ensures by_profile { (profile : Profile) → OneFileAtBy profile }
 {}
 
 /// Every report of a table tells of the tree of each lawful volume that agrees with the table.
 pub fn reports_tell_tree()
-    ensures { ReportsTellTree }
+    ensures strict { ReportsTellTree }
+    ensures by_profile { (profile : Profile) → ReportsTellTreeBy profile }
 {}
 
 /// There are lawful volumes with a file, with a map of type 1, with a sparable one that has a spared packet, and with both; so what is said of
@@ -25,5 +29,6 @@ pub fn some_volume_is_lawful()
 
 /// A volume is lawful, which is said in the words of the standard's reading alone, exactly if with all of it known every node is whole.
 pub fn lawful_is_whole()
-    ensures { LawfulIsWhole }
+    ensures strict { LawfulIsWhole }
+    ensures by_profile { (profile : Profile) → LawfulIsWholeBy profile }
 {}

@@ -4,18 +4,18 @@ ghost use Rattle.std.specs.Prelude.{◌≡◌, ◌≤◌};
 ghost use Rattle.udfs_lattice.specs.Tables.{state_of};
 ghost use Rattle.udfs_volume.specs.LayoutParts.{parts_now};
 ghost use Rattle.udfs_volume.specs.Laws.{IsBounded};
-ghost use Rattle.udfs_volume.specs.Layout.{layout};
+ghost use Rattle.udfs_volume.specs.Layout.{layout_by};
 ghost use Rattle.udfs_volume.specs.Seen.{HolesRise, Sees, TellsFault};
 ghost use Rattle.udfs_volume.specs.declared.faults.VolumeFault.{VolumeFault};
-ghost use Rattle.udfs_salvage.specs.Found.{found_now, placed, rooted, volume};
+ghost use Rattle.udfs_salvage.specs.Found.{found_now, placed, rooted, volume_by};
 
 use std::alloc::Global;
 use udfs_file::file_set;
 use udfs_lattice::BlockTable;
 use udfs_space::Space;
 use udfs_tag::LongAd;
-use udfs_volume::layouts::layout;
-use udfs_volume::{Seen, VolumeFault, VolumeParts};
+use udfs_volume::layouts::layout_by;
+use udfs_volume::{Profile, Seen, VolumeFault, VolumeParts};
 
 /// A volume that opens: its files can be looked for.
 #[derive(Debug, Drop)]
@@ -72,17 +72,22 @@ fn open_parts(alloc: Global, table: &BlockTable, parts: VolumeParts) -> Seen<Ope
     }
 }
 
-/// Opens a volume: the layout, the places and the root, the first of them that has holes or a fault deciding.
-#[tactic(auto, unfolding(crate::specs::Found::volume))]
-pub(crate) fn open(alloc: Global, table: &BlockTable, last: u32) -> Seen<OpenVolume>
+/// Opens a volume by the rules of a profile: the layout, the places and the root, the first of them that has holes or a fault deciding.
+#[tactic(auto, unfolding(crate::specs::Found::volume_by))]
+pub(crate) fn open(
+    alloc: Global,
+    table: &BlockTable,
+    last: u32,
+    profile: Profile,
+) -> Seen<OpenVolume>
     requires from { 513 ≤ last }
     requires to { last ≤ 4194303 }
-    ensures value { Sees found_now result (volume (state_of table.now) last) }
-    ensures no_anchor { TellsFault VolumeFault.NoAnchor result (layout (state_of table.now) last) }
-    ensures extents { TellsFault VolumeFault.Extents result (layout (state_of table.now) last) }
+    ensures value { Sees found_now result (volume_by profile (state_of table.now) last) }
+    ensures no_anchor { TellsFault VolumeFault.NoAnchor result (layout_by profile (state_of table.now) last) }
+    ensures extents { TellsFault VolumeFault.Extents result (layout_by profile (state_of table.now) last) }
     ensures rising { HolesRise result }
 {
-    match layout(alloc, table, last) {
+    match layout_by(alloc, table, last, profile) {
         Seen::Got(parts) => open_parts(alloc, table, parts),
         Seen::Holes(blocks) => Seen::Holes(blocks),
         Seen::Fault(fault) => Seen::Fault(fault),

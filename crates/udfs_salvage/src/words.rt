@@ -86,11 +86,16 @@ pub(crate) fn fault_name(fault: VolumeFault) -> &'static str
     }
 }
 
-/// A revision of UDF, of which there are two.
+/// A revision of UDF as it is printed: `1.02`, `1.50`, `2.00`, or else `2.01`, since no profile accepts another.
 #[tactic(auto, unfolding(crate::specs::Texts::revision_text))]
-pub(crate) fn revision_name(revision: u16) -> &'static str
+pub fn revision_name(revision: u16) -> &'static str
     ensures name { result.now ≡ revision_text revision }
     ensures short { length result.now ≤ 2048 }
 {
-    if revision == 0x0150 { "1.50" } else { "2.01" }
+    match revision {
+        0x0102 => "1.02",
+        0x0150 => "1.50",
+        0x0200 => "2.00",
+        _ => "2.01",
+    }
 }

@@ -1,5 +1,5 @@
 -- Every place of a volume that has a layout is one of its blocks.
-use Rattle.std.proofs.Common.{◌≡◌, refl, sym, ◌∙◌, ap, subst, inl, inr, ◌⊎◌, ℕ, ◌+◌, ◌-◌, ◌%◌, ◌<◌, ◌≤◌, Bool, true, false, not, List, [], ◌∷◌, drop, filter, cond, ◌&&◌, ◌||◌, arith, Option, Some, None, slice_get, nat_eq, nat_lt}
+use Rattle.std.proofs.Common.{◌≡◌, refl, sym, ◌∙◌, ap, subst, inl, inr, ℕ, ◌+◌, ◌-◌, ◌%◌, ◌<◌, ◌≤◌, Bool, true, false, not, List, [], ◌∷◌, drop, filter, cond, ◌&&◌, ◌||◌, arith, Option, Some, None, slice_get, nat_eq, nat_lt}
 use Rattle.std.specs.Prelude.{zero, suc, find}
 use Rattle.std.specs.List.{list_any}
 use Rattle.std.proofs.lemmas.Bool.{leb-true}
@@ -18,7 +18,7 @@ use Rattle.udfs_volume.proofs.PublicLaws.{layout_is_bounded_by}
 use Rattle.udfs_space.proofs.Facts.{and_then-found, complete-known, found_same, known_is, unless_fault-found}
 use Rattle.udfs_space.specs.Laws.{PlaceLawBy}
 use Rattle.udfs_space.specs.declared.entries.SparingEntry.{SparingEntry}
-use Rattle.udfs_space.specs.Sparing.{Span, Space, Spared, spared, spared_unless, spared_by, spared_in, unread, is_used, is_sparing_table, is_misshapen, passes_end, is_out_of_order, entries, copies, place_of, sparing_fault, packet_of, span_of, span, spans, space, sparing_table_bytes}
+use Rattle.udfs_space.specs.Sparing.{Span, Space, Spans, Spared, spared, spared_unless, spared_by, spared_in, unread, is_used, is_sparing_table, is_misshapen, passes_end, is_out_of_order, entries, copies, place_of, sparing_fault, packet_of, span_of, span, spans, space, sparing_table_bytes}
 use Rattle.udfs_space.specs.Places.{place, place_in, place_by, placed_at}
 
 fits_if : (o : Bool) (a b : ℕ) → (o || nat_lt a b) ≡ false → b ≤ a
@@ -93,20 +93,20 @@ span_within T last p s b e = let q : (sp : Spared) × (spared T last p.kind ≡ 
     (record { packet = has_packet last p.kind b.bounded_map; ends = b.ends; spared = spared_fit T last p.kind q.0 q.1 })
 
 -- what holds of the partition of each map holds of all
-pub spans_each : (P : Span → Type 0) (T : Blocks) (last : ℕ) (ps : List Partition) (ss : Space) → ((p : Partition) (s : Span) → Includes ps p → span T last p ≡ found s → P s)
+pub spans_each : (P : Span → Type 0) (T : Blocks) (last : ℕ) (ps : List Partition) (ss : Spans) → ((p : Partition) (s : Span) → Includes ps p → span T last p ≡ found s → P s)
     → spans T last ps ≡ found ss → (s : Span) → Includes ss s → P s
 spans_each P T last [] ss b e s i = absurd (subst (λ x. Includes x s) (sym (found_same [] ss e)) i)
 spans_each P T last (p ∷ ps) ss b e s i = let q : (x : Span) × (span T last p ≡ found x) × (and_then (spans T last ps) (λ xs. found (x ∷ xs)) ≡ found ss) =
     and_then-found (span T last p) (λ x. and_then (spans T last ps) (λ xs. found (x ∷ xs))) ss e in
-    let r : (xs : Space) × (spans T last ps ≡ found xs) × (found (q.0 ∷ xs) ≡ found ss) = and_then-found (spans T last ps) (λ xs. found (q.0 ∷ xs)) ss q.2 in
+    let r : (xs : Spans) × (spans T last ps ≡ found xs) × (found (q.0 ∷ xs) ≡ found ss) = and_then-found (spans T last ps) (λ xs. found (q.0 ∷ xs)) ss q.2 in
     go q.0 r.0 (b p q.0 (inl refl) q.1) (spans_each P T last ps r.0 (λ p x i. b p x (inr i)) r.1 s)
     (subst (λ x. Includes x s) (sym (found_same (q.0 ∷ r.0) ss r.2)) i)
   where
-    go : (x : Span) (xs : Space) → P x → (Includes xs s → P s) → Includes (x ∷ xs) s → P s
+    go : (x : Span) (xs : Spans) → P x → (Includes xs s → P s) → Includes (x ∷ xs) s → P s
     go x xs h later (inl k) = subst P k h
     go x xs h later (inr k) = later k
 
-spans_within : (T : Blocks) (last : ℕ) (ps : List Partition) (ss : Space) → ((p : Partition) → Includes ps p → IsBoundedPartition last p)
+spans_within : (T : Blocks) (last : ℕ) (ps : List Partition) (ss : Spans) → ((p : Partition) → Includes ps p → IsBoundedPartition last p)
     → spans T last ps ≡ found ss → (s : Span) → Includes ss s → IsWithin last s
 spans_within T last ps ss b e s i = spans_each (IsWithin last) T last ps ss (λ p x k f. span_within T last p x (b p k) f) e s i
 
@@ -127,32 +127,46 @@ place_within last s w b n e = go (nat_lt b s.size) refl e
         (at (omega (arith, l)) (find (λ e. nat_eq e.original (b - b % s.packet)) s.spared) refl)
     go false x q = absurd (let z : ⊥ = cc in z)
 
-pub included : (ss : Space) (r : ℕ) (s : Span) → slice_get ss r ≡ Some s → Includes ss s
+pub included : (ss : Spans) (r : ℕ) (s : Span) → slice_get ss r ≡ Some s → Includes ss s
 included [] r s e = absurd (let z : ⊥ = cc in z)
 included (x ∷ xs) zero s e = inl (let z : x ≡ s = cc in z)
 included (x ∷ xs) (suc r) s e = inr (included xs r s e)
 
-any_within : (last : ℕ) (ss : Space) → ((s : Span) → Includes ss s → IsWithin last s) → (r b n : ℕ) → place ss r b ≡ Some n → n ≤ last
+any_within : (last : ℕ) (ss : Space) → ((s : Span) → Includes ss.spans s → IsWithin last s) → (r b n : ℕ) → place ss r b ≡ Some n → n ≤ last
 unfolding place
-any_within last ss all r b n e = go (slice_get ss r) refl e
+any_within last ss all r b n e = go (slice_get ss.spans r) refl e
   where
-    go : (o : Option Span) → slice_get ss r ≡ o → place_by o b ≡ Some n → n ≤ last
+    go : (o : Option Span) → slice_get ss.spans r ≡ o → place_by o b ≡ Some n → n ≤ last
     go None q p = absurd (let z : ⊥ = cc in z)
-    go (Some s) q p = place_within last s (all s (included ss r s q)) b n p
+    go (Some s) q p = place_within last s (all s (included ss.spans r s q)) b n p
+
+-- the spans of a space that is found
+pub space_found : (T : Blocks) (l : Layout) (ss : Space) → space T l ≡ found ss
+    → (xs : Spans) × (spans T l.last l.partitions ≡ found xs) × (found (record { spans = xs; takes_tail = l.takes_tail }) ≡ found ss)
+unfolding space
+space_found T l ss e = and_then-found (spans T l.last l.partitions) (λ xs. found (record { spans = xs; takes_tail = l.takes_tail })) ss e
+
+pub space_spans : (T : Blocks) (l : Layout) (ss : Space)
+    → (q : (xs : Spans) × (spans T l.last l.partitions ≡ found xs) × (found (record { spans = xs; takes_tail = l.takes_tail }) ≡ found ss)) → q.0 ≡ ss.spans
+space_spans T l ss q = ap (λ z. z.spans) (found_same (record { spans = q.0; takes_tail = l.takes_tail }) ss q.2)
 
 space_within : (profile : Profile) (T : Blocks) (last : ℕ) (l : Layout) (ss : Space) → layout_by profile T last ≡ found l → space T l ≡ found ss → (r b n : ℕ) → place ss r b ≡ Some n → n ≤ last
 unfolding space
 space_within profile T last l ss h e = let bounds : IsBounded last l = layout_is_bounded_by profile T last l h in
-    any_within last ss (spans_within T last l.partitions ss bounds.of_each (ap (λ x. spans T x l.partitions) (sym bounds.is_last) ∙ e))
+    let q : (xs : Spans) × (spans T l.last l.partitions ≡ found xs) × (found (record { spans = xs; takes_tail = l.takes_tail }) ≡ found ss) = space_found T l ss e in
+    any_within last ss (subst (λ xs. (s : Span) → Includes xs s → IsWithin last s) (space_spans T l ss q)
+    (spans_within T last l.partitions q.0 bounds.of_each (ap (λ x. spans T x l.partitions) (sym bounds.is_last) ∙ q.1)))
 
 pub places_up_to : (T : Blocks) (l : Layout) (ss : Space) → IsBounded l.last l → space T l ≡ found ss → (r b n : ℕ) → place ss r b ≡ Some n → n ≤ l.last
 unfolding space
-places_up_to T l ss bounds e = any_within l.last ss (spans_within T l.last l.partitions ss bounds.of_each e)
+places_up_to T l ss bounds e = let q : (xs : Spans) × (spans T l.last l.partitions ≡ found xs) × (found (record { spans = xs; takes_tail = l.takes_tail }) ≡ found ss) = space_found T l ss e in
+    any_within l.last ss (subst (λ xs. (s : Span) → Includes xs s → IsWithin l.last s) (space_spans T l ss q) (spans_within T l.last l.partitions q.0 bounds.of_each q.1))
 
 pub place_law : (profile : Profile) → PlaceLawBy profile
 place_law profile M V N l s hv hl hs a = record {
   partitions = refl;
   places = λ r b. refl;
+  tail = refl;
   complete = λ r b n e. (V n, complete-known V N n (space_within profile (complete V N) N l s hl hs r b n e));
   agrees = λ r b n bytes e k. complete-known V N n (space_within profile (complete V N) N l s hl hs r b n e) ∙ sym (known_is M V N a n bytes k) ∙ k;
 }

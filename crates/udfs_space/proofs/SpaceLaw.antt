@@ -19,8 +19,9 @@ use Rattle.udfs_lattice.proofs.PublicLaws.{ascending_includes, complete_agrees}
 use Rattle.udfs_volume.specs.declared.profiles.Profile.{Profile}
 use Rattle.udfs_volume.proofs.PublicLaws.{layout_is_bounded_by}
 use Rattle.udfs_space.proofs.Facts.{and_then-found, complete-known, found_same, known_is, true_false, unless_fault-found, Includes-from_filter, Includes-map}
-use Rattle.udfs_space.specs.Sparing.{Span, Space, Spared, copies, unread, piece, place_of, sparing_table_bytes, spared_by, spared_from, spared_in, sparing_fault, spared_unless, spared, span_of, span, spans, space}
+use Rattle.udfs_space.specs.Sparing.{Span, Spans, Spared, copies, unread, piece, place_of, sparing_table_bytes, spared_by, spared_from, spared_in, sparing_fault, spared_unless, spared, span_of, span, spans, space}
 use Rattle.udfs_space.specs.Standard.{table_at, first_table}
+use Rattle.udfs_space.proofs.PlaceLaw.{space_found}
 use Rattle.udfs_space.specs.Laws.{StandardSpace, AreTheSameTables, SparingAgrees, IsTableGroup, IsSparingGroup, SpaceLawBy}
 use Rattle.udfs_space.proofs.JoinedBlocks.{joined, joined_is, from_place, AreFull, Same, same_joined, same_behind, same_mixed}
 
@@ -293,7 +294,7 @@ lists_more M G H listed f x = record { group = x.group; is_group = f x.group x.i
     go n (inl w) = inl (w.0, f w.0 w.1, w.2, w.3)
     go n (inr w) = absurd w.0
 
-spans_law : (M : Blocks) (V : Volume) (N last : ℕ) (ps : List Partition) (ss : Space) → IsVolume V N
+spans_law : (M : Blocks) (V : Volume) (N last : ℕ) (ps : List Partition) (ss : Spans) → IsVolume V N
     → ((p : Partition) → Includes ps p → IsBoundedMap N p.kind) → ((p : Partition) → Includes ps p → SparingAgrees V p.kind) → Agrees M V N
     → spans (complete V N) last ps ≡ found ss → IsAnswerOf M [] [] (IsSparingGroup ps) (spans M last ps) (spans (complete V N) last ps)
 spans_law M V N last [] ss hv b same a e = the_same refl (λ g h. absurd h.1)
@@ -306,13 +307,13 @@ spans_law M V N last (p ∷ ps) ss hv b same a e = go (map_law M V N last p.kind
     G : List ℕ → Type 0
     G = IsSparingGroup (p ∷ ps)
 
-    later : Blocks → Span → Answer Space
+    later : Blocks → Span → Answer Spans
     later T s = and_then (spans T last ps) (λ xs. found (s ∷ xs))
 
     first_found : (s : Span) × (span C last p ≡ found s) × (later C s ≡ found ss)
     first_found = and_then-found (span C last p) (later C) ss e
 
-    later_found : (xs : Space) × (spans C last ps ≡ found xs) × (found (first_found.0 ∷ xs) ≡ found ss)
+    later_found : (xs : Spans) × (spans C last ps ≡ found xs) × (found (first_found.0 ∷ xs) ≡ found ss)
     later_found = and_then-found (spans C last ps) (λ xs. found (first_found.0 ∷ xs)) ss first_found.2
 
     s : Span
@@ -337,10 +338,18 @@ spans_law M V N last (p ∷ ps) ss hv b same a e = go (map_law M V N last p.kind
     go (unread_answer listed q x) rest = unread_answer listed (by_first M (holes listed) q)
         (lists_more M (IsTableGroup p.kind) G listed (λ g h. (p, inl refl, h)) x)
 
+-- what is made of both answers
+answer_then : {A B : Type 0} (M : Blocks) (G : List ℕ → Type 0) (some all : Answer A) (f : A → Answer B) → IsAnswerOf M [] [] G some all
+    → IsAnswerOf M [] [] G (and_then some f) (and_then all f)
+answer_then M G some all f (the_same e h) = the_same (ap (λ x. and_then x f) e) h
+answer_then M G some all f (unread_answer listed e x) = unread_answer listed (ap (λ x. and_then x f) e) x
+
 pub space_law : (profile : Profile) → SpaceLawBy profile
 unfolding space
 space_law profile M V N l hv h lawful a = let bounds : IsBounded N l = layout_is_bounded_by profile (complete V N) N l h in
-    spans_law M V N l.last l.partitions lawful.placed.0 hv (λ p i. (bounds.of_each p i).bounded_map) lawful.tables a lawful.placed.1
+    let q : (xs : Spans) × (spans (complete V N) l.last l.partitions ≡ found xs) × (found (record { spans = xs; takes_tail = l.takes_tail }) ≡ found lawful.placed.0) = space_found (complete V N) l lawful.placed.0 lawful.placed.1 in
+    answer_then M (IsSparingGroup l.partitions) (spans M l.last l.partitions) (spans (complete V N) l.last l.partitions) (λ ss. found (record { spans = ss; takes_tail = l.takes_tail }))
+    (spans_law M V N l.last l.partitions q.0 hv (λ p i. (bounds.of_each p i).bounded_map) lawful.tables a q.1)
 
 -- with all known, the packets are those of the first table
 first_is : (V : Volume) (N last : ℕ) (m : PartitionMap) (sp : Spared) → IsVolume V N → IsBoundedMap N m → SparingAgrees V m → spared (complete V N) last m ≡ found sp → first_table V m ≡ sp
@@ -353,14 +362,14 @@ first_is V N last (sparable packet size (place ∷ places)) sp hv b same e = (un
     content : Bytes
     content = drop 16 (table_at V size place)
 
-spans_are : (V : Volume) (N last : ℕ) (ps : List Partition) (ss : Space) → IsVolume V N
+spans_are : (V : Volume) (N last : ℕ) (ps : List Partition) (ss : Spans) → IsVolume V N
     → ((p : Partition) → Includes ps p → IsBoundedMap N p.kind) → ((p : Partition) → Includes ps p → SparingAgrees V p.kind)
     → spans (complete V N) last ps ≡ found ss → map (λ p. span_of p (first_table V p.kind)) ps ≡ ss
 spans_are V N last [] ss hv b same e = found_same [] ss e
 spans_are V N last (p ∷ ps) ss hv b same e =
     let f : (s : Span) × (span C last p ≡ found s) × (and_then (spans C last ps) (λ xs. found (s ∷ xs)) ≡ found ss) = and_then-found (span C last p) (λ s. and_then (spans C last ps) (λ xs. found (s ∷ xs))) ss e in
     let g : (sp : Spared) × (spared C last p.kind ≡ found sp) × (found (span_of p sp) ≡ found f.0) = and_then-found (spared C last p.kind) (λ sp. found (span_of p sp)) f.0 f.1 in
-    let h : (xs : Space) × (spans C last ps ≡ found xs) × (found (f.0 ∷ xs) ≡ found ss) = and_then-found (spans C last ps) (λ xs. found (f.0 ∷ xs)) ss f.2 in
+    let h : (xs : Spans) × (spans C last ps ≡ found xs) × (found (f.0 ∷ xs) ≡ found ss) = and_then-found (spans C last ps) (λ xs. found (f.0 ∷ xs)) ss f.2 in
     let head : span_of p (first_table V p.kind) ≡ f.0 = ap (span_of p) (first_is V N last p.kind g.0 hv (b p (inl refl)) (same p (inl refl)) g.1) ∙ found_same (span_of p g.0) f.0 g.2 in
     let tail : map (λ p. span_of p (first_table V p.kind)) ps ≡ h.0 = spans_are V N last ps h.0 hv (λ x i. b x (inr i)) (λ x i. same x (inr i)) h.1 in
     (λ i. head i ∷ tail i) ∙ found_same (f.0 ∷ h.0) ss h.2
@@ -371,4 +380,6 @@ spans_are V N last (p ∷ ps) ss hv b same e =
 pub standard_space_law : StandardSpace
 unfolding space
 standard_space_law profile V N l hv h lawful = let bounds : IsBounded N l = layout_is_bounded_by profile (complete V N) N l h in
-    lawful.placed.1 ∙ ap found (sym (spans_are V N l.last l.partitions lawful.placed.0 hv (λ p i. (bounds.of_each p i).bounded_map) lawful.tables lawful.placed.1))
+    let q : (xs : Spans) × (spans (complete V N) l.last l.partitions ≡ found xs) × (found (record { spans = xs; takes_tail = l.takes_tail }) ≡ found lawful.placed.0) = space_found (complete V N) l lawful.placed.0 lawful.placed.1 in
+    let is : map (λ p. span_of p (first_table V p.kind)) l.partitions ≡ q.0 = spans_are V N l.last l.partitions q.0 hv (λ p i. (bounds.of_each p i).bounded_map) lawful.tables q.1 in
+    lawful.placed.1 ∙ sym q.2 ∙ (λ i. found (record { spans = sym is i; takes_tail = l.takes_tail }))

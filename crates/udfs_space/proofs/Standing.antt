@@ -156,19 +156,19 @@ within s b n h e = go (stands s b n h e)
 
 -- ---- all partitions
 abbrev pub SoundAt : Space → ℕ → Type 0
-SoundAt space r = (s : Span) → slice_get space r ≡ Some s → IsSound s
+SoundAt space r = (s : Span) → slice_get space.spans r ≡ Some s → IsSound s
 
 pub stands_in : (space : Space) (r b : ℕ) (p : Option ℕ) → p ≡ place space r b → SoundAt space r → (n : ℕ) → ((p ≡ Some n) ↔ StandsIn space r b n)
 unfolding place
-stands_in space r b p e h n = (λ q. there (slice_get space r) refl (sym e ∙ q), λ w. e ∙ ap (λ o. place_by o b) w.1 ∙ stood w.0 b n (h w.0 w.1) w.2)
+stands_in space r b p e h n = (λ q. there (slice_get space.spans r) refl (sym e ∙ q), λ w. e ∙ ap (λ o. place_by o b) w.1 ∙ stood w.0 b n (h w.0 w.1) w.2)
   where
-    there : (o : Option Span) → slice_get space r ≡ o → place_by (slice_get space r) b ≡ Some n → StandsIn space r b n
+    there : (o : Option Span) → slice_get space.spans r ≡ o → place_by (slice_get space.spans r) b ≡ Some n → StandsIn space r b n
     there None q f = absurd (let z : None ≡ Some n = sym (ap (λ o. place_by o b) q) ∙ f in let y : ⊥ = cc in y)
     there (Some s) q f = (s, q, stands s b n (h s q) (sym (ap (λ o. place_by o b) q) ∙ f))
 
 pub absent : (space : Space) (r b : ℕ) → length_of space r ≤ b → place space r b ≡ None
 unfolding place
-absent space r b l = go (slice_get space r) l
+absent space r b l = go (slice_get space.spans r) l
   where
     not_lt : (a b : ℕ) → b ≤ a → nat_lt a b ≡ false
     not_lt a b h = grind arith
@@ -179,7 +179,7 @@ absent space r b l = go (slice_get space r) l
 
 pub present : (space : Space) (r b : ℕ) → b < length_of space r → (n : ℕ) × (place space r b ≡ Some n)
 unfolding place
-present space r b l = go (slice_get space r) l
+present space r b l = go (slice_get space.spans r) l
   where
     go : (o : Option Span) → b < span_size o → (n : ℕ) × (place_by o b ≡ Some n)
     go None l = absurd (let z : ⊥ = omega (arith, l) in z)
@@ -200,9 +200,9 @@ exists space r b p e = (λ i. go (le_or_lt (length_of space r) b) i, λ l. let q
 
 pub fits : (space : Space) (r b : ℕ) (p : Option ℕ) → p ≡ place space r b → SoundAt space r → IfSome p (λ n. n ≤ 4194303)
 unfolding place
-fits space r b p e h = subst (λ o. IfSome o (λ n. n ≤ 4194303)) (sym e) (go (slice_get space r) refl (place_by (slice_get space r) b) refl)
+fits space r b p e h = subst (λ o. IfSome o (λ n. n ≤ 4194303)) (sym e) (go (slice_get space.spans r) refl (place_by (slice_get space.spans r) b) refl)
   where
-    go : (o : Option Span) → slice_get space r ≡ o → (q : Option ℕ) → place_by (slice_get space r) b ≡ q → IfSome q (λ n. n ≤ 4194303)
+    go : (o : Option Span) → slice_get space.spans r ≡ o → (q : Option ℕ) → place_by (slice_get space.spans r) b ≡ q → IfSome q (λ n. n ≤ 4194303)
     go o i None f = tt
     go None i (Some n) f = absurd (let z : None ≡ Some n = sym (ap (λ o. place_by o b) i) ∙ f in let y : ⊥ = cc in y)
     go (Some s) i (Some n) f = within s b n (h s i) (sym (ap (λ o. place_by o b) i) ∙ f)
@@ -215,5 +215,5 @@ pub old_place_law : OldPlaceLaw
 unfolding place
 old_place_law space blocks other r b s e g h l w q =
     let n : ℕ = e.mapped + (b - e.original) in
-    let p : place_by (slice_get space r) b ≡ Some n = ap (λ o. place_by o b) g ∙ stood s b n h (l, inl (e, w, refl)) in
+    let p : place_by (slice_get space.spans r) b ≡ Some n = ap (λ o. place_by o b) g ∙ stood s b n h (l, inl (e, w, refl)) in
     ap (option_map (λ k. (k, blocks k))) p ∙ ap (λ x. Some (n, x)) q ∙ sym (ap (option_map (λ k. (k, other k))) p)

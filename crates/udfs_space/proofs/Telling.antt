@@ -89,7 +89,7 @@ spans_rise T last (p ∷ ps) = then_rises (span T last p) (λ s. and_then (spans
 
 space_rises : (T : Blocks) (l : Layout) → Rises (space T l)
 unfolding space
-space_rises T l = spans_rise T l.last l.partitions
+space_rises T l = then_rises (spans T l.last l.partitions) (λ ss. found (record { spans = ss; takes_tail = l.takes_tail })) (spans_rise T l.last l.partitions) (λ ss. tt)
 
 got_up_to : (T : Blocks) (l : Layout) (seen : Seen code_space.Space) → IsBounded l.last l → Sees (λ s. s) seen (space T l) → IfGot seen (ArePlacesUpTo l.last)
 got_up_to T l (Got got) bounds s = places_up_to T l got bounds s

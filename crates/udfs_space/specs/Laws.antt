@@ -80,14 +80,14 @@ PlacingLaw = (span : Span) (b n : ℕ) → IsSound span → ((place_in span b �
 -- tell the same, whatever they say of the old place
 abbrev pub OldPlaceLaw : Type 0
 OldPlaceLaw = (space : Space) (blocks other : Blocks) (reference b : ℕ) (span : Span) (e : SparingEntry)
-    → slice_get space reference ≡ Some span → IsSound span → b < span.size → IsSparedBy span b e
+    → slice_get space.spans reference ≡ Some span → IsSound span → b < span.size → IsSparedBy span b e
     → blocks (e.mapped + (b - e.original)) ≡ other (e.mapped + (b - e.original))
     → block_at (view blocks space) reference b ≡ block_at (view other space) reference b
 
 -- the partitions of a layout that is found are sound, whichever copies of a table are known
 abbrev pub SoundSpace : Type 0
 SoundSpace = (profile : Profile) (blocks : Blocks) (last : ℕ) (l : Layout) (s : Space) → last ≤ 4194303 → layout_by profile blocks last ≡ found l → space blocks l ≡ found s
-    → (reference : ℕ) (span : Span) → slice_get s reference ≡ Some span → IsSound span
+    → (reference : ℕ) (span : Span) → slice_get s.spans reference ≡ Some span → IsSound span
 
 -- the blocks of a volume's partitions by their places, each with its bytes
 abbrev pub blocks_by : Volume → Space → ℕ → ℕ → Option Bytes

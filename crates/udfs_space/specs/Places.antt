@@ -37,7 +37,7 @@ place_by (Some span) b = place_in span b
 
 -- A logical address is a partition reference and a logical block.
 unfoldable pub place : Space → ℕ → ℕ → Option ℕ
-place space reference b = place_by (slice_get space reference) b
+place space reference b = place_by (slice_get space.spans reference) b
 
 -- the block lies in the packet of the entry
 abbrev pub IsSparedBy : Span → ℕ → SparingEntry → Type 0
@@ -51,7 +51,7 @@ StandsAt span b n = (b < span.size)
 
 -- the same in the partition of a reference
 abbrev pub StandsIn : Space → ℕ → ℕ → ℕ → Type 0
-StandsIn space reference b n = (span : Span) × (slice_get space reference ≡ Some span) × StandsAt span b n
+StandsIn space reference b n = (span : Span) × (slice_get space.spans reference ≡ Some span) × StandsAt span b n
 
 -- how many blocks a partition has, if it is there
 abbrev pub span_size : Option Span → ℕ
@@ -60,7 +60,7 @@ span_size (Some span) = span.size
 
 -- the number of logical blocks of a partition, and 0 where there is no such partition
 abbrev pub length_of : Space → ℕ → ℕ
-length_of space reference = span_size (slice_get space reference)
+length_of space reference = span_size (slice_get space.spans reference)
 
 -- A volume as the layers above see it.
 pub record View : Type 0 where
@@ -68,10 +68,12 @@ pub record View : Type 0 where
   pub partitions : ℕ
   pub place : ℕ → ℕ → Option ℕ
   pub blocks : Blocks
+  -- whether the last extent of a body may end inside a block that goes on
+  pub takes_tail : Bool
 
 -- what is known of logical blocks, by what is known of the volume's blocks and where they are placed
 abbrev pub view : Blocks → Space → View
-view blocks space = record { partitions = length space; place = place space; blocks = blocks }
+view blocks space = record { partitions = length space.spans; place = place space; blocks = blocks; takes_tail = space.takes_tail }
 
 -- the block at a logical address, and its state
 abbrev pub block_at : View → ℕ → ℕ → Option (ℕ × State)
@@ -86,6 +88,7 @@ is_past places r b count = list_any (λ j. is_none (places r (b + j))) (range_wi
 pub record IsPartOf (some all : View) : Type 0 where
   pub partitions : some.partitions ≡ all.partitions
   pub places : (r b : ℕ) → some.place r b ≡ all.place r b
+  pub tail : some.takes_tail ≡ all.takes_tail
   pub complete : (r b n : ℕ) → all.place r b ≡ Some n → (bytes : Bytes) × (all.blocks n ≡ Known bytes)
   pub agrees : (r b n : ℕ) (bytes : Bytes) → all.place r b ≡ Some n → some.blocks n ≡ Known bytes → all.blocks n ≡ Known bytes
 

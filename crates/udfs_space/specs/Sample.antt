@@ -1,11 +1,11 @@
 -- The places of the sample volumes of udfs_volume: with one partition of type 1, one sparable partition, and both.
 --     sample_space     them; in a sparable partition the first packet is spared
 --     SampleSpace      whatever stands in the partitions, they are those of that layout, and lawful
-use Rattle.std.specs.Prelude.{◌≡◌, ℕ, [], ◌∷◌}
+use Rattle.std.specs.Prelude.{◌≡◌, ℕ, false, [], ◌∷◌}
 use Rattle.udfs_volume.specs.Answers.{found}
 use Rattle.udfs_volume.specs.Sample.{Maps, one_type1, one_sparable, type1_and_sparable, sample, sample_blocks, sample_layout}
 use Rattle.udfs_volume.specs.Sequence.{Bytes}
-use Rattle.udfs_space.specs.Sparing.{Space, Spared, space}
+use Rattle.udfs_space.specs.Sparing.{Space, Spans, Spared, space}
 use Rattle.udfs_space.specs.Laws.{IsLawfulSparing}
 
 -- the packet at logical block 0 stands at block 96
@@ -13,11 +13,15 @@ abbrev pub first_spared : Spared
 first_spared = record { original = 0; mapped = 96 } ∷ []
 
 -- 300 blocks from block 272 on, or 128 from block 128 on
-abbrev pub sample_space : Maps → Space
-sample_space one_type1 = record { start = 272; size = 300; packet = 1; spared = [] } ∷ []
-sample_space one_sparable = record { start = 272; size = 300; packet = 32; spared = first_spared } ∷ []
-sample_space type1_and_sparable = record { start = 272; size = 300; packet = 1; spared = [] }
+abbrev pub sample_spans : Maps → Spans
+sample_spans one_type1 = record { start = 272; size = 300; packet = 1; spared = [] } ∷ []
+sample_spans one_sparable = record { start = 272; size = 300; packet = 32; spared = first_spared } ∷ []
+sample_spans type1_and_sparable = record { start = 272; size = 300; packet = 1; spared = [] }
     ∷ record { start = 128; size = 128; packet = 32; spared = first_spared } ∷ []
+
+-- these places, by the strict rules
+abbrev pub sample_space : Maps → Space
+sample_space maps = record { spans = sample_spans maps; takes_tail = false }
 
 -- whatever stands in its partitions, each sample volume has the sample's places, and lawful ones
 abbrev pub SampleSpace : Type 0

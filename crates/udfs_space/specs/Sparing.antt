@@ -27,8 +27,13 @@ pub record Span : Type 0 where
   pub spared : Spared
 
 -- the partitions in the order of their maps
-abbrev pub Space : Type 0
-Space = List Span
+abbrev pub Spans : Type 0
+Spans = List Span
+
+-- Where the logical blocks of each partition stand, and whether the last extent of a file may end inside a block.
+pub record Space : Type 0 where
+  pub spans : Spans
+  pub takes_tail : Bool
 
 -- the blocks that hold block k of the table, in map order
 abbrev pub copies : List ℕ → ℕ → List ℕ
@@ -144,10 +149,10 @@ abbrev pub span : Blocks → ℕ → Partition → Answer Span
 span blocks last p = and_then (spared blocks last p.kind) (λ s. found (span_of p s))
 
 -- the places of all partitions' blocks, or what the first of them lacks
-abbrev pub spans : Blocks → ℕ → List Partition → Answer Space
+abbrev pub spans : Blocks → ℕ → List Partition → Answer Spans
 spans blocks last [] = found []
 spans blocks last (p ∷ ps) = and_then (span blocks last p) (λ s. and_then (spans blocks last ps) (λ ss. found (s ∷ ss)))
 
 -- one map at most is sparable, so there is no order among faults or holes of several tables
 unfoldable pub space : Blocks → Layout → Answer Space
-space blocks layout = spans blocks layout.last layout.partitions
+space blocks layout = and_then (spans blocks layout.last layout.partitions) (λ ss. found (record { spans = ss; takes_tail = layout.takes_tail }))

@@ -24,6 +24,7 @@ use udfs_volume::{Partition, Seen, VolumeParts};
 #[derive(Debug, Drop)]
 pub struct Space {
     spans: Vec<Span>,
+    takes_tail: bool,
 }
 
 impl Model for Space {
@@ -32,7 +33,7 @@ impl Model for Space {
 
     ghost Value = { sparing.Space };
 
-    ghost view = { λ s. s.spans.items };
+    ghost view = { λ s. record { spans = s.spans.items; takes_tail = s.takes_tail } };
 
     ghost invariant = { λ s. (1 ≤ length s.spans.items) × (length s.spans.items ≤ 2) };
 }
@@ -86,7 +87,10 @@ impl Space {
         ensures within { IfGot result (ArePlacesUpTo parts.now.last) }
     {
         match spans(alloc, table, parts.last, &parts.partitions) {
-            Ok(Seen::Got(spans)) => Seen::Got(Space { spans }),
+            Ok(Seen::Got(spans)) => Seen::Got(Space {
+                spans,
+                takes_tail: parts.takes_tail,
+            }),
             Ok(Seen::Holes(listed)) => Seen::Holes(listed),
             Ok(Seen::Fault(fault)) => Seen::Fault(fault),
             _ => Seen::OutOfMemory,
@@ -95,17 +99,25 @@ impl Space {
 
     /// The number of partitions, 1 or 2: a partition reference is less. It takes no memory.
     pub fn maps(&self) -> u16
-        ensures value { result ≡ length self.now }
+        ensures value { result ≡ length self.now.spans }
         ensures one { 1 ≤ result }
         ensures two { result ≤ 2 }
     {
         self.spans.len() as u16
     }
 
+    /// Whether the last extent of a file may end inside a block, short of the file's length, while the rest of that
+    /// block is the file's too: by the strict rules it may not. It takes no memory.
+    pub fn takes_tail(&self) -> bool
+        ensures { result ≡ self.now.takes_tail }
+    {
+        self.takes_tail
+    }
+
     /// The number of logical blocks of a partition, and 0 where there is no such partition.
     fn size(&self, reference: u16) -> u32
         ensures value { result ≡ length_of self.now reference }
-        ensures not_empty { reference < length self.now → 0 < result }
+        ensures not_empty { reference < length self.now.spans → 0 < result }
         ensures fits { result ≤ 4194304 }
     {
         match self.spans.get(usize::from(reference)) {
@@ -117,7 +129,7 @@ impl Space {
     /// The block that holds a logical block.
     fn find(&self, reference: u16, block: u32) -> Option<u32>
         ensures value { result ≡ place self.now reference block }
-        ensures sound { (s : Span) → slice_get self.now reference ≡ Some s → IsSound s }
+        ensures sound { (s : Span) → slice_get self.now.spans reference ≡ Some s → IsSound s }
     {
         match self.spans.get(usize::from(reference)) {
             Some(span) => span.place(block),
@@ -127,7 +139,7 @@ impl Space {
 
     /// The number of logical blocks of a partition (ECMA-167 3/10.5.9), which is not 0. It takes no memory.
     pub fn length(&self, reference: u16) -> u32
-        requires { reference < length self.now }
+        requires { reference < length self.now.spans }
         ensures value { result ≡ length_of self.now reference }
         ensures not_empty { 0 < result }
         ensures fits { result ≤ 4194304 }
@@ -164,7 +176,7 @@ impl Space {
         reference: u16,
         block: u32,
     ) -> Fact<&'a [u8; 2048]>
-        requires reference { reference < length self.now }
+        requires reference { reference < length self.now.spans }
         requires block { block < length_of self.now reference }
         ensures { option_map (state_of table.now) (place self.now reference block) ≡ Some (fact_now result) }
     {

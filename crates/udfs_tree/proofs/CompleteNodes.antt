@@ -26,7 +26,8 @@ part_of_itself : (all : View) (blocks : PartitionBlocks) → IsComplete all bloc
 part_of_itself all blocks c = record {
   partitions = refl;
   places = λ r b. refl;
-  complete = λ r b n p. let t : (bytes : Bytes) × (all.blocks n ≡ Known bytes) × (blocks r b ≡ Some bytes) × (length bytes ≡ 2048) = c.there r b n p in (t.0, t.1);
+  tail = refl;
+  complete = λ r b n p. let t : (bytes : Bytes) × (all.blocks n ≡ Known bytes) × (blocks.at r b ≡ Some bytes) × (length bytes ≡ 2048) = c.there r b n p in (t.0, t.1);
   agrees = λ r b n bytes p k. k;
 }
 

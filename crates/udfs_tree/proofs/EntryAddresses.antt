@@ -37,7 +37,7 @@ recorded v a e = recorded_by (a.kind == 0) (a.length == 0) (nat_le v.partitions 
 pub record TargetIs (blocks : PartitionBlocks) (a : LongAd) (e : EntryFields) : Type 0 where
   pub good : IsRecorded a
   pub bytes : Bytes
-  pub block : blocks a.reference a.block ≡ Some bytes
+  pub block : blocks.at a.reference a.block ≡ Some bytes
   pub sound : entry_fault bytes a.block ≡ None
   pub fields : entry_of bytes ≡ e
 
@@ -48,12 +48,12 @@ target_is all blocks w a e t = go (address_fault all a) refl (all.place a.refere
     at : Option ℕ → Option (ℕ × State)
     at o = option_map (λ n. (n, all.blocks n)) o
 
-    sound : IsRecorded a → (bytes : Bytes) → blocks a.reference a.block ≡ Some bytes → (f : Option NodeFault) → entry_fault bytes a.block ≡ f → entry_unless f (entry_of bytes) ≡ entry e → TargetIs blocks a e
+    sound : IsRecorded a → (bytes : Bytes) → blocks.at a.reference a.block ≡ Some bytes → (f : Option NodeFault) → entry_fault bytes a.block ≡ f → entry_unless f (entry_of bytes) ≡ entry e → TargetIs blocks a e
     sound g bytes k None q s = record { good = g; bytes = bytes; block = k; sound = q; fields = cc }
     sound g bytes k (Some f) q s = absurd (let x : ⊥ = cc in x)
 
     go : (f : Option NodeFault) → address_fault all a ≡ f → (o : Option ℕ) → all.place a.reference a.block ≡ o → target_at f a.block (at o) ≡ entry e → TargetIs blocks a e
     go (Some f) g o p s = absurd (let x : ⊥ = cc in x)
     go None g None p s = absurd (let x : ⊥ = cc in x)
-    go None g (Some n) p s = let t : (bytes : Bytes) × (all.blocks n ≡ Known bytes) × (blocks a.reference a.block ≡ Some bytes) × (length bytes ≡ 2048) = w.there a.reference a.block n p in
+    go None g (Some n) p s = let t : (bytes : Bytes) × (all.blocks n ≡ Known bytes) × (blocks.at a.reference a.block ≡ Some bytes) × (length bytes ≡ 2048) = w.there a.reference a.block n p in
         sound (recorded all a g) t.0 t.2 (entry_fault t.0 a.block) refl (sym (ap (target_in a.block n) t.1) ∙ s)

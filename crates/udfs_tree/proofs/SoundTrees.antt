@@ -59,7 +59,7 @@ target_back all blocks w has a file x = go (all.place a.reference a.block) refl
     go (Some n) e = (λ i. target_at (clear i) a.block (option_map (λ n. (n, all.blocks n)) (e i))) ∙ ap (target_in a.block n) known
         ∙ ap (λ f. entry_unless f (entry_of x.bytes)) x.sound ∙ ap entry (sym x.fields)
       where
-        t : (bytes : Bytes) × (all.blocks n ≡ Known bytes) × (blocks a.reference a.block ≡ Some bytes) × (length bytes ≡ 2048)
+        t : (bytes : Bytes) × (all.blocks n ≡ Known bytes) × (blocks.at a.reference a.block ≡ Some bytes) × (length bytes ≡ 2048)
         t = w.there a.reference a.block n e
 
         known : all.blocks n ≡ Known x.bytes

@@ -2,13 +2,11 @@
 --     HasCellsAt view root i cells     the cells of the body at the end of route i in their order
 --     IsToldAs n file                  the node is told as the tree has it
 --     IsTornAs n file cells            so it is, and each byte outside its holes is there
-use Rattle.std.specs.Prelude.{◌≡◌, ◌≢◌, ◌↔◌, ⊤, ℕ, ◌+◌, ◌<◌, ◌≤◌, List, [], Some, None, slice_get}
+use Rattle.std.specs.Prelude.{◌≡◌, ◌≢◌, ◌↔◌, ⊤, ℕ, ◌+◌, ◌<◌, ◌≤◌, List, Some, None, slice_get}
 use Rattle.std.specs.List.{AllZip}
 use Rattle.udfs_lattice.specs.Volumes.{Includes}
 use Rattle.udfs_tag.specs.declared.layouts.LongAd.{LongAd}
 use Rattle.udfs_space.specs.Places.{View}
-use Rattle.udfs_file.specs.Entries.{EntryFields}
-use Rattle.udfs_file.specs.Bodies.{cells, body}
 use Rattle.udfs_file.specs.Laws.{IsMissingAt}
 use Rattle.udfs_file.specs.Standard.{Located}
 use Rattle.udfs_file.specs.declared.cells.Cell.{Cell}
@@ -19,9 +17,7 @@ use Rattle.udfs_walk.specs.NodeBodies.{HasCells}
 use Rattle.udfs_walk.specs.NodeFields.{NodeFields}
 use Rattle.udfs_walk.specs.Rereads.{holes_of}
 use Rattle.udfs_walk.specs.Routes.{Walked, IsWalk}
-use Rattle.udfs_walk.specs.Targets.{entry, target}
-use Rattle.udfs_walk.specs.declared.standings.Standing.{Standing}
-use Rattle.udfs_walk.specs.declared.standings.Standing.TheVariants.{Whole, Torn, Loop, Fault}
+use Rattle.udfs_walk.specs.declared.standings.Standing.TheVariants.{Whole, Loop, Fault}
 use Rattle.udfs_tree.specs.Trees.{TreeFile}
 
 -- the cells of the node at this place in the list of all nodes

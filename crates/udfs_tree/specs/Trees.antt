@@ -4,20 +4,21 @@
 --     IsDirectoryAt blocks a ids        the descriptors of the directory at an address
 --     Leads blocks a path b             a path of names leads from one address to another
 --     InTree blocks root path file      the tree: each path with its file
-use Rattle.std.specs.Prelude.{◌≡◌, ◌≢◌, ℕ, List, [], ◌∷◌, Option, Some, None}
+use Rattle.std.specs.Prelude.{◌≡◌, ◌≢◌, ℕ, List, [], ◌∷◌, Some, None}
 use Rattle.udfs_lattice.specs.Volumes.{Includes}
 use Rattle.udfs_tag.specs.declared.layouts.LongAd.{LongAd}
 use Rattle.udfs_volume.specs.Sequence.{Bytes}
 use Rattle.udfs_file.specs.Entries.{EntryFields, entry_fault, entry_of}
 use Rattle.udfs_file.specs.Fronts.{listed_entries}
+use Rattle.udfs_file.specs.Standard as standard
 use Rattle.udfs_file.specs.Standard.{Located, IsBodyOf, IsDirectoryBody}
 use Rattle.udfs_file.specs.declared.directories.DirEntry.{DirEntry}
 use Rattle.udfs_file.specs.Identifiers.{Identifier}
 use Rattle.udfs_file.specs.declared.faults.Kind.TheVariants.{Directory}
 
--- the blocks of the partitions, by partition reference and logical block
+-- the blocks of the partitions, by partition reference and logical block, and how a last extent is read
 abbrev pub PartitionBlocks : Type 0
-PartitionBlocks = ℕ → ℕ → Option Bytes
+PartitionBlocks = standard.PartitionBlocks
 
 -- a file or directory, as the standard reads it
 pub record TreeFile : Type 0 where
@@ -29,7 +30,7 @@ pub record IsFileAt (blocks : PartitionBlocks) (a : LongAd) (file : TreeFile) : 
   pub recorded : a.kind ≡ 0
   pub not_empty : a.length ≢ 0
   pub bytes : Bytes
-  pub block : blocks a.reference a.block ≡ Some bytes
+  pub block : blocks.at a.reference a.block ≡ Some bytes
   pub sound : entry_fault bytes a.block ≡ None
   pub fields : file.fields ≡ entry_of bytes
   pub body : IsBodyOf blocks a.reference a.block file.fields file.body

@@ -14,7 +14,7 @@ use Rattle.udfs_osta.specs.Labels.{label_of}
 use Rattle.udfs_volume.specs.Answers.{Answer, found, holes, faulty, and_then, unless_fault}
 use Rattle.udfs_volume.specs.declared.profiles.Profile.{Profile}
 use Rattle.udfs_volume.specs.declared.profiles.Profile.TheVariants.{Strict, Wide}
-use Rattle.udfs_volume.specs.Profiles.{accepts_packet, packet_lengths}
+use Rattle.udfs_volume.specs.Profiles.{accepts_packet, packet_lengths, takes_tail}
 use Rattle.udfs_volume.specs.declared.faults.VolumeFault.{VolumeFault}
 use Rattle.udfs_volume.specs.declared.faults.VolumeFault.TheVariants.{Domain, BlockSize, MapCount, MapKind, Contents, PartitionRange}
 use Rattle.udfs_volume.specs.Layout.{Layout, Partition, PartitionMap, type1, sparable, NumberedMap, Described, bp, blocks_in, is_type1, is_sparable, are_tables, table_places, read_map, map_size, before_maps, read_maps, repeats_kind, unless_repeated, map_count, the_maps, volume_fault, partition, before_described, has_revision, described, has_contents, partition_of, is_in_range, partitions_fault, laid_out, with_maps, with_volume, logical_volume, layout_of, layout_by}
@@ -211,10 +211,10 @@ ranges last [] h p i = absurd i
 ranges last (d ∷ ds) h p (inl e) = sym (ap (is_in_range last) e) ∙ (both (is_in_range last (partition_of d)) (list_all (λ p. is_in_range last (partition_of p)) ds) h).0
 ranges last (d ∷ ds) h p (inr i) = ranges last ds (both (is_in_range last (partition_of d)) (list_all (λ p. is_in_range last (partition_of p)) ds) h).1 p i
 
-laid_bounded : (last n : ℕ) (ds : List Descriptor) (lv : Descriptor) (ms : List NumberedMap) (l : Layout) → AreMaps last n ms → (n ≡ 1) ⊎ (n ≡ 2)
-    → repeats_kind (map (λ m. m.0) ms) ≡ false → (o : Option (List Described)) → described ds ms ≡ o → laid_out last lv o ≡ found l → IsBounded last l
-laid_bounded last n ds lv ms l a c r None d e = absurd (let z : ⊥ = cc in z)
-laid_bounded last n ds lv ms l a c r (Some ps) d e = subst (IsBounded last) q.1 (record {
+laid_bounded : (profile : Profile) (last n : ℕ) (ds : List Descriptor) (lv : Descriptor) (ms : List NumberedMap) (l : Layout) → AreMaps last n ms → (n ≡ 1) ⊎ (n ≡ 2)
+    → repeats_kind (map (λ m. m.0) ms) ≡ false → (o : Option (List Described)) → described ds ms ≡ o → laid_out profile last lv o ≡ found l → IsBounded last l
+laid_bounded profile last n ds lv ms l a c r None d e = absurd (let z : ⊥ = cc in z)
+laid_bounded profile last n ds lv ms l a c r (Some ps) d e = subst (IsBounded last) q.1 (record {
   is_last = refl;
   one = subst (λ x. 1 ≤ x) (sym len) (one_or_two n c).0;
   two = subst (λ x. x ≤ 2) (sym len) (one_or_two n c).1;
@@ -229,6 +229,7 @@ laid_bounded last n ds lv ms l a c r (Some ps) d e = subst (IsBounded last) q.1 
       label = label_of (part lv.content (bp 84) 128);
       partitions = map partition_of ps;
       file_set = long_ad_at lv.content (bp 248);
+      takes_tail = takes_tail profile;
     }
 
     q : (partitions_fault last ps ≡ None) × (it ≡ l)
@@ -254,7 +255,7 @@ maps_laid : (profile : Profile) (last : ℕ) (ds : List Descriptor) (lv : Descri
 maps_laid profile last ds lv l c None m e = absurd (let z : ⊥ = cc in z)
 maps_laid profile last ds lv l c (Some ms) m e = let table : Bytes = drop (bp 440) lv.content in let size : ℕ = uint32_at lv.content (bp 264) in
     let u : (read_maps profile last (map_count lv) size table ≡ Some ms) × (repeats_kind (map (λ m. m.0) ms) ≡ false) = unrepeated (read_maps profile last (map_count lv) size table) ms m in
-    laid_bounded last (map_count lv) ds lv ms l (maps_bounded profile last (map_count lv) size table ms u.0) c u.1 (described ds ms) refl e
+    laid_bounded profile last (map_count lv) ds lv ms l (maps_bounded profile last (map_count lv) size table ms u.0) c u.1 (described ds ms) refl e
 
 by_volume : (profile : Profile) (last : ℕ) (ds : List Descriptor) (o : Option Descriptor) (l : Layout) → with_volume profile last ds o ≡ found l → IsBounded last l
 by_volume profile last ds None l e = absurd (let z : ⊥ = cc in z)

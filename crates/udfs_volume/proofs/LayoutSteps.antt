@@ -7,6 +7,7 @@ use Rattle.udfs_tag.specs.Faults.{first_fault}
 use Rattle.udfs_tag.specs.Fields.{uint16_at, uint32_at, long_ad_at, part}
 use Rattle.udfs_osta.specs.Labels.{label_of}
 use Rattle.udfs_volume.specs.declared.profiles.Profile.{Profile}
+use Rattle.udfs_volume.specs.Profiles.{takes_tail}
 use Rattle.udfs_volume.specs.declared.faults.VolumeFault.{VolumeFault}
 use Rattle.udfs_volume.specs.declared.faults.VolumeFault.TheVariants.{Domain, BlockSize, MapCount, MapKind, NoLogicalVolume, Contents, PartitionRange}
 use Rattle.udfs_volume.specs.Answers.{found, holes, faulty, and_then, unless_fault}
@@ -14,20 +15,21 @@ use Rattle.udfs_volume.specs.Sequence.{Descriptor, sequence}
 use Rattle.udfs_volume.specs.Layout.{Layout, NumberedMap, Described, bp, has_domain, has_revision, map_count, the_maps, volume_fault, described, has_contents, partition_of, is_in_range, laid_out, with_maps, with_volume, logical_volume, layout_of, layout_by}
 use Rattle.udfs_volume.specs.LayoutParts.{field_tests}
 
-abbrev pub layout_by_parts : ℕ → Descriptor → List Described → Layout
-layout_by_parts last lv ps = record {
+abbrev pub layout_by_parts : Profile → ℕ → Descriptor → List Described → Layout
+layout_by_parts profile last lv ps = record {
   last = last;
   revision = uint16_at lv.content (bp 240);
   label = label_of (part lv.content (bp 84) 128);
   partitions = map partition_of ps;
   file_set = long_ad_at lv.content (bp 248);
+  takes_tail = takes_tail profile;
 }
 
-pub laid_out-range : (last : ℕ) (lv : Descriptor) (ps : List Described) → list_all has_contents ps ≡ true → list_all (λ p. is_in_range last (partition_of p)) ps ≡ false → laid_out last lv (Some ps) ≡ faulty PartitionRange
-laid_out-range last lv ps p q = λ i. unless_fault (cond (not (p i)) (Some Contents) (cond (not (q i)) (Some PartitionRange) None)) (layout_by_parts last lv ps)
+pub laid_out-range : (profile : Profile) (last : ℕ) (lv : Descriptor) (ps : List Described) → list_all has_contents ps ≡ true → list_all (λ p. is_in_range last (partition_of p)) ps ≡ false → laid_out profile last lv (Some ps) ≡ faulty PartitionRange
+laid_out-range profile last lv ps p q = λ i. unless_fault (cond (not (p i)) (Some Contents) (cond (not (q i)) (Some PartitionRange) None)) (layout_by_parts profile last lv ps)
 
-pub laid_out-found : (last : ℕ) (lv : Descriptor) (ps : List Described) → list_all has_contents ps ≡ true → list_all (λ p. is_in_range last (partition_of p)) ps ≡ true → laid_out last lv (Some ps) ≡ found (layout_by_parts last lv ps)
-laid_out-found last lv ps p q = λ i. unless_fault (cond (not (p i)) (Some Contents) (cond (not (q i)) (Some PartitionRange) None)) (layout_by_parts last lv ps)
+pub laid_out-found : (profile : Profile) (last : ℕ) (lv : Descriptor) (ps : List Described) → list_all has_contents ps ≡ true → list_all (λ p. is_in_range last (partition_of p)) ps ≡ true → laid_out profile last lv (Some ps) ≡ found (layout_by_parts profile last lv ps)
+laid_out-found profile last lv ps p q = λ i. unless_fault (cond (not (p i)) (Some Contents) (cond (not (q i)) (Some PartitionRange) None)) (layout_by_parts profile last lv ps)
 
 some_of : (a b c d : Bool) (f : VolumeFault) → cond a (Some Domain) (cond b (Some BlockSize) (cond c (Some MapCount) None)) ≡ Some f
     → cond a (Some Domain) (cond b (Some BlockSize) (cond c (Some MapCount) (cond d (Some MapKind) None))) ≡ Some f
@@ -67,7 +69,7 @@ layout_of-no_maps profile last ds lv e h m = sym (ap (with_volume profile last d
     ∙ with_lv profile last ds lv (Some MapKind) (fault-none profile last lv (sym h) ∙ ap (λ o. cond (is_none o) (Some MapKind) None) (sym m))
 
 pub layout_of-maps : (profile : Profile) (last : ℕ) (ds : List Descriptor) (lv : Descriptor) (ms : List NumberedMap) → Some lv ≡ logical_volume ds → None ≡ first_fault (field_tests profile lv) → Some ms ≡ the_maps profile last lv
-    → layout_of profile last ds ≡ laid_out last lv (described ds ms)
+    → layout_of profile last ds ≡ laid_out profile last lv (described ds ms)
 unfolding layout_of
 layout_of-maps profile last ds lv ms e h m = sym (ap (with_volume profile last ds) e)
     ∙ with_lv profile last ds lv None (fault-none profile last lv (sym h) ∙ ap (λ o. cond (is_none o) (Some MapKind) None) (sym m))

@@ -89,13 +89,13 @@ late_two true b l = refl
 late_two false true l = refl
 late_two false false l = tt
 
-late_laid_out : (N : ℕ) (lv : Descriptor) (o : Option (List Described)) → IsLate (laid_out N lv o)
-late_laid_out N lv None = refl
-late_laid_out N lv (Some ps) = late_two (not (list_all has_contents ps)) (not (list_all (λ p. is_in_range N (partition_of p)) ps)) _
+late_laid_out : (profile : Profile) (N : ℕ) (lv : Descriptor) (o : Option (List Described)) → IsLate (laid_out profile N lv o)
+late_laid_out profile N lv None = refl
+late_laid_out profile N lv (Some ps) = late_two (not (list_all has_contents ps)) (not (list_all (λ p. is_in_range N (partition_of p)) ps)) _
 
 late_maps : (profile : Profile) (N : ℕ) (ds : List Descriptor) (lv : Descriptor) (o : Option (List NumberedMap)) → IsLate (with_maps profile N ds lv o)
 late_maps profile N ds lv None = refl
-late_maps profile N ds lv (Some ms) = late_laid_out N lv (described ds ms)
+late_maps profile N ds lv (Some ms) = late_laid_out profile N lv (described ds ms)
 
 late_volume : (profile : Profile) (N : ℕ) (ds : List Descriptor) (o : Option Descriptor) → IsLate (with_volume profile N ds o)
 late_volume profile N ds None = refl

@@ -15,7 +15,7 @@ use Rattle.udfs_osta.specs.Labels.{label_of}
 use Rattle.udfs_volume.specs.Answers.{Answer, faulty, and_then, unless_fault}
 use Rattle.udfs_volume.specs.declared.profiles.Profile.{Profile}
 use Rattle.udfs_volume.specs.declared.profiles.Profile.TheVariants.{Strict}
-use Rattle.udfs_volume.specs.Profiles.{accepts_packet, accepts_revision}
+use Rattle.udfs_volume.specs.Profiles.{accepts_packet, accepts_revision, takes_tail}
 use Rattle.udfs_volume.specs.declared.faults.VolumeFault.{VolumeFault}
 use Rattle.udfs_volume.specs.declared.faults.VolumeFault.TheVariants.{NoLogicalVolume, Domain, BlockSize, MapCount, MapKind, NoPartition, Contents, PartitionRange}
 
@@ -66,6 +66,8 @@ pub record Layout : Type 0 where
   pub label : Label
   pub partitions : List Partition
   pub file_set : LongAd
+  -- whether the last extent of a file may end inside a block that goes on
+  pub takes_tail : Bool
 
 -- how many blocks so many bytes take
 abbrev pub blocks_in : ℕ → ℕ
@@ -202,20 +204,21 @@ partitions_fault last ps = first_fault (
     ∷ [])
 
 -- the layout of a logical volume whose partitions are described
-abbrev pub laid_out : ℕ → Descriptor → Option (List Described) → Answer Layout
-laid_out last lv None = faulty NoPartition
-laid_out last lv (Some ps) = unless_fault (partitions_fault last ps) (record {
+abbrev pub laid_out : Profile → ℕ → Descriptor → Option (List Described) → Answer Layout
+laid_out profile last lv None = faulty NoPartition
+laid_out profile last lv (Some ps) = unless_fault (partitions_fault last ps) (record {
   last = last;
   revision = uint16_at lv.content (bp 240);
   label = label_of (part lv.content (bp 84) 128);
   partitions = map partition_of ps;
   file_set = long_ad_at lv.content (bp 248);
+  takes_tail = takes_tail profile;
 })
 
 -- the layout by the maps of a logical volume
 abbrev pub with_maps : Profile → ℕ → List Descriptor → Descriptor → Option (List NumberedMap) → Answer Layout
 with_maps profile last ds lv None = faulty MapKind
-with_maps profile last ds lv (Some ms) = laid_out last lv (described ds ms)
+with_maps profile last ds lv (Some ms) = laid_out profile last lv (described ds ms)
 
 -- the layout by the prevailing logical volume descriptor
 abbrev pub with_volume : Profile → ℕ → List Descriptor → Option Descriptor → Answer Layout

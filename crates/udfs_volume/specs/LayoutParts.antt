@@ -25,6 +25,7 @@ parts_now v = record {
   label = v.label;
   partitions = map partition_now v.partitions.items;
   file_set = v.file_set;
+  takes_tail = v.takes_tail;
 }
 
 -- a map with its descriptor, as the definitions see it

@@ -49,6 +49,9 @@ pub struct VolumeParts {
     pub partitions: Vec<Partition>,
     /// Where the file set descriptor stands.
     pub file_set: LongAd,
+    /// Whether the last extent of a file may end inside a block, short of the file's length, while the rest of that
+    /// block is the file's too: by the strict rules it may not.
+    pub takes_tail: bool,
 }
 
 /// A map's kind and the prevailing descriptor of its partition.
@@ -184,13 +187,14 @@ fn read_label(alloc: Global, volume: &Descriptor<'_>) -> Result<Label, AllocErro
 /// The layout by a logical volume descriptor and its maps.
 fn lay_out(
     alloc: Global,
+    profile: Profile,
     last: u32,
     volume: &Descriptor<'_>,
     sequence: &Sequence<'_>,
     maps: Vec<NumberedMap>,
 ) -> Result<Seen<VolumeParts>, AllocError>
     ensures { IfOk result (λ seen. Sees parts_now seen
-        (laid_out last (descriptor_now volume.now) (described (sequence_now sequence.now) (map numbered_now maps.items)))) }
+        (laid_out profile last (descriptor_now volume.now) (described (sequence_now sequence.now) (map numbered_now maps.items)))) }
 {
     let Some(all) = describe(alloc, sequence, maps)? else {
         return Ok(Seen::Fault(VolumeFault::NoPartition));
@@ -211,6 +215,7 @@ fn lay_out(
         label,
         partitions,
         file_set,
+        takes_tail: profile.takes_tail(),
     }))
 }
 
@@ -232,7 +237,7 @@ fn layout_of(
     let Some(maps) = read_maps(alloc, profile, last, &volume)? else {
         return Ok(Seen::Fault(VolumeFault::MapKind));
     };
-    lay_out(alloc, last, &volume, sequence, maps)
+    lay_out(alloc, profile, last, &volume, sequence, maps)
 }
 
 /// The layout by the descriptors of a sequence, if memory is not refused.

@@ -1,5 +1,5 @@
 -- What was let go of a node is found again at its address.
-use Rattle.std.proofs.Common.{◌≡◌, refl, sym, ◌∙◌, ap, subst, ℕ, Bool, true, false, List, [], ◌∷◌, ◌++◌, length, map, cond, Option, Some, None}
+use Rattle.std.proofs.Common.{◌≡◌, refl, sym, ◌∙◌, ap, subst, Bool, true, false, List, [], ◌∷◌, ◌++◌, length, map, cond, Option, Some, None}
 use Rattle.std.specs.Prelude.{filter_map, flat_map, ◌||◌}
 use Rattle.std.specs.List.{list_any, range_with_len}
 use Rattle.std.proofs.lemmas.List.{map-append}
@@ -17,11 +17,11 @@ use Rattle.udfs_file.specs.declared.faults.NodeFault.{NodeFault}
 use Rattle.udfs_walk.specs.Bare.{bare_standing, bare_entry, bare_node, body_lists, full_entry, full_node, lists_at, lists_of, target_lists, with_lists}
 use Rattle.udfs_walk.specs.NodeFields.{NodeFields}
 use Rattle.udfs_walk.specs.TornFields.{TornFields}
-use Rattle.udfs_walk.specs.Nodes.{entry_standing, node, node_at, told}
+use Rattle.udfs_walk.specs.Nodes.{node, node_at, told}
 use Rattle.udfs_walk.specs.Frames.{FrameFields, IsEntryTaken}
 use Rattle.udfs_walk.specs.Routes.{Walked, inside, is_deep, is_loop}
 use Rattle.udfs_walk.specs.Standings.{body_standing, cells_standing, depth_or, kind_standing, standing_or_fault}
-use Rattle.udfs_walk.specs.Targets.{Icb, Target, bad, unread, entry, icb_of, is_icb, target}
+use Rattle.udfs_walk.specs.Targets.{Icb, Target, bad, unread, entry, target}
 use Rattle.udfs_walk.specs.UnnamedEntries.{address_of, entry_alone, icbs_in, names, unnamed, unnamed_at, unnamed_with}
 use Rattle.udfs_walk.specs.declared.answers.Unnamed.{Unnamed}
 use Rattle.udfs_walk.specs.declared.standings.Standing.{Standing}
@@ -133,4 +133,4 @@ named_same v icb (n ∷ ns) = ap (λ b. names v icb n || b) (named_same v icb ns
 
 pub unnamed_same : (v : View) (space : Space) (ns : List NodeFields) → unnamed v space (map (full_node v) ns) ≡ unnamed v space ns
 unfolding unnamed_at
-unnamed_same v space ns = λ i. flat_map (λ r. filter_map (λ icb. cond (named_same v icb ns i) None (entry_alone v icb (target v (address_of icb)))) (icbs_in space r)) (range_with_len 0 (length space))
+unnamed_same v space ns = λ i. flat_map (λ r. filter_map (λ icb. cond (named_same v icb ns i) None (entry_alone v icb (target v (address_of icb)))) (icbs_in space r)) (range_with_len 0 (length space.spans))

@@ -1,6 +1,6 @@
 -- Runs of blocks, joined in rising order.
 use Rattle.std.proofs.Common.{◌≡◌, refl, sym, ◌∙◌, ap, subst, inl, inr, ◌⊎◌, ℕ, ◌+◌, ◌-◌, ◌<◌, ◌≤◌, max, List, [], ◌∷◌, ◌++◌, length, drop, drop-cons, get_or, arith, append-nil, append_assoc}
-use Rattle.std.specs.Prelude.{zero, suc, Contains}
+use Rattle.std.specs.Prelude.{zero, suc}
 use Rattle.std.specs.List.Sorted.{IsNonDecreasingBy, IsPermutation}
 use Rattle.std.proofs.lemmas.List.Sorted.{Contains-permutation, IsPermutation-sym}
 use Rattle.std.specs.List.{range_with_len}

@@ -1,5 +1,5 @@
 -- The names in the path of a node are those of entries, so they can stand in a path.
-use Rattle.std.proofs.Common.{◌≡◌, refl, sym, ◌∙◌, ap, subst, inl, inr, ◌⊎◌, ℕ, Bool, true, false, List, [], ◌∷◌, ◌++◌, cond, ◌||◌, map, Option, Some, None, slice_get}
+use Rattle.std.proofs.Common.{◌≡◌, refl, sym, subst, inl, inr, ◌⊎◌, ℕ, Bool, true, false, List, [], ◌∷◌, ◌++◌, cond, ◌||◌, map, Option, Some, None, slice_get}
 use Rattle.std.specs.Prelude.{zero, suc}
 use Rattle.std.specs.List.{AllZip}
 use Rattle.udfs_lattice.specs.Volumes.{Includes}
@@ -8,7 +8,6 @@ use Rattle.udfs_osta.specs.Parts.{IsPathPart}
 use Rattle.udfs_tag.specs.declared.layouts.LongAd.{LongAd}
 use Rattle.udfs_space.specs.Places.{View}
 use Rattle.udfs_file.specs.Bodies.{Body, cells, faulty_body, body}
-use Rattle.udfs_file.specs.Entries.{EntryFields}
 use Rattle.udfs_file.specs.declared.directories.DirEntry.{DirEntry}
 use Rattle.udfs_file.specs.declared.faults.Kind.{Kind}
 use Rattle.udfs_file.specs.declared.faults.Kind.TheVariants.{Directory, File, Link, Other, Unread}

@@ -1,6 +1,6 @@
 -- Ascending lists: sorted numbers, each once, are the only ones of their numbers.
-use Rattle.std.proofs.Common.{◌≡◌, refl, sym, ◌∙◌, ap, subst, inl, inr, ℕ, ◌+◌, ◌<◌, List, [], ◌∷◌, length, arith, get_or}
-use Rattle.std.specs.Prelude.{zero, suc, slice_index, Contains}
+use Rattle.std.proofs.Common.{◌≡◌, refl, sym, ◌∙◌, ap, subst, inl, inr, ℕ, ◌+◌, ◌<◌, List, [], ◌∷◌, arith}
+use Rattle.std.specs.Prelude.{suc, slice_index, Contains}
 use Rattle.std.specs.List.Sorted.{IsStrictlyIncreasing}
 use Rattle.udfs_lattice.specs.Volumes.{Includes, ascending}
 use Rattle.udfs_lattice.proofs.PublicLaws.{ascending_includes, included_is_contained}

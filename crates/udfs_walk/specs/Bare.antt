@@ -2,7 +2,7 @@
 --     bare_standing standing                the standing without the blocks and the holes
 --     lists_at view a              what is missing of what an address leads to
 --     full_node view n             the node with what is missing of it
-use Rattle.std.specs.Prelude.{List, [], ◌∷◌}
+use Rattle.std.specs.Prelude.{[], ◌∷◌}
 use Rattle.udfs_tag.specs.declared.layouts.LongAd.{LongAd}
 use Rattle.udfs_space.specs.Places.{View}
 use Rattle.udfs_file.specs.Bodies.{Body, body, cells, faulty_body}

@@ -49,4 +49,4 @@ icbs_in space r = map (λ b. (r, b)) (range_with_len 0 (length_of space r))
 
 -- the sound entries in known blocks that no node names, by partition and block
 abbrev pub unnamed : View → Space → List NodeFields → List Unnamed
-unnamed view space nodes = flat_map (λ r. filter_map (unnamed_at view nodes) (icbs_in space r)) (range_with_len 0 (length space))
+unnamed view space nodes = flat_map (λ r. filter_map (unnamed_at view nodes) (icbs_in space r)) (range_with_len 0 (length space.spans))

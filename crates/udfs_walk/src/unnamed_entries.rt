@@ -127,7 +127,7 @@ fn push_unnamed(
     found: &mut Vec<Unnamed>,
 ) -> Result<(), AllocError>
     requires sorted { IsSorted nat_cmp keys.now }
-    requires reference { reference < length view.space.now }
+    requires reference { reference < length view.space.now.spans }
     ensures { IfOk result (λ done. (nodes : List NodeFields) → AreNamed (view_now view.entry) nodes keys.now
         → map (full_entry (view_now view.entry)) found.new.items ≡ map (full_entry (view_now view.entry)) found.old.items ++ filter_map (unnamed_at (view_now view.entry) nodes) (icbs_in view.entry.space.now reference)) }
 {

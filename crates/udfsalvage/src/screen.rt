@@ -24,6 +24,8 @@ pub struct Screen<'a, C: Clock, W: Write + Copy> {
     clock: &'a C,
     err: W,
     is_watched: bool,
+    /// Whether remarks are told.
+    remarks: Cell<bool>,
     reason: Cell<Option<Error>>,
     /// When the line is written next, where it ever is.
     next: Cell<Option<Instant>>,
@@ -45,6 +47,7 @@ impl<'a, C: Clock, W: Write + Copy> Screen<'a, C, W> {
             clock,
             err,
             is_watched,
+            remarks: Cell::new(is_watched),
             reason: Cell::new(None),
             next: Cell::new(None),
             is_shown: Cell::new(false),
@@ -197,6 +200,21 @@ impl<'a, C: Clock, W: Write + Copy> Watch for Screen<'a, C, W> {
     fn hush(&self) {
         self.clear();
         self.next.set(None);
+        self.remarks.set(false);
+    }
+
+    fn speak(&self) {
+        self.remarks.set(true);
+    }
+
+    fn remark(&self, text: &str) {
+        if !self.remarks.get() {
+            return;
+        }
+        self.clear();
+        if let Ok(line) = format!(in self.alloc; "  {text}\n") {
+            self.write(line.as_bytes());
+        }
     }
 }
 

@@ -162,3 +162,30 @@ fn a_path_forges_no_line(rt: HostRuntime) -> Result<(), Fail> {
     );
     Ok(())
 }
+
+/// Why a volume does not open, beside its report: only where more is to be said.
+#[test]
+fn why_a_volume_does_not_open(rt: HostRuntime) -> Result<(), Fail> {
+    let alloc = rt.alloc();
+    const WHY: &str = "the volume does not open: blocks 33 and 49 are needed\n";
+    let table = Disc::type1(alloc)?.known_but(alloc, &[33, 49])?;
+    for (words, remark) in [
+        ("report -v --last 600 disc.tab", WHY),
+        ("report --json --verbose --last 600 disc.tab", WHY),
+        ("list -v --last 600 disc.tab", WHY),
+        ("report --last 600 disc.tab", ""),
+        ("report -q -v --last 600 disc.tab", ""),
+    ] {
+        let mut memory = with_table(alloc, &table)?;
+        let ran = ran(alloc, &mut memory, words)?;
+        assert_eq!(rt; ran.status, 1, "{words}");
+        assert_eq!(rt; ran.err.as_str(), "", "{words}");
+        assert!(rt; memory.has_remarked(remark), "{words}");
+    }
+    let whole = Disc::type1(alloc)?.known_but(alloc, &[])?;
+    let mut memory = with_table(alloc, &whole)?;
+    let ran = ran(alloc, &mut memory, "report -v --last 600 disc.tab")?;
+    assert_eq!(rt; ran.status, 0);
+    assert!(rt; memory.has_remarked(""));
+    Ok(())
+}

@@ -11,7 +11,7 @@ const WORDS: &str = "extract --last 600 --to out disc.tab";
 const FILL_WORDS: &str = "extract --last 600 --to out --fill disc.tab";
 
 /// Runs of equal bytes, one behind the other.
-fn runs(alloc: Global, parts: &[(u8, usize)]) -> Result<Vec<u8>, AllocError> {
+pub fn runs(alloc: Global, parts: &[(u8, usize)]) -> Result<Vec<u8>, AllocError> {
     let mut bytes = Vec::new(alloc);
     for (byte, count) in parts {
         for _ in 0..*count {
@@ -22,10 +22,10 @@ fn runs(alloc: Global, parts: &[(u8, usize)]) -> Result<Vec<u8>, AllocError> {
 }
 
 /// The bytes of the file `A` of the sample volumes.
-const A: [(u8, usize); 3] = [(0x61, 2048), (0x62, 2048), (0x63, 904)];
+pub const A: [(u8, usize); 3] = [(0x61, 2048), (0x62, 2048), (0x63, 904)];
 
 /// Whether the run ended with this status, printed this text and nothing on standard error.
-fn is_done(ran: &Outcome, status: u8, text: &str) -> bool {
+pub fn is_done(ran: &Outcome, status: u8, text: &str) -> bool {
     ran.status == status && ran.out.as_str() == text && ran.err.is_empty()
 }
 
@@ -157,7 +157,7 @@ fn nodes_that_are_passed_over(rt: HostRuntime) -> Result<(), Fail> {
 }
 
 /// The volume of type 1 whose root, and directories at logical blocks 20 and 30, have these names.
-fn built(
+pub fn built(
     alloc: Global,
     root: &[NamedEntry],
     first: &[NamedEntry],

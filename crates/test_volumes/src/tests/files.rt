@@ -5,4 +5,5 @@ mod bodies;
 mod directories;
 mod entries;
 mod memory;
+mod tails;
 mod told;

@@ -2,6 +2,7 @@
 
 mod figures;
 mod list;
+mod pages;
 mod safe_names;
 mod summary;
 mod whole_summary;

@@ -3,4 +3,5 @@
 mod every_table;
 mod extraction;
 mod json;
+mod profiles;
 mod text;

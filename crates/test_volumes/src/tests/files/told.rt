@@ -15,12 +15,17 @@ use udfs_lattice::{BlockTable, Fact};
 use udfs_samples::LAST;
 use udfs_space::{Space, View};
 use udfs_tag::LongAd;
-use udfs_volume::Seen;
-use udfs_volume::layouts::layout;
+use udfs_volume::layouts::layout_by;
+use udfs_volume::{Profile, Seen};
 
 /// The places of a table's volume, and the address of its file set.
 pub fn laid_out(alloc: Global, table: &BlockTable) -> Option<(Space, LongAd)> {
-    let Seen::Got(parts) = layout(alloc, table, LAST) else {
+    laid_out_by(alloc, table, Profile::Strict)
+}
+
+/// The same by the rules of a profile.
+fn laid_out_by(alloc: Global, table: &BlockTable, profile: Profile) -> Option<(Space, LongAd)> {
+    let Seen::Got(parts) = layout_by(alloc, table, LAST, profile) else {
         return None;
     };
     let Seen::Got(space) = Space::build(alloc, table, &parts) else {
@@ -128,7 +133,18 @@ pub fn stretches(
     reference: u16,
     b: u32,
 ) -> Result<String, Fail> {
-    let Some((space, _)) = laid_out(alloc, table) else {
+    stretches_by(alloc, table, reference, b, Profile::Strict)
+}
+
+/// The same by the rules of a profile.
+pub fn stretches_by(
+    alloc: Global,
+    table: &BlockTable,
+    reference: u16,
+    b: u32,
+    profile: Profile,
+) -> Result<String, Fail> {
+    let Some((space, _)) = laid_out_by(alloc, table, profile) else {
         return Ok(format!(in alloc; "no layout")?);
     };
     let body = match body_of(alloc, table, &space, reference, b)? {
@@ -240,7 +256,18 @@ fn all_cells(
 
 /// The cells of a body, like ones together: `61*2048` for known ones, `?278*2048` for missing ones; or its fault.
 pub fn cells(alloc: Global, table: &BlockTable, reference: u16, b: u32) -> Result<String, Fail> {
-    let Some((space, _)) = laid_out(alloc, table) else {
+    cells_by(alloc, table, reference, b, Profile::Strict)
+}
+
+/// The same by the rules of a profile.
+pub fn cells_by(
+    alloc: Global,
+    table: &BlockTable,
+    reference: u16,
+    b: u32,
+    profile: Profile,
+) -> Result<String, Fail> {
+    let Some((space, _)) = laid_out_by(alloc, table, profile) else {
         return Ok(format!(in alloc; "no layout")?);
     };
     let body = match body_of(alloc, table, &space, reference, b)? {

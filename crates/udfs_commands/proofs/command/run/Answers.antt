@@ -88,13 +88,13 @@ returns-in-Some-obey-clause-forget g c = λ taken asks some.
     (whole.0, found, named, whole.1, whole.2)
 
 pub returns-in-Some-obey-clause-reads : goal.returns-in-Some-obey-clause-reads
-returns-in-Some-obey-clause-reads g c = λ no_merge no_forget no_image no_reread no_extract.
+returns-in-Some-obey-clause-reads g c = λ no_merge no_forget no_image no_page no_reread no_extract.
     let words = map string_bytes c.args.words.now in
     let found = found_of c.in-Some.found.1.now in
     let ask : IsAsked words c.in-Some.found.0.now found = asked c.in-Ok-try_get_matches_from.matches words c.in-Some.found.0.now found
     (subst (λ (a : App). HasMatchesOf a words c.in-Ok-try_get_matches_from.matches) (c.in-Ok.ensures ∙ ap program_app c.given_in.ensures) c.in-Ok-try_get_matches_from.ensures.matches)
     c.in-Some.ensures.name c.in-Some.ensures.rows in
-    c.in-Some-obey.ensures.reads (λ e. no_merge (asks_by words c.in-Some.found.0.now (codes "merge") found ask e)) (λ e. no_forget (asks_by words c.in-Some.found.0.now (codes "forget") found ask e)) (λ e. no_image (asks_by words c.in-Some.found.0.now (codes "image") found ask e))
+    c.in-Some-obey.ensures.reads (λ e. no_merge (asks_by words c.in-Some.found.0.now (codes "merge") found ask e)) (λ e. no_forget (asks_by words c.in-Some.found.0.now (codes "forget") found ask e)) (λ e. no_image (asks_by words c.in-Some.found.0.now (codes "image") found ask e)) (λ e. no_page (asks_by words c.in-Some.found.0.now (codes "page") found ask e))
     (λ e. no_reread (asks_by words c.in-Some.found.0.now (codes "reread") found ask e))
     (λ e. no_extract (asks_by words c.in-Some.found.0.now (codes "extract") found ask e))
 
@@ -121,13 +121,13 @@ returns-in-Some-obey-clause-extracting g c = λ asks.
     inr (found, named, c.in-Some-obey.ensures.extracting is)
 
 pub returns-clause-reads : goal.returns-clause-reads
-returns-clause-reads g c = λ no_merge no_forget no_image no_reread no_extract.
+returns-clause-reads g c = λ no_merge no_forget no_image no_page no_reread no_extract.
     let words = map string_bytes c.args.words.now in
     let found = found_of c.in-Some.found.1.now in
     let ask : IsAsked words c.in-Some.found.0.now found = asked c.in-Ok-try_get_matches_from.matches words c.in-Some.found.0.now found
     (subst (λ (a : App). HasMatchesOf a words c.in-Ok-try_get_matches_from.matches) (c.in-Ok.ensures ∙ ap program_app c.given_in.ensures) c.in-Ok-try_get_matches_from.ensures.matches)
     c.in-Some.ensures.name c.in-Some.ensures.rows in
-    c.in-None-obey.ensures.reads (λ e. no_merge (asks_by words c.in-Some.found.0.now (codes "merge") found ask e)) (λ e. no_forget (asks_by words c.in-Some.found.0.now (codes "forget") found ask e)) (λ e. no_image (asks_by words c.in-Some.found.0.now (codes "image") found ask e))
+    c.in-None-obey.ensures.reads (λ e. no_merge (asks_by words c.in-Some.found.0.now (codes "merge") found ask e)) (λ e. no_forget (asks_by words c.in-Some.found.0.now (codes "forget") found ask e)) (λ e. no_image (asks_by words c.in-Some.found.0.now (codes "image") found ask e)) (λ e. no_page (asks_by words c.in-Some.found.0.now (codes "page") found ask e))
     (λ e. no_reread (asks_by words c.in-Some.found.0.now (codes "reread") found ask e))
     (λ e. no_extract (asks_by words c.in-Some.found.0.now (codes "extract") found ask e))
 
@@ -295,3 +295,83 @@ returns-in-Some-obey-clause-one_end g c = λ taken some.
     (subst (λ (a : App). HasMatchesOf a words c.in-Ok-try_get_matches_from.matches) (c.in-Ok.ensures ∙ ap program_app c.given_in.ensures) c.in-Ok-try_get_matches_from.ensures.matches)
     c.in-Some.ensures.name c.in-Some.ensures.rows in
     (c.in-Some.found.0.now, found, ask, c.in_default.ensures (search rules))
+
+pub returns-in-Err-try_get_matches_from-clause-one_stream : goal.returns-in-Err-try_get_matches_from-clause-one_stream
+returns-in-Err-try_get_matches_from-clause-one_stream g c = λ taken some.
+    absurd (some (c.show.ensures.memory (c.in-Err-try_get_matches_from.ensures.passes (ap (λ (a : App). takes a (map string_bytes c.args.words.now)) (c.in-Ok.ensures ∙ ap program_app c.given_in.ensures) ∙ taken))))
+
+pub returns-in-Some-obey-clause-one_stream : goal.returns-in-Some-obey-clause-one_stream
+returns-in-Some-obey-clause-one_stream g c = λ taken some.
+    let words = map string_bytes c.args.words.now in
+    let found = found_of c.in-Some.found.1.now in
+    let ask : IsAsked words c.in-Some.found.0.now found = asked c.in-Ok-try_get_matches_from.matches words c.in-Some.found.0.now found
+    (subst (λ (a : App). HasMatchesOf a words c.in-Ok-try_get_matches_from.matches) (c.in-Ok.ensures ∙ ap program_app c.given_in.ensures) c.in-Ok-try_get_matches_from.ensures.matches)
+    c.in-Some.ensures.name c.in-Some.ensures.rows in
+    (c.in-Some.found.0.now, found, ask, search rules)
+
+pub returns-in-Err-try_get_matches_from-clause-known_profile : goal.returns-in-Err-try_get_matches_from-clause-known_profile
+returns-in-Err-try_get_matches_from-clause-known_profile g c = λ taken some.
+    absurd (some (c.show.ensures.memory (c.in-Err-try_get_matches_from.ensures.passes (ap (λ (a : App). takes a (map string_bytes c.args.words.now)) (c.in-Ok.ensures ∙ ap program_app c.given_in.ensures) ∙ taken))))
+
+pub returns-in-Some-obey-clause-known_profile : goal.returns-in-Some-obey-clause-known_profile
+returns-in-Some-obey-clause-known_profile g c = λ taken some.
+    let words = map string_bytes c.args.words.now in
+    let found = found_of c.in-Some.found.1.now in
+    let ask : IsAsked words c.in-Some.found.0.now found = asked c.in-Ok-try_get_matches_from.matches words c.in-Some.found.0.now found
+    (subst (λ (a : App). HasMatchesOf a words c.in-Ok-try_get_matches_from.matches) (c.in-Ok.ensures ∙ ap program_app c.given_in.ensures) c.in-Ok-try_get_matches_from.ensures.matches)
+    c.in-Some.ensures.name c.in-Some.ensures.rows in
+    (c.in-Some.found.0.now, found, ask, c.in_default-unknown_profile.ensures (search rules))
+
+pub returns-in-Err-try_get_matches_from-clause-chosen : goal.returns-in-Err-try_get_matches_from-clause-chosen
+returns-in-Err-try_get_matches_from-clause-chosen g c = λ taken asks some.
+    absurd (some (c.show.ensures.memory (c.in-Err-try_get_matches_from.ensures.passes (ap (λ (a : App). takes a (map string_bytes c.args.words.now)) (c.in-Ok.ensures ∙ ap program_app c.given_in.ensures) ∙ taken))))
+
+pub returns-in-Some-obey-clause-chosen : goal.returns-in-Some-obey-clause-chosen
+returns-in-Some-obey-clause-chosen g c = λ taken asks some.
+    let words = map string_bytes c.args.words.now in
+    let found = found_of c.in-Some.found.1.now in
+    let ask : IsAsked words c.in-Some.found.0.now found = asked c.in-Ok-try_get_matches_from.matches words c.in-Some.found.0.now found
+    (subst (λ (a : App). HasMatchesOf a words c.in-Ok-try_get_matches_from.matches) (c.in-Ok.ensures ∙ ap program_app c.given_in.ensures) c.in-Ok-try_get_matches_from.ensures.matches)
+    c.in-Some.ensures.name c.in-Some.ensures.rows in
+    let is : c.in-Some.found.0.now ≡ codes "extract" = only_name words c.in-Some.found.0.now (codes "extract") found asks ask in
+    let named : IsAsked words (codes "extract") found = subst (λ (n : List ℕ). IsAsked words n found) is ask in
+    let said = done c.in-Some-obey.outcome c.finish.result _ c.finish.ensures.done c.finish.ensures.refused some (c.in-Some-obey.ensures.chosen is) in
+    (said.0, said.1, found, named, said.2)
+
+pub returns-in-Err-try_get_matches_from-clause-page : goal.returns-in-Err-try_get_matches_from-clause-page
+returns-in-Err-try_get_matches_from-clause-page g c = λ taken asks some.
+    absurd (some (c.show.ensures.memory (c.in-Err-try_get_matches_from.ensures.passes (ap (λ (a : App). takes a (map string_bytes c.args.words.now)) (c.in-Ok.ensures ∙ ap program_app c.given_in.ensures) ∙ taken))))
+
+pub returns-in-Some-obey-clause-page : goal.returns-in-Some-obey-clause-page
+returns-in-Some-obey-clause-page g c = λ taken asks some.
+    let words = map string_bytes c.args.words.now in
+    let found = found_of c.in-Some.found.1.now in
+    let ask : IsAsked words c.in-Some.found.0.now found = asked c.in-Ok-try_get_matches_from.matches words c.in-Some.found.0.now found
+    (subst (λ (a : App). HasMatchesOf a words c.in-Ok-try_get_matches_from.matches) (c.in-Ok.ensures ∙ ap program_app c.given_in.ensures) c.in-Ok-try_get_matches_from.ensures.matches)
+    c.in-Some.ensures.name c.in-Some.ensures.rows in
+    let is : c.in-Some.found.0.now ≡ codes "page" = only_name words c.in-Some.found.0.now (codes "page") found asks ask in
+    let named : IsAsked words (codes "page") found = subst (λ (n : List ℕ). IsAsked words n found) is ask in
+    let said = done c.in-Some-obey.outcome c.finish.result _ c.finish.ensures.done c.finish.ensures.refused some (c.in-Some-obey.ensures.page is) in
+    (said.0, said.1, found, named, said.2)
+
+pub returns-in-Some-obey-clause-paging : goal.returns-in-Some-obey-clause-paging
+returns-in-Some-obey-clause-paging g c = λ asks.
+    let words = map string_bytes c.args.words.now in
+    let found = found_of c.in-Some.found.1.now in
+    let ask : IsAsked words c.in-Some.found.0.now found = asked c.in-Ok-try_get_matches_from.matches words c.in-Some.found.0.now found
+    (subst (λ (a : App). HasMatchesOf a words c.in-Ok-try_get_matches_from.matches) (c.in-Ok.ensures ∙ ap program_app c.given_in.ensures) c.in-Ok-try_get_matches_from.ensures.matches)
+    c.in-Some.ensures.name c.in-Some.ensures.rows in
+    let is : c.in-Some.found.0.now ≡ codes "page" = only_name words c.in-Some.found.0.now (codes "page") found asks ask in
+    let named : IsAsked words (codes "page") found = subst (λ (n : List ℕ). IsAsked words n found) is ask in
+    inr (found, named, c.in-Some-obey.ensures.paging is)
+
+pub returns-clause-paging : goal.returns-clause-paging
+returns-clause-paging g c = λ asks.
+    let words = map string_bytes c.args.words.now in
+    let found = found_of c.in-Some.found.1.now in
+    let ask : IsAsked words c.in-Some.found.0.now found = asked c.in-Ok-try_get_matches_from.matches words c.in-Some.found.0.now found
+    (subst (λ (a : App). HasMatchesOf a words c.in-Ok-try_get_matches_from.matches) (c.in-Ok.ensures ∙ ap program_app c.given_in.ensures) c.in-Ok-try_get_matches_from.ensures.matches)
+    c.in-Some.ensures.name c.in-Some.ensures.rows in
+    let is : c.in-Some.found.0.now ≡ codes "page" = only_name words c.in-Some.found.0.now (codes "page") found asks ask in
+    let named : IsAsked words (codes "page") found = subst (λ (n : List ℕ). IsAsked words n found) is ask in
+    inr (found, named, c.in-None-obey.ensures.paging is)

@@ -21,8 +21,8 @@ returns-in-Folder-clause-put g c n folder at path =
     let made : deed n.kind n.standing n.size c.args.fill ≡ Folder = subst (λ (m : NodeFields). deed m.kind m.standing m.size c.args.fill ≡ Folder) same (sym c.deed_for.ensures ∙ c.in-Folder.is) in
     record {
       done = subst (λ d. IsFateOf d c.put_folder.result) (sym made) c.put_folder.ensures.fate;
-      written = λ written told last reported. absurd (c.put_folder.ensures.fate.0 written);
-      failed = λ bad last reported. inl (c.put_folder.ensures.cause (λ is_made. let no_fate : true ≡ false = sym (ap is_good is_made) ∙ bad in cc));
+      written = λ written told profile last reported. absurd (c.put_folder.ensures.fate.0 written);
+      failed = λ bad profile last reported. inl (c.put_folder.ensures.cause (λ is_made. let no_fate : true ≡ false = sym (ap is_good is_made) ∙ bad in cc));
     }
 
 pub returns-in_ok-fate-in-File-clause-put : goal.returns-in_ok-fate-in-File-clause-put
@@ -33,14 +33,14 @@ returns-in_ok-fate-in-File-clause-put g c n folder at path =
     let is : is_offered n.standing n.size c.args.fill ≡ true = offered n.kind n.standing n.size c.args.fill made in
     record {
       done = subst (λ d. IsFateOf d c.in_ok-fate-in-File.fate) (sym made) c.in_ok-fate-in-File.ensures.fate;
-      written = λ written told last reported.
-          let w = c.in_ok-fate-in-File.ensures.written written told last n reported at is in (
+      written = λ written told profile last reported.
+          let w = c.in_ok-fate-in-File.ensures.written written told profile last n reported at is in (
             w.0,
             w.1,
             subst (λ p. IsSafe (F.holds c.write_file.new.files) (F.moment c.write_file.new.files) (F.left_since c.write_file.new.files) p (filled (fill_byte c.args.fill) w.0)) path
                 (safe F.moment F.may_leave F.left_since c.write_file.new.files (F.holds c.write_file.new.files) c.args.path.now _ (g.met.F.Files.only_now c.write_file.new.files) w.2),
           );
-      failed = λ bad last reported. c.in_ok-fate-in-File.ensures.cause (λ written. let no_fate : true ≡ false = sym (ap is_good written) ∙ bad in cc) last n reported at is;
+      failed = λ bad profile last reported. c.in_ok-fate-in-File.ensures.cause (λ written. let no_fate : true ≡ false = sym (ap is_good written) ∙ bad in cc) profile last n reported at is;
     }
 
 pub returns-in_ok-fate-in-File-clause-stays : goal.returns-in_ok-fate-in-File-clause-stays
@@ -57,6 +57,6 @@ returns-in-Skip-clause-put g c n folder at path =
     let made : deed n.kind n.standing n.size c.args.fill ≡ Skip = subst (λ (m : NodeFields). deed m.kind m.standing m.size c.args.fill ≡ Skip) same (sym c.deed_for.ensures ∙ c.in-Skip.is) in
     record {
       done = subst (λ d. IsFateOf d Skipped) (sym made) refl;
-      written = λ written told last reported. let bad : Skipped ≡ Written = written in cc;
-      failed = λ bad last reported. let no_fate : true ≡ false = bad in cc;
+      written = λ written told profile last reported. let bad : Skipped ≡ Written = written in cc;
+      failed = λ bad profile last reported. let no_fate : true ≡ false = bad in cc;
     }

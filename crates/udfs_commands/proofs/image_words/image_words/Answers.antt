@@ -6,9 +6,9 @@ use Rattle.udfs_commands.proofs.image_words.image_words.Goals as goal
 pub returns-in-Ok-image-clause-written : goal.returns-in-Ok-image-clause-written
 returns-in-Ok-image-clause-written g c =
     record {
-      last = c.asked_last.result;
-      inputs = c.as_slice-2.result.now;
-      is_last = c.asked_last.ensures;
+      last = c.in_ok-last.last;
+      inputs = c.as_slice-paths.result.now;
+      is_last = c.in_ok-last.ensures.last;
       asked = search rules;
       writes = rw (← c.asked_outputs-outputs.ensures.image) (rw (← c.asked_outputs-outputs.ensures.mapfile) c.in-Ok-image.ensures.written);
     }
@@ -18,7 +18,7 @@ returns-in-Ok-image-clause-replaces g c =
     record {
       any_moment = λ tells disk since.
           let a = c.image.ensures.any_moment tells disk since in
-          (a.0, a.1, may_image _ _ (g.F.Files.real c.args.files.now) (found_of c.args.words.now) c.as_slice-2.result.now c.asked_last.result a.0 disk c.asked_last.ensures (search rules) (rw (← c.asked_outputs-outputs.ensures.image) (rw (← c.asked_outputs-outputs.ensures.mapfile) a.2)));
+          (a.0, a.1, may_image _ _ (g.F.Files.real c.args.files.now) (found_of c.args.words.now) c.as_slice-paths.result.now c.in_ok-last.last a.0 disk c.in_ok-last.ensures.last (search rules) (rw (← c.asked_outputs-outputs.ensures.image) (rw (← c.asked_outputs-outputs.ensures.mapfile) a.2)));
       elsewhere = rw (← c.asked_outputs-outputs.ensures.image) (rw (← c.asked_outputs-outputs.ensures.mapfile) c.image.ensures.elsewhere);
     }
 
@@ -27,6 +27,6 @@ returns-clause-replaces g c =
     record {
       any_moment = λ tells disk since.
           let a = c.image.ensures.any_moment tells disk since in
-          (a.0, a.1, may_image _ _ (g.F.Files.real c.args.files.now) (found_of c.args.words.now) c.as_slice-2.result.now c.asked_last.result a.0 disk c.asked_last.ensures (search rules) (rw (← c.asked_outputs-outputs.ensures.image) (rw (← c.asked_outputs-outputs.ensures.mapfile) a.2)));
+          (a.0, a.1, may_image _ _ (g.F.Files.real c.args.files.now) (found_of c.args.words.now) c.as_slice-paths.result.now c.in_ok-last.last a.0 disk c.in_ok-last.ensures.last (search rules) (rw (← c.asked_outputs-outputs.ensures.image) (rw (← c.asked_outputs-outputs.ensures.mapfile) a.2)));
       elsewhere = rw (← c.asked_outputs-outputs.ensures.image) (rw (← c.asked_outputs-outputs.ensures.mapfile) c.image.ensures.elsewhere);
     }

@@ -6,11 +6,13 @@ returns-in-Ok g c =
     record {
       printed = (
         c.asked_form-form.result,
-        c.asked_last-last.result,
-        c.as_slice.result.now,
+        c.in_ok-last.last,
+        c.asked_profile-profile.result,
+        c.as_slice-paths.result.now,
         search rules,
         record { with_flag = c.asked_form-form.ensures.with; without_flag = c.asked_form-form.ensures.without; unknown_flag = c.asked_form-form.ensures.unset },
-        c.asked_last-last.ensures,
+        c.in_ok-last.ensures.last,
+        c.asked_profile-profile.ensures,
         c.in-Ok.ensures.printed,
       );
     }

@@ -5,10 +5,12 @@ pub returns-in-Ok : goal.returns-in-Ok
 returns-in-Ok g c =
     record {
       printed = (
-        c.asked_last-last.result,
-        c.as_slice.result.now,
+        c.in_ok-last.last,
+        c.asked_profile-profile.result,
+        c.as_slice-paths.result.now,
         search rules,
-        c.asked_last-last.ensures,
+        c.in_ok-last.ensures.last,
+        c.asked_profile-profile.ensures,
         c.in-Ok.ensures.printed,
       );
     }

@@ -6,9 +6,11 @@ use Rattle.udfs_commands.proofs.reread_words.reread_map_words.Goals as goal
 pub returns-in-Ok-clause-written : goal.returns-in-Ok-clause-written
 returns-in-Ok-clause-written g c =
     record {
-      last = c.asked_last-last.result;
-      inputs = c.as_slice-2.result.now;
-      is_last = c.asked_last-last.ensures;
+      last = c.in_ok-last.last;
+      profile = c.asked_profile-profile.result;
+      inputs = c.as_slice-paths.result.now;
+      is_last = c.in_ok-last.ensures.last;
+      is_profile = c.asked_profile-profile.ensures;
       asked = search rules;
       prints = rw (← c.asked_mapfile.ensures) c.in-Ok.ensures.printed;
     }
@@ -18,7 +20,7 @@ returns-in-Ok-clause-any_moment g c tells place disk since =
     let a = c.in-Ok.ensures.any_moment tells (λ at. place (subst (g.F.Files.in_place c.args.files.now) c.asked_mapfile.ensures at)) disk since in (
       a.0,
       a.1,
-      may_domain _ _ (g.F.Files.real c.args.files.now) (found_of c.args.words.now) c.asked_last-last.result c.as_slice-2.result.now a.0 disk c.asked_last-last.ensures (search rules)
+      may_domain _ _ (g.F.Files.real c.args.files.now) (found_of c.args.words.now) c.asked_profile-profile.result c.in_ok-last.last c.as_slice-paths.result.now a.0 disk c.asked_profile-profile.ensures c.in_ok-last.ensures.last (search rules)
           (rw (← c.asked_mapfile.ensures) a.2),
     )
 
@@ -27,6 +29,6 @@ returns-clause-any_moment g c tells place disk since =
     let a = c.in-Err-reread_map.ensures.any_moment tells (λ at. place (subst (g.F.Files.in_place c.args.files.now) c.asked_mapfile.ensures at)) disk since in (
       a.0,
       a.1,
-      may_domain _ _ (g.F.Files.real c.args.files.now) (found_of c.args.words.now) c.asked_last-last.result c.as_slice-2.result.now a.0 disk c.asked_last-last.ensures (search rules)
+      may_domain _ _ (g.F.Files.real c.args.files.now) (found_of c.args.words.now) c.asked_profile-profile.result c.in_ok-last.last c.as_slice-paths.result.now a.0 disk c.asked_profile-profile.ensures c.in_ok-last.ensures.last (search rules)
           (rw (← c.asked_mapfile.ensures) a.2),
     )

@@ -13,4 +13,5 @@ returns c =
     let five = c.in_ok-subcommand-5.ensures.shape (third_is_false _ _ _ _ (ap (λ (a : App). a.top.is_plain) c.in_ok-forget.ensures)) ∙ ap₂ with_subcommand four (ap (λ (a : App). a.top) c.in_ok-forget.ensures) in
     let six = c.in_ok-subcommand-6.ensures.shape (third_is_false _ _ _ _ (ap (λ (a : App). a.top.is_plain) c.in_ok-list.ensures)) ∙ ap₂ with_subcommand five (ap (λ (a : App). a.top) c.in_ok-list.ensures) in
     let seven = c.in_ok-subcommand-7.ensures.shape (third_is_false _ _ _ _ (ap (λ (a : App). a.top.is_plain) c.in_ok-summary.ensures)) ∙ ap₂ with_subcommand six (ap (λ (a : App). a.top) c.in_ok-summary.ensures) in
-    IfOk-weaker c.subcommand-8.result _ _ (λ m h. h.shape (third_is_false _ _ _ _ (ap (λ (a : App). a.top.is_plain) c.in_ok-image.ensures)) ∙ ap₂ with_subcommand seven (ap (λ (a : App). a.top) c.in_ok-image.ensures)) c.subcommand-8.ensures
+    let eight = c.in_ok-subcommand-8.ensures.shape (third_is_false _ _ _ _ (ap (λ (a : App). a.top.is_plain) c.in_ok-image.ensures)) ∙ ap₂ with_subcommand seven (ap (λ (a : App). a.top) c.in_ok-image.ensures) in
+    IfOk-weaker c.subcommand-9.result _ _ (λ m h. h.shape (third_is_false _ _ _ _ (ap (λ (a : App). a.top.is_plain) c.in_ok-page.ensures)) ∙ ap₂ with_subcommand eight (ap (λ (a : App). a.top) c.in_ok-page.ensures)) c.subcommand-9.ensures

@@ -7,4 +7,4 @@ use Rattle.udfs_salvage.proofs.json_reports.report_json.Goals as goal
 pub returns : goal.returns
 returns c =
     let r = c.args.report.now in
-    c.in_ok-text.ensures.text (ap has_float c.in_ok-value.ensures ∙ report_none r.table.now r.last (report_now r)) ∙ ap compact_text c.in_ok-value.ensures
+    c.in_ok-text.ensures.text (ap has_float c.in_ok-value.ensures ∙ report_none r.profile r.table.now r.last (report_now r)) ∙ ap compact_text c.in_ok-value.ensures

@@ -1,5 +1,6 @@
+use Rattle.udfs_volume.specs.declared.profiles.Profile.TheVariants.{Strict}
 use Rattle.udfs_salvage.proofs.Headlines.{one_report as law}
 use Rattle.udfs_salvage.proofs.laws.one_report.Goals as goal
 
 pub returns : goal.returns
-returns c = law
+returns c = record { strict = law Strict; by_profile = law }

@@ -1,5 +1,5 @@
-use Rattle.std.proofs.Common.{ap, ◌∙◌, ◌++◌}
-use Rattle.std.specs.Prelude.{codes, decimal}
+use Rattle.std.proofs.Common.{ap}
+use Rattle.std.specs.Prelude.{decimal}
 use Rattle.udfs_salvage.proofs.Putting.{puts_with, puts_same}
 use Rattle.udfs_salvage.proofs.lines.put_first.Goals as goal
 

@@ -1,8 +1,7 @@
 use Rattle.std.proofs.Common.{map}
 use Rattle.udfs_volume.specs.LayoutParts.{partition_now}
 use Rattle.udfs_salvage.specs.Texts.{map_texts}
-use Rattle.std.proofs.Common.{ap, ◌∙◌, ◌++◌}
-use Rattle.std.specs.Prelude.{codes, decimal}
+use Rattle.std.proofs.Common.{ap}
 use Rattle.udfs_salvage.proofs.Putting.{puts_same, puts_with}
 use Rattle.udfs_salvage.proofs.lines.put_open.Goals as goal
 

@@ -1,4 +1,4 @@
-use Rattle.std.proofs.Common.{ap, ◌∙◌, ◌++◌}
+use Rattle.std.proofs.Common.{ap, ◌++◌}
 use Rattle.std.specs.Prelude.{codes, decimal}
 use Rattle.udfs_salvage.proofs.Putting.{puts_with, puts_same}
 use Rattle.udfs_salvage.proofs.lines.put_reread.Goals as goal

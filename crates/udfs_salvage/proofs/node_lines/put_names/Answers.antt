@@ -1,4 +1,4 @@
-use Rattle.std.proofs.Common.{◌∙◌, sym, ◌++◌, arith, append-nil}
+use Rattle.std.proofs.Common.{sym, arith, append-nil}
 use Rattle.udfs_salvage.specs.NodeTexts.{name_text}
 use Rattle.udfs_printing.proofs.PublicLaws.{puts_none}
 use Rattle.udfs_salvage.proofs.PathNames.{next_name, some_name}

@@ -1,5 +1,5 @@
-use Rattle.std.proofs.Common.{ap, ◌∙◌, ◌++◌}
-use Rattle.std.specs.Prelude.{codes, decimal}
+use Rattle.std.proofs.Common.{ap}
+use Rattle.std.specs.Prelude.{decimal}
 use Rattle.udfs_salvage.proofs.Putting.{puts_same, puts_with}
 use Rattle.udfs_salvage.proofs.node_lines.put_two_place.Goals as goal
 

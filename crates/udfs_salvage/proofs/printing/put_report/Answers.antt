@@ -2,12 +2,12 @@ use Rattle.std.proofs.Common.{ap, ◌∙◌}
 use Rattle.udfs_lattice.specs.Tables.{state_of}
 use Rattle.udfs_salvage.specs.Found.{volume_now}
 use Rattle.udfs_salvage.specs.Texts.{has_two, reread_lines}
-use Rattle.udfs_salvage.specs.NodeTexts.{nodes_text, report_text, unnamed_texts}
+use Rattle.udfs_salvage.specs.NodeTexts.{nodes_text, report_text_by, unnamed_texts}
 use Rattle.udfs_salvage.proofs.Putting.{puts_same, puts_with}
 use Rattle.udfs_salvage.proofs.printing.put_report.Goals as goal
 
 pub returns : goal.returns
-unfolding report_text
+unfolding report_text_by
 returns g c =
     let r = c.args.report.now in
     let nodes = puts_same (ap (nodes_text 0) c.deref.ensures.value) c.put_nodes.ensures in

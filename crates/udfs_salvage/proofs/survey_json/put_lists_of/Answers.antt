@@ -1,4 +1,4 @@
-use Rattle.std.proofs.Common.{◌++◌, refl}
+use Rattle.std.proofs.Common.{◌++◌, refl, sym}
 use Rattle.std.specs.String.{string_bytes}
 use Rattle.std.proofs.lemmas.Result.{err_from_is_err_and}
 use Rattle.std.specs.Prelude.{codes}
@@ -6,7 +6,7 @@ use Rattle.serde_json.specs.Written.{compact_text}
 use Rattle.udfs_lattice.specs.Tables.{state_of}
 use Rattle.udfs_salvage.specs.Found.{volume_now}
 use Rattle.udfs_salvage.specs.JsonNodes.{list_data, node_data, unnamed_data}
-use Rattle.udfs_salvage.specs.JsonPieces.{report_end}
+use Rattle.udfs_salvage.specs.JsonPieces.{report_end, reread_words}
 use Rattle.udfs_salvage.specs.JsonReports.{reread_data}
 use Rattle.udfs_salvage.specs.Surveys.{survey_now}
 use Rattle.udfs_salvage.specs.Texts.{has_two}
@@ -18,7 +18,7 @@ returns-in_err-put_survey_nodes g c =
     let p = err_from_is_err_and c.from_residual.result c.from_residual.ensures.1 in
     let s = c.args.survey.now in
     let first = compact_text (list_data node_data (survey_now s).nodes) in
-    let second = codes ",\"reread\":" in
+    let second = reread_words s.profile in
     let third = compact_text (list_data (reread_data (state_of s.table.now)) s.reread.items)
     ++ (codes ",\"unnamed\":" ++ (compact_text (list_data (unnamed_data (has_two (volume_now s.volume))) (survey_now s).unnamed)
     ++ (report_end (volume_now s.volume) ++ codes "\n"))) in
@@ -29,19 +29,19 @@ returns-in_err-put_words g c =
     let p = err_from_is_err_and c.from_residual-in_err-put_words.result c.from_residual-in_err-put_words.ensures.1 in
     let s = c.args.survey.now in
     let first = compact_text (list_data node_data (survey_now s).nodes) in
-    let second = codes ",\"reread\":" in
+    let second = c.reread_words.result.now in
     let third = compact_text (list_data (reread_data (state_of s.table.now)) s.reread.items)
     ++ (codes ",\"unnamed\":" ++ (compact_text (list_data (unnamed_data (has_two (volume_now s.volume))) (survey_now s).unnamed)
     ++ (report_end (volume_now s.volume) ++ codes "\n"))) in
-    rw (p.1, p.2) (stopped_second_of first second third _ refl c.in_ok-put_survey_nodes.ensures c.in_err-put_words.ensures)
+    rw (p.1, p.2, sym c.reread_words.ensures) (stopped_second_of first second third _ refl c.in_ok-put_survey_nodes.ensures c.in_err-put_words.ensures)
 
 pub returns : goal.returns
 returns g c =
     let W = g.W.Sink in
     let s = c.args.survey.now in
     let first = compact_text (list_data node_data (survey_now s).nodes) in
-    let second = codes ",\"reread\":" in
+    let second = c.reread_words.result.now in
     let third = compact_text (list_data (reread_data (state_of s.table.now)) s.reread.items)
     ++ (codes ",\"unnamed\":" ++ (compact_text (list_data (unnamed_data (has_two (volume_now s.volume))) (survey_now s).unnamed)
     ++ (report_end (volume_now s.volume) ++ codes "\n"))) in
-    (passes_three (W.contents c.put_later.new.sink) (W.faults c.put_later.new.sink) (string_bytes c.put_later.new.text) first second third _ c.put_later.result refl c.in_ok-put_survey_nodes.ensures c.in_ok-put_words.ensures c.put_later.ensures)
+    rw (sym c.reread_words.ensures) (passes_three (W.contents c.put_later.new.sink) (W.faults c.put_later.new.sink) (string_bytes c.put_later.new.text) first second third _ c.put_later.result refl c.in_ok-put_survey_nodes.ensures c.in_ok-put_words.ensures c.put_later.ensures)

@@ -12,7 +12,7 @@ returns-in_err-put_front g c =
     let p = err_from_is_err_and c.from_residual.result c.from_residual.ensures.1 in
     let s = c.args.survey.now in
     let front = report_front s.table.now s.last (volume_now s.volume) in
-    rw (p.1, p.2) (stopped_first_of _ front _ _ (report_pieces s.table.now s.last (survey_now s)) c.in_err-put_front.ensures)
+    rw (p.1, p.2) (stopped_first_of _ front _ _ (report_pieces s.profile s.table.now s.last (survey_now s)) c.in_err-put_front.ensures)
 
 pub returns : goal.returns
 returns g c =
@@ -20,4 +20,4 @@ returns g c =
     let s = c.args.survey.now in
     let front = report_front s.table.now s.last (volume_now s.volume) in
     passes_two (W.contents c.put_lists_of.new.sink) (W.faults c.put_lists_of.new.sink) (string_bytes c.put_lists_of.new.text) front _ _ c.put_lists_of.result
-    (report_pieces s.table.now s.last (survey_now s)) c.in_ok-put_front.ensures c.put_lists_of.ensures
+    (report_pieces s.profile s.table.now s.last (survey_now s)) c.in_ok-put_front.ensures c.put_lists_of.ensures

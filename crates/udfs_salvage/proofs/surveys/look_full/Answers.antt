@@ -12,5 +12,5 @@ pub returns-in-Ok-clause-refused : goal.returns-in-Ok-clause-refused
 returns-in-Ok-clause-refused c =
     let T = state_of c.args.table.now in
     let a = volume_now c.in-Ok.survey.volume in
-    IfErr-weaker c.filled.result (λ e. (e ≡ OutOfMemory) × IsVolumeFound a) (IsLookRefused T c.args.last)
-    (λ e h. wants_memory T c.args.last a e c.in-Ok.ensures.report.volume_is h.0 h.1) c.filled.ensures.refused
+    IfErr-weaker c.filled.result (λ e. (e ≡ OutOfMemory) × IsVolumeFound a) (IsLookRefused c.args.profile T c.args.last)
+    (λ e h. wants_memory c.args.profile T c.args.last a e c.in-Ok.ensures.report.volume_is h.0 h.1) c.filled.ensures.refused

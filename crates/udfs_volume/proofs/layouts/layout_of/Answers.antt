@@ -25,5 +25,5 @@ returns c =
     let lv = descriptor_now c.in-Some.volume in
     let ms = map numbered_now c.in-Some-2.maps.items in
     let given : Some ms ≡ the_maps c.args.profile c.args.last lv = ap (option_map (λ maps. map numbered_now maps.items)) (sym c.in-Some-2.is) ∙ c.in_ok-maps.ensures in
-    let is : layout_of c.args.profile c.args.last ds ≡ laid_out c.args.last lv (described ds ms) = layout_of-maps c.args.profile c.args.last ds lv ms c.in-Some.ensures c.in_default-field_fault.ensures.value given in
+    let is : layout_of c.args.profile c.args.last ds ≡ laid_out c.args.profile c.args.last lv (described ds ms) = layout_of-maps c.args.profile c.args.last ds lv ms c.in-Some.ensures c.in_default-field_fault.ensures.value given in
     subst (λ a. IfOk c.lay_out.result (λ seen. Sees parts_now seen a)) (sym is) c.lay_out.ensures

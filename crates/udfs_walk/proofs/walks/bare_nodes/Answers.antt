@@ -1,4 +1,4 @@
-use Rattle.std.proofs.Common.{◌∙◌, ap, subst, ◌++◌, ◌∷◌, ◌≤◌, [], false, map, refl, arith, length, length-append}
+use Rattle.std.proofs.Common.{◌∙◌, ap, subst, ◌∷◌, ◌≤◌, [], false, map, refl, arith, length, length-append}
 use Rattle.std.proofs.lemmas.List.{length-map}
 use Rattle.std.specs.Prelude.{MatchOption}
 use Rattle.udfs_lattice.specs.Tables.{state_of}

@@ -13,11 +13,11 @@ use Rattle.udfs_file.proofs.bodies.Body.read.Goals as goal
 
 pub returns-then-form-ne3 : goal.returns-then-form-ne3
 returns-then-form-ne3 c =
-    body_clauses (view (state_of c.args.table.now) c.args.space.now) c.args.reference c.args.b (entry_of c.args.entry.now) c.walk.result _
-    (subst (GivesStretches (view (state_of c.args.table.now) c.args.space.now) c.walk.result)
+    body_clauses (view (state_of c.args.table.now) c.args.space.now) c.args.reference c.args.b (entry_of c.args.entry.now) c.listed.result _
+    (subst (GivesStretches (view (state_of c.args.table.now) c.args.space.now) c.listed.result)
     (body-by (view (state_of c.args.table.now) c.args.space.now) c.args.reference c.args.b c.args.entry.now c.form-then-form-ne3.result c.size.result c.area.result.now
     c.form-then-form-ne3.ensures c.size.ensures c.area.ensures.value (λ z. c.if-form-ne3.true (c.form.ensures ∙ sym c.form-then-form-ne3.ensures ∙ z)))
-    c.walk.ensures.value) (λ e. inr (subst (λ n. 0 < n) c.size.ensures (c.walk.ensures.memory e)))
+    c.listed.ensures.value) (λ e. inr (subst (λ n. 0 < n) c.size.ensures (c.listed.ensures.memory e)))
 
 pub returns-then-size-area : goal.returns-then-size-area
 returns-then-size-area c =

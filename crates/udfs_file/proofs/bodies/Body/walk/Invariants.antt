@@ -1,14 +1,15 @@
 use Rattle.std.proofs.Common.{◌+◌, ◌-◌, ◌*◌, ◌<◌, ◌≤◌, length}
 use Rattle.udfs_space.specs.Views.{view_now}
-use Rattle.udfs_file.specs.Stretches.{LieInBlocks, listed_body}
+use Rattle.udfs_file.specs.Bodies.{listed_body}
+use Rattle.udfs_file.specs.Stretches.{LieInBlocks}
 use Rattle.udfs_file.proofs.BlockLemmas.{AllFill}
 use Rattle.udfs_file.proofs.WalkLemmas.{IsWalk}
 use Rattle.udfs_file.proofs.bodies.Body.walk.Given as goal
 
 abbrev pub invariant-walk : goal.invariant-walk
 invariant-walk l = record {
-  walk : IsWalk (view_now l.view) l.size l.form l.reference
-      (listed_body (view_now l.view) l.form l.reference l.size l.fn.area)
+  walk : IsWalk l.tail (view_now l.view) l.size l.form l.reference
+      (listed_body l.tail (view_now l.view) l.form l.reference l.size l.fn.area)
       l.left l.c l.area l.i l.stretches.items;
   area_fits : length l.area ≤ 2048;
   within : l.c ≤ l.size;

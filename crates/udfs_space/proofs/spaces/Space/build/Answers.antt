@@ -20,7 +20,7 @@ invariant_of-result c =
     (omega (arith, many, c.requires.bounded.one), omega (arith, many, c.requires.bounded.two))
 
 pub returns-in-Ok-Got : goal.returns-in-Ok-Got
-returns-in-Ok-Got c = space_clauses (state_of c.args.table.now) (parts_now c.args.parts.now) (Got c.in-Ok-Got.spans.items) c.requires.bounded
+returns-in-Ok-Got c = space_clauses (state_of c.args.table.now) (parts_now c.args.parts.now) (Got (record { spans = c.in-Ok-Got.spans.items; takes_tail = c.args.parts.now.takes_tail })) c.requires.bounded
     (space_by (state_of c.args.table.now) (parts_now c.args.parts.now) partition_now c.deref.result.now c.args.parts.now.partitions.items _ c.deref.ensures.value refl
     (rw c.in-Ok-Got.field-0-is at c.in-Ok-Got.ensures))
 

@@ -1,0 +1,33 @@
+-- The first bytes of a page.
+use Rattle.std.proofs.Common.{◌≡◌, ◌∙◌, refl, ap, ℕ, List, ◌++◌, append_assoc}
+use Rattle.std.specs.Prelude.{codes}
+use Rattle.udfs_lattice.specs.Tables.{Table}
+use Rattle.udfs_salvage.specs.Reports.{Report}
+use Rattle.udfs_page.specs.Heads.{before_title, head_back, page_mark}
+use Rattle.udfs_page.specs.Markups.{markup}
+use Rattle.udfs_page.specs.Overviews.{title_html}
+use Rattle.udfs_page.specs.Pages.{disc_html, files_html, page_html}
+
+-- a front of some text is a front of that text and more
+and_more : (whole a rest more : List ℕ) → whole ≡ a ++ rest → whole ++ more ≡ a ++ (rest ++ more)
+and_more whole a rest more e = ap (λ t. t ++ more) e ∙ append_assoc a rest more
+
+-- the page's own text stands as it is
+as_it_is : (words : List ℕ) → markup words ≡ words
+unfolding markup
+as_it_is words = refl
+
+begins_marked : (table : Table) (last : ℕ) (report : Report) → (rest : List ℕ) × (page_html table last report ≡ markup page_mark ++ rest)
+unfolding page_html
+begins_marked table last report = (
+  _,
+  and_more _ (markup page_mark) _ (markup (codes "</body>\n</html>\n"))
+      (and_more _ (markup page_mark) _ (files_html report.volume report)
+      (and_more _ (markup page_mark) _ (disc_html table last report)
+      (and_more _ (markup page_mark) _ head_back (and_more (markup page_mark ++ markup before_title) (markup page_mark) (markup before_title) (title_html report.volume) refl)))),
+)
+
+pub begins_so : (table : Table) (last : ℕ) (report : Report) → (rest : List ℕ) × (page_html table last report ≡ page_mark ++ rest)
+begins_so table last report =
+    let b = begins_marked table last report in
+    (b.0, b.1 ∙ ap (λ mark. mark ++ b.0) (as_it_is page_mark))

@@ -1,0 +1,68 @@
+-- Nodes in their order, each with the depth of the next; and the last name of a path.
+use Rattle.std.proofs.Common.{◌≡◌, ◌∙◌, refl, sym, ap, subst, arith, ℕ, ◌+◌, ◌-◌, ◌<◌, List, [], ◌∷◌, ◌++◌, length, map, drop, take, get_or, Some}
+use Rattle.std.specs.Prelude.{zero, suc, flat_map, slice_get}
+use Rattle.std.proofs.lemmas.List.{length-map}
+use Rattle.std.proofs.Math.Seq.{take-length}
+use Rattle.udfs_space.specs.Places.{View}
+use Rattle.udfs_walk.specs.Bare.{full_node}
+use Rattle.udfs_walk.specs.NodeFields.{NodeFields}
+use Rattle.udfs_overview.specs.SafeNames.{safe_name}
+use Rattle.udfs_page.specs.Trees.{first_depth, node_html, nodes_html, own_name, with_next}
+use Rattle.udfs_page.proofs.Texts.{text_more}
+
+-- each node is there with the depth of the next
+with_next_length : (ns : List NodeFields) → length (with_next ns) ≡ length ns
+with_next_length [] = refl
+with_next_length (n ∷ ns) = ap suc (with_next_length ns)
+
+with_next_at : (ns : List NodeFields) (i : ℕ) (n : NodeFields) (d : NodeFields × ℕ) → i < length ns → n ≡ get_or ns i n → (n, first_depth (drop (i + 1) ns)) ≡ get_or (with_next ns) i d
+with_next_at [] i n d h e = absurd (let z : ⊥ = omega (arith, h) in z)
+with_next_at (m ∷ ms) zero n d h e = ap (λ k. (k, first_depth ms)) e
+with_next_at (m ∷ ms) (suc i) n d h e =
+    let k : suc i + 1 ≡ suc (i + 1) = omega arith in
+    ap (λ j. (n, first_depth (drop j (m ∷ ms)))) k ∙ with_next_at ms i n d (omega (arith, h)) e
+
+-- what a node lacks does not change its depth
+full_depth : (v : View) (k : ℕ) (ns : List NodeFields) → first_depth (drop k (map (full_node v) ns)) ≡ first_depth (drop k ns)
+full_depth v zero [] = refl
+full_depth v zero (n ∷ ns) = refl
+full_depth v (suc k) [] = refl
+full_depth v (suc k) (n ∷ ns) = full_depth v k ns
+
+full_at : (v : View) (ns : List NodeFields) (i : ℕ) (n : NodeFields) → i < length ns → n ≡ get_or ns i n → full_node v n ≡ get_or (map (full_node v) ns) i (full_node v n)
+full_at v [] i n h e = absurd (let z : ⊥ = omega (arith, h) in z)
+full_at v (m ∷ ms) zero n h e = ap (full_node v) e
+full_at v (m ∷ ms) (suc i) n h e = full_at v ms i n (omega (arith, h)) e
+
+-- the nodes so far
+abbrev pub nodes_so_far : View → List NodeFields → ℕ → List ℕ
+nodes_so_far v ns i = flat_map (λ (p : NodeFields × ℕ). node_html p.0 p.1) (take i (with_next (map (full_node v) ns)))
+
+-- and one more
+pub node_more : (v : View) (ns : List NodeFields) (i : ℕ) (n : NodeFields) (next : ℕ) (old middle new : List ℕ) → i < length ns → n ≡ get_or ns i n → next ≡ first_depth (drop (i + 1) ns)
+    → middle ≡ old ++ nodes_so_far v ns i → new ≡ middle ++ node_html (full_node v n) next → new ≡ old ++ nodes_so_far v ns (i + 1)
+node_more v ns i n next old middle new h is depth e more =
+    let fulls = map (full_node v) ns in
+    let size : length fulls ≡ length ns = length-map ns (full_node v) in
+    let within : i < length fulls = omega (arith, h, size) in
+    let paired : length (with_next fulls) ≡ length fulls = with_next_length fulls in
+    let deep : next ≡ first_depth (drop (i + 1) fulls) = depth ∙ sym (full_depth v (i + 1) ns) in
+    let p : NodeFields × ℕ = (full_node v n, next) in
+    let here : p ≡ get_or (with_next fulls) i p = ap (λ k. (full_node v n, k)) deep ∙ with_next_at fulls i (full_node v n) p within (full_at v ns i n h is) in
+    text_more (λ (q : NodeFields × ℕ). node_html q.0 q.1) (with_next fulls) i p old middle new (omega (arith, h, size, paired)) here e more
+
+-- all nodes
+pub all_nodes : (v : View) (ns : List NodeFields) → nodes_so_far v ns (length ns) ≡ nodes_html (map (full_node v) ns)
+unfolding nodes_html
+all_nodes v ns =
+    let fulls = map (full_node v) ns in
+    let size : length (with_next fulls) ≡ length ns = with_next_length fulls ∙ length-map ns (full_node v) in
+    ap (λ ps. flat_map (λ (p : NodeFields × ℕ). node_html p.0 p.1) ps) (ap (λ k. take k (with_next fulls)) (sym size) ∙ take-length (with_next fulls))
+
+-- the last name of a path is its own
+pub own_last : (path : List (List ℕ)) (name : List ℕ) → slice_get path (length path - 1) ≡ Some name → own_name path ≡ safe_name name
+own_last [] name e = absurd (let z : ⊥ = cc in z)
+own_last (x ∷ []) name e = let same : x ≡ name = cc in ap safe_name same
+own_last (x ∷ y ∷ ys) name e =
+    let k : length (x ∷ y ∷ ys) - 1 ≡ suc (length (y ∷ ys) - 1) = omega arith in
+    own_last (y ∷ ys) name (subst (λ j. slice_get (x ∷ y ∷ ys) j ≡ Some name) k e)

@@ -1,0 +1,19 @@
+-- The folders that are open between nodes.
+--     open_after nodes k       how many folders have begun behind the first k nodes, and have not ended
+--     IsStepwise nodes         no node is more than one folder further in than the one before it
+use Rattle.std.specs.Prelude.{⊤, ℕ, ◌+◌, ◌-◌, ◌≤◌, nat_lt, List, [], ◌∷◌, fold, length, take, if◌then◌else◌}
+use Rattle.udfs_walk.specs.NodeFields.{NodeFields}
+use Rattle.udfs_page.specs.Trees.{first_depth, with_next}
+
+-- a node begins a folder, or so many end behind it
+abbrev pub open_behind : ℕ → NodeFields × ℕ → ℕ
+open_behind before p = if nat_lt (length p.0.path) p.1 then before + 1 else before - (length p.0.path - p.1)
+
+-- how many are open behind the first k nodes
+abbrev pub open_after : List NodeFields → ℕ → ℕ
+open_after nodes k = fold open_behind 0 (take k (with_next nodes))
+
+-- no node is more than one folder further in than the one before it
+abbrev pub IsStepwise : List NodeFields → Type 0
+IsStepwise [] = ⊤
+IsStepwise (n ∷ ns) = (first_depth ns ≤ length n.path + 1) × IsStepwise ns

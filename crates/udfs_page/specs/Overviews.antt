@@ -1,0 +1,80 @@
+-- The summary at the head of the page.
+--     title_html answer                what the page is of: the volume's name, where it opens
+--     overview_html table last r       what is found of a volume, and the blocks of its disc, a division a line
+use Rattle.std.specs.Prelude.{ℕ, ◌-◌, ◌==◌, ◌&&◌, nat_le, List, [], ◌++◌, Option, Some, None, codes, if◌then◌else◌}
+use Rattle.udfs_lattice.specs.Tables.{Table}
+use Rattle.udfs_volume.specs.Answers.{Answer, found, holes, faulty}
+use Rattle.udfs_salvage.specs.Found.{Found}
+use Rattle.udfs_salvage.specs.Reports.{Report}
+use Rattle.udfs_overview.specs.DiscTallies.{disc_of, unnamed_of}
+use Rattle.udfs_overview.specs.Figures.{grouped}
+use Rattle.udfs_overview.specs.Summaries.{torn_folder}
+use Rattle.udfs_overview.specs.SummaryTexts.{disc_line, files_line, others_line, unnamed_line}
+use Rattle.udfs_overview.specs.Tallies.{tally_of}
+use Rattle.udfs_overview.specs.TornLists.{shown_path}
+use Rattle.udfs_overview.specs.VolumeLines.{disc_size_text, label_text, revision_and_kinds, volume_line}
+use Rattle.udfs_overview.specs.declared.disc_tallies.UnnamedTally.{UnnamedTally}
+use Rattle.udfs_overview.specs.declared.tallies.Tally.{Tally}
+use Rattle.udfs_page.specs.Escapes.{html_lines, html_text}
+use Rattle.udfs_page.specs.Markups.{markup, shown_name}
+
+-- what the page is of
+abbrev pub title_html : Answer Found → List ℕ
+title_html (found f) = html_text (label_text f.layout.label)
+title_html (holes blocks) = markup (codes "a disc that does not open")
+title_html (faulty f) = markup (codes "a disc that does not open")
+
+-- a line ends, and the next begins
+abbrev pub next_line : List ℕ
+next_line = markup (codes "</div>\n<div>")
+
+-- a number, and what is counted
+abbrev pub counted_html : ℕ → List ℕ → List ℕ
+counted_html n words = grouped n ++ markup words
+
+-- of so many torn directories, how many there are beside the first
+abbrev pub other_folders_html : ℕ → List ℕ
+other_folders_html torn = if nat_le torn 1 then [] else markup (codes " and ") ++ counted_html (torn - 1) (codes " more")
+
+-- where names may be missing: the first torn directory of so many, and how many more
+abbrev pub missing_html : ℕ → List (List ℕ) → List ℕ
+missing_html torn path = markup (codes ": names may be missing in ") ++ shown_name (shown_path path) ++ other_folders_html torn
+
+-- where names may be missing, if anywhere
+abbrev pub names_missing_html : ℕ → Option (List (List ℕ)) → List ℕ
+names_missing_html torn None = []
+names_missing_html torn (Some path) = missing_html torn path
+
+-- how many directories there are
+abbrev pub folder_counts_html : Tally → List ℕ
+folder_counts_html t = markup (codes "Folders    ") ++ counted_html t.whole_folders (codes " whole   ") ++ counted_html t.torn_folders (codes " torn")
+
+-- the line of the folders, if there are any; the root is one
+unfoldable pub folders_html : Tally → Option (List (List ℕ)) → List ℕ
+folders_html t path =
+    if t.whole_folders == 0 && t.torn_folders == 0 then []
+    else folder_counts_html t ++ names_missing_html t.torn_folders path ++ next_line
+
+-- the lines of what is found of a volume that opens
+abbrev pub found_html : Tally → Option (List (List ℕ)) → UnnamedTally → List ℕ
+found_html t path u = html_lines (files_line t) ++ folders_html t path ++ html_lines (others_line t) ++ html_lines (unnamed_line u)
+
+-- the first line of a volume that opens: its name, its revision, and its size
+abbrev pub open_html : Found → ℕ → List ℕ
+open_html f last =
+    shown_name (label_text f.layout.label) ++ markup (codes "   ") ++ revision_and_kinds f.layout ++ markup (codes "   ") ++ disc_size_text last ++ next_line
+
+-- the lines of a volume that opens
+abbrev pub opened_html : Found → ℕ → Report → List ℕ
+opened_html f last r = open_html f last ++ found_html (tally_of r.nodes) (torn_folder r.nodes) (unnamed_of r.unnamed)
+
+-- the lines of the volume: of one that does not open, why
+abbrev pub volume_html : Answer Found → ℕ → Report → List ℕ
+volume_html (found f) last r = opened_html f last r
+volume_html (holes blocks) last r = html_lines (volume_line (holes blocks) last)
+volume_html (faulty f) last r = html_lines (volume_line (faulty f) last)
+
+-- all lines
+unfoldable pub overview_html : Table → ℕ → Report → List ℕ
+overview_html table last r =
+    markup (codes "<div class=s>\n<div>") ++ volume_html r.volume last r ++ html_lines (disc_line (disc_of table last r.reread)) ++ markup (codes "</div>\n</div>\n")

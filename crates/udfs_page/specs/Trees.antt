@@ -1,0 +1,124 @@
+-- The files and folders, each inside its folder.
+--     class_of standing          how whole a node is, as the style knows it
+--     note_html s k size         what is told of a node beside its name
+--     node_html n next           a node, and what begins or ends with it
+--     tree_html nodes            all nodes
+use Rattle.std.specs.Prelude.{ℕ, ◌-◌, nat_lt, List, [], ◌∷◌, ◌++◌, Option, Some, None, codes, flat_map, length, if◌then◌else◌}
+use Rattle.udfs_file.specs.declared.faults.Kind.{Kind}
+use Rattle.udfs_file.specs.declared.faults.Kind.TheVariants as kind
+use Rattle.udfs_file.specs.declared.faults.NodeFault.{NodeFault}
+use Rattle.udfs_walk.specs.NodeFields.{NodeFields}
+use Rattle.udfs_walk.specs.declared.standings.Standing.{Standing}
+use Rattle.udfs_walk.specs.declared.standings.Standing.TheVariants as standing
+use Rattle.udfs_salvage.specs.NodeTexts.{node_fault_number}
+use Rattle.udfs_overview.specs.Figures.{size_text}
+use Rattle.udfs_overview.specs.NodeLists.{lost_of}
+use Rattle.udfs_overview.specs.SafeNames.{safe_name}
+use Rattle.udfs_page.specs.Holes.{closings, ranges_html}
+use Rattle.udfs_page.specs.Markups.{figure, markup, shown_name}
+
+-- ---- what is told of a node
+
+-- how whole it is
+abbrev pub class_of : Standing → List ℕ
+class_of standing.Whole = codes "w"
+class_of (standing.Torn torn) = codes "t"
+class_of standing.Loop = codes "f"
+class_of (standing.Fault f) = codes "f"
+
+-- the name by which it stands in its folder; the root has none
+abbrev pub own_name : List (List ℕ) → List ℕ
+own_name [] = codes "/"
+own_name (name ∷ []) = safe_name name
+own_name (name ∷ next ∷ names) = own_name (next ∷ names)
+
+-- how many bytes it has, where that is known
+abbrev pub size_html : Option ℕ → List ℕ
+size_html None = markup (codes "size not known")
+size_html (Some n) = size_text n
+
+-- a type that has no name here
+abbrev pub other_html : ℕ → List ℕ
+other_html number = markup (codes "of type ") ++ figure number
+
+-- what it is
+abbrev pub kind_html : Kind → Option ℕ → List ℕ
+kind_html kind.Directory size = markup (codes "folder")
+kind_html kind.File size = size_html size
+kind_html kind.Link size = markup (codes "link")
+kind_html (kind.Other t) size = other_html t
+kind_html kind.Unread size = markup (codes "not yet known")
+
+-- how many bytes are lost, and where
+abbrev pub known_lost : ℕ → List (ℕ × ℕ) → List ℕ
+known_lost lost holes = markup (codes ", torn: ") ++ size_text lost ++ markup (codes " lost, bytes") ++ ranges_html holes
+
+-- what is lost of a torn node, and where
+abbrev pub lost_html : Option ℕ → List (ℕ × ℕ) → List ℕ
+lost_html None holes = []
+lost_html (Some lost) holes = known_lost lost holes
+
+-- a fault
+abbrev pub fault_html : NodeFault → List ℕ
+fault_html fault = markup (codes ", fault ") ++ figure (node_fault_number fault)
+
+-- how whole it is
+abbrev pub standing_html : Standing → Kind → List ℕ
+standing_html standing.Whole k = []
+standing_html (standing.Torn torn) k = lost_html (lost_of (standing.Torn torn) k) torn.holes
+standing_html standing.Loop k = markup (codes ", a loop: it stands inside itself")
+standing_html (standing.Fault f) k = fault_html f
+
+-- what is told beside its name
+abbrev pub note_html : Standing → Kind → Option ℕ → List ℕ
+note_html s k size = markup (codes "<small>") ++ kind_html k size ++ standing_html s k ++ markup (codes "</small>")
+
+-- its name, and what is told beside it
+unfoldable pub told_html : NodeFields → List ℕ
+told_html n = shown_name (own_name n.path) ++ note_html n.standing n.kind n.size
+
+-- ---- what begins and ends with it
+
+-- what a folder begins with: that of the root is open
+abbrev pub details_front : ℕ → List ℕ
+details_front depth = if nat_lt 0 depth then markup (codes "<details class=") else markup (codes "<details open class=")
+
+-- a folder begins, in which there is something
+abbrev pub folder_front : ℕ → Standing → List ℕ
+folder_front depth s = details_front depth ++ markup (class_of s) ++ markup (codes "><summary>")
+
+-- the node begins a folder
+abbrev pub folder_html : NodeFields → List ℕ
+folder_html n = folder_front (length n.path) n.standing ++ told_html n ++ markup (codes "</summary>\n")
+
+-- a node stands in a line
+abbrev pub leaf_front : Standing → List ℕ
+leaf_front s = markup (codes "<div class=") ++ markup (class_of s) ++ markup (codes ">")
+
+-- the node stands in a line, behind which so many folders end
+abbrev pub leaf_html : NodeFields → ℕ → List ℕ
+leaf_html n ended = leaf_front n.standing ++ told_html n ++ markup (codes "</div>\n") ++ closings ended
+
+-- a node, by how many names the path of the next one has
+unfoldable pub node_html : NodeFields → ℕ → List ℕ
+node_html n next = if nat_lt (length n.path) next then folder_html n else leaf_html n (length n.path - next)
+
+-- ---- all nodes
+
+-- how many names the path of the first node has
+abbrev pub first_depth : List NodeFields → ℕ
+first_depth [] = 0
+first_depth (n ∷ ns) = length n.path
+
+-- each node, and how many names the path of the next one has
+abbrev pub with_next : List NodeFields → List (NodeFields × ℕ)
+with_next [] = []
+with_next (n ∷ ns) = (n, first_depth ns) ∷ with_next ns
+
+-- the nodes in their order, in which a folder's stand behind it
+unfoldable pub nodes_html : List NodeFields → List ℕ
+nodes_html nodes = flat_map (λ (p : NodeFields × ℕ). node_html p.0 p.1) (with_next nodes)
+
+-- all nodes
+abbrev pub tree_html : List NodeFields → List ℕ
+tree_html nodes = markup (codes "<h2>All files</h2>\n") ++ nodes_html nodes

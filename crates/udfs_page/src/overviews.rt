@@ -1,0 +1,278 @@
+//! The summary at the head of the page. Each function appends to a text; where memory is refused, a part may be appended.
+
+ghost use Rattle.std.specs.Prelude.{◌≡◌, ◌++◌, OnOk, option_map};
+ghost use Rattle.std.specs.String.{string_bytes};
+ghost use Rattle.udfs_volume.specs.LayoutParts.{parts_now};
+ghost use Rattle.udfs_salvage.specs.Found.{found_now, volume_now};
+ghost use Rattle.udfs_salvage.specs.Surveys.{survey_now};
+ghost use Rattle.udfs_overview.specs.DiscTallies.{disc_of};
+ghost use Rattle.udfs_overview.specs.SummaryTexts.{disc_line, files_line, others_line, unnamed_line};
+ghost use Rattle.udfs_overview.specs.TornLists.{shown_path};
+ghost use Rattle.udfs_overview.specs.VolumeLines.{label_text, volume_line};
+ghost use Rattle.udfs_page.specs.Escapes.{html_lines, html_text};
+ghost use Rattle.udfs_page.specs.Markups.{shown_name};
+ghost use Rattle.udfs_page.specs.Overviews.{counted_html, folder_counts_html, folders_html, found_html, missing_html, names_missing_html, next_line, open_html, opened_html, other_folders_html, overview_html, title_html, volume_html};
+
+use crate::escapes::{push_html, push_lines};
+use crate::markups::{push_markup, push_shown};
+use std::alloc::Global;
+use udfs_osta::{Label, OutOfMemory};
+use udfs_overview::{
+    Tally, UnnamedTally, count_disc, count_nodes, count_unnamed, first_torn_folder, push_disc,
+    push_disc_size, push_files, push_grouped, push_label, push_others, push_revision,
+    push_shown_path, push_unnamed, push_volume,
+};
+use udfs_salvage::{OpenVolume, Survey, Volume};
+use udfs_walk::Path;
+
+/// The volume's name, by itself.
+fn push_shown_label(alloc: Global, text: &mut String, label: &Label) -> Result<(), OutOfMemory>
+    ensures { OnOk result (string_bytes text.new ≡ string_bytes text.old ++ shown_name (label_text label.now)) }
+{
+    let mut name = String::new(alloc);
+    push_label(&mut name, label)?;
+    push_shown(text, &name)
+}
+
+/// The volume's name, which may stand in a title.
+fn push_title_label(alloc: Global, text: &mut String, label: &Label) -> Result<(), OutOfMemory>
+    ensures { OnOk result (string_bytes text.new ≡ string_bytes text.old ++ html_text (label_text label.now)) }
+{
+    let mut name = String::new(alloc);
+    push_label(&mut name, label)?;
+    push_html(text, &name)
+}
+
+/// What the page is of: the volume's name, where it opens.
+pub(crate) fn push_title(
+    alloc: Global,
+    text: &mut String,
+    volume: &Volume,
+) -> Result<(), OutOfMemory>
+    ensures { OnOk result (string_bytes text.new ≡ string_bytes text.old ++ title_html (volume_now volume.now)) }
+{
+    match volume {
+        Volume::Open(opened) => push_title_label(alloc, text, &opened.parts.label),
+        Volume::Holes(_) => push_markup(text, "a disc that does not open"),
+        Volume::Fault(_) => push_markup(text, "a disc that does not open"),
+    }
+}
+
+/// A line ends, and the next begins.
+fn push_next_line(text: &mut String) -> Result<(), OutOfMemory>
+    ensures { OnOk result (string_bytes text.new ≡ string_bytes text.old ++ (next_line)) }
+{
+    push_markup(text, "</div>\n<div>")
+}
+
+/// The first line of a volume that opens: its name, its revision, and its size.
+fn push_open(
+    alloc: Global,
+    text: &mut String,
+    opened: &OpenVolume,
+    last: u32,
+) -> Result<(), OutOfMemory>
+    ensures { OnOk result (string_bytes text.new ≡ string_bytes text.old ++ open_html (found_now opened.now) last) }
+{
+    push_shown_label(alloc, text, &opened.parts.label)?;
+    push_markup(text, "   ")?;
+    push_revision(text, &opened.parts)?;
+    push_markup(text, "   ")?;
+    push_disc_size(text, last)?;
+    push_next_line(text)
+}
+
+/// A number, and what is counted.
+fn push_counted(text: &mut String, number: usize, words: &str) -> Result<(), OutOfMemory>
+    ensures { OnOk result (string_bytes text.new ≡ string_bytes text.old ++ counted_html number words.now) }
+{
+    push_grouped(number as u128, text)?;
+    push_markup(text, words)
+}
+
+/// Of so many torn directories, how many there are beside the first.
+fn push_other_folders(text: &mut String, torn: usize) -> Result<(), OutOfMemory>
+    ensures { OnOk result (string_bytes text.new ≡ string_bytes text.old ++ other_folders_html torn) }
+{
+    if torn <= 1 {
+        return Ok(());
+    }
+    push_markup(text, " and ")?;
+    push_counted(text, torn - 1, " more")
+}
+
+/// A path, by itself.
+fn push_path(alloc: Global, text: &mut String, path: &Path) -> Result<(), OutOfMemory>
+    ensures { OnOk result (string_bytes text.new ≡ string_bytes text.old ++ shown_name (shown_path path.now)) }
+{
+    let mut shown = String::new(alloc);
+    push_shown_path(&mut shown, path)?;
+    push_shown(text, &shown)
+}
+
+/// Where names may be missing: the first torn directory, and how many more.
+fn push_missing(
+    alloc: Global,
+    text: &mut String,
+    torn: usize,
+    path: &Path,
+) -> Result<(), OutOfMemory>
+    ensures { OnOk result (string_bytes text.new ≡ string_bytes text.old ++ missing_html torn path.now) }
+{
+    push_markup(text, ": names may be missing in ")?;
+    push_path(alloc, text, path)?;
+    push_other_folders(text, torn)
+}
+
+/// Where names may be missing, if anywhere.
+fn push_names_missing(
+    alloc: Global,
+    text: &mut String,
+    torn: usize,
+    path: Option<&Path>,
+) -> Result<(), OutOfMemory>
+    ensures { OnOk result (string_bytes text.new ≡ string_bytes text.old ++ names_missing_html torn (option_map (λ path. path.now) path.entry)) }
+{
+    match path {
+        None => Ok(()),
+        Some(path) => push_missing(alloc, text, torn, path),
+    }
+}
+
+/// How many directories there are.
+fn push_folder_counts(text: &mut String, tally: &Tally) -> Result<(), OutOfMemory>
+    ensures { OnOk result (string_bytes text.new ≡ string_bytes text.old ++ folder_counts_html tally.now) }
+{
+    push_markup(text, "Folders    ")?;
+    push_counted(text, tally.whole_folders, " whole   ")?;
+    push_counted(text, tally.torn_folders, " torn")
+}
+
+/// The line of the folders, if there are any.
+#[tactic(auto, unfolding(crate::specs::Overviews::folders_html))]
+fn push_folders(
+    alloc: Global,
+    text: &mut String,
+    tally: &Tally,
+    path: Option<&Path>,
+) -> Result<(), OutOfMemory>
+    ensures { OnOk result (string_bytes text.new ≡ string_bytes text.old ++ folders_html tally.now (option_map (λ path. path.now) path.entry)) }
+{
+    if tally.whole_folders == 0 && tally.torn_folders == 0 {
+        return Ok(());
+    }
+    push_folder_counts(text, tally)?;
+    push_names_missing(alloc, text, tally.torn_folders, path)?;
+    push_next_line(text)
+}
+
+/// The line of the files.
+fn push_file_lines(alloc: Global, text: &mut String, tally: &Tally) -> Result<(), OutOfMemory>
+    ensures { OnOk result (string_bytes text.new ≡ string_bytes text.old ++ html_lines (files_line tally.now)) }
+{
+    let mut lines = String::new(alloc);
+    push_files(&mut lines, tally)?;
+    push_lines(text, &lines)
+}
+
+/// The line of links and devices, of faults and of loops.
+fn push_other_lines(alloc: Global, text: &mut String, tally: &Tally) -> Result<(), OutOfMemory>
+    ensures { OnOk result (string_bytes text.new ≡ string_bytes text.old ++ html_lines (others_line tally.now)) }
+{
+    let mut lines = String::new(alloc);
+    push_others(&mut lines, tally)?;
+    push_lines(text, &lines)
+}
+
+/// The line of whole files that no name leads to.
+fn push_unnamed_lines(
+    alloc: Global,
+    text: &mut String,
+    tally: &UnnamedTally,
+) -> Result<(), OutOfMemory>
+    ensures { OnOk result (string_bytes text.new ≡ string_bytes text.old ++ html_lines (unnamed_line tally.now)) }
+{
+    let mut lines = String::new(alloc);
+    push_unnamed(&mut lines, tally)?;
+    push_lines(text, &lines)
+}
+
+/// The line of the blocks.
+fn push_disc_lines(alloc: Global, text: &mut String, survey: &Survey<'_>) -> Result<(), OutOfMemory>
+    ensures { OnOk result (string_bytes text.new ≡ string_bytes text.old ++ html_lines (disc_line (disc_of survey.now.table.now survey.now.last survey.now.reread.items))) }
+{
+    let mut lines = String::new(alloc);
+    push_disc(&mut lines, &count_disc(survey))?;
+    push_lines(text, &lines)
+}
+
+/// Why a volume does not open.
+fn push_volume_lines(
+    alloc: Global,
+    text: &mut String,
+    volume: &Volume,
+    last: u32,
+) -> Result<(), OutOfMemory>
+    ensures { OnOk result (string_bytes text.new ≡ string_bytes text.old ++ html_lines (volume_line (volume_now volume.now) last)) }
+{
+    let mut lines = String::new(alloc);
+    push_volume(&mut lines, volume, last)?;
+    push_lines(text, &lines)
+}
+
+/// The lines of what is found of a volume that opens.
+fn push_found(
+    alloc: Global,
+    text: &mut String,
+    tally: &Tally,
+    path: Option<&Path>,
+    unnamed: &UnnamedTally,
+) -> Result<(), OutOfMemory>
+    ensures { OnOk result (string_bytes text.new ≡ string_bytes text.old ++ found_html tally.now (option_map (λ path. path.now) path.entry) unnamed.now) }
+{
+    push_file_lines(alloc, text, tally)?;
+    push_folders(alloc, text, tally, path)?;
+    push_other_lines(alloc, text, tally)?;
+    push_unnamed_lines(alloc, text, unnamed)
+}
+
+/// The lines of a volume that opens.
+fn push_opened(
+    alloc: Global,
+    text: &mut String,
+    opened: &OpenVolume,
+    survey: &Survey<'_>,
+) -> Result<(), OutOfMemory>
+    ensures { OnOk result (string_bytes text.new ≡ string_bytes text.old ++ opened_html (found_now opened.now) survey.now.last (survey_now survey.now)) }
+{
+    let tally = count_nodes(alloc, survey)?;
+    let unnamed = count_unnamed(survey);
+    push_open(alloc, text, opened, survey.last)?;
+    push_found(alloc, text, &tally, first_torn_folder(survey), &unnamed)
+}
+
+/// The lines of the volume: of one that does not open, why.
+fn push_volume_of(alloc: Global, text: &mut String, survey: &Survey<'_>) -> Result<(), OutOfMemory>
+    ensures { OnOk result (string_bytes text.new ≡ string_bytes text.old ++ volume_html (volume_now survey.now.volume) survey.now.last (survey_now survey.now)) }
+{
+    match &survey.volume {
+        Volume::Open(opened) => push_opened(alloc, text, opened, survey),
+        Volume::Holes(_) => push_volume_lines(alloc, text, &survey.volume, survey.last),
+        Volume::Fault(_) => push_volume_lines(alloc, text, &survey.volume, survey.last),
+    }
+}
+
+/// All lines.
+#[tactic(auto, unfolding(crate::specs::Overviews::overview_html))]
+pub(crate) fn push_overview(
+    alloc: Global,
+    text: &mut String,
+    survey: &Survey<'_>,
+) -> Result<(), OutOfMemory>
+    ensures { OnOk result (string_bytes text.new ≡ string_bytes text.old ++ overview_html survey.now.table.now survey.now.last (survey_now survey.now)) }
+{
+    push_markup(text, "<div class=s>\n<div>")?;
+    push_volume_of(alloc, text, survey)?;
+    push_disc_lines(alloc, text, survey)?;
+    push_markup(text, "</div>\n</div>\n")
+}

@@ -1,0 +1,147 @@
+//! The page of the report that a survey stands for.
+
+ghost use Rattle.std.specs.Prelude.{◌≡◌, ◌++◌, ◌+◌, ℕ, List, OnOk, map};
+ghost use Rattle.std.specs.String.{string_bytes};
+ghost use Rattle.udfs_space.specs.Views.{view_now};
+ghost use Rattle.udfs_walk.specs.Bare.{full_node};
+ghost use Rattle.udfs_lattice.specs.Tables.{Table};
+ghost use Rattle.udfs_salvage.specs.Found.{volume_now};
+ghost use Rattle.udfs_salvage.specs.Reports.{Report};
+ghost use Rattle.udfs_salvage.specs.Printing.{Prints};
+ghost use Rattle.udfs_salvage.specs.Surveys.{survey_now};
+ghost use Rattle.udfs_page.specs.Arcs.{arcs_of};
+ghost use Rattle.udfs_page.specs.Heads.{head_text, page_mark};
+ghost use Rattle.udfs_page.specs.Overviews.{title_html};
+ghost use Rattle.udfs_page.specs.Pages.{disc_html, files_html, nodes_of, page_html, torn_of};
+ghost use Rattle.udfs_page.specs.Pictures.{picture_html};
+
+use crate::disc_arcs::arcs;
+use crate::heads::{push_head_back, push_head_front};
+use crate::markups::push_markup;
+use crate::next_steps::push_next;
+use crate::overviews::{push_overview, push_title};
+use crate::pictures::push_picture;
+use crate::torn_tables::push_torn;
+use crate::trees::push_tree;
+use std::alloc::Global;
+use udfs_lattice::BlockTable;
+use udfs_osta::OutOfMemory;
+use udfs_overview::torn_files;
+use udfs_reading::Sink;
+use udfs_salvage::{RunError, Survey, Volume, flush};
+use udfs_space::View;
+use udfs_walk::Node;
+
+/// The head, with the title of the page.
+fn push_head(alloc: Global, text: &mut String, volume: &Volume) -> Result<(), OutOfMemory>
+    ensures { OnOk result (string_bytes text.new ≡ string_bytes text.old ++ head_text (title_html (volume_now volume.now))) }
+{
+    push_head_front(text)?;
+    push_title(alloc, text, volume)?;
+    push_head_back(text)
+}
+
+/// The picture of the disc.
+fn push_arcs(
+    alloc: Global,
+    text: &mut String,
+    table: &BlockTable,
+    last: u32,
+    reread: &[u32],
+) -> Result<(), OutOfMemory>
+    ensures { OnOk result (string_bytes text.new ≡ string_bytes text.old ++ picture_html (arcs_of table.now reread.now last) (last + 1)) }
+{
+    let marks = arcs(alloc, table, last, reread)?;
+    push_picture(text, &marks, last as u64 + 1)
+}
+
+/// What is told of the disc.
+fn push_about_disc(alloc: Global, text: &mut String, survey: &Survey<'_>) -> Result<(), OutOfMemory>
+    ensures { OnOk result (string_bytes text.new ≡ string_bytes text.old ++ disc_html survey.now.table.now survey.now.last (survey_now survey.now)) }
+{
+    push_overview(alloc, text, survey)?;
+    push_arcs(alloc, text, survey.table, survey.last, &survey.reread)?;
+    push_next(text, survey.last, &survey.reread)
+}
+
+/// The torn files among nodes that are without their blocks and holes.
+fn push_torn_files(
+    alloc: Global,
+    text: &mut String,
+    view: View<'_>,
+    nodes: &[Node],
+) -> Result<(), OutOfMemory>
+    ensures { OnOk result (string_bytes text.new ≡ string_bytes text.old ++ torn_of (map (full_node (view_now view.entry)) nodes.now)) }
+{
+    let torn = torn_files(alloc, view, nodes)?;
+    push_torn(text, torn.count, &torn.rows)
+}
+
+/// What is told of nodes that are without their blocks and holes.
+fn push_about_nodes(
+    alloc: Global,
+    text: &mut String,
+    view: View<'_>,
+    nodes: &[Node],
+) -> Result<(), OutOfMemory>
+    ensures { OnOk result (string_bytes text.new ≡ string_bytes text.old ++ nodes_of (map (full_node (view_now view.entry)) nodes.now)) }
+{
+    push_torn_files(alloc, text, view, nodes)?;
+    push_tree(alloc, text, view, nodes)
+}
+
+/// What is told of the nodes of a volume that opens.
+fn push_about_files(
+    alloc: Global,
+    text: &mut String,
+    survey: &Survey<'_>,
+) -> Result<(), OutOfMemory>
+    ensures { OnOk result (string_bytes text.new ≡ string_bytes text.old ++ files_html (volume_now survey.now.volume) (survey_now survey.now)) }
+{
+    match &survey.volume {
+        Volume::Open(opened) => {
+            let view = View {
+                table: survey.table,
+                space: &opened.space,
+            };
+            push_about_nodes(alloc, text, view, &survey.nodes)
+        }
+        _ => Ok(()),
+    }
+}
+
+/// Appends the page of the report that a survey stands for: HTML of its own, with what is found of the volume, the disc as a picture, what to do
+/// next, the torn files of which most is lost, and all files inside their folders. No name can begin or end an element in it. The blocks and holes of one
+/// node are held at a time.
+///
+/// # Errors
+///
+/// Where memory is refused, and then a part may be appended.
+#[tactic(auto, unfolding(crate::specs::Pages::page_html))]
+pub fn push_page(alloc: Global, text: &mut String, survey: &Survey<'_>) -> Result<(), OutOfMemory>
+    ensures { OnOk result (string_bytes text.new ≡ string_bytes text.old ++ page_html survey.now.table.now survey.now.last (survey_now survey.now)) }
+{
+    push_head(alloc, text, &survey.volume)?;
+    push_about_disc(alloc, text, survey)?;
+    push_about_files(alloc, text, survey)?;
+    push_markup(text, "</body>\n</html>\n")
+}
+
+/// Writes the page, which is held in memory first.
+///
+/// # Errors
+///
+/// `Write` exactly where the sink failed, and then a beginning of the page is out; and `OutOfMemory` where memory is refused, and then nothing is.
+pub fn write_page<W: Sink>(alloc: Global, survey: &Survey<'_>, sink: &mut W) -> Result<(), RunError>
+    ensures { Prints (W.contents sink.old) (W.contents sink.new) (W.faults sink.old) (W.faults sink.new)
+        (page_html survey.now.table.now survey.now.last (survey_now survey.now)) result }
+{
+    let mut text = String::new(alloc);
+    push_page(alloc, &mut text, survey)?;
+    flush(&mut text, sink)
+}
+
+/// Each page begins with the mark by which it is known. This is a law about pages; the call does nothing.
+pub fn pages_begin_so()
+    ensures { (table : Table) → (last : ℕ) → (report : Report) → (rest : List ℕ) × (page_html table last report ≡ page_mark ++ rest) }
+{}

@@ -1,0 +1,295 @@
+//! The files and folders, each inside its folder. Each function appends to a text; where memory is refused, a part may be appended.
+
+ghost use Rattle.std.specs.Prelude.{◌≡◌, ◌++◌, ◌-◌, ℕ, List, OnOk, drop, length, map};
+ghost use Rattle.std.specs.String.{string_bytes};
+ghost use Rattle.udfs_space.specs.Views.{view_now};
+ghost use Rattle.udfs_walk.specs.Bare.{full_node, node_with};
+ghost use Rattle.udfs_walk.specs.NodeFields.{NodeFields};
+ghost use Rattle.udfs_page.specs.Markups.{markup, shown_name};
+ghost use Rattle.udfs_page.specs.Nestings.{IsStepwise, open_after};
+ghost use Rattle.udfs_page.specs.Trees.{class_of, details_front, fault_html, first_depth, folder_front, folder_html, kind_html, known_lost, leaf_front, leaf_html, lost_html, node_html, nodes_html, note_html, other_html, own_name, size_html, standing_html, told_html, tree_html};
+
+use crate::holes::{push_closings, push_ranges};
+use crate::markups::{push_figure, push_markup, push_shown};
+use std::alloc::Global;
+use udfs_file::{Kind, NodeFault};
+use udfs_osta::OutOfMemory;
+use udfs_overview::{lost_of, push_safe_name, push_size};
+use udfs_space::View;
+use udfs_walk::{Node, Path, Standing, full_standing};
+
+/// How whole a node is, as the style knows it.
+fn push_class(text: &mut String, standing: &Standing) -> Result<(), OutOfMemory>
+    ensures { OnOk result (string_bytes text.new ≡ string_bytes text.old ++ markup (class_of standing.now)) }
+{
+    match standing {
+        Standing::Whole => push_markup(text, "w"),
+        Standing::Torn(_) => push_markup(text, "t"),
+        Standing::Loop => push_markup(text, "f"),
+        Standing::Fault(_) => push_markup(text, "f"),
+    }
+}
+
+/// The name by which a node stands in its folder.
+fn push_own_name(text: &mut String, path: &Path) -> Result<(), OutOfMemory>
+    ensures { OnOk result (string_bytes text.new ≡ string_bytes text.old ++ own_name path.now) }
+{
+    match path.last() {
+        None => text.push('/'),
+        Some(name) => push_safe_name(name, text),
+    }
+}
+
+/// The name of a node, by itself.
+fn push_name(alloc: Global, text: &mut String, path: &Path) -> Result<(), OutOfMemory>
+    ensures { OnOk result (string_bytes text.new ≡ string_bytes text.old ++ shown_name (own_name path.now)) }
+{
+    let mut name = String::new(alloc);
+    push_own_name(&mut name, path)?;
+    push_shown(text, &name)
+}
+
+/// How many bytes a file has.
+fn push_file_size(text: &mut String, size: Option<u64>) -> Result<(), OutOfMemory>
+    ensures { OnOk result (string_bytes text.new ≡ string_bytes text.old ++ size_html size) }
+{
+    match size {
+        None => push_markup(text, "size not known"),
+        Some(bytes) => push_size(bytes as u128, text),
+    }
+}
+
+/// A type that has no name here.
+fn push_other(text: &mut String, number: u8) -> Result<(), OutOfMemory>
+    ensures { OnOk result (string_bytes text.new ≡ string_bytes text.old ++ other_html number) }
+{
+    push_markup(text, "of type ")?;
+    push_figure(text, number as u128)
+}
+
+/// What a node is.
+fn push_kind(text: &mut String, kind: Kind, size: Option<u64>) -> Result<(), OutOfMemory>
+    ensures { OnOk result (string_bytes text.new ≡ string_bytes text.old ++ kind_html kind size) }
+{
+    match kind {
+        Kind::Directory => push_markup(text, "folder"),
+        Kind::File => push_file_size(text, size),
+        Kind::Link => push_markup(text, "link"),
+        Kind::Other(number) => push_other(text, number),
+        Kind::Unread => push_markup(text, "not yet known"),
+    }
+}
+
+/// How many bytes are lost, and where.
+fn push_known_lost(text: &mut String, lost: u128, holes: &[(u64, u64)]) -> Result<(), OutOfMemory>
+    ensures { OnOk result (string_bytes text.new ≡ string_bytes text.old ++ known_lost lost holes.now) }
+{
+    push_markup(text, ", torn: ")?;
+    push_size(lost, text)?;
+    push_markup(text, " lost, bytes")?;
+    push_ranges(text, holes)
+}
+
+/// What is lost of a torn node, and where.
+fn push_lost(text: &mut String, lost: Option<u128>, holes: &[(u64, u64)]) -> Result<(), OutOfMemory>
+    ensures { OnOk result (string_bytes text.new ≡ string_bytes text.old ++ lost_html lost holes.now) }
+{
+    match lost {
+        None => Ok(()),
+        Some(bytes) => push_known_lost(text, bytes, holes),
+    }
+}
+
+/// A fault.
+fn push_fault(text: &mut String, fault: NodeFault) -> Result<(), OutOfMemory>
+    ensures { OnOk result (string_bytes text.new ≡ string_bytes text.old ++ fault_html fault) }
+{
+    push_markup(text, ", fault ")?;
+    push_figure(text, fault as u8 as u128)
+}
+
+/// How whole a node is.
+fn push_standing(text: &mut String, standing: &Standing, kind: Kind) -> Result<(), OutOfMemory>
+    ensures { OnOk result (string_bytes text.new ≡ string_bytes text.old ++ standing_html standing.now kind) }
+{
+    let lost = lost_of(standing, kind);
+    match standing {
+        Standing::Whole => Ok(()),
+        Standing::Torn(torn) => push_lost(text, lost, &torn.holes),
+        Standing::Loop => push_markup(text, ", a loop: it stands inside itself"),
+        Standing::Fault(fault) => push_fault(text, *fault),
+    }
+}
+
+/// What is told of a node beside its name.
+fn push_note(
+    text: &mut String,
+    standing: &Standing,
+    kind: Kind,
+    size: Option<u64>,
+) -> Result<(), OutOfMemory>
+    ensures { OnOk result (string_bytes text.new ≡ string_bytes text.old ++ note_html standing.now kind size) }
+{
+    push_markup(text, "<small>")?;
+    push_kind(text, kind, size)?;
+    push_standing(text, standing, kind)?;
+    push_markup(text, "</small>")
+}
+
+/// The name of a node with this standing, and what is told beside it.
+#[tactic(auto, unfolding(crate::specs::Trees::told_html))]
+fn push_told(
+    alloc: Global,
+    text: &mut String,
+    node: &Node,
+    standing: &Standing,
+) -> Result<(), OutOfMemory>
+    ensures { OnOk result (string_bytes text.new ≡ string_bytes text.old ++ told_html (node_with node.now standing.now)) }
+{
+    push_name(alloc, text, &node.path)?;
+    push_note(text, standing, node.kind, node.size)
+}
+
+/// What a folder begins with: that of the root is open.
+fn push_begin(text: &mut String, path: &Path) -> Result<(), OutOfMemory>
+    ensures { OnOk result (string_bytes text.new ≡ string_bytes text.old ++ details_front (length path.now)) }
+{
+    if path.len() > 0 {
+        push_markup(text, "<details class=")
+    } else {
+        push_markup(text, "<details open class=")
+    }
+}
+
+/// A folder with this path begins, in which there is something.
+fn push_front_of(text: &mut String, path: &Path, standing: &Standing) -> Result<(), OutOfMemory>
+    ensures { OnOk result (string_bytes text.new ≡ string_bytes text.old ++ folder_front (length path.now) standing.now) }
+{
+    push_begin(text, path)?;
+    push_class(text, standing)?;
+    push_markup(text, "><summary>")
+}
+
+/// A node with this standing begins a folder, in which there is something.
+fn push_folder_front(text: &mut String, node: &Node, standing: &Standing) -> Result<(), OutOfMemory>
+    ensures { OnOk result (string_bytes text.new ≡ string_bytes text.old ++ folder_front (length node.now.path) standing.now) }
+{
+    push_front_of(text, &node.path, standing)
+}
+
+/// A node with this standing begins a folder.
+fn push_folder(
+    alloc: Global,
+    text: &mut String,
+    node: &Node,
+    standing: &Standing,
+) -> Result<(), OutOfMemory>
+    ensures { OnOk result (string_bytes text.new ≡ string_bytes text.old ++ folder_html (node_with node.now standing.now)) }
+{
+    push_folder_front(text, node, standing)?;
+    push_told(alloc, text, node, standing)?;
+    push_markup(text, "</summary>\n")
+}
+
+/// A node stands in a line.
+fn push_leaf_front(text: &mut String, standing: &Standing) -> Result<(), OutOfMemory>
+    ensures { OnOk result (string_bytes text.new ≡ string_bytes text.old ++ leaf_front standing.now) }
+{
+    push_markup(text, "<div class=")?;
+    push_class(text, standing)?;
+    push_markup(text, ">")
+}
+
+/// A node with this standing stands in a line, behind which so many folders end.
+fn push_leaf(
+    alloc: Global,
+    text: &mut String,
+    node: &Node,
+    standing: &Standing,
+    ended: usize,
+) -> Result<(), OutOfMemory>
+    ensures { OnOk result (string_bytes text.new ≡ string_bytes text.old ++ leaf_html (node_with node.now standing.now) ended) }
+{
+    push_leaf_front(text, standing)?;
+    push_told(alloc, text, node, standing)?;
+    push_markup(text, "</div>\n")?;
+    push_closings(text, ended)
+}
+
+/// A node with this standing, by how many names the path of the next one has.
+#[tactic(auto, unfolding(crate::specs::Trees::node_html))]
+fn push_node(
+    alloc: Global,
+    text: &mut String,
+    node: &Node,
+    standing: &Standing,
+    next: usize,
+) -> Result<(), OutOfMemory>
+    ensures { OnOk result (string_bytes text.new ≡ string_bytes text.old ++ node_html (node_with node.now standing.now) next) }
+{
+    let depth = node.path.len();
+    if depth < next {
+        push_folder(alloc, text, node, standing)
+    } else {
+        push_leaf(alloc, text, node, standing, depth - next)
+    }
+}
+
+/// A node without its blocks and holes, with those.
+fn push_full_node(
+    alloc: Global,
+    text: &mut String,
+    view: View<'_>,
+    node: &Node,
+    next: usize,
+) -> Result<(), OutOfMemory>
+    ensures { OnOk result (string_bytes text.new ≡ string_bytes text.old ++ node_html (full_node (view_now view.entry) node.now) next) }
+{
+    let full = full_standing(alloc, view, node.icb, &node.standing)?;
+    push_node(alloc, text, node, &full, next)
+}
+
+/// How many names the path of the node at this place has; none where there is no such node.
+fn depth_at(nodes: &[Node], index: usize) -> usize
+    ensures { result ≡ first_depth (drop index nodes.now) }
+{
+    match nodes.get(index) {
+        Some(node) => node.path.len(),
+        None => 0,
+    }
+}
+
+/// Nodes without their blocks and holes, with those. The blocks and holes of one node are held at a time.
+fn push_nodes(
+    alloc: Global,
+    text: &mut String,
+    view: View<'_>,
+    nodes: &[Node],
+) -> Result<(), OutOfMemory>
+    ensures { OnOk result (string_bytes text.new ≡ string_bytes text.old ++ nodes_html (map (full_node (view_now view.entry)) nodes.now)) }
+{
+    let count = nodes.len();
+    for index in 0..count {
+        push_full_node(alloc, text, view, &nodes[index], depth_at(nodes, index + 1))?;
+    }
+    Ok(())
+}
+
+/// All nodes, which are without their blocks and holes, with those.
+pub(crate) fn push_tree(
+    alloc: Global,
+    text: &mut String,
+    view: View<'_>,
+    nodes: &[Node],
+) -> Result<(), OutOfMemory>
+    ensures { OnOk result (string_bytes text.new ≡ string_bytes text.old ++ tree_html (map (full_node (view_now view.entry)) nodes.now)) }
+{
+    push_markup(text, "<h2>All files</h2>\n")?;
+    push_nodes(alloc, text, view, nodes)
+}
+
+/// A node stands inside as many folders as its path has names, and all folders end: where the first node is the root, and no node is more
+/// than one folder further in than the one before it. This is a law about the page; the call does nothing.
+pub fn folders_nest()
+    ensures { (nodes : List NodeFields) → (k : ℕ) → IsStepwise nodes → first_depth nodes ≡ 0 → open_after nodes k ≡ first_depth (drop k nodes) }
+{}

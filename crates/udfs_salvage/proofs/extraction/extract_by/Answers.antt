@@ -1,0 +1,72 @@
+use Rattle.std.proofs.Common.{◌≡◌, ◌∙◌, sym, ap, subst, true}
+use Rattle.udfs_lattice.specs.Tables.{state_of}
+use Rattle.udfs_space.specs.Places.{view}
+use Rattle.udfs_walk.specs.NodeBodies.{HasCells, MayTakeMemory}
+use Rattle.udfs_salvage.specs.Found.{found_now, volume_now}
+use Rattle.udfs_salvage.specs.Reports.{report_now}
+use Rattle.udfs_salvage.specs.Extraction.{Extracts, fill_byte, filled, is_offered}
+use Rattle.udfs_salvage.proofs.Extracting.{report_cells, not_refused, same_node, true_false}
+use Rattle.udfs_salvage.proofs.Founds.{found_same}
+use Rattle.udfs_salvage.proofs.TreeBytes.{fills_file, writes_file}
+use Rattle.udfs_salvage.proofs.extraction.extract_by.Goals as goal
+
+pub returns-in-Open-clause-cells : goal.returns-in-Open-clause-cells
+returns-in-Open-clause-cells g c = λ profile last n is at offered.
+    let W = g.W.Sink in
+    let r = c.args.report.now in
+    let b = state_of r.table.now in
+    let v = view b c.in-Open.opened.space in
+    let k = report_cells profile b last c.args.index (report_now r) (found_now c.in-Open.opened) n c.args.fill is (ap volume_now c.in-Open.is) at offered in
+    let same = same_node r.nodes.items c.args.index n c.index-node.result.now at c.index-node.ensures in
+    let icb : c.node.inside.icb ≡ n.icb = ap (λ m. m.icb) (c.node.view_is ∙ same) in (
+      k.0,
+      k.1,
+      subst (λ x. Extracts (W.contents c.args.sink.now) (W.contents c.write_at.new.sink) (W.faults c.args.sink.now) (W.faults c.write_at.new.sink) (filled x k.0) c.write_at.result) c.fill_byte-byte.ensures
+          (c.write_at.ensures.cells k.0 (subst (λ a. HasCells v a k.0) (sym icb) k.2)),
+    )
+
+pub returns-in-Open-clause-not_whole : goal.returns-in-Open-clause-not_whole
+returns-in-Open-clause-not_whole g c = λ profile last n is at.
+    let W = g.W.Sink in
+    let r = c.args.report.now in
+    let same = same_node r.nodes.items c.args.index n c.index-node.result.now at c.index-node.ensures in
+    let offered : is_offered n.standing n.size c.args.fill ≡ true =
+    ap (λ m. is_offered m.standing m.size c.args.fill) (sym same) ∙ sym c.is_offered.ensures ∙ c.if-not-is_offered.false in
+    let written = returns-in-Open-clause-cells g c profile last n is at offered in
+    (λ e. absurd (not_refused (W.contents c.args.sink.now) (W.contents c.write_at.new.sink) (W.faults c.args.sink.now) (W.faults c.write_at.new.sink) (filled (fill_byte c.args.fill) written.0) c.write_at.result written.2 e), λ e. absurd (true_false (is_offered n.standing n.size c.args.fill) offered e))
+
+pub returns-in-Open-clause-stated : goal.returns-in-Open-clause-stated
+returns-in-Open-clause-stated g c = λ f n cs opens at offered has.
+    let W = g.W.Sink in
+    let r = c.args.report.now in
+    let b = state_of r.table.now in
+    let same = same_node r.nodes.items c.args.index n c.index-node.result.now at c.index-node.ensures in
+    let icb : c.node.inside.icb ≡ n.icb = ap (λ m. m.icb) (c.node.view_is ∙ same) in
+    let opened : found_now c.in-Open.opened ≡ f = found_same _ _ (sym (ap volume_now c.in-Open.is) ∙ opens) in
+    subst (λ x. Extracts (W.contents c.args.sink.now) (W.contents c.write_at.new.sink) (W.faults c.args.sink.now) (W.faults c.write_at.new.sink) (filled x cs) c.write_at.result) c.fill_byte-byte.ensures
+    (c.write_at.ensures.cells cs (subst (λ a. HasCells (view b c.in-Open.opened.space) a cs) (sym icb) (subst (λ h. HasCells (view b h.space) n.icb cs) (sym opened) has)))
+
+pub returns-in-Open-clause-wanted : goal.returns-in-Open-clause-wanted
+returns-in-Open-clause-wanted g c = λ f n opens at refused.
+    let r = c.args.report.now in
+    let b = state_of r.table.now in
+    let same = same_node r.nodes.items c.args.index n c.index-node.result.now at c.index-node.ensures in
+    let icb : c.node.inside.icb ≡ n.icb = ap (λ m. m.icb) (c.node.view_is ∙ same) in
+    let opened : found_now c.in-Open.opened ≡ f = found_same _ _ (sym (ap volume_now c.in-Open.is) ∙ opens) in
+    subst (λ h. MayTakeMemory (view b h.space) n.icb) opened (subst (λ a. MayTakeMemory (view b c.in-Open.opened.space) a) icb (c.write_at.ensures.wanted refused))
+
+pub returns-in-Open-clause-tree : goal.returns-in-Open-clause-tree
+returns-in-Open-clause-tree g c = λ profile last n is at whole.
+    let W = g.W.Sink in
+    let r = c.args.report.now in
+    writes_file profile (state_of r.table.now) last c.args.index (report_now r) (fill_byte c.args.fill)
+    (λ bytes. Extracts (W.contents c.args.sink.now) (W.contents c.write_at.new.sink) (W.faults c.args.sink.now) (W.faults c.write_at.new.sink) bytes c.write_at.result)
+    is n at whole (returns-in-Open-clause-cells g c profile last n is at (ap (λ s. is_offered s n.size c.args.fill) whole))
+
+pub returns-in-Open-clause-filled : goal.returns-in-Open-clause-filled
+returns-in-Open-clause-filled g c = λ profile last n is at offered.
+    let W = g.W.Sink in
+    let r = c.args.report.now in
+    fills_file profile (state_of r.table.now) last c.args.index (report_now r) (fill_byte c.args.fill) c.args.fill
+    (λ bytes. Extracts (W.contents c.args.sink.now) (W.contents c.write_at.new.sink) (W.faults c.args.sink.now) (W.faults c.write_at.new.sink) bytes c.write_at.result)
+    is n at offered (returns-in-Open-clause-cells g c profile last n is at offered)
