@@ -16,11 +16,19 @@ fn prepared(alloc: Global) -> Result<Memory, AllocError> {
     Ok(memory)
 }
 
+/// The counts of bytes after which a device fails here: all about the header, the records' borders and the end, and some between.
+fn is_tried(good: usize) -> bool {
+    matches!(good, 0..40 | 2050..2090 | 4100.. ) || good % 32 == 7 || good % 32 == 16
+}
+
 /// At 4120 bytes only the end was still asked for.
 #[test]
-fn an_input_that_fails_after_any_count_is_told(rt: HostRuntime) -> Result<(), Fail> {
+fn an_input_that_fails_is_told(rt: HostRuntime) -> Result<(), Fail> {
     let alloc = rt.alloc();
     for good in 0..4121usize {
+        if !is_tried(good) {
+            continue;
+        }
         let record = match good {
             0..16 => 0,
             16..2068 => 1,
@@ -38,11 +46,14 @@ fn an_input_that_fails_after_any_count_is_told(rt: HostRuntime) -> Result<(), Fa
 
 /// The output has 4122 bytes. A write that fails leaves the old file, and no other.
 #[test]
-fn an_output_that_fails_after_any_count_is_told(rt: HostRuntime) -> Result<(), Fail> {
+fn an_output_that_fails_is_told(rt: HostRuntime) -> Result<(), Fail> {
     let alloc = rt.alloc();
     let whole = table(alloc, &[(300, 0x61), (301, 0x62)])?;
     assert_eq!(rt; whole.len(), 4122);
     for good in 0..4122usize {
+        if !is_tried(good) {
+            continue;
+        }
         let mut memory = prepared(alloc)?;
         memory.outputs.good = good;
         memory.outputs.takes_none = good % 2 == 1;
