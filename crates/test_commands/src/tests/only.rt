@@ -22,22 +22,17 @@ const FILES: [&str; 4] = ["/D/A", "/D/C", "/DX/A", "/B"];
 
 /// Whether of the files just these are there, and the folders that lead to them.
 fn has_just(memory: &Memory, alloc: Global, files: &[&str]) -> Result<bool, Fail> {
-    let mut folders = 0;
-    for folder in ["out/D", "out/DX"] {
-        if memory.has_folder(folder) {
-            folders += 1;
-        }
-    }
-    let mut is_so = memory.count() == files.len() + 1;
+    let in_d = files.contains(&"/D/A") || files.contains(&"/D/C");
+    let in_dx = files.contains(&"/DX/A");
+    let is_led = memory.has_folder("out/D") == in_d && memory.has_folder("out/DX") == in_dx;
+    let mut is_so = is_led && memory.count() == files.len().saturating_add(1);
     for file in FILES {
         let mut path = String::from_str(alloc, "out")?;
         path.push_str(file)?;
         let is_asked = files.contains(&file);
         is_so = is_so && memory.is_absent(path.as_str()) != is_asked;
     }
-    let in_d = files.contains(&"/D/A") || files.contains(&"/D/C");
-    let in_dx = files.contains(&"/DX/A");
-    Ok(is_so && folders == usize::from(in_d) + usize::from(in_dx))
+    Ok(is_so)
 }
 
 #[test]
