@@ -136,7 +136,8 @@ fn fault_words(fault: VolumeFault) -> &'static str
         VolumeFault::Domain => "the volume is not of a UDF revision that the rules take",
         VolumeFault::BlockSize => "a logical block has not 2048 bytes",
         VolumeFault::MapCount => "there are not one or two partition maps",
-        VolumeFault::MapKind => "a partition map is not of a known kind",
+        VolumeFault::MapKind =>
+            "a partition map is of a kind that is not read, such as that of write-once discs (VAT) or of metadata partitions",
         VolumeFault::NoPartition => "a map's partition is not described",
         VolumeFault::Contents => "a partition's contents are not those of UDF",
         VolumeFault::PartitionRange => "a partition is empty, or passes the last block",

@@ -77,6 +77,21 @@ fn first_line(alloc: Global, disc: &Disc) -> Result<String, Fail> {
     Ok(String::from_str(alloc, line)?)
 }
 
+/// The map of a disc that is written once (UDF 2.2.8).
+#[test]
+fn a_map_that_is_not_read_is_named(rt: HostRuntime) -> Result<(), Fail> {
+    let alloc = rt.alloc();
+    let mut disc = Disc::sparable(alloc)?;
+    for block in [32, 48] {
+        disc.write(&[(block, 445, b"*UDF Virtual Partition\0")])?;
+    }
+    assert_eq!(rt;
+        first_line(alloc, &disc)?.as_str(),
+        "does not open: a partition map is of a kind that is not read, such as that of write-once discs (VAT) or of metadata partitions"
+    );
+    Ok(())
+}
+
 #[test]
 fn kinds_of_maps_and_labels(rt: HostRuntime) -> Result<(), Fail> {
     let alloc = rt.alloc();
