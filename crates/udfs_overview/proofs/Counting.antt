@@ -35,7 +35,7 @@ same_of a lists Loop k = refl
 same_of a lists (Fault f) k = refl
 
 -- a sum over changed elements, each of which counts as before
-sum_same : (w : NodeFields → ℕ) (g : NodeFields → NodeFields) → ((n : NodeFields) → w (g n) ≡ w n) → (a : ℕ) (ns : List NodeFields)
+pub sum_same : (w : NodeFields → ℕ) (g : NodeFields → NodeFields) → ((n : NodeFields) → w (g n) ≡ w n) → (a : ℕ) (ns : List NodeFields)
     → fold (λ b n. b + w n) a (map g ns) ≡ fold (λ b n. b + w n) a ns
 sum_same w g same a [] = refl
 sum_same w g same a (n ∷ ns) = ap (λ x. fold (λ b n. b + w n) (a + x) (map g ns)) (same n) ∙ sum_same w g same (a + w n) ns

@@ -48,7 +48,7 @@ same_whole lists (Torn torn) = refl
 same_whole lists Loop = refl
 same_whole lists (Fault f) = refl
 
-count_same : (p : Unnamed → Bool) (g : Unnamed → Unnamed) → ((u : Unnamed) → p (g u) ≡ p u) → (a : ℕ) (us : List Unnamed)
+pub count_same : (p : Unnamed → Bool) (g : Unnamed → Unnamed) → ((u : Unnamed) → p (g u) ≡ p u) → (a : ℕ) (us : List Unnamed)
     → fold (λ b u. b + cond (p u) 1 0) a (map g us) ≡ fold (λ b u. b + cond (p u) 1 0) a us
 count_same p g same a [] = refl
 count_same p g same a (u ∷ us) = ap (λ t. fold (λ b v. b + cond (p v) 1 0) (a + cond t 1 0) (map g us)) (same u) ∙ count_same p g same (a + cond (p u) 1 0) us

@@ -10,5 +10,6 @@ mod Rounding
 mod SafeParts
 mod SafeShowing
 mod SafeTelling
+mod Streaming
 mod TornOrder
 mod TornSorted

@@ -5,6 +5,7 @@ pub mod NodeLists
 pub mod Tallies
 pub mod DiscTallies
 pub mod SummaryTexts
+pub mod Streams
 pub mod VolumeLines
 pub mod TornRows
 pub mod TornLists

@@ -3,13 +3,14 @@
 --     next_line last reread        what to do next
 --     summary_text table last report     all lines
 use Rattle.std.specs.Prelude.{ℕ, ◌-◌, ◌==◌, ◌&&◌, List, [], ◌∷◌, ◌++◌, Option, Some, None, codes, decimal, find, option_map, if◌then◌else◌}
-use Rattle.udfs_lattice.specs.Tables.{Table}
+use Rattle.udfs_lattice.specs.Tables.{Table, state_of}
 use Rattle.udfs_volume.specs.Answers.{Answer, found, holes, faulty}
 use Rattle.udfs_walk.specs.NodeFields.{NodeFields}
 use Rattle.udfs_salvage.specs.Found.{Found}
 use Rattle.udfs_salvage.specs.Reports.{Report}
 use Rattle.udfs_overview.specs.DiscTallies.{disc_of, unnamed_of}
 use Rattle.udfs_overview.specs.Figures.{grouped}
+use Rattle.udfs_overview.specs.Streams.{stream_count, streams_line}
 use Rattle.udfs_overview.specs.SummaryTexts.{counted, disc_line, files_line, others_line, unnamed_line}
 use Rattle.udfs_overview.specs.Tallies.{is_node_of, tally_of}
 use Rattle.udfs_overview.specs.TornLists.{by_loss, shown_path, torn_rows, torn_text}
@@ -46,10 +47,10 @@ nodes_lines r =
     files_line (tally_of r.nodes) ++ folders_line (tally_of r.nodes) (torn_folder r.nodes) ++ others_line (tally_of r.nodes) ++ unnamed_line (unnamed_of r.unnamed)
 
 -- there is nothing found of a volume that does not open
-abbrev pub found_lines : Answer Found → Report → List ℕ
-found_lines (found f) r = nodes_lines r
-found_lines (holes blocks) r = []
-found_lines (faulty f) r = []
+abbrev pub found_lines : Table → Answer Found → Report → List ℕ
+found_lines table (found f) r = nodes_lines r ++ streams_line (stream_count (state_of table) r)
+found_lines table (holes blocks) r = []
+found_lines table (faulty f) r = []
 
 -- the torn files of a volume that opens
 abbrev pub torn_lines : Answer Found → Report → List ℕ
@@ -65,4 +66,4 @@ next_line last (n ∷ ns) = codes "Next       udfsalvage reread --last " ++ deci
 -- all lines
 unfoldable pub summary_text : Table → ℕ → Report → List ℕ
 summary_text table last r =
-    volume_line r.volume last ++ found_lines r.volume r ++ disc_line (disc_of table last r.reread) ++ torn_lines r.volume r ++ next_line last r.reread
+    volume_line r.volume last ++ found_lines table r.volume r ++ disc_line (disc_of table last r.reread) ++ torn_lines r.volume r ++ next_line last r.reread

@@ -4,5 +4,6 @@ mod figures;
 mod list;
 mod pages;
 mod safe_names;
+mod streams;
 mod summary;
 mod whole_summary;

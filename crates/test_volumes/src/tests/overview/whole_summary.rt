@@ -9,7 +9,7 @@ use udfs_reading::Writer;
 use udfs_salvage::{RunError, survey_volume};
 use udfs_samples::{Disc, LAST, NamedEntry};
 
-fn summed_up(alloc: Global, table: &BlockTable) -> Result<String, Fail> {
+pub(super) fn summed_up(alloc: Global, table: &BlockTable) -> Result<String, Fail> {
     let survey = survey_volume(alloc, table, LAST)?;
     let mut text = Writer::new(Vec::new(alloc));
     write_summary(alloc, &survey, &mut text)?;

@@ -1,0 +1,154 @@
+//! Files with named streams, which are not looked at.
+
+ghost use Rattle.std.specs.Prelude.{◌≡◌, ◌≤◌, ◌++◌, OnOk, count_by, length};
+ghost use Rattle.std.specs.String.{string_bytes};
+ghost use Rattle.udfs_lattice.specs.States.{fact_now};
+ghost use Rattle.udfs_lattice.specs.Tables.{state_of};
+ghost use Rattle.udfs_space.specs.Places.{block_at};
+ghost use Rattle.udfs_space.specs.Views.{view_now};
+ghost use Rattle.udfs_salvage.specs.Surveys.{survey_now};
+ghost use Rattle.udfs_overview.specs.Streams.{block_names_streams, entry_has_streams, has_streams, is_read_file, many_streams_line, names_streams, some_streams_line, state_names_streams, stream_count, streams_line};
+
+use crate::summary_lines::push_counted;
+use crate::tallies::NodeSort;
+use byteorder::{ByteOrder, LittleEndian};
+use udfs_file::Kind;
+use udfs_lattice::Fact;
+use udfs_osta::OutOfMemory;
+use udfs_salvage::{Survey, Volume};
+use udfs_space::View;
+use udfs_tag::{LongAd, identifiers};
+use udfs_walk::{Node, Standing, Unnamed};
+
+/// Whether an entry has a stream directory: an extended entry whose address of one, at byte 152, has a length (ECMA-167 4/14.17).
+fn names_streams(block: &[u8; 2048]) -> bool
+    ensures { result ≡ names_streams block.now }
+{
+    LittleEndian::read_u16(block) == identifiers::EXTENDED_FILE_ENTRY
+        && LongAd::read(&block[152..]).length > 0
+}
+
+/// Whether a block is known to hold such an entry.
+fn fact_names_streams(fact: Fact<&[u8; 2048]>) -> bool
+    ensures { result ≡ state_names_streams (fact_now fact.entry) }
+{
+    match fact {
+        Fact::Known(block) => names_streams(block),
+        _ => false,
+    }
+}
+
+/// Whether such an entry is known to stand at a logical block.
+fn block_names_streams(view: View<'_>, reference: u16, block: u32) -> bool
+    ensures { result ≡ block_names_streams (block_at (view_now view.entry) reference block) }
+{
+    match view.block_at(reference, u64::from(block)) {
+        Some((_, fact)) => fact_names_streams(fact),
+        None => false,
+    }
+}
+
+/// Whether something of this standing and kind is a file, whole or torn.
+fn is_read_file(standing: &Standing, kind: Kind) -> bool
+    ensures { result ≡ is_read_file standing.now kind }
+{
+    NodeSort::WholeFile.has(standing, kind) || NodeSort::TornFile.has(standing, kind)
+}
+
+/// Whether a node is a file whose entry has a stream directory.
+fn has_streams(view: View<'_>, node: &Node) -> bool
+    ensures { result ≡ has_streams (view_now view.entry) node.now }
+{
+    is_read_file(&node.standing, node.kind)
+        && block_names_streams(view, node.icb.reference, node.icb.block)
+}
+
+/// Whether an entry that no name leads to is that of a file with a stream directory.
+fn entry_has_streams(view: View<'_>, entry: &Unnamed) -> bool
+    ensures { result ≡ entry_has_streams (view_now view.entry) entry.now }
+{
+    is_read_file(&entry.standing, entry.kind)
+        && block_names_streams(view, entry.reference, entry.block)
+}
+
+/// How many nodes are such files.
+fn count_named(view: View<'_>, nodes: &[Node]) -> usize
+    ensures value { result ≡ count_by (has_streams (view_now view.entry)) nodes.now }
+    ensures fits { result ≤ length nodes.now }
+{
+    let mut count = 0;
+    for node in nodes {
+        if has_streams(view, node) {
+            count += 1;
+        }
+    }
+    count
+}
+
+/// How many entries that no name leads to are those of such files.
+fn count_nameless(view: View<'_>, entries: &[Unnamed]) -> usize
+    ensures value { result ≡ count_by (entry_has_streams (view_now view.entry)) entries.now }
+    ensures fits { result ≤ length entries.now }
+{
+    let mut count = 0;
+    for entry in entries {
+        if entry_has_streams(view, entry) {
+            count += 1;
+        }
+    }
+    count
+}
+
+/// Counts the files with named streams of the report that a survey stands for: whole and torn ones whose entries have a stream
+/// directory (ECMA-167 4/14.17), by each of their names, and those that no name leads to. It takes no memory.
+#[tactic(auto, using(crate::proofs::Streaming::streams_full), unfolding(crate::specs::Streams::stream_count))]
+pub fn count_streams(survey: &Survey<'_>) -> usize
+    ensures { result ≡ stream_count (state_of survey.now.table.now) (survey_now survey.now) }
+{
+    match &survey.volume {
+        Volume::Open(opened) => {
+            let view = View {
+                table: survey.table,
+                space: &opened.space,
+            };
+            count_named(view, &survey.nodes) + count_nameless(view, &survey.unnamed)
+        }
+        _ => 0,
+    }
+}
+
+/// The line of several files with named streams.
+fn push_many_streams(text: &mut String, files: usize) -> Result<(), OutOfMemory>
+    ensures { OnOk result (string_bytes text.new ≡ string_bytes text.old ++ many_streams_line files) }
+{
+    text.push_str("Streams    ")?;
+    push_counted(
+        text,
+        files as u64,
+        " files with named streams, which are not looked at\n",
+    )
+}
+
+/// The line of one file with named streams, or of several.
+fn push_some_streams(text: &mut String, files: usize) -> Result<(), OutOfMemory>
+    ensures { OnOk result (string_bytes text.new ≡ string_bytes text.old ++ some_streams_line files) }
+{
+    if files == 1 {
+        return text.push_str("Streams    1 file with named streams, which are not looked at\n");
+    }
+    push_many_streams(text, files)
+}
+
+/// Appends the line of the files with named streams, if there are any.
+///
+/// # Errors
+///
+/// Where memory is refused, and then a part may be appended.
+pub fn push_streams(text: &mut String, files: usize) -> Result<(), OutOfMemory>
+    ensures { OnOk result (string_bytes text.new ≡ string_bytes text.old ++ streams_line files) }
+{
+    if files == 0 {
+        return Ok(());
+    }
+    push_some_streams(text, files)
+}
