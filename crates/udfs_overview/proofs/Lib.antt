@@ -1,6 +1,7 @@
 mod Chains
 mod Choices
 mod Commas
+mod CopyLoops
 mod Counting
 mod DiscCounting
 mod FullFolders
@@ -10,6 +11,8 @@ mod Rounding
 mod SafeParts
 mod SafeShowing
 mod SafeTelling
+mod SpareCopies
+mod SpareLaws
 mod Streaming
 mod TornOrder
 mod TornSorted

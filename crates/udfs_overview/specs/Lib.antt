@@ -6,6 +6,7 @@ pub mod Tallies
 pub mod DiscTallies
 pub mod SummaryTexts
 pub mod Streams
+pub mod Spares
 pub mod VolumeLines
 pub mod TornRows
 pub mod TornLists

@@ -10,6 +10,7 @@ use Rattle.udfs_salvage.specs.Found.{Found}
 use Rattle.udfs_salvage.specs.Reports.{Report}
 use Rattle.udfs_overview.specs.DiscTallies.{disc_of, unnamed_of}
 use Rattle.udfs_overview.specs.Figures.{grouped}
+use Rattle.udfs_overview.specs.Spares.{spares_disagree, spares_line}
 use Rattle.udfs_overview.specs.Streams.{stream_count, streams_line}
 use Rattle.udfs_overview.specs.SummaryTexts.{counted, disc_line, files_line, others_line, unnamed_line}
 use Rattle.udfs_overview.specs.Tallies.{is_node_of, tally_of}
@@ -48,7 +49,7 @@ nodes_lines r =
 
 -- there is nothing found of a volume that does not open
 abbrev pub found_lines : Table → Answer Found → Report → List ℕ
-found_lines table (found f) r = nodes_lines r ++ streams_line (stream_count (state_of table) r)
+found_lines table (found f) r = nodes_lines r ++ streams_line (stream_count (state_of table) r) ++ spares_line (spares_disagree (state_of table) r.volume)
 found_lines table (holes blocks) r = []
 found_lines table (faulty f) r = []
 

@@ -9,6 +9,7 @@ ghost use Rattle.udfs_salvage.specs.Found.{volume_now};
 ghost use Rattle.udfs_salvage.specs.Printing.{Prints};
 ghost use Rattle.udfs_salvage.specs.Surveys.{survey_now};
 ghost use Rattle.udfs_overview.specs.Summaries.{folders_line, found_lines, missing_in, names_missing, next_line, nodes_lines, other_folders, summary_text, torn_folder, torn_lines};
+ghost use Rattle.udfs_overview.specs.Spares.{spares_disagree, spares_line};
 ghost use Rattle.udfs_overview.specs.Streams.{stream_count, streams_line};
 ghost use Rattle.udfs_overview.specs.SummaryTexts.{files_line, others_line, unnamed_line};
 ghost use Rattle.udfs_overview.specs.Tallies.{tally_of};
@@ -16,6 +17,7 @@ ghost use Rattle.udfs_overview.specs.TornLists.{by_loss, torn_rows, torn_text};
 
 use crate::disc_tallies::{UnnamedTally, count_disc, count_unnamed};
 use crate::figures::push_grouped;
+use crate::spares::{push_spares, spares_disagree};
 use crate::streams::{count_streams, push_streams};
 use crate::summary_lines::{push_counted, push_disc, push_files, push_others, push_unnamed};
 use crate::tallies::{NodeSort, Tally, count_nodes, count_of};
@@ -127,13 +129,15 @@ fn push_found(alloc: Global, text: &mut String, survey: &Survey<'_>) -> Result<(
     push_nodes(text, &tally, torn_folder(&survey.nodes), &unnamed)
 }
 
-/// These lines, and that of the files with named streams.
+/// These lines, that of the files with named streams, and that of sparing copies which disagree.
 fn push_all_found(alloc: Global, text: &mut String, survey: &Survey<'_>) -> Result<(), OutOfMemory>
     ensures { OnOk result (string_bytes text.new ≡ string_bytes text.old
-        ++ (nodes_lines (survey_now survey.now) ++ streams_line (stream_count (state_of survey.now.table.now) (survey_now survey.now)))) }
+        ++ (nodes_lines (survey_now survey.now) ++ streams_line (stream_count (state_of survey.now.table.now) (survey_now survey.now))
+        ++ spares_line (spares_disagree (state_of survey.now.table.now) (volume_now survey.now.volume)))) }
 {
     push_found(alloc, text, survey)?;
-    push_streams(text, count_streams(survey))
+    push_streams(text, count_streams(survey))?;
+    push_spares(text, spares_disagree(survey))
 }
 
 /// The lines of the torn files among nodes that are without their blocks and holes.
@@ -212,7 +216,7 @@ fn push_summary(alloc: Global, text: &mut String, survey: &Survey<'_>) -> Result
 }
 
 /// Writes the summary of the report that a survey stands for: what the volume is, how many files and folders are whole, torn, links or
-/// without a name, how many files have named streams, the blocks of the disc, the torn files of which most is lost, and what to read
+/// without a name, how many files have named streams, whether sparing copies disagree, the blocks of the disc, the torn files of which most is lost, and what to read
 /// again. A volume that does not open has a line that says why, that of the blocks, and what to read again. The blocks and holes of one
 /// node are held at a time.
 ///

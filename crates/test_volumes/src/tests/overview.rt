@@ -4,6 +4,7 @@ mod figures;
 mod list;
 mod pages;
 mod safe_names;
+mod spares;
 mod streams;
 mod summary;
 mod whole_summary;

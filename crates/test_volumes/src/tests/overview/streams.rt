@@ -106,8 +106,14 @@ fn the_line_of_a_summary(rt: HostRuntime) -> Result<(), Fail> {
 fn lines(rt: HostRuntime) -> Result<(), Fail> {
     let cases = [
         (0, ""),
-        (1, "Streams    1 file with named streams, which are not looked at\n"),
-        (3, "Streams    3 files with named streams, which are not looked at\n"),
+        (
+            1,
+            "Streams    1 file with named streams, which are not looked at\n",
+        ),
+        (
+            3,
+            "Streams    3 files with named streams, which are not looked at\n",
+        ),
         (
             1234,
             "Streams    1,234 files with named streams, which are not looked at\n",
