@@ -189,3 +189,29 @@ fn why_a_volume_does_not_open(rt: HostRuntime) -> Result<(), Fail> {
     assert!(rt; memory.has_remarked(""));
     Ok(())
 }
+
+/// The second copy of the sparing table, in block 200, maps the packet elsewhere.
+#[test]
+fn sparing_copies_that_disagree(rt: HostRuntime) -> Result<(), Fail> {
+    let alloc = rt.alloc();
+    const WHY: &str =
+        "sparing copies disagree: the volume is not lawful, and files in spared packets may be old\n";
+    let mut disc = Disc::sparable(alloc)?;
+    disc.write(&[(200, 60, &[0xb0])])?;
+    let both = disc.known_but(alloc, &[])?;
+    let one = disc.known_but(alloc, &[200])?;
+    for (table, words, remark) in [
+        (&both, "report -v --last 600 disc.tab", WHY),
+        (&both, "report --json -v --last 600 disc.tab", WHY),
+        (&both, "list -v --last 600 disc.tab", WHY),
+        (&both, "report --last 600 disc.tab", ""),
+        (&one, "report -v --last 600 disc.tab", ""),
+    ] {
+        let mut memory = with_table(alloc, table)?;
+        let ran = ran(alloc, &mut memory, words)?;
+        assert_eq!(rt; ran.status, 0, "{words}");
+        assert_eq!(rt; ran.err.as_str(), "", "{words}");
+        assert!(rt; memory.has_remarked(remark), "{words}");
+    }
+    Ok(())
+}
