@@ -10,6 +10,7 @@ mod imaging;
 mod json;
 mod keeping;
 mod listing;
+mod manifests;
 mod memory;
 mod merging;
 mod only;

@@ -14,3 +14,5 @@ pub mod ImagingLemmas
 pub mod PlacingLemmas
 mod PastEnds
 pub mod ImageWordsLemmas
+mod DigestLemmas
+mod ManifestLemmas

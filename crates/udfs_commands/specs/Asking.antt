@@ -12,6 +12,7 @@
 --     IsKnownProfile words                        the rules that are named, if any are, are those of a profile
 --     IsProfile words profile                     the rules by their name, and the strict ones where none is
 --     has_only words, only_texts words            paths of nodes are asked for, and which; or else that of the root
+--     has_manifest words, manifest_text words     a manifest is asked for, and its path
 --     IsOneEnd words                              the last block, or the size of a disc, and not both
 --     EndsMap end bytes                           these bytes are a mapfile whose runs end here
 --     MapsEndAt found end inputs                  all inputs are images whose mapfiles end here
@@ -125,6 +126,14 @@ has_only words = is_some (matched_of words (codes "only"))
 -- those paths, in order; where there are none, that of the root, which asks for all
 abbrev pub only_texts : Found → List (List ℕ)
 only_texts words = unwrap_or (option_map raw_values (matched_of words (codes "only"))) (codes "/" ∷ [])
+
+-- a path was given for a manifest
+abbrev pub has_manifest : Found → Bool
+has_manifest words = is_some (matched_of words (codes "manifest"))
+
+-- that path
+abbrev pub manifest_text : Found → List ℕ
+manifest_text words = unwrap_or (first_value words (codes "manifest")) []
 
 -- what was given as this is a number, in decimal
 abbrev pub IsNumber : Found → List ℕ → ℕ → Type 0

@@ -77,9 +77,13 @@ reread_app given = with_inputs (with_rule (with_profile (codes "reread") given.n
 abbrev pub only_rule : Rule
 only_rule = record (new_rule (codes "only")) { long = Some (codes "only"); value_names = 1; action = Some Append }
 
--- `extract (--last N | --size BYTES) [--profile PROFILE] --to DIR [--fill] [--only PATH]... IN...`
+-- `--manifest FILE`
+abbrev pub manifest_rule : Rule
+manifest_rule = record (value_rule (codes "manifest")) { required = false }
+
+-- `extract (--last N | --size BYTES) [--profile PROFILE] --to DIR [--fill] [--only PATH]... [--manifest FILE] IN...`
 abbrev pub extract_app : Given → App
-extract_app given = with_inputs (with_rule (with_rule (with_rule (with_profile (codes "extract") given.needs_last) (value_rule (codes "to"))) (flag_rule (codes "fill"))) only_rule) given.pairs
+extract_app given = with_inputs (with_rule (with_rule (with_rule (with_rule (with_profile (codes "extract") given.needs_last) (value_rule (codes "to"))) (flag_rule (codes "fill"))) only_rule) manifest_rule) given.pairs
 
 -- `forget --out FILE (--conflicts | --blocks LIST)... [--force] IN...`
 abbrev pub forget_app : Given → App

@@ -16,3 +16,6 @@ pub mod Grammar
 pub mod Obeying
 pub mod Leaving
 pub mod Imaging
+pub mod Digests
+pub mod SumLines
+pub mod Manifests

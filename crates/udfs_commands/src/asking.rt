@@ -7,14 +7,14 @@ ghost use Rattle.udfs_overview.specs.declared.node_list.ListForm.{ListForm};
 ghost use Rattle.udfs_commands.specs.declared.merge.Version.{Version};
 ghost use Rattle.udfs_commands.specs.declared.report.Form.{Form};
 ghost use Rattle.udfs_commands.specs.Listing.{IsListForm};
-ghost use Rattle.udfs_commands.specs.Asking.{Asked, IsPicked, asked_for, asked_inputs, asked_streams, folder_text, mapfile_text, out_text, pairs_of, stream_path};
+ghost use Rattle.udfs_commands.specs.Asking.{Asked, IsPicked, asked_for, asked_inputs, asked_streams, folder_text, manifest_text, mapfile_text, out_text, pairs_of, stream_path};
 ghost use Rattle.udfs_commands.specs.Asking.Asked.{AskedFile};
 
 use crate::merge::Version;
 use crate::report::Form;
 use crate::sources::InputPath;
 use crate::words::{
-    CONFLICTS, FILL, FORCE, INPUTS, JSON, MAPFILE, NULL, OUT, PAIRS, PATHS, TO, TORN, V1,
+    CONFLICTS, FILL, FORCE, INPUTS, JSON, MANIFEST, MAPFILE, NULL, OUT, PAIRS, PATHS, TO, TORN, V1,
 };
 use clap::ArgMatches;
 use std::alloc::{AllocError, Global};
@@ -139,6 +139,13 @@ pub fn asked_mapfile<'a>(words: &ArgMatches<'a>) -> &'a str
     ensures { result.now ≡ mapfile_text (found_of words.now) }
 {
     words.get_str(MAPFILE).unwrap_or("")
+}
+
+/// The path of the manifest that is to be written, among the words.
+pub fn asked_manifest<'a>(words: &ArgMatches<'a>) -> &'a str
+    ensures { result.now ≡ manifest_text (found_of words.now) }
+{
+    words.get_str(MANIFEST).unwrap_or("")
 }
 
 /// What the words after `list` ask to be shown, and how.

@@ -16,7 +16,7 @@ use udfs_walk::{Node, Path, Standing};
 pub const ALL: &str = "/";
 
 /// Whether a text goes on behind this front with a `/`.
-fn goes_on(front: &str, text: &str) -> bool
+pub fn goes_on(front: &str, text: &str) -> bool
     ensures { result ≡ goes_on front.now text.now }
 {
     match text.as_bytes().strip_prefix(front.as_bytes()) {

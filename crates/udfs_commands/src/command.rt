@@ -7,7 +7,7 @@ ghost use Rattle.udfs_lattice.specs.Records.{join_all};
 ghost use Rattle.udfs_files.specs.Disk.{Fails};
 ghost use Rattle.udfs_volume.specs.declared.profiles.Profile.{Profile};
 ghost use Rattle.udfs_salvage.specs.declared.extraction.Fill.{Fill};
-ghost use Rattle.udfs_commands.specs.Asking.{IsKnownProfile, IsLast, IsOneEnd, IsPicked, IsProfile, are_two_streams, asked_for, asked_inputs, asked_streams, folder_text, has_only, input_texts, is_mapped, mapfile_text, only_texts, out_text, pair_texts};
+ghost use Rattle.udfs_commands.specs.Asking.{IsKnownProfile, IsLast, IsOneEnd, IsPicked, IsProfile, are_two_streams, asked_for, asked_inputs, asked_streams, folder_text, has_manifest, has_only, input_texts, is_mapped, manifest_text, mapfile_text, only_texts, out_text, pair_texts};
 ghost use Rattle.udfs_commands.specs.Extracting.{ExtractsAll, ExtractsChosen, IsPut};
 ghost use Rattle.udfs_commands.specs.Forgetting.{PutsForgotten};
 ghost use Rattle.udfs_commands.specs.Imaging.{IsFreePair, ReplacesPair, WritesImage};
@@ -21,6 +21,7 @@ ghost use Rattle.clap.specs.declared.parser.matches.Found.{Found};
 ghost use Rattle.std.specs.String.{string_bytes};
 ghost use Rattle.clap.specs.Words.{kind_of};
 ghost use Rattle.udfs_commands.specs.Leaving.{ExtractSpares, MayDomainAsked, MayForgetAsked, MayMerge, ReplacesOut, RereadSpares};
+ghost use Rattle.udfs_commands.specs.Manifests.{IsFreeManifest, IsManifest, IsPutLast, ListsChosen};
 ghost use Rattle.udfs_commands.specs.Listing.{IsListForm, PrintsList};
 ghost use Rattle.udfs_commands.specs.Paging.{IsFreePage, MayPageAsked, ReplacesPage, WritesPage, page_path};
 ghost use Rattle.udfs_commands.specs.Summarizing.{PrintsSummary};
@@ -30,7 +31,7 @@ ghost use Rattle.udfs_commands.specs.Spelling.{table_file};
 ghost use Rattle.udfs_commands.specs.declared.merge.Version.{Version};
 ghost use Rattle.udfs_commands.specs.declared.report.Form.{Form};
 
-use crate::extract_words::extract_words;
+use crate::extract_words::extract_as;
 use crate::files::Files;
 use crate::forget_words::forget_words;
 use crate::hints::second_line;
@@ -94,17 +95,27 @@ pub fn run<F: Files, O: Sink, E: Sink>(
         (O.contents out.old) (O.contents out.new) (O.faults out.old) (O.faults out.new) whole ×
         (F.tells → IsFreeMap (F.holds files.old) (F.real files.old) (F.in_place files.old) (pair_texts found) (mapfile_text found))) }
     ensures extract { GrammarTakes (map string_bytes words.now) → Asks (map string_bytes words.now) (codes "extract") → result ≢ 2 → (good : Bool) × (result ≡ cond good 0 1) × (found : Found) × IsAsked (map string_bytes words.now) (codes "extract") found ×
-        (has_only found ≡ false → (fill : Fill) × (last : ℕ) × (profile : Profile) × (inputs : List InputPath) × (map asked_for inputs ≡ asked_inputs found) ×
+        (has_manifest found ≡ false → has_only found ≡ false → (fill : Fill) × (last : ℕ) × (profile : Profile) × (inputs : List InputPath) × (map asked_for inputs ≡ asked_inputs found) ×
         IsPicked found (codes "fill") (Fill.Byte 0) Fill.Refuse fill × IsLast (λ path. F.holds files.old (F.real files.old path)) inputs found last × IsProfile found profile ×
         OfPaths (λ path. F.holds files.old (F.real files.old path)) (⟦<AnySource<F::Input, F::Image> as Source>⟧.remaining) inputs
         (ExtractsAll (λ table told. IsPut F.tells (Fails F.faults ⊎ Fails F.Output.faults) table told fill (folder_text found) (F.holds files.new) (F.moment files.new) (F.left_since files.new))
         files.old files.new profile last (O.contents out.old) (O.contents out.new) (O.faults out.old) (O.faults out.new) good)) }
     ensures chosen { GrammarTakes (map string_bytes words.now) → Asks (map string_bytes words.now) (codes "extract") → result ≢ 2 → (good : Bool) × (result ≡ cond good 0 1) × (found : Found) × IsAsked (map string_bytes words.now) (codes "extract") found ×
-        ((fill : Fill) × (last : ℕ) × (profile : Profile) × (inputs : List InputPath) × (map asked_for inputs ≡ asked_inputs found) ×
+        (has_manifest found ≡ false → (fill : Fill) × (last : ℕ) × (profile : Profile) × (inputs : List InputPath) × (map asked_for inputs ≡ asked_inputs found) ×
         IsPicked found (codes "fill") (Fill.Byte 0) Fill.Refuse fill × IsLast (λ path. F.holds files.old (F.real files.old path)) inputs found last × IsProfile found profile ×
         OfPaths (λ path. F.holds files.old (F.real files.old path)) (⟦<AnySource<F::Input, F::Image> as Source>⟧.remaining) inputs
         (ExtractsChosen (only_texts found) (λ table told. IsPut F.tells (Fails F.faults ⊎ Fails F.Output.faults) table told fill (folder_text found) (F.holds files.new) (F.moment files.new) (F.left_since files.new))
         F.holds (folder_text found) files.old files.new profile last (O.contents out.old) (O.contents out.new) (O.faults out.old) (O.faults out.new) good)) }
+    ensures listed { GrammarTakes (map string_bytes words.now) → Asks (map string_bytes words.now) (codes "extract") → result ≢ 2 → (good : Bool) × (result ≡ cond good 0 1) × (found : Found) × IsAsked (map string_bytes words.now) (codes "extract") found ×
+        (has_manifest found ≡ true → ((fill : Fill) × (last : ℕ) × (profile : Profile) × (inputs : List InputPath) × (map asked_for inputs ≡ asked_inputs found) ×
+        IsPicked found (codes "fill") (Fill.Byte 0) Fill.Refuse fill × IsLast (λ path. F.holds files.old (F.real files.old path)) inputs found last × IsProfile found profile ×
+        OfPaths (λ path. F.holds files.old (F.real files.old path)) (⟦<AnySource<F::Input, F::Image> as Source>⟧.remaining) inputs
+        (ListsChosen (only_texts found)
+        (λ f table told. IsPut F.tells (Fails F.faults ⊎ Fails F.Output.faults) table told fill (folder_text found) (F.holds f) (F.moment f) (F.left_since f))
+        (λ f nodes fates text. F.tells → IsManifest (F.holds f) (folder_text found) nodes fates text)
+        (λ f text. F.tells → IsPutLast F.holds F.may_leave F.moment F.left_since (F.real files.old (manifest_text found)) f files.new text)
+        F.holds (folder_text found) files.old files.new profile last (O.contents out.old) (O.contents out.new) (O.faults out.old) (O.faults out.new) good)) ×
+        (F.tells → IsFreeManifest (F.holds files.old) (F.real files.old) (input_texts found) (pair_texts found) (folder_text found) (manifest_text found))) }
     ensures forget { GrammarTakes (map string_bytes words.now) → Asks (map string_bytes words.now) (codes "forget") → result ≢ 2 → (result ≡ 0) × (found : Found) × IsAsked (map string_bytes words.now) (codes "forget") found ×
         PutsForgotten (λ path. F.holds files.old (F.real files.old path)) (⟦<AnySource<F::Input, F::Image> as Source>⟧.remaining) found
         (λ bytes. (F.tells → IsKept (F.holds files.new) (F.may_leave files.new) (F.real files.old (out_text found)) bytes) ⊎ (F.in_place files.old (out_text found) × IsTaken F.Output.contents bytes)) ×
@@ -150,7 +161,7 @@ pub fn run<F: Files, O: Sink, E: Sink>(
         ReplacesPage F.tells F.holds F.real F.in_place F.may_leave F.moment F.left_since found files.old files.new
         (MayPageAsked (λ path. F.holds files.old (F.real files.old path)) (⟦<AnySource<F::Input, F::Image> as Source>⟧.remaining) (F.real files.old) found)) }
     ensures extracting { Asks (map string_bytes words.now) (codes "extract") → (files.new ≡ files.old) ⊎ ((found : Found) × IsAsked (map string_bytes words.now) (codes "extract") found ×
-        ExtractSpares F.tells F.holds F.may_leave F.moment F.left_since found files.old files.new) }
+        ExtractSpares F.tells F.holds F.real F.may_leave F.moment F.left_since found files.old files.new) }
 {
     let command = match grammar(alloc, given_in(words)) {
         Ok(command) => command,
@@ -208,16 +219,25 @@ fn obey<F: Files, O: Sink>(
     ensures reread { name.now ≡ codes "reread" → IfSome result (λ outcome. IfOk outcome (λ whole. is_mapped (found_of words.now) ≡ false → (last : ℕ) × (profile : Profile) × (inputs : List InputPath) × (map asked_for inputs ≡ asked_inputs (found_of words.now)) ×
         IsLast (λ path. F.holds files.old (F.real files.old path)) inputs (found_of words.now) last × IsProfile (found_of words.now) profile × OfPaths (λ path. F.holds files.old (F.real files.old path)) (⟦<AnySource<F::Input, F::Image> as Source>⟧.remaining) inputs
         (PrintsNumbers profile last (O.contents out.old) (O.contents out.new) (O.faults out.old) (O.faults out.new) whole))) }
-    ensures extract { name.now ≡ codes "extract" → IfSome result (λ outcome. IfOk outcome (λ good. has_only (found_of words.now) ≡ false → (fill : Fill) × (last : ℕ) × (profile : Profile) × (inputs : List InputPath) × (map asked_for inputs ≡ asked_inputs (found_of words.now)) ×
+    ensures extract { name.now ≡ codes "extract" → IfSome result (λ outcome. IfOk outcome (λ good. has_manifest (found_of words.now) ≡ false → has_only (found_of words.now) ≡ false → (fill : Fill) × (last : ℕ) × (profile : Profile) × (inputs : List InputPath) × (map asked_for inputs ≡ asked_inputs (found_of words.now)) ×
         IsPicked (found_of words.now) (codes "fill") (Fill.Byte 0) Fill.Refuse fill × IsLast (λ path. F.holds files.old (F.real files.old path)) inputs (found_of words.now) last × IsProfile (found_of words.now) profile ×
         OfPaths (λ path. F.holds files.old (F.real files.old path)) (⟦<AnySource<F::Input, F::Image> as Source>⟧.remaining) inputs
         (ExtractsAll (λ table told. IsPut F.tells (Fails F.faults ⊎ Fails F.Output.faults) table told fill (folder_text (found_of words.now)) (F.holds files.new) (F.moment files.new) (F.left_since files.new))
         files.old files.new profile last (O.contents out.old) (O.contents out.new) (O.faults out.old) (O.faults out.new) good))) }
-    ensures chosen { name.now ≡ codes "extract" → IfSome result (λ outcome. IfOk outcome (λ good. (fill : Fill) × (last : ℕ) × (profile : Profile) × (inputs : List InputPath) × (map asked_for inputs ≡ asked_inputs (found_of words.now)) ×
+    ensures chosen { name.now ≡ codes "extract" → IfSome result (λ outcome. IfOk outcome (λ good. has_manifest (found_of words.now) ≡ false → (fill : Fill) × (last : ℕ) × (profile : Profile) × (inputs : List InputPath) × (map asked_for inputs ≡ asked_inputs (found_of words.now)) ×
         IsPicked (found_of words.now) (codes "fill") (Fill.Byte 0) Fill.Refuse fill × IsLast (λ path. F.holds files.old (F.real files.old path)) inputs (found_of words.now) last × IsProfile (found_of words.now) profile ×
         OfPaths (λ path. F.holds files.old (F.real files.old path)) (⟦<AnySource<F::Input, F::Image> as Source>⟧.remaining) inputs
         (ExtractsChosen (only_texts (found_of words.now)) (λ table told. IsPut F.tells (Fails F.faults ⊎ Fails F.Output.faults) table told fill (folder_text (found_of words.now)) (F.holds files.new) (F.moment files.new) (F.left_since files.new))
         F.holds (folder_text (found_of words.now)) files.old files.new profile last (O.contents out.old) (O.contents out.new) (O.faults out.old) (O.faults out.new) good))) }
+    ensures listed { name.now ≡ codes "extract" → IfSome result (λ outcome. IfOk outcome (λ good. has_manifest (found_of words.now) ≡ true → ((fill : Fill) × (last : ℕ) × (profile : Profile) × (inputs : List InputPath) × (map asked_for inputs ≡ asked_inputs (found_of words.now)) ×
+        IsPicked (found_of words.now) (codes "fill") (Fill.Byte 0) Fill.Refuse fill × IsLast (λ path. F.holds files.old (F.real files.old path)) inputs (found_of words.now) last × IsProfile (found_of words.now) profile ×
+        OfPaths (λ path. F.holds files.old (F.real files.old path)) (⟦<AnySource<F::Input, F::Image> as Source>⟧.remaining) inputs
+        (ListsChosen (only_texts (found_of words.now))
+        (λ f table told. IsPut F.tells (Fails F.faults ⊎ Fails F.Output.faults) table told fill (folder_text (found_of words.now)) (F.holds f) (F.moment f) (F.left_since f))
+        (λ f nodes fates text. F.tells → IsManifest (F.holds f) (folder_text (found_of words.now)) nodes fates text)
+        (λ f text. F.tells → IsPutLast F.holds F.may_leave F.moment F.left_since (F.real files.old (manifest_text (found_of words.now))) f files.new text)
+        F.holds (folder_text (found_of words.now)) files.old files.new profile last (O.contents out.old) (O.contents out.new) (O.faults out.old) (O.faults out.new) good)) ×
+        (F.tells → IsFreeManifest (F.holds files.old) (F.real files.old) (input_texts (found_of words.now)) (pair_texts (found_of words.now)) (folder_text (found_of words.now)) (manifest_text (found_of words.now))))) }
     ensures done_forget { name.now ≡ codes "forget" → IfSome result (λ outcome. IfOk outcome (λ whole. whole ≡ true)) }
     ensures forget { name.now ≡ codes "forget" → IfSome result (λ outcome. OnOk outcome
         (PutsForgotten (λ path. F.holds files.old (F.real files.old path)) (⟦<AnySource<F::Input, F::Image> as Source>⟧.remaining) (found_of words.now)
@@ -250,7 +270,7 @@ fn obey<F: Files, O: Sink>(
     ensures imaging { name.now ≡ codes "image" → ReplacesPair F.tells F.holds F.real F.may_leave F.moment F.left_since (⟦<AnySource<F::Input, F::Image> as Source>⟧.remaining) (found_of words.now) files.old files.new }
     ensures paging { name.now ≡ codes "page" → ReplacesPage F.tells F.holds F.real F.in_place F.may_leave F.moment F.left_since (found_of words.now) files.old files.new
         (MayPageAsked (λ path. F.holds files.old (F.real files.old path)) (⟦<AnySource<F::Input, F::Image> as Source>⟧.remaining) (F.real files.old) (found_of words.now)) }
-    ensures extracting { name.now ≡ codes "extract" → ExtractSpares F.tells F.holds F.may_leave F.moment F.left_since (found_of words.now) files.old files.new }
+    ensures extracting { name.now ≡ codes "extract" → ExtractSpares F.tells F.holds F.real F.may_leave F.moment F.left_since (found_of words.now) files.old files.new }
 {
     match name {
         "merge" => Some(match merge_words(alloc, words, files) {
@@ -259,7 +279,7 @@ fn obey<F: Files, O: Sink>(
         }),
         "report" => Some(report_words(alloc, words, files, out)),
         "reread" => Some(reread_as(alloc, words, files, out)),
-        "extract" => Some(extract_words(alloc, words, files, out)),
+        "extract" => Some(extract_as(alloc, words, files, out)),
         "forget" => Some(match forget_words(alloc, words, files) {
             Ok(()) => Ok(true),
             Err(refusal) => Err(refusal),

@@ -1,6 +1,6 @@
 //! The command `extract`: readings in, the files of their volume out into a new folder.
 
-ghost use Rattle.std.specs.Prelude.{◌≡◌, ◌≢◌, ◌<◌, ◌⊎◌, ◌++◌, ℕ, Bool, true, false, List, [], Some, IfOk, IfErr, OnErr, length, slice_get, drop, None, Option, map, string_bytes, if◌then◌else◌};
+ghost use Rattle.std.specs.Prelude.{◌≡◌, ◌≢◌, ◌<◌, ◌⊎◌, ◌++◌, ℕ, Bool, true, false, ◌&&◌, List, [], Some, IfOk, IfErr, OnErr, length, slice_get, drop, None, Option, map, option_map, string_bytes, if◌then◌else◌};
 ghost use Rattle.std.specs.Io.KnownBytes.{Appends};
 ghost use Rattle.udfs_file.specs.declared.cells.Cell.{Cell};
 ghost use Rattle.udfs_files.specs.Disk.{Disk, Same, SameBut, Goes, Fails};
@@ -14,16 +14,19 @@ ghost use Rattle.udfs_salvage.specs.Reports.{IsReportBy, report_now};
 ghost use Rattle.udfs_salvage.specs.Texts.{line};
 ghost use Rattle.udfs_commands.specs.Extracting.{ExtractsChosen, IsDone, IsElsewhere, IsFateOf, IsIn, IsPut, Puts, PutsOf, Spares, Stay, TellsOn, all_good, deed, fate_line, is_good, path_below};
 ghost use Rattle.udfs_commands.specs.Keeping.{IsKept, OfPaths};
+ghost use Rattle.udfs_commands.specs.Manifests.{IsManifest, IsNoted, PutsNoted};
 ghost use Rattle.udfs_commands.specs.declared.sources.AnySource.{AnySource};
 
 use crate::choosing::{all_are_nodes, chosen_are_whole, is_above, is_chosen};
+use crate::digesting::{Filled, fill_noting};
 use crate::files::Files;
 use crate::inputs::joined;
+use crate::manifest::note;
 use crate::refusal::Refusal;
 use crate::sources::{AnySource, InputPath};
 use std::alloc::{AllocError, Global};
 use udfs_file::Kind;
-use udfs_files::{Job, Stage, fill_by};
+use udfs_files::{Job, Stage};
 use udfs_reading::{DeviceFault, Sink, Source, WriteFault, write_all};
 use udfs_salvage::{
     ExtractError, Fill, Report, Volume, extract_by as write_bytes, is_offered, push_names,
@@ -79,6 +82,22 @@ pub enum Fate {
     Skipped,
     /// It is not asked for.
     Passed,
+}
+
+/// What became of a node, and the digest of its file where that is wanted and the file was written.
+#[derive(Clone, Copy)]
+pub struct Done {
+    /// What became of it.
+    pub fate: Fate,
+    /// The digest of the bytes that were written.
+    pub digest: Option<[u8; 32]>,
+}
+
+/// What became of a node of which no file was written.
+fn without_file(fate: Fate) -> Done
+    ensures { (result.fate ≡ fate) × (result.digest ≡ None) }
+{
+    Done { fate, digest: None }
 }
 
 /// The path of a node in a folder: the folder's, and each name in its escaped form behind a `/`. An escaped name has no
@@ -202,21 +221,23 @@ fn fill_file<F: Files>(
     report: &Report<'_>,
     index: usize,
     fill: Fill,
+    digest: bool,
     path: &str,
     output: F::Output,
     files: &mut F,
-) -> Result<Fate, AllocError>
+) -> Result<Done, AllocError>
     requires index { index < length report.now.nodes.items }
     requires place { F.tells → F.Output.place output ≡ path.now }
     requires empty { F.tells → F.Output.contents output ≡ Some [] }
     requires open { F.holds files.old path.now ≡ None }
-    ensures written { IfOk result (λ fate. fate ≡ Fate.Written → F.tells → (profile : Profile) (last : ℕ) (n : NodeFields) →
+    ensures written { IfOk result (λ done. done.fate ≡ Fate.Written → F.tells → (profile : Profile) (last : ℕ) (n : NodeFields) →
         IsReportBy profile (state_of report.now.table.now) last (report_now report.now) → slice_get report.now.nodes.items index ≡ Some n → is_offered n.standing n.size fill ≡ true →
         (cs : List Cell) × HasCellsInBy profile (state_of report.now.table.now) last index cs × IsKept (F.holds files.new) (F.may_leave files.new) path.now (filled (fill_byte fill) cs)) }
-    ensures gone { IfOk result (λ fate. fate ≡ Fate.Failed → F.tells → F.holds files.new path.now ≡ Some None) }
-    ensures fate { IfOk result (λ fate. IsFateOf Deed.File fate) }
-    ensures cause { IfOk result (λ fate. fate ≢ Fate.Written → (profile : Profile) (last : ℕ) (n : NodeFields) →
+    ensures gone { IfOk result (λ done. done.fate ≡ Fate.Failed → F.tells → F.holds files.new path.now ≡ Some None) }
+    ensures fate { IfOk result (λ done. IsFateOf Deed.File done.fate) }
+    ensures cause { IfOk result (λ done. done.fate ≢ Fate.Written → (profile : Profile) (last : ℕ) (n : NodeFields) →
         IsReportBy profile (state_of report.now.table.now) last (report_now report.now) → slice_get report.now.nodes.items index ≡ Some n → is_offered n.standing n.size fill ≡ true → Fails F.faults ⊎ Fails F.Output.faults) }
+    ensures digest { IfOk result (λ done. IsNoted digest F.tells (F.holds files.new) path.now done.fate done.digest) }
     ensures others { (q : List ℕ) → q ≢ path.now → F.holds files.new q ≡ F.holds files.old q }
     ensures crash { Goes F.moment F.may_leave F.left_since files.old files.new (SameBut path.now) }
 {
@@ -226,13 +247,16 @@ fn fill_file<F: Files>(
         index,
         fill,
     };
-    match fill_by(output, &job) {
-        Ok(output) => Ok(finish_file(path, output, files)),
+    match fill_noting::<F, NodeBytes<'_, '_>>(output, &job, digest) {
+        Ok(Filled { output, digest }) => {
+            let fate = finish_file(path, output, files);
+            Ok(Done { fate, digest })
+        }
         Err(ExtractError::OutOfMemory) => {
             let _ = files.remove(path);
             Err(AllocError)
         }
-        Err(_) => Ok(give_up(path, files)),
+        Err(_) => Ok(without_file(give_up(path, files))),
     }
 }
 
@@ -243,26 +267,28 @@ fn write_file<F: Files>(
     report: &Report<'_>,
     index: usize,
     fill: Fill,
+    digest: bool,
     path: &str,
     files: &mut F,
-) -> Result<Fate, AllocError>
+) -> Result<Done, AllocError>
     requires { index < length report.now.nodes.items }
-    ensures written { IfOk result (λ fate. fate ≡ Fate.Written → F.tells → (profile : Profile) (last : ℕ) (n : NodeFields) →
+    ensures written { IfOk result (λ done. done.fate ≡ Fate.Written → F.tells → (profile : Profile) (last : ℕ) (n : NodeFields) →
         IsReportBy profile (state_of report.now.table.now) last (report_now report.now) → slice_get report.now.nodes.items index ≡ Some n → is_offered n.standing n.size fill ≡ true →
         (cs : List Cell) × HasCellsInBy profile (state_of report.now.table.now) last index cs × IsKept (F.holds files.new) (F.may_leave files.new) path.now (filled (fill_byte fill) cs)) }
-    ensures gone { IfOk result (λ fate. fate ≡ Fate.Failed → F.tells → F.holds files.new path.now ≡ F.holds files.old path.now) }
-    ensures fate { IfOk result (λ fate. IsFateOf Deed.File fate) }
-    ensures cause { IfOk result (λ fate. fate ≢ Fate.Written → (profile : Profile) (last : ℕ) (n : NodeFields) →
+    ensures gone { IfOk result (λ done. done.fate ≡ Fate.Failed → F.tells → F.holds files.new path.now ≡ F.holds files.old path.now) }
+    ensures fate { IfOk result (λ done. IsFateOf Deed.File done.fate) }
+    ensures cause { IfOk result (λ done. done.fate ≢ Fate.Written → (profile : Profile) (last : ℕ) (n : NodeFields) →
         IsReportBy profile (state_of report.now.table.now) last (report_now report.now) → slice_get report.now.nodes.items index ≡ Some n → is_offered n.standing n.size fill ≡ true → Fails F.faults ⊎ Fails F.Output.faults) }
+    ensures digest { IfOk result (λ done. IsNoted digest F.tells (F.holds files.new) path.now done.fate done.digest) }
     ensures others { (q : List ℕ) → q ≢ path.now → F.holds files.new q ≡ F.holds files.old q }
     ensures there { F.tells → F.holds files.old path.now ≢ Some None → F.holds files.new path.now ≡ F.holds files.old path.now }
     ensures stays { F.tells → F.holds files.old path.now ≢ Some None → Goes F.moment F.may_leave F.left_since files.old files.new Same }
     ensures crash { Goes F.moment F.may_leave F.left_since files.old files.new (SameBut path.now) }
 {
     let Ok(output) = files.make_new(path) else {
-        return Ok(Fate::Failed);
+        return Ok(without_file(Fate::Failed));
     };
-    fill_file(alloc, report, index, fill, path, output, files)
+    fill_file(alloc, report, index, fill, digest, path, output, files)
 }
 
 /// Makes a folder, and brings its name to the disk.
@@ -288,23 +314,31 @@ fn put_at<F: Files>(
     report: &Report<'_>,
     index: usize,
     fill: Fill,
+    digest: bool,
     path: &str,
     files: &mut F,
-) -> Result<Fate, AllocError>
+) -> Result<Done, AllocError>
     requires { index < length report.now.nodes.items }
-    ensures put { IfOk result (λ fate. (n : NodeFields) (folder : List ℕ) → slice_get report.now.nodes.items index ≡ Some n → path.now ≡ path_below folder n.path →
-        IsPut F.tells (Fails F.faults ⊎ Fails F.Output.faults) report.now.table.now (report_now report.now) fill folder (F.holds files.new) (F.moment files.new) (F.left_since files.new) index n fate) }
+    ensures put { IfOk result (λ done. (n : NodeFields) (folder : List ℕ) → slice_get report.now.nodes.items index ≡ Some n → path.now ≡ path_below folder n.path →
+        IsPut F.tells (Fails F.faults ⊎ Fails F.Output.faults) report.now.table.now (report_now report.now) fill folder (F.holds files.new) (F.moment files.new) (F.left_since files.new) index n done.fate) }
+    ensures digest { IfOk result (λ done. IsNoted digest F.tells (F.holds files.new) path.now done.fate done.digest) }
     ensures stays { F.tells → Stay (F.holds files.old) (F.holds files.new) }
     ensures others { (q : List ℕ) → q ≢ path.now → F.holds files.new q ≡ F.holds files.old q }
     ensures crash { F.tells → (folder : List ℕ) → IsIn folder path.now → Goes F.moment F.may_leave F.left_since files.old files.new (Spares folder (F.holds files.old)) }
 {
     match deed_for(node_at(report, index), fill) {
-        Deed::Folder => Ok(put_folder(path, files)),
-        Deed::File => {
-            let fate = write_file(alloc, report, index, fill, path, files)?;
-            Ok(fate)
+        Deed::Folder => {
+            let fate = put_folder(path, files);
+            Ok(Done { fate, digest: None })
         }
-        Deed::Skip => Ok(Fate::Skipped),
+        Deed::File => {
+            let done = write_file(alloc, report, index, fill, digest, path, files)?;
+            Ok(done)
+        }
+        Deed::Skip => Ok(Done {
+            fate: Fate::Skipped,
+            digest: None,
+        }),
     }
 }
 
@@ -314,12 +348,14 @@ fn put_node<F: Files>(
     report: &Report<'_>,
     index: usize,
     fill: Fill,
+    digest: bool,
     folder: &str,
     files: &mut F,
-) -> Result<Fate, AllocError>
+) -> Result<Done, AllocError>
     requires { index < length report.now.nodes.items }
-    ensures put { IfOk result (λ fate. (n : NodeFields) → slice_get report.now.nodes.items index ≡ Some n →
-        IsPut F.tells (Fails F.faults ⊎ Fails F.Output.faults) report.now.table.now (report_now report.now) fill folder.now (F.holds files.new) (F.moment files.new) (F.left_since files.new) index n fate) }
+    ensures put { IfOk result (λ done. (n : NodeFields) → slice_get report.now.nodes.items index ≡ Some n →
+        IsPut F.tells (Fails F.faults ⊎ Fails F.Output.faults) report.now.table.now (report_now report.now) fill folder.now (F.holds files.new) (F.moment files.new) (F.left_since files.new) index n done.fate) }
+    ensures digest { IfOk result (λ done. (n : NodeFields) → slice_get report.now.nodes.items index ≡ Some n → IsNoted digest F.tells (F.holds files.new) (path_below folder.now n.path) done.fate done.digest) }
     ensures stays { F.tells → Stay (F.holds files.old) (F.holds files.new) }
     ensures outside { (q : List ℕ) → (¬ IsIn folder.now q) → F.holds files.new q ≡ F.holds files.old q }
     ensures elsewhere { (q : List ℕ) → ((n : NodeFields) → slice_get report.now.nodes.items index ≡ Some n → q ≢ path_below folder.now n.path) → F.holds files.new q ≡ F.holds files.old q }
@@ -327,8 +363,8 @@ fn put_node<F: Files>(
 {
     let node = node_at(report, index);
     let path = path_in(alloc, folder, &node.path)?;
-    let fate = put_at(alloc, report, index, fill, path.as_str(), files)?;
-    Ok(fate)
+    let done = put_at(alloc, report, index, fill, digest, path.as_str(), files)?;
+    Ok(done)
 }
 
 /// Makes the folder of the node of this index, if it is one. Whether it could be made is seen by what is put into it.
@@ -358,12 +394,14 @@ fn put_chosen<F: Files>(
     index: usize,
     only: &[&str],
     fill: Fill,
+    digest: bool,
     folder: &str,
     files: &mut F,
-) -> Result<Fate, AllocError>
+) -> Result<Done, AllocError>
     requires { index < length report.now.nodes.items }
-    ensures put { IfOk result (λ fate. (n : NodeFields) → slice_get report.now.nodes.items index ≡ Some n → IsDone (map (λ word. word.now) only.now)
-        (IsPut F.tells (Fails F.faults ⊎ Fails F.Output.faults) report.now.table.now (report_now report.now) fill folder.now (F.holds files.new) (F.moment files.new) (F.left_since files.new)) index n fate) }
+    ensures put { IfOk result (λ done. (n : NodeFields) → slice_get report.now.nodes.items index ≡ Some n → IsDone (map (λ word. word.now) only.now)
+        (IsPut F.tells (Fails F.faults ⊎ Fails F.Output.faults) report.now.table.now (report_now report.now) fill folder.now (F.holds files.new) (F.moment files.new) (F.left_since files.new)) index n done.fate) }
+    ensures digest { IfOk result (λ done. (n : NodeFields) → slice_get report.now.nodes.items index ≡ Some n → IsNoted digest F.tells (F.holds files.new) (path_below folder.now n.path) done.fate done.digest) }
     ensures stays { F.tells → Stay (F.holds files.old) (F.holds files.new) }
     ensures outside { (q : List ℕ) → (¬ IsIn folder.now q) → F.holds files.new q ≡ F.holds files.old q }
     ensures elsewhere { (q : List ℕ) → IsElsewhere (map (λ word. word.now) only.now) report.now.nodes.items folder.now q → F.holds files.new q ≡ F.holds files.old q }
@@ -371,24 +409,26 @@ fn put_chosen<F: Files>(
 {
     let node = node_at(report, index);
     if is_chosen(alloc, only, &node.path)? {
-        return match put_node(alloc, report, index, fill, folder, files) {
-            Ok(fate) => Ok(fate),
+        return match put_node(alloc, report, index, fill, digest, folder, files) {
+            Ok(done) => Ok(done),
             Err(AllocError) => Err(AllocError),
         };
     }
     if is_above(alloc, only, &node.path)? {
         put_way(alloc, report, index, folder, files)?;
     }
-    Ok(Fate::Passed)
+    Ok(without_file(Fate::Passed))
 }
 
 /// What became of the nodes of a volume.
-#[derive(Clone, Copy)]
+#[derive(Drop)]
 struct Told {
     /// Whether no file and no folder failed.
     good: bool,
     /// Whether the output took all lines.
     heard: bool,
+    /// The manifest of the files that were written, where it is wanted.
+    manifest: Vec<u8>,
 }
 
 /// Whether nothing failed so far, and neither did this.
@@ -407,6 +447,7 @@ fn put_nodes<F: Files, O: Sink>(
     report: &Report<'_>,
     only: &[&str],
     fill: Fill,
+    digest: bool,
     folder: &str,
     files: &mut F,
     out: &mut O,
@@ -414,7 +455,8 @@ fn put_nodes<F: Files, O: Sink>(
     ensures put { (heard : Bool) × (fates : List Fate) × Puts (IsDone (map (λ word. word.now) only.now)
         (IsPut F.tells (Fails F.faults ⊎ Fails F.Output.faults) report.now.table.now (report_now report.now) fill folder.now (F.holds files.new) (F.moment files.new) (F.left_since files.new)))
         report.now.nodes.items (O.contents out.old) (O.contents out.new) (O.faults out.old) (O.faults out.new) heard fates ×
-        IfOk result (λ told. (length fates ≡ length (drop 1 report.now.nodes.items)) × (told.heard ≡ heard) × (told.good ≡ all_good fates)) }
+        IfOk result (λ told. (length fates ≡ length (drop 1 report.now.nodes.items)) × (told.heard ≡ heard) × (told.good ≡ all_good fates) ×
+        (digest ≡ true → F.tells → IsManifest (F.holds files.new) folder.now (drop 1 report.now.nodes.items) fates told.manifest.items)) }
     ensures stays { F.tells → Stay (F.holds files.old) (F.holds files.new) }
     ensures outside { (q : List ℕ) → (¬ IsIn folder.now q) → F.holds files.new q ≡ F.holds files.old q }
     ensures elsewhere { (q : List ℕ) → IsElsewhere (map (λ word. word.now) only.now) report.now.nodes.items folder.now q → F.holds files.new q ≡ F.holds files.old q }
@@ -422,29 +464,53 @@ fn put_nodes<F: Files, O: Sink>(
 {
     let mut good = true;
     let mut heard = true;
+    let mut manifest = Vec::new(alloc);
     for index in 1..report.nodes.len() {
-        let fate = put_chosen(alloc, report, index, only, fill, folder, files)?;
+        let done = put_chosen(alloc, report, index, only, fill, digest, folder, files)?;
         let node = node_at(report, index);
-        good = still_good(good, fate);
-        heard = tell(alloc, heard, fate, &node.path, out)?;
+        note(alloc, &mut manifest, done, &node.path)?;
+        good = still_good(good, done.fate);
+        heard = tell(alloc, heard, done.fate, &node.path, out)?;
     }
-    Ok(Told { good, heard })
+    Ok(Told {
+        good,
+        heard,
+        manifest,
+    })
+}
+
+/// Whether nothing failed, and all is whole.
+fn is_all_good(good: bool, whole: bool) -> bool
+    ensures { result ≡ (good && whole) }
+{
+    good && whole
+}
+
+/// What was made of a report.
+#[derive(Drop)]
+pub struct Made {
+    /// Whether all nodes that are asked for are whole and nothing failed.
+    pub good: bool,
+    /// The manifest of the files that were written, where the volume opens.
+    pub manifest: Option<Vec<u8>>,
 }
 
 /// Makes the folder and what the report has for it, as far as it is asked for; where the volume does not open, it makes nothing, and prints the line of the
-/// volume. It answers whether all nodes that are asked for are whole and nothing failed.
-fn put_report<F: Files, O: Sink>(
+/// volume. Where `digest` says so, the digests of the files are taken while they are written.
+pub fn put_report<F: Files, O: Sink>(
     alloc: Global,
     report: &Report<'_>,
     only: &[&str],
     fill: Fill,
+    digest: bool,
     folder: &str,
     files: &mut F,
     out: &mut O,
-) -> Result<bool, Refusal>
-    ensures put { IfOk result (λ good. PutsOf (map (λ word. word.now) only.now)
+) -> Result<Made, Refusal>
+    ensures put { IfOk result (λ made. PutsNoted (map (λ word. word.now) only.now)
         (λ told. IsPut F.tells (Fails F.faults ⊎ Fails F.Output.faults) report.now.table.now told fill folder.now (F.holds files.new) (F.moment files.new) (F.left_since files.new))
-        files.old files.new (report_now report.now) (O.contents out.old) (O.contents out.new) (O.faults out.old) (O.faults out.new) good) }
+        (λ nodes fates text. digest ≡ true → F.tells → IsManifest (F.holds files.new) folder.now nodes fates text)
+        files.old files.new (report_now report.now) (O.contents out.old) (O.contents out.new) (O.faults out.old) (O.faults out.new) made.good (option_map (λ m. m.items) made.manifest)) }
     ensures no_node { IfErr result (λ refusal. (i : ℕ) → refusal ≡ Refusal.NoNode i → files.new ≡ files.old) }
     ensures stays { F.tells → Stay (F.holds files.old) (F.holds files.new) }
     ensures outside { (q : List ℕ) → (¬ IsIn folder.now q) → F.holds files.new q ≡ F.holds files.old q }
@@ -458,18 +524,24 @@ fn put_report<F: Files, O: Sink>(
             if put_folder(folder, files) != Fate::Made {
                 return Err(Refusal::Folder);
             }
-            let told = match put_nodes(alloc, report, only, fill, folder, files, out) {
+            let told = match put_nodes(alloc, report, only, fill, digest, folder, files, out) {
                 Ok(told) => told,
                 Err(AllocError) => return Err(Refusal::Memory(AllocError)),
             };
             if !told.heard {
                 return Err(Refusal::Output);
             }
-            Ok(told.good && whole)
+            Ok(Made {
+                good: is_all_good(told.good, whole),
+                manifest: Some(told.manifest),
+            })
         }
         _ => {
             write_volume(report, out)?;
-            Ok(false)
+            Ok(Made {
+                good: false,
+                manifest: None,
+            })
         }
     }
 }
@@ -503,6 +575,6 @@ pub fn extract<F: Files, O: Sink>(
     files.begin(Stage::Walking);
     let report = salvage_by(alloc, &table, last, profile)?;
     files.begin(Stage::Writing);
-    let good = put_report(alloc, &report, only, fill, folder, files, out)?;
-    Ok(good)
+    let made = put_report(alloc, &report, only, fill, false, folder, files, out)?;
+    Ok(made.good)
 }

@@ -5,7 +5,7 @@ use crate::files::Files;
 use crate::last::asked_last;
 use crate::refusal::Refusal;
 use crate::sources::InputPath;
-use crate::words::{MAPFILE, ONLY, OUT, TO};
+use crate::words::{MANIFEST, MAPFILE, ONLY, OUT, TO};
 use clap::ArgMatches;
 use std::alloc::{AllocError, Global};
 use std::fmt;
@@ -264,9 +264,10 @@ fn of_named_input<F: Files>(
 
 /// The path of the file that the words ask to write, where they ask for one.
 fn asked_output<'a>(words: &ArgMatches<'a>) -> Option<&'a str> {
-    match words.get_str(OUT) {
-        Some(out) => Some(out),
-        None => words.get_str(MAPFILE),
+    match (words.get_str(OUT), words.get_str(MAPFILE)) {
+        (Some(out), _) => Some(out),
+        (None, Some(mapfile)) => Some(mapfile),
+        (None, None) => words.get_str(MANIFEST),
     }
 }
 

@@ -25,7 +25,7 @@ pub struct Places {
 }
 
 /// Whether these bytes begin so.
-fn begin_so(bytes: &[u8], front: &[u8]) -> bool
+pub fn begin_so(bytes: &[u8], front: &[u8]) -> bool
     ensures yes { result ≡ true → length front.now ≤ length bytes.now }
     ensures no { result ≡ false → (more : List ℕ) → bytes.now ≢ front.now ++ more }
 {
@@ -123,7 +123,7 @@ fn none_leads<F: Files>(
 }
 
 /// That no input leads to a place: neither a file, nor an image or a mapfile.
-fn is_no_input<F: Files>(
+pub fn is_no_input<F: Files>(
     alloc: Global,
     inputs: &[&str],
     parts: &[&str],

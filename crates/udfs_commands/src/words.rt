@@ -4,7 +4,7 @@ ghost use Rattle.std.specs.Prelude.{◌≡◌, false, IfOk, codes, map};
 ghost use Rattle.std.specs.String.{string_bytes};
 ghost use Rattle.udfs_commands.specs.Obeying.{given_in, is_given, names};
 ghost use Rattle.clap.specs.Words.{app_of, rule_of};
-ghost use Rattle.udfs_commands.specs.Grammar.{blocks_rule, extract_app, flag_rule, forget_app, image_app, inputs_rule, last_rule, letter_rule, list_app, mapfile_rule, merge_app, only_rule, page_app, pairs_rule, out_rule, profile_rule, program, program_app, report_app, reread_app, size_rule, summary_app, value_rule, with_inputs};
+ghost use Rattle.udfs_commands.specs.Grammar.{blocks_rule, extract_app, flag_rule, forget_app, image_app, inputs_rule, last_rule, letter_rule, list_app, manifest_rule, mapfile_rule, merge_app, only_rule, page_app, pairs_rule, out_rule, profile_rule, program, program_app, report_app, reread_app, size_rule, summary_app, value_rule, with_inputs};
 
 use clap::{Arg, ArgAction, Command, value_parser};
 use std::alloc::{AllocError, Global};
@@ -50,6 +50,9 @@ pub const FILL: &str = "fill";
 
 /// The id of the paths that alone are asked for among the matches.
 pub const ONLY: &str = "only";
+
+/// The manifest's id among the matches.
+pub const MANIFEST: &str = "manifest";
 
 /// The id of the flag for JSON among the matches.
 pub const JSON: &str = "json";
@@ -179,7 +182,7 @@ fn reread<'a>(alloc: Global, given: Given) -> Result<Command<'a>, AllocError>
     with_inputs(alloc, command, given.pairs)
 }
 
-/// `extract (--last N | --size BYTES) [--profile PROFILE] --to DIR [--fill] [--only PATH]... IN...`
+/// `extract (--last N | --size BYTES) [--profile PROFILE] --to DIR [--fill] [--only PATH]... [--manifest FILE] IN...`
 fn extract<'a>(alloc: Global, given: Given) -> Result<Command<'a>, AllocError>
     ensures { IfOk result (λ command. app_of command ≡ extract_app given) }
 {
@@ -194,7 +197,8 @@ fn extract<'a>(alloc: Global, given: Given) -> Result<Command<'a>, AllocError>
             FILL,
             "Write torn files too, with zeros for the bytes that are missing",
         ))?
-        .arg(only(alloc))?;
+        .arg(only(alloc))?
+        .arg(manifest(alloc))?;
     with_inputs(alloc, command, given.pairs)
 }
 
@@ -439,6 +443,17 @@ fn only<'a>(alloc: Global) -> Arg<'a>
             "Write only this file, or this folder with all below it: its path as report prints it",
         )
         .action(ArgAction::Append)
+}
+
+/// The manifest to write.
+fn manifest<'a>(alloc: Global) -> Arg<'a>
+    ensures { (rule_of result ≡ manifest_rule) × (result.global ≡ false) }
+{
+    Arg::new(alloc, MANIFEST)
+        .long("manifest")
+        .value_name("FILE")
+        .help("Write a manifest too, for sha256sum -c in the new folder, over an old one")
+        .action(ArgAction::Set)
 }
 
 /// The volume's last block, which may have to be given.
