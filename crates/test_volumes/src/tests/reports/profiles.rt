@@ -123,6 +123,7 @@ fn a_file_that_grew_inside_its_last_block(rt: HostRuntime) -> Result<(), Fail> {
         "{wide}"
     );
     let report = salvage_by(alloc, &table, LAST, Profile::Wide)?;
+    assert_eq!(rt; report.nodes.len(), 3);
     let mut bytes = Writer::new(Vec::new(alloc));
     extract_by(alloc, &report, 1, Fill::Refuse, &mut bytes)?;
     let bytes = bytes.into_inner();
