@@ -1,8 +1,8 @@
 # The words to type here:
 #   make            proves the program and all that it stands on, builds it, and says where it lies
 #   make demo       the same, and then runs it on the readings of examples/
-#   make test       judges the whole repository from nothing, as the gate does, and then tries what make hostile tries, and
-#                   goes from a damaged disc to its files with GNU ddrescue and reads volumes that mkudffs makes, where they are installed
+#   make test       judges the whole repository from nothing, as the gate does, and then tries what make hostile and make try try, and each
+#                   command that the documents show; the last line is 'N passed, M failed'
 #   make hostile    refuses each allocation of many runs in turn, makes each system call of the program's runs fail or ends it there,
 #                   and changes each byte of the sample discs' descriptors
 #   make try        tries the built program on this machine's own files and devices and on a terminal, and with GNU ddrescue where it is installed
@@ -69,12 +69,7 @@ demo: all
 	@tools/check-readme README.md out/demo.txt
 
 test: have-rt
-	@RT_JOBS=$(JOBS) $(RT) ci
-	@$(MAKE) -s --no-print-directory hostile
-	@tools/try-terminal $(PROGRAM) examples
-	@tools/try-ddrescue $(PROGRAM) examples
-	@tools/try-volumes $(PROGRAM) examples
-	@tools/try-readme $(PROGRAM) examples
+	@RT_JOBS=$(JOBS) tools/test $(RT)
 
 hostile: all
 	@$(MAKE) -s --no-print-directory $(TRIES)
