@@ -1,8 +1,6 @@
 //! What is expected comes from the formats' description, byte by byte.
 
 mod files;
-mod overview;
-mod reports;
 mod spaces;
 mod volumes;
 mod walks;

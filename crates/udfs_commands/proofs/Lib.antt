@@ -16,3 +16,4 @@ mod PastEnds
 pub mod ImageWordsLemmas
 mod DigestLemmas
 mod ManifestLemmas
+pub mod LostLemmas

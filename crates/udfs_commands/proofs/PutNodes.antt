@@ -51,7 +51,7 @@ module _ {F : Type 0} (moment : F → ℕ) (may_leave : F → Disk → Type 0) (
   abbrev GoesBy : F → F → (Disk → Disk → Type 0) → Type 0
   GoesBy old new step = Goes moment may_leave left_since old new step
 
-  goes_on : (old mid new : F) (first second whole : Disk → Disk → Type 0) → GoesBy old mid first → GoesBy mid new second
+  pub goes_on : (old mid new : F) (first second whole : Disk → Disk → Type 0) → GoesBy old mid first → GoesBy mid new second
       → ((d c : Disk) → first d c → whole d c) → ((d e c : Disk) → first d e → second e c → whole d c) → GoesBy old new whole
   goes_on old mid new first second whole one two alone both = record {
     later = omega (arith, one.later, two.later);
@@ -63,7 +63,7 @@ module _ {F : Type 0} (moment : F → ℕ) (may_leave : F → Disk → Type 0) (
       join : (c : Disk) → After (may_leave mid) second c → After (may_leave old) whole c
       join c after = let from = one.now after.0 after.1 in (from.0, from.1, both from.0 after.0 c from.2 after.2)
 
-  goes_wider : (old new : F) (step wider : Disk → Disk → Type 0) → GoesBy old new step → ((d c : Disk) → step d c → wider d c) → GoesBy old new wider
+  pub goes_wider : (old new : F) (step wider : Disk → Disk → Type 0) → GoesBy old new step → ((d c : Disk) → step d c → wider d c) → GoesBy old new wider
   goes_wider old new step wider goes widen = record {
     later = goes.later;
     now = λ c left. let after = goes.now c left in (after.0, after.1, widen _ _ after.2);

@@ -13,6 +13,7 @@
 --     IsProfile words profile                     the rules by their name, and the strict ones where none is
 --     has_only words, only_texts words            paths of nodes are asked for, and which; or else that of the root
 --     has_manifest words, manifest_text words     a manifest is asked for, and its path
+--     has_lost words, lost_text words             a folder for lost files is asked for, and its path
 --     IsOneEnd words                              the last block, or the size of a disc, and not both
 --     EndsMap end bytes                           these bytes are a mapfile whose runs end here
 --     MapsEndAt found end inputs                  all inputs are images whose mapfiles end here
@@ -134,6 +135,14 @@ has_manifest words = is_some (matched_of words (codes "manifest"))
 -- that path
 abbrev pub manifest_text : Found → List ℕ
 manifest_text words = unwrap_or (first_value words (codes "manifest")) []
+
+-- a path was given for a folder of lost files
+abbrev pub has_lost : Found → Bool
+has_lost words = is_some (matched_of words (codes "unnamed"))
+
+-- that path
+abbrev pub lost_text : Found → List ℕ
+lost_text words = unwrap_or (first_value words (codes "unnamed")) []
 
 -- what was given as this is a number, in decimal
 abbrev pub IsNumber : Found → List ℕ → ℕ → Type 0

@@ -39,7 +39,7 @@ out_rule = record (value_rule (codes "out")) { short = Some 111 }
 
 -- `--ddrescue IMAGE MAPFILE`, any number of times
 abbrev pub pairs_rule : Rule
-pairs_rule = record (new_rule (codes "ddrescue")) { long = Some (codes "ddrescue"); value_names = 1; action = Some Append; range = Some (record { start_inclusive = 2; end_inclusive = 2 }) }
+pairs_rule = record (new_rule (codes "ddrescue")) { long = Some (codes "ddrescue"); value_names = 2; action = Some Append; range = Some (record { start_inclusive = 2; end_inclusive = 2 }) }
 
 -- `IN...`, of which there is one at least where no pair is
 abbrev pub inputs_rule : Bool → Rule
@@ -81,9 +81,13 @@ only_rule = record (new_rule (codes "only")) { long = Some (codes "only"); value
 abbrev pub manifest_rule : Rule
 manifest_rule = record (value_rule (codes "manifest")) { required = false }
 
--- `extract (--last N | --size BYTES) [--profile PROFILE] --to DIR [--fill] [--only PATH]... [--manifest FILE] IN...`
+-- `--unnamed DIR`
+abbrev pub unnamed_rule : Rule
+unnamed_rule = record (value_rule (codes "unnamed")) { required = false }
+
+-- `extract (--last N | --size BYTES) [--profile PROFILE] --to DIR [--fill] [--only PATH]... [--manifest FILE] [--unnamed DIR] IN...`
 abbrev pub extract_app : Given → App
-extract_app given = with_inputs (with_rule (with_rule (with_rule (with_rule (with_profile (codes "extract") given.needs_last) (value_rule (codes "to"))) (flag_rule (codes "fill"))) only_rule) manifest_rule) given.pairs
+extract_app given = with_inputs (with_rule (with_rule (with_rule (with_rule (with_rule (with_profile (codes "extract") given.needs_last) (value_rule (codes "to"))) (flag_rule (codes "fill"))) only_rule) manifest_rule) unnamed_rule) given.pairs
 
 -- `forget --out FILE (--conflicts | --blocks LIST)... [--force] IN...`
 abbrev pub forget_app : Given → App

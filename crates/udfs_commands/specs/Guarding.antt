@@ -4,8 +4,9 @@
 --     SomeShut                   one of some paths may fail to open
 --     IsFree                     an output takes the place of no image, no mapfile and no reading, but of a reading that is an input, or by force
 --     IsSpared                   why an output is refused
---     IsFreeMap, IsSparedMap     the same of a mapfile that is written: it takes the place of no file but a mapfile of ddrescue's kind, and of none of the inputs
-use Rattle.std.specs.Prelude.{◌≡◌, ◌≢◌, ◌⊎◌, ⊤, ℕ, List, [], ◌∷◌, Bool, true, false, Option, Some, IfSome, codes, nat_eq, if◌then◌else◌}
+--     IsFreeMap, IsSparedMap     the same of a map of blocks to read again: it takes the place of no file but such a map, and of none of the inputs
+use Rattle.std.specs.Prelude.{◌≡◌, ◌≢◌, ◌⊎◌, ⊤, ℕ, List, [], ◌∷◌, Bool, true, false, Option, Some, IfSome, ◌++◌, codes, nat_eq, if◌then◌else◌}
+use Rattle.udfs_rescue.specs.Writing.{made_by, mark_line}
 
 abbrev pub begins : List ℕ → List ℕ → Bool
 begins [] bytes = true
@@ -50,14 +51,14 @@ pub record IsOtherReading (holds : List ℕ → Option (Option (List ℕ))) (rea
 abbrev pub IsSpared : (List ℕ → Option (Option (List ℕ))) → (List ℕ → List ℕ) → List (List ℕ) → List (List ℕ) → Bool → List ℕ → Type 0
 IsSpared holds real files parts force out = SomeLeads real (real out) parts ⊎ IsOtherReading holds real files force out
 
--- the beginning of a mapfile that ddrescue or this program wrote
-abbrev pub mapfile_kind : List ℕ
-mapfile_kind = codes "# Mapfile. Created by"
+-- the beginning of a map of blocks to read again, which no pass's mapfile has: who made it, and the mark
+unfoldable pub domain_kind : List ℕ
+domain_kind = made_by ++ mark_line
 
 -- `parts` are the images and mapfiles among the inputs
 pub record IsFreeMap (holds : List ℕ → Option (Option (List ℕ))) (real : List ℕ → List ℕ) (in_place : List ℕ → Type 0) (parts : List (List ℕ)) (out : List ℕ) : Type 0 where
   pub apart : NoneLeads real (real out) parts
-  pub of_kind : (in_place out → ⊥) → (bytes : List ℕ) → holds (real out) ≡ Some (Some bytes) → begins mapfile_kind bytes ≡ true
+  pub of_kind : (in_place out → ⊥) → (bytes : List ℕ) → holds (real out) ≡ Some (Some bytes) → begins domain_kind bytes ≡ true
 
 abbrev pub IsSparedMap : (List ℕ → Option (Option (List ℕ))) → (List ℕ → List ℕ) → List (List ℕ) → List ℕ → Type 0
-IsSparedMap holds real parts out = SomeLeads real (real out) parts ⊎ BeginsOtherwise mapfile_kind (holds (real out))
+IsSparedMap holds real parts out = SomeLeads real (real out) parts ⊎ BeginsOtherwise domain_kind (holds (real out))

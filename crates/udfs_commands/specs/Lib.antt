@@ -19,3 +19,4 @@ pub mod Imaging
 pub mod Digests
 pub mod SumLines
 pub mod Manifests
+pub mod LostFiles

@@ -27,7 +27,7 @@ page_path words = if bytes_eq (out_text words) (codes "-") then codes "/dev/stdo
 pub record PutsPage (profile : Profile) (last : ℕ) (Put : List ℕ → Type 0) (whole : Bool) (table : Table) : Type 0 where
   pub report : Report
   pub is_report : IsReportBy profile (state_of table) last report
-  pub put : Put (page_html table last report)
+  pub put : Put (page_html profile table last report)
   pub says : whole ≡ all_whole report.nodes
 
 -- of the inputs, the last block and the rules that the words ask for
@@ -42,7 +42,7 @@ pub record WritesPage {R : Type 0} (found : List ℕ → Option (Option (List �
 
 -- this holds of the page of the table's report
 abbrev pub IsPage : Profile → ℕ → (List ℕ → Type 0) → Table → Type 0
-IsPage profile last Holds table = (report : Report) × IsReportBy profile (state_of table) last report × Holds (page_html table last report)
+IsPage profile last Holds table = (report : Report) × IsReportBy profile (state_of table) last report × Holds (page_html profile table last report)
 
 -- the disk is as it was, or the page of a table is in the place of what was at a path
 abbrev pub MayPage : Profile → ℕ → List ℕ → Table → Disk → Disk → Type 0

@@ -9,7 +9,7 @@ use Rattle.udfs_files.specs.Disk.{Disk, Same, Replaced}
 use Rattle.udfs_lattice.specs.Tables.{Table, state_of}
 use Rattle.udfs_reading.specs.Writing.{Wrote}
 use Rattle.udfs_volume.specs.declared.profiles.Profile.{Profile}
-use Rattle.udfs_rescue.specs.Writing.{map_text, wanted_status}
+use Rattle.udfs_rescue.specs.Writing.{domain_text}
 use Rattle.udfs_salvage.specs.Reports.{Report, IsReportBy, all_whole}
 use Rattle.udfs_salvage.specs.RereadTexts.{number_lines}
 use Rattle.udfs_salvage.specs.Texts.{line}
@@ -42,7 +42,7 @@ domain_line blocks = line (decimal (length blocks) ++ codes " blocks in " ++ dec
 pub record PrintsDomain (profile : Profile) (last : ℕ) (Put : List ℕ → Type 0) (old new : Option (List ℕ)) (i j : ℕ) (whole : Bool) (table : Table) : Type 0 where
   pub report : Report
   pub is_report : IsReportBy profile (state_of table) last report
-  pub put : Put (map_text (wanted_status report.reread) last)
+  pub put : Put (domain_text report.reread last)
   pub prints : Wrote old new i j (domain_line report.reread)
   pub says : whole ≡ all_whole report.nodes
 
@@ -58,7 +58,7 @@ pub record WritesDomain {R : Type 0} (found : List ℕ → Option (Option (List 
 
 -- this holds of the mapfile in which the blocks of the table's report that are to be read again are wanted
 abbrev pub IsDomain : Profile → ℕ → (List ℕ → Type 0) → Table → Type 0
-IsDomain profile last Holds table = (report : Report) × IsReportBy profile (state_of table) last report × Holds (map_text (wanted_status report.reread) last)
+IsDomain profile last Holds table = (report : Report) × IsReportBy profile (state_of table) last report × Holds (domain_text report.reread last)
 
 -- the disk is as it was, or the mapfile of a table is in the place of what was at a path
 abbrev pub MayDomain : Profile → ℕ → List ℕ → Table → Disk → Disk → Type 0

@@ -11,5 +11,5 @@ use Rattle.udfs_salvage.specs.Reports.{Report, IsReportBy, all_whole}
 pub record PrintsSummary (profile : Profile) (last : ℕ) (old new : Option (List ℕ)) (i j : ℕ) (whole : Bool) (table : Table) : Type 0 where
   pub report : Report
   pub is_report : IsReportBy profile (state_of table) last report
-  pub prints : Wrote old new i j (summary_text table last report)
+  pub prints : Wrote old new i j (summary_text profile table last report)
   pub says : whole ≡ all_whole report.nodes

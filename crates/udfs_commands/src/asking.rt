@@ -7,14 +7,15 @@ ghost use Rattle.udfs_overview.specs.declared.node_list.ListForm.{ListForm};
 ghost use Rattle.udfs_commands.specs.declared.merge.Version.{Version};
 ghost use Rattle.udfs_commands.specs.declared.report.Form.{Form};
 ghost use Rattle.udfs_commands.specs.Listing.{IsListForm};
-ghost use Rattle.udfs_commands.specs.Asking.{Asked, IsPicked, asked_for, asked_inputs, asked_streams, folder_text, manifest_text, mapfile_text, out_text, pairs_of, stream_path};
+ghost use Rattle.udfs_commands.specs.Asking.{Asked, IsPicked, asked_for, asked_inputs, asked_streams, folder_text, lost_text, manifest_text, mapfile_text, out_text, pairs_of, stream_path};
 ghost use Rattle.udfs_commands.specs.Asking.Asked.{AskedFile};
 
 use crate::merge::Version;
 use crate::report::Form;
 use crate::sources::InputPath;
 use crate::words::{
-    CONFLICTS, FILL, FORCE, INPUTS, JSON, MANIFEST, MAPFILE, NULL, OUT, PAIRS, PATHS, TO, TORN, V1,
+    CONFLICTS, FILL, FORCE, INPUTS, JSON, MANIFEST, MAPFILE, NULL, OUT, PAIRS, PATHS, TO, TORN,
+    UNNAMED, V1,
 };
 use clap::ArgMatches;
 use std::alloc::{AllocError, Global};
@@ -171,6 +172,13 @@ pub fn asked_folder<'a>(words: &ArgMatches<'a>) -> &'a str
     ensures { result.now ≡ folder_text (found_of words.now) }
 {
     words.get_str(TO).unwrap_or("")
+}
+
+/// The path of the folder for lost files among the words after `extract`.
+pub fn asked_lost_folder<'a>(words: &ArgMatches<'a>) -> &'a str
+    ensures { result.now ≡ lost_text (found_of words.now) }
+{
+    words.get_str(UNNAMED).unwrap_or("")
 }
 
 /// What the words after `extract` ask to write of torn files: zeros in the holes with `--fill`, and else nothing.

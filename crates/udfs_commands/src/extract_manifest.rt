@@ -56,7 +56,7 @@ fn put_manifest<F: Files>(
 
 /// Makes what the report has for the folder, as far as it is asked for, and then puts the manifest of the files that were written. Where the volume does not open, it
 /// puts none.
-fn list_report<F: Files, O: Sink>(
+pub fn list_report<F: Files, O: Sink>(
     alloc: Global,
     report: &Report<'_>,
     only: &[&str],

@@ -66,7 +66,7 @@ fn extract_words<F: Files, O: Sink>(
 }
 
 /// Where the manifest that the words after `extract` ask for goes.
-fn asked_place<F: Files>(
+pub fn asked_place<F: Files>(
     alloc: Global,
     words: &ArgMatches<'_>,
     files: &F,

@@ -12,8 +12,9 @@ use udfs_reading::{DeviceFault, Source};
 /// The first eight bytes of a reading.
 const READING: &[u8] = b"UDFREAD1";
 
-/// The beginning of a mapfile that ddrescue or this program wrote.
-const MAPFILE: &[u8] = b"# Mapfile. Created by";
+/// The beginning of a map of blocks to read again: its first line, and the mark that no pass's mapfile has.
+const DOMAIN: &[u8] =
+    b"# Mapfile. Created by udfsalvage 0.1.0\n# Blocks to read again, for ddrescue -m: not the mapfile of a pass\n";
 
 /// Whether what a source has left begins with these bytes. It reads one at a time, and no more than it needs.
 fn begins_so<R: Source>(source: &mut R, kind: &[u8]) -> Result<bool, DeviceFault>
@@ -141,8 +142,8 @@ pub fn look_at<F: Files>(
     }
 }
 
-/// What is known of a mapfile that is to be written: it is spared where it is an image or a mapfile of the inputs, or where what is there is a file and begins
-/// as no such mapfile does.
+/// What is known of a map of blocks to read again that is to be written: it is spared where it is an image or a mapfile of the inputs, or where what is there is
+/// a file and begins as no such map does, as the mapfile of a pass.
 pub fn look_at_map<F: Files>(
     alloc: Global,
     parts: &[&str],
@@ -163,7 +164,7 @@ pub fn look_at_map<F: Files>(
     }
     match place.kind {
         Kind::Absent | Kind::Other => Ok(Outlook::Free),
-        Kind::Regular => match is_kind(out, MAPFILE, files) {
+        Kind::Regular => match is_kind(out, DOMAIN, files) {
             Ok(true) => Ok(Outlook::Free),
             Ok(false) => Ok(Outlook::Spared),
             Err(DeviceFault) => Ok(Outlook::Unknown),

@@ -4,8 +4,10 @@ use crate::asking::asked_inputs;
 use crate::files::Files;
 use crate::last::asked_last;
 use crate::refusal::Refusal;
+use crate::shown::{Said, Shown};
 use crate::sources::InputPath;
-use crate::words::{MANIFEST, MAPFILE, ONLY, OUT, TO};
+use crate::spared::why_spared;
+use crate::words::{BLOCKS, MANIFEST, MAPFILE, ONLY, OUT, TO, UNNAMED};
 use clap::ArgMatches;
 use std::alloc::{AllocError, Global};
 use std::fmt;
@@ -13,6 +15,7 @@ use std::io::{Error, ErrorKind};
 use udfs_files::Kind;
 use udfs_overview::push_grouped;
 use udfs_reading::{ReadingError, ReadingFault, Source};
+use udfs_rescue::MapFault;
 
 /// What the system says where as many files are open as it lets a program open.
 const TOO_MANY_OPEN: i32 = 24;
@@ -22,50 +25,6 @@ const NO_POSITIONS: i32 = 29;
 
 /// The bytes of a header, of a reading and of a table file: its name, the size of a block, and how many records follow.
 const HEADER: usize = 16;
-
-/// A path as a person is shown it: what could forge a line or turn the direction of text is escaped.
-#[derive(Clone, Copy)]
-struct Shown<'a>(&'a str);
-
-/// Whether a character could forge a line or turn the direction of text.
-fn is_unsafe(c: char) -> bool {
-    matches!(
-        c,
-        '\0'..='\u{1f}'
-            | '\u{7f}'..='\u{9f}'
-            | '\u{61c}'
-            | '\u{200e}'
-            | '\u{200f}'
-            | '\u{2028}'..='\u{202e}'
-            | '\u{2066}'..='\u{2069}'
-    )
-}
-
-impl<'a> fmt::Display for Shown<'a> {
-    fn fmt<W: fmt::Write>(&self, f: &mut fmt::Formatter<W>) -> fmt::Result {
-        for c in self.0.chars() {
-            if is_unsafe(c) {
-                write!(f, "\\u{:04X}", c as u32)?;
-            } else {
-                write!(f, "{c}")?;
-            }
-        }
-        Ok(())
-    }
-}
-
-/// What the system said, where it said something.
-#[derive(Clone, Copy)]
-struct Said(Option<Error>);
-
-impl fmt::Display for Said {
-    fn fmt<W: fmt::Write>(&self, f: &mut fmt::Formatter<W>) -> fmt::Result {
-        match self.0 {
-            Some(error) => write!(f, "{error}"),
-            None => f.write_str("the system does not say why"),
-        }
-    }
-}
 
 /// A mapfile's name beside an image's: that of the image, with `.map` in the place of what follows its last dot.
 #[derive(Clone, Copy)]
@@ -192,12 +151,22 @@ fn of_input<F: Files>(
     }
 }
 
+/// Whether a path leads to nothing, or to a file that can not be opened. What is no file is not opened for this.
+fn is_shut<F: Files>(alloc: Global, path: &str, files: &F) -> Result<bool, AllocError> {
+    match files.resolve(alloc, path)? {
+        Ok(target) if target.kind == Kind::Other => Ok(false),
+        Ok(target) if target.kind == Kind::Regular => Ok(files.open(path).is_err()),
+        _ => Ok(true),
+    }
+}
+
 /// What is said of an input that could not be opened.
-fn of_unopened(
+fn of_unopened<F: Files>(
     alloc: Global,
     input: InputPath<'_>,
-    reason: Option<Error>,
+    files: &F,
 ) -> Result<String, AllocError> {
+    let reason = files.reason();
     let more = match reason {
         Some(error) if error.raw_os_error() == Some(TOO_MANY_OPEN) => {
             ": ulimit -n is how many may be open at once; merge in groups, and then their tables"
@@ -211,15 +180,28 @@ fn of_unopened(
     match input {
         InputPath::File(path) => format!(in alloc; "{}: {said}{more}", Shown(path)),
         InputPath::Pair(image, map) => {
+            if is_shut(alloc, image, files)? {
+                return format!(in alloc; "{}: {said}{more}", Shown(image));
+            }
+            if is_shut(alloc, map, files)? {
+                return format!(in alloc; "{}: {said}{more}", Shown(map));
+            }
             format!(in alloc; "{} or {}: {said}{more}", Shown(image), Shown(map))
         }
     }
 }
 
-/// What is said of a mapfile that is malformed.
-fn of_map(alloc: Global, input: InputPath<'_>) -> Result<String, AllocError> {
+/// What is said of a mapfile that is malformed, or is none of a pass.
+fn of_map(alloc: Global, input: InputPath<'_>, fault: MapFault) -> Result<String, AllocError> {
     match input {
         InputPath::File(path) => format!(in alloc; "{}", Shown(path)),
+        InputPath::Pair(image, map) if fault == MapFault::NotPass => {
+            format!(in alloc;
+                "{} lists blocks that are to be read: take the mapfile that ddrescue wrote of {}",
+                Shown(map),
+                Shown(image)
+            )
+        }
         InputPath::Pair(image, map) => {
             format!(in alloc;
                 "{} is no mapfile of GNU ddrescue; the image comes first: --ddrescue IMAGE MAPFILE, here {} and {}",
@@ -254,9 +236,9 @@ fn of_named_input<F: Files>(
 ) -> Result<Option<String>, AllocError> {
     let line = match refusal {
         Refusal::Input(_, error) => of_input(alloc, input, *error, files)?,
-        Refusal::Mapfile(_, _) => of_map(alloc, input)?,
+        Refusal::Mapfile(_, error) => of_map(alloc, input, error.fault)?,
         Refusal::ImageEnds(_, block) => of_short_image(alloc, input, *block)?,
-        Refusal::Open(_) => of_unopened(alloc, input, files.reason())?,
+        Refusal::Open(_) => of_unopened(alloc, input, files)?,
         _ => return Ok(None),
     };
     Ok(Some(line))
@@ -299,17 +281,6 @@ fn is_there(reason: Option<Error>) -> bool {
     }
 }
 
-/// What is said of an output that is not to be written over.
-fn of_spared(alloc: Global, words: &ArgMatches<'_>) -> Result<Option<String>, AllocError> {
-    match asked_output(words) {
-        Some(out) => Ok(Some(format!(in alloc;
-            "{} is what can not be had again, or not of the kind that is to be written: take another name, or --force where the command has it",
-            Shown(out)
-        )?)),
-        None => Ok(None),
-    }
-}
-
 /// What is said of a folder that could not be made.
 fn of_folder(
     alloc: Global,
@@ -325,6 +296,27 @@ fn of_folder(
     Ok(Some(line))
 }
 
+/// What is said of a folder for lost files that is not to be made.
+fn of_lost_place(alloc: Global, words: &ArgMatches<'_>) -> Result<Option<String>, AllocError> {
+    let folder = Shown(words.get_str(UNNAMED).unwrap_or(""));
+    Ok(Some(format!(in alloc;
+        "{folder} exists already, or is where another output goes, or the folder that it is in does not exist; --unnamed wants a new folder"
+    )?))
+}
+
+/// What is said of a folder for lost files that could not be made.
+fn of_lost_folder(
+    alloc: Global,
+    words: &ArgMatches<'_>,
+    reason: Option<Error>,
+) -> Result<Option<String>, AllocError> {
+    let folder = Shown(words.get_str(UNNAMED).unwrap_or(""));
+    Ok(Some(format!(in alloc;
+        "{folder}: {}; the files that have a name are written",
+        Said(reason)
+    )?))
+}
+
 /// What is said of a path of `--only` that is that of no node.
 fn of_no_node(
     alloc: Global,
@@ -333,29 +325,55 @@ fn of_no_node(
 ) -> Result<Option<String>, AllocError> {
     let only = words.get_strs(ONLY).unwrap_or(&[]);
     match only.get(number.saturating_sub(1)) {
+        Some(path) if !path.starts_with('/') => Ok(Some(format!(in alloc;
+            "{} does not begin with /: the paths are those that list --paths prints",
+            Shown(path)
+        )?)),
         Some(path) => Ok(Some(format!(in alloc;
-            "{} is none of the paths that report prints at the ends of its node lines",
+            "{} is none of the paths that list --paths prints",
             Shown(path)
         )?)),
         None => Ok(None),
     }
 }
 
-/// What is said of a refusal that names no input.
-fn of_other(
+/// What is said of a list that could not be read: its path, where there is but one, or where it can not be opened.
+fn of_list<F: Files>(
     alloc: Global,
-    refusal: &Refusal,
     words: &ArgMatches<'_>,
     reason: Option<Error>,
+    files: &F,
+) -> Result<String, AllocError> {
+    let lists = words.get_strs(BLOCKS).unwrap_or(&[]);
+    match lists {
+        [only] => return format!(in alloc; "{}: {}", Shown(only), Said(reason)),
+        _ => {}
+    }
+    for list in lists {
+        if is_shut(alloc, list, files)? {
+            return format!(in alloc; "{}: {}", Shown(list), Said(reason));
+        }
+    }
+    format!(in alloc; "a list of --blocks: {}", Said(reason))
+}
+
+/// What is said of a refusal that names no input.
+fn of_other<F: Files>(
+    alloc: Global,
+    refusal: &Refusal,
+    command: &str,
+    words: &ArgMatches<'_>,
+    files: &F,
 ) -> Result<Option<String>, AllocError> {
+    let reason = files.reason();
     let line = match refusal {
         Refusal::Output => return of_output(alloc, words, reason),
-        Refusal::Spared => return of_spared(alloc, words),
+        Refusal::Spared => return why_spared(alloc, command, words, files),
         Refusal::Folder => return of_folder(alloc, words, reason),
+        Refusal::LostSpared => return of_lost_place(alloc, words),
+        Refusal::LostFolder => return of_lost_folder(alloc, words, reason),
         Refusal::NoNode(number) => return of_no_node(alloc, words, *number),
-        Refusal::ListOpen | Refusal::ListRead => {
-            format!(in alloc; "a list of --blocks: {}", Said(reason))?
-        }
+        Refusal::ListOpen | Refusal::ListRead => of_list(alloc, words, reason, files)?,
         Refusal::ListLine(_) => {
             format!(in alloc;
                 "a list of --blocks has one decimal number a line, from 0 to 4194303"
@@ -393,15 +411,17 @@ fn named_input(refusal: &Refusal) -> Option<usize> {
     }
 }
 
-/// What there is to say to a person beneath a refusal's line, if anything: which file it is, what the system said of it, and what to do next.
+/// What there is to say to a person beneath the line of a refusal of the command that is called so, if anything: which file it is, what the system said of
+/// it, and what to do next.
 pub fn second_line<F: Files>(
     alloc: Global,
     refusal: &Refusal,
+    command: &str,
     words: &ArgMatches<'_>,
     files: &F,
 ) -> Result<Option<String>, AllocError> {
     let Some(number) = named_input(refusal) else {
-        return of_other(alloc, refusal, words, files.reason());
+        return of_other(alloc, refusal, command, words, files);
     };
     let inputs = asked_inputs(alloc, words)?;
     match inputs.get(number.saturating_sub(1)) {

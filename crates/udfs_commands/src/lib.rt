@@ -2,6 +2,7 @@
 //! The commands of `udfsalvage`: what its words ask for, over any files.
 #![tactic(auto)]
 
+mod arguments;
 mod asking;
 mod choosing;
 mod command;
@@ -9,6 +10,7 @@ mod digesting;
 mod ends;
 mod extract;
 mod extract_manifest;
+mod extract_unnamed;
 mod extract_words;
 mod files;
 mod forget;
@@ -24,6 +26,7 @@ mod manifest;
 mod manifest_place;
 mod merge;
 mod merge_words;
+mod node_files;
 mod page;
 mod page_words;
 mod pairing;
@@ -38,9 +41,15 @@ mod report_words;
 mod reread;
 mod reread_map;
 mod reread_words;
+mod shown;
 mod sources;
+mod spared;
 mod streams;
 mod summary;
+mod telling;
+mod unnamed;
+mod unnamed_place;
+mod unnamed_words;
 mod words;
 
 pub use choosing::asks_by_names;

@@ -64,6 +64,14 @@ pub enum Refusal {
     #[error("cannot make the folder")]
     Folder,
 
+    /// The folder for lost files is there already, or leads nowhere, or where another output goes. Nothing was made.
+    #[error("cannot make the folder")]
+    LostSpared,
+
+    /// The folder for lost files cannot be made. The files of the nodes are written.
+    #[error("cannot make the folder")]
+    LostFolder,
+
     /// The last block of a volume is out of range.
     #[error("fault 1 LastRange")]
     LastRange,

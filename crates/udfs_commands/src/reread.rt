@@ -8,6 +8,7 @@ ghost use Rattle.udfs_commands.specs.declared.sources.AnySource.{AnySource};
 use crate::files::Files;
 use crate::inputs::joined;
 use crate::refusal::Refusal;
+use crate::remarks::remark_unopened;
 use crate::sources::{AnySource, InputPath};
 use std::alloc::Global;
 use udfs_files::Stage;
@@ -32,7 +33,10 @@ pub fn reread<F: Files, O: Sink>(
     files.begin(Stage::Walking);
     let survey = survey_volume_by(alloc, &table, last, profile)?;
     match write_numbers(&survey.reread, out) {
-        Ok(()) => Ok(survey.all_whole()),
+        Ok(()) => {
+            remark_unopened(alloc, &survey, files);
+            Ok(survey.all_whole())
+        }
         Err(WriteFault) => Err(Refusal::Output),
     }
 }

@@ -4,7 +4,7 @@ ghost use Rattle.std.specs.Prelude.{◌≡◌, ◌≢◌, ◌⊎◌, ◌≤◌, 
 ghost use Rattle.udfs_files.specs.Disk.{After, Disk, IsOwn, Replaced};
 ghost use Rattle.std.specs.List.Sorted.{IsNonDecreasing};
 ghost use Rattle.udfs_reading.specs.Writing.{Wrote};
-ghost use Rattle.udfs_rescue.specs.Writing.{map_text, wanted_status};
+ghost use Rattle.udfs_rescue.specs.Writing.{domain_text};
 ghost use Rattle.udfs_commands.specs.Keeping.{IsKept, IsTaken, OfPaths};
 ghost use Rattle.udfs_commands.specs.Rereading.{MayDomain, MayDomainOf, PrintsDomain, breaks, domain_line, runs_in};
 ghost use Rattle.udfs_commands.specs.declared.sources.AnySource.{AnySource};
@@ -13,6 +13,7 @@ use crate::files::Files;
 use crate::inputs::joined;
 use crate::putting::put_file;
 use crate::refusal::Refusal;
+use crate::remarks::remark_unopened;
 use crate::sources::{AnySource, InputPath};
 use std::alloc::Global;
 use udfs_files::{Content, Stage};
@@ -32,7 +33,7 @@ struct Domain<'a> {
 }
 
 impl<'a> Content for Domain<'a> {
-    ghost bytes = { λ domain. map_text (wanted_status domain.wanted.now) domain.last };
+    ghost bytes = { λ domain. domain_text domain.wanted.now domain.last };
 
     fn write_to<W: Sink>(&self, sink: &mut W) -> Result<(), WriteFault> {
         write_domain(self.wanted, self.last, sink)
@@ -90,11 +91,11 @@ fn put_domain<F: Files, O: Sink>(
 ) -> Result<(), Refusal>
     requires rises { IsNonDecreasing wanted.now }
     requires in_range { last ≤ 4194303 }
-    ensures written { OnOk result ((F.tells → IsKept (F.holds files.new) (F.may_leave files.new) (F.real files.old path.now) (map_text (wanted_status wanted.now) last))
-        ⊎ (F.in_place files.old path.now × IsTaken F.Output.contents (map_text (wanted_status wanted.now) last))) }
+    ensures written { OnOk result ((F.tells → IsKept (F.holds files.new) (F.may_leave files.new) (F.real files.old path.now) (domain_text wanted.now last))
+        ⊎ (F.in_place files.old path.now × IsTaken F.Output.contents (domain_text wanted.now last))) }
     ensures printed { OnOk result (Wrote (O.contents out.old) (O.contents out.new) (O.faults out.old) (O.faults out.new) (domain_line wanted.now)) }
     // A crash at any moment of the call leaves all as it was, or with the mapfile in its place, whole.
-    ensures any_moment { F.tells → (F.in_place files.old path.now → ⊥) → (c : Disk) → F.left_since files.new (F.moment files.old) c → After (F.may_leave files.old) (Replaced (F.real files.old path.now) (map_text (wanted_status wanted.now) last)) c }
+    ensures any_moment { F.tells → (F.in_place files.old path.now → ⊥) → (c : Disk) → F.left_since files.new (F.moment files.old) c → After (F.may_leave files.old) (Replaced (F.real files.old path.now) (domain_text wanted.now last)) c }
     // No other path changes, but for those of new files that are to go in its place.
     ensures elsewhere { F.tells → (F.in_place files.old path.now → ⊥) → (q : List ℕ) → q ≢ F.real files.old path.now → (¬ IsOwn (F.real files.old path.now) q) → F.holds files.new q ≡ F.holds files.old q }
 {
@@ -130,6 +131,7 @@ fn map_of<F: Files, O: Sink>(
     files.begin(Stage::Walking);
     let survey = survey_volume_by(alloc, table, last, profile)?;
     put_domain(alloc, &survey.reread, last, path, files, out)?;
+    remark_unopened(alloc, &survey, files);
     Ok(survey.all_whole())
 }
 

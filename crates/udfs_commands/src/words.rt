@@ -1,12 +1,16 @@
 //! The words of the command line.
 
-ghost use Rattle.std.specs.Prelude.{◌≡◌, false, IfOk, codes, map};
+ghost use Rattle.std.specs.Prelude.{◌≡◌, IfOk, codes, map};
 ghost use Rattle.std.specs.String.{string_bytes};
 ghost use Rattle.udfs_commands.specs.Obeying.{given_in, is_given, names};
-ghost use Rattle.clap.specs.Words.{app_of, rule_of};
-ghost use Rattle.udfs_commands.specs.Grammar.{blocks_rule, extract_app, flag_rule, forget_app, image_app, inputs_rule, last_rule, letter_rule, list_app, manifest_rule, mapfile_rule, merge_app, only_rule, page_app, pairs_rule, out_rule, profile_rule, program, program_app, report_app, reread_app, size_rule, summary_app, value_rule, with_inputs};
+ghost use Rattle.clap.specs.Words.{app_of, new_app};
+ghost use Rattle.udfs_commands.specs.Grammar.{extract_app, forget_app, image_app, list_app, merge_app, page_app, program, program_app, report_app, reread_app, summary_app, with_inputs};
 
-use clap::{Arg, ArgAction, Command, value_parser};
+use crate::arguments::{
+    blocks, disc_size, domain, flag, folder, force, image_file, image_map, inputs, last,
+    lost_folder, manifest, only, page_file, pair_inputs, profile, quiet, table_file, verbose,
+};
+use clap::Command;
 use std::alloc::{AllocError, Global};
 
 /// The inputs' id among the matches.
@@ -53,6 +57,9 @@ pub const ONLY: &str = "only";
 
 /// The manifest's id among the matches.
 pub const MANIFEST: &str = "manifest";
+
+/// The id of the folder for lost files among the matches.
+pub const UNNAMED: &str = "unnamed";
 
 /// The id of the flag for JSON among the matches.
 pub const JSON: &str = "json";
@@ -182,12 +189,18 @@ fn reread<'a>(alloc: Global, given: Given) -> Result<Command<'a>, AllocError>
     with_inputs(alloc, command, given.pairs)
 }
 
-/// `extract (--last N | --size BYTES) [--profile PROFILE] --to DIR [--fill] [--only PATH]... [--manifest FILE] IN...`
+/// `extract` before its arguments.
+fn bare_extract<'a>(alloc: Global) -> Command<'a>
+    ensures { app_of result ≡ new_app (codes "extract") }
+{
+    Command::new(alloc, "extract").about("Writes the files that are whole into a new folder")
+}
+
+/// `extract (--last N | --size BYTES) [--profile PROFILE] --to DIR [--fill] [--only PATH]... [--manifest FILE] [--unnamed DIR] IN...`
 fn extract<'a>(alloc: Global, given: Given) -> Result<Command<'a>, AllocError>
     ensures { IfOk result (λ command. app_of command ≡ extract_app given) }
 {
-    let command = Command::new(alloc, "extract")
-        .about("Writes the files that are whole into a new folder")
+    let command = bare_extract(alloc)
         .arg(last(alloc, given.needs_last))?
         .arg(disc_size(alloc))?
         .arg(profile(alloc))?
@@ -198,7 +211,8 @@ fn extract<'a>(alloc: Global, given: Given) -> Result<Command<'a>, AllocError>
             "Write torn files too, with zeros for the bytes that are missing",
         ))?
         .arg(only(alloc))?
-        .arg(manifest(alloc))?;
+        .arg(manifest(alloc))?
+        .arg(lost_folder(alloc))?;
     with_inputs(alloc, command, given.pairs)
 }
 
@@ -265,30 +279,6 @@ fn with_inputs<'a>(
         .arg(inputs(alloc, pairs))
 }
 
-/// The flag for saying more.
-fn verbose<'a>(alloc: Global) -> Arg<'a>
-    ensures { (rule_of result ≡ letter_rule (codes "verbose") 118) × (result.global ≡ false) }
-{
-    Arg::new(alloc, VERBOSE)
-        .short('v')
-        .long("verbose")
-        .help(
-            "Say more on standard error, as on a terminal: beneath a refusal, why and what to do next",
-        )
-        .action(ArgAction::SetTrue)
-}
-
-/// The flag for saying no more than has to be said.
-fn quiet<'a>(alloc: Global) -> Arg<'a>
-    ensures { (rule_of result ≡ letter_rule (codes "quiet") 113) × (result.global ≡ false) }
-{
-    Arg::new(alloc, QUIET)
-        .short('q')
-        .long("quiet")
-        .help("Say no more than that on standard error, also on a terminal")
-        .action(ArgAction::SetTrue)
-}
-
 /// `summary (--last N | --size BYTES) [--profile PROFILE] IN...`
 fn summary<'a>(alloc: Global, given: Given) -> Result<Command<'a>, AllocError>
     ensures { IfOk result (λ command. app_of command ≡ summary_app given) }
@@ -312,195 +302,4 @@ fn page<'a>(alloc: Global, given: Given) -> Result<Command<'a>, AllocError>
         .arg(profile(alloc))?
         .arg(page_file(alloc))?;
     with_inputs(alloc, command, given.pairs)
-}
-
-/// A flag of this name.
-fn flag<'a>(alloc: Global, name: &'a str, help: &'a str) -> Arg<'a>
-    ensures { (rule_of result ≡ flag_rule name.now) × (result.global ≡ false) }
-{
-    Arg::new(alloc, name)
-        .long(name)
-        .help(help)
-        .action(ArgAction::SetTrue)
-}
-
-/// The flag for writing over a reading that is no input.
-fn force<'a>(alloc: Global) -> Arg<'a>
-    ensures { (rule_of result ≡ flag_rule (codes "force")) × (result.global ≡ false) }
-{
-    flag(
-        alloc,
-        FORCE,
-        "Write over a reading that is none of the inputs",
-    )
-}
-
-/// The rules by which the volume is read.
-fn profile<'a>(alloc: Global) -> Arg<'a>
-    ensures { (rule_of result ≡ profile_rule) × (result.global ≡ false) }
-{
-    Arg::new(alloc, PROFILE)
-        .long("profile")
-        .value_name("PROFILE")
-        .help("The rules by which the volume is read: strict, as without it, or wide")
-        .action(ArgAction::Set)
-}
-
-/// The mapfile to write.
-fn domain<'a>(alloc: Global) -> Arg<'a>
-    ensures { (rule_of result ≡ mapfile_rule) × (result.global ≡ false) }
-{
-    Arg::new(alloc, MAPFILE)
-        .long("mapfile")
-        .value_name("FILE")
-        .help("Write the blocks as a domain mapfile for ddrescue -m, and print how many they are")
-        .action(ArgAction::Set)
-}
-
-/// Lists of blocks, of which there is at least one where no conflicts are to be forgotten.
-fn blocks<'a>(alloc: Global, conflicts: bool) -> Arg<'a>
-    ensures { (rule_of result ≡ blocks_rule conflicts) × (result.global ≡ false) }
-{
-    Arg::new(alloc, BLOCKS)
-        .long("blocks")
-        .value_name("LIST")
-        .help("Forget the blocks of this list: decimal numbers, one a line; - is standard input")
-        .required(!conflicts)
-        .action(ArgAction::Append)
-}
-
-/// The table file to write.
-fn table_file<'a>(alloc: Global) -> Arg<'a>
-    ensures { (rule_of result ≡ out_rule) × (result.global ≡ false) }
-{
-    Arg::new(alloc, OUT)
-        .short('o')
-        .long("out")
-        .value_name("FILE")
-        .help("The table file to write, over an old one")
-        .required(true)
-        .action(ArgAction::Set)
-}
-
-/// The page to write.
-fn page_file<'a>(alloc: Global) -> Arg<'a>
-    ensures { (rule_of result ≡ out_rule) × (result.global ≡ false) }
-{
-    Arg::new(alloc, OUT)
-        .short('o')
-        .long("out")
-        .value_name("FILE")
-        .help("The page to write, over an old one; - is standard output")
-        .required(true)
-        .action(ArgAction::Set)
-}
-
-/// The image to write.
-fn image_file<'a>(alloc: Global) -> Arg<'a>
-    ensures { (rule_of result ≡ out_rule) × (result.global ≡ false) }
-{
-    Arg::new(alloc, OUT)
-        .short('o')
-        .long("out")
-        .value_name("IMAGE")
-        .help("The image to write: zeros stand in the place of what is not known")
-        .required(true)
-        .action(ArgAction::Set)
-}
-
-/// The image's mapfile to write.
-fn image_map<'a>(alloc: Global) -> Arg<'a>
-    ensures { (rule_of result ≡ value_rule (codes "mapfile")) × (result.global ≡ false) }
-{
-    Arg::new(alloc, MAPFILE)
-        .long("mapfile")
-        .value_name("MAPFILE")
-        .help("The image's mapfile to write: + known, - in conflict, ? unknown")
-        .required(true)
-        .action(ArgAction::Set)
-}
-
-/// The folder to make.
-fn folder<'a>(alloc: Global) -> Arg<'a>
-    ensures { (rule_of result ≡ value_rule (codes "to")) × (result.global ≡ false) }
-{
-    Arg::new(alloc, TO)
-        .long("to")
-        .value_name("DIR")
-        .help("The folder to make, which may not be there yet")
-        .required(true)
-        .action(ArgAction::Set)
-}
-
-/// Paths of nodes that alone are asked for.
-fn only<'a>(alloc: Global) -> Arg<'a>
-    ensures { (rule_of result ≡ only_rule) × (result.global ≡ false) }
-{
-    Arg::new(alloc, ONLY)
-        .long("only")
-        .value_name("PATH")
-        .help(
-            "Write only this file, or this folder with all below it: its path as report prints it",
-        )
-        .action(ArgAction::Append)
-}
-
-/// The manifest to write.
-fn manifest<'a>(alloc: Global) -> Arg<'a>
-    ensures { (rule_of result ≡ manifest_rule) × (result.global ≡ false) }
-{
-    Arg::new(alloc, MANIFEST)
-        .long("manifest")
-        .value_name("FILE")
-        .help("Write a manifest too, for sha256sum -c in the new folder, over an old one")
-        .action(ArgAction::Set)
-}
-
-/// The volume's last block, which may have to be given.
-fn last<'a>(alloc: Global, needed: bool) -> Arg<'a>
-    ensures { (rule_of result ≡ last_rule needed) × (result.global ≡ false) }
-{
-    Arg::new(alloc, LAST)
-        .long("last")
-        .value_name("N")
-        .help("The number of the volume's last block")
-        .required(needed)
-        .value_parser(value_parser!(u32))
-        .action(ArgAction::Set)
-}
-
-/// The disc's size.
-fn disc_size<'a>(alloc: Global) -> Arg<'a>
-    ensures { (rule_of result ≡ size_rule) × (result.global ≡ false) }
-{
-    Arg::new(alloc, SIZE)
-        .long("size")
-        .value_name("BYTES")
-        .help("The size of the disc in bytes, in place of --last")
-        .value_parser(value_parser!(u64))
-        .action(ArgAction::Set)
-}
-
-/// Images with their mapfiles.
-fn pair_inputs<'a>(alloc: Global) -> Arg<'a>
-    ensures { (rule_of result ≡ pairs_rule) × (result.global ≡ false) }
-{
-    Arg::new(alloc, PAIRS)
-        .long("ddrescue")
-        .value_name("IMAGE MAPFILE")
-        .help("An image and its GNU ddrescue mapfile, as the reading of its rescued blocks")
-        .num_args(2)
-        .action(ArgAction::Append)
-}
-
-/// The inputs, of which there is at least one, or a pair.
-fn inputs<'a>(alloc: Global, pairs: bool) -> Arg<'a>
-    ensures { (rule_of result ≡ inputs_rule pairs) × (result.global ≡ false) }
-{
-    Arg::new(alloc, INPUTS)
-        .value_name("IN")
-        .help("The readings and table files to join")
-        .required(!pairs)
-        .num_args(1..)
-        .action(ArgAction::Append)
 }

@@ -1,10 +1,12 @@
 -- The summary of a report.
 --     folders_line tally path      the line of the folders, and where names may be missing
---     next_line last reread        what to do next
---     summary_text table last report     all lines
+--     next_line volume rules last disputed reread     what to do next
+--     summary_text rules table last report            all lines
 use Rattle.std.specs.Prelude.{ℕ, ◌-◌, ◌==◌, ◌&&◌, List, [], ◌∷◌, ◌++◌, Option, Some, None, codes, decimal, find, option_map, if◌then◌else◌}
 use Rattle.udfs_lattice.specs.Tables.{Table, state_of}
 use Rattle.udfs_volume.specs.Answers.{Answer, found, holes, faulty}
+use Rattle.udfs_volume.specs.declared.profiles.Profile.{Profile}
+use Rattle.udfs_volume.specs.declared.profiles.Profile.TheVariants as profile
 use Rattle.udfs_walk.specs.NodeFields.{NodeFields}
 use Rattle.udfs_salvage.specs.Found.{Found}
 use Rattle.udfs_salvage.specs.Reports.{Report}
@@ -59,12 +61,37 @@ torn_lines (found f) r = torn_text (tally_of r.nodes).torn_files (by_loss (torn_
 torn_lines (holes blocks) r = []
 torn_lines (faulty f) r = []
 
--- what to do next, where blocks are worth reading again
-abbrev pub next_line : ℕ → List ℕ → List ℕ
-next_line last [] = []
-next_line last (n ∷ ns) = codes "Next       udfsalvage reread --last " ++ decimal last ++ codes " --mapfile want.map ...\n"
+-- the rules of a profile as words of a command: the strict ones need none
+abbrev pub rules_words : Profile → List ℕ
+rules_words profile.Strict = []
+rules_words profile.Wide = codes " --profile wide"
 
--- all lines
-unfoldable pub summary_text : Table → ℕ → Report → List ℕ
-summary_text table last r =
-    volume_line r.volume last ++ found_lines table r.volume r ++ disc_line (disc_of table last r.reread) ++ torn_lines r.volume r ++ next_line last r.reread
+-- the command that tells which blocks to read again
+abbrev pub reread_line : Profile → ℕ → List ℕ
+reread_line rules last = codes "Next       udfsalvage reread --last " ++ decimal last ++ rules_words rules ++ codes " --mapfile want.map ...\n"
+
+-- where blocks in conflict are among them: these are to be forgotten first, since reading again does not end a conflict
+abbrev pub forget_lines : Profile → ℕ → List ℕ
+forget_lines rules last =
+    codes "Next       udfsalvage forget --conflicts --out clean.tab ...\n           udfsalvage reread --last " ++ decimal last ++ rules_words rules ++ codes " --mapfile want.map clean.tab\n"
+
+-- what to do next, where blocks are worth reading again, of which so many are in conflict
+abbrev pub needed_lines : Profile → ℕ → ℕ → List ℕ
+needed_lines rules last disputed = if disputed == 0 then reread_line rules last else forget_lines rules last
+
+-- and where none is: a volume with a fault does not open, whatever is read again
+abbrev pub no_need_line : Answer Found → List ℕ
+no_need_line (found f) = []
+no_need_line (holes blocks) = []
+no_need_line (faulty f) = codes "Next       no block to read again helps: man udfsalvage says what this fault means\n"
+
+-- what to do next
+abbrev pub next_line : Answer Found → Profile → ℕ → ℕ → List ℕ → List ℕ
+next_line volume rules last disputed [] = no_need_line volume
+next_line volume rules last disputed (n ∷ ns) = needed_lines rules last disputed
+
+-- all lines of a report by the rules of a profile
+unfoldable pub summary_text : Profile → Table → ℕ → Report → List ℕ
+summary_text rules table last r =
+    volume_line r.volume last ++ found_lines table r.volume r ++ disc_line (disc_of table last r.reread) ++ torn_lines r.volume r
+    ++ next_line r.volume rules last (disc_of table last r.reread).needed_in_conflict r.reread

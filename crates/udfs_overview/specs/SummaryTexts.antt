@@ -36,11 +36,20 @@ unnamed_line t =
     if t.with_data == 0 && t.empty == 0 then []
     else codes "No name    " ++ counted t.with_data (codes " whole files with data, ") ++ counted t.empty (codes " empty\n")
 
--- how many blocks are not known, and how many of them are worth reading again
+-- how many blocks are not known, how many of them are worth reading again, and how many are in conflict
 abbrev pub needed_text : DiscTally → List ℕ
 needed_text t =
-    counted t.not_known (codes " not known, of which ") ++ counted t.needed (codes " are needed (") ++ counted t.runs (codes " runs)   ")
+    counted t.not_known (codes " not known, of which ") ++ counted t.needed (codes " are needed (") ++ counted t.runs (codes " runs)   ") ++ counted t.conflicts (codes " in conflict\n")
+
+-- the same where blocks in conflict are among those that are worth reading again
+abbrev pub disputed_text : DiscTally → List ℕ
+disputed_text t =
+    counted t.not_known (codes " not known   ") ++ counted t.conflicts (codes " in conflict   ") ++ counted t.needed (codes " of these are needed (") ++ counted t.runs (codes " runs)\n")
+
+-- what is said of the blocks that are not known
+abbrev pub unknown_text : DiscTally → List ℕ
+unknown_text t = if t.needed_in_conflict == 0 then needed_text t else disputed_text t
 
 -- the line of the blocks
 unfoldable pub disc_line : DiscTally → List ℕ
-disc_line t = codes "Disc       " ++ counted t.known (codes " known   ") ++ needed_text t ++ counted t.conflicts (codes " in conflict\n")
+disc_line t = codes "Disc       " ++ counted t.known (codes " known   ") ++ unknown_text t

@@ -2,10 +2,11 @@
 
 ghost use Rattle.std.specs.Prelude.{◌≡◌, ◌+◌, ◌∷◌, ◌≤◌, ℕ, List, count_by};
 ghost use Rattle.udfs_salvage.specs.Surveys.{survey_now};
-ghost use Rattle.udfs_overview.specs.DiscTallies.{disc_of, has_data, is_empty_file, run_count, unnamed_of};
+ghost use Rattle.udfs_overview.specs.DiscTallies.{disc_of, has_data, is_empty_file, is_in_conflict, run_count, unnamed_of};
 
 use crate::node_columns::is_whole;
 use crate::tallies::is_file;
+use udfs_lattice::{BlockTable, Fact};
 use udfs_salvage::Survey;
 use udfs_walk::Unnamed;
 
@@ -20,6 +21,8 @@ pub struct DiscTally {
     pub conflicts: u32,
     /// How many are worth reading again.
     pub needed: usize,
+    /// How many of these are in conflict.
+    pub needed_in_conflict: usize,
     /// In how many runs these lie.
     pub runs: usize,
 }
@@ -58,6 +61,29 @@ fn ends_of(number: u32, others: &[u32]) -> usize
     }
 }
 
+/// Whether two readings of a block differ.
+fn is_in_conflict(table: &BlockTable, block: u32) -> bool
+    ensures { result ≡ is_in_conflict table.now block }
+{
+    match table.state(block) {
+        Fact::Unknown | Fact::Known(_) => false,
+        Fact::Conflict => true,
+    }
+}
+
+/// How many of these blocks are in conflict.
+fn count_in_conflict(table: &BlockTable, blocks: &[u32]) -> usize
+    ensures { result ≡ count_by (is_in_conflict table.now) blocks.now }
+{
+    let mut count = 0;
+    for block in blocks {
+        if is_in_conflict(table, *block) {
+            count += 1;
+        }
+    }
+    count
+}
+
 /// Counts the blocks of the disc that a survey is of.
 #[tactic(auto, unfolding(crate::specs::DiscTallies::disc_of))]
 pub fn count_disc(survey: &Survey<'_>) -> DiscTally
@@ -73,6 +99,7 @@ pub fn count_disc(survey: &Survey<'_>) -> DiscTally
             .saturating_sub(u64::from(conflicts)),
         conflicts,
         needed: survey.reread.len(),
+        needed_in_conflict: count_in_conflict(survey.table, &survey.reread),
         runs: run_count(&survey.reread),
     }
 }

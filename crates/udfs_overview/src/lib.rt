@@ -23,7 +23,7 @@ pub use node_list::{ListForm, write_list};
 pub use safe_names::{push_safe_name, safe_names_are_safe, safe_names_tell_units};
 pub use spares::{push_spares, spares_disagree};
 pub use streams::{count_streams, push_streams};
-pub use summary::{first_torn_folder, write_summary};
+pub use summary::{first_torn_folder, rules_words, write_summary};
 pub use summary_lines::{push_disc, push_files, push_others, push_unnamed};
 pub use tallies::{Tally, count_nodes};
 pub use torn_rows::{TornFiles, TornRow, push_shown_path, torn_files, torn_files_are_by_loss};

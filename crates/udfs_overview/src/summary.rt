@@ -8,7 +8,7 @@ ghost use Rattle.udfs_walk.specs.Bare.{full_node};
 ghost use Rattle.udfs_salvage.specs.Found.{volume_now};
 ghost use Rattle.udfs_salvage.specs.Printing.{Prints};
 ghost use Rattle.udfs_salvage.specs.Surveys.{survey_now};
-ghost use Rattle.udfs_overview.specs.Summaries.{folders_line, found_lines, missing_in, names_missing, next_line, nodes_lines, other_folders, summary_text, torn_folder, torn_lines};
+ghost use Rattle.udfs_overview.specs.Summaries.{folders_line, forget_lines, found_lines, missing_in, names_missing, needed_lines, next_line, no_need_line, nodes_lines, other_folders, reread_line, rules_words, summary_text, torn_folder, torn_lines};
 ghost use Rattle.udfs_overview.specs.Spares.{spares_disagree, spares_line};
 ghost use Rattle.udfs_overview.specs.Streams.{stream_count, streams_line};
 ghost use Rattle.udfs_overview.specs.SummaryTexts.{files_line, others_line, unnamed_line};
@@ -30,6 +30,7 @@ use udfs_osta::OutOfMemory;
 use udfs_reading::Sink;
 use udfs_salvage::{RunError, Survey, Volume, flush};
 use udfs_space::View;
+use udfs_volume::Profile;
 use udfs_walk::{Node, Path};
 
 /// The path of the first torn directory.
@@ -190,29 +191,87 @@ fn push_torn_if_open(
     }
 }
 
-/// What to do next, where blocks are worth reading again.
-fn push_next(text: &mut String, last: u32, reread: &[u32]) -> Result<(), OutOfMemory>
-    ensures { OnOk result (string_bytes text.new ≡ string_bytes text.old ++ next_line last reread.now) }
+/// The rules of a profile as words of a command, with a space before them: the strict ones need none.
+pub fn rules_words(profile: Profile) -> &'static str
+    ensures { result.now ≡ rules_words profile }
 {
-    if reread.is_empty() {
-        return Ok(());
+    match profile {
+        Profile::Strict => "",
+        Profile::Wide => " --profile wide",
     }
+}
+
+/// The command that tells which blocks to read again.
+fn push_reread(text: &mut String, profile: Profile, last: u32) -> Result<(), OutOfMemory>
+    ensures { OnOk result (string_bytes text.new ≡ string_bytes text.old ++ reread_line profile last) }
+{
+    let rules = rules_words(profile);
     write!(
         text,
-        "Next       udfsalvage reread --last {last} --mapfile want.map ...\n"
+        "Next       udfsalvage reread --last {last}{rules} --mapfile want.map ...\n"
     )
+}
+
+/// The same, where blocks in conflict have to be forgotten first.
+fn push_forget(text: &mut String, profile: Profile, last: u32) -> Result<(), OutOfMemory>
+    ensures { OnOk result (string_bytes text.new ≡ string_bytes text.old ++ forget_lines profile last) }
+{
+    let rules = rules_words(profile);
+    write!(
+        text,
+        "Next       udfsalvage forget --conflicts --out clean.tab ...\n           udfsalvage reread --last {last}{rules} --mapfile want.map clean.tab\n"
+    )
+}
+
+/// What to do next, where blocks are worth reading again, of which so many are in conflict.
+fn push_needed_lines(
+    text: &mut String,
+    profile: Profile,
+    last: u32,
+    disputed: usize,
+) -> Result<(), OutOfMemory>
+    ensures { OnOk result (string_bytes text.new ≡ string_bytes text.old ++ needed_lines profile last disputed) }
+{
+    if disputed == 0 {
+        push_reread(text, profile, last)
+    } else {
+        push_forget(text, profile, last)
+    }
+}
+
+/// That no block is worth reading again, where the volume has a fault.
+fn push_no_need(text: &mut String, volume: &Volume) -> Result<(), OutOfMemory>
+    ensures { OnOk result (string_bytes text.new ≡ string_bytes text.old ++ no_need_line (volume_now volume.now)) }
+{
+    match volume {
+        Volume::Open(_) | Volume::Holes(_) => Ok(()),
+        Volume::Fault(_) => text.push_str(
+            "Next       no block to read again helps: man udfsalvage says what this fault means\n",
+        ),
+    }
+}
+
+/// What to do next.
+fn push_next(text: &mut String, survey: &Survey<'_>, disputed: usize) -> Result<(), OutOfMemory>
+    ensures { OnOk result (string_bytes text.new ≡ string_bytes text.old ++ next_line (volume_now survey.now.volume) survey.now.profile survey.now.last disputed survey.now.reread.items) }
+{
+    match survey.reread.as_slice() {
+        [] => push_no_need(text, &survey.volume),
+        _ => push_needed_lines(text, survey.profile, survey.last, disputed),
+    }
 }
 
 /// All lines.
 #[tactic(auto, unfolding(crate::specs::Summaries::summary_text))]
 fn push_summary(alloc: Global, text: &mut String, survey: &Survey<'_>) -> Result<(), OutOfMemory>
-    ensures { OnOk result (string_bytes text.new ≡ string_bytes text.old ++ summary_text survey.now.table.now survey.now.last (survey_now survey.now)) }
+    ensures { OnOk result (string_bytes text.new ≡ string_bytes text.old ++ summary_text survey.now.profile survey.now.table.now survey.now.last (survey_now survey.now)) }
 {
     push_volume(text, &survey.volume, survey.last)?;
     push_found_if_open(alloc, text, survey)?;
-    push_disc(text, &count_disc(survey))?;
+    let disc = count_disc(survey);
+    push_disc(text, &disc)?;
     push_torn_if_open(alloc, text, survey)?;
-    push_next(text, survey.last, &survey.reread)
+    push_next(text, survey, disc.needed_in_conflict)
 }
 
 /// Writes the summary of the report that a survey stands for: what the volume is, how many files and folders are whole, torn, links or
@@ -229,7 +288,7 @@ pub fn write_summary<W: Sink>(
     sink: &mut W,
 ) -> Result<(), RunError>
     ensures { Prints (W.contents sink.old) (W.contents sink.new) (W.faults sink.old) (W.faults sink.new)
-        (summary_text survey.now.table.now survey.now.last (survey_now survey.now)) result }
+        (summary_text survey.now.profile survey.now.table.now survey.now.last (survey_now survey.now)) result }
 {
     let mut text = String::new(alloc);
     push_summary(alloc, &mut text, survey)?;

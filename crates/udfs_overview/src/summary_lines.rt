@@ -2,7 +2,7 @@
 
 ghost use Rattle.std.specs.Prelude.{◌≡◌, ◌++◌, ℕ, OnOk};
 ghost use Rattle.std.specs.String.{string_bytes};
-ghost use Rattle.udfs_overview.specs.SummaryTexts.{counted, disc_line, files_line, needed_text, others_line, torn_files_text, unnamed_line, whole_files_text};
+ghost use Rattle.udfs_overview.specs.SummaryTexts.{counted, disc_line, disputed_text, files_line, needed_text, others_line, torn_files_text, unknown_text, unnamed_line, whole_files_text};
 
 use crate::disc_tallies::{DiscTally, UnnamedTally};
 use crate::figures::{push_grouped, push_size};
@@ -89,13 +89,35 @@ pub fn push_unnamed(text: &mut String, tally: &UnnamedTally) -> Result<(), OutOf
     push_counted(text, tally.empty as u64, " empty\n")
 }
 
-/// How many blocks are not known, and how many of them are worth reading again.
+/// How many blocks are not known, how many of them are worth reading again, and how many are in conflict.
 fn push_needed(text: &mut String, tally: &DiscTally) -> Result<(), OutOfMemory>
     ensures { OnOk result (string_bytes text.new ≡ string_bytes text.old ++ needed_text tally.now) }
 {
     push_counted(text, tally.not_known, " not known, of which ")?;
     push_counted(text, tally.needed as u64, " are needed (")?;
-    push_counted(text, tally.runs as u64, " runs)   ")
+    push_counted(text, tally.runs as u64, " runs)   ")?;
+    push_counted(text, tally.conflicts as u64, " in conflict\n")
+}
+
+/// The same where blocks in conflict are among those that are worth reading again.
+fn push_disputed(text: &mut String, tally: &DiscTally) -> Result<(), OutOfMemory>
+    ensures { OnOk result (string_bytes text.new ≡ string_bytes text.old ++ disputed_text tally.now) }
+{
+    push_counted(text, tally.not_known, " not known   ")?;
+    push_counted(text, tally.conflicts as u64, " in conflict   ")?;
+    push_counted(text, tally.needed as u64, " of these are needed (")?;
+    push_counted(text, tally.runs as u64, " runs)\n")
+}
+
+/// What is said of the blocks that are not known.
+fn push_unknown(text: &mut String, tally: &DiscTally) -> Result<(), OutOfMemory>
+    ensures { OnOk result (string_bytes text.new ≡ string_bytes text.old ++ unknown_text tally.now) }
+{
+    if tally.needed_in_conflict == 0 {
+        push_needed(text, tally)
+    } else {
+        push_disputed(text, tally)
+    }
 }
 
 /// Appends the line of the blocks.
@@ -109,6 +131,5 @@ pub fn push_disc(text: &mut String, tally: &DiscTally) -> Result<(), OutOfMemory
 {
     text.push_str("Disc       ")?;
     push_counted(text, tally.known as u64, " known   ")?;
-    push_needed(text, tally)?;
-    push_counted(text, tally.conflicts as u64, " in conflict\n")
+    push_unknown(text, tally)
 }

@@ -1,11 +1,13 @@
 -- The page of a report.
---     page_html table last report     all of it
+--     page_html rules table last report     all of it
 use Rattle.std.specs.Prelude.{ℕ, ◌+◌, List, [], ◌++◌, codes, take}
 use Rattle.udfs_lattice.specs.Tables.{Table}
 use Rattle.udfs_volume.specs.Answers.{Answer, found, holes, faulty}
 use Rattle.udfs_walk.specs.NodeFields.{NodeFields}
 use Rattle.udfs_salvage.specs.Found.{Found}
 use Rattle.udfs_salvage.specs.Reports.{Report}
+use Rattle.udfs_volume.specs.declared.profiles.Profile.{Profile}
+use Rattle.udfs_overview.specs.DiscTallies.{disc_of}
 use Rattle.udfs_overview.specs.Tallies.{tally_of}
 use Rattle.udfs_overview.specs.TornLists.{by_loss, shown_rows, torn_rows}
 use Rattle.udfs_page.specs.Arcs.{arcs_of}
@@ -32,9 +34,10 @@ files_html (holes blocks) r = []
 files_html (faulty f) r = []
 
 -- what is told of the disc: what it is, what is known of it, and what to do next
-abbrev pub disc_html : Table → ℕ → Report → List ℕ
-disc_html table last r = overview_html table last r ++ picture_html (arcs_of table r.reread last) (last + 1) ++ next_html last r.reread
+abbrev pub disc_html : Profile → Table → ℕ → Report → List ℕ
+disc_html rules table last r =
+    overview_html table last r ++ picture_html (arcs_of table r.reread last) (last + 1) ++ next_html r.volume rules last (disc_of table last r.reread).needed_in_conflict r.reread
 
--- all of it
-unfoldable pub page_html : Table → ℕ → Report → List ℕ
-page_html table last r = head_text (title_html r.volume) ++ disc_html table last r ++ files_html r.volume r ++ markup (codes "</body>\n</html>\n")
+-- all of it, of a report by the rules of a profile
+unfoldable pub page_html : Profile → Table → ℕ → Report → List ℕ
+page_html rules table last r = head_text (title_html r.volume) ++ disc_html rules table last r ++ files_html r.volume r ++ markup (codes "</body>\n</html>\n")

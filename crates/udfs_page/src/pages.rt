@@ -5,6 +5,7 @@ ghost use Rattle.std.specs.String.{string_bytes};
 ghost use Rattle.udfs_space.specs.Views.{view_now};
 ghost use Rattle.udfs_walk.specs.Bare.{full_node};
 ghost use Rattle.udfs_lattice.specs.Tables.{Table};
+ghost use Rattle.udfs_volume.specs.declared.profiles.Profile.{Profile};
 ghost use Rattle.udfs_salvage.specs.Found.{volume_now};
 ghost use Rattle.udfs_salvage.specs.Reports.{Report};
 ghost use Rattle.udfs_salvage.specs.Printing.{Prints};
@@ -26,7 +27,7 @@ use crate::trees::push_tree;
 use std::alloc::Global;
 use udfs_lattice::BlockTable;
 use udfs_osta::OutOfMemory;
-use udfs_overview::torn_files;
+use udfs_overview::{count_disc, torn_files};
 use udfs_reading::Sink;
 use udfs_salvage::{RunError, Survey, Volume, flush};
 use udfs_space::View;
@@ -57,11 +58,11 @@ fn push_arcs(
 
 /// What is told of the disc.
 fn push_about_disc(alloc: Global, text: &mut String, survey: &Survey<'_>) -> Result<(), OutOfMemory>
-    ensures { OnOk result (string_bytes text.new ≡ string_bytes text.old ++ disc_html survey.now.table.now survey.now.last (survey_now survey.now)) }
+    ensures { OnOk result (string_bytes text.new ≡ string_bytes text.old ++ disc_html survey.now.profile survey.now.table.now survey.now.last (survey_now survey.now)) }
 {
     push_overview(alloc, text, survey)?;
     push_arcs(alloc, text, survey.table, survey.last, &survey.reread)?;
-    push_next(text, survey.last, &survey.reread)
+    push_next(text, survey, count_disc(survey).needed_in_conflict)
 }
 
 /// The torn files among nodes that are without their blocks and holes.
@@ -119,7 +120,7 @@ fn push_about_files(
 /// Where memory is refused, and then a part may be appended.
 #[tactic(auto, unfolding(crate::specs::Pages::page_html))]
 pub fn push_page(alloc: Global, text: &mut String, survey: &Survey<'_>) -> Result<(), OutOfMemory>
-    ensures { OnOk result (string_bytes text.new ≡ string_bytes text.old ++ page_html survey.now.table.now survey.now.last (survey_now survey.now)) }
+    ensures { OnOk result (string_bytes text.new ≡ string_bytes text.old ++ page_html survey.now.profile survey.now.table.now survey.now.last (survey_now survey.now)) }
 {
     push_head(alloc, text, &survey.volume)?;
     push_about_disc(alloc, text, survey)?;
@@ -134,7 +135,7 @@ pub fn push_page(alloc: Global, text: &mut String, survey: &Survey<'_>) -> Resul
 /// `Write` exactly where the sink failed, and then a beginning of the page is out; and `OutOfMemory` where memory is refused, and then nothing is.
 pub fn write_page<W: Sink>(alloc: Global, survey: &Survey<'_>, sink: &mut W) -> Result<(), RunError>
     ensures { Prints (W.contents sink.old) (W.contents sink.new) (W.faults sink.old) (W.faults sink.new)
-        (page_html survey.now.table.now survey.now.last (survey_now survey.now)) result }
+        (page_html survey.now.profile survey.now.table.now survey.now.last (survey_now survey.now)) result }
 {
     let mut text = String::new(alloc);
     push_page(alloc, &mut text, survey)?;
@@ -143,5 +144,5 @@ pub fn write_page<W: Sink>(alloc: Global, survey: &Survey<'_>, sink: &mut W) -> 
 
 /// Each page begins with the mark by which it is known. This is a law about pages; the call does nothing.
 pub fn pages_begin_so()
-    ensures { (table : Table) → (last : ℕ) → (report : Report) → (rest : List ℕ) × (page_html table last report ≡ page_mark ++ rest) }
+    ensures { (rules : Profile) → (table : Table) → (last : ℕ) → (report : Report) → (rest : List ℕ) × (page_html rules table last report ≡ page_mark ++ rest) }
 {}

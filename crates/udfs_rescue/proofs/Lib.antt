@@ -4,6 +4,7 @@ mod Exactly
 mod LineLemmas
 mod Contiguous
 mod HeldLemmas
+mod FrontLemmas
 mod StreamLemmas
 mod PieceLemmas
 mod Judged

@@ -19,7 +19,7 @@ Came (Some bytes) None r = ⊥
 Came (Some bytes) (Some rest) r = (got : List ℕ) × (bytes ≡ got ++ rest) × StandsFor r (λ more. outcome (got ++ more))
 
 same_says : (r : MapReader) (x y : List ℕ → Result (List Run) LineFault) → ((rest : List ℕ) → x rest ≡ y rest) → StandsFor r x → StandsFor r y
-same_says r x y e s = record { line = s.line; keeps = s.keeps; left = λ rest. sym (e rest) ∙ s.left rest }
+same_says r x y e s = record { line = s.line; front = s.front; keeps = s.keeps; left = λ rest. sym (e rest) ∙ s.left rest }
 
 pub came_new : (a : Option (List ℕ)) (r : MapReader) → StandsFor r outcome → Came a a r
 came_new None r s = (outcome, s)

@@ -9,7 +9,7 @@ use Rattle.udfs_rescue.specs.declared.run.RunStatus.{RunStatus}
 use Rattle.udfs_rescue.specs.declared.run.RunStatus.TheVariants.{NonTried, NonTrimmed, NonScraped, BadSector, Finished}
 use Rattle.udfs_rescue.specs.Numbers.{digit, digits_from, hexadecimal_of, number_of}
 use Rattle.udfs_rescue.specs.Words.{is_blank, words_from, words, ended, skip}
-use Rattle.udfs_rescue.specs.Lines.{before_comment, text_of, lines_of, with_first, run_by, run_of, run_status}
+use Rattle.udfs_rescue.specs.Lines.{mark, is_mark, before_comment, text_of, lines_of, with_first, run_by, run_of, run_status}
 use Rattle.udfs_rescue.specs.Writing.{hex_digits, places, position_text, gap, status_byte, run_line}
 
 chosen : {A : Type 0} (t u : Bool) (x y : A) → t ≡ u → cond t x y ≡ cond u x y
@@ -147,6 +147,11 @@ written_line r =
         also IsWritten (position_text r.size) (32 ∷ 32 ∷ status_byte r.status ∷ []) (written_plain (position_text r.size) (plain_position r.size)) (written_blank, (written_blank, (written_status r.status, tt))),
       ),
     )
+
+-- it is not the comment of a list of blocks to read again, which begins with a #
+pub no_mark_line : (r : Run) → is_mark (line_text r) ≡ false
+unfolding position_text mark is_mark
+no_mark_line r = refl
 
 -- up to the LF it is the first line
 pub line_of : (l rest : List ℕ) → AllByRecursion IsWritten l → lines_of (l ++ 10 ∷ rest) ≡ l ∷ lines_of rest

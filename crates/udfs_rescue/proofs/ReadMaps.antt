@@ -6,17 +6,18 @@ use Rattle.std.proofs.lemmas.Bool.Decides.{nat_tests}
 use Rattle.udfs_lattice.specs.declared.facts.Fact.TheVariants.{Unknown, Known, Conflict}
 use Rattle.udfs_lattice.specs.States.{State}
 use Rattle.udfs_lattice.specs.Tables.{state_of}
+use Rattle.udfs_rescue.specs.declared.fault.MapFault.TheVariants.{NotPass}
 use Rattle.udfs_rescue.specs.declared.run.Run.{Run}
 use Rattle.udfs_rescue.specs.declared.run.RunStatus.{RunStatus}
 use Rattle.udfs_rescue.specs.declared.run.RunStatus.TheVariants.{NonTried, NonTrimmed, NonScraped, BadSector, Finished}
-use Rattle.udfs_rescue.specs.Lines.{Progress, text_of, lines_of, outcome, after_lines, after_text, after_words, after_run, next_line, is_due, unlike}
-use Rattle.udfs_rescue.specs.Writing.{status_byte, joined_run, block_run, runs_of_blocks, run_line, run_lines, heading, map_text, wanted_status, table_status, state_status}
+use Rattle.udfs_rescue.specs.Lines.{Progress, mark, is_mark, text_of, lines_of, outcome, after_lines, after_line, after_text, after_words, after_run, next_line, is_due, unlike}
+use Rattle.udfs_rescue.specs.Writing.{status_byte, joined_run, block_run, runs_of_blocks, run_line, run_lines, made_by, mark_line, status_line, map_text, wanted_status, table_status, state_status}
 use Rattle.udfs_rescue.specs.Words.{words}
 use Rattle.udfs_rescue.specs.Known.{IsRescued, IsKnown}
-use Rattle.udfs_rescue.specs.ReadBack.{MapReadsBack, DomainReadsBack, ImageMapReadsBack}
+use Rattle.udfs_rescue.specs.ReadBack.{MapReadsBack, DomainIsRefused, DomainReadsBack, ImageMapReadsBack}
 use Rattle.udfs_rescue.proofs.LineLemmas.{line_ok}
 use Rattle.udfs_rescue.proofs.PairTables.{none_in, cons_cases, cons_head, cons_tail}
-use Rattle.udfs_rescue.proofs.ReadBack.{line_text, line_is, line_of, written_line, text_is, line_words, line_long, run_is}
+use Rattle.udfs_rescue.proofs.ReadBack.{line_text, line_is, line_of, written_line, text_is, line_words, line_long, run_is, no_mark_line}
 
 chosen : {A : Type 0} (t u : Bool) (x y : A) → t ≡ u → cond t x y ≡ cond u x y
 chosen t u x y e = ap (λ s. cond s x y) e
@@ -41,8 +42,8 @@ takes false u v w a b c d e f g = absurd cc
 run_taken : (due : Option ℕ) (runs : List Run) (r : Run) → is_due due r.at ≡ true → 0 < r.size → r.at + r.size < 2 ^ 36 → after_run (behind due runs) (Some r) ≡ Ok (behind (Some (r.at + r.size)) (runs ++ r ∷ []))
 run_taken due runs r is some few = takes (ltb (r.at + r.size) (2 ^ 63)) (is_due due r.at) (eqb r.size 0) (not (eqb r.at 0)) _ _ _ _ (lt-ltb _ _ (omega (arith, few))) is (ne_eqb r.size 0 (λ e. omega (arith, e, some)))
 
-line_taken : (due : Option ℕ) (runs : List Run) (r : Run) → is_due due r.at ≡ true → 0 < r.size → r.at + r.size < 2 ^ 36 → after_text (behind due runs) (text_of (line_text r)) ≡ Ok (behind (Some (r.at + r.size)) (runs ++ r ∷ []))
-line_taken due runs r is some few =
+text_taken : (due : Option ℕ) (runs : List Run) (r : Run) → is_due due r.at ≡ true → 0 < r.size → r.at + r.size < 2 ^ 36 → after_text (behind due runs) (text_of (line_text r)) ≡ Ok (behind (Some (r.at + r.size)) (runs ++ r ∷ []))
+text_taken due runs r is some few =
     let long : length (line_text r) < 128 = line_long r in
     let fits : ltb 127 (length (line_text r)) ≡ false = grind (arith, nat_tests) in
     ap (after_text (behind due runs)) (text_is r)
@@ -51,7 +52,12 @@ line_taken due runs r is some few =
     ∙ ap (after_run (behind due runs)) (run_is r (omega (arith, few)) (omega (arith, few)))
     ∙ run_taken due runs r is some few
 
+line_taken : (due : Option ℕ) (runs : List Run) (r : Run) → is_due due r.at ≡ true → 0 < r.size → r.at + r.size < 2 ^ 36 → after_line (behind due runs) (line_text r) ≡ Ok (behind (Some (r.at + r.size)) (runs ++ r ∷ []))
+line_taken due runs r is some few =
+    chosen (is_mark (line_text r)) false (Err NotPass) (after_text (behind due runs) (text_of (line_text r))) (no_mark_line r) ∙ text_taken due runs r is some few
+
 lines_taken : (n : ℕ) (due : Option ℕ) (runs rs : List Run) → Follow due rs → after_lines n (behind due runs) (lines_of (run_lines rs)) ≡ Ok (runs ++ rs)
+unfolding is_mark mark
 lines_taken n due runs [] h = ap Ok (sym (append-nil runs))
 lines_taken n due runs (r ∷ rs) h =
     line_ok n (behind due runs) (behind (Some (r.at + r.size)) (runs ++ r ∷ [])) (line_text r) (lines_of (run_line r ++ run_lines rs)) (lines_of (run_lines rs))
@@ -60,8 +66,8 @@ lines_taken n due runs (r ∷ rs) h =
     ∙ lines_taken (next_line n) (Some (r.at + r.size)) (runs ++ r ∷ []) rs h.3
     ∙ ap Ok (append_assoc runs (r ∷ []) rs)
 
-headed : (rest : List ℕ) → outcome (heading ++ rest) ≡ after_lines 3 (behind None []) (lines_of rest)
-unfolding heading
+headed : (rest : List ℕ) → outcome ((made_by ++ status_line) ++ rest) ≡ after_lines 3 (behind None []) (lines_of rest)
+unfolding made_by status_line mark is_mark
 headed rest = refl
 
 -- ---- the runs of blocks
@@ -199,16 +205,26 @@ is_wanted : (xs : List ℕ) (n : ℕ) → Contains xs n → wanted_status xs n �
 is_wanted [] n h = absurd (none_in n h)
 is_wanted (x ∷ xs) n h = found_by (eqb x n) (wanted_status xs n) (⊎_elim (λ e. inl (eq-eqb x n e)) (λ c. inr (is_wanted xs n c)) (cons_cases x xs n h))
 
+pub domain_is_refused : DomainIsRefused
+unfolding made_by mark_line mark is_mark
+domain_is_refused wanted last = refl
+
 pub domain_reads_back : DomainReadsBack
+unfolding made_by mark_line status_line mark
 domain_reads_back wanted last low =
     let h = map_reads_back (wanted_status wanted) last low in
     record {
-      runs = h.runs;
-      says = h.says;
-      exactly = λ n. (
-        λ k. let a = (h.exactly n).0 k in (a.0, is_among wanted n a.1),
-        λ k. (h.exactly n).1 (k.0, is_wanted wanted n k.1),
-      );
+      before = made_by;
+      behind = status_line ++ run_lines (runs_of_blocks (wanted_status wanted) 0 (last + 1));
+      whole = refl;
+      without = record {
+        runs = h.runs;
+        says = h.says;
+        exactly = λ n. (
+          λ k. let a = (h.exactly n).0 k in (a.0, is_among wanted n a.1),
+          λ k. (h.exactly n).1 (k.0, is_wanted wanted n k.1),
+        );
+      };
     }
 
 its_bytes : (s : State) → state_status s ≡ Finished → (bytes : List ℕ) × (s ≡ Known bytes)

@@ -6,12 +6,17 @@ use Rattle.udfs_rescue.specs.declared.run.Run.{Run}
 use Rattle.udfs_rescue.specs.declared.run.RunStatus.{RunStatus}
 use Rattle.udfs_rescue.specs.declared.writing.Blocks.{Blocks}
 use Rattle.udfs_rescue.specs.declared.writing.Blocks.TheVariants.{Wanted, Of}
-use Rattle.udfs_rescue.specs.Writing.{wanted_status, table_status, joined_run, run_lines}
+use Rattle.udfs_rescue.specs.Writing.{wanted_status, table_status, joined_run, run_lines, made_by, mark_line, status_line}
 
 -- the status of a block in the map that is written
 abbrev pub status_in : Blocks → ℕ → RunStatus
 status_in (Wanted list) n = wanted_status list.now n
 status_in (Of table) n = table_status table.now n
+
+-- what stands before the runs of the map that is written
+abbrev pub heading_in : Blocks → List ℕ
+heading_in (Wanted list) = made_by ++ mark_line ++ status_line
+heading_in (Of table) = made_by ++ status_line
 
 -- a list of wanted blocks rises
 abbrev pub BlocksRise : Blocks → Type 0

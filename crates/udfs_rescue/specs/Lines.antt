@@ -1,10 +1,11 @@
 -- What the lines of a mapfile say, and the first fault.
-use Rattle.std.specs.Prelude.{◌≡◌, ℕ, ◌+◌, ◌^◌, ◌%◌, Bool, true, false, not, List, [], ◌∷◌, ◌++◌, length, Option, Some, None, Result, Ok, Err, nat_lt, ◌==◌, ◌&&◌, ◌||◌, if◌then◌else◌}
+use Rattle.std.specs.Prelude.{◌≡◌, ℕ, ◌+◌, ◌^◌, ◌%◌, Bool, true, false, not, List, [], ◌∷◌, ◌++◌, length, Option, Some, None, Result, Ok, Err, nat_lt, ◌==◌, ◌&&◌, ◌||◌, if◌then◌else◌, codes}
+use Rattle.std.specs.Str.{bytes_eq}
 use Rattle.udfs_rescue.specs.declared.run.Run.{Run}
 use Rattle.udfs_rescue.specs.declared.run.RunStatus.{RunStatus}
 use Rattle.udfs_rescue.specs.declared.run.RunStatus.TheVariants.{NonTried, NonTrimmed, NonScraped, BadSector, Finished}
 use Rattle.udfs_rescue.specs.declared.fault.MapFault.{MapFault}
-use Rattle.udfs_rescue.specs.declared.fault.MapFault.TheVariants.{NotStatusLine, NotRun, TooLarge, NotContiguous, SizeZero}
+use Rattle.udfs_rescue.specs.declared.fault.MapFault.TheVariants.{NotStatusLine, NotRun, TooLarge, NotContiguous, SizeZero, NotPass}
 use Rattle.udfs_rescue.specs.declared.fault.LineFault.{LineFault}
 use Rattle.udfs_rescue.specs.Numbers.{number_of, decimal_of}
 use Rattle.udfs_rescue.specs.Words.{is_blank, skip, words}
@@ -130,6 +131,18 @@ before_comment blank (b ∷ bs) = if blank && b == 35 then [] else b ∷ before_
 abbrev pub text_of : List ℕ → List ℕ
 text_of line = skip (before_comment true line)
 
+-- the comment of a list of blocks to read again
+unfoldable pub mark : List ℕ
+mark = codes "# Blocks to read again, for ddrescue -m: not the mapfile of a pass"
+
+-- a line is that comment, a CR at its end left aside
+unfoldable pub is_mark : List ℕ → Bool
+is_mark line = bytes_eq line mark || bytes_eq line (mark ++ 13 ∷ [])
+
+-- what has come after a line: that comment is a fault wherever it stands, and of any other line the text is judged
+abbrev pub after_line : Progress → List ℕ → Result Progress MapFault
+after_line p line = if is_mark line then Err NotPass else after_text p (text_of line)
+
 -- ---- the whole mapfile
 
 -- the bytes up to the first LF, and the lines behind it; behind the last LF there is one line more, which may be empty
@@ -149,7 +162,7 @@ next_line n = (n + 1) % 2 ^ 64
 -- the runs, or the first fault and its line: of these lines, the first of which has this number, behind those that came to p
 abbrev pub after_lines : ℕ → Progress → List (List ℕ) → Result (List Run) LineFault
 after_lines n p [] = Ok p.runs
-after_lines n p (line ∷ lines) = elim (after_text p (text_of line)) as (λ r. Result (List Run) LineFault) [ Ok q ↦ after_lines (next_line n) q lines | Err fault ↦ Err (record { line = n; fault = fault }) ]
+after_lines n p (line ∷ lines) = elim (after_line p line) as (λ r. Result (List Run) LineFault) [ Ok q ↦ after_lines (next_line n) q lines | Err fault ↦ Err (record { line = n; fault = fault }) ]
 
 -- the outcome for every list of bytes
 abbrev pub outcome : List ℕ → Result (List Run) LineFault

@@ -1,13 +1,16 @@
 -- What was written is read back: a mapfile, and the image of a table with its mapfile.
 --     MapReadsBack      a mapfile makes known exactly the blocks of status +
+--     DomainIsRefused   the map of wanted blocks is none of a pass
+--     DomainReadsBack   but for the line that says so, it makes known exactly these blocks
 --     ImageReadsBack    an image with its mapfile has the table that they were written of, without its conflicts
 --     ImageIsPair       and they are never refused for what is in them
-use Rattle.std.specs.Prelude.{◌≡◌, ◌↔◌, ◌<◌, ◌≤◌, ◌⊎◌, ℕ, Contains, List, Option, Some, Ok}
+use Rattle.std.specs.Prelude.{◌≡◌, ◌↔◌, ◌<◌, ◌≤◌, ◌⊎◌, ℕ, Contains, List, ◌++◌, Option, Some, Ok, Err}
 use Rattle.udfs_lattice.specs.declared.facts.Fact.TheVariants.{Unknown, Known}
 use Rattle.udfs_lattice.specs.Records.{Record, table_of}
 use Rattle.udfs_lattice.specs.Tables.{Table, IsTable, state_of, without_conflict}
 use Rattle.udfs_reading.specs.declared.error.ReadingFault.TheVariants.{Io, OutOfMemory}
 use Rattle.udfs_reading.specs.Reading.{IsReading}
+use Rattle.udfs_rescue.specs.declared.fault.MapFault.TheVariants.{NotPass}
 use Rattle.udfs_rescue.specs.declared.opening.PairFault.{PairFault}
 use Rattle.udfs_rescue.specs.declared.opening.PairFault.TheVariants as pair
 use Rattle.udfs_rescue.specs.declared.run.Run.{Run}
@@ -17,7 +20,7 @@ use Rattle.udfs_rescue.specs.Images.{image_bytes}
 use Rattle.udfs_rescue.specs.Known.{IsKnown}
 use Rattle.udfs_rescue.specs.Lines.{outcome}
 use Rattle.udfs_rescue.specs.Opening.{IsReadingOf, PairFails}
-use Rattle.udfs_rescue.specs.Writing.{map_text, wanted_status, table_status}
+use Rattle.udfs_rescue.specs.Writing.{map_text, domain_text, mark_line, table_status}
 
 -- the bytes are a mapfile that makes exactly these blocks known
 pub record MakesKnown (bytes : List ℕ) (IsOne : ℕ → Type 0) : Type 0 where
@@ -29,9 +32,20 @@ pub record MakesKnown (bytes : List ℕ) (IsOne : ℕ → Type 0) : Type 0 where
 abbrev pub MapReadsBack : Type 0
 MapReadsBack = (status : ℕ → RunStatus) (last : ℕ) → last ≤ 4194303 → MakesKnown (map_text status last) (λ n. (n ≤ last) × (status n ≡ Finished))
 
--- that of a list of wanted blocks makes exactly these known
+-- the map of wanted blocks is refused for its second line, as blocks to read again
+abbrev pub DomainIsRefused : Type 0
+DomainIsRefused = (wanted : List ℕ) (last : ℕ) → outcome (domain_text wanted last) ≡ Err (record { line = 2; fault = NotPass })
+
+-- without one line, which is the mark, the bytes are a mapfile that makes exactly these blocks known
+pub record MarksBlocks (bytes : List ℕ) (IsOne : ℕ → Type 0) : Type 0 where
+  pub before : List ℕ
+  pub behind : List ℕ
+  pub whole : bytes ≡ before ++ (mark_line ++ behind)
+  pub without : MakesKnown (before ++ behind) IsOne
+
+-- without its mark, the map of wanted blocks makes exactly these known
 abbrev pub DomainReadsBack : Type 0
-DomainReadsBack = (wanted : List ℕ) (last : ℕ) → last ≤ 4194303 → MakesKnown (map_text (wanted_status wanted) last) (λ n. (n ≤ last) × Contains wanted n)
+DomainReadsBack = (wanted : List ℕ) (last : ℕ) → last ≤ 4194303 → MarksBlocks (domain_text wanted last) (λ n. (n ≤ last) × Contains wanted n)
 
 -- and that of a table those that the table knows
 abbrev pub ImageMapReadsBack : Type 0

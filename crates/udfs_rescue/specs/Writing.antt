@@ -8,6 +8,7 @@ use Rattle.udfs_lattice.specs.Tables.{Table, state_of}
 use Rattle.udfs_rescue.specs.declared.run.Run.{Run}
 use Rattle.udfs_rescue.specs.declared.run.RunStatus.{RunStatus}
 use Rattle.udfs_rescue.specs.declared.run.RunStatus.TheVariants.{NonTried, NonTrimmed, NonScraped, BadSector, Finished}
+use Rattle.udfs_rescue.specs.Lines.{mark}
 
 -- ---- the status of each block
 
@@ -77,10 +78,22 @@ run_line r = position_text r.at ++ gap ++ position_text r.size ++ gap ++ (status
 abbrev pub run_lines : List Run → List ℕ
 run_lines rs = flat_map run_line rs
 
--- a comment that says who made the map, and the status line
-unfoldable pub heading : List ℕ
-heading = codes "# Mapfile. Created by udfsalvage 0.1.0" ++ 10 ∷ (codes "0x00000000     +               1" ++ 10 ∷ [])
+-- a comment that says who made the map
+unfoldable pub made_by : List ℕ
+made_by = codes "# Mapfile. Created by udfsalvage 0.1.0" ++ 10 ∷ []
+
+-- the comment of a list of blocks to read again, as a line
+unfoldable pub mark_line : List ℕ
+mark_line = mark ++ 10 ∷ []
+
+-- the status line, behind which the runs stand
+unfoldable pub status_line : List ℕ
+status_line = codes "0x00000000     +               1" ++ 10 ∷ []
 
 -- the map of the blocks up to the last one
 abbrev pub map_text : (ℕ → RunStatus) → ℕ → List ℕ
-map_text status last = heading ++ run_lines (runs_of_blocks status 0 (last + 1))
+map_text status last = (made_by ++ status_line) ++ run_lines (runs_of_blocks status 0 (last + 1))
+
+-- the map in which these blocks are wanted: the same with its mark
+abbrev pub domain_text : List ℕ → ℕ → List ℕ
+domain_text wanted last = (made_by ++ mark_line ++ status_line) ++ run_lines (runs_of_blocks (wanted_status wanted) 0 (last + 1))

@@ -4,6 +4,7 @@
 #![tactic(auto)]
 
 mod fault;
+mod front;
 mod held;
 mod image;
 mod imaging;
@@ -25,7 +26,7 @@ pub use fault::{LineFault, MapError, MapFault};
 pub use image::Image;
 pub use imaging::write_image;
 pub use known::{BlockRange, KnownBlocks};
-pub use laws::{images_read_back, maps_read_back};
+pub use laws::{domains_are_marked, images_read_back, maps_read_back};
 pub use list::{BlockList, ListError};
 pub use mapfile::Mapfile;
 pub use opening::{PairFault, open_pair};

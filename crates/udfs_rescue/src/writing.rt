@@ -1,12 +1,12 @@
 //! Mapfiles are written.
 
 ghost use Rattle.std.specs.Fmt.{digit_glyph};
-ghost use Rattle.std.specs.Prelude.{◌≡◌, true, ℕ, ◌+◌, ◌*◌, ◌≤◌, ◌<◌, List, OnOk, IfErr};
+ghost use Rattle.std.specs.Prelude.{◌≡◌, true, ℕ, ◌+◌, ◌*◌, ◌≤◌, ◌<◌, ◌++◌, List, OnOk, IfErr};
 ghost use Rattle.std.specs.List.Sorted.{IsNonDecreasing};
 ghost use Rattle.udfs_reading.specs.Writing.{Writes, Passes, FailedPast};
 ghost use Rattle.udfs_rescue.specs.declared.run.Run.{Run};
-ghost use Rattle.udfs_rescue.specs.Writing.{wanted_status, table_status, status_byte, joined_run, runs_of_blocks, hex_digits, places, position_text, run_line, run_lines, heading, map_text};
-ghost use Rattle.udfs_rescue.specs.BlockSteps.{status_in, BlocksRise, TakesRun};
+ghost use Rattle.udfs_rescue.specs.Writing.{wanted_status, table_status, status_byte, joined_run, runs_of_blocks, hex_digits, places, position_text, run_line, run_lines, made_by, mark_line, status_line, map_text, domain_text};
+ghost use Rattle.udfs_rescue.specs.BlockSteps.{status_in, heading_in, BlocksRise, TakesRun};
 
 use crate::run::{Run, RunStatus};
 use udfs_lattice::{BlockTable, Fact};
@@ -173,6 +173,26 @@ fn write_runs<W: Sink>(
     Ok(())
 }
 
+/// Who made the map, the mark of wanted blocks, and the status line.
+fn write_heading<W: Sink>(
+    out: &mut Outgoing,
+    sink: &mut W,
+    blocks: Blocks<'_>,
+) -> Result<(), WriteFault>
+    ensures { Passes (W.contents sink.old) (W.contents sink.new) (W.faults sink.old) (W.faults sink.new) out.old out.new (heading_in blocks.entry) result }
+{
+    match blocks {
+        Blocks::Wanted(_) => out.push(
+            sink,
+            b"# Mapfile. Created by udfsalvage 0.1.0\n# Blocks to read again, for ddrescue -m: not the mapfile of a pass\n0x00000000     +               1\n",
+        ),
+        Blocks::Of(_) => out.push(
+            sink,
+            b"# Mapfile. Created by udfsalvage 0.1.0\n0x00000000     +               1\n",
+        ),
+    }
+}
+
 fn write_all_lines<W: Sink>(
     out: &mut Outgoing,
     sink: &mut W,
@@ -181,12 +201,9 @@ fn write_all_lines<W: Sink>(
 ) -> Result<(), WriteFault>
     requires rises { BlocksRise blocks }
     requires last { last ≤ 4194303 }
-    ensures { Passes (W.contents sink.old) (W.contents sink.new) (W.faults sink.old) (W.faults sink.new) out.old out.new (map_text (status_in blocks.entry) last) result }
+    ensures { Passes (W.contents sink.old) (W.contents sink.new) (W.faults sink.old) (W.faults sink.new) out.old out.new (heading_in blocks.entry ++ run_lines (runs_of_blocks (status_in blocks.entry) 0 (last + 1))) result }
 {
-    out.push(
-        sink,
-        b"# Mapfile. Created by udfsalvage 0.1.0\n0x00000000     +               1\n",
-    )?;
+    write_heading(out, sink, blocks)?;
     write_runs(out, sink, blocks, last)?;
     Ok(())
 }
@@ -194,7 +211,7 @@ fn write_all_lines<W: Sink>(
 fn write_map<W: Sink>(blocks: Blocks<'_>, last: u32, sink: &mut W) -> Result<(), WriteFault>
     requires rises { BlocksRise blocks }
     requires last { last ≤ 4194303 }
-    ensures { Writes (W.contents sink.old) (W.contents sink.new) (W.faults sink.old) (W.faults sink.new) (map_text (status_in blocks.entry) last) result }
+    ensures { Writes (W.contents sink.old) (W.contents sink.new) (W.faults sink.old) (W.faults sink.new) (heading_in blocks.entry ++ run_lines (runs_of_blocks (status_in blocks.entry) 0 (last + 1))) result }
 {
     let mut out = Outgoing::new();
     write_all_lines(&mut out, sink, blocks, last)?;
@@ -202,8 +219,8 @@ fn write_map<W: Sink>(blocks: Blocks<'_>, last: u32, sink: &mut W) -> Result<(),
     Ok(())
 }
 
-/// Writes the mapfile in which the wanted blocks are `+`, and all others from 0 to `last` are `?`. Its runs go from 0 to
-/// `2048 * (last + 1)` bytes. The wanted blocks are given in rising order; those above `last` do not show. It takes no
+/// Writes the mapfile in which the wanted blocks are `+`, and all others from 0 to `last` are `?`. Its second line is a comment
+/// that marks it as no mapfile of a pass: `Mapfile::read` refuses it. Its runs go from 0 to `2048 * (last + 1)` bytes. The wanted blocks are given in rising order; those above `last` do not show. It takes no
 /// memory.
 ///
 /// # Errors
@@ -212,7 +229,7 @@ fn write_map<W: Sink>(blocks: Blocks<'_>, last: u32, sink: &mut W) -> Result<(),
 pub fn write_domain<W: Sink>(wanted: &[u32], last: u32, sink: &mut W) -> Result<(), WriteFault>
     requires rises { IsNonDecreasing wanted.now }
     requires last { last ≤ 4194303 }
-    ensures { Writes (W.contents sink.old) (W.contents sink.new) (W.faults sink.old) (W.faults sink.new) (map_text (wanted_status wanted.now) last) result }
+    ensures { Writes (W.contents sink.old) (W.contents sink.new) (W.faults sink.old) (W.faults sink.new) (domain_text wanted.now last) result }
 {
     write_map(Blocks::Wanted(wanted), last, sink)
 }

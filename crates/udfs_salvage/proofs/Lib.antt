@@ -17,7 +17,12 @@ pub mod Runs
 pub mod TreeReports
 pub mod VolumeLaw
 pub mod Rereading
+pub mod WideLayouts
+pub mod WideTrees
+pub mod WideVolumes
 pub mod SampleLawful
+pub mod WideSample
+pub mod WideAlone
 pub mod TreeBytes
 pub mod PathNames
 pub mod FullTexts
@@ -26,3 +31,4 @@ pub mod JsonPieces
 pub mod ShortTexts
 pub mod Putting
 pub mod PublicLaws
+pub mod UnnamedEntries

@@ -109,7 +109,7 @@ within [] r b n e = absurd (let z : ⊥ = cc in z)
 within (x ∷ xs) zero b n e = omega arith
 within (x ∷ xs) (suc r) b n e = let h : r < length xs = within xs r b n e in omega (arith, h)
 
-has_partitions : (M : Blocks) (s : Space) → HasPartitions (view M s)
+pub has_partitions : (M : Blocks) (s : Space) → HasPartitions (view M s)
 unfolding place
 has_partitions M s r b n e = within s.spans r b n e
 

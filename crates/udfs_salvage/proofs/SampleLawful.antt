@@ -1,6 +1,7 @@
 -- The sample volumes are lawful: what the layers below say of it, joined.
 use Rattle.std.proofs.Common.{◌≡◌, refl, ap, ◌∙◌, [], ◌∷◌}
-use Rattle.udfs_volume.specs.declared.profiles.Profile.TheVariants.{Strict}
+use Rattle.udfs_volume.specs.declared.profiles.Profile.{Profile}
+use Rattle.udfs_volume.specs.declared.profiles.Profile.TheVariants.{Strict, Wide}
 use Rattle.udfs_lattice.specs.Volumes.{Blocks, Volume}
 use Rattle.udfs_volume.specs.Answers.{found, and_then}
 use Rattle.udfs_volume.specs.Sample.{Maps, IsLawfulSample, sample, sample_blocks, sample_layout}
@@ -10,14 +11,18 @@ use Rattle.udfs_space.proofs.PublicLaws.{sample_places_are_lawful}
 use Rattle.udfs_file.specs.Sample.{sample_contents, sample_root}
 use Rattle.udfs_file.proofs.PublicLaws.{sample_file_set_is_found}
 use Rattle.udfs_tree.specs.Sample.{HasSampleFiles}
+use Rattle.udfs_tree.specs.Trees.{TreeFile}
 use Rattle.udfs_tree.proofs.PublicLaws.{sample_tree_is_lawful}
 use Rattle.udfs_salvage.specs.Found.{Found, placed, rooted, volume_by}
-use Rattle.udfs_salvage.specs.TreeReports.{SomeLawful}
-use Rattle.udfs_salvage.specs.VolumeTrees.{AllIsWhole, IsLawfulBy}
+use Rattle.udfs_salvage.specs.TreeReports.{SomeLawful, SomeLawfulBy}
+use Rattle.udfs_salvage.specs.VolumeTrees.{AllIsWhole, IsInVolumeBy, IsLawfulBy}
+use Rattle.udfs_salvage.specs.WideVolumes.{IsTakenByWide}
 use Rattle.udfs_salvage.proofs.Openings.{ReadAs, lawful_by, open_as}
 use Rattle.udfs_salvage.proofs.TreeReports.{in_volume}
+use Rattle.udfs_salvage.proofs.WideLayouts.{layout_kept, taking_tail}
+use Rattle.udfs_salvage.proofs.WideVolumes.{wide_takes_strict}
 
-abbrev volume : Maps → Volume
+abbrev pub volume : Maps → Volume
 volume maps = sample maps (sample_contents maps)
 
 -- its layout, its places and its root
@@ -48,22 +53,39 @@ sample_is_whole maps = record {
   tree = (sample_tree_is_lawful maps).0;
 }
 
-sample_is_lawful : (maps : Maps) → IsLawfulBy Strict (volume maps) 600
+pub sample_is_lawful : (maps : Maps) → IsLawfulBy Strict (volume maps) 600
 sample_is_lawful maps = lawful_by Strict (volume maps) 600 (sample_is_whole maps)
 
 -- the file B stands in it, in the last of its partitions
-pub some_lawful : SomeLawful
+pub sample_has_b : (maps : Maps) → (file : TreeFile) × IsInVolumeBy Strict (volume maps) 600 ((0x42 ∷ []) ∷ []) file
 unfolding sample_is_whole
-some_lawful maps = (
-  volume maps,
-  600,
-  sample_is_lawful maps,
-  (sample_layout maps, (lawful_layout maps).layout_is, refl),
-  (0x42 ∷ [], h.b.0, in_volume Strict (volume maps) 600 (sample_found maps) r ((0x42 ∷ []) ∷ []) h.b.0 h.b.1),
-)
+sample_has_b maps = (h.b.0, in_volume Strict (volume maps) 600 (sample_found maps) r ((0x42 ∷ []) ∷ []) h.b.0 h.b.1)
   where
     r : ReadAs Strict (volume maps) 600 (sample_found maps)
     r = open_as Strict (volume maps) 600 (sample_is_whole maps).is_volume
 
     h : HasSampleFiles r.opened.blocks
     h = (sample_tree_is_lawful maps).1 r.opened.blocks r.is_whole
+
+pub some_lawful : SomeLawful
+some_lawful maps = (
+  volume maps,
+  600,
+  sample_is_lawful maps,
+  (sample_layout maps, (lawful_layout maps).layout_is, refl),
+  (0x42 ∷ [], (sample_has_b maps).0, (sample_has_b maps).1),
+)
+
+-- and by the wide rules, which take whatever the strict ones take
+pub some_lawful_by : (profile : Profile) → SomeLawfulBy profile
+some_lawful_by Strict maps = some_lawful maps
+some_lawful_by Wide maps = (
+  volume maps,
+  600,
+  taken.lawful,
+  (taking_tail (sample_layout maps), (layout_kept (blocks maps) 600 (sample_layout maps) (lawful_layout maps).layout_is).0, refl),
+  (0x42 ∷ [], (sample_has_b maps).0, (taken.files ((0x42 ∷ []) ∷ []) (sample_has_b maps).0).0 (sample_has_b maps).1),
+)
+  where
+    taken : IsTakenByWide (volume maps) 600
+    taken = wide_takes_strict (volume maps) 600 (sample_is_lawful maps)

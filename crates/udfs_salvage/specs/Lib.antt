@@ -1,6 +1,7 @@
 pub mod Found
 pub mod Laws
 pub mod VolumeTrees
+pub mod WideVolumes
 pub mod Reports
 pub mod TreeReports
 pub mod Texts
@@ -15,3 +16,4 @@ pub mod JsonNodes
 pub mod JsonReports
 pub mod Surveys
 pub mod JsonPieces
+pub mod UnnamedExtraction

@@ -6,14 +6,14 @@
 --     FillsFileBy profile blocks last n fill        what is done with the bytes of a node that is filled is done with the tree's, its holes filled
 --     OpensOnceBy, OneFileAtBy               the standard opens a lawful volume in one way, and a path leads to one file
 --     ReportsTellTreeBy profile              every report of a table tells this
+--     SomeLawfulBy profile                   there are lawful volumes with files, by the maps that a volume can have
 -- The same names without By are these by the strict rules.
---     SomeLawful                             there are lawful volumes with files, by the maps that a volume can have
 use Rattle.std.specs.Prelude.{◌≡◌, ◌⊎◌, ⊤, ℕ, List, [], ◌∷◌, length, slice_get, Some, map}
 use Rattle.udfs_volume.specs.declared.profiles.Profile.{Profile}
 use Rattle.udfs_volume.specs.declared.profiles.Profile.TheVariants.{Strict}
 use Rattle.udfs_lattice.specs.Volumes.{Blocks, Volume, Agrees, complete}
 use Rattle.udfs_volume.specs.Answers.{Answer, found, holes}
-use Rattle.udfs_volume.specs.Layout.{Layout, Partition, layout}
+use Rattle.udfs_volume.specs.Layout.{Layout, Partition, layout_by}
 use Rattle.udfs_volume.specs.Sample.{Maps, sample_partitions}
 use Rattle.udfs_space.specs.Places.{view}
 use Rattle.udfs_file.specs.declared.cells.Cell.{Cell}
@@ -25,7 +25,7 @@ use Rattle.udfs_tree.specs.Cells.{HasCellsAt, HasNoFault, IsInRuns, IsWholeAs, I
 use Rattle.udfs_tree.specs.Laws.{HasPathsOnce, IsTold}
 use Rattle.udfs_salvage.specs.Found.{Found}
 use Rattle.udfs_salvage.specs.Reports.{Report, IsReportBy}
-use Rattle.udfs_salvage.specs.VolumeTrees.{Opened, IsOpenedBy, IsInVolume, IsInVolumeBy, IsLawful, IsLawfulBy, IsMetBy}
+use Rattle.udfs_salvage.specs.VolumeTrees.{Opened, IsOpenedBy, IsInVolumeBy, IsLawfulBy, IsMetBy}
 use Rattle.udfs_salvage.specs.declared.errors.SalvageError.{SalvageError}
 use Rattle.udfs_salvage.specs.declared.errors.SalvageError.TheVariants as errors
 
@@ -124,18 +124,30 @@ ReportsTellTreeBy profile = (blocks : Blocks) (last : ℕ) (report : Report) →
 abbrev pub ReportsTellTree : Type 0
 ReportsTellTree = ReportsTellTreeBy Strict
 
--- the layout of the volume names these partitions
+-- the layout of the volume, by the rules of a profile, names these partitions
+abbrev pub NamesPartitionsBy : Profile → Volume → ℕ → List Partition → Type 0
+NamesPartitionsBy profile volume last partitions = (l : Layout) × (layout_by profile (complete volume last) last ≡ found l) × (l.partitions ≡ partitions)
+
+-- the same by the strict rules
 abbrev pub NamesPartitions : Volume → ℕ → List Partition → Type 0
-NamesPartitions volume last partitions = (l : Layout) × (layout (complete volume last) last ≡ found l) × (l.partitions ≡ partitions)
+NamesPartitions = NamesPartitionsBy Strict
 
 -- a lawful volume with these partitions, and a file below its root
+abbrev pub IsLawfulWithBy : Profile → List Partition → Type 0
+IsLawfulWithBy profile partitions = (volume : Volume) × (last : ℕ) × IsLawfulBy profile volume last × NamesPartitionsBy profile volume last partitions
+    × ((name : List ℕ) × (file : TreeFile) × IsInVolumeBy profile volume last (name ∷ []) file)
+
+-- the same by the strict rules
 abbrev pub IsLawfulWith : List Partition → Type 0
-IsLawfulWith partitions = (volume : Volume) × (last : ℕ) × IsLawful volume last × NamesPartitions volume last partitions
-    × ((name : List ℕ) × (file : TreeFile) × IsInVolume volume last (name ∷ []) file)
+IsLawfulWith = IsLawfulWithBy Strict
 
 -- there are such volumes with a partition of type 1, with a sparable one, and with one of each
 abbrev pub SomeLawful : Type 0
 SomeLawful = (maps : Maps) → IsLawfulWith (sample_partitions maps)
+
+-- and the same by the rules of a profile
+abbrev pub SomeLawfulBy : Profile → Type 0
+SomeLawfulBy profile = (maps : Maps) → IsLawfulWithBy profile (sample_partitions maps)
 
 -- ---- the bytes that are written
 abbrev pub file_bytes : TreeFile → List ℕ

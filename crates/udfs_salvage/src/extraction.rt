@@ -79,7 +79,7 @@ pub fn is_offered(node: &Node, fill: Fill) -> bool
 }
 
 /// Writes the body of the entry at an address, where there is one.
-fn write_at<W: Sink>(
+pub(crate) fn write_at<W: Sink>(
     alloc: Global,
     table: &BlockTable,
     space: &Space,

@@ -40,7 +40,7 @@ pub struct Report<'a> {
 }
 
 /// Whether all of it is known.
-fn is_whole(standing: &Standing) -> bool
+pub(crate) fn is_whole(standing: &Standing) -> bool
     ensures { result ≡ is_whole standing.now }
 {
     matches!(standing, Standing::Whole)

@@ -1,7 +1,8 @@
 //! Laws of reports and trees, each the contract of a function that does nothing.
 ghost use Rattle.udfs_volume.specs.declared.profiles.Profile.{Profile};
-ghost use Rattle.udfs_salvage.specs.TreeReports.{OneFileAt, OneFileAtBy, OpensOnce, OpensOnceBy, ReportsTellTree, ReportsTellTreeBy, SomeLawful};
+ghost use Rattle.udfs_salvage.specs.TreeReports.{OneFileAt, OneFileAtBy, OpensOnce, OpensOnceBy, ReportsTellTree, ReportsTellTreeBy, SomeLawful, SomeLawfulBy};
 ghost use Rattle.udfs_salvage.specs.VolumeTrees.{LawfulIsWhole, LawfulIsWholeBy};
+ghost use Rattle.udfs_salvage.specs.WideVolumes.{WideTakesMore, WideTakesStrict};
 
 /// The standard opens a lawful volume, and in one way only.
 pub fn opens_once()
@@ -22,9 +23,20 @@ pub fn reports_tell_tree()
 {}
 
 /// There are lawful volumes with a file, with a map of type 1, with a sparable one that has a spared packet, and with both; so what is said of
-/// lawful volumes is said of something.
+/// lawful volumes is said of something, by the strict rules and by those of each profile.
 pub fn some_volume_is_lawful()
-    ensures { SomeLawful }
+    ensures strict { SomeLawful }
+    ensures by_profile { (profile : Profile) → SomeLawfulBy profile }
+{}
+
+/// A volume that is lawful by the strict rules is lawful by the wide ones, and these read the same files in it, with the same fields and bytes.
+pub fn wide_takes_strict()
+    ensures { WideTakesStrict }
+{}
+
+/// And there is a volume with a file, of revision 2.00, that is lawful by the wide rules and not by the strict ones.
+pub fn wide_takes_more()
+    ensures { WideTakesMore }
 {}
 
 /// A volume is lawful, which is said in the words of the standard's reading alone, exactly if with all of it known every node is whole.

@@ -1,8 +1,8 @@
 //! Devices that fail or are slow, and want of memory.
 
-use super::memory::{Memory, ran, reading, table, with_table};
 use std::alloc::{AllocError, Global};
 use std::test::Fail;
+use test_runs::{Memory, ran, reading, table, with_table};
 use udfs_samples::Disc;
 
 const WORDS: &str = "merge --v1 --out t.tab two.rd";

@@ -1,9 +1,9 @@
 //! The last block by the ends of mapfiles, where neither it nor the size of the disc is given. A disc of 1,230,848 bytes, 12C800 in hexadecimal, ends
 //! with block 600.
 
-use super::memory::{Memory, ran};
 use std::alloc::{AllocError, Global};
 use std::test::Fail;
+use test_runs::{Memory, ran};
 
 /// What is said where the last block has to be given.
 const MISSING: &str =

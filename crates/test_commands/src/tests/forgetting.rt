@@ -1,8 +1,8 @@
 //! What `forget` writes.
 
-use super::memory::{Memory, passes, ran, table};
 use std::alloc::{AllocError, Global};
 use std::test::Fail;
+use test_runs::{Memory, passes, ran, table};
 
 /// Block 300 in conflict alone: bit 12 of packet 9.
 const DISPUTED: [u8; 28] = [

@@ -1,8 +1,8 @@
 //! What `image` writes.
 
-use super::memory::{Memory, Outcome, passes, ran, reading};
 use std::alloc::{AllocError, Global};
 use std::test::Fail;
+use test_runs::{Memory, Outcome, passes, ran, reading};
 
 const WORDS: &str = "image --last 513 --out d.img --mapfile d.map a.rd b.rd c.rd";
 
@@ -71,7 +71,7 @@ fn the_pair_is_an_input(rt: HostRuntime) -> Result<(), Fail> {
         "merge --v1 --out t.tab --ddrescue d.img d.map",
     )?;
     assert!(rt; again.is_silent(), "{again:?}");
-    let known = super::memory::table(alloc, &[(301, 0x62)])?;
+    let known = test_runs::table(alloc, &[(301, 0x62)])?;
     assert!(rt; memory.has("t.tab", known.as_slice()));
     Ok(())
 }

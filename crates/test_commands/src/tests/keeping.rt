@@ -1,8 +1,8 @@
 //! That an old table stays, whole, until the new one is in its place, whole.
 
-use super::memory::{Memory, passes, ran, reading, table};
 use std::alloc::{AllocError, Global};
 use std::test::Fail;
+use test_runs::{Memory, passes, ran, reading, table};
 
 const OLD: [u8; 100] = [0x77; 100];
 

@@ -1,8 +1,8 @@
 //! What `merge` writes.
 
-use super::memory::{Memory, passes, ran, reading, table};
 use std::alloc::{AllocError, Global};
 use std::test::Fail;
+use test_runs::{Memory, passes, ran, reading, table};
 
 #[test]
 fn order_and_repetition_change_nothing(rt: HostRuntime) -> Result<(), Fail> {

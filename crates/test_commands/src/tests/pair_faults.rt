@@ -1,8 +1,8 @@
 //! Pairs of an image and a mapfile that are no pair, or not of one disc.
 
-use super::memory::{Memory, ran};
 use std::alloc::{AllocError, Global};
 use std::test::Fail;
+use test_runs::{Memory, ran};
 
 /// The rescued blocks 0 and 2 of an image of so many bytes.
 fn image_of(alloc: Global, size: usize) -> Result<Memory, AllocError> {
@@ -97,7 +97,7 @@ fn an_image_of_an_odd_size(rt: HostRuntime) -> Result<(), Fail> {
         "merge --v1 --out t.tab --ddrescue p.img p.map",
     )?;
     assert!(rt; ran.is_silent(), "{ran:?}");
-    let whole = super::memory::table(alloc, &[(0, 0x61), (2, 0x61)])?;
+    let whole = test_runs::table(alloc, &[(0, 0x61), (2, 0x61)])?;
     assert!(rt; memory.has("t.tab", whole.as_slice()));
     Ok(())
 }

@@ -1,8 +1,8 @@
 //! Images with GNU ddrescue's mapfiles among the inputs.
 
-use super::memory::{Memory, ran, reading, table};
 use std::alloc::{AllocError, Global};
 use std::test::Fail;
+use test_runs::{Memory, ran, reading, table};
 
 /// An image of four blocks, of bytes 61, 62, 63 and 64 hex, and a mapfile in which the second is not rescued, and of the fourth only a part.
 fn pair(alloc: Global) -> Result<Memory, AllocError> {

@@ -1,8 +1,8 @@
 //! What refuses `merge`, in which order, and what it leaves.
 
-use super::memory::{Memory, passes, ran, reading};
 use std::alloc::Global;
 use std::test::Fail;
+use test_runs::{Memory, passes, ran, reading};
 
 /// The passes, an old output, and a bad file of each kind.
 fn with_bad_files(alloc: Global) -> Result<Memory, Fail> {

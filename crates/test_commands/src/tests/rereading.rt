@@ -1,7 +1,9 @@
 //! What `reread` prints.
 
-use super::memory::{Memory, ran, reading, with_table};
+use std::alloc::Global;
 use std::test::Fail;
+use test_runs::{Memory, ran, reading, with_table};
+use udfs_lattice::BlockTable;
 use udfs_samples::Disc;
 
 /// The blocks that are not known, and what is printed then.
@@ -73,7 +75,7 @@ fn what_refuses_it(rt: HostRuntime) -> Result<(), Fail> {
 fn the_blocks_to_read_again_are_a_mapfile(rt: HostRuntime) -> Result<(), Fail> {
     let alloc = rt.alloc();
     let text =
-        b"# Mapfile. Created by udfsalvage 0.1.0\n0x00000000     +               1\n0x00000000  0x0008B000  ?\n0x0008B000  0x00000800  +\n0x0008B800  0x000A1000  ?\n";
+        b"# Mapfile. Created by udfsalvage 0.1.0\n# Blocks to read again, for ddrescue -m: not the mapfile of a pass\n0x00000000     +               1\n0x00000000  0x0008B000  ?\n0x0008B000  0x00000800  +\n0x0008B800  0x000A1000  ?\n";
     let known = [32, 33, 34, 256, 272, 273, 274, 275, 276, 277, 279];
     let table = Disc::type1(alloc)?.known_at(alloc, &known)?;
     let mut memory = with_table(alloc, &table)?;
@@ -111,7 +113,7 @@ fn the_counts_of_a_mapfile(rt: HostRuntime) -> Result<(), Fail> {
         assert_eq!(rt; ran.out.as_str(), line);
     }
     let all =
-        b"# Mapfile. Created by udfsalvage 0.1.0\n0x00000000     +               1\n0x00000000  0x0012C800  ?\n";
+        b"# Mapfile. Created by udfsalvage 0.1.0\n# Blocks to read again, for ddrescue -m: not the mapfile of a pass\n0x00000000     +               1\n0x00000000  0x0012C800  ?\n";
     let table = Disc::type1(alloc)?.known_but(alloc, &[])?;
     let mut memory = with_table(alloc, &table)?;
     let done = ran(alloc, &mut memory, "reread --last 600 --mapfile m disc.tab")?;
@@ -123,17 +125,20 @@ fn the_counts_of_a_mapfile(rt: HostRuntime) -> Result<(), Fail> {
     assert_eq!(rt; none.status, 1);
     assert_eq!(rt; none.out.as_str(), "3 blocks in 3 runs\n");
     let anchors =
-        b"# Mapfile. Created by udfsalvage 0.1.0\n0x00000000     +               1\n0x00000000  0x00080000  ?\n0x00080000  0x00000800  +\n0x00080800  0x0002B800  ?\n0x000AC000  0x00000800  +\n0x000AC800  0x0007F800  ?\n0x0012C000  0x00000800  +\n";
+        b"# Mapfile. Created by udfsalvage 0.1.0\n# Blocks to read again, for ddrescue -m: not the mapfile of a pass\n0x00000000     +               1\n0x00000000  0x00080000  ?\n0x00080000  0x00000800  +\n0x00080800  0x0002B800  ?\n0x000AC000  0x00000800  +\n0x000AC800  0x0007F800  ?\n0x0012C000  0x00000800  +\n";
     assert!(rt; empty.has("m", anchors));
     Ok(())
 }
 
-/// No file but a mapfile is written over, and no image or mapfile of the inputs; no input is read then.
+/// What `reread` writes of a disc of which all is known.
+const NOTHING_WANTED: &[u8] =
+    b"# Mapfile. Created by udfsalvage 0.1.0\n# Blocks to read again, for ddrescue -m: not the mapfile of a pass\n0x00000000     +               1\n0x00000000  0x0012C800  ?\n";
+
+/// No file but a map of blocks to read again is written over, no mapfile of a pass, and no image or mapfile of the inputs; no input is read then.
 #[test]
 fn what_a_mapfile_is_not_written_over(rt: HostRuntime) -> Result<(), Fail> {
     let alloc = rt.alloc();
     let table = Disc::type1(alloc)?.known_but(alloc, &[])?;
-    let map = b"# Mapfile. Created by GNU ddrescue\n0 + 1\n";
     for (words, line) in [
         (
             "reread --last 600 --mapfile disc.tab disc.tab",
@@ -148,11 +153,23 @@ fn what_a_mapfile_is_not_written_over(rt: HostRuntime) -> Result<(), Fail> {
             "udfsalvage: cannot write output\n",
         ),
         (
+            "reread --last 600 --mapfile p.map disc.tab",
+            "udfsalvage: cannot write output\n",
+        ),
+        (
+            "reread --last 600 --mapfile image.map disc.tab",
+            "udfsalvage: cannot write output\n",
+        ),
+        (
             "reread --last 600 --mapfile p.map disc.tab --ddrescue p.img p.map",
             "udfsalvage: cannot write output\n",
         ),
         (
             "reread --last 600 --mapfile p.img disc.tab --ddrescue p.img p.map",
+            "udfsalvage: cannot write output\n",
+        ),
+        (
+            "reread --last 600 --mapfile old.map disc.tab --ddrescue p.img old.map",
             "udfsalvage: cannot write output\n",
         ),
         (
@@ -164,21 +181,73 @@ fn what_a_mapfile_is_not_written_over(rt: HostRuntime) -> Result<(), Fail> {
             "udfsalvage: fault 1 LastRange\n",
         ),
     ] {
-        let mut memory = with_table(alloc, &table)?;
-        memory.store("p.img", b"x")?;
-        memory.store("p.map", map)?;
-        memory.store("note", b"# Mapfile. Created b")?;
+        let mut memory = with_maps(alloc, &table)?;
         let ran = ran(alloc, &mut memory, words)?;
         assert!(rt; ran.is_refused(line), "{words}: {ran:?}");
         assert_eq!(rt; memory.calls(), 0, "{words}");
     }
-    let mut memory = with_table(alloc, &table)?;
-    memory.store("p.map", map)?;
+    let mut memory = with_maps(alloc, &table)?;
     let over = ran(
         alloc,
         &mut memory,
-        "reread --last 600 --mapfile p.map disc.tab",
+        "reread --last 600 --mapfile old.map disc.tab",
     )?;
     assert_eq!(rt; over.status, 0, "{over:?}");
+    assert!(rt; memory.has("old.map", NOTHING_WANTED));
+    Ok(())
+}
+
+/// A table, an image with mapfiles of a pass, one that `image` wrote, an older map of blocks to read again, and the front of one.
+fn with_maps(alloc: Global, table: &BlockTable) -> Result<Memory, Fail> {
+    let mut memory = with_table(alloc, table)?;
+    memory.store("p.img", b"x")?;
+    memory.store("p.map", b"# Mapfile. Created by GNU ddrescue\n0 + 1\n")?;
+    memory.store(
+        "image.map",
+        b"# Mapfile. Created by udfsalvage 0.1.0\n0x00000000     +               1\n0x00000000  0x0012C800  +\n",
+    )?;
+    memory.store(
+        "old.map",
+        b"# Mapfile. Created by udfsalvage 0.1.0\n# Blocks to read again, for ddrescue -m: not the mapfile of a pass\n0x00000000     +               1\n0x00000000  0x00000800  +\n",
+    )?;
+    memory.store(
+        "note",
+        b"# Mapfile. Created by udfsalvage 0.1.0\n# Blocks to read again, for ddrescue -m: not the mapfile of a pass",
+    )?;
+    Ok(memory)
+}
+
+/// What `reread` wrote counts for no pass: what it marks `+` was not read.
+#[test]
+fn blocks_to_read_again_are_no_pass(rt: HostRuntime) -> Result<(), Fail> {
+    let alloc = rt.alloc();
+    let table = Disc::type1(alloc)?.known_but(alloc, &[278])?;
+    let mut memory = with_table(alloc, &table)?;
+    memory.store("p.img", &[0; 4096])?;
+    let wrote = ran(
+        alloc,
+        &mut memory,
+        "reread --last 600 --mapfile want.map disc.tab",
+    )?;
+    assert_eq!(rt; wrote.status, 1, "{wrote:?}");
+    let calls = memory.calls();
+    for (words, lines) in [
+        (
+            "merge --out t.tab --ddrescue p.img want.map",
+            "udfsalvage: input 1: mapfile line 2: blocks to read again, not a pass\n",
+        ),
+        (
+            "report -v --last 600 disc.tab --ddrescue p.img want.map",
+            "udfsalvage: input 2: mapfile line 2: blocks to read again, not a pass\n  want.map lists blocks that are to be read: take the mapfile that ddrescue wrote of p.img\n",
+        ),
+        (
+            "extract --last 600 --to out --ddrescue p.img want.map",
+            "udfsalvage: input 1: mapfile line 2: blocks to read again, not a pass\n",
+        ),
+    ] {
+        let ran = ran(alloc, &mut memory, words)?;
+        assert!(rt; ran.is_refused(lines), "{words}: {ran:?}");
+        assert_eq!(rt; memory.calls(), calls, "{words}");
+    }
     Ok(())
 }

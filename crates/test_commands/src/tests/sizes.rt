@@ -1,7 +1,7 @@
 //! The last block by the size of the disc. The sample's last block is 600, so it has 1,230,848 bytes.
 
-use super::memory::{ran, with_table};
 use std::test::Fail;
+use test_runs::{ran, with_table};
 use udfs_samples::Disc;
 
 #[test]

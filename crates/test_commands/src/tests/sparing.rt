@@ -1,8 +1,8 @@
 //! What `merge` does not write over.
 
-use super::memory::{Memory, passes, ran, reading, table};
 use std::alloc::{AllocError, Global};
 use std::test::Fail;
+use test_runs::{Memory, passes, ran, reading, table};
 
 const MAP: &[u8] = b"# GNU ddrescue\n0x0 + 1\n0 0x800 +\n";
 

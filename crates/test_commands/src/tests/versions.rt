@@ -1,8 +1,8 @@
 //! Which version of the table file is written.
 
-use super::memory::{Memory, header, number, passes, ran};
 use std::alloc::{AllocError, Global};
 use std::test::Fail;
+use test_runs::{Memory, header, number, passes, ran};
 use udfs_samples::{Disc, LAST};
 
 /// Block 300 in conflict alone: bit 12 of packet 9.

@@ -1,7 +1,7 @@
 //! The words of the command line.
 
-use super::memory::{Memory, passes, ran};
 use std::test::Fail;
+use test_runs::{Memory, passes, ran};
 use udfs_commands::refuse_words;
 use udfs_reading::Writer;
 

@@ -138,6 +138,76 @@ fn faults(rt: HostRuntime) -> Result<(), Fail> {
     Ok(())
 }
 
+/// A line that is the comment of a list of blocks to read again is a fault wherever it stands; a line that only has it in it is a comment.
+#[test]
+fn marks(rt: HostRuntime) -> Result<(), Fail> {
+    let not_pass = MapFault::NotPass;
+    assert!(rt;
+        is_fault(
+            rt,
+            b"# c\n# Blocks to read again, for ddrescue -m: not the mapfile of a pass\n0 + 1\n",
+            2,
+            not_pass
+        ),
+        "as it is written"
+    );
+    assert!(rt;
+        is_fault(
+            rt,
+            b"0 +\r\n0 2048 +\r\n# Blocks to read again, for ddrescue -m: not the mapfile of a pass\r\n",
+            3,
+            not_pass
+        ),
+        "CR LF, and behind the runs"
+    );
+    assert!(rt;
+        is_fault(
+            rt,
+            b"# Blocks to read again, for ddrescue -m: not the mapfile of a pass",
+            1,
+            not_pass
+        ),
+        "without a line feed"
+    );
+    assert!(rt;
+        is_fault(
+            rt,
+            b"0 x\n# Blocks to read again, for ddrescue -m: not the mapfile of a pass\n",
+            1,
+            MapFault::NotStatusLine
+        ),
+        "an earlier fault"
+    );
+    assert!(rt;
+        is_range(
+            rt,
+            b"# Blocks to read again, for ddrescue -m: not the mapfile of a pass.\n0 +\n0 2048 +\n",
+            0,
+            1
+        ),
+        "a byte more"
+    );
+    assert!(rt;
+        is_range(
+            rt,
+            b"# Blocks to read again, for ddrescue -m: not the mapfile of a pas\n0 +\n0 2048 +\n",
+            0,
+            1
+        ),
+        "a byte less"
+    );
+    assert!(rt;
+        is_range(
+            rt,
+            b" # Blocks to read again, for ddrescue -m: not the mapfile of a pass\n0 +\n0 2048 +\n",
+            0,
+            1
+        ),
+        "a blank in front"
+    );
+    Ok(())
+}
+
 /// A text of 127 bytes is a line, and one of 128 is none; comments and blanks in front do not count.
 #[test]
 fn long_lines(rt: HostRuntime) -> Result<(), Fail> {

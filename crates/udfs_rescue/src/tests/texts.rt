@@ -3,7 +3,7 @@
 ghost use Rattle.std.specs.Prelude.{ℕ, ◌≤◌, List, Option, None};
 ghost use Rattle.std.specs.List.Sorted.{IsNonDecreasing};
 
-use crate::{BlockRange, KnownBlocks, Mapfile, write_domain, write_image_map};
+use crate::{BlockRange, KnownBlocks, MapError, MapFault, Mapfile, write_domain, write_image_map};
 use std::test::Fail;
 use udfs_lattice::{BlockTable, Fact};
 use udfs_reading::{DeviceFault, Reader, Sink, Writer};
@@ -27,6 +27,7 @@ fn domains(rt: HostRuntime) -> Result<(), Fail> {
             599,
             b"\
 # Mapfile. Created by udfsalvage 0.1.0
+# Blocks to read again, for ddrescue -m: not the mapfile of a pass
 0x00000000     +               1
 0x00000000  0x0012C000  ?
 "
@@ -40,6 +41,7 @@ fn domains(rt: HostRuntime) -> Result<(), Fail> {
             599,
             b"\
 # Mapfile. Created by udfsalvage 0.1.0
+# Blocks to read again, for ddrescue -m: not the mapfile of a pass
 0x00000000     +               1
 0x00000000  0x00001800  ?
 0x00001800  0x00000800  +
@@ -55,6 +57,7 @@ fn domains(rt: HostRuntime) -> Result<(), Fail> {
             599,
             b"\
 # Mapfile. Created by udfsalvage 0.1.0
+# Blocks to read again, for ddrescue -m: not the mapfile of a pass
 0x00000000     +               1
 0x00000000  0x00001800  ?
 0x00001800  0x00001000  +
@@ -72,6 +75,7 @@ fn domains(rt: HostRuntime) -> Result<(), Fail> {
             599,
             b"\
 # Mapfile. Created by udfsalvage 0.1.0
+# Blocks to read again, for ddrescue -m: not the mapfile of a pass
 0x00000000     +               1
 0x00000000  0x00000800  +
 0x00000800  0x0012B000  ?
@@ -87,6 +91,7 @@ fn domains(rt: HostRuntime) -> Result<(), Fail> {
             0,
             b"\
 # Mapfile. Created by udfsalvage 0.1.0
+# Blocks to read again, for ddrescue -m: not the mapfile of a pass
 0x00000000     +               1
 0x00000000  0x00000800  +
 "
@@ -104,6 +109,7 @@ fn positions_of_nine_digits(rt: HostRuntime) -> Result<(), Fail> {
             2_097_153,
             b"\
 # Mapfile. Created by udfsalvage 0.1.0
+# Blocks to read again, for ddrescue -m: not the mapfile of a pass
 0x00000000     +               1
 0x00000000  0xFFFFF800  ?
 0xFFFFF800  0x00001000  +
@@ -151,6 +157,35 @@ fn a_table_of_all_states(rt: HostRuntime) -> Result<(), Fail> {
             ]
             .as_slice()
     );
+    Ok(())
+}
+
+/// The map of wanted blocks is no pass; without its second line it makes the wanted blocks known.
+#[test]
+fn a_domain_is_no_pass(rt: HostRuntime) -> Result<(), Fail> {
+    let mut sink = Writer::new(Vec::new(rt.alloc()));
+    assert!(rt; write_domain(&[3, 4], 599, &mut sink).is_ok());
+    let text = sink.into_inner();
+    match Mapfile::read(rt.alloc(), &mut Reader::new(text.as_slice())) {
+        Err(MapError::Line(found)) => {
+            assert!(rt; found.line == 2 && found.fault == MapFault::NotPass);
+            assert_eq!(rt;
+                found.to_string(rt.alloc())?.as_str(),
+                "mapfile line 2: blocks to read again, not a pass"
+            );
+        }
+        _ => assert!(rt; false),
+    }
+    let pass = b"\
+# Mapfile. Created by udfsalvage 0.1.0
+0x00000000     +               1
+0x00000000  0x00001800  ?
+0x00001800  0x00001000  +
+0x00002800  0x00129800  ?
+";
+    let map = Mapfile::read(rt.alloc(), &mut Reader::new(pass.as_slice()))?;
+    let known = KnownBlocks::of_map(rt.alloc(), &map)?;
+    assert!(rt; known.ranges() == [BlockRange { start: 3, end: 5 }].as_slice());
     Ok(())
 }
 

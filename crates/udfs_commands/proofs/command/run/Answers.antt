@@ -391,3 +391,51 @@ returns-in-Some-obey-clause-listed g c = λ taken asks some.
     let named : IsAsked words (codes "extract") found = subst (λ (n : List ℕ). IsAsked words n found) is ask in
     let said = done c.in-Some-obey.outcome c.finish.result _ c.finish.ensures.done c.finish.ensures.refused some (c.in-Some-obey.ensures.listed is) in
     (said.0, said.1, found, named, said.2)
+
+pub returns-in-Err-try_get_matches_from-clause-lost : goal.returns-in-Err-try_get_matches_from-clause-lost
+returns-in-Err-try_get_matches_from-clause-lost g c = λ taken asks some.
+    absurd (some (c.show.ensures.memory (c.in-Err-try_get_matches_from.ensures.passes (ap (λ (a : App). takes a (map string_bytes c.args.words.now)) (c.in-Ok.ensures ∙ ap program_app c.given_in.ensures) ∙ taken))))
+
+pub returns-in-Some-obey-clause-lost : goal.returns-in-Some-obey-clause-lost
+returns-in-Some-obey-clause-lost g c = λ taken asks some.
+    let words = map string_bytes c.args.words.now in
+    let found = found_of c.in-Some.found.1.now in
+    let ask : IsAsked words c.in-Some.found.0.now found = asked c.in-Ok-try_get_matches_from.matches words c.in-Some.found.0.now found
+    (subst (λ (a : App). HasMatchesOf a words c.in-Ok-try_get_matches_from.matches) (c.in-Ok.ensures ∙ ap program_app c.given_in.ensures) c.in-Ok-try_get_matches_from.ensures.matches)
+    c.in-Some.ensures.name c.in-Some.ensures.rows in
+    let is : c.in-Some.found.0.now ≡ codes "extract" = only_name words c.in-Some.found.0.now (codes "extract") found asks ask in
+    let named : IsAsked words (codes "extract") found = subst (λ (n : List ℕ). IsAsked words n found) is ask in
+    let said = done c.in-Some-obey.outcome c.finish.result _ c.finish.ensures.done c.finish.ensures.refused some (c.in-Some-obey.ensures.lost is) in
+    (said.0, said.1, found, named, said.2)
+
+pub returns-in-Err-try_get_matches_from-clause-listed_lost : goal.returns-in-Err-try_get_matches_from-clause-listed_lost
+returns-in-Err-try_get_matches_from-clause-listed_lost g c = λ taken asks some.
+    absurd (some (c.show.ensures.memory (c.in-Err-try_get_matches_from.ensures.passes (ap (λ (a : App). takes a (map string_bytes c.args.words.now)) (c.in-Ok.ensures ∙ ap program_app c.given_in.ensures) ∙ taken))))
+
+pub returns-in-Some-obey-clause-listed_lost : goal.returns-in-Some-obey-clause-listed_lost
+returns-in-Some-obey-clause-listed_lost g c = λ taken asks some.
+    let words = map string_bytes c.args.words.now in
+    let found = found_of c.in-Some.found.1.now in
+    let ask : IsAsked words c.in-Some.found.0.now found = asked c.in-Ok-try_get_matches_from.matches words c.in-Some.found.0.now found
+    (subst (λ (a : App). HasMatchesOf a words c.in-Ok-try_get_matches_from.matches) (c.in-Ok.ensures ∙ ap program_app c.given_in.ensures) c.in-Ok-try_get_matches_from.ensures.matches)
+    c.in-Some.ensures.name c.in-Some.ensures.rows in
+    let is : c.in-Some.found.0.now ≡ codes "extract" = only_name words c.in-Some.found.0.now (codes "extract") found asks ask in
+    let named : IsAsked words (codes "extract") found = subst (λ (n : List ℕ). IsAsked words n found) is ask in
+    let said = done c.in-Some-obey.outcome c.finish.result _ c.finish.ensures.done c.finish.ensures.refused some (c.in-Some-obey.ensures.listed_lost is) in
+    (said.0, said.1, found, named, said.2)
+
+pub returns-in-Err-try_get_matches_from-clause-free_lost : goal.returns-in-Err-try_get_matches_from-clause-free_lost
+returns-in-Err-try_get_matches_from-clause-free_lost g c = λ taken asks some.
+    absurd (some (c.show.ensures.memory (c.in-Err-try_get_matches_from.ensures.passes (ap (λ (a : App). takes a (map string_bytes c.args.words.now)) (c.in-Ok.ensures ∙ ap program_app c.given_in.ensures) ∙ taken))))
+
+pub returns-in-Some-obey-clause-free_lost : goal.returns-in-Some-obey-clause-free_lost
+returns-in-Some-obey-clause-free_lost g c = λ taken asks some.
+    let words = map string_bytes c.args.words.now in
+    let found = found_of c.in-Some.found.1.now in
+    let ask : IsAsked words c.in-Some.found.0.now found = asked c.in-Ok-try_get_matches_from.matches words c.in-Some.found.0.now found
+    (subst (λ (a : App). HasMatchesOf a words c.in-Ok-try_get_matches_from.matches) (c.in-Ok.ensures ∙ ap program_app c.given_in.ensures) c.in-Ok-try_get_matches_from.ensures.matches)
+    c.in-Some.ensures.name c.in-Some.ensures.rows in
+    let is : c.in-Some.found.0.now ≡ codes "extract" = only_name words c.in-Some.found.0.now (codes "extract") found asks ask in
+    let named : IsAsked words (codes "extract") found = subst (λ (n : List ℕ). IsAsked words n found) is ask in
+    let said = done c.in-Some-obey.outcome c.finish.result _ c.finish.ensures.done c.finish.ensures.refused some (c.in-Some-obey.ensures.free_lost is) in
+    (said.0, said.1, found, named, said.2)

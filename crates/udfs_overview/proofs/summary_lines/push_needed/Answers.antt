@@ -11,6 +11,9 @@ returns c =
     let old = string_bytes c.args.text.now in
     let first = counted t.not_known (codes " not known, of which ") in
     let second = counted t.needed (codes " are needed (") in
-    last_appended c.push_counted-3.result old (string_bytes c.push_counted-2.new.text) (string_bytes c.push_counted-3.new.text) (first ++ second) (counted t.runs (codes " runs)   "))
+    let third = counted t.runs (codes " runs)   ") in
+    last_appended c.push_counted-4.result old (string_bytes c.push_counted-3.new.text) (string_bytes c.push_counted-4.new.text) (first ++ second ++ third) (counted t.conflicts (codes " in conflict\n"))
+    (both_appended old (string_bytes c.push_counted-2.new.text) (string_bytes c.push_counted-3.new.text) (first ++ second) third
     (both_appended old (string_bytes c.push_counted.new.text) (string_bytes c.push_counted-2.new.text) first second c.in_ok-push_counted.ensures c.in_ok-push_counted-2.ensures)
-    c.push_counted-3.ensures
+    c.in_ok-push_counted-3.ensures)
+    c.push_counted-4.ensures

@@ -1,0 +1,13 @@
+//! What the commands tell of volumes, over files in memory. What is expected comes from the formats' description, byte by byte.
+
+mod extracting;
+mod hostile;
+mod json;
+mod listing;
+mod manifests;
+mod only;
+mod paging;
+mod profiles;
+mod reporting;
+mod summing;
+mod unnamed;

@@ -1,0 +1,4 @@
+//! What is expected comes from the formats' description, byte by byte.
+
+mod overview;
+mod reports;

@@ -1,0 +1,182 @@
+//! What is counted for the summary, over sample volumes, and its lines.
+
+use std::test::Fail;
+use udfs_overview::{
+    DiscTally, Tally, UnnamedTally, count_disc, count_nodes, count_unnamed, push_disc, push_files,
+    push_others, push_unnamed,
+};
+use udfs_salvage::survey_volume;
+use udfs_samples::{Disc, LAST};
+
+/// The blocks that are not known of the volume with one map, and what is counted: whole and torn files with their bytes and
+/// what of these is lost, nodes that were not read, whole and torn folders; needed blocks and runs; files without a name.
+#[test]
+fn counts(rt: HostRuntime) -> Result<(), Fail> {
+    let alloc = rt.alloc();
+    let cases: [(&[u32], [usize; 5], [u128; 3], [usize; 2], [usize; 2]); 6] = [
+        (&[], [2, 0, 0, 1, 0], [5002, 0, 0], [0, 0], [0, 0]),
+        (&[278], [1, 1, 0, 1, 0], [2, 5000, 2048], [1, 1], [0, 0]),
+        (
+            &[277, 279],
+            [1, 1, 0, 1, 0],
+            [2, 5000, 2952],
+            [2, 2],
+            [0, 0],
+        ),
+        (
+            &[278, 279],
+            [1, 1, 0, 1, 0],
+            [2, 5000, 2952],
+            [2, 1],
+            [0, 0],
+        ),
+        (&[275], [1, 0, 1, 1, 0], [2, 0, 0], [1, 1], [0, 0]),
+        // the root is torn, and no name leads to the files
+        (&[274], [0, 0, 0, 0, 1], [0, 0, 0], [1, 1], [2, 0]),
+    ];
+    for (unread, nodes, bytes, needed, unnamed) in cases {
+        let table = Disc::type1(alloc)?.known_but(alloc, unread)?;
+        let survey = survey_volume(alloc, &table, LAST)?;
+        let tally = count_nodes(alloc, &survey)?;
+        assert_eq!(rt;
+            [
+                tally.whole_files,
+                tally.torn_files,
+                tally.unread,
+                tally.whole_folders,
+                tally.torn_folders,
+            ],
+            nodes
+        );
+        assert_eq!(rt;
+            [tally.whole_bytes, tally.torn_bytes, tally.lost_bytes],
+            bytes
+        );
+        assert_eq!(rt; [tally.others, tally.faulty, tally.loops], [0, 0, 0]);
+        let disc = count_disc(&survey);
+        assert_eq!(rt; [disc.needed, disc.runs], needed);
+        assert_eq!(rt; disc.not_known, unread.len() as u64);
+        assert!(rt; disc.not_known.checked_add(u64::from(disc.known)) == Some(601));
+        assert_eq!(rt; disc.conflicts, 0);
+        let entries = count_unnamed(&survey);
+        assert_eq!(rt; [entries.with_data, entries.empty], unnamed);
+    }
+    Ok(())
+}
+
+/// A directory that lies in itself.
+#[test]
+fn a_loop_is_counted(rt: HostRuntime) -> Result<(), Fail> {
+    let alloc = rt.alloc();
+    let mut disc = Disc::type1(alloc)?;
+    disc.write(&[(274, 64, &[1])])?;
+    let table = disc.known_but(alloc, &[])?;
+    let survey = survey_volume(alloc, &table, LAST)?;
+    let tally = count_nodes(alloc, &survey)?;
+    assert_eq!(rt; [tally.others, tally.faulty, tally.loops], [0, 0, 1]);
+    assert_eq!(rt; [tally.whole_files, tally.whole_folders], [1, 1]);
+    Ok(())
+}
+
+#[test]
+fn a_block_in_conflict_is_counted(rt: HostRuntime) -> Result<(), Fail> {
+    let alloc = rt.alloc();
+    let mut table = Disc::type1(alloc)?.known_but(alloc, &[])?;
+    table.put(590, &[1; 2048])?;
+    let survey = survey_volume(alloc, &table, LAST)?;
+    let blocks = count_disc(&survey);
+    assert_eq!(rt; [blocks.known, blocks.conflicts], [600, 1]);
+    assert_eq!(rt; blocks.not_known, 0);
+    Ok(())
+}
+
+#[test]
+fn a_fault_is_counted(rt: HostRuntime) -> Result<(), Fail> {
+    let alloc = rt.alloc();
+    let mut disc = Disc::two_maps(alloc)?;
+    disc.write(&[(274, 108, &[2])])?;
+    let table = disc.known_but(alloc, &[])?;
+    let survey = survey_volume(alloc, &table, LAST)?;
+    let tally = count_nodes(alloc, &survey)?;
+    assert_eq!(rt; [tally.others, tally.faulty, tally.loops], [0, 1, 0]);
+    Ok(())
+}
+
+#[test]
+fn lines(rt: HostRuntime) -> Result<(), Fail> {
+    let tally = Tally {
+        whole_files: 287,
+        whole_bytes: 888_800,
+        torn_files: 15,
+        torn_bytes: 1_700_000,
+        lost_bytes: 149_700,
+        unread: 30,
+        whole_folders: 51,
+        torn_folders: 1,
+        others: 7,
+        faulty: 2,
+        loops: 0,
+    };
+    let disc = DiscTally {
+        known: 4639,
+        not_known: 481,
+        conflicts: 0,
+        needed: 108,
+        needed_in_conflict: 0,
+        runs: 43,
+    };
+    let unnamed = UnnamedTally {
+        with_data: 75,
+        empty: 159,
+    };
+    let mut text = String::new(rt.alloc());
+    push_files(&mut text, &tally)?;
+    push_others(&mut text, &tally)?;
+    push_unnamed(&mut text, &unnamed)?;
+    push_disc(&mut text, &disc)?;
+    assert_eq!(rt;
+        text.as_str(),
+        "Files      287 whole (888.8 kB)   15 torn (149.7 kB of 1.7 MB lost)   30 not yet known\nOther      7 links and devices   2 with faults   0 loops\nNo name    75 whole files with data, 159 empty\nDisc       4,639 known   481 not known, of which 108 are needed (43 runs)   0 in conflict\n"
+    );
+    Ok(())
+}
+
+/// A line whose figures are all 0 is left out, but for those of the files and of the blocks.
+#[test]
+fn lines_of_nothing(rt: HostRuntime) -> Result<(), Fail> {
+    let tally = Tally {
+        whole_files: 0,
+        whole_bytes: 0,
+        torn_files: 0,
+        torn_bytes: 0,
+        lost_bytes: 0,
+        unread: 0,
+        whole_folders: 0,
+        torn_folders: 0,
+        others: 0,
+        faulty: 0,
+        loops: 0,
+    };
+    let disc = DiscTally {
+        known: 0,
+        not_known: 5120,
+        conflicts: 0,
+        needed: 0,
+        needed_in_conflict: 0,
+        runs: 0,
+    };
+    let unnamed = UnnamedTally {
+        with_data: 0,
+        empty: 0,
+    };
+    let mut text = String::new(rt.alloc());
+    push_files(&mut text, &tally)?;
+    push_others(&mut text, &tally)?;
+    push_unnamed(&mut text, &unnamed)?;
+    push_disc(&mut text, &disc)?;
+    assert_eq!(rt;
+        text.as_str(),
+        "Files      0 whole (0 B)   0 torn (0 B of 0 B lost)   0 not yet known\nDisc       0 known   5,120 not known, of which 0 are needed (0 runs)   0 in conflict\n"
+    );
+    Ok(())
+}

@@ -1,7 +1,0 @@
-//! Reports of sample volumes, printed and extracted, over sinks and memory that stop half way.
-
-mod every_table;
-mod extraction;
-mod json;
-mod profiles;
-mod text;
