@@ -65,7 +65,11 @@ fn a_fault_in_words(rt: HostRuntime) -> Result<(), Fail> {
     let table = Disc::blank(alloc).known_but(alloc, &[])?;
     assert_eq!(rt;
         summed_up(alloc, &table)?.as_str(),
-        "does not open: there is no anchor\nDisc       601 known   0 not known, of which 0 are needed (0 runs)   0 in conflict\n"
+        concat!(
+            "does not open: there is no anchor\n",
+            "Disc       601 known   0 not known, of which 0 are needed (0 runs)   0 in conflict\n",
+            "Next       no block to read again helps: man udfsalvage says what this fault means\n",
+        )
     );
     Ok(())
 }
