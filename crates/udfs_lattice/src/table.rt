@@ -395,6 +395,31 @@ mod tests {
         Ok(())
     }
 
+    #[test]
+    fn unknown_blocks_to_the_end_of_a_packet(rt: HostRuntime) -> Result<(), Fail> {
+        let mut table = BlockTable::new(rt.alloc());
+        table.put(70, &[0x61; 2048])?;
+        table.add(95, Fact::Conflict)?;
+        for (n, want) in [
+            (0, 32),
+            (31, 1),
+            (32, 32),
+            (64, 6),
+            (69, 1),
+            (70, 0),
+            (71, 24),
+            (94, 1),
+            (95, 0),
+            (LAST_BLOCK, 1),
+            (u32::MAX, 1),
+        ] {
+            assert_eq!(rt; table.unknown_ahead(n), want, "{n}");
+        }
+        table.forget(70);
+        assert_eq!(rt; table.unknown_ahead(64), 31);
+        Ok(())
+    }
+
     /// Whether `now` lies between the old state and the one that the join gives.
     fn is_between(
         old: Fact<&[u8; 2048]>,

@@ -14,7 +14,7 @@ pub returns-clause-end : goal.returns-clause-end
 returns-clause-end c = ⊎_elim
     inl
     (λ h. ⊎_elim
-        (λ near. inr (λ z. h (sym (state_beside c.self.inside.packets c.args.self.now c.args.n c.unknown_from.result c.in-Some.packet.now c.self.invariant c.self.view_is c.in-Some.ensures.value near) ∙ z)))
-        (λ far. inl (omega (arith, far, c.unknown_from.ensures.most)))
-        (cases_lt (c.args.n % 32 + c.unknown_from.result) 32))
+    (λ near. inr (λ z. h (sym (state_beside c.self.inside.packets c.args.self.now c.args.n c.unknown_from.result c.in-Some.packet.now c.self.invariant c.self.view_is c.in-Some.ensures.value near) ∙ z)))
+    (λ far. inl (omega (arith, far, c.unknown_from.ensures.most)))
+    (cases_lt (c.args.n % 32 + c.unknown_from.result) 32))
     c.unknown_from.ensures.end
