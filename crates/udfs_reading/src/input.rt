@@ -15,6 +15,7 @@ use crate::device::Source;
 use crate::error::{ReadingError, ReadingFault};
 use crate::field::read_magic;
 use crate::header::{names_packets, names_reading, names_table};
+use crate::taker::Taker;
 use crate::window::Window;
 use crate::{packet_file, reading, table_file};
 use std::alloc::Global;
@@ -28,13 +29,13 @@ pub enum Accepted {
     All,
 }
 
-/// Reads a reading to the end of the source, and joins its table to the table.
-fn join_reading<R: Source>(
+/// Reads a reading to the end of the source, and hands its blocks to the taker.
+fn join_reading<R: Source, T: Taker>(
     source: &mut R,
     window: &mut Window,
-    table: &mut BlockTable,
+    taker: &mut T,
 ) -> Result<(), ReadingError>
-    ensures ok { OnOk result (Takes readings [] (left window.old (R.remaining source.old)) (left window.new (R.remaining source.new)) table.old table.new) }
+    ensures ok { OnOk result (Takes readings [] (left window.old (R.remaining source.old)) (left window.new (R.remaining source.new)) (T.table taker.old) (T.table taker.new)) }
     ensures count { OnOk result (R.faults source.new ≡ R.faults source.old) }
     ensures err { IfErr result (λ e. Ends readings [] (left window.old (R.remaining source.old)) (left window.new (R.remaining source.new))
         (R.faults source.old) (R.faults source.new) e) }
@@ -43,7 +44,7 @@ fn join_reading<R: Source>(
 {
     let magic = read_magic(source, window)?;
     if names_reading(&magic) {
-        reading::read_body(source, window, table)?;
+        reading::read_body(source, window, taker)?;
         return Ok(());
     }
     Err(ReadingError {
@@ -52,13 +53,13 @@ fn join_reading<R: Source>(
     })
 }
 
-/// Reads a table file of either version to the end of the source, and joins its table to the table.
-fn join_table<R: Source>(
+/// Reads a table file of either version to the end of the source, and hands its blocks to the taker.
+fn join_table<R: Source, T: Taker>(
     source: &mut R,
     window: &mut Window,
-    table: &mut BlockTable,
+    taker: &mut T,
 ) -> Result<(), ReadingError>
-    ensures ok { OnOk result (Takes tables [] (left window.old (R.remaining source.old)) (left window.new (R.remaining source.new)) table.old table.new) }
+    ensures ok { OnOk result (Takes tables [] (left window.old (R.remaining source.old)) (left window.new (R.remaining source.new)) (T.table taker.old) (T.table taker.new)) }
     ensures count { OnOk result (R.faults source.new ≡ R.faults source.old) }
     ensures err { IfErr result (λ e. Ends tables [] (left window.old (R.remaining source.old)) (left window.new (R.remaining source.new))
         (R.faults source.old) (R.faults source.new) e) }
@@ -67,11 +68,11 @@ fn join_table<R: Source>(
 {
     let magic = read_magic(source, window)?;
     if names_table(&magic) {
-        table_file::read_body(source, window, table)?;
+        table_file::read_body(source, window, taker)?;
         return Ok(());
     }
     if names_packets(&magic) {
-        packet_file::read_body(source, window, table)?;
+        packet_file::read_body(source, window, taker)?;
         return Ok(());
     }
     Err(ReadingError {
@@ -80,13 +81,13 @@ fn join_table<R: Source>(
     })
 }
 
-/// Reads a file of any kind to the end of the source, and joins its table to the table.
-pub fn join_any<R: Source>(
+/// Reads a file of any kind to the end of the source, and hands its blocks to the taker.
+pub fn join_any<R: Source, T: Taker>(
     source: &mut R,
     window: &mut Window,
-    table: &mut BlockTable,
+    taker: &mut T,
 ) -> Result<(), ReadingError>
-    ensures ok { OnOk result (Takes inputs [] (left window.old (R.remaining source.old)) (left window.new (R.remaining source.new)) table.old table.new) }
+    ensures ok { OnOk result (Takes inputs [] (left window.old (R.remaining source.old)) (left window.new (R.remaining source.new)) (T.table taker.old) (T.table taker.new)) }
     ensures count { OnOk result (R.faults source.new ≡ R.faults source.old) }
     ensures err { IfErr result (λ e. Ends inputs [] (left window.old (R.remaining source.old)) (left window.new (R.remaining source.new))
         (R.faults source.old) (R.faults source.new) e) }
@@ -95,15 +96,15 @@ pub fn join_any<R: Source>(
 {
     let magic = read_magic(source, window)?;
     if names_reading(&magic) {
-        reading::read_body(source, window, table)?;
+        reading::read_body(source, window, taker)?;
         return Ok(());
     }
     if names_table(&magic) {
-        table_file::read_body(source, window, table)?;
+        table_file::read_body(source, window, taker)?;
         return Ok(());
     }
     if names_packets(&magic) {
-        packet_file::read_body(source, window, table)?;
+        packet_file::read_body(source, window, taker)?;
         return Ok(());
     }
     Err(ReadingError {
@@ -112,14 +113,14 @@ pub fn join_any<R: Source>(
     })
 }
 
-/// Reads a file that is accepted to the end of the source, and joins its table to the table.
-fn join_accepted<R: Source>(
+/// Reads a file that is accepted to the end of the source, and hands its blocks to the taker.
+fn join_accepted<R: Source, T: Taker>(
     source: &mut R,
     window: &mut Window,
     which: Accepted,
-    table: &mut BlockTable,
+    taker: &mut T,
 ) -> Result<(), ReadingError>
-    ensures ok { OnOk result (Takes (kind_accepted which) [] (left window.old (R.remaining source.old)) (left window.new (R.remaining source.new)) table.old table.new) }
+    ensures ok { OnOk result (Takes (kind_accepted which) [] (left window.old (R.remaining source.old)) (left window.new (R.remaining source.new)) (T.table taker.old) (T.table taker.new)) }
     ensures count { OnOk result (R.faults source.new ≡ R.faults source.old) }
     ensures err { IfErr result (λ e. Ends (kind_accepted which) [] (left window.old (R.remaining source.old)) (left window.new (R.remaining source.new))
         (R.faults source.old) (R.faults source.new) e) }
@@ -127,9 +128,9 @@ fn join_accepted<R: Source>(
     ensures done { OnOk result (window.new ≡ []) }
 {
     match which {
-        Accepted::Readings => join_reading(source, window, table),
-        Accepted::Tables => join_table(source, window, table),
-        Accepted::All => join_any(source, window, table),
+        Accepted::Readings => join_reading(source, window, taker),
+        Accepted::Tables => join_table(source, window, taker),
+        Accepted::All => join_any(source, window, taker),
     }
 }
 
