@@ -1,13 +1,14 @@
 //! One input: a reading, a table file of either version, or any of them, told by its first eight bytes.
 
-ghost use Rattle.std.specs.Prelude.{◌≡◌, ◌≢◌, ◌↔◌, ℕ, List, [], OnOk, IfOk, IfErr, IfSome, IsErrAnd, MatchResult};
+ghost use Rattle.std.specs.Prelude.{◌≡◌, ◌≢◌, ◌↔◌, ℕ, List, [], OnOk, IfOk, IfErr, IfSome, IsErrAnd, MatchResult, cond, false};
+ghost use Rattle.std.specs.Str.{bytes_eq};
 ghost use Rattle.udfs_reading.specs.declared.error.ReadingFault.TheVariants.{Io};
 ghost use Rattle.udfs_lattice.specs.Tables.{Table, IsTable};
 ghost use Rattle.udfs_reading.specs.Device.{left};
 ghost use Rattle.udfs_reading.specs.Answers.{IsOfFile, GivesTable, GivesFault, TakesFile, RefusesFaulty, FailsAfter};
-ghost use Rattle.udfs_reading.specs.Inputs.{kind_accepted, tables, inputs};
+ghost use Rattle.udfs_reading.specs.Inputs.{files, kind_accepted, tables, inputs};
 ghost use Rattle.udfs_reading.specs.Outcome.{Ends, Takes, Reads, Stops};
-ghost use Rattle.udfs_reading.specs.Reading.{readings};
+ghost use Rattle.udfs_reading.specs.Reading.{magic, readings};
 ghost use Rattle.udfs_reading.specs.TableFile.{table_bytes_v1};
 ghost use Rattle.udfs_reading.specs.PacketFile.{table_bytes};
 
@@ -53,20 +54,32 @@ fn join_reading<R: Source, T: Taker>(
     })
 }
 
-/// Reads a table file of either version to the end of the source, and hands its blocks to the taker.
-fn join_table<R: Source, T: Taker>(
+/// Whether these eight bytes name a reading, and readings are accepted.
+fn names_accepted(readings: bool, bytes: &[u8; 8]) -> bool
+    ensures { result ≡ cond readings (bytes_eq bytes.now magic) false }
+{
+    readings && names_reading(bytes)
+}
+
+/// Reads a table file of either version, or a reading where these are accepted, to the end of the source, and hands its blocks to the taker.
+fn join_files<R: Source, T: Taker>(
     source: &mut R,
     window: &mut Window,
+    readings: bool,
     taker: &mut T,
 ) -> Result<(), ReadingError>
-    ensures ok { OnOk result (Takes tables [] (left window.old (R.remaining source.old)) (left window.new (R.remaining source.new)) (T.table taker.old) (T.table taker.new)) }
+    ensures ok { OnOk result (Takes (files readings) [] (left window.old (R.remaining source.old)) (left window.new (R.remaining source.new)) (T.table taker.old) (T.table taker.new)) }
     ensures count { OnOk result (R.faults source.new ≡ R.faults source.old) }
-    ensures err { IfErr result (λ e. Ends tables [] (left window.old (R.remaining source.old)) (left window.new (R.remaining source.new))
+    ensures err { IfErr result (λ e. Ends (files readings) [] (left window.old (R.remaining source.old)) (left window.new (R.remaining source.new))
         (R.faults source.old) (R.faults source.new) e) }
     ensures empty { IfErr result (λ e. e.fault ≡ Io → window.new ≡ []) }
     ensures done { OnOk result (window.new ≡ []) }
 {
     let magic = read_magic(source, window)?;
+    if names_accepted(readings, &magic) {
+        reading::read_body(source, window, taker)?;
+        return Ok(());
+    }
     if names_table(&magic) {
         table_file::read_body(source, window, taker)?;
         return Ok(());
@@ -94,23 +107,7 @@ pub fn join_any<R: Source, T: Taker>(
     ensures empty { IfErr result (λ e. e.fault ≡ Io → window.new ≡ []) }
     ensures done { OnOk result (window.new ≡ []) }
 {
-    let magic = read_magic(source, window)?;
-    if names_reading(&magic) {
-        reading::read_body(source, window, taker)?;
-        return Ok(());
-    }
-    if names_table(&magic) {
-        table_file::read_body(source, window, taker)?;
-        return Ok(());
-    }
-    if names_packets(&magic) {
-        packet_file::read_body(source, window, taker)?;
-        return Ok(());
-    }
-    Err(ReadingError {
-        fault: ReadingFault::Magic,
-        number: 0,
-    })
+    join_files(source, window, true, taker)
 }
 
 /// Reads a file that is accepted to the end of the source, and hands its blocks to the taker.
@@ -129,7 +126,7 @@ fn join_accepted<R: Source, T: Taker>(
 {
     match which {
         Accepted::Readings => join_reading(source, window, taker),
-        Accepted::Tables => join_table(source, window, taker),
+        Accepted::Tables => join_files(source, window, false, taker),
         Accepted::All => join_any(source, window, taker),
     }
 }
