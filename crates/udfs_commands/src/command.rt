@@ -62,6 +62,12 @@ const NO_MEMORY: &[u8] = b"udfsalvage: out of memory\n";
 const TWO_STREAMS: &[u8] =
     b"error: the argument '-' cannot be used multiple times\n\nFor more information, try '--help'.\n";
 
+/// How clap lists that a list of blocks is missing.
+const NO_BLOCKS: &str = "\n  --blocks <LIST>\n";
+
+/// How it lists that one of two is missing.
+const NOTHING_TO_FORGET: &str = "\n  <--conflicts|--blocks <LIST>>\n";
+
 /// What is said of a word that is not text.
 const NOT_TEXT: &[u8] =
     b"error: invalid UTF-8 was detected in one or more arguments\n\nFor more information, try '--help'.\n";
@@ -431,12 +437,22 @@ fn show_fault<E: Sink>(alloc: Global, error: &Error, err: &mut E) -> u8
     if error.kind() == ErrorKind::OutOfMemory {
         return refuse(alloc, &Refusal::Memory(AllocError), err);
     }
-    match format!(in alloc; "{error}") {
+    match fault_text(alloc, error) {
         Ok(text) => {
             let _ = send(text.as_bytes(), err);
             2
         }
         Err(AllocError) => refuse(alloc, &Refusal::Memory(AllocError), err),
+    }
+}
+
+/// Clap's text of a fault of the words. Where a list of blocks is missing, the other word that would do is named too, as clap does in a group of which one
+/// has to be given.
+fn fault_text(alloc: Global, error: &Error) -> Result<String, AllocError> {
+    let text = format!(in alloc; "{error}")?;
+    match text.as_str().split_once(NO_BLOCKS) {
+        Some((before, after)) => format!(in alloc; "{before}{NOTHING_TO_FORGET}{after}"),
+        None => Ok(text),
     }
 }
 

@@ -1,7 +1,7 @@
 //! What the words after `extract` ask for, with the times of what is made or without.
 
 ghost use Rattle.clap.specs.Matches.{found_of};
-ghost use Rattle.std.specs.Prelude.{◌≡◌, ◌⊎◌, ℕ, List, true, false, IfOk, IfErr, codes, map};
+ghost use Rattle.std.specs.Prelude.{◌≡◌, ◌⊎◌, ℕ, List, Bool, true, false, IfOk, IfErr, codes, map};
 ghost use Rattle.udfs_commands.specs.Asking.{IsLast, IsPicked, IsProfile, asked_for, asked_inputs, folder_text, has_lost, has_manifest, has_only, input_texts, lost_text, manifest_text, only_texts, pair_texts};
 ghost use Rattle.udfs_commands.specs.Extracting.{ExtractsAll, ExtractsChosen, IsPut};
 ghost use Rattle.udfs_commands.specs.Keeping.{OfPaths};

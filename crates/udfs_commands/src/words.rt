@@ -172,6 +172,7 @@ fn report<'a>(alloc: Global, given: Given) -> Result<Command<'a>, AllocError>
 {
     let command = Command::new(alloc, "report")
         .about("Prints what the inputs tell of the volume, and which blocks to read again")
+        .override_usage("udfsalvage report [OPTIONS] [--last <N> | --size <BYTES>] <IN>...")
         .arg(last(alloc, given.needs_last))?
         .arg(disc_size(alloc))?
         .arg(profile(alloc))?
@@ -185,6 +186,7 @@ fn reread<'a>(alloc: Global, given: Given) -> Result<Command<'a>, AllocError>
 {
     let command = Command::new(alloc, "reread")
         .about("Prints the numbers of the blocks to read again")
+        .override_usage("udfsalvage reread [OPTIONS] [--last <N> | --size <BYTES>] <IN>...")
         .arg(last(alloc, given.needs_last))?
         .arg(disc_size(alloc))?
         .arg(profile(alloc))?
@@ -196,7 +198,11 @@ fn reread<'a>(alloc: Global, given: Given) -> Result<Command<'a>, AllocError>
 fn bare_extract<'a>(alloc: Global) -> Command<'a>
     ensures { app_of result ≡ new_app (codes "extract") }
 {
-    Command::new(alloc, "extract").about("Writes the files that are whole into a new folder")
+    Command::new(alloc, "extract")
+        .about("Writes the files that are whole into a new folder")
+        .override_usage(
+            "udfsalvage extract [OPTIONS] [--last <N> | --size <BYTES>] --to <DIR> <IN>...",
+        )
 }
 
 /// `extract (--last N | --size BYTES) [--profile PROFILE] --to DIR [--fill] [--only PATH]... [--manifest FILE] [--unnamed DIR] [--times] IN...`
@@ -230,6 +236,9 @@ fn forget<'a>(alloc: Global, given: Given) -> Result<Command<'a>, AllocError>
 {
     let command = Command::new(alloc, "forget")
         .about("Writes the table of the inputs, in which some blocks are unknown again")
+        .override_usage(
+            "udfsalvage forget [OPTIONS] --out <FILE> <--conflicts|--blocks <LIST>> <IN>...",
+        )
         .arg(table_file(alloc))?
         .arg(flag(alloc, CONFLICTS, "Forget the blocks in conflict"))?
         .arg(blocks(alloc, given.conflicts))?
@@ -245,6 +254,7 @@ fn list<'a>(alloc: Global, given: Given) -> Result<Command<'a>, AllocError>
         .about(
             "Prints a line for each file and folder: standing, kind, bytes lost, size, time and path",
         )
+        .override_usage("udfsalvage list [OPTIONS] [--last <N> | --size <BYTES>] <IN>...")
         .arg(last(alloc, given.needs_last))?
         .arg(disc_size(alloc))?
         .arg(profile(alloc))?
@@ -260,6 +270,9 @@ fn image<'a>(alloc: Global, given: Given) -> Result<Command<'a>, AllocError>
 {
     let command = Command::new(alloc, "image")
         .about("Writes what is known of the disc as an image, with its mapfile")
+        .override_usage(
+            "udfsalvage image [OPTIONS] [--last <N> | --size <BYTES>] --out <IMAGE> --mapfile <MAPFILE> <IN>...",
+        )
         .arg(last(alloc, given.needs_last))?
         .arg(disc_size(alloc))?
         .arg(image_file(alloc))?
@@ -293,6 +306,7 @@ fn summary<'a>(alloc: Global, given: Given) -> Result<Command<'a>, AllocError>
 {
     let command = Command::new(alloc, "summary")
         .about("Prints what a person wants to know of the volume, on one screen")
+        .override_usage("udfsalvage summary [OPTIONS] [--last <N> | --size <BYTES>] <IN>...")
         .arg(last(alloc, given.needs_last))?
         .arg(disc_size(alloc))?
         .arg(profile(alloc))?;
@@ -305,6 +319,9 @@ fn page<'a>(alloc: Global, given: Given) -> Result<Command<'a>, AllocError>
 {
     let command = Command::new(alloc, "page")
         .about("Writes what is known of the volume as a page for a browser, to print or to keep")
+        .override_usage(
+            "udfsalvage page [OPTIONS] [--last <N> | --size <BYTES>] --out <FILE> <IN>...",
+        )
         .arg(last(alloc, given.needs_last))?
         .arg(disc_size(alloc))?
         .arg(profile(alloc))?
