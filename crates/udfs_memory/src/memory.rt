@@ -474,8 +474,9 @@ impl Files for Memory {
     }
 
     fn set_modified(&self, path: &str, micros: u64) -> Result<(), DeviceFault> {
-        let is_there = self.has_folder(path) || self.bytes(path).is_some();
-        if !is_there || path == self.timeless {
+        let is_there = self.has_folder(path) || !self.is_absent(path);
+        let has_none = is_same(path.as_bytes(), self.timeless.as_bytes());
+        if !is_there || has_none {
             return Err(DeviceFault);
         }
         match self.modified.set(path.as_bytes(), micros) {

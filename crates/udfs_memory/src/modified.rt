@@ -44,7 +44,7 @@ impl ModifiedTimes {
                 if index < times.len() && times[index].path.as_slice() == path {
                     drop(times.remove(index));
                 } else {
-                    index += 1;
+                    index = index.saturating_add(1);
                 }
             }
         }
