@@ -18,6 +18,7 @@ use crate::refusal::Refusal;
 use crate::remarks::{remark_on_fate, remark_on_report};
 use crate::sources::{AnySource, InputPath};
 use crate::telling::tell;
+use crate::times::{note_time, set_folder_times};
 use std::alloc::{AllocError, Global};
 use udfs_files::Stage;
 use udfs_reading::{Sink, Source};
@@ -106,6 +107,7 @@ fn put_nodes<F: Files, O: Sink>(
     let mut good = true;
     let mut heard = true;
     let mut manifest = Vec::new(alloc);
+    let mut made = Vec::new(alloc);
     for index in 1..report.nodes.len() {
         let done = put_chosen(alloc, report, index, only, fill, digest, folder, files)?;
         let node = node_at(report, index);
@@ -113,7 +115,11 @@ fn put_nodes<F: Files, O: Sink>(
         good = still_good(good, done.fate);
         heard = tell(alloc, heard, done.fate, &node.path, out)?;
         remark_on_fate(alloc, done.fate, &node.path, files);
+        note_time(
+            alloc, node, index, only, done.fate, folder, &mut made, files,
+        );
     }
+    set_folder_times(alloc, report, made.as_slice(), folder, files);
     Ok(Told {
         good,
         heard,

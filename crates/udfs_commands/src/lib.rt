@@ -47,6 +47,8 @@ mod spared;
 mod streams;
 mod summary;
 mod telling;
+mod timed_words;
+mod times;
 mod unnamed;
 mod unnamed_place;
 mod unnamed_words;

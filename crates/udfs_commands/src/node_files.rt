@@ -55,7 +55,7 @@ fn without_file(fate: Fate) -> Done
 
 /// The path of a node in a folder: the folder's, and each name in its escaped form behind a `/`. An escaped name has no
 /// `/` and is neither `.` nor `..`, so the path leads nowhere but below the folder.
-fn path_in(alloc: Global, folder: &str, names: &Path) -> Result<String, AllocError>
+pub fn path_in(alloc: Global, folder: &str, names: &Path) -> Result<String, AllocError>
     ensures { IfOk result (λ path. string_bytes path ≡ path_below folder.now names.now) }
 {
     let mut path = String::from_str(alloc, folder)?;
