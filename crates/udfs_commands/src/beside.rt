@@ -30,7 +30,7 @@ pub struct Disagreement {
 }
 
 /// What an input says beside the join of those before it. It takes 12 bytes for each packet of 32 blocks, and the bytes of each block in
-/// which the two disagree.
+/// which the two disagree: those that the join lets go of, as the block is in conflict there.
 #[derive(Drop)]
 pub struct Beside {
     packets: Vec<Marks>,

@@ -58,8 +58,9 @@ pub fn tallied<F: Files>(
     ensures by_path { IfOk result (λ tally. OfPaths (λ path. F.holds files.now (F.real files.now path)) (⟦<AnySource<F::Input, F::Image> as Source>⟧.remaining) inputs.now (λ t. tally ≡ t)) }
     ensures told { IfErr result (λ refusal. (refusal ≢ Refusal.Output) × (refusal ≢ Refusal.Unkept) × (refusal ≢ Refusal.Spared)) }
 {
-    let Ok(mut tally) = MergeTally::new(alloc, inputs.len()) else {
-        return Err(Refusal::Memory(AllocError));
+    let mut tally = match MergeTally::new(alloc, inputs.len()) {
+        Ok(tally) => tally,
+        Err(AllocError) => return Err(Refusal::Memory(AllocError)),
     };
     match take_all(alloc, inputs, &mut tally, files) {
         Ok(()) => Ok(tally),

@@ -1,7 +1,7 @@
 //! The join of the inputs of `merge`, and what is told of it when it is done.
 
 ghost use Rattle.std.specs.Prelude.{◌≡◌, IfOk};
-ghost use Rattle.udfs_lattice.specs.Tables.{empty_table};
+ghost use Rattle.udfs_lattice.specs.Tables.{conflict_count, empty_table, known_count};
 
 use crate::beside::{Beside, Disagreement};
 use std::alloc::{AllocError, Global};
@@ -105,7 +105,9 @@ impl MergeTally {
     /// The last input is over: what is known and in conflict in the join, and for each further input than the first, in its order,
     /// in how many blocks it disagrees with those before it.
     pub fn close(&mut self) -> (Totals, &[Disagreement])
-        ensures { self.new ≡ self.old }
+        ensures known { result.0.known ≡ known_count self.old }
+        ensures conflicts { result.0.conflicts ≡ conflict_count self.old }
+        ensures table { self.new ≡ self.old }
     {
         self.end_input();
         let conflicts = self.joined.conflicts();
