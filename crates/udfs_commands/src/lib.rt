@@ -4,7 +4,9 @@
 
 mod arguments;
 mod asking;
+mod beside;
 mod choosing;
+mod closing;
 mod command;
 mod digesting;
 mod ends;
@@ -25,6 +27,7 @@ mod list;
 mod manifest;
 mod manifest_place;
 mod merge;
+mod merge_tally;
 mod merge_words;
 mod node_files;
 mod page;
