@@ -42,11 +42,11 @@ fn of_doubt(alloc: Global, input: usize, found: Disagreement) -> Result<String, 
 
 /// Tells who watches what was joined of so many inputs, and which of them may be of another disc.
 pub fn remark_on_merge<F: Files>(alloc: Global, inputs: usize, tally: &mut MergeTally, files: &F) {
-    let (totals, disagreements) = tally.close();
+    let totals = tally.close();
     if let Ok(text) = of_totals(alloc, inputs, totals) {
         files.remark(text.as_str());
     }
-    for (before, found) in disagreements.iter().enumerate() {
+    for (before, found) in tally.disagreements().iter().enumerate() {
         if is_doubtful(*found)
             && let Ok(text) = of_doubt(alloc, before.saturating_add(2), *found)
         {

@@ -102,22 +102,34 @@ impl MergeTally {
         count
     }
 
-    /// The last input is over: what is known and in conflict in the join, and for each further input than the first, in its order,
-    /// in how many blocks it disagrees with those before it.
-    pub fn close(&mut self) -> (Totals, &[Disagreement])
-        ensures known { result.0.known ≡ known_count self.old }
-        ensures conflicts { result.0.conflicts ≡ conflict_count self.old }
+    /// The last input is over: what is known and in conflict in the join.
+    pub fn close(&mut self) -> Totals
+        ensures known { result.known ≡ known_count self.old }
+        ensures conflicts { result.conflicts ≡ conflict_count self.old }
         ensures table { self.new ≡ self.old }
     {
         self.end_input();
         let conflicts = self.joined.conflicts();
-        let totals = Totals {
+        Totals {
             known: self.joined.known(),
             new_known: self.new_known(),
             conflicts,
             new_conflicts: conflicts.saturating_sub(self.first_conflicts),
-        };
-        (totals, self.disagreements.as_slice())
+        }
+    }
+
+    /// For each further input than the first that is over, in their order, in how many blocks it disagrees with those before it.
+    pub fn disagreements(&self) -> &[Disagreement] {
+        self.disagreements.as_slice()
+    }
+}
+
+/// The state of a block in the join, where inputs came before the one that is read.
+fn state_before(joined: &BlockTable, begun: usize, block: u32) -> Fact<&[u8; 2048]> {
+    if begun > 1 {
+        joined.state(block)
+    } else {
+        Fact::Unknown
     }
 }
 
@@ -130,11 +142,7 @@ impl Taker for MergeTally {
     }
 
     fn put(&mut self, block: u32, bytes: &[u8; 2048]) -> Result<(), AllocError> {
-        let before = if self.begun > 1 {
-            self.joined.state(block)
-        } else {
-            Fact::Unknown
-        };
+        let before = state_before(&self.joined, self.begun, block);
         self.input.hear(block, bytes, before)?;
         match self.joined.put(block, bytes) {
             Ok(()) => Ok(()),
