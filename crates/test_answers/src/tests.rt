@@ -10,5 +10,4 @@ mod paging;
 mod profiles;
 mod reporting;
 mod summing;
-mod times;
 mod unnamed;

@@ -1,6 +1,5 @@
 //! The command over files in memory. What is expected comes from the formats' description, byte by byte.
 
-mod closing;
 mod devices;
 mod ends;
 mod explaining;
