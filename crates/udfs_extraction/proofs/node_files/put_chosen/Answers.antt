@@ -1,0 +1,15 @@
+use Rattle.std.proofs.Common.{◌≡◌, ◌∙◌, Bor, ℕ, List, true, false, ap, map, rules, subst, sym}
+use Rattle.udfs_walk.specs.NodeFields.{NodeFields}
+use Rattle.udfs_extraction.specs.Choosing.{is_chosen}
+use Rattle.udfs_extraction.proofs.node_files.put_chosen.Goals as goal
+
+pub returns-in-Ok-clause-put : goal.returns-in-Ok-clause-put
+returns-in-Ok-clause-put g c n at =
+    let only = map (λ (word : Bor (List ℕ)). word.now) c.args.only.now in
+    let same : c.node_at-node.result.now ≡ n = let e = sym c.node_at-node.ensures ∙ at in cc in
+    let seen : c.node.inside.path ≡ c.node_at-node.result.now.path = search rules in
+    let asked : is_chosen only n.path ≡ true = subst (λ (p : List (List ℕ)). is_chosen only p ≡ true) (seen ∙ ap (λ (m : NodeFields). m.path) same) (sym c.in_ok-is_chosen.ensures ∙ c.if-branch.true) in
+    record {
+      asked = λ is. c.in-Ok.ensures.put n at;
+      passed = λ is. let bad : true ≡ false = sym asked ∙ is in cc;
+    }
