@@ -10,4 +10,5 @@ mod paging;
 mod profiles;
 mod reporting;
 mod summing;
+mod times;
 mod unnamed;
