@@ -30,6 +30,7 @@ use Rattle.udfs_rescue.specs.declared.run.Run.{Run}
 use Rattle.udfs_rescue.specs.Lines.{outcome}
 use Rattle.udfs_rescue.specs.Runs.{end_of_runs}
 use Rattle.udfs_words.specs.declared.input_path.InputPath.{InputPath}
+use Rattle.udfs_words.specs.declared.input_path.InputPath.TheVariants as path
 
 -- clap reads a flag as `true` or `false`, and a flag that it does not know as nothing
 pub record IsPicked {A : Type 0} (words : Found) (flag : List ℕ) (given absent picked : A) : Type 0 where
