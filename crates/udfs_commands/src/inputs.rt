@@ -14,7 +14,7 @@ use udfs_lattice::BlockTable;
 use udfs_reading::{Source, Taker};
 
 /// Hands the blocks of the inputs to the taker, one source an input. All inputs are opened in order before one is read, and closed again.
-pub fn take_all<F: Files, T: Taker>(
+pub fn take_all<F: Files, T: Taker<AnySource<F::Input, F::Image>>>(
     alloc: Global,
     inputs: &[InputPath<'_>],
     taker: &mut T,

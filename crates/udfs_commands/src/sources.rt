@@ -160,7 +160,7 @@ pub fn refusal_for<R: Source, I: Image>(sources: &[AnySource<R, I>], error: Inpu
 }
 
 /// Reads the inputs in order, and hands their blocks to the taker.
-pub fn take_sources<R: Source, I: Image, T: Taker>(
+pub fn take_sources<R: Source, I: Image, T: Taker<AnySource<R, I>>>(
     sources: &mut [AnySource<R, I>],
     taker: &mut T,
 ) -> Result<(), Refusal>

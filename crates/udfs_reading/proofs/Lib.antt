@@ -1,4 +1,5 @@
 pub mod WindowLemmas
+pub mod PlaceLemmas
 pub mod Numbers
 pub mod Ends
 pub mod Records

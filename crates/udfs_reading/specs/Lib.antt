@@ -1,4 +1,5 @@
 pub mod Device
+pub mod Places
 pub mod Field
 pub mod Format
 pub mod Kind

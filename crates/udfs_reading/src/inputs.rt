@@ -25,24 +25,25 @@ pub struct InputError {
 }
 
 /// Reads one input through an empty window, and hands its blocks to the taker.
-fn take_input<R: Source, T: Taker>(
+fn take_input<R: Source, T: Taker<R>>(
     source: &mut R,
     window: &mut Window,
     taker: &mut T,
 ) -> Result<(), ReadingError>
-    requires { window.now ≡ [] }
+    requires { window.now.bytes ≡ [] }
     ensures ok { OnOk result (Joins inputs (R.remaining source.old) (R.remaining source.new) (T.table taker.old) (T.table taker.new)) }
     ensures count { OnOk result (R.faults source.new ≡ R.faults source.old) }
     ensures err { IfErr result (λ e. Stops inputs (R.remaining source.old) (R.remaining source.new)
         (R.faults source.old) (R.faults source.new) e) }
-    ensures empty { OnOk result (window.new ≡ []) }
+    ensures empty { OnOk result (window.new.bytes ≡ []) }
 {
-    taker.begin();
+    window.clear();
+    taker.begin(source);
     join_any(source, window, taker)?;
     Ok(())
 }
 
-fn take_each<R: Source, T: Taker>(inputs: &mut [R], taker: &mut T) -> Result<(), InputError>
+fn take_each<R: Source, T: Taker<R>>(inputs: &mut [R], taker: &mut T) -> Result<(), InputError>
     ensures table { OnOk result ((ts : List Table) × TablesAre R.remaining inputs.old ts × (T.table taker.new ≡ join_tables (T.table taker.old) (join_all ts))) }
     ensures counts { OnOk result (map R.faults inputs.new ≡ map R.faults inputs.old) }
     ensures fails { IfErr result (λ e. InputFails R.remaining R.faults inputs.old inputs.new e) }
@@ -63,7 +64,7 @@ fn take_each<R: Source, T: Taker>(inputs: &mut [R], taker: &mut T) -> Result<(),
 /// # Errors
 ///
 /// As [`join_inputs`] has them. The taker has taken some of the blocks then, and what they are is not said.
-pub fn take_inputs<R: Source, T: Taker>(inputs: &mut [R], taker: &mut T) -> Result<(), InputError>
+pub fn take_inputs<R: Source, T: Taker<R>>(inputs: &mut [R], taker: &mut T) -> Result<(), InputError>
     // The inputs' tables are joined to that of the taker, and no device failed.
     ensures table { OnOk result ((ts : List Table) × TablesAre R.remaining inputs.old ts × (T.table taker.new ≡ join_tables (T.table taker.old) (join_all ts))) }
     ensures counts { OnOk result (map R.faults inputs.new ≡ map R.faults inputs.old) }

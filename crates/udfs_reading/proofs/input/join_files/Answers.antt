@@ -48,3 +48,12 @@ pub returns-clause-err : goal.returns-clause-err
 returns-clause-err g c =
     ends_input_magic c.args.readings c.in_ok-magic.magic c.in_ok-magic.ensures.bytes c.in_ok-magic.ensures.count c.in_ok-magic.ensures.eight
     (sym c.names_accepted.ensures ∙ c.if-names_accepted.false) (sym c.names_table.ensures ∙ c.if-names_table.false) (sym c.names_packets.ensures ∙ c.if-names_packets.false)
+
+pub read_body-requires : goal.read_body-requires
+read_body-requires g c = c.in_ok-magic.ensures.at _ c.requires
+
+pub read_body-requires-then-names_table : goal.read_body-requires-then-names_table
+read_body-requires-then-names_table g c = c.in_ok-magic.ensures.at _ c.requires
+
+pub read_body-requires-then-names_packets : goal.read_body-requires-then-names_packets
+read_body-requires-then-names_packets g c = c.in_ok-magic.ensures.at _ c.requires

@@ -23,3 +23,6 @@ returns-then-names_reading-clause-ok g c = takes_behind readings magic c.in_ok-m
 pub returns-clause-err : goal.returns-clause-err
 returns-clause-err g c =
     ends_magic reading_format c.in_ok-magic.magic c.in_ok-magic.ensures.bytes c.in_ok-magic.ensures.count c.in_ok-magic.ensures.eight (sym c.names_reading.ensures ∙ c.if-names_reading.false)
+
+pub read_body-requires : goal.read_body-requires
+read_body-requires g c = c.in_ok-magic.ensures.at _ c.requires

@@ -6,7 +6,7 @@ use Rattle.udfs_reading.proofs.SoFar.{so_far_none, so_far_more, so_far_fails, so
 use Rattle.udfs_reading.proofs.inputs.take_each.Goals as goal
 
 pub loop-index-init : goal.loop-index-init
-loop-index-init g c = record { so_far = so_far_none _ _ _ _; empty = c.new-window.ensures }
+loop-index-init g c = record { so_far = so_far_none _ _ _ _; empty = c.new-window.ensures.bytes }
 
 pub take_input-requires : goal.take_input-requires
 take_input-requires g c = c.loop-index.invariant.empty

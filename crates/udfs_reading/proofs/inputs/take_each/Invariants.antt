@@ -7,5 +7,5 @@ abbrev pub invariant-loop-index : goal.invariant-loop-index
 invariant-loop-index g l =
     record {
       so_far : SoFar g.R.Source.remaining g.R.Source.faults l.fn.inputs l.inputs l.index (g.T.Taker.table l.initial.taker) (g.T.Taker.table l.taker);
-      empty : l.window ≡ [];
+      empty : l.window.bytes ≡ [];
     }

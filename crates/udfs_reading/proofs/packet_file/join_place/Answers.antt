@@ -1,5 +1,7 @@
-use Rattle.std.proofs.Common.{Bool, false, cond, sym, ap, rules}
+use Rattle.std.proofs.Common.{ℕ, List, Option, subst, Bool, false, cond, sym, ap, rules}
 use Rattle.std.proofs.KnownBytes.{Consumes-nil}
+use Rattle.udfs_reading.specs.Device.{left}
+use Rattle.udfs_reading.specs.Places.{StandsAt}
 use Rattle.udfs_lattice.specs.declared.facts.Fact.TheVariants.{Unknown, Known}
 use Rattle.udfs_lattice.specs.TableLaws.{join_tables-empty_right}
 use Rattle.udfs_reading.proofs.packet_file.join_place.Goals as goal
@@ -26,3 +28,7 @@ returns-then-not-conflict-clause-ok g c =
       given = Consumes-nil _;
       put = sym (join_tables-empty_right (g.T.Taker.table c.args.taker.now));
     }
+
+pub returns-in-Ok-clause-at : goal.returns-in-Ok-clause-at
+returns-in-Ok-clause-at g c =
+    subst (λ (o : Option (List ℕ)). StandsAt o c.args.window.now.at (left c.args.window.now.bytes (g.R.Source.remaining c.args.source.now))) (sym c.in-Ok.ensures.input) c.requires.at

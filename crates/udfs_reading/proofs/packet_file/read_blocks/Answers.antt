@@ -4,12 +4,13 @@ use Rattle.udfs_reading.proofs.PacketSteps.{blocks_none, blocks_more, blocks_all
 use Rattle.udfs_reading.proofs.packet_file.read_blocks.Goals as goal
 
 pub loop-place-init : goal.loop-place-init
-loop-place-init g c = record { blocks = blocks_none _ _ _ _ _ c.requires.masks.0 (search rules) (search rules); kept = refl }
+loop-place-init g c = record { blocks = blocks_none _ _ _ _ _ c.requires.masks.0 (search rules) (search rules); at = c.requires.at; kept = refl }
 
 pub loop-place-preserved : goal.loop-place-preserved
 loop-place-preserved g c =
     record {
       blocks = blocks_more (search rules) c.loop-place.invariant.blocks c.in_ok-join_place.ensures.ok;
+      at = c.in_ok-join_place.ensures.at;
       kept = c.in_ok-join_place.ensures.count ∙ c.loop-place.invariant.kept;
     }
 
@@ -20,3 +21,6 @@ returns-in_err-join_place-clause-err g c =
 
 pub returns-clause-ok : goal.returns-clause-ok
 returns-clause-ok g c = blocks_all (search rules) c.loop-place.invariant.blocks
+
+pub join_place-requires-clause-at : goal.join_place-requires-clause-at
+join_place-requires-clause-at g c = c.loop-place.invariant.at

@@ -51,3 +51,6 @@ returns-clause-ok g c =
       file = (file.0, file.1);
       joined = t.put;
     }
+
+pub read_packets-requires : goal.read_packets-requires
+read_packets-requires g c = c.in_ok-count.ensures.at _ c.requires

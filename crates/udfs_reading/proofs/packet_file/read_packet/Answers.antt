@@ -72,3 +72,6 @@ returns-clause-ok g c =
       next_is = refl;
       put = s.put ∙ ap (λ (l : List (ℕ × State)). join_tables (g.T.Taker.table c.args.taker.now) (table_of_entries l)) (sym (append-nil (listed (32 * n) s.taken)));
     }
+
+pub read_blocks-requires-clause-at : goal.read_blocks-requires-clause-at
+read_blocks-requires-clause-at g c = c.in_ok-masks.ensures.at _ (c.in_ok-packet.ensures.at _ c.requires)

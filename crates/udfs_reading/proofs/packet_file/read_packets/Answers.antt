@@ -10,12 +10,13 @@ use Rattle.udfs_reading.proofs.Packets.{packets_none, packets_more}
 use Rattle.udfs_reading.proofs.packet_file.read_packets.Goals as goal
 
 pub loop-index-init : goal.loop-index-init
-loop-index-init g c = record { taken = packets_none _ _; kept = refl }
+loop-index-init g c = record { taken = packets_none _ _; at = c.requires; kept = refl }
 
 pub loop-index-preserved : goal.loop-index-preserved
 loop-index-preserved g c =
     record {
       taken = packets_more c.loop-index.invariant.taken c.in_ok-low.ensures.ok;
+      at = c.in_ok-low.ensures.at;
       kept = c.in_ok-low.ensures.count ∙ c.loop-index.invariant.kept;
     }
 
@@ -31,4 +32,7 @@ returns-in_err-low-clause-err g c =
 pub returns-clause-ok : goal.returns-clause-ok
 returns-clause-ok g c =
     let all : c.loop-index.index ≡ c.args.count = omega arith in
-    (c.loop-index.low, subst (λ (n : ℕ). TakesPackets (left c.args.window.now (g.R.Source.remaining c.args.source.now)) (left c.loop-index.window (g.R.Source.remaining c.loop-index.source)) n c.loop-index.low (g.T.Taker.table c.args.taker.now) (g.T.Taker.table c.loop-index.taker)) all c.loop-index.invariant.taken)
+    (c.loop-index.low, subst (λ (n : ℕ). TakesPackets (left c.args.window.now.bytes (g.R.Source.remaining c.args.source.now)) (left c.loop-index.window.bytes (g.R.Source.remaining c.loop-index.source)) n c.loop-index.low (g.T.Taker.table c.args.taker.now) (g.T.Taker.table c.loop-index.taker)) all c.loop-index.invariant.taken)
+
+pub read_packet-requires : goal.read_packet-requires
+read_packet-requires g c = c.loop-index.invariant.at

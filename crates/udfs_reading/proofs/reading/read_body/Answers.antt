@@ -52,3 +52,6 @@ returns-clause-ok g c =
       file = (t.taken, file.0, file.1, refl);
       joined = t.put;
     }
+
+pub read_records-requires : goal.read_records-requires
+read_records-requires g c = c.in_ok-count.ensures.at _ c.requires

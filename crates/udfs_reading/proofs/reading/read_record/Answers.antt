@@ -40,3 +40,6 @@ returns-clause-ok g c =
       given = Consumes-trans _ _ _ (number n) t.taken c.in_ok-block.ensures.bytes t.given;
       put = t.put;
     }
+
+pub join_block-requires-clause-at : goal.join_block-requires-clause-at
+join_block-requires-clause-at g c = c.in_ok-block.ensures.at _ c.requires

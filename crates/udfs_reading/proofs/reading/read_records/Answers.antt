@@ -9,12 +9,13 @@ use Rattle.udfs_reading.proofs.Records.{takes_none, takes_more}
 use Rattle.udfs_reading.proofs.reading.read_records.Goals as goal
 
 pub loop-index-init : goal.loop-index-init
-loop-index-init g c = record { taken = takes_none _ _; kept = refl }
+loop-index-init g c = record { taken = takes_none _ _; at = c.requires; kept = refl }
 
 pub loop-index-preserved : goal.loop-index-preserved
 loop-index-preserved g c =
     record {
       taken = takes_more c.loop-index.invariant.taken c.in_ok-read_record.ensures.ok;
+      at = c.in_ok-read_record.ensures.at;
       kept = c.in_ok-read_record.ensures.count ∙ c.loop-index.invariant.kept;
     }
 
@@ -30,4 +31,7 @@ returns-in_err-read_record-clause-err g c =
 pub returns-clause-ok : goal.returns-clause-ok
 returns-clause-ok g c =
     let all : c.loop-index.index ≡ c.args.count = omega arith in
-    subst (λ (n : ℕ). TakesRecords (left c.args.window.now (g.R.Source.remaining c.args.source.now)) (left c.loop-index.window (g.R.Source.remaining c.loop-index.source)) n (g.T.Taker.table c.args.taker.now) (g.T.Taker.table c.loop-index.taker)) all c.loop-index.invariant.taken
+    subst (λ (n : ℕ). TakesRecords (left c.args.window.now.bytes (g.R.Source.remaining c.args.source.now)) (left c.loop-index.window.bytes (g.R.Source.remaining c.loop-index.source)) n (g.T.Taker.table c.args.taker.now) (g.T.Taker.table c.loop-index.taker)) all c.loop-index.invariant.taken
+
+pub read_record-requires : goal.read_record-requires
+read_record-requires g c = c.loop-index.invariant.at

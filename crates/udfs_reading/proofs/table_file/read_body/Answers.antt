@@ -52,3 +52,6 @@ returns-clause-ok g c =
       file = (file.0, file.1);
       joined = t.put;
     }
+
+pub read_entries-requires : goal.read_entries-requires
+read_entries-requires g c = c.in_ok-count.ensures.at _ c.requires

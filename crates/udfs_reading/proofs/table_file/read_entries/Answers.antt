@@ -10,12 +10,13 @@ use Rattle.udfs_reading.proofs.Entries.{entries_none, entries_more}
 use Rattle.udfs_reading.proofs.table_file.read_entries.Goals as goal
 
 pub loop-index-init : goal.loop-index-init
-loop-index-init g c = record { taken = entries_none _ _; kept = refl }
+loop-index-init g c = record { taken = entries_none _ _; at = c.requires; kept = refl }
 
 pub loop-index-preserved : goal.loop-index-preserved
 loop-index-preserved g c =
     record {
       taken = entries_more c.loop-index.invariant.taken c.in_ok-floor.ensures.ok;
+      at = c.in_ok-floor.ensures.at;
       kept = c.in_ok-floor.ensures.count ∙ c.loop-index.invariant.kept;
     }
 
@@ -31,4 +32,7 @@ returns-in_err-floor-clause-err g c =
 pub returns-clause-ok : goal.returns-clause-ok
 returns-clause-ok g c =
     let all : c.loop-index.index ≡ c.args.count = omega arith in
-    (c.loop-index.floor, subst (λ (n : ℕ). TakesEntries (left c.args.window.now (g.R.Source.remaining c.args.source.now)) (left c.loop-index.window (g.R.Source.remaining c.loop-index.source)) n c.loop-index.floor (g.T.Taker.table c.args.taker.now) (g.T.Taker.table c.loop-index.taker)) all c.loop-index.invariant.taken)
+    (c.loop-index.floor, subst (λ (n : ℕ). TakesEntries (left c.args.window.now.bytes (g.R.Source.remaining c.args.source.now)) (left c.loop-index.window.bytes (g.R.Source.remaining c.loop-index.source)) n c.loop-index.floor (g.T.Taker.table c.args.taker.now) (g.T.Taker.table c.loop-index.taker)) all c.loop-index.invariant.taken)
+
+pub read_entry-requires : goal.read_entry-requires
+read_entry-requires g c = c.loop-index.invariant.at

@@ -50,3 +50,6 @@ returns-clause-ok g c =
       next_is = refl;
       put = s.put;
     }
+
+pub read_state-requires-clause-at : goal.read_state-requires-clause-at
+read_state-requires-clause-at g c = c.in_ok-block.ensures.at _ c.requires
