@@ -1,5 +1,5 @@
 -- Where what is left stands in the input, while bytes are taken.
-use Rattle.std.proofs.Common.{◌≡◌, ℕ, ◌+◌, ◌%◌, ◌^◌, ◌<◌, ◌≤◌, List, [], ◌++◌, length, take, drop, Option, Some, None, sym, ap, subst, ◌∙◌, arith, refl, length-append, drop_at, length-take-le, take-append-drop}
+use Rattle.std.proofs.Common.{◌≡◌, ℕ, ◌+◌, ◌%◌, ◌^◌, ◌≤◌, List, [], ◌++◌, length, take, drop, Option, Some, None, sym, ap, subst, ◌∙◌, arith, length-append, drop_at, length-take-le}
 use Rattle.std.specs.Io.KnownBytes.{Consumes}
 use lib.Seq.{take-append-le, drop-drop}
 use Rattle.std.proofs.lemmas.List.{length-drop}

@@ -3,6 +3,7 @@
 ghost use Rattle.std.specs.Prelude.{◌≡◌, ◌≤◌, [], OnOk, IfErr};
 ghost use Rattle.udfs_reading.specs.declared.error.ReadingFault.TheVariants.{Io};
 ghost use Rattle.udfs_reading.specs.Device.{left};
+ghost use Rattle.udfs_reading.specs.Gains.{Gains};
 ghost use Rattle.udfs_reading.specs.Places.{StandsAt};
 ghost use Rattle.udfs_reading.specs.Field.{BlockFails, TakesBlock};
 
@@ -26,7 +27,7 @@ pub fn join_block<R: Source, T: Taker<R>>(
 ) -> Result<(), ReadingError>
     requires block { block ≤ 4194303 }
     requires at { StandsAt (T.input taker.now) window.now.at (left window.now.bytes (R.remaining source.now)) }
-    ensures ok { OnOk result (TakesBlock (left window.old.bytes (R.remaining source.old)) (left window.new.bytes (R.remaining source.new)) block (T.table taker.old) (T.table taker.new)) }
+    ensures ok { OnOk result (Gains (T.took taker.old) (T.took taker.new) (TakesBlock (left window.old.bytes (R.remaining source.old)) (left window.new.bytes (R.remaining source.new)) block)) }
     ensures count { OnOk result (R.faults source.new ≡ R.faults source.old) }
     ensures at { OnOk result (StandsAt (T.input taker.new) window.new.at (left window.new.bytes (R.remaining source.new))) }
     ensures err { IfErr result (λ e. BlockFails (left window.old.bytes (R.remaining source.old)) (left window.new.bytes (R.remaining source.new))

@@ -5,6 +5,7 @@ ghost use Rattle.std.specs.Str.{bytes_eq};
 ghost use Rattle.udfs_reading.specs.declared.error.ReadingFault.TheVariants.{Io};
 ghost use Rattle.udfs_lattice.specs.Tables.{Table, IsTable};
 ghost use Rattle.udfs_reading.specs.Device.{left};
+ghost use Rattle.udfs_reading.specs.Gains.{Gains};
 ghost use Rattle.udfs_reading.specs.Places.{StandsAt};
 ghost use Rattle.udfs_reading.specs.Answers.{IsOfFile, GivesTable, GivesFault, TakesFile, RefusesFaulty, FailsAfter};
 ghost use Rattle.udfs_reading.specs.Inputs.{files, kind_accepted, tables, inputs};
@@ -38,7 +39,7 @@ fn join_reading<R: Source, T: Taker<R>>(
     taker: &mut T,
 ) -> Result<(), ReadingError>
     requires { StandsAt (T.input taker.now) window.now.at (left window.now.bytes (R.remaining source.now)) }
-    ensures ok { OnOk result (Takes readings [] (left window.old.bytes (R.remaining source.old)) (left window.new.bytes (R.remaining source.new)) (T.table taker.old) (T.table taker.new)) }
+    ensures ok { OnOk result (Gains (T.took taker.old) (T.took taker.new) (Takes readings [] (left window.old.bytes (R.remaining source.old)) (left window.new.bytes (R.remaining source.new)))) }
     ensures count { OnOk result (R.faults source.new ≡ R.faults source.old) }
     ensures err { IfErr result (λ e. Ends readings [] (left window.old.bytes (R.remaining source.old)) (left window.new.bytes (R.remaining source.new))
         (R.faults source.old) (R.faults source.new) e) }
@@ -71,7 +72,7 @@ fn join_files<R: Source, T: Taker<R>>(
     taker: &mut T,
 ) -> Result<(), ReadingError>
     requires { StandsAt (T.input taker.now) window.now.at (left window.now.bytes (R.remaining source.now)) }
-    ensures ok { OnOk result (Takes (files readings) [] (left window.old.bytes (R.remaining source.old)) (left window.new.bytes (R.remaining source.new)) (T.table taker.old) (T.table taker.new)) }
+    ensures ok { OnOk result (Gains (T.took taker.old) (T.took taker.new) (Takes (files readings) [] (left window.old.bytes (R.remaining source.old)) (left window.new.bytes (R.remaining source.new)))) }
     ensures count { OnOk result (R.faults source.new ≡ R.faults source.old) }
     ensures err { IfErr result (λ e. Ends (files readings) [] (left window.old.bytes (R.remaining source.old)) (left window.new.bytes (R.remaining source.new))
         (R.faults source.old) (R.faults source.new) e) }
@@ -104,7 +105,7 @@ pub fn join_any<R: Source, T: Taker<R>>(
     taker: &mut T,
 ) -> Result<(), ReadingError>
     requires { StandsAt (T.input taker.now) window.now.at (left window.now.bytes (R.remaining source.now)) }
-    ensures ok { OnOk result (Takes inputs [] (left window.old.bytes (R.remaining source.old)) (left window.new.bytes (R.remaining source.new)) (T.table taker.old) (T.table taker.new)) }
+    ensures ok { OnOk result (Gains (T.took taker.old) (T.took taker.new) (Takes inputs [] (left window.old.bytes (R.remaining source.old)) (left window.new.bytes (R.remaining source.new)))) }
     ensures count { OnOk result (R.faults source.new ≡ R.faults source.old) }
     ensures err { IfErr result (λ e. Ends inputs [] (left window.old.bytes (R.remaining source.old)) (left window.new.bytes (R.remaining source.new))
         (R.faults source.old) (R.faults source.new) e) }
@@ -122,7 +123,7 @@ fn join_accepted<R: Source, T: Taker<R>>(
     taker: &mut T,
 ) -> Result<(), ReadingError>
     requires { StandsAt (T.input taker.now) window.now.at (left window.now.bytes (R.remaining source.now)) }
-    ensures ok { OnOk result (Takes (kind_accepted which) [] (left window.old.bytes (R.remaining source.old)) (left window.new.bytes (R.remaining source.new)) (T.table taker.old) (T.table taker.new)) }
+    ensures ok { OnOk result (Gains (T.took taker.old) (T.took taker.new) (Takes (kind_accepted which) [] (left window.old.bytes (R.remaining source.old)) (left window.new.bytes (R.remaining source.new)))) }
     ensures count { OnOk result (R.faults source.new ≡ R.faults source.old) }
     ensures err { IfErr result (λ e. Ends (kind_accepted which) [] (left window.old.bytes (R.remaining source.old)) (left window.new.bytes (R.remaining source.new))
         (R.faults source.old) (R.faults source.new) e) }

@@ -5,6 +5,7 @@ ghost use Rattle.std.specs.Prelude.{◌≡◌, ℕ, ◌+◌, ◌*◌, ◌^◌, �
 ghost use Rattle.std.specs.Io.KnownBytes.{Consumes};
 ghost use Rattle.udfs_reading.specs.declared.error.ReadingFault.TheVariants.{Io};
 ghost use Rattle.udfs_reading.specs.Device.{left};
+ghost use Rattle.udfs_reading.specs.Gains.{Gains};
 ghost use Rattle.udfs_reading.specs.Places.{MovesOn, StandsAt};
 ghost use Rattle.udfs_reading.specs.Format.{number, header};
 ghost use Rattle.udfs_reading.specs.Outcome.{Ends, Takes};
@@ -74,7 +75,7 @@ fn join_place<R: Source, T: Taker<R>>(
 ) -> Result<(), ReadingError>
     requires block { block ≤ 4194303 }
     requires at { StandsAt (T.input taker.now) window.now.at (left window.now.bytes (R.remaining source.now)) }
-    ensures ok { OnOk result (TakesPlace (left window.old.bytes (R.remaining source.old)) (left window.new.bytes (R.remaining source.new)) block known (cond known false conflict) (T.table taker.old) (T.table taker.new)) }
+    ensures ok { OnOk result (Gains (T.took taker.old) (T.took taker.new) (TakesPlace (left window.old.bytes (R.remaining source.old)) (left window.new.bytes (R.remaining source.new)) block known (cond known false conflict))) }
     ensures count { OnOk result (R.faults source.new ≡ R.faults source.old) }
     ensures at { OnOk result (StandsAt (T.input taker.new) window.new.at (left window.new.bytes (R.remaining source.new))) }
     ensures err { IfErr result (λ e. PlaceFails (left window.old.bytes (R.remaining source.old)) (left window.new.bytes (R.remaining source.new))
@@ -109,7 +110,7 @@ fn read_blocks<R: Source, T: Taker<R>>(
     requires packet { packet ≤ 131071 }
     requires masks { AreMasks masks.known masks.conflict }
     requires at { StandsAt (T.input taker.now) window.now.at (left window.now.bytes (R.remaining source.now)) }
-    ensures ok { OnOk result (TakesStates (left window.old.bytes (R.remaining source.old)) (left window.new.bytes (R.remaining source.new)) (32 * packet) masks.known masks.conflict (T.table taker.old) (T.table taker.new)) }
+    ensures ok { OnOk result (Gains (T.took taker.old) (T.took taker.new) (TakesStates (left window.old.bytes (R.remaining source.old)) (left window.new.bytes (R.remaining source.new)) (32 * packet) masks.known masks.conflict)) }
     ensures count { OnOk result (R.faults source.new ≡ R.faults source.old) }
     ensures at { OnOk result (StandsAt (T.input taker.new) window.new.at (left window.new.bytes (R.remaining source.new))) }
     ensures err { IfErr result (λ e. (count : ℕ) (done : List Packet) → IsNextPacket count done packet → length done + 1 ≡ entry →
@@ -146,7 +147,7 @@ fn read_packet<R: Source, T: Taker<R>>(
     taker: &mut T,
 ) -> Result<u32, ReadingError>
     requires { StandsAt (T.input taker.now) window.now.at (left window.now.bytes (R.remaining source.now)) }
-    ensures ok { IfOk result (λ next. TakesPacket (left window.old.bytes (R.remaining source.old)) (left window.new.bytes (R.remaining source.new)) low next (T.table taker.old) (T.table taker.new)) }
+    ensures ok { IfOk result (λ next. Gains (T.took taker.old) (T.took taker.new) (TakesPacket (left window.old.bytes (R.remaining source.old)) (left window.new.bytes (R.remaining source.new)) low next)) }
     ensures count { OnOk result (R.faults source.new ≡ R.faults source.old) }
     ensures at { OnOk result (StandsAt (T.input taker.new) window.new.at (left window.new.bytes (R.remaining source.new))) }
     ensures err { IfErr result (λ e. (count : ℕ) (done : List Packet) → IsUnderPackets count done → length done + 1 ≡ entry → low_after 0 done ≡ low →
@@ -180,7 +181,7 @@ fn read_packets<R: Source, T: Taker<R>>(
     taker: &mut T,
 ) -> Result<(), ReadingError>
     requires { StandsAt (T.input taker.now) window.now.at (left window.now.bytes (R.remaining source.now)) }
-    ensures ok { OnOk result ((low : ℕ) × TakesPackets (left window.old.bytes (R.remaining source.old)) (left window.new.bytes (R.remaining source.new)) count low (T.table taker.old) (T.table taker.new)) }
+    ensures ok { OnOk result ((low : ℕ) × Gains (T.took taker.old) (T.took taker.new) (TakesPackets (left window.old.bytes (R.remaining source.old)) (left window.new.bytes (R.remaining source.new)) count low)) }
     ensures count { OnOk result (R.faults source.new ≡ R.faults source.old) }
     ensures err { IfErr result (λ e. Ends tables_v2 (header packet_magic count) (left window.old.bytes (R.remaining source.old)) (left window.new.bytes (R.remaining source.new))
         (R.faults source.old) (R.faults source.new) e) }
@@ -201,7 +202,7 @@ pub fn read_body<R: Source, T: Taker<R>>(
     taker: &mut T,
 ) -> Result<(), ReadingError>
     requires { StandsAt (T.input taker.now) window.now.at (left window.now.bytes (R.remaining source.now)) }
-    ensures ok { OnOk result (Takes tables_v2 packet_magic (left window.old.bytes (R.remaining source.old)) (left window.new.bytes (R.remaining source.new)) (T.table taker.old) (T.table taker.new)) }
+    ensures ok { OnOk result (Gains (T.took taker.old) (T.took taker.new) (Takes tables_v2 packet_magic (left window.old.bytes (R.remaining source.old)) (left window.new.bytes (R.remaining source.new)))) }
     ensures count { OnOk result (R.faults source.new ≡ R.faults source.old) }
     ensures err { IfErr result (λ e. Ends tables_v2 packet_magic (left window.old.bytes (R.remaining source.old)) (left window.new.bytes (R.remaining source.new))
         (R.faults source.old) (R.faults source.new) e) }

@@ -4,6 +4,7 @@ ghost use Rattle.std.specs.Prelude.{◌≡◌, ℕ, ◌+◌, ◌++◌, [], List,
 ghost use Rattle.udfs_lattice.specs.Records.{Record};
 ghost use Rattle.udfs_reading.specs.declared.error.ReadingFault.TheVariants.{Io};
 ghost use Rattle.udfs_reading.specs.Device.{left};
+ghost use Rattle.udfs_reading.specs.Gains.{Gains};
 ghost use Rattle.udfs_reading.specs.Places.{StandsAt};
 ghost use Rattle.udfs_reading.specs.Format.{header};
 ghost use Rattle.udfs_reading.specs.Reading.{magic, front, IsUnder, TakesRecord, TakesRecords, readings};
@@ -25,7 +26,7 @@ fn read_record<R: Source, T: Taker<R>>(
     taker: &mut T,
 ) -> Result<(), ReadingError>
     requires { StandsAt (T.input taker.now) window.now.at (left window.now.bytes (R.remaining source.now)) }
-    ensures ok { OnOk result (TakesRecord (left window.old.bytes (R.remaining source.old)) (left window.new.bytes (R.remaining source.new)) (T.table taker.old) (T.table taker.new)) }
+    ensures ok { OnOk result (Gains (T.took taker.old) (T.took taker.new) (TakesRecord (left window.old.bytes (R.remaining source.old)) (left window.new.bytes (R.remaining source.new)))) }
     ensures count { OnOk result (R.faults source.new ≡ R.faults source.old) }
     ensures at { OnOk result (StandsAt (T.input taker.new) window.new.at (left window.new.bytes (R.remaining source.new))) }
     ensures err { IfErr result (λ e. (count : ℕ) (done : List Record) → IsUnder count done → length done + 1 ≡ number →
@@ -52,7 +53,7 @@ fn read_records<R: Source, T: Taker<R>>(
     taker: &mut T,
 ) -> Result<(), ReadingError>
     requires { StandsAt (T.input taker.now) window.now.at (left window.now.bytes (R.remaining source.now)) }
-    ensures ok { OnOk result (TakesRecords (left window.old.bytes (R.remaining source.old)) (left window.new.bytes (R.remaining source.new)) count (T.table taker.old) (T.table taker.new)) }
+    ensures ok { OnOk result (Gains (T.took taker.old) (T.took taker.new) (TakesRecords (left window.old.bytes (R.remaining source.old)) (left window.new.bytes (R.remaining source.new)) count)) }
     ensures count { OnOk result (R.faults source.new ≡ R.faults source.old) }
     ensures err { IfErr result (λ e. Ends readings (header magic count) (left window.old.bytes (R.remaining source.old)) (left window.new.bytes (R.remaining source.new))
         (R.faults source.old) (R.faults source.new) e) }
@@ -72,7 +73,7 @@ pub fn read_body<R: Source, T: Taker<R>>(
     taker: &mut T,
 ) -> Result<(), ReadingError>
     requires { StandsAt (T.input taker.now) window.now.at (left window.now.bytes (R.remaining source.now)) }
-    ensures ok { OnOk result (Takes readings magic (left window.old.bytes (R.remaining source.old)) (left window.new.bytes (R.remaining source.new)) (T.table taker.old) (T.table taker.new)) }
+    ensures ok { OnOk result (Gains (T.took taker.old) (T.took taker.new) (Takes readings magic (left window.old.bytes (R.remaining source.old)) (left window.new.bytes (R.remaining source.new)))) }
     ensures count { OnOk result (R.faults source.new ≡ R.faults source.old) }
     ensures err { IfErr result (λ e. Ends readings magic (left window.old.bytes (R.remaining source.old)) (left window.new.bytes (R.remaining source.new))
         (R.faults source.old) (R.faults source.new) e) }

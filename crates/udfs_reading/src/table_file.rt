@@ -4,6 +4,7 @@ ghost use Rattle.std.specs.Prelude.{◌≡◌, ℕ, ◌+◌, ◌≤◌, ◌++◌
 ghost use Rattle.udfs_lattice.specs.States.{State};
 ghost use Rattle.udfs_reading.specs.declared.error.ReadingFault.TheVariants.{Io};
 ghost use Rattle.udfs_reading.specs.Device.{left};
+ghost use Rattle.udfs_reading.specs.Gains.{Gains};
 ghost use Rattle.udfs_reading.specs.Places.{StandsAt};
 ghost use Rattle.udfs_reading.specs.Format.{number, header};
 ghost use Rattle.udfs_reading.specs.Outcome.{Ends, Takes};
@@ -28,7 +29,7 @@ fn read_state<R: Source, T: Taker<R>>(
 ) -> Result<(), ReadingError>
     requires block { block ≤ 4194303 }
     requires at { StandsAt (T.input taker.now) window.now.at (left window.now.bytes (R.remaining source.now)) }
-    ensures ok { OnOk result (TakesState (left window.old.bytes (R.remaining source.old)) (left window.new.bytes (R.remaining source.new)) block (T.table taker.old) (T.table taker.new)) }
+    ensures ok { OnOk result (Gains (T.took taker.old) (T.took taker.new) (TakesState (left window.old.bytes (R.remaining source.old)) (left window.new.bytes (R.remaining source.new)) block)) }
     ensures count { OnOk result (R.faults source.new ≡ R.faults source.old) }
     ensures at { OnOk result (StandsAt (T.input taker.new) window.new.at (left window.new.bytes (R.remaining source.new))) }
     ensures err { IfErr result (λ e. (count : ℕ) (done : List (ℕ × State)) → IsUnderEntries count done → length done + 1 ≡ entry → floor_after 0 done ≤ block →
@@ -65,7 +66,7 @@ fn read_entry<R: Source, T: Taker<R>>(
     taker: &mut T,
 ) -> Result<u32, ReadingError>
     requires { StandsAt (T.input taker.now) window.now.at (left window.now.bytes (R.remaining source.now)) }
-    ensures ok { IfOk result (λ next. TakesEntry (left window.old.bytes (R.remaining source.old)) (left window.new.bytes (R.remaining source.new)) floor next (T.table taker.old) (T.table taker.new)) }
+    ensures ok { IfOk result (λ next. Gains (T.took taker.old) (T.took taker.new) (TakesEntry (left window.old.bytes (R.remaining source.old)) (left window.new.bytes (R.remaining source.new)) floor next)) }
     ensures count { OnOk result (R.faults source.new ≡ R.faults source.old) }
     ensures at { OnOk result (StandsAt (T.input taker.new) window.new.at (left window.new.bytes (R.remaining source.new))) }
     ensures err { IfErr result (λ e. (count : ℕ) (done : List (ℕ × State)) → IsUnderEntries count done → length done + 1 ≡ entry → floor_after 0 done ≡ floor →
@@ -98,7 +99,7 @@ fn read_entries<R: Source, T: Taker<R>>(
     taker: &mut T,
 ) -> Result<(), ReadingError>
     requires { StandsAt (T.input taker.now) window.now.at (left window.now.bytes (R.remaining source.now)) }
-    ensures ok { OnOk result ((floor : ℕ) × TakesEntries (left window.old.bytes (R.remaining source.old)) (left window.new.bytes (R.remaining source.new)) count floor (T.table taker.old) (T.table taker.new)) }
+    ensures ok { OnOk result ((floor : ℕ) × Gains (T.took taker.old) (T.took taker.new) (TakesEntries (left window.old.bytes (R.remaining source.old)) (left window.new.bytes (R.remaining source.new)) count floor)) }
     ensures count { OnOk result (R.faults source.new ≡ R.faults source.old) }
     ensures err { IfErr result (λ e. Ends tables_v1 (header table_magic count) (left window.old.bytes (R.remaining source.old)) (left window.new.bytes (R.remaining source.new))
         (R.faults source.old) (R.faults source.new) e) }
@@ -119,7 +120,7 @@ pub fn read_body<R: Source, T: Taker<R>>(
     taker: &mut T,
 ) -> Result<(), ReadingError>
     requires { StandsAt (T.input taker.now) window.now.at (left window.now.bytes (R.remaining source.now)) }
-    ensures ok { OnOk result (Takes tables_v1 table_magic (left window.old.bytes (R.remaining source.old)) (left window.new.bytes (R.remaining source.new)) (T.table taker.old) (T.table taker.new)) }
+    ensures ok { OnOk result (Gains (T.took taker.old) (T.took taker.new) (Takes tables_v1 table_magic (left window.old.bytes (R.remaining source.old)) (left window.new.bytes (R.remaining source.new)))) }
     ensures count { OnOk result (R.faults source.new ≡ R.faults source.old) }
     ensures err { IfErr result (λ e. Ends tables_v1 table_magic (left window.old.bytes (R.remaining source.old)) (left window.new.bytes (R.remaining source.new))
         (R.faults source.old) (R.faults source.new) e) }

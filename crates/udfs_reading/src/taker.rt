@@ -16,15 +16,16 @@ pub struct NotTaken;
 /// What takes what inputs of the kind `R` say of blocks. It is told of each content and of each conflict in the order in which
 /// they stand in an input, and of each beginning of an input.
 pub trait Taker<R: Source> {
-    /// The table of what it took so far.
-    ghost table: { Self → Table };
+    /// This is the table of what it took so far. Where it keeps no bytes, but looks into inputs, it says so only where these
+    /// tell what they hold.
+    ghost took: { Self → Table → Type 0 };
 
-    /// The bytes of the input that is being taken, where it knows them. It keeps no bytes then, but looks into the input.
+    /// The bytes of the input that is being taken, where it looks into it, and it tells them.
     ghost input: { Self → Option (List ℕ) };
 
     /// The next input begins. It is said before its first byte is read.
     fn begin(&mut self, source: &mut R)
-        ensures table { table self.new ≡ table self.old }
+        ensures same { (t : Table) → took self.old t → took self.new t }
         ensures input { StandsAt (input self.new) 0 (R.remaining source.new) }
         ensures unread { R.remaining source.new ≡ R.remaining source.old }
         ensures count { R.faults source.new ≡ R.faults source.old };
@@ -38,8 +39,8 @@ pub trait Taker<R: Source> {
     fn put(&mut self, block: u32, bytes: &[u8; 2048], at: u64) -> Result<(), NotTaken>
         requires block { block ≤ 4194303 }
         requires at { HasBlockAt (input self.now) at bytes.now }
-        ensures ok { OnOk result (table self.new ≡ join_tables (table self.old) (one_record block bytes.now)) }
-        ensures err { OnErr result (table self.new ≡ table self.old) }
+        ensures ok { OnOk result ((t : Table) → took self.old t → took self.new (join_tables t (one_record block bytes.now))) }
+        ensures err { OnErr result ((t : Table) → took self.old t → took self.new t) }
         ensures input { input self.new ≡ input self.old };
 
     /// Takes that block `block` is in conflict, as [`BlockTable::add`] does with `Fact::Conflict`.
@@ -49,14 +50,14 @@ pub trait Taker<R: Source> {
     /// As [`put`](Self::put).
     fn dispute(&mut self, block: u32) -> Result<(), NotTaken>
         requires { block ≤ 4194303 }
-        ensures ok { OnOk result (table self.new ≡ join_tables (table self.old) (one_entry block Conflict)) }
-        ensures err { OnErr result (table self.new ≡ table self.old) }
+        ensures ok { OnOk result ((t : Table) → took self.old t → took self.new (join_tables t (one_entry block Conflict))) }
+        ensures err { OnErr result ((t : Table) → took self.old t → took self.new t) }
         ensures input { input self.new ≡ input self.old };
 }
 
 /// It keeps the bytes, and has no need to know where they stand.
 impl<R: Source> Taker<R> for BlockTable {
-    ghost table = { λ t. t };
+    ghost took = { λ a t. a ≡ t };
 
     ghost input = { λ _. None };
 

@@ -36,7 +36,7 @@ impl Log {
 }
 
 impl<R: Source> Taker<R> for Log {
-    ghost table = { λ l. l.table };
+    ghost took = { λ l t. l.table ≡ t };
 
     ghost input = { λ _. None };
 

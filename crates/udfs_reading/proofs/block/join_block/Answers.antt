@@ -1,8 +1,10 @@
 use Rattle.std.proofs.Common.{◌∙◌, ◌≡◌, ℕ, List, Option, [], take, drop, refl, sym, subst}
 use Rattle.std.specs.Io.KnownBytes.{Consumes}
 use Rattle.std.proofs.lemmas.Result.{err_from_is_err_and}
+use Rattle.udfs_lattice.specs.Tables.{join_tables, one_record}
 use Rattle.udfs_reading.specs.Device.{left}
 use Rattle.udfs_reading.specs.Places.{StandsAt}
+use Rattle.udfs_reading.proofs.GainLemmas.{gains_one}
 use Rattle.udfs_reading.proofs.Cuts.{block_cut}
 use Rattle.udfs_reading.proofs.Records.{is_block}
 use Rattle.udfs_reading.proofs.PlaceLemmas.{block_stands, chunk_moves, stands_still}
@@ -25,12 +27,15 @@ pub returns-in-Ok-clause-ok : goal.returns-in-Ok-clause-ok
 returns-in-Ok-clause-ok g c =
     let w = c.field.new.window.bytes in
     let R = g.R.Source in
-    record {
+    let block = c.args.block in
+    gains_one (one_record block (take 2048 w))
+    (λ t. record {
       taken = take 2048 w;
       is_block = is_block w c.chunk.result.now c.in_ok-field.ensures.whole c.chunk.ensures.value c.chunk.ensures.range;
       given = given_block w c.take.new.self.bytes (left c.args.window.now.bytes (R.remaining c.args.source.now)) (R.remaining c.field.new.source) c.in_ok-field.ensures.left c.take.ensures.bytes;
-      put = rw (sym c.chunk.ensures.value) c.in-Ok.ensures.ok;
-    }
+      put = refl;
+    })
+    (λ t h. subst (λ (l : List ℕ). g.T.Taker.took c.put-outcome.new.self (join_tables t (one_record block l))) c.chunk.ensures.value (c.in-Ok.ensures.ok t h))
 
 pub returns-in-Ok-clause-at : goal.returns-in-Ok-clause-at
 returns-in-Ok-clause-at g c =

@@ -2,12 +2,14 @@ use Rattle.std.proofs.Common.{ℕ, List, Option, [], ◌∷◌, ◌++◌, arith,
 use Rattle.std.proofs.lemmas.Result.{err_from_is_err_and}
 use Rattle.std.specs.Io.KnownBytes.{Consumes}
 use Rattle.std.proofs.KnownBytes.{Consumes-nil, Consumes-trans}
-use Rattle.udfs_lattice.specs.declared.facts.Fact.TheVariants.{Known}
+use Rattle.udfs_lattice.specs.declared.facts.Fact.TheVariants.{Known, Conflict}
 use Rattle.udfs_reading.specs.declared.error.ReadingFault.TheVariants.{State}
+use Rattle.udfs_lattice.specs.Tables.{one_entry}
 use Rattle.udfs_reading.specs.Device.{left}
 use Rattle.udfs_reading.specs.Places.{StandsAt}
 use Rattle.udfs_reading.specs.Format.{number, In}
 use Rattle.udfs_reading.specs.TableReading.{table_format, entries_front, AtState, AtContent}
+use Rattle.udfs_reading.proofs.GainLemmas.{gains_as, gains_one}
 use Rattle.udfs_reading.proofs.Entries.{state_sound}
 use Rattle.udfs_reading.proofs.Ends.{fault_at, ends_cut, ends_block}
 use Rattle.udfs_reading.proofs.table_file.read_state.Goals as goal
@@ -28,14 +30,13 @@ returns-in_err-join_block-clause-err g c =
 
 pub returns-then-code-eq1-clause-ok : goal.returns-then-code-eq1-clause-ok
 returns-then-code-eq1-clause-ok g c =
-    let t = c.in_ok-join_block.ensures.ok in
     let one = subst (λ (b : ℕ). Consumes (left c.args.window.now.bytes (g.R.Source.remaining c.args.source.now)) (left c.read_byte.new.window.bytes (g.R.Source.remaining c.read_byte.new.source)) (b ∷ [])) c.if-code-eq1.true c.in_ok-code.ensures.bytes in
-    record {
+    gains_as (λ before after t. record {
       taken = Known t.taken;
       entry = (c.requires.block, t.is_block);
       given = Consumes-trans _ _ _ (1 ∷ []) t.taken one t.given;
       put = t.put;
-    }
+    }) c.in_ok-join_block.ensures.ok
 
 pub returns-then-code-ne2-clause-err : goal.returns-then-code-ne2-clause-err
 returns-then-code-ne2-clause-err g c count done under at floor =
@@ -62,3 +63,8 @@ pub returns-in-Ok-clause-at : goal.returns-in-Ok-clause-at
 returns-in-Ok-clause-at g c =
     subst (λ (o : Option (List ℕ)). StandsAt o c.read_byte.new.window.at (left c.read_byte.new.window.bytes (g.R.Source.remaining c.read_byte.new.source))) (sym c.in-Ok.ensures.input)
     (c.in_ok-code.ensures.at _ c.requires.at)
+
+pub returns-in-Ok-clause-ok : goal.returns-in-Ok-clause-ok
+returns-in-Ok-clause-ok g c =
+    let two = subst (λ (b : ℕ). Consumes (left c.args.window.now.bytes (g.R.Source.remaining c.args.source.now)) (left c.read_byte.new.window.bytes (g.R.Source.remaining c.read_byte.new.source)) (b ∷ [])) c.if-code-ne2.false c.in_ok-code.ensures.bytes in
+    gains_one (one_entry c.args.block Conflict) (λ t. record { taken = Conflict; entry = c.requires.block; given = two; put = refl }) c.in-Ok.ensures.ok
