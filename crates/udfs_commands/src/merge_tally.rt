@@ -134,7 +134,7 @@ fn state_before(joined: &BlockTable, begun: usize, block: u32) -> Fact<&[u8; 204
 }
 
 impl<R: Source> Taker<R> for MergeTally {
-    ghost table = { λ m. m };
+    ghost took = { λ m t. m ≡ t };
 
     ghost input = { λ _. None };
 
