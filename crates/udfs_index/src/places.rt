@@ -15,7 +15,7 @@ const PACKETS: usize = 131_072;
 /// it as is written, up to the highest block.
 #[derive(Drop)]
 pub struct Places {
-    packets: Vec<Packet>,
+    pub packets: Vec<Packet>,
 }
 
 /// Adds packets of which nothing is known, up to this number.
