@@ -8,7 +8,7 @@ use crate::stored::Stored;
 use std::alloc::{AllocError, Global};
 use std::test::Fail;
 use udfs_lattice::Fact;
-use udfs_reading::{DeviceFault, ReadingFault, take_inputs};
+use udfs_reading::{DeviceFault, InputError, ReadingFault, take_inputs};
 
 /// Bytes in memory, of which no block can be read alone where that fails.
 #[derive(Drop)]
@@ -50,6 +50,18 @@ fn reading(alloc: Global, records: &[(u32, u8)]) -> Result<Vec<u8>, AllocError> 
     Ok(file)
 }
 
+/// The index of two inputs, and why not all of them were taken.
+fn index_of<'a, S: Stored>(
+    alloc: Global,
+    first: &'a S,
+    second: &'a S,
+) -> Result<(Index<'a, S>, Option<InputError>), AllocError> {
+    let mut index = Index::new(alloc)?;
+    let mut sources = [Cursor::new(first), Cursor::new(second)];
+    let error = take_inputs(&mut sources, &mut index).err();
+    Ok((index, error))
+}
+
 #[test]
 fn two_passes_are_taken_by_index(rt: HostRuntime) -> Result<(), Fail> {
     let alloc = rt.alloc();
@@ -63,9 +75,8 @@ fn two_passes_are_taken_by_index(rt: HostRuntime) -> Result<(), Fail> {
         bytes: two.as_slice(),
         fails: false,
     };
-    let mut sources = [Cursor::new(&first), Cursor::new(&second)];
-    let mut index = Index::new(alloc)?;
-    assert!(rt; take_inputs(&mut sources, &mut index).is_ok());
+    let (index, error) = index_of(alloc, &first, &second)?;
+    assert!(rt; error.is_none());
     assert!(rt; matches!(index.slot(5), Fact::Conflict));
     assert!(rt; matches!(index.slot(6), Fact::Unknown));
     // The first input, behind its header, a record, and the number of a block.
@@ -88,11 +99,10 @@ fn an_input_that_cannot_be_looked_into_is_named(rt: HostRuntime) -> Result<(), F
         bytes: one.as_slice(),
         fails: false,
     };
-    let mut sources = [Cursor::new(&first), Cursor::new(&second)];
-    let mut index = Index::new(alloc)?;
-    match take_inputs(&mut sources, &mut index) {
-        Ok(()) => assert!(rt; false),
-        Err(e) => {
+    let (index, error) = index_of(alloc, &first, &second)?;
+    match error {
+        None => assert!(rt; false),
+        Some(e) => {
             assert_eq!(rt; e.input, 2);
             assert_eq!(rt; e.error.fault, ReadingFault::OutOfMemory);
         }
