@@ -9,5 +9,6 @@ mod only;
 mod paging;
 mod profiles;
 mod reporting;
+mod short_names;
 mod summing;
 mod unnamed;

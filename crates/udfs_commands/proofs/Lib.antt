@@ -17,3 +17,5 @@ pub mod ImageWordsLemmas
 mod DigestLemmas
 mod ManifestLemmas
 pub mod LostLemmas
+mod ShortNameLemmas
+mod PlaceLemmas

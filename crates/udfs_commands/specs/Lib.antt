@@ -20,3 +20,4 @@ pub mod Digests
 pub mod SumLines
 pub mod Manifests
 pub mod LostFiles
+pub mod ShortNames

@@ -14,7 +14,8 @@ use crate::merge::Version;
 use crate::report::Form;
 use crate::sources::InputPath;
 use crate::words::{
-    CONFLICTS, FILL, FORCE, INPUTS, JSON, MANIFEST, MAPFILE, NULL, OUT, PAIRS, PATHS, TO, TORN,
+    CONFLICTS, FILL, FORCE, INPUTS, JSON, MANIFEST, MAPFILE, NULL, OUT, PAIRS, PATHS,
+    SHORT_NAMES, TO, TORN,
     UNNAMED, V1,
 };
 use clap::ArgMatches;
@@ -179,6 +180,13 @@ pub fn asked_lost_folder<'a>(words: &ArgMatches<'a>) -> &'a str
     ensures { result.now ≡ lost_text (found_of words.now) }
 {
     words.get_str(UNNAMED).unwrap_or("")
+}
+
+/// Whether the words after `extract` ask for short names in the place of those that are too long.
+pub fn asked_short(words: &ArgMatches<'_>) -> bool
+    ensures { IsPicked (found_of words.now) (codes "short-names") true false result }
+{
+    is_set(words, SHORT_NAMES)
 }
 
 /// What the words after `extract` ask to write of torn files: zeros in the holes with `--fill`, and else nothing.

@@ -21,8 +21,8 @@ use crate::extract::{Deed, Fate, still_good};
 use crate::files::Files;
 use crate::node_files::{finish_file, give_up, put_folder};
 use crate::refusal::Refusal;
+use crate::short_names::push_icb_number;
 use std::alloc::{AllocError, Global};
-use std::fmt::Write;
 use udfs_files::{Job, fill_by};
 use udfs_reading::{Sink, WriteFault, write_all};
 use udfs_salvage::{
@@ -34,12 +34,7 @@ use udfs_walk::Unnamed;
 fn push_lost_name(text: &mut String, two: bool, entry: &Unnamed) -> Result<(), AllocError>
     ensures { OnOk result (string_bytes text.new ≡ string_bytes text.old ++ lost_name two entry.now) }
 {
-    let block = entry.block;
-    if two {
-        let reference = entry.reference;
-        return write!(text, "{reference}-{block}");
-    }
-    write!(text, "{block}")
+    push_icb_number(text, two, entry.reference, entry.block)
 }
 
 /// The path of the file of an entry in a folder.

@@ -61,6 +61,9 @@ pub const MANIFEST: &str = "manifest";
 /// The id of the folder for lost files among the matches.
 pub const UNNAMED: &str = "unnamed";
 
+/// The id of the flag for short names among the matches.
+pub const SHORT_NAMES: &str = "short-names";
+
 /// The id of the flag for JSON among the matches.
 pub const JSON: &str = "json";
 
@@ -196,7 +199,7 @@ fn bare_extract<'a>(alloc: Global) -> Command<'a>
     Command::new(alloc, "extract").about("Writes the files that are whole into a new folder")
 }
 
-/// `extract (--last N | --size BYTES) [--profile PROFILE] --to DIR [--fill] [--only PATH]... [--manifest FILE] [--unnamed DIR] IN...`
+/// `extract (--last N | --size BYTES) [--profile PROFILE] --to DIR [--fill] [--only PATH]... [--manifest FILE] [--unnamed DIR] [--short-names] IN...`
 fn extract<'a>(alloc: Global, given: Given) -> Result<Command<'a>, AllocError>
     ensures { IfOk result (λ command. app_of command ≡ extract_app given) }
 {
@@ -212,7 +215,12 @@ fn extract<'a>(alloc: Global, given: Given) -> Result<Command<'a>, AllocError>
         ))?
         .arg(only(alloc))?
         .arg(manifest(alloc))?
-        .arg(lost_folder(alloc))?;
+        .arg(lost_folder(alloc))?
+        .arg(flag(
+            alloc,
+            SHORT_NAMES,
+            "Write what has a name that is too long under a short one: its beginning and a number",
+        ))?;
     with_inputs(alloc, command, given.pairs)
 }
 

@@ -13,5 +13,6 @@ returns c =
     let five = c.in_ok-arg-5.ensures.shape c.flag.ensures.1 ∙ ap₂ with_rule four c.flag.ensures.0 in
     let six = c.in_ok-arg-6.ensures.shape c.only.ensures.1 ∙ ap₂ with_rule five c.only.ensures.0 in
     let seven = c.in_ok-arg-7.ensures.shape c.manifest.ensures.1 ∙ ap₂ with_rule six c.manifest.ensures.0 in
-    let eight = c.in_ok-command.ensures.shape c.lost_folder.ensures.1 ∙ ap₂ with_rule seven c.lost_folder.ensures.0 in
-    IfOk-weaker c.with_inputs.result _ _ (λ m h. h ∙ ap₂ with_inputs eight refl) c.with_inputs.ensures
+    let eight = c.in_ok-arg-8.ensures.shape c.lost_folder.ensures.1 ∙ ap₂ with_rule seven c.lost_folder.ensures.0 in
+    let nine = c.in_ok-command.ensures.shape c.flag-2.ensures.1 ∙ ap₂ with_rule eight c.flag-2.ensures.0 in
+    IfOk-weaker c.with_inputs.result _ _ (λ m h. h ∙ ap₂ with_inputs nine refl) c.with_inputs.ensures
