@@ -20,4 +20,5 @@ pub mod Digests
 pub mod SumLines
 pub mod Manifests
 pub mod LostFiles
+pub mod Timing
 pub mod ShortNames

@@ -29,6 +29,7 @@ ghost use Rattle.udfs_commands.specs.Summarizing.{PrintsSummary};
 ghost use Rattle.udfs_commands.specs.Obeying.{Asks, GrammarTakes, IsAsked};
 ghost use Rattle.udfs_overview.specs.declared.node_list.ListForm.{ListForm};
 ghost use Rattle.udfs_commands.specs.Spelling.{table_file};
+ghost use Rattle.udfs_commands.specs.Timing.{IsTold};
 ghost use Rattle.udfs_commands.specs.declared.merge.Version.{Version};
 ghost use Rattle.udfs_commands.specs.declared.report.Form.{Form};
 
@@ -46,7 +47,8 @@ use crate::report_words::{list_words, report_words, summary_words};
 use crate::reread_words::reread_as;
 use crate::sources::AnySource;
 use crate::streams::are_two_streams;
-use crate::unnamed_words::extract_asked;
+use crate::timed_words::extract_timed;
+use crate::times::keep_times;
 use crate::words::{QUIET, VERBOSE, given_in, grammar};
 use clap::error::ErrorKind;
 use clap::{ArgMatches, Error};
@@ -59,6 +61,12 @@ const NO_MEMORY: &[u8] = b"udfsalvage: out of memory\n";
 /// What is said where standard input is to be read twice.
 const TWO_STREAMS: &[u8] =
     b"error: the argument '-' cannot be used multiple times\n\nFor more information, try '--help'.\n";
+
+/// How clap lists that a list of blocks is missing.
+const NO_BLOCKS: &str = "\n  --blocks <LIST>\n";
+
+/// How it lists that one of two is missing.
+const NOTHING_TO_FORGET: &str = "\n  <--conflicts|--blocks <LIST>>\n";
 
 /// What is said of a word that is not text.
 const NOT_TEXT: &[u8] =
@@ -95,20 +103,21 @@ pub fn run<F: Files, O: Sink, E: Sink>(
         (λ bytes. (F.tells → IsKept (F.holds files.new) (F.may_leave files.new) (F.real files.old (mapfile_text found)) bytes) ⊎ (F.in_place files.old (mapfile_text found) × IsTaken F.Output.contents bytes))
         (O.contents out.old) (O.contents out.new) (O.faults out.old) (O.faults out.new) whole ×
         (F.tells → IsFreeMap (F.holds files.old) (F.real files.old) (F.in_place files.old) (pair_texts found) (mapfile_text found))) }
-    ensures extract { GrammarTakes (map string_bytes words.now) → Asks (map string_bytes words.now) (codes "extract") → result ≢ 2 → (good : Bool) × (result ≡ cond good 0 1) × (found : Found) × IsAsked (map string_bytes words.now) (codes "extract") found ×
-        (has_lost found ≡ false → has_manifest found ≡ false → has_only found ≡ false → (fill : Fill) × (short : Bool) × (last : ℕ) × (profile : Profile) × (inputs : List InputPath) × (map asked_for inputs ≡ asked_inputs found) ×
+    // Where `--times` asks for times, one that could not be set is lacking too.
+    ensures extract { GrammarTakes (map string_bytes words.now) → Asks (map string_bytes words.now) (codes "extract") → result ≢ 2 → (all : Bool) × (result ≡ cond all 0 1) × (found : Found) × IsAsked (map string_bytes words.now) (codes "extract") found ×
+        ((good : Bool) × IsTold found good all × (has_lost found ≡ false → has_manifest found ≡ false → has_only found ≡ false → (fill : Fill) × (short : Bool) × (last : ℕ) × (profile : Profile) × (inputs : List InputPath) × (map asked_for inputs ≡ asked_inputs found) ×
         IsPicked found (codes "fill") (Fill.Byte 0) Fill.Refuse fill × IsPicked found (codes "short-names") true false short × IsLast (λ path. F.holds files.old (F.real files.old path)) inputs found last × IsProfile found profile ×
         OfPaths (λ path. F.holds files.old (F.real files.old path)) (⟦<AnySource<F::Input, F::Image> as Source>⟧.remaining) inputs
         (ExtractsAll short (λ table told. IsPut F.tells (Fails F.faults ⊎ Fails F.Output.faults) table told fill short (folder_text found) (F.holds files.new) (F.moment files.new) (F.left_since files.new))
-        files.old files.new profile last (O.contents out.old) (O.contents out.new) (O.faults out.old) (O.faults out.new) good)) }
-    ensures chosen { GrammarTakes (map string_bytes words.now) → Asks (map string_bytes words.now) (codes "extract") → result ≢ 2 → (good : Bool) × (result ≡ cond good 0 1) × (found : Found) × IsAsked (map string_bytes words.now) (codes "extract") found ×
-        (has_lost found ≡ false → has_manifest found ≡ false → (fill : Fill) × (short : Bool) × (last : ℕ) × (profile : Profile) × (inputs : List InputPath) × (map asked_for inputs ≡ asked_inputs found) ×
+        files.old files.new profile last (O.contents out.old) (O.contents out.new) (O.faults out.old) (O.faults out.new) good))) }
+    ensures chosen { GrammarTakes (map string_bytes words.now) → Asks (map string_bytes words.now) (codes "extract") → result ≢ 2 → (all : Bool) × (result ≡ cond all 0 1) × (found : Found) × IsAsked (map string_bytes words.now) (codes "extract") found ×
+        ((good : Bool) × IsTold found good all × (has_lost found ≡ false → has_manifest found ≡ false → (fill : Fill) × (short : Bool) × (last : ℕ) × (profile : Profile) × (inputs : List InputPath) × (map asked_for inputs ≡ asked_inputs found) ×
         IsPicked found (codes "fill") (Fill.Byte 0) Fill.Refuse fill × IsPicked found (codes "short-names") true false short × IsLast (λ path. F.holds files.old (F.real files.old path)) inputs found last × IsProfile found profile ×
         OfPaths (λ path. F.holds files.old (F.real files.old path)) (⟦<AnySource<F::Input, F::Image> as Source>⟧.remaining) inputs
         (ExtractsChosen (only_texts found) short (λ table told. IsPut F.tells (Fails F.faults ⊎ Fails F.Output.faults) table told fill short (folder_text found) (F.holds files.new) (F.moment files.new) (F.left_since files.new))
-        F.holds (folder_text found) files.old files.new profile last (O.contents out.old) (O.contents out.new) (O.faults out.old) (O.faults out.new) good)) }
-    ensures listed { GrammarTakes (map string_bytes words.now) → Asks (map string_bytes words.now) (codes "extract") → result ≢ 2 → (good : Bool) × (result ≡ cond good 0 1) × (found : Found) × IsAsked (map string_bytes words.now) (codes "extract") found ×
-        (has_lost found ≡ false → has_manifest found ≡ true → ((fill : Fill) × (short : Bool) × (last : ℕ) × (profile : Profile) × (inputs : List InputPath) × (map asked_for inputs ≡ asked_inputs found) ×
+        F.holds (folder_text found) files.old files.new profile last (O.contents out.old) (O.contents out.new) (O.faults out.old) (O.faults out.new) good))) }
+    ensures listed { GrammarTakes (map string_bytes words.now) → Asks (map string_bytes words.now) (codes "extract") → result ≢ 2 → (all : Bool) × (result ≡ cond all 0 1) × (found : Found) × IsAsked (map string_bytes words.now) (codes "extract") found ×
+        ((good : Bool) × IsTold found good all × (has_lost found ≡ false → has_manifest found ≡ true → ((fill : Fill) × (short : Bool) × (last : ℕ) × (profile : Profile) × (inputs : List InputPath) × (map asked_for inputs ≡ asked_inputs found) ×
         IsPicked found (codes "fill") (Fill.Byte 0) Fill.Refuse fill × IsPicked found (codes "short-names") true false short × IsLast (λ path. F.holds files.old (F.real files.old path)) inputs found last × IsProfile found profile ×
         OfPaths (λ path. F.holds files.old (F.real files.old path)) (⟦<AnySource<F::Input, F::Image> as Source>⟧.remaining) inputs
         (ListsChosen (only_texts found) short
@@ -116,22 +125,22 @@ pub fn run<F: Files, O: Sink, E: Sink>(
         (λ f told fates text. F.tells → IsManifest (F.holds f) (folder_text found) short told fates text)
         (λ f text. F.tells → IsPutLast F.holds F.may_leave F.moment F.left_since (F.real files.old (manifest_text found)) f files.new text)
         F.holds (folder_text found) files.old files.new profile last (O.contents out.old) (O.contents out.new) (O.faults out.old) (O.faults out.new) good)) ×
-        (F.tells → IsFreeManifest (F.holds files.old) (F.real files.old) (input_texts found) (pair_texts found) (folder_text found) (manifest_text found))) }
+        (F.tells → IsFreeManifest (F.holds files.old) (F.real files.old) (input_texts found) (pair_texts found) (folder_text found) (manifest_text found)))) }
     // With `--unnamed` the same, and then the lost files are written, into a folder that was not there.
-    ensures lost { GrammarTakes (map string_bytes words.now) → Asks (map string_bytes words.now) (codes "extract") → result ≢ 2 → (good : Bool) × (result ≡ cond good 0 1) × (found : Found) × IsAsked (map string_bytes words.now) (codes "extract") found ×
-        (has_lost found ≡ true → has_manifest found ≡ false → ExtractAsked (λ path. F.holds files.old (F.real files.old path)) (⟦<AnySource<F::Input, F::Image> as Source>⟧.remaining) found (λ fill short last profile. AddsLost
+    ensures lost { GrammarTakes (map string_bytes words.now) → Asks (map string_bytes words.now) (codes "extract") → result ≢ 2 → (all : Bool) × (result ≡ cond all 0 1) × (found : Found) × IsAsked (map string_bytes words.now) (codes "extract") found ×
+        ((good : Bool) × IsTold found good all × (has_lost found ≡ true → has_manifest found ≡ false → ExtractAsked (λ path. F.holds files.old (F.real files.old path)) (⟦<AnySource<F::Input, F::Image> as Source>⟧.remaining) found (λ fill short last profile. AddsLost
         (λ (mid : F) (between : O) nodes_good. ExtractsChosen (only_texts found) short (λ table told. IsPut F.tells (Fails F.faults ⊎ Fails F.Output.faults) table told fill short (folder_text found) (F.holds mid) (F.moment mid) (F.left_since mid))
         F.holds (folder_text found) files.old mid profile last (O.contents out.old) (O.contents between) (O.faults out.old) (O.faults between) nodes_good)
         (λ (mid : F) (between : O) lost_good. WritesLost (λ table told two. IsLostPut F.tells (Fails F.faults ⊎ Fails F.Output.faults) table told (lost_text found) two (F.holds files.new) (F.moment files.new) (F.left_since files.new))
-        (SparesLost F.tells F.holds F.may_leave F.moment F.left_since (lost_text found) mid files.new) profile last (O.contents between) (O.contents out.new) (O.faults between) (O.faults out.new) lost_good) good)) }
-    ensures listed_lost { GrammarTakes (map string_bytes words.now) → Asks (map string_bytes words.now) (codes "extract") → result ≢ 2 → (good : Bool) × (result ≡ cond good 0 1) × (found : Found) × IsAsked (map string_bytes words.now) (codes "extract") found ×
-        (has_lost found ≡ true → has_manifest found ≡ true → ExtractAsked (λ path. F.holds files.old (F.real files.old path)) (⟦<AnySource<F::Input, F::Image> as Source>⟧.remaining) found (λ fill short last profile. AddsLost
+        (SparesLost F.tells F.holds F.may_leave F.moment F.left_since (lost_text found) mid files.new) profile last (O.contents between) (O.contents out.new) (O.faults between) (O.faults out.new) lost_good) good))) }
+    ensures listed_lost { GrammarTakes (map string_bytes words.now) → Asks (map string_bytes words.now) (codes "extract") → result ≢ 2 → (all : Bool) × (result ≡ cond all 0 1) × (found : Found) × IsAsked (map string_bytes words.now) (codes "extract") found ×
+        ((good : Bool) × IsTold found good all × (has_lost found ≡ true → has_manifest found ≡ true → ExtractAsked (λ path. F.holds files.old (F.real files.old path)) (⟦<AnySource<F::Input, F::Image> as Source>⟧.remaining) found (λ fill short last profile. AddsLost
         (λ (mid : F) (between : O) nodes_good. ListsChosen (only_texts found) short (λ f table told. IsPut F.tells (Fails F.faults ⊎ Fails F.Output.faults) table told fill short (folder_text found) (F.holds f) (F.moment f) (F.left_since f))
         (λ f told fates text. F.tells → IsManifest (F.holds f) (folder_text found) short told fates text)
         (λ f text. F.tells → IsPutLast F.holds F.may_leave F.moment F.left_since (F.real files.old (manifest_text found)) f mid text)
         F.holds (folder_text found) files.old mid profile last (O.contents out.old) (O.contents between) (O.faults out.old) (O.faults between) nodes_good)
         (λ (mid : F) (between : O) lost_good. WritesLost (λ table told two. IsLostPut F.tells (Fails F.faults ⊎ Fails F.Output.faults) table told (lost_text found) two (F.holds files.new) (F.moment files.new) (F.left_since files.new))
-        (SparesLost F.tells F.holds F.may_leave F.moment F.left_since (lost_text found) mid files.new) profile last (O.contents between) (O.contents out.new) (O.faults between) (O.faults out.new) lost_good) good)) }
+        (SparesLost F.tells F.holds F.may_leave F.moment F.left_since (lost_text found) mid files.new) profile last (O.contents between) (O.contents out.new) (O.faults between) (O.faults out.new) lost_good) good))) }
     ensures free_lost { GrammarTakes (map string_bytes words.now) → Asks (map string_bytes words.now) (codes "extract") → result ≢ 2 → (good : Bool) × (result ≡ cond good 0 1) × (found : Found) × IsAsked (map string_bytes words.now) (codes "extract") found ×
         ((has_lost found ≡ true → F.tells → IsNewFolder (F.holds files.old) (F.real files.old) (lost_others found) (lost_text found)) × (has_lost found ≡ true → has_manifest found ≡ true → F.tells → IsFreeManifest (F.holds files.old) (F.real files.old) (input_texts found) (pair_texts found) (folder_text found) (manifest_text found))) }
     ensures forget { GrammarTakes (map string_bytes words.now) → Asks (map string_bytes words.now) (codes "forget") → result ≢ 2 → (result ≡ 0) × (found : Found) × IsAsked (map string_bytes words.now) (codes "forget") found ×
@@ -205,6 +214,9 @@ pub fn run<F: Files, O: Sink, E: Sink>(
         return 2;
     }
     set_tone(found, files);
+    if let Err(AllocError) = keep_times(found, files) {
+        return refuse(alloc, &Refusal::Memory(AllocError), err);
+    }
     match obey(alloc, name, found, files, out) {
         Some(outcome) => finish(alloc, outcome, found, words, files, err),
         // The grammar has no other command.
@@ -237,17 +249,17 @@ fn obey<F: Files, O: Sink>(
     ensures reread { name.now ≡ codes "reread" → IfSome result (λ outcome. IfOk outcome (λ whole. is_mapped (found_of words.now) ≡ false → (last : ℕ) × (profile : Profile) × (inputs : List InputPath) × (map asked_for inputs ≡ asked_inputs (found_of words.now)) ×
         IsLast (λ path. F.holds files.old (F.real files.old path)) inputs (found_of words.now) last × IsProfile (found_of words.now) profile × OfPaths (λ path. F.holds files.old (F.real files.old path)) (⟦<AnySource<F::Input, F::Image> as Source>⟧.remaining) inputs
         (PrintsNumbers profile last (O.contents out.old) (O.contents out.new) (O.faults out.old) (O.faults out.new) whole))) }
-    ensures extract { name.now ≡ codes "extract" → IfSome result (λ outcome. IfOk outcome (λ good. has_lost (found_of words.now) ≡ false → has_manifest (found_of words.now) ≡ false → has_only (found_of words.now) ≡ false → (fill : Fill) × (short : Bool) × (last : ℕ) × (profile : Profile) × (inputs : List InputPath) × (map asked_for inputs ≡ asked_inputs (found_of words.now)) ×
+    ensures extract { name.now ≡ codes "extract" → IfSome result (λ outcome. IfOk outcome (λ all. (good : Bool) × IsTold (found_of words.now) good all × (has_lost (found_of words.now) ≡ false → has_manifest (found_of words.now) ≡ false → has_only (found_of words.now) ≡ false → (fill : Fill) × (short : Bool) × (last : ℕ) × (profile : Profile) × (inputs : List InputPath) × (map asked_for inputs ≡ asked_inputs (found_of words.now)) ×
         IsPicked (found_of words.now) (codes "fill") (Fill.Byte 0) Fill.Refuse fill × IsPicked (found_of words.now) (codes "short-names") true false short × IsLast (λ path. F.holds files.old (F.real files.old path)) inputs (found_of words.now) last × IsProfile (found_of words.now) profile ×
         OfPaths (λ path. F.holds files.old (F.real files.old path)) (⟦<AnySource<F::Input, F::Image> as Source>⟧.remaining) inputs
         (ExtractsAll short (λ table told. IsPut F.tells (Fails F.faults ⊎ Fails F.Output.faults) table told fill short (folder_text (found_of words.now)) (F.holds files.new) (F.moment files.new) (F.left_since files.new))
-        files.old files.new profile last (O.contents out.old) (O.contents out.new) (O.faults out.old) (O.faults out.new) good))) }
-    ensures chosen { name.now ≡ codes "extract" → IfSome result (λ outcome. IfOk outcome (λ good. has_lost (found_of words.now) ≡ false → has_manifest (found_of words.now) ≡ false → (fill : Fill) × (short : Bool) × (last : ℕ) × (profile : Profile) × (inputs : List InputPath) × (map asked_for inputs ≡ asked_inputs (found_of words.now)) ×
+        files.old files.new profile last (O.contents out.old) (O.contents out.new) (O.faults out.old) (O.faults out.new) good)))) }
+    ensures chosen { name.now ≡ codes "extract" → IfSome result (λ outcome. IfOk outcome (λ all. (good : Bool) × IsTold (found_of words.now) good all × (has_lost (found_of words.now) ≡ false → has_manifest (found_of words.now) ≡ false → (fill : Fill) × (short : Bool) × (last : ℕ) × (profile : Profile) × (inputs : List InputPath) × (map asked_for inputs ≡ asked_inputs (found_of words.now)) ×
         IsPicked (found_of words.now) (codes "fill") (Fill.Byte 0) Fill.Refuse fill × IsPicked (found_of words.now) (codes "short-names") true false short × IsLast (λ path. F.holds files.old (F.real files.old path)) inputs (found_of words.now) last × IsProfile (found_of words.now) profile ×
         OfPaths (λ path. F.holds files.old (F.real files.old path)) (⟦<AnySource<F::Input, F::Image> as Source>⟧.remaining) inputs
         (ExtractsChosen (only_texts (found_of words.now)) short (λ table told. IsPut F.tells (Fails F.faults ⊎ Fails F.Output.faults) table told fill short (folder_text (found_of words.now)) (F.holds files.new) (F.moment files.new) (F.left_since files.new))
-        F.holds (folder_text (found_of words.now)) files.old files.new profile last (O.contents out.old) (O.contents out.new) (O.faults out.old) (O.faults out.new) good))) }
-    ensures listed { name.now ≡ codes "extract" → IfSome result (λ outcome. IfOk outcome (λ good. has_lost (found_of words.now) ≡ false → has_manifest (found_of words.now) ≡ true → ((fill : Fill) × (short : Bool) × (last : ℕ) × (profile : Profile) × (inputs : List InputPath) × (map asked_for inputs ≡ asked_inputs (found_of words.now)) ×
+        F.holds (folder_text (found_of words.now)) files.old files.new profile last (O.contents out.old) (O.contents out.new) (O.faults out.old) (O.faults out.new) good)))) }
+    ensures listed { name.now ≡ codes "extract" → IfSome result (λ outcome. IfOk outcome (λ all. (good : Bool) × IsTold (found_of words.now) good all × (has_lost (found_of words.now) ≡ false → has_manifest (found_of words.now) ≡ true → ((fill : Fill) × (short : Bool) × (last : ℕ) × (profile : Profile) × (inputs : List InputPath) × (map asked_for inputs ≡ asked_inputs (found_of words.now)) ×
         IsPicked (found_of words.now) (codes "fill") (Fill.Byte 0) Fill.Refuse fill × IsPicked (found_of words.now) (codes "short-names") true false short × IsLast (λ path. F.holds files.old (F.real files.old path)) inputs (found_of words.now) last × IsProfile (found_of words.now) profile ×
         OfPaths (λ path. F.holds files.old (F.real files.old path)) (⟦<AnySource<F::Input, F::Image> as Source>⟧.remaining) inputs
         (ListsChosen (only_texts (found_of words.now)) short
@@ -255,19 +267,19 @@ fn obey<F: Files, O: Sink>(
         (λ f told fates text. F.tells → IsManifest (F.holds f) (folder_text (found_of words.now)) short told fates text)
         (λ f text. F.tells → IsPutLast F.holds F.may_leave F.moment F.left_since (F.real files.old (manifest_text (found_of words.now))) f files.new text)
         F.holds (folder_text (found_of words.now)) files.old files.new profile last (O.contents out.old) (O.contents out.new) (O.faults out.old) (O.faults out.new) good)) ×
-        (F.tells → IsFreeManifest (F.holds files.old) (F.real files.old) (input_texts (found_of words.now)) (pair_texts (found_of words.now)) (folder_text (found_of words.now)) (manifest_text (found_of words.now))))) }
-    ensures lost { name.now ≡ codes "extract" → IfSome result (λ outcome. IfOk outcome (λ good. has_lost (found_of words.now) ≡ true → has_manifest (found_of words.now) ≡ false → ExtractAsked (λ path. F.holds files.old (F.real files.old path)) (⟦<AnySource<F::Input, F::Image> as Source>⟧.remaining) (found_of words.now) (λ fill short last profile. AddsLost
+        (F.tells → IsFreeManifest (F.holds files.old) (F.real files.old) (input_texts (found_of words.now)) (pair_texts (found_of words.now)) (folder_text (found_of words.now)) (manifest_text (found_of words.now)))))) }
+    ensures lost { name.now ≡ codes "extract" → IfSome result (λ outcome. IfOk outcome (λ all. (good : Bool) × IsTold (found_of words.now) good all × (has_lost (found_of words.now) ≡ true → has_manifest (found_of words.now) ≡ false → ExtractAsked (λ path. F.holds files.old (F.real files.old path)) (⟦<AnySource<F::Input, F::Image> as Source>⟧.remaining) (found_of words.now) (λ fill short last profile. AddsLost
         (λ (mid : F) (between : O) nodes_good. ExtractsChosen (only_texts (found_of words.now)) short (λ table told. IsPut F.tells (Fails F.faults ⊎ Fails F.Output.faults) table told fill short (folder_text (found_of words.now)) (F.holds mid) (F.moment mid) (F.left_since mid))
         F.holds (folder_text (found_of words.now)) files.old mid profile last (O.contents out.old) (O.contents between) (O.faults out.old) (O.faults between) nodes_good)
         (λ (mid : F) (between : O) lost_good. WritesLost (λ table told two. IsLostPut F.tells (Fails F.faults ⊎ Fails F.Output.faults) table told (lost_text (found_of words.now)) two (F.holds files.new) (F.moment files.new) (F.left_since files.new))
-        (SparesLost F.tells F.holds F.may_leave F.moment F.left_since (lost_text (found_of words.now)) mid files.new) profile last (O.contents between) (O.contents out.new) (O.faults between) (O.faults out.new) lost_good) good))) }
-    ensures listed_lost { name.now ≡ codes "extract" → IfSome result (λ outcome. IfOk outcome (λ good. has_lost (found_of words.now) ≡ true → has_manifest (found_of words.now) ≡ true → ExtractAsked (λ path. F.holds files.old (F.real files.old path)) (⟦<AnySource<F::Input, F::Image> as Source>⟧.remaining) (found_of words.now) (λ fill short last profile. AddsLost
+        (SparesLost F.tells F.holds F.may_leave F.moment F.left_since (lost_text (found_of words.now)) mid files.new) profile last (O.contents between) (O.contents out.new) (O.faults between) (O.faults out.new) lost_good) good)))) }
+    ensures listed_lost { name.now ≡ codes "extract" → IfSome result (λ outcome. IfOk outcome (λ all. (good : Bool) × IsTold (found_of words.now) good all × (has_lost (found_of words.now) ≡ true → has_manifest (found_of words.now) ≡ true → ExtractAsked (λ path. F.holds files.old (F.real files.old path)) (⟦<AnySource<F::Input, F::Image> as Source>⟧.remaining) (found_of words.now) (λ fill short last profile. AddsLost
         (λ (mid : F) (between : O) nodes_good. ListsChosen (only_texts (found_of words.now)) short (λ f table told. IsPut F.tells (Fails F.faults ⊎ Fails F.Output.faults) table told fill short (folder_text (found_of words.now)) (F.holds f) (F.moment f) (F.left_since f))
         (λ f told fates text. F.tells → IsManifest (F.holds f) (folder_text (found_of words.now)) short told fates text)
         (λ f text. F.tells → IsPutLast F.holds F.may_leave F.moment F.left_since (F.real files.old (manifest_text (found_of words.now))) f mid text)
         F.holds (folder_text (found_of words.now)) files.old mid profile last (O.contents out.old) (O.contents between) (O.faults out.old) (O.faults between) nodes_good)
         (λ (mid : F) (between : O) lost_good. WritesLost (λ table told two. IsLostPut F.tells (Fails F.faults ⊎ Fails F.Output.faults) table told (lost_text (found_of words.now)) two (F.holds files.new) (F.moment files.new) (F.left_since files.new))
-        (SparesLost F.tells F.holds F.may_leave F.moment F.left_since (lost_text (found_of words.now)) mid files.new) profile last (O.contents between) (O.contents out.new) (O.faults between) (O.faults out.new) lost_good) good))) }
+        (SparesLost F.tells F.holds F.may_leave F.moment F.left_since (lost_text (found_of words.now)) mid files.new) profile last (O.contents between) (O.contents out.new) (O.faults between) (O.faults out.new) lost_good) good)))) }
     ensures free_lost { name.now ≡ codes "extract" → IfSome result (λ outcome. IfOk outcome (λ good. (has_lost (found_of words.now) ≡ true → F.tells → IsNewFolder (F.holds files.old) (F.real files.old) (lost_others (found_of words.now)) (lost_text (found_of words.now))) × (has_lost (found_of words.now) ≡ true → has_manifest (found_of words.now) ≡ true → F.tells → IsFreeManifest (F.holds files.old) (F.real files.old) (input_texts (found_of words.now)) (pair_texts (found_of words.now)) (folder_text (found_of words.now)) (manifest_text (found_of words.now))))) }
     ensures done_forget { name.now ≡ codes "forget" → IfSome result (λ outcome. IfOk outcome (λ whole. whole ≡ true)) }
     ensures forget { name.now ≡ codes "forget" → IfSome result (λ outcome. OnOk outcome
@@ -310,7 +322,7 @@ fn obey<F: Files, O: Sink>(
         }),
         "report" => Some(report_words(alloc, words, files, out)),
         "reread" => Some(reread_as(alloc, words, files, out)),
-        "extract" => Some(extract_asked(alloc, words, files, out)),
+        "extract" => Some(extract_timed(alloc, words, files, out)),
         "forget" => Some(match forget_words(alloc, words, files) {
             Ok(()) => Ok(true),
             Err(refusal) => Err(refusal),
@@ -425,12 +437,22 @@ fn show_fault<E: Sink>(alloc: Global, error: &Error, err: &mut E) -> u8
     if error.kind() == ErrorKind::OutOfMemory {
         return refuse(alloc, &Refusal::Memory(AllocError), err);
     }
-    match format!(in alloc; "{error}") {
+    match fault_text(alloc, error) {
         Ok(text) => {
             let _ = send(text.as_bytes(), err);
             2
         }
         Err(AllocError) => refuse(alloc, &Refusal::Memory(AllocError), err),
+    }
+}
+
+/// Clap's text of a fault of the words. Where a list of blocks is missing, the other word that would do is named too, as clap does in a group of which one
+/// has to be given.
+fn fault_text(alloc: Global, error: &Error) -> Result<String, AllocError> {
+    let text = format!(in alloc; "{error}")?;
+    match text.as_str().split_once(NO_BLOCKS) {
+        Some((before, after)) => format!(in alloc; "{before}{NOTHING_TO_FORGET}{after}"),
+        None => Ok(text),
     }
 }
 

@@ -20,6 +20,7 @@ use crate::refusal::Refusal;
 use crate::remarks::{remark_on_fate, remark_on_report};
 use crate::sources::{AnySource, InputPath};
 use crate::telling::tell;
+use crate::times::{note_time, set_folder_times};
 use std::alloc::{AllocError, Global};
 use udfs_files::Stage;
 use udfs_reading::{Sink, Source};
@@ -109,6 +110,7 @@ fn put_nodes<F: Files, O: Sink>(
     let mut good = true;
     let mut heard = true;
     let mut manifest = Vec::new(alloc);
+    let mut made = Vec::new(alloc);
     let mut way = Vec::new(alloc);
     for index in 1..report.nodes.len() {
         let target = place_of(alloc, report, index, short, &mut way)?;
@@ -121,7 +123,11 @@ fn put_nodes<F: Files, O: Sink>(
         good = still_good(good, done.fate);
         heard = tell(alloc, heard, done.fate, &node.path, &target.own, out)?;
         remark_on_fate(alloc, done.fate, &node.path, files);
+        note_time(
+            alloc, node, index, only, done.fate, folder, place, &mut made, files,
+        );
     }
+    set_folder_times(alloc, report, made.as_slice(), folder, files);
     Ok(Told {
         good,
         heard,

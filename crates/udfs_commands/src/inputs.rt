@@ -1,17 +1,39 @@
 //! The table of the inputs.
 
-ghost use Rattle.std.specs.Prelude.{◌≡◌, ◌≢◌, IfOk, IfErr};
+ghost use Rattle.std.specs.Prelude.{◌≡◌, ◌≢◌, IfOk, IfErr, OnOk};
+ghost use Rattle.udfs_lattice.specs.Tables.{join_tables};
 ghost use Rattle.udfs_commands.specs.Keeping.{OfPaths};
 ghost use Rattle.udfs_commands.specs.declared.sources.AnySource.{AnySource};
 
 use crate::files::Files;
+use crate::merge_tally::MergeTally;
 use crate::refusal::Refusal;
-use crate::sources::{AnySource, InputPath, join_sources, open_all};
-use std::alloc::Global;
+use crate::sources::{AnySource, InputPath, open_all, take_sources};
+use std::alloc::{AllocError, Global};
 use udfs_lattice::BlockTable;
-use udfs_reading::Source;
+use udfs_reading::{Source, Taker};
 
-/// The join of the inputs' tables, one source an input. All inputs are opened in order before one is read, and closed again.
+/// Hands the blocks of the inputs to the taker, one source an input. All inputs are opened in order before one is read, and closed again.
+pub fn take_all<F: Files, T: Taker>(
+    alloc: Global,
+    inputs: &[InputPath<'_>],
+    taker: &mut T,
+    files: &F,
+) -> Result<(), Refusal>
+    ensures by_path { OnOk result (OfPaths (λ path. F.holds files.now (F.real files.now path)) (⟦<AnySource<F::Input, F::Image> as Source>⟧.remaining) inputs.now (λ t. T.table taker.new ≡ join_tables (T.table taker.old) t)) }
+    ensures told { IfErr result (λ refusal. (refusal ≢ Refusal.Output) × (refusal ≢ Refusal.Unkept) × (refusal ≢ Refusal.Spared)) }
+{
+    let mut sources = match open_all(alloc, inputs, files) {
+        Ok(sources) => sources,
+        Err(refusal) => return Err(refusal),
+    };
+    match take_sources(sources.as_mut_slice(), taker) {
+        Ok(()) => Ok(()),
+        Err(refusal) => Err(refusal),
+    }
+}
+
+/// The join of the inputs' tables.
 pub fn joined<F: Files>(
     alloc: Global,
     inputs: &[InputPath<'_>],
@@ -20,12 +42,28 @@ pub fn joined<F: Files>(
     ensures by_path { IfOk result (λ table. OfPaths (λ path. F.holds files.now (F.real files.now path)) (⟦<AnySource<F::Input, F::Image> as Source>⟧.remaining) inputs.now (λ t. table ≡ t)) }
     ensures told { IfErr result (λ refusal. (refusal ≢ Refusal.Output) × (refusal ≢ Refusal.Unkept) × (refusal ≢ Refusal.Spared)) }
 {
-    let mut sources = match open_all(alloc, inputs, files) {
-        Ok(sources) => sources,
-        Err(refusal) => return Err(refusal),
+    let mut table = BlockTable::new(alloc);
+    match take_all(alloc, inputs, &mut table, files) {
+        Ok(()) => Ok(table),
+        Err(refusal) => Err(refusal),
+    }
+}
+
+/// The join of the inputs' tables, and what was counted of them.
+pub fn tallied<F: Files>(
+    alloc: Global,
+    inputs: &[InputPath<'_>],
+    files: &F,
+) -> Result<MergeTally, Refusal>
+    ensures by_path { IfOk result (λ tally. OfPaths (λ path. F.holds files.now (F.real files.now path)) (⟦<AnySource<F::Input, F::Image> as Source>⟧.remaining) inputs.now (λ t. tally ≡ t)) }
+    ensures told { IfErr result (λ refusal. (refusal ≢ Refusal.Output) × (refusal ≢ Refusal.Unkept) × (refusal ≢ Refusal.Spared)) }
+{
+    let mut tally = match MergeTally::new(alloc, inputs.len()) {
+        Ok(tally) => tally,
+        Err(AllocError) => return Err(Refusal::Memory(AllocError)),
     };
-    match join_sources(alloc, sources.as_mut_slice()) {
-        Ok(table) => Ok(table),
+    match take_all(alloc, inputs, &mut tally, files) {
+        Ok(()) => Ok(tally),
         Err(refusal) => Err(refusal),
     }
 }

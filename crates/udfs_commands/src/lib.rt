@@ -4,7 +4,9 @@
 
 mod arguments;
 mod asking;
+mod beside;
 mod choosing;
+mod closing;
 mod command;
 mod digesting;
 mod ends;
@@ -25,6 +27,7 @@ mod list;
 mod manifest;
 mod manifest_place;
 mod merge;
+mod merge_tally;
 mod merge_words;
 mod node_files;
 mod page;
@@ -49,6 +52,8 @@ mod spared;
 mod streams;
 mod summary;
 mod telling;
+mod timed_words;
+mod times;
 mod unnamed;
 mod unnamed_place;
 mod unnamed_words;

@@ -8,8 +8,9 @@ ghost use Rattle.udfs_reading.specs.Writing.{Writes};
 ghost use Rattle.udfs_commands.specs.Keeping.{Opens, Joined, IsKept, IsTaken, MayReplace};
 ghost use Rattle.udfs_commands.specs.Spelling.{table_file};
 
+use crate::closing::remark_on_merge;
 use crate::files::Files;
-use crate::inputs::joined;
+use crate::inputs::tallied;
 use crate::putting::put_file;
 use crate::refusal::Refusal;
 use crate::sources::{AnySource, InputPath};
@@ -69,16 +70,19 @@ pub fn merge<F: Files>(
     ensures cause { IfErr result (λ refusal. (refusal ≡ Refusal.Output) ⊎ (refusal ≡ Refusal.Unkept) → F.shut files.old out.now ⊎ Fails F.faults ⊎ Fails F.Output.faults) }
     ensures told { IfErr result (λ refusal. refusal ≢ Refusal.Spared) }
 {
-    let table = match joined(alloc, inputs, files) {
-        Ok(table) => table,
+    let mut tally = match tallied(alloc, inputs, files) {
+        Ok(tally) => tally,
         Err(refusal) => return Err(refusal),
     };
     let content = TableFile {
-        table: &table,
+        table: tally.table(),
         version,
     };
     match put_file(alloc, &content, out, files) {
-        Ok(()) => Ok(()),
+        Ok(()) => {
+            remark_on_merge(alloc, inputs.len(), &mut tally, files);
+            Ok(())
+        }
         Err(refusal) => Err(refusal),
     }
 }

@@ -58,7 +58,7 @@ fn without_file(fate: Fate) -> Done
 
 /// The path of a node in a folder: the folder's, and its place, which is each name in its escaped form behind a `/`. An escaped name has no
 /// `/` and is neither `.` nor `..`, so the path leads nowhere but below the folder.
-fn path_in(alloc: Global, folder: &str, place: &str) -> Result<String, AllocError>
+pub fn path_in(alloc: Global, folder: &str, place: &str) -> Result<String, AllocError>
     ensures { IfOk result (λ path. string_bytes path ≡ folder.now ++ place.now) }
 {
     let mut path = String::from_str(alloc, folder)?;

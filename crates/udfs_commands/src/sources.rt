@@ -1,8 +1,8 @@
 //! Inputs of both kinds, files and images with their mapfiles, as one kind of source.
 
-ghost use Rattle.std.specs.Prelude.{◌≡◌, ◌≢◌, ◌≤◌, ◌<◌, ◌-◌, ℕ, List, IfOk, IfErr, alloc_error, length, slice_get, vec_len};
+ghost use Rattle.std.specs.Prelude.{◌≡◌, ◌≢◌, ◌≤◌, ◌<◌, ◌-◌, ℕ, List, IfOk, IfErr, OnOk, alloc_error, length, slice_get, vec_len};
 ghost use Rattle.udfs_lattice.specs.Records.{join_all};
-ghost use Rattle.udfs_lattice.specs.Tables.{Table};
+ghost use Rattle.udfs_lattice.specs.Tables.{Table, join_tables};
 ghost use Rattle.udfs_reading.specs.Several.{TablesAre};
 ghost use Rattle.udfs_commands.specs.Keeping.{Opens};
 ghost use Rattle.udfs_commands.specs.Refusing.{refused_pair, refusal_for};
@@ -12,8 +12,7 @@ use crate::files::Files;
 use crate::refusal::Refusal;
 use std::alloc::{AllocError, Global};
 use udfs_files::Stage;
-use udfs_lattice::BlockTable;
-use udfs_reading::{DeviceFault, InputError, Source, join_inputs};
+use udfs_reading::{DeviceFault, InputError, Source, Taker, take_inputs};
 use udfs_rescue::{Image, Pair, PairFault, open_pair};
 
 /// Where an input is.
@@ -160,16 +159,16 @@ pub fn refusal_for<R: Source, I: Image>(sources: &[AnySource<R, I>], error: Inpu
     }
 }
 
-/// Joins the inputs.
-pub fn join_sources<R: Source, I: Image>(
-    alloc: Global,
+/// Reads the inputs in order, and hands their blocks to the taker.
+pub fn take_sources<R: Source, I: Image, T: Taker>(
     sources: &mut [AnySource<R, I>],
-) -> Result<BlockTable, Refusal>
-    ensures table { IfOk result (λ table. (ts : List Table) × TablesAre (⟦<AnySource<R, I> as Source>⟧.remaining) sources.old ts × (table ≡ join_all ts)) }
+    taker: &mut T,
+) -> Result<(), Refusal>
+    ensures table { OnOk result ((ts : List Table) × TablesAre (⟦<AnySource<R, I> as Source>⟧.remaining) sources.old ts × (T.table taker.new ≡ join_tables (T.table taker.old) (join_all ts))) }
     ensures told { IfErr result (λ refusal. (refusal ≢ Refusal.Output) × (refusal ≢ Refusal.Unkept) × (refusal ≢ Refusal.Spared)) }
 {
-    match join_inputs(alloc, &mut *sources) {
-        Ok(table) => Ok(table),
+    match take_inputs(&mut *sources, taker) {
+        Ok(()) => Ok(()),
         Err(error) => Err(refusal_for(sources, error)),
     }
 }

@@ -21,6 +21,7 @@ use crate::extract::{Deed, Fate, still_good};
 use crate::files::Files;
 use crate::node_files::{finish_file, give_up, put_folder};
 use crate::refusal::Refusal;
+use crate::times::set_lost_time;
 use crate::short_names::push_icb_number;
 use std::alloc::{AllocError, Global};
 use udfs_files::{Job, fill_by};
@@ -31,14 +32,19 @@ use udfs_salvage::{
 use udfs_walk::Unnamed;
 
 /// Appends the name of the file of an entry: its logical block, with the partition reference in front where there are two partitions.
-fn push_lost_name(text: &mut String, two: bool, entry: &Unnamed) -> Result<(), AllocError>
+pub fn push_lost_name(text: &mut String, two: bool, entry: &Unnamed) -> Result<(), AllocError>
     ensures { OnOk result (string_bytes text.new ≡ string_bytes text.old ++ lost_name two entry.now) }
 {
     push_icb_number(text, two, entry.reference, entry.block)
 }
 
 /// The path of the file of an entry in a folder.
-fn lost_path(alloc: Global, folder: &str, two: bool, entry: &Unnamed) -> Result<String, AllocError>
+pub fn lost_path(
+    alloc: Global,
+    folder: &str,
+    two: bool,
+    entry: &Unnamed,
+) -> Result<String, AllocError>
     ensures { IfOk result (λ path. string_bytes path ≡ lost_path folder.now two entry.now) }
 {
     let mut path = String::from_str(alloc, folder)?;
@@ -236,6 +242,7 @@ fn put_entries<F: Files, O: Sink>(
         let entry = entry_at(report, index);
         good = still_good(good, fate);
         heard = tell_lost(alloc, heard, fate, two, entry, out)?;
+        set_lost_time(alloc, two, entry, fate, folder, files);
     }
     Ok(ToldLost { good, heard })
 }

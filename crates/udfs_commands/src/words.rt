@@ -61,6 +61,9 @@ pub const MANIFEST: &str = "manifest";
 /// The id of the folder for lost files among the matches.
 pub const UNNAMED: &str = "unnamed";
 
+/// The id of the flag for setting times among the matches.
+pub const TIMES: &str = "times";
+
 /// The id of the flag for short names among the matches.
 pub const SHORT_NAMES: &str = "short-names";
 
@@ -172,6 +175,7 @@ fn report<'a>(alloc: Global, given: Given) -> Result<Command<'a>, AllocError>
 {
     let command = Command::new(alloc, "report")
         .about("Prints what the inputs tell of the volume, and which blocks to read again")
+        .override_usage("udfsalvage report [OPTIONS] [--last <N> | --size <BYTES>] <IN>...")
         .arg(last(alloc, given.needs_last))?
         .arg(disc_size(alloc))?
         .arg(profile(alloc))?
@@ -185,6 +189,7 @@ fn reread<'a>(alloc: Global, given: Given) -> Result<Command<'a>, AllocError>
 {
     let command = Command::new(alloc, "reread")
         .about("Prints the numbers of the blocks to read again")
+        .override_usage("udfsalvage reread [OPTIONS] [--last <N> | --size <BYTES>] <IN>...")
         .arg(last(alloc, given.needs_last))?
         .arg(disc_size(alloc))?
         .arg(profile(alloc))?
@@ -196,10 +201,14 @@ fn reread<'a>(alloc: Global, given: Given) -> Result<Command<'a>, AllocError>
 fn bare_extract<'a>(alloc: Global) -> Command<'a>
     ensures { app_of result ≡ new_app (codes "extract") }
 {
-    Command::new(alloc, "extract").about("Writes the files that are whole into a new folder")
+    Command::new(alloc, "extract")
+        .about("Writes the files that are whole into a new folder")
+        .override_usage(
+            "udfsalvage extract [OPTIONS] [--last <N> | --size <BYTES>] --to <DIR> <IN>...",
+        )
 }
 
-/// `extract (--last N | --size BYTES) [--profile PROFILE] --to DIR [--fill] [--only PATH]... [--manifest FILE] [--unnamed DIR] [--short-names] IN...`
+/// `extract (--last N | --size BYTES) [--profile PROFILE] --to DIR [--fill] [--only PATH]... [--manifest FILE] [--unnamed DIR] [--times] [--short-names] IN...`
 fn extract<'a>(alloc: Global, given: Given) -> Result<Command<'a>, AllocError>
     ensures { IfOk result (λ command. app_of command ≡ extract_app given) }
 {
@@ -218,6 +227,11 @@ fn extract<'a>(alloc: Global, given: Given) -> Result<Command<'a>, AllocError>
         .arg(lost_folder(alloc))?
         .arg(flag(
             alloc,
+            TIMES,
+            "Set the times of the files and folders to those that the volume has for them",
+        ))?
+        .arg(flag(
+            alloc,
             SHORT_NAMES,
             "Write what has a name that is too long under a short one: its beginning and a number",
         ))?;
@@ -230,6 +244,9 @@ fn forget<'a>(alloc: Global, given: Given) -> Result<Command<'a>, AllocError>
 {
     let command = Command::new(alloc, "forget")
         .about("Writes the table of the inputs, in which some blocks are unknown again")
+        .override_usage(
+            "udfsalvage forget [OPTIONS] --out <FILE> <--conflicts|--blocks <LIST>> <IN>...",
+        )
         .arg(table_file(alloc))?
         .arg(flag(alloc, CONFLICTS, "Forget the blocks in conflict"))?
         .arg(blocks(alloc, given.conflicts))?
@@ -245,6 +262,7 @@ fn list<'a>(alloc: Global, given: Given) -> Result<Command<'a>, AllocError>
         .about(
             "Prints a line for each file and folder: standing, kind, bytes lost, size, time and path",
         )
+        .override_usage("udfsalvage list [OPTIONS] [--last <N> | --size <BYTES>] <IN>...")
         .arg(last(alloc, given.needs_last))?
         .arg(disc_size(alloc))?
         .arg(profile(alloc))?
@@ -260,6 +278,9 @@ fn image<'a>(alloc: Global, given: Given) -> Result<Command<'a>, AllocError>
 {
     let command = Command::new(alloc, "image")
         .about("Writes what is known of the disc as an image, with its mapfile")
+        .override_usage(
+            "udfsalvage image [OPTIONS] [--last <N> | --size <BYTES>] --out <IMAGE> --mapfile <MAPFILE> <IN>...",
+        )
         .arg(last(alloc, given.needs_last))?
         .arg(disc_size(alloc))?
         .arg(image_file(alloc))?
@@ -293,6 +314,7 @@ fn summary<'a>(alloc: Global, given: Given) -> Result<Command<'a>, AllocError>
 {
     let command = Command::new(alloc, "summary")
         .about("Prints what a person wants to know of the volume, on one screen")
+        .override_usage("udfsalvage summary [OPTIONS] [--last <N> | --size <BYTES>] <IN>...")
         .arg(last(alloc, given.needs_last))?
         .arg(disc_size(alloc))?
         .arg(profile(alloc))?;
@@ -305,6 +327,9 @@ fn page<'a>(alloc: Global, given: Given) -> Result<Command<'a>, AllocError>
 {
     let command = Command::new(alloc, "page")
         .about("Writes what is known of the volume as a page for a browser, to print or to keep")
+        .override_usage(
+            "udfsalvage page [OPTIONS] [--last <N> | --size <BYTES>] --out <FILE> <IN>...",
+        )
         .arg(last(alloc, given.needs_last))?
         .arg(disc_size(alloc))?
         .arg(profile(alloc))?

@@ -64,6 +64,22 @@ fn is_unread(view: View<'_>, reference: u16, block: u64, n: u64) -> bool
 }
 
 /// How many consecutive logical blocks from one on are not known and stand one behind the other from this block of
+/// the volume on, as far as a step goes: several at once only where they are unknown; none only where the first is not such a block.
+fn unread_step(view: View<'_>, reference: u16, block: u64, n: u64) -> u64
+    ensures { (j : ℕ) → j < result → IsUnreadAt (block_at (view_now view.entry) reference (block + j)) (n + j) }
+{
+    match view.unknown_ahead(reference, block) {
+        Some((found, count)) => {
+            if u64::from(found) == n && count > 0 {
+                return u64::from(count);
+            }
+        }
+        None => {}
+    }
+    u64::from(is_unread(view, reference, block, n))
+}
+
+/// How many consecutive logical blocks from one on are not known and stand one behind the other from this block of
 /// the volume on: at most so many.
 fn unread_run(view: View<'_>, reference: u16, block: u64, n: u64, most: u64) -> u64
     requires near { block + most < 2 ^ 64 }
@@ -73,10 +89,11 @@ fn unread_run(view: View<'_>, reference: u16, block: u64, n: u64, most: u64) -> 
 {
     let mut count = 0;
     'blocks: while count < most {
-        if !is_unread(view, reference, block + count, n + count) {
+        let step = unread_step(view, reference, block + count, n + count);
+        if step == 0 {
             break 'blocks;
         }
-        count += 1;
+        count += step.min(most - count);
     }
     count
 }

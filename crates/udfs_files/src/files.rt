@@ -11,6 +11,7 @@ use std::alloc::{AllocError, Global};
 use std::io::Error;
 use udfs_reading::{DeviceFault, Sink, Source};
 use udfs_rescue::Image as Positions;
+use udfs_times::{Times, Zone};
 
 /// An output while it is written.
 pub trait Handle: Sink {
@@ -224,6 +225,24 @@ pub trait Files {
 
     /// Gives a new file the permissions of an old one, where both are there and the system can. It changes no byte.
     fn copy_permissions(&self, from: &str, to: &str);
+
+    /// The zone of the machine's clock, by which local times are told. That it is the right one is the machine's word.
+    ///
+    /// # Errors
+    ///
+    /// `AllocError` for want of memory.
+    fn zone(&self) -> Result<Zone, AllocError>;
+
+    /// Whether the times of what is made are to be set, and what came of that.
+    fn times(&self) -> &Times;
+
+    /// Sets the time of the last change of the file or the folder at a path, in microseconds since 1970-01-01T00:00:00Z. It changes no byte, nor what a
+    /// crash may leave of one; a crash may leave another time.
+    ///
+    /// # Errors
+    ///
+    /// `DeviceFault` where it could not be set, and then it is as it was. It is not counted among the calls that change files.
+    fn set_modified(&self, path: &str, micros: u64) -> Result<(), DeviceFault>;
 
     /// Makes a folder, at a path that nothing has. It changes no file.
     ///

@@ -7,10 +7,13 @@ use crate::files::{Files, Handle, Kind, Target};
 use crate::watch::{Stage, Watch, heeded};
 use std::alloc::{AllocError, Global};
 use std::fs;
-use std::fs::{OpenFile, OpenOptions};
+use std::fs::{FileTimes, OpenFile, OpenOptions};
 use std::io::{Error, ErrorKind, Read, Seek, SeekFrom, Write};
+use std::rt::Env;
+use std::time::{Duration, SystemTime};
 use udfs_reading::{DeviceFault, Sink, Source};
 use udfs_rescue::Image;
+use udfs_times::{Times, Zone};
 
 /// How many links are followed one after the other, as the system does.
 const LINKS: usize = 40;
@@ -215,21 +218,31 @@ impl<'a, S: Read + Seek, N: Watch> Image for MachineImage<'a, S, N> {
 
 /// The machine's files, over a runtime that has some.
 #[derive(Drop)]
-pub struct Machine<'a, R: std::rt::Files, N: Watch> {
+pub struct Machine<'a, R: std::rt::Files + Env + AllocGlobal, N: Watch> {
     rt: &'a R,
     watch: &'a N,
     faults: u64,
+    times: Times,
 }
 
-impl<'a, R: std::rt::Files, N: Watch> Machine<'a, R, N> {
+impl<'a, R: std::rt::Files + Env + AllocGlobal, N: Watch> Machine<'a, R, N> {
     /// The files of this runtime, of which no call has failed yet, and who watches what is done with them.
     pub fn new(rt: &'a R, watch: &'a N) -> Machine<'a, R, N> {
         Machine {
             rt,
             watch,
             faults: 0,
+            times: Times::new(),
         }
     }
+}
+
+/// Sets the time of the last change of the file or the folder at a path.
+fn changed<R: std::rt::Files>(rt: &R, path: &str, micros: u64) -> Result<(), Error> {
+    let Some(time) = SystemTime::UNIX_EPOCH.checked_add(Duration::from_micros(micros)) else {
+        return Err(Error::from(ErrorKind::InvalidInput));
+    };
+    fs::open(rt, path)?.set_times(FileTimes::new().set_modified(time))
 }
 
 /// A path's folder, and the name in it.
@@ -265,7 +278,7 @@ fn synced(outcome: Result<(), Error>) -> Result<(), Error> {
     }
 }
 
-impl<'a, R: std::rt::Files, N: Watch> Machine<'a, R, N> {
+impl<'a, R: std::rt::Files + Env + AllocGlobal, N: Watch> Machine<'a, R, N> {
     /// The outcome of a call that changes files, counted. Why it failed is kept.
     fn heeded<T: Drop>(&mut self, outcome: Result<T, Error>) -> Result<T, DeviceFault>
         ensures count { CountsFault self.old.faults self.new.faults result }
@@ -327,7 +340,7 @@ impl<'a, R: std::rt::Files, N: Watch> Machine<'a, R, N> {
     }
 }
 
-impl<'a, R: std::rt::Files, N: Watch> Files for Machine<'a, R, N> {
+impl<'a, R: std::rt::Files + Env + AllocGlobal, N: Watch> Files for Machine<'a, R, N> {
     type Input = MachineInput<'a, R::File, N>;
 
     type Image = MachineImage<'a, R::File, N>;
@@ -459,6 +472,21 @@ impl<'a, R: std::rt::Files, N: Watch> Files for Machine<'a, R, N> {
     fn copy_permissions(&self, from: &str, to: &str) {
         if let Ok(about) = self.rt.metadata(from) {
             let _ = self.rt.set_permissions(to, about.permissions());
+        }
+    }
+
+    fn zone(&self) -> Result<Zone, AllocError> {
+        Zone::of_machine(self.rt)
+    }
+
+    fn times(&self) -> &Times {
+        &self.times
+    }
+
+    fn set_modified(&self, path: &str, micros: u64) -> Result<(), DeviceFault> {
+        match heeded(self.watch, changed(self.rt, path, micros)) {
+            Some(()) => Ok(()),
+            None => Err(DeviceFault),
         }
     }
 

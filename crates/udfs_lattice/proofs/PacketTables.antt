@@ -180,6 +180,12 @@ state_in_packet m t n had h view found =
     sym (ap (λ u. state_of u n) view) ∙ state_of-table_packets m.entries n h.each
     ∙ ap (λ u. state_of u (n % 32)) (packet_found m (n / 32) had found)
 
+-- the state of a block that is so many places on in the same packet
+pub state_beside : (m : BTreeMap ℕ Table) (t : Table) (n j : ℕ) (had : Table) → IsPacketMap m → table_packets m.entries ≡ t → Some had ≡ get nat_cmp m (n / 32) → n % 32 + j < 32 → state_of t (n + j) ≡ state_of had (n % 32 + j)
+state_beside m t n j had h view found near =
+    state_in_packet m t (n + j) had h view (subst (λ k. Some had ≡ get nat_cmp m k) (let z : n / 32 ≡ (n + j) / 32 = omega (arith, near) in z) found)
+    ∙ ap (state_of had) (omega (arith, near))
+
 pub unknown_packet : (m : BTreeMap ℕ Table) (t : Table) (k : ℕ) → IsPacketMap m → table_packets m.entries ≡ t → None ≡ get nat_cmp m k → IsUnknownPacket t k
 unknown_packet m t k h view missing q e =
     sym (ap (λ u. state_of u q) view) ∙ state_of-in m.entries k q h.each e

@@ -1,5 +1,5 @@
 //! The states of 32 blocks in two masks.
-ghost use Rattle.std.specs.Prelude.{◌≡◌, ◌≢◌, ◌<◌, ◌==◌, [], All, IsOk, OnOk, OnErr, IfSome, IfNone, IsErrOf, true, false};
+ghost use Rattle.std.specs.Prelude.{◌≡◌, ◌≢◌, ◌<◌, ◌≤◌, ◌+◌, ◌⊎◌, ◌==◌, ℕ, [], All, IsOk, OnOk, OnErr, IfSome, IfNone, IsErrOf, true, false};
 ghost use Rattle.std.specs.Iterator.{YieldsFirstBy, item_count};
 ghost use Rattle.std.specs.Int.{bit_at};
 ghost use Rattle.udfs_lattice.specs.States.{fact_now, entry_now, is_known, is_conflict};
@@ -242,6 +242,36 @@ impl Packet {
             }
         }
         None
+    }
+
+    /// Whether the block at place `i`, which is below 32, is not unknown.
+    fn is_taken(&self, i: u32) -> bool
+        requires { i < 32 }
+        ensures taken { result ≡ true → state_of self.now i ≢ Unknown }
+        ensures free { result ≡ false → state_of self.now i ≡ Unknown }
+    {
+        match self.state(i) {
+            Fact::Unknown => false,
+            Fact::Known(_) => true,
+            Fact::Conflict => true,
+        }
+    }
+
+    /// How many blocks from place `at` on, which is below 32, are unknown, one behind the other.
+    pub(crate) fn unknown_from(&self, at: u32) -> u32
+        requires { at < 32 }
+        ensures unknown { (j : ℕ) → j < result → state_of self.now (at + j) ≡ Unknown }
+        ensures end { (at + result ≡ 32) ⊎ (state_of self.now (at + result) ≢ Unknown) }
+        ensures most { at + result ≤ 32 }
+    {
+        let mut count = 0;
+        'places: while at + count < 32 {
+            if self.is_taken(at + count) {
+                break 'places;
+            }
+            count += 1;
+        }
+        count
     }
 
     /// The blocks that are not unknown, ascending, each as its place, 0 to 31, and its state. It takes no

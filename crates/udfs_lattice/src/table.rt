@@ -1,5 +1,5 @@
 //! The table of the blocks of a volume.
-ghost use Rattle.std.specs.Prelude.{◌≡◌, ◌≢◌, ◌≤◌, ◌<◌, ◌↔◌, ◌^◌, ℕ, List, [], length, sum_by, All, IsOk, OnOk, OnErr, IfSome, IfNone, IsErrOf};
+ghost use Rattle.std.specs.Prelude.{◌≡◌, ◌≢◌, ◌≤◌, ◌<◌, ◌↔◌, ◌^◌, ◌+◌, ◌%◌, ◌⊎◌, ℕ, List, [], length, sum_by, All, IsOk, OnOk, OnErr, IfSome, IfNone, IsErrOf};
 ghost use Rattle.std.specs.BTreeMap.{values};
 ghost use Rattle.std.specs.Iterator.{YieldsFirstBy, item_count};
 ghost use Rattle.udfs_lattice.specs.States.{fact_now, entry_now};
@@ -62,6 +62,19 @@ impl BlockTable {
             Some(packet) => packet.state(n % 32),
             None => Fact::Unknown,
         }
+    }
+
+    /// How many blocks from block `n` on are unknown, one behind the other, up to the end of its packet of 32 blocks: a
+    /// block of a packet of which nothing is known is passed over with all that follow it there. It takes no memory.
+    pub fn unknown_ahead(&self, n: u32) -> u32
+        ensures unknown { (j : ℕ) → j < result → state_of self.now (n + j) ≡ Unknown }
+        ensures end { (n % 32 + result ≡ 32) ⊎ (state_of self.now (n + result) ≢ Unknown) }
+    {
+        let place = n % 32;
+        let Some(packet) = self.packets.get(&(n / 32)) else {
+            return 32 - place;
+        };
+        packet.unknown_from(place)
     }
 
     /// Joins a state to that of a block.
@@ -379,6 +392,31 @@ mod tests {
         assert!(rt; matches!(table.state(300), Fact::Conflict));
         assert!(rt; matches!(table.state(6), Fact::Unknown));
         assert!(rt; matches!(table.state(5), Fact::Known(bytes) if bytes[2047] == 0x62));
+        Ok(())
+    }
+
+    #[test]
+    fn unknown_blocks_to_the_end_of_a_packet(rt: HostRuntime) -> Result<(), Fail> {
+        let mut table = BlockTable::new(rt.alloc());
+        table.put(70, &[0x61; 2048])?;
+        table.add(95, Fact::Conflict)?;
+        for (n, want) in [
+            (0, 32),
+            (31, 1),
+            (32, 32),
+            (64, 6),
+            (69, 1),
+            (70, 0),
+            (71, 24),
+            (94, 1),
+            (95, 0),
+            (LAST_BLOCK, 1),
+            (u32::MAX, 1),
+        ] {
+            assert_eq!(rt; table.unknown_ahead(n), want, "{n}");
+        }
+        table.forget(70);
+        assert_eq!(rt; table.unknown_ahead(64), 31);
         Ok(())
     }
 

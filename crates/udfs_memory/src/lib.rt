@@ -4,6 +4,7 @@
 
 mod devices;
 mod memory;
+mod modified;
 
 pub use devices::{Device, MemoryFile, MemoryImage, MemoryInput, SOUND};
 pub use memory::Memory;

@@ -8,11 +8,13 @@ ghost use Rattle.udfs_files.specs.Disk.{folder_of, has_slash};
 ghost use Rattle.udfs_reading.specs.Device.{CountsFault};
 
 use crate::devices::{Device, MemoryFile, MemoryImage, MemoryInput, SOUND};
+use crate::modified::ModifiedTimes;
 use std::alloc::{AllocError, Global};
 use std::cell::{Cell, RefCell};
 use std::io::Error;
 use udfs_files::{Files, Kind, Stage, Target};
 use udfs_reading::DeviceFault;
+use udfs_times::{Times, Zone};
 
 /// A call that changed something.
 #[derive(Drop)]
@@ -163,6 +165,12 @@ pub struct Memory {
     pub fails_from: u64,
     /// The last one that fails.
     pub fails_to: u64,
+    times: Times,
+    modified: ModifiedTimes,
+    /// The zone of the clock, as POSIX writes a rule; UTC where it is none.
+    pub zone: &'static str,
+    /// A path of which no time can be set.
+    pub timeless: &'static str,
 }
 
 impl Memory {
@@ -184,6 +192,10 @@ impl Memory {
             terminal: SOUND,
             fails_from: 0,
             fails_to: 0,
+            times: Times::new(),
+            modified: ModifiedTimes::new(alloc),
+            zone: "",
+            timeless: "",
         }
     }
 
@@ -231,6 +243,24 @@ impl Memory {
         }
     }
 
+    /// What was set of the times that this call changes is so no more.
+    fn change_times(&self, event: &Event) {
+        match event {
+            Event::Begun(path) | Event::Removed(path) => self.modified.change(path),
+            Event::Renamed(from, to) => {
+                self.modified.change(from);
+                self.modified.change(to);
+            }
+            Event::Written(path, _) => self.modified.forget(path),
+            Event::Named(_) => {}
+        }
+    }
+
+    /// The time of the last change that was set of what is at a path, in microseconds since 1970, if nothing has changed it since.
+    pub fn modified(&self, path: &str) -> Option<u64> {
+        self.modified.get(path.as_bytes())
+    }
+
     fn tell(&mut self, event: Event) -> Result<(), DeviceFault>
         ensures told { OnOk result (self.new.log.items ≡ event ∷ self.old.log.items) }
         ensures failed { OnErr result (self.new.log.items ≡ self.old.log.items) }
@@ -240,6 +270,7 @@ impl Memory {
         if self.fails_from <= self.calls && self.calls <= self.fails_to {
             return Err(DeviceFault);
         }
+        self.change_times(&event);
         match self.log.insert(0, event) {
             Ok(()) => Ok(()),
             Err(_) => {
@@ -431,10 +462,37 @@ impl Files for Memory {
 
     fn copy_permissions(&self, _from: &str, _to: &str) {}
 
+    fn zone(&self) -> Result<Zone, AllocError> {
+        Ok(match Zone::of_rule(self.zone) {
+            Some(zone) => zone,
+            None => Zone::Utc,
+        })
+    }
+
+    fn times(&self) -> &Times {
+        &self.times
+    }
+
+    fn set_modified(&self, path: &str, micros: u64) -> Result<(), DeviceFault> {
+        let is_there = self.has_folder(path) || !self.is_absent(path);
+        let has_none = is_same(path.as_bytes(), self.timeless.as_bytes());
+        if !is_there || has_none {
+            return Err(DeviceFault);
+        }
+        match self.modified.set(path.as_bytes(), micros) {
+            Ok(()) => Ok(()),
+            Err(AllocError) => {
+                self.wanted.set(true);
+                Err(DeviceFault)
+            }
+        }
+    }
+
     fn make_folder(&mut self, path: &str) -> Result<(), DeviceFault> {
         if !self.is_absent(path) || self.has_folder(path) || !self.has_parent(path) {
             return self.fail();
         }
+        self.modified.change(path.as_bytes());
         match self.store_folder(path) {
             Ok(()) => Ok(()),
             Err(AllocError) => {

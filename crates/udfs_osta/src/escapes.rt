@@ -52,8 +52,8 @@ pub(crate) fn plain_char(unit: u16) -> Option<char>
     }
 }
 
-/// The character of a pair that stands at the front.
-pub(crate) fn paired_char(units: &[u16]) -> Option<char>
+/// The character of a surrogate pair that stands at the front of units of UTF-16, where one does.
+pub fn paired_char(units: &[u16]) -> Option<char>
     ensures { SomeIff result (begins_with_pair units.now ≡ true) (surrogate_pair_char (slice_index units.now 0) (slice_index units.now 1)) }
 {
     match units {
@@ -66,8 +66,12 @@ pub(crate) fn paired_char(units: &[u16]) -> Option<char>
     }
 }
 
-/// Appends a unit's escape.
-fn write_escape(unit: u16, text: &mut String) -> Result<(), OutOfMemory>
+/// Appends a unit's escape, `\uXXXX` with four hexadecimal digits.
+///
+/// # Errors
+///
+/// `OutOfMemory` for want of memory. Then a beginning of the escape is appended.
+pub fn write_escape(unit: u16, text: &mut String) -> Result<(), OutOfMemory>
     ensures ok { OnOk result (string_bytes text.new ≡ string_bytes text.old ++ encode_utf8_all (escape unit)) }
     ensures err { OnErr result (AppendsPart (string_bytes text.old) (string_bytes text.new) (encode_utf8_all (escape unit))) }
 {
@@ -154,8 +158,8 @@ fn write_part(units: &[u16], text: &mut String) -> Result<usize, OutOfMemory>
     Ok(count)
 }
 
-/// The name is `.` or `..`.
-pub(crate) fn is_dots(units: &[u16]) -> bool
+/// Whether a name of these units is `.` or `..`.
+pub fn is_dots(units: &[u16]) -> bool
     ensures { result ≡ is_dots units.now }
 {
     units.len() < 3 && units.iter().all(|unit| *unit == 0x2e)
@@ -176,7 +180,11 @@ pub(crate) fn write_units(units: &[u16], text: &mut String) -> Result<(), OutOfM
 }
 
 /// Appends the escapes of all units.
-pub(crate) fn write_escapes(units: &[u16], text: &mut String) -> Result<(), OutOfMemory>
+///
+/// # Errors
+///
+/// `OutOfMemory` for want of memory. Then a beginning of the text is appended.
+pub fn write_escapes(units: &[u16], text: &mut String) -> Result<(), OutOfMemory>
     ensures ok { OnOk result (string_bytes text.new ≡ string_bytes text.old ++ encode_utf8_all (flat_map escape units.now)) }
     ensures err { OnErr result (AppendsPart (string_bytes text.old) (string_bytes text.new) (encode_utf8_all (flat_map escape units.now))) }
 {

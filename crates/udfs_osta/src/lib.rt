@@ -18,7 +18,9 @@ mod pieces;
 mod stamps;
 mod texts;
 
-pub use escapes::{escaped_is_path_part, escaped_tells_units};
+pub use escapes::{
+    escaped_is_path_part, escaped_tells_units, is_dots, paired_char, write_escape, write_escapes,
+};
 pub use labels::Label;
 pub use names::{Name, NameFault, units_make_names};
 pub use pieces::EscapedBytes;

@@ -1,13 +1,8 @@
 -- The first part of a name, as the writer takes it: a surrogate pair, or one unit. Only private contracts cite these.
-use Rattle.std.specs.Prelude.{ℕ, ◌&&◌, Bool, false, List, [], ◌∷◌, slice_index, if◌then◌else◌}
-use Rattle.std.specs.Char.Utf16.{is_high_surrogate, is_low_surrogate, surrogate_pair_char}
+use Rattle.std.specs.Prelude.{ℕ, List, [], ◌∷◌, slice_index, if◌then◌else◌}
+use Rattle.std.specs.Char.Utf16.{surrogate_pair_char}
+use Rattle.udfs_osta.specs.Fronts.{begins_with_pair}
 use Rattle.udfs_overview.specs.SafeNames.{safe_unit}
-
--- the units begin with a surrogate pair
-abbrev pub begins_with_pair : List ℕ → Bool
-begins_with_pair [] = false
-begins_with_pair (u ∷ []) = false
-begins_with_pair (u ∷ v ∷ us) = is_high_surrogate u && is_low_surrogate v
 
 -- how many units the first part takes
 abbrev pub front_length : List ℕ → ℕ

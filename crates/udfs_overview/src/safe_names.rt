@@ -1,55 +1,17 @@
 //! Names as a person is shown them, so that none can forge a line or turn the direction of text. Each function appends to a text;
 //! where memory is refused, a part may be appended.
 
-ghost use Rattle.std.specs.Prelude.{◌≡◌, ◌++◌, ◌<◌, ◌≤◌, ◌&&◌, ◌||◌, ℕ, List, OnOk, IfOk, length, slice_index, true, false};
+ghost use Rattle.std.specs.Prelude.{◌≡◌, ◌++◌, ◌<◌, ◌≤◌, ◌||◌, ℕ, List, OnOk, IfOk, length, false};
 ghost use Rattle.std.specs.String.{string_bytes};
-ghost use Rattle.std.specs.Str.{IsAscii, encode_utf8_all};
-ghost use Rattle.std.specs.Fmt.{digit_glyph};
-ghost use Rattle.std.specs.Char.Utf16.{surrogate_pair_char};
-ghost use Rattle.std.specs.List.{All, flat_map};
+ghost use Rattle.std.specs.Str.{encode_utf8_all};
+ghost use Rattle.std.specs.List.{All};
 ghost use Rattle.std.specs.Option.{SomeIff};
-ghost use Rattle.udfs_osta.specs.Escapes.{escape, is_dots, must_escape};
+ghost use Rattle.udfs_osta.specs.Escapes.{must_escape};
 ghost use Rattle.udfs_osta.specs.Names.{AreUnits};
-ghost use Rattle.udfs_overview.specs.SafeFronts.{begins_with_pair, front_characters, front_length};
+ghost use Rattle.udfs_overview.specs.SafeFronts.{front_characters, front_length};
 ghost use Rattle.udfs_overview.specs.SafeNames.{IsSafe, is_unsafe, safe_characters, safe_name, safe_unit, safe_units};
 
-use udfs_osta::{Name, OutOfMemory};
-
-/// A hexadecimal digit, in upper case.
-fn hex_byte(digit: u16) -> u8
-    requires { digit < 16 }
-    ensures { result ≡ digit_glyph true digit }
-{
-    if digit < 10 {
-        b'0' + digit as u8
-    } else {
-        b'A' + (digit - 10) as u8
-    }
-}
-
-/// `\uXXXX`, with four hexadecimal digits.
-fn escape_bytes(unit: u16) -> [u8; 6]
-    ensures value { result ≡ escape unit }
-    ensures ascii { IsAscii result }
-{
-    [
-        b'\\',
-        b'u',
-        hex_byte(unit / 4096),
-        hex_byte(unit / 256 % 16),
-        hex_byte(unit / 16 % 16),
-        hex_byte(unit % 16),
-    ]
-}
-
-/// Appends a unit's escape.
-fn push_escape(unit: u16, text: &mut String) -> Result<(), OutOfMemory>
-    ensures { OnOk result (string_bytes text.new ≡ string_bytes text.old ++ encode_utf8_all (escape unit)) }
-{
-    let bytes = escape_bytes(unit);
-    let ascii = str::from_utf8(&bytes).unwrap();
-    text.push_str(ascii)
-}
+use udfs_osta::{Name, OutOfMemory, is_dots, paired_char, write_escape, write_escapes};
 
 /// The character that a unit in no pair stands for, unless it is escaped.
 fn plain_char(unit: u16) -> Option<char>
@@ -62,27 +24,13 @@ fn plain_char(unit: u16) -> Option<char>
     }
 }
 
-/// The character of a pair that stands at the front.
-fn paired_char(units: &[u16]) -> Option<char>
-    ensures { SomeIff result (begins_with_pair units.now ≡ true) (surrogate_pair_char (slice_index units.now 0) (slice_index units.now 1)) }
-{
-    match units {
-        [high @ 0xd800..=0xdbff, low @ 0xdc00..=0xdfff, ..] => {
-            char::from_u32(
-                0x1_0000 + (u32::from(*high) - 0xd800) * 0x400 + (u32::from(*low) - 0xdc00),
-            )
-        }
-        _ => None,
-    }
-}
-
 /// Appends a unit in no pair.
 fn push_unit(unit: u16, text: &mut String) -> Result<(), OutOfMemory>
     ensures { OnOk result (string_bytes text.new ≡ string_bytes text.old ++ encode_utf8_all (safe_unit unit)) }
 {
     match plain_char(unit) {
         Some(character) => text.push(character),
-        None => push_escape(unit, text),
+        None => write_escape(unit, text),
     }
 }
 
@@ -118,23 +66,6 @@ fn push_units(units: &[u16], text: &mut String) -> Result<(), OutOfMemory>
     Ok(())
 }
 
-/// Appends the escapes of all units.
-fn push_escapes(units: &[u16], text: &mut String) -> Result<(), OutOfMemory>
-    ensures { OnOk result (string_bytes text.new ≡ string_bytes text.old ++ encode_utf8_all (flat_map escape units.now)) }
-{
-    for unit in units {
-        push_escape(*unit, text)?;
-    }
-    Ok(())
-}
-
-/// The name is `.` or `..`.
-fn is_dots(units: &[u16]) -> bool
-    ensures { result ≡ is_dots units.now }
-{
-    units.len() < 3 && units.iter().all(|unit| *unit == 0x2e)
-}
-
 /// Appends a name as a person is shown it: its escaped form, in which also U+007F to U+009F, U+061C, U+200E, U+200F, U+2028 to
 /// U+202E and U+2066 to U+2069 stand as `\uXXXX`.
 ///
@@ -150,7 +81,7 @@ pub fn push_safe_name(name: &Name, text: &mut String) -> Result<(), OutOfMemory>
 {
     let units = name.units();
     if is_dots(units) {
-        push_escapes(units, text)
+        write_escapes(units, text)
     } else {
         push_units(units, text)
     }

@@ -1,5 +1,5 @@
 -- Where each input tells its bytes and is a good file, the answer is the join of their tables, or blames a device or
--- memory; and where one is not, the first such input is named.
+-- memory; and where one is not, the first such input is named. `Is x t` says what an answer x has of that join t.
 use Rattle.std.proofs.Common.{◌≡◌, ℕ, ◌+◌, List, [], ◌∷◌, ◌++◌, length, map, drop, get_or, Option, Some, Result, Ok, Err, refl, sym, ap, subst, ◌∙◌, append_assoc, inl, inr}
 use Rattle.std.specs.Prelude.{IfSome, IfOk, IfErr, MatchResult, ◌⊎◌}
 use Rattle.std.specs.List.{flat_map}
@@ -59,19 +59,19 @@ tells_or_fails remaining faults olds news e h t tells of_file =
     inputs_laws.either tells.0 tells.2.0 t e.error.fault e.error.number tells.2.1
     (known (remaining h.old) (λ bytes. IsOfFile e.error.fault → inputs.IsFaulty bytes e.error.fault e.error.number) tells.0 tells.1 h.fault of_file)
 
-pub all_good : {R : Type 0} (remaining : R → Option (List ℕ)) (faults : R → ℕ) (olds news : List R) (r : Result Table InputError)
-    → IfOk r (λ table. (ts : List Table) × TablesAre remaining olds ts × (table ≡ join_all ts)) → IfErr r (λ e. InputFails remaining faults olds news e)
-    → (ts : List Table) → AllTell remaining olds ts → MatchResult r (λ table. table ≡ join_all ts) (λ e. ¬ IsOfFile e.error.fault)
-all_good remaining faults olds news (Ok table) ok err ts h = ok.2 ∙ ap join_all (same_tables remaining olds ts ok.0 h ok.1)
-all_good {R} remaining faults olds news (Err e) ok err ts h = λ of_file.
+pub all_good : {R X : Type 0} (Is : X → Table → Type 0) (remaining : R → Option (List ℕ)) (faults : R → ℕ) (olds news : List R) (r : Result X InputError)
+    → IfOk r (λ x. (ts : List Table) × TablesAre remaining olds ts × Is x (join_all ts)) → IfErr r (λ e. InputFails remaining faults olds news e)
+    → (ts : List Table) → AllTell remaining olds ts → MatchResult r (λ x. Is x (join_all ts)) (λ e. ¬ IsOfFile e.error.fault)
+all_good Is remaining faults olds news (Ok x) ok err ts h = subst (Is x) (ap join_all (same_tables remaining olds ts ok.0 h ok.1)) ok.2
+all_good {R} {X} Is remaining faults olds news (Err e) ok err ts h = λ of_file.
     let at = tells_at remaining err.earlier err.later err.old ts (subst (λ (l : List R). AllTell remaining l ts) err.were h) in
     tells_or_fails remaining faults olds news e err at.0 at.1 of_file
 
-pub any_order : {R : Type 0} (remaining : R → Option (List ℕ)) (olds : List R) (r : Result Table InputError)
-    → IfOk r (λ table. (ts : List Table) × TablesAre remaining olds ts × (table ≡ join_all ts))
-    → (ts us : List Table) → AllTell remaining olds ts → SameTables ts us → IfOk r (λ table. table ≡ join_all us)
-any_order remaining olds (Ok table) ok ts us h same = ok.2 ∙ ap join_all (same_tables remaining olds ts ok.0 h ok.1) ∙ tables_make_join ts us same
-any_order remaining olds (Err e) ok ts us h same = tt
+pub any_order : {R X : Type 0} (Is : X → Table → Type 0) (remaining : R → Option (List ℕ)) (olds : List R) (r : Result X InputError)
+    → IfOk r (λ x. (ts : List Table) × TablesAre remaining olds ts × Is x (join_all ts))
+    → (ts us : List Table) → AllTell remaining olds ts → SameTables ts us → IfOk r (λ x. Is x (join_all us))
+any_order Is remaining olds (Ok x) ok ts us h same = subst (Is x) (ap join_all (same_tables remaining olds ts ok.0 h ok.1) ∙ tables_make_join ts us same) ok.2
+any_order Is remaining olds (Err e) ok ts us h same = tt
 
 -- a reading is an input
 reading_input : (bytes : List ℕ) (rs : List Record) → IsReading bytes rs → HasTable bytes (table_of rs)
@@ -87,18 +87,17 @@ tells_readings remaining [] (rs ∷ rss) h = absurd h
 tells_readings remaining (r ∷ olds) [] h = absurd h
 tells_readings remaining (r ∷ olds) (rs ∷ rss) h = ((h.0.0, h.0.1, reading_input h.0.0 rs h.0.2), tells_readings remaining olds rss h.1)
 
-pub any_mixture : {R : Type 0} (remaining : R → Option (List ℕ)) (olds : List R) (r : Result Table InputError)
-    → IfOk r (λ table. (ts : List Table) × TablesAre remaining olds ts × (table ≡ join_all ts))
-    → (rss : List (List Record)) (rs : List Record) → AllTell remaining olds (map table_of rss) → SameRecords (all_records rss) rs → IfOk r (λ table. table ≡ table_of rs)
-any_mixture remaining olds (Ok table) ok rss rs h same =
-    ok.2 ∙ ap join_all (same_tables remaining olds (map table_of rss) ok.0 h ok.1)
-    ∙ records_make_join rss ∙ set_makes_table (all_records rss) rs same
-any_mixture remaining olds (Err e) ok rss rs h same = tt
+pub any_mixture : {R X : Type 0} (Is : X → Table → Type 0) (remaining : R → Option (List ℕ)) (olds : List R) (r : Result X InputError)
+    → IfOk r (λ x. (ts : List Table) × TablesAre remaining olds ts × Is x (join_all ts))
+    → (rss : List (List Record)) (rs : List Record) → AllTell remaining olds (map table_of rss) → SameRecords (all_records rss) rs → IfOk r (λ x. Is x (table_of rs))
+any_mixture Is remaining olds (Ok x) ok rss rs h same =
+    subst (Is x) (ap join_all (same_tables remaining olds (map table_of rss) ok.0 h ok.1) ∙ records_make_join rss ∙ set_makes_table (all_records rss) rs same) ok.2
+any_mixture Is remaining olds (Err e) ok rss rs h same = tt
 
-pub any_split : {R : Type 0} (remaining : R → Option (List ℕ)) (olds : List R) (r : Result Table InputError)
-    → IfOk r (λ table. (ts : List Table) × TablesAre remaining olds ts × (table ≡ join_all ts))
-    → (rss : List (List Record)) (rs : List Record) → AllReadings remaining olds rss → SameRecords (all_records rss) rs → IfOk r (λ table. table ≡ table_of rs)
-any_split remaining olds r ok rss rs h same = any_mixture remaining olds r ok rss rs (tells_readings remaining olds rss h) same
+pub any_split : {R X : Type 0} (Is : X → Table → Type 0) (remaining : R → Option (List ℕ)) (olds : List R) (r : Result X InputError)
+    → IfOk r (λ x. (ts : List Table) × TablesAre remaining olds ts × Is x (join_all ts))
+    → (rss : List (List Record)) (rs : List Record) → AllReadings remaining olds rss → SameRecords (all_records rss) rs → IfOk r (λ x. Is x (table_of rs))
+any_split Is remaining olds r ok rss rs h same = any_mixture Is remaining olds r ok rss rs (tells_readings remaining olds rss h) same
 
 -- ---- which input is named
 
@@ -133,11 +132,11 @@ named_at {R} remaining faults olds news e input fault number h k of_file (inr (i
 named_at {R} remaining faults olds news e input fault number h k of_file (inr (inr p)) =
     absurd (table_or_fault remaining k.earlier p.0 k.old h.tables k.bytes fault number (subst (λ (l : List R). TablesAre remaining l h.tables) p.1 h.have_tables) k.told k.faulty)
 
-pub first_named : {R : Type 0} (remaining : R → Option (List ℕ)) (faults : R → ℕ) (olds news : List R) (r : Result Table InputError)
-    → IfOk r (λ table. (ts : List Table) × TablesAre remaining olds ts × (table ≡ join_all ts)) → IfErr r (λ e. InputFails remaining faults olds news e)
+pub first_named : {R X : Type 0} (Is : X → Table → Type 0) (remaining : R → Option (List ℕ)) (faults : R → ℕ) (olds news : List R) (r : Result X InputError)
+    → IfOk r (λ x. (ts : List Table) × TablesAre remaining olds ts × Is x (join_all ts)) → IfErr r (λ e. InputFails remaining faults olds news e)
     → (input : ℕ) (fault : ReadingFault) (number : ℕ) → IsFirstFaulty remaining olds input fault number
     → MatchResult r (λ _. ⊥) (λ e. IsOfFile e.error.fault → (e.input ≡ input) × (e.error.fault ≡ fault) × (e.error.number ≡ number))
-first_named {R} remaining faults olds news (Ok table) ok err input fault number k =
+first_named {R} {X} Is remaining faults olds news (Ok x) ok err input fault number k =
     table_or_fault remaining k.earlier k.later k.old ok.0 k.bytes fault number (subst (λ (l : List R). TablesAre remaining l ok.0) k.were ok.1) k.told k.faulty
-first_named remaining faults olds news (Err e) ok err input fault number k = λ of_file.
+first_named Is remaining faults olds news (Err e) ok err input fault number k = λ of_file.
     named_at remaining faults olds news e input fault number err k of_file (places err.earlier k.earlier err.later k.later err.old k.old (sym err.were ∙ k.were))

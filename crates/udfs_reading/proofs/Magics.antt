@@ -140,6 +140,14 @@ v2_at too =
     (λ rest. front_named packet_magic rest table_magic false length-packet_magic v2_by_v1)
     (λ rest. front_named packet_magic rest packet_magic true length-packet_magic (same_named packet_magic))
 
+-- where readings are accepted and the bytes name one
+pub accepts : (too b : Bool) → cond too b false ≡ true → (too ≡ true) × (b ≡ true)
+accepts true b e = (refl, e)
+accepts false b e = absurd (false≢true e)
+
+pub reading_at : (too : Bool) → too ≡ true → IsKindAt too readings magic
+reading_at too e = subst (λ (t : Bool). IsKindAt t readings magic) (sym e) readings_at
+
 module _ (too : Bool) (K : Kind) (front : List ℕ) (at : IsKindAt too K front) where
   explains_input : (fault : ReadingFault) (got : List ℕ) (rest : Option (List ℕ)) (i j number : ℕ) → Explains K (front ++ got) rest i j fault number → Explains (files too) (front ++ got) rest i j fault number
   explains_input Truncated got rest i j number h = (h.0, at.faulty got Truncated number h.1, h.2)

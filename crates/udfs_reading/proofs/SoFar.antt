@@ -3,7 +3,8 @@ use Rattle.std.proofs.Common.{◌≡◌, ◌≢◌, ℕ, ◌+◌, ◌<◌, ◌�
 use Rattle.std.specs.Prelude.{IfSome, ◌↔◌}
 use Rattle.std.proofs.Math.ListN.{set}
 use Rattle.std.proofs.lemmas.List.{get_or_at, set_at, map-append}
-use Rattle.udfs_lattice.specs.Tables.{Table, empty_table, join_tables}
+use Rattle.udfs_lattice.specs.Tables.{Table, join_tables}
+use Rattle.udfs_lattice.specs.TableLaws.{join_tables-assoc, join_tables-empty_right}
 use Rattle.udfs_lattice.specs.Records.{join_all}
 use Rattle.udfs_lattice.proofs.PublicLaws.{table_added}
 use Rattle.udfs_reading.specs.declared.error.ReadingError.{ReadingError}
@@ -13,8 +14,8 @@ use Rattle.udfs_reading.specs.Answers.{GivesFault, RefusesFaulty, FailsAfter}
 use Rattle.udfs_reading.specs.Inputs.{inputs}
 use Rattle.udfs_reading.specs.Several.{HasTable, TablesAre, InputFails}
 
--- n inputs were read, and this is the join of their tables
-pub record SoFar {R : Type 0} (remaining : R → Option (List ℕ)) (faults : R → ℕ) (olds news : List R) (n : ℕ) (table : Table) : Type 0 where
+-- n inputs were read, and their tables were joined to that before
+pub record SoFar {R : Type 0} (remaining : R → Option (List ℕ)) (faults : R → ℕ) (olds news : List R) (n : ℕ) (before table : Table) : Type 0 where
   pub earlier : List R
   pub earlier_new : List R
   pub later : List R
@@ -25,7 +26,7 @@ pub record SoFar {R : Type 0} (remaining : R → Option (List ℕ)) (faults : R 
   pub tables : List Table
   pub have_tables : TablesAre remaining earlier tables
   pub counts : map faults earlier_new ≡ map faults earlier
-  pub table_is : table ≡ join_all tables
+  pub table_is : table ≡ join_tables before (join_all tables)
 
 tables-push : {R : Type 0} (remaining : R → Option (List ℕ)) (rs : List R) (ts : List Table) (r : R) (t : Table) → TablesAre remaining rs ts → IfSome (remaining r) (λ bytes. HasTable bytes t)
     → TablesAre remaining (rs ++ r ∷ []) (ts ++ t ∷ [])
@@ -41,15 +42,15 @@ next_is {R} xs front (y ∷ more) n d e len lt =
     let at : get_or xs n d ≡ y = ap (λ (l : List R). get_or l n d) e ∙ get_or_at front y more d n len in
     (more, ap (λ (z : R). z ∷ more) (sym at))
 
-pub so_far_none : {R : Type 0} (remaining : R → Option (List ℕ)) (faults : R → ℕ) (rs : List R) (table : Table) → table ≡ empty_table → SoFar remaining faults rs rs 0 table
-so_far_none remaining faults rs table e =
-    record { earlier = []; earlier_new = []; later = rs; were = refl; are = refl; many = refl; many_new = refl; tables = []; have_tables = tt; counts = refl; table_is = e }
+pub so_far_none : {R : Type 0} (remaining : R → Option (List ℕ)) (faults : R → ℕ) (rs : List R) (before : Table) → SoFar remaining faults rs rs 0 before before
+so_far_none remaining faults rs before =
+    record { earlier = []; earlier_new = []; later = rs; were = refl; are = refl; many = refl; many_new = refl; tables = []; have_tables = tt; counts = refl; table_is = sym (join_tables-empty_right before) }
 
 -- one more was read
-pub so_far_more : {R : Type 0} (remaining : R → Option (List ℕ)) (faults : R → ℕ) (olds news : List R) (n : ℕ) (table : Table) (new d : R) (t u : Table)
-    → SoFar remaining faults olds news n table → n < length news → IfSome (remaining (get_or news n d)) (λ bytes. HasTable bytes t) → faults new ≡ faults (get_or news n d) → u ≡ join_tables table t
-    → SoFar remaining faults olds (set news n new) (n + 1) u
-so_far_more {R} remaining faults olds news n table new d t u h lt has kept joined =
+pub so_far_more : {R : Type 0} (remaining : R → Option (List ℕ)) (faults : R → ℕ) (olds news : List R) (n : ℕ) (before table : Table) (new d : R) (t u : Table)
+    → SoFar remaining faults olds news n before table → n < length news → IfSome (remaining (get_or news n d)) (λ bytes. HasTable bytes t) → faults new ≡ faults (get_or news n d) → u ≡ join_tables table t
+    → SoFar remaining faults olds (set news n new) (n + 1) before u
+so_far_more {R} remaining faults olds news n before table new d t u h lt has kept joined =
     let x : R = get_or news n d in
     let next = next_is news h.earlier_new h.later n d h.are h.many_new lt in
     let many = h.many in
@@ -65,18 +66,18 @@ so_far_more {R} remaining faults olds news n table new d t u h lt has kept joine
       tables = h.tables ++ t ∷ [];
       have_tables = tables-push remaining h.earlier h.tables x t h.have_tables has;
       counts = map-append faults h.earlier_new (new ∷ []) ∙ ap (λ (l : List ℕ). l ++ faults new ∷ []) h.counts ∙ ap (λ (k : ℕ). map faults h.earlier ++ k ∷ []) kept ∙ sym (map-append faults h.earlier (x ∷ []));
-      table_is = joined ∙ ap (λ (l : Table). join_tables l t) h.table_is ∙ sym (table_added h.tables t);
+      table_is = joined ∙ ap (λ (l : Table). join_tables l t) h.table_is ∙ join_tables-assoc before (join_all h.tables) t ∙ ap (join_tables before) (sym (table_added h.tables t));
     }
 
 -- the next one fails
-pub so_far_fails : {R : Type 0} (remaining : R → Option (List ℕ)) (faults : R → ℕ) (olds news : List R) (n : ℕ) (table : Table) (new d : R) (e : ReadingError)
-    → SoFar remaining faults olds news n table → n < length news
+pub so_far_fails : {R : Type 0} (remaining : R → Option (List ℕ)) (faults : R → ℕ) (olds news : List R) (n : ℕ) (before table : Table) (new d : R) (e : ReadingError)
+    → SoFar remaining faults olds news n before table → n < length news
     → ((e.fault ≡ Io) ↔ (faults new ≢ faults (get_or news n d)))
     → GivesFault inputs (remaining (get_or news n d)) (Err e)
     → RefusesFaulty inputs (remaining (get_or news n d)) (Err e)
     → FailsAfter inputs (remaining (get_or news n d)) (remaining new) (Err e)
     → InputFails remaining faults olds (set news n new) (record { input = n + 1; error = e })
-so_far_fails {R} remaining faults olds news n table new d e h lt io fault faulty cut =
+so_far_fails {R} remaining faults olds news n before table new d e h lt io fault faulty cut =
     let x : R = get_or news n d in
     let next = next_is news h.earlier_new h.later n d h.are h.many_new lt in
     record {
@@ -102,9 +103,9 @@ nothing_left xs front [] n e len le = refl
 nothing_left xs front (y ∷ more) n e len le = absurd (omega (arith, ap length e, length-append front (y ∷ more)))
 
 -- all were read
-pub so_far_all : {R : Type 0} (remaining : R → Option (List ℕ)) (faults : R → ℕ) (olds news : List R) (n : ℕ) (table : Table) → SoFar remaining faults olds news n table → length news ≤ n
-    → ((ts : List Table) × TablesAre remaining olds ts × (table ≡ join_all ts)) × (map faults news ≡ map faults olds)
-so_far_all {R} remaining faults olds news n table h le =
+pub so_far_all : {R : Type 0} (remaining : R → Option (List ℕ)) (faults : R → ℕ) (olds news : List R) (n : ℕ) (before table : Table) → SoFar remaining faults olds news n before table → length news ≤ n
+    → ((ts : List Table) × TablesAre remaining olds ts × (table ≡ join_tables before (join_all ts))) × (map faults news ≡ map faults olds)
+so_far_all {R} remaining faults olds news n before table h le =
     let none = nothing_left news h.earlier_new h.later n h.are h.many_new le in
     let olds_are : olds ≡ h.earlier = h.were ∙ ap (λ (l : List R). h.earlier ++ l) none ∙ append-nil h.earlier in
     let news_are : news ≡ h.earlier_new = h.are ∙ ap (λ (l : List R). h.earlier_new ++ l) none ∙ append-nil h.earlier_new in

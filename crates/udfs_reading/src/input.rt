@@ -1,13 +1,14 @@
 //! One input: a reading, a table file of either version, or any of them, told by its first eight bytes.
 
-ghost use Rattle.std.specs.Prelude.{◌≡◌, ◌≢◌, ◌↔◌, ℕ, List, [], OnOk, IfOk, IfErr, IfSome, IsErrAnd, MatchResult};
+ghost use Rattle.std.specs.Prelude.{◌≡◌, ◌≢◌, ◌↔◌, ℕ, List, [], OnOk, IfOk, IfErr, IfSome, IsErrAnd, MatchResult, cond, false};
+ghost use Rattle.std.specs.Str.{bytes_eq};
 ghost use Rattle.udfs_reading.specs.declared.error.ReadingFault.TheVariants.{Io};
 ghost use Rattle.udfs_lattice.specs.Tables.{Table, IsTable};
 ghost use Rattle.udfs_reading.specs.Device.{left};
 ghost use Rattle.udfs_reading.specs.Answers.{IsOfFile, GivesTable, GivesFault, TakesFile, RefusesFaulty, FailsAfter};
-ghost use Rattle.udfs_reading.specs.Inputs.{kind_accepted, tables, inputs};
+ghost use Rattle.udfs_reading.specs.Inputs.{files, kind_accepted, tables, inputs};
 ghost use Rattle.udfs_reading.specs.Outcome.{Ends, Takes, Reads, Stops};
-ghost use Rattle.udfs_reading.specs.Reading.{readings};
+ghost use Rattle.udfs_reading.specs.Reading.{magic, readings};
 ghost use Rattle.udfs_reading.specs.TableFile.{table_bytes_v1};
 ghost use Rattle.udfs_reading.specs.PacketFile.{table_bytes};
 
@@ -15,6 +16,7 @@ use crate::device::Source;
 use crate::error::{ReadingError, ReadingFault};
 use crate::field::read_magic;
 use crate::header::{names_packets, names_reading, names_table};
+use crate::taker::Taker;
 use crate::window::Window;
 use crate::{packet_file, reading, table_file};
 use std::alloc::Global;
@@ -28,13 +30,13 @@ pub enum Accepted {
     All,
 }
 
-/// Reads a reading to the end of the source, and joins its table to the table.
-fn join_reading<R: Source>(
+/// Reads a reading to the end of the source, and hands its blocks to the taker.
+fn join_reading<R: Source, T: Taker>(
     source: &mut R,
     window: &mut Window,
-    table: &mut BlockTable,
+    taker: &mut T,
 ) -> Result<(), ReadingError>
-    ensures ok { OnOk result (Takes readings [] (left window.old (R.remaining source.old)) (left window.new (R.remaining source.new)) table.old table.new) }
+    ensures ok { OnOk result (Takes readings [] (left window.old (R.remaining source.old)) (left window.new (R.remaining source.new)) (T.table taker.old) (T.table taker.new)) }
     ensures count { OnOk result (R.faults source.new ≡ R.faults source.old) }
     ensures err { IfErr result (λ e. Ends readings [] (left window.old (R.remaining source.old)) (left window.new (R.remaining source.new))
         (R.faults source.old) (R.faults source.new) e) }
@@ -43,7 +45,7 @@ fn join_reading<R: Source>(
 {
     let magic = read_magic(source, window)?;
     if names_reading(&magic) {
-        reading::read_body(source, window, table)?;
+        reading::read_body(source, window, taker)?;
         return Ok(());
     }
     Err(ReadingError {
@@ -52,26 +54,38 @@ fn join_reading<R: Source>(
     })
 }
 
-/// Reads a table file of either version to the end of the source, and joins its table to the table.
-fn join_table<R: Source>(
+/// Whether these eight bytes name a reading, and readings are accepted.
+fn names_accepted(readings: bool, bytes: &[u8; 8]) -> bool
+    ensures { result ≡ cond readings (bytes_eq bytes.now magic) false }
+{
+    readings && names_reading(bytes)
+}
+
+/// Reads a table file of either version, or a reading where these are accepted, to the end of the source, and hands its blocks to the taker.
+fn join_files<R: Source, T: Taker>(
     source: &mut R,
     window: &mut Window,
-    table: &mut BlockTable,
+    readings: bool,
+    taker: &mut T,
 ) -> Result<(), ReadingError>
-    ensures ok { OnOk result (Takes tables [] (left window.old (R.remaining source.old)) (left window.new (R.remaining source.new)) table.old table.new) }
+    ensures ok { OnOk result (Takes (files readings) [] (left window.old (R.remaining source.old)) (left window.new (R.remaining source.new)) (T.table taker.old) (T.table taker.new)) }
     ensures count { OnOk result (R.faults source.new ≡ R.faults source.old) }
-    ensures err { IfErr result (λ e. Ends tables [] (left window.old (R.remaining source.old)) (left window.new (R.remaining source.new))
+    ensures err { IfErr result (λ e. Ends (files readings) [] (left window.old (R.remaining source.old)) (left window.new (R.remaining source.new))
         (R.faults source.old) (R.faults source.new) e) }
     ensures empty { IfErr result (λ e. e.fault ≡ Io → window.new ≡ []) }
     ensures done { OnOk result (window.new ≡ []) }
 {
     let magic = read_magic(source, window)?;
+    if names_accepted(readings, &magic) {
+        reading::read_body(source, window, taker)?;
+        return Ok(());
+    }
     if names_table(&magic) {
-        table_file::read_body(source, window, table)?;
+        table_file::read_body(source, window, taker)?;
         return Ok(());
     }
     if names_packets(&magic) {
-        packet_file::read_body(source, window, table)?;
+        packet_file::read_body(source, window, taker)?;
         return Ok(());
     }
     Err(ReadingError {
@@ -80,46 +94,30 @@ fn join_table<R: Source>(
     })
 }
 
-/// Reads a file of any kind to the end of the source, and joins its table to the table.
-pub fn join_any<R: Source>(
+/// Reads a file of any kind to the end of the source, and hands its blocks to the taker.
+pub fn join_any<R: Source, T: Taker>(
     source: &mut R,
     window: &mut Window,
-    table: &mut BlockTable,
+    taker: &mut T,
 ) -> Result<(), ReadingError>
-    ensures ok { OnOk result (Takes inputs [] (left window.old (R.remaining source.old)) (left window.new (R.remaining source.new)) table.old table.new) }
+    ensures ok { OnOk result (Takes inputs [] (left window.old (R.remaining source.old)) (left window.new (R.remaining source.new)) (T.table taker.old) (T.table taker.new)) }
     ensures count { OnOk result (R.faults source.new ≡ R.faults source.old) }
     ensures err { IfErr result (λ e. Ends inputs [] (left window.old (R.remaining source.old)) (left window.new (R.remaining source.new))
         (R.faults source.old) (R.faults source.new) e) }
     ensures empty { IfErr result (λ e. e.fault ≡ Io → window.new ≡ []) }
     ensures done { OnOk result (window.new ≡ []) }
 {
-    let magic = read_magic(source, window)?;
-    if names_reading(&magic) {
-        reading::read_body(source, window, table)?;
-        return Ok(());
-    }
-    if names_table(&magic) {
-        table_file::read_body(source, window, table)?;
-        return Ok(());
-    }
-    if names_packets(&magic) {
-        packet_file::read_body(source, window, table)?;
-        return Ok(());
-    }
-    Err(ReadingError {
-        fault: ReadingFault::Magic,
-        number: 0,
-    })
+    join_files(source, window, true, taker)
 }
 
-/// Reads a file that is accepted to the end of the source, and joins its table to the table.
-fn join_accepted<R: Source>(
+/// Reads a file that is accepted to the end of the source, and hands its blocks to the taker.
+fn join_accepted<R: Source, T: Taker>(
     source: &mut R,
     window: &mut Window,
     which: Accepted,
-    table: &mut BlockTable,
+    taker: &mut T,
 ) -> Result<(), ReadingError>
-    ensures ok { OnOk result (Takes (kind_accepted which) [] (left window.old (R.remaining source.old)) (left window.new (R.remaining source.new)) table.old table.new) }
+    ensures ok { OnOk result (Takes (kind_accepted which) [] (left window.old (R.remaining source.old)) (left window.new (R.remaining source.new)) (T.table taker.old) (T.table taker.new)) }
     ensures count { OnOk result (R.faults source.new ≡ R.faults source.old) }
     ensures err { IfErr result (λ e. Ends (kind_accepted which) [] (left window.old (R.remaining source.old)) (left window.new (R.remaining source.new))
         (R.faults source.old) (R.faults source.new) e) }
@@ -127,9 +125,9 @@ fn join_accepted<R: Source>(
     ensures done { OnOk result (window.new ≡ []) }
 {
     match which {
-        Accepted::Readings => join_reading(source, window, table),
-        Accepted::Tables => join_table(source, window, table),
-        Accepted::All => join_any(source, window, table),
+        Accepted::Readings => join_reading(source, window, taker),
+        Accepted::Tables => join_files(source, window, false, taker),
+        Accepted::All => join_any(source, window, taker),
     }
 }
 

@@ -1,7 +1,7 @@
 //! Several inputs at once.
 
 ghost use Rattle.std.specs.Prelude.{◌≡◌, ◌≢◌, ℕ, List, [], ◌↔◌, map, OnOk, IfOk, IfErr, MatchResult};
-ghost use Rattle.udfs_lattice.specs.Tables.{Table};
+ghost use Rattle.udfs_lattice.specs.Tables.{Table, join_tables};
 ghost use Rattle.udfs_lattice.specs.Records.{Record, table_of, join_all, SameTables, SameRecords, all_records};
 ghost use Rattle.udfs_reading.specs.declared.error.ReadingFault.{ReadingFault};
 ghost use Rattle.udfs_reading.specs.Answers.{IsOfFile};
@@ -12,6 +12,7 @@ ghost use Rattle.udfs_reading.specs.Several.{TablesAre, AllTell, AllReadings, Jo
 use crate::device::Source;
 use crate::error::ReadingError;
 use crate::input::join_any;
+use crate::taker::Taker;
 use crate::window::Window;
 use std::alloc::Global;
 use udfs_lattice::BlockTable;
@@ -23,21 +24,69 @@ pub struct InputError {
     pub error: ReadingError,
 }
 
-/// Reads one input through an empty window, and joins its table to the table.
-fn join_input<R: Source>(
+/// Reads one input through an empty window, and hands its blocks to the taker.
+fn take_input<R: Source, T: Taker>(
     source: &mut R,
     window: &mut Window,
-    table: &mut BlockTable,
+    taker: &mut T,
 ) -> Result<(), ReadingError>
     requires { window.now ≡ [] }
-    ensures ok { OnOk result (Joins inputs (R.remaining source.old) (R.remaining source.new) table.old table.new) }
+    ensures ok { OnOk result (Joins inputs (R.remaining source.old) (R.remaining source.new) (T.table taker.old) (T.table taker.new)) }
     ensures count { OnOk result (R.faults source.new ≡ R.faults source.old) }
     ensures err { IfErr result (λ e. Stops inputs (R.remaining source.old) (R.remaining source.new)
         (R.faults source.old) (R.faults source.new) e) }
     ensures empty { OnOk result (window.new ≡ []) }
 {
-    join_any(source, window, table)?;
+    taker.begin();
+    join_any(source, window, taker)?;
     Ok(())
+}
+
+fn take_each<R: Source, T: Taker>(inputs: &mut [R], taker: &mut T) -> Result<(), InputError>
+    ensures table { OnOk result ((ts : List Table) × TablesAre R.remaining inputs.old ts × (T.table taker.new ≡ join_tables (T.table taker.old) (join_all ts))) }
+    ensures counts { OnOk result (map R.faults inputs.new ≡ map R.faults inputs.old) }
+    ensures fails { IfErr result (λ e. InputFails R.remaining R.faults inputs.old inputs.new e) }
+{
+    let mut window = Window::new();
+    for (index, source) in inputs.iter_mut().enumerate() {
+        let input = index + 1;
+        match take_input(source, &mut window, taker) {
+            Ok(()) => {}
+            Err(error) => return Err(InputError { input, error }),
+        }
+    }
+    Ok(())
+}
+
+/// Reads all inputs, readings and table files of either version, in order, and hands their blocks to the taker.
+///
+/// # Errors
+///
+/// As [`join_inputs`] has them. The taker has taken some of the blocks then, and what they are is not said.
+pub fn take_inputs<R: Source, T: Taker>(inputs: &mut [R], taker: &mut T) -> Result<(), InputError>
+    // The inputs' tables are joined to that of the taker, and no device failed.
+    ensures table { OnOk result ((ts : List Table) × TablesAre R.remaining inputs.old ts × (T.table taker.new ≡ join_tables (T.table taker.old) (join_all ts))) }
+    ensures counts { OnOk result (map R.faults inputs.new ≡ map R.faults inputs.old) }
+    // Where each input is a good file, only a device or want of memory refuses.
+    ensures good { (ts : List Table) → AllTell R.remaining inputs.old ts →
+        MatchResult result (λ _. T.table taker.new ≡ join_tables (T.table taker.old) (join_all ts)) (λ e. ¬ IsOfFile e.error.fault) }
+    // What was taken is one and the same for every order and repetition of the inputs' tables,
+    ensures any_order { (ts us : List Table) → AllTell R.remaining inputs.old ts → SameTables ts us →
+        OnOk result (T.table taker.new ≡ join_tables (T.table taker.old) (join_all us)) }
+    // and for readings however their records are ordered, repeated and split over files.
+    ensures any_split { (rss : List (List Record)) (rs : List Record) → AllReadings R.remaining inputs.old rss →
+        SameRecords (all_records rss) rs → OnOk result (T.table taker.new ≡ join_tables (T.table taker.old) (table_of rs)) }
+    // So for a mixture of files, where each input, a reading or a table file, has the table of some of the records.
+    ensures any_mixture { (rss : List (List Record)) (rs : List Record) → AllTell R.remaining inputs.old (map table_of rss) →
+        SameRecords (all_records rss) rs → OnOk result (T.table taker.new ≡ join_tables (T.table taker.old) (table_of rs)) }
+    // The first input that is no good file is named, with its fault and record, or a device or memory is blamed.
+    ensures first { (input : ℕ) (fault : ReadingFault) (number : ℕ) → IsFirstFaulty R.remaining inputs.old input fault number →
+        MatchResult result (λ _. ⊥) (λ e. IsOfFile e.error.fault → (e.input ≡ input) × (e.error.fault ≡ fault) × (e.error.number ≡ number)) }
+    // What an error says of the input that it names, and of the others.
+    ensures fails { IfErr result (λ e. InputFails R.remaining R.faults inputs.old inputs.new e) }
+{
+    let outcome = take_each(inputs, taker);
+    outcome
 }
 
 fn join_each<R: Source>(alloc: Global, inputs: &mut [R]) -> Result<BlockTable, InputError>
@@ -45,16 +94,11 @@ fn join_each<R: Source>(alloc: Global, inputs: &mut [R]) -> Result<BlockTable, I
     ensures counts { IfOk result (λ _. map R.faults inputs.new ≡ map R.faults inputs.old) }
     ensures fails { IfErr result (λ e. InputFails R.remaining R.faults inputs.old inputs.new e) }
 {
-    let mut window = Window::new();
     let mut table = BlockTable::new(alloc);
-    for (index, source) in inputs.iter_mut().enumerate() {
-        let input = index + 1;
-        match join_input(source, &mut window, &mut table) {
-            Ok(()) => {}
-            Err(error) => return Err(InputError { input, error }),
-        }
+    match take_each(inputs, &mut table) {
+        Ok(()) => Ok(table),
+        Err(error) => Err(error),
     }
-    Ok(table)
 }
 
 /// Reads all inputs, readings and table files of either version, in order, and answers the join of their tables. The

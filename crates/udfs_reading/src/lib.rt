@@ -14,14 +14,16 @@ mod packet_file;
 mod packing;
 mod reading;
 mod table_file;
+mod taker;
 mod window;
 mod writing;
 
 pub use device::{DeviceFault, Reader, Sink, Source, Writer};
 pub use error::{ReadingError, ReadingFault};
 pub use input::{read_input, read_reading, read_table};
-pub use inputs::{InputError, join_inputs};
+pub use inputs::{InputError, join_inputs, take_inputs};
 pub use packing::write_table;
+pub use taker::Taker;
 pub use writing::{Outgoing, WriteFault, write_all, write_table_v1};
 
 #[cfg(test)]
@@ -32,5 +34,7 @@ mod ordered;
 mod packet_tests;
 #[cfg(test)]
 mod steps;
+#[cfg(test)]
+mod taking;
 #[cfg(test)]
 mod tests;

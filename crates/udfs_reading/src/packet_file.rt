@@ -15,8 +15,8 @@ use crate::device::Source;
 use crate::error::{ReadingError, ReadingFault};
 use crate::field::{read_end, read_number};
 use crate::header::read_count;
+use crate::taker::Taker;
 use crate::window::Window;
-use udfs_lattice::{BlockTable, Fact};
 
 /// The greatest number of a packet.
 const LAST_PACKET: u32 = 131_071;
@@ -60,31 +60,31 @@ fn read_masks<R: Source>(
     Ok(Masks { known, conflict })
 }
 
-/// Takes the bytes of a block that is known, and joins its state to the table.
-fn join_place<R: Source>(
+/// Takes the bytes of a block that is known, and hands its state to the taker.
+fn join_place<R: Source, T: Taker>(
     source: &mut R,
     window: &mut Window,
     entry: u32,
     block: u32,
     known: bool,
     conflict: bool,
-    table: &mut BlockTable,
+    taker: &mut T,
 ) -> Result<(), ReadingError>
     requires { block ≤ 4194303 }
-    ensures ok { OnOk result (TakesPlace (left window.old (R.remaining source.old)) (left window.new (R.remaining source.new)) block known (cond known false conflict) table.old table.new) }
+    ensures ok { OnOk result (TakesPlace (left window.old (R.remaining source.old)) (left window.new (R.remaining source.new)) block known (cond known false conflict) (T.table taker.old) (T.table taker.new)) }
     ensures count { OnOk result (R.faults source.new ≡ R.faults source.old) }
     ensures err { IfErr result (λ e. PlaceFails (left window.old (R.remaining source.old)) (left window.new (R.remaining source.new))
         (R.faults source.old) (R.faults source.new) entry known e) }
     ensures empty { IfErr result (λ e. e.fault ≡ Io → window.new ≡ []) }
 {
     if known {
-        join_block(source, window, entry, block, table)?;
+        join_block(source, window, entry, block, taker)?;
         return Ok(());
     }
     if !conflict {
         return Ok(());
     }
-    match table.add(block, Fact::Conflict) {
+    match taker.dispute(block) {
         Ok(()) => Ok(()),
         Err(_) => Err(ReadingError {
             fault: ReadingFault::OutOfMemory,
@@ -93,18 +93,18 @@ fn join_place<R: Source>(
     }
 }
 
-/// Takes the blocks of a packet, and joins their states to the table. The masks are halved from block to block.
-fn read_blocks<R: Source>(
+/// Takes the blocks of a packet, and hands their states to the taker. The masks are halved from block to block.
+fn read_blocks<R: Source, T: Taker>(
     source: &mut R,
     window: &mut Window,
     entry: u32,
     packet: u32,
     masks: Masks,
-    table: &mut BlockTable,
+    taker: &mut T,
 ) -> Result<(), ReadingError>
     requires packet { packet ≤ 131071 }
     requires masks { AreMasks masks.known masks.conflict }
-    ensures ok { OnOk result (TakesStates (left window.old (R.remaining source.old)) (left window.new (R.remaining source.new)) (32 * packet) masks.known masks.conflict table.old table.new) }
+    ensures ok { OnOk result (TakesStates (left window.old (R.remaining source.old)) (left window.new (R.remaining source.new)) (32 * packet) masks.known masks.conflict (T.table taker.old) (T.table taker.new)) }
     ensures count { OnOk result (R.faults source.new ≡ R.faults source.old) }
     ensures err { IfErr result (λ e. (count : ℕ) (done : List Packet) → IsNextPacket count done packet → length done + 1 ≡ entry →
         Ends tables_v2 (packets_front count done ++ (number packet ++ (number masks.known ++ number masks.conflict))) (left window.old (R.remaining source.old)) (left window.new (R.remaining source.new))
@@ -123,7 +123,7 @@ fn read_blocks<R: Source>(
             32 * packet + place,
             is_known,
             is_conflict,
-            table,
+            taker,
         )?;
         known /= 2;
         conflict /= 2;
@@ -132,14 +132,14 @@ fn read_blocks<R: Source>(
 }
 
 /// Takes a packet whose number is at least `low`, and answers the next low.
-fn read_packet<R: Source>(
+fn read_packet<R: Source, T: Taker>(
     source: &mut R,
     window: &mut Window,
     entry: u32,
     low: u32,
-    table: &mut BlockTable,
+    taker: &mut T,
 ) -> Result<u32, ReadingError>
-    ensures ok { IfOk result (λ next. TakesPacket (left window.old (R.remaining source.old)) (left window.new (R.remaining source.new)) low next table.old table.new) }
+    ensures ok { IfOk result (λ next. TakesPacket (left window.old (R.remaining source.old)) (left window.new (R.remaining source.new)) low next (T.table taker.old) (T.table taker.new)) }
     ensures count { OnOk result (R.faults source.new ≡ R.faults source.old) }
     ensures err { IfErr result (λ e. (count : ℕ) (done : List Packet) → IsUnderPackets count done → length done + 1 ≡ entry → low_after 0 done ≡ low →
         Ends tables_v2 (packets_front count done) (left window.old (R.remaining source.old)) (left window.new (R.remaining source.new))
@@ -160,18 +160,18 @@ fn read_packet<R: Source>(
         });
     }
     let masks = read_masks(source, window, entry, packet)?;
-    read_blocks(source, window, entry, packet, masks, table)?;
+    read_blocks(source, window, entry, packet, masks, taker)?;
     Ok(packet + 1)
 }
 
-/// Takes this many packets, and joins them to the table.
-fn read_packets<R: Source>(
+/// Takes this many packets, and hands them to the taker.
+fn read_packets<R: Source, T: Taker>(
     source: &mut R,
     window: &mut Window,
     count: u32,
-    table: &mut BlockTable,
+    taker: &mut T,
 ) -> Result<(), ReadingError>
-    ensures ok { OnOk result ((low : ℕ) × TakesPackets (left window.old (R.remaining source.old)) (left window.new (R.remaining source.new)) count low table.old table.new) }
+    ensures ok { OnOk result ((low : ℕ) × TakesPackets (left window.old (R.remaining source.old)) (left window.new (R.remaining source.new)) count low (T.table taker.old) (T.table taker.new)) }
     ensures count { OnOk result (R.faults source.new ≡ R.faults source.old) }
     ensures err { IfErr result (λ e. Ends tables_v2 (header packet_magic count) (left window.old (R.remaining source.old)) (left window.new (R.remaining source.new))
         (R.faults source.old) (R.faults source.new) e) }
@@ -179,19 +179,19 @@ fn read_packets<R: Source>(
 {
     let mut low = 0;
     for index in 0..count {
-        low = read_packet(source, window, index + 1, low, table)?;
+        low = read_packet(source, window, index + 1, low, taker)?;
     }
     Ok(())
 }
 
-/// Reads what stands behind the magic of a table file of version 2, to the end of the source, and joins its
-/// table to the table. An error leaves the table with some of the blocks joined.
-pub fn read_body<R: Source>(
+/// Reads what stands behind the magic of a table file of version 2, to the end of the source, and hands its
+/// blocks to the taker. An error leaves it with some of them.
+pub fn read_body<R: Source, T: Taker>(
     source: &mut R,
     window: &mut Window,
-    table: &mut BlockTable,
+    taker: &mut T,
 ) -> Result<(), ReadingError>
-    ensures ok { OnOk result (Takes tables_v2 packet_magic (left window.old (R.remaining source.old)) (left window.new (R.remaining source.new)) table.old table.new) }
+    ensures ok { OnOk result (Takes tables_v2 packet_magic (left window.old (R.remaining source.old)) (left window.new (R.remaining source.new)) (T.table taker.old) (T.table taker.new)) }
     ensures count { OnOk result (R.faults source.new ≡ R.faults source.old) }
     ensures err { IfErr result (λ e. Ends tables_v2 packet_magic (left window.old (R.remaining source.old)) (left window.new (R.remaining source.new))
         (R.faults source.old) (R.faults source.new) e) }
@@ -199,7 +199,7 @@ pub fn read_body<R: Source>(
     ensures done { OnOk result (window.new ≡ []) }
 {
     let count = read_count(source, window)?;
-    read_packets(source, window, count, table)?;
+    read_packets(source, window, count, taker)?;
     read_end(source, window, count)?;
     Ok(())
 }

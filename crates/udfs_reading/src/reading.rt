@@ -13,17 +13,17 @@ use crate::device::Source;
 use crate::error::{ReadingError, ReadingFault};
 use crate::field::{read_end, read_number};
 use crate::header::read_count;
+use crate::taker::Taker;
 use crate::window::Window;
-use udfs_lattice::BlockTable;
 
-/// Takes the record of this number, and joins it to the table.
-fn read_record<R: Source>(
+/// Takes the record of this number, and hands it to the taker.
+fn read_record<R: Source, T: Taker>(
     source: &mut R,
     window: &mut Window,
     number: u32,
-    table: &mut BlockTable,
+    taker: &mut T,
 ) -> Result<(), ReadingError>
-    ensures ok { OnOk result (TakesRecord (left window.old (R.remaining source.old)) (left window.new (R.remaining source.new)) table.old table.new) }
+    ensures ok { OnOk result (TakesRecord (left window.old (R.remaining source.old)) (left window.new (R.remaining source.new)) (T.table taker.old) (T.table taker.new)) }
     ensures count { OnOk result (R.faults source.new ≡ R.faults source.old) }
     ensures err { IfErr result (λ e. (count : ℕ) (done : List Record) → IsUnder count done → length done + 1 ≡ number →
         Ends readings (front count done) (left window.old (R.remaining source.old)) (left window.new (R.remaining source.new))
@@ -37,37 +37,37 @@ fn read_record<R: Source>(
             number,
         });
     }
-    join_block(source, window, number, block, table)?;
+    join_block(source, window, number, block, taker)?;
     Ok(())
 }
 
-/// Takes this many records, and joins them to the table.
-fn read_records<R: Source>(
+/// Takes this many records, and hands them to the taker.
+fn read_records<R: Source, T: Taker>(
     source: &mut R,
     window: &mut Window,
     count: u32,
-    table: &mut BlockTable,
+    taker: &mut T,
 ) -> Result<(), ReadingError>
-    ensures ok { OnOk result (TakesRecords (left window.old (R.remaining source.old)) (left window.new (R.remaining source.new)) count table.old table.new) }
+    ensures ok { OnOk result (TakesRecords (left window.old (R.remaining source.old)) (left window.new (R.remaining source.new)) count (T.table taker.old) (T.table taker.new)) }
     ensures count { OnOk result (R.faults source.new ≡ R.faults source.old) }
     ensures err { IfErr result (λ e. Ends readings (header magic count) (left window.old (R.remaining source.old)) (left window.new (R.remaining source.new))
         (R.faults source.old) (R.faults source.new) e) }
     ensures empty { IfErr result (λ e. e.fault ≡ Io → window.new ≡ []) }
 {
     for index in 0..count {
-        read_record(source, window, index + 1, table)?;
+        read_record(source, window, index + 1, taker)?;
     }
     Ok(())
 }
 
-/// Reads what stands behind the magic of a reading, to the end of the source, and joins its table to
-/// the table. An error leaves the table with some of the records joined.
-pub fn read_body<R: Source>(
+/// Reads what stands behind the magic of a reading, to the end of the source, and hands its records to
+/// the taker. An error leaves it with some of them.
+pub fn read_body<R: Source, T: Taker>(
     source: &mut R,
     window: &mut Window,
-    table: &mut BlockTable,
+    taker: &mut T,
 ) -> Result<(), ReadingError>
-    ensures ok { OnOk result (Takes readings magic (left window.old (R.remaining source.old)) (left window.new (R.remaining source.new)) table.old table.new) }
+    ensures ok { OnOk result (Takes readings magic (left window.old (R.remaining source.old)) (left window.new (R.remaining source.new)) (T.table taker.old) (T.table taker.new)) }
     ensures count { OnOk result (R.faults source.new ≡ R.faults source.old) }
     ensures err { IfErr result (λ e. Ends readings magic (left window.old (R.remaining source.old)) (left window.new (R.remaining source.new))
         (R.faults source.old) (R.faults source.new) e) }
@@ -75,7 +75,7 @@ pub fn read_body<R: Source>(
     ensures done { OnOk result (window.new ≡ []) }
 {
     let count = read_count(source, window)?;
-    read_records(source, window, count, table)?;
+    read_records(source, window, count, taker)?;
     read_end(source, window, count)?;
     Ok(())
 }

@@ -14,19 +14,19 @@ use crate::device::Source;
 use crate::error::{ReadingError, ReadingFault};
 use crate::field::{read_byte, read_end, read_number};
 use crate::header::read_count;
+use crate::taker::Taker;
 use crate::window::Window;
-use udfs_lattice::{BlockTable, Fact};
 
-/// Takes the state of a block, and joins it to the table.
-fn read_state<R: Source>(
+/// Takes the state of a block, and hands it to the taker.
+fn read_state<R: Source, T: Taker>(
     source: &mut R,
     window: &mut Window,
     entry: u32,
     block: u32,
-    table: &mut BlockTable,
+    taker: &mut T,
 ) -> Result<(), ReadingError>
     requires { block ≤ 4194303 }
-    ensures ok { OnOk result (TakesState (left window.old (R.remaining source.old)) (left window.new (R.remaining source.new)) block table.old table.new) }
+    ensures ok { OnOk result (TakesState (left window.old (R.remaining source.old)) (left window.new (R.remaining source.new)) block (T.table taker.old) (T.table taker.new)) }
     ensures count { OnOk result (R.faults source.new ≡ R.faults source.old) }
     ensures err { IfErr result (λ e. (count : ℕ) (done : List (ℕ × State)) → IsUnderEntries count done → length done + 1 ≡ entry → floor_after 0 done ≤ block →
         Ends tables_v1 (entries_front count done ++ number block) (left window.old (R.remaining source.old)) (left window.new (R.remaining source.new))
@@ -35,7 +35,7 @@ fn read_state<R: Source>(
 {
     let code = read_byte(source, window, entry)?;
     if code == 1 {
-        join_block(source, window, entry, block, table)?;
+        join_block(source, window, entry, block, taker)?;
         return Ok(());
     }
     if code != 2 {
@@ -44,7 +44,7 @@ fn read_state<R: Source>(
             number: entry,
         });
     }
-    match table.add(block, Fact::Conflict) {
+    match taker.dispute(block) {
         Ok(()) => Ok(()),
         Err(_) => Err(ReadingError {
             fault: ReadingFault::OutOfMemory,
@@ -54,14 +54,14 @@ fn read_state<R: Source>(
 }
 
 /// Takes an entry whose block is at least `floor`, and answers the next floor.
-fn read_entry<R: Source>(
+fn read_entry<R: Source, T: Taker>(
     source: &mut R,
     window: &mut Window,
     entry: u32,
     floor: u32,
-    table: &mut BlockTable,
+    taker: &mut T,
 ) -> Result<u32, ReadingError>
-    ensures ok { IfOk result (λ next. TakesEntry (left window.old (R.remaining source.old)) (left window.new (R.remaining source.new)) floor next table.old table.new) }
+    ensures ok { IfOk result (λ next. TakesEntry (left window.old (R.remaining source.old)) (left window.new (R.remaining source.new)) floor next (T.table taker.old) (T.table taker.new)) }
     ensures count { OnOk result (R.faults source.new ≡ R.faults source.old) }
     ensures err { IfErr result (λ e. (count : ℕ) (done : List (ℕ × State)) → IsUnderEntries count done → length done + 1 ≡ entry → floor_after 0 done ≡ floor →
         Ends tables_v1 (entries_front count done) (left window.old (R.remaining source.old)) (left window.new (R.remaining source.new))
@@ -81,18 +81,18 @@ fn read_entry<R: Source>(
             number: entry,
         });
     }
-    read_state(source, window, entry, block, table)?;
+    read_state(source, window, entry, block, taker)?;
     Ok(block + 1)
 }
 
-/// Takes this many entries, and joins them to the table.
-fn read_entries<R: Source>(
+/// Takes this many entries, and hands them to the taker.
+fn read_entries<R: Source, T: Taker>(
     source: &mut R,
     window: &mut Window,
     count: u32,
-    table: &mut BlockTable,
+    taker: &mut T,
 ) -> Result<(), ReadingError>
-    ensures ok { OnOk result ((floor : ℕ) × TakesEntries (left window.old (R.remaining source.old)) (left window.new (R.remaining source.new)) count floor table.old table.new) }
+    ensures ok { OnOk result ((floor : ℕ) × TakesEntries (left window.old (R.remaining source.old)) (left window.new (R.remaining source.new)) count floor (T.table taker.old) (T.table taker.new)) }
     ensures count { OnOk result (R.faults source.new ≡ R.faults source.old) }
     ensures err { IfErr result (λ e. Ends tables_v1 (header table_magic count) (left window.old (R.remaining source.old)) (left window.new (R.remaining source.new))
         (R.faults source.old) (R.faults source.new) e) }
@@ -100,19 +100,19 @@ fn read_entries<R: Source>(
 {
     let mut floor = 0;
     for index in 0..count {
-        floor = read_entry(source, window, index + 1, floor, table)?;
+        floor = read_entry(source, window, index + 1, floor, taker)?;
     }
     Ok(())
 }
 
-/// Reads what stands behind the magic of a table file, to the end of the source, and joins its table
-/// to the table. An error leaves the table with some of the entries joined.
-pub fn read_body<R: Source>(
+/// Reads what stands behind the magic of a table file, to the end of the source, and hands its entries
+/// to the taker. An error leaves it with some of them.
+pub fn read_body<R: Source, T: Taker>(
     source: &mut R,
     window: &mut Window,
-    table: &mut BlockTable,
+    taker: &mut T,
 ) -> Result<(), ReadingError>
-    ensures ok { OnOk result (Takes tables_v1 table_magic (left window.old (R.remaining source.old)) (left window.new (R.remaining source.new)) table.old table.new) }
+    ensures ok { OnOk result (Takes tables_v1 table_magic (left window.old (R.remaining source.old)) (left window.new (R.remaining source.new)) (T.table taker.old) (T.table taker.new)) }
     ensures count { OnOk result (R.faults source.new ≡ R.faults source.old) }
     ensures err { IfErr result (λ e. Ends tables_v1 table_magic (left window.old (R.remaining source.old)) (left window.new (R.remaining source.new))
         (R.faults source.old) (R.faults source.new) e) }
@@ -120,7 +120,7 @@ pub fn read_body<R: Source>(
     ensures done { OnOk result (window.new ≡ []) }
 {
     let count = read_count(source, window)?;
-    read_entries(source, window, count, table)?;
+    read_entries(source, window, count, taker)?;
     read_end(source, window, count)?;
     Ok(())
 }

@@ -16,7 +16,7 @@ use crate::json_nodes::{all_unnamed_value, blocks_value, nodes_value};
 use crate::lines::has_two;
 use crate::reports::Report;
 use crate::volumes::{OpenVolume, Volume};
-use crate::words::{fault_name, fault_number, revision_name};
+use crate::words::{fault_number, revision_name};
 use serde_json::{Map, Value, put};
 use std::alloc::{AllocError, Global};
 use udfs_lattice::{BlockTable, Fact};
@@ -130,7 +130,7 @@ fn blocked_value(alloc: Global, blocks: &[u32]) -> Result<Value, AllocError>
 fn faulty_value(alloc: Global, fault: VolumeFault) -> Result<Value, AllocError>
     ensures { IfOk result (λ v. view v ≡ volume_data (faulty fault)) }
 {
-    let name = Value::try_from_str(alloc, fault_name(fault))?;
+    let name = Value::try_from_str(alloc, fault.name())?;
     let state = Value::try_from_str(alloc, "fault")?;
     let mut members = Map::new(alloc);
     put(

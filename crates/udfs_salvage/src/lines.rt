@@ -11,7 +11,7 @@ ghost use Rattle.udfs_salvage.specs.Texts.{block_text, block_texts, count_line, 
 
 use crate::volumes::{OpenVolume, Volume};
 use crate::word_printing::{put_count, put_escaped};
-use crate::words::{fault_name, fault_number, revision_name};
+use crate::words::{fault_number, revision_name};
 use udfs_lattice::{BlockTable, Fact};
 use udfs_osta::{Label, Name};
 use udfs_printing::Printer;
@@ -140,7 +140,7 @@ fn put_fault<W: Sink>(out: &mut Printer, sink: &mut W, fault: VolumeFault)
 {
     put_count(out, sink, "volume fault ", u64::from(fault_number(fault)));
     out.put(sink, " ");
-    out.put(sink, fault_name(fault));
+    out.put(sink, fault.name());
     out.put(sink, "\n");
 }
 

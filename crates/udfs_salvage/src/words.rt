@@ -1,7 +1,6 @@
 //! The words of a report, and the numbers that stand behind some of them.
 
 ghost use Rattle.std.specs.Prelude.{◌≡◌, ◌≤◌, length};
-ghost use Rattle.udfs_volume.specs.FaultNames.{volume_fault_name};
 ghost use Rattle.udfs_salvage.specs.NodeTexts.{kind_name, node_fault_number, standing_name, word_text};
 ghost use Rattle.udfs_salvage.specs.Texts.{revision_text, volume_fault_number};
 
@@ -59,31 +58,6 @@ pub(crate) fn fault_number(fault: VolumeFault) -> u8
     ensures { result ≡ volume_fault_number fault }
 {
     fault as u8
-}
-
-/// The name of a volume's fault, as the fault displays itself.
-pub(crate) fn fault_name(fault: VolumeFault) -> &'static str
-    ensures name { result.now ≡ volume_fault_name fault }
-    ensures short { length result.now ≤ 2048 }
-{
-    match fault {
-        VolumeFault::NoAnchor => "NoAnchor",
-        VolumeFault::Extents => "Extents",
-        VolumeFault::Pointer => "Pointer",
-        VolumeFault::NoLogicalVolume => "NoLogicalVolume",
-        VolumeFault::Domain => "Domain",
-        VolumeFault::BlockSize => "BlockSize",
-        VolumeFault::MapCount => "MapCount",
-        VolumeFault::MapKind => "MapKind",
-        VolumeFault::NoPartition => "NoPartition",
-        VolumeFault::Contents => "Contents",
-        VolumeFault::PartitionRange => "PartitionRange",
-        VolumeFault::SparingTag => "SparingTag",
-        VolumeFault::SparingShape => "SparingShape",
-        VolumeFault::SparingOrder => "SparingOrder",
-        VolumeFault::MappedRange => "MappedRange",
-        VolumeFault::FileSet => "FileSet",
-    }
 }
 
 /// A revision of UDF as it is printed: `1.02`, `1.50`, `2.00`, or else `2.01`, since no profile accepts another.

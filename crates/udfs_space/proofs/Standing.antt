@@ -13,7 +13,7 @@ use Rattle.udfs_space.specs.Sparing.{Space, Span, Spared}
 
 -- ---- arithmetic of packets
 -- a multiple of p that b passes by less than p is the one below b
-window : (p o b : ℕ) → o % p ≡ 0 → o ≤ b → b < o + p → b % p ≡ b - o
+pub window : (p o b : ℕ) → o % p ≡ 0 → o ≤ b → b < o + p → b % p ≡ b - o
 window p o b m l h = ap (λ x. x % p) split ∙ mod-mul-add (o / p) p (b - o) less
   where
     whole : p * (o / p) + o % p ≡ o
@@ -28,7 +28,7 @@ window p o b m l h = ap (λ x. x % p) split ∙ mod-mul-add (o / p) p (b - o) le
     less : b - o < p
     less = omega (arith, l, h)
 
-rest_upto : (b p : ℕ) → b % p ≤ b
+pub rest_upto : (b p : ℕ) → b % p ≤ b
 rest_upto b p = let e : p * (b / p) + b % p ≡ b = div-add-mod b p in omega (arith, e)
 
 -- ---- the packet of a block, in a set and by its first block
@@ -83,7 +83,7 @@ find-is (x ∷ es) first e q = go (nat_eq x.original first) refl q (find-is es f
     go false t f later = let r : Includes es e × (e.original ≡ first) = later f in (inr r.0, r.1)
 
 -- ---- one partition
-abbrev place_at : Span → ℕ → Option SparingEntry → ℕ
+abbrev pub place_at : Span → ℕ → Option SparingEntry → ℕ
 place_at s b o = placed_at o (s.start + b) (b % s.packet)
 
 -- an entry with the first block of b's packet spares b
@@ -102,7 +102,7 @@ spared_first s b e h w = let m : e.original % s.packet ≡ 0 = (of_each (IsSound
 some_same : {A : Type 0} (x y : A) → Some x ≡ Some y → x ≡ y
 some_same x y q = cc
 
-in_range : (s : Span) (b n : ℕ) → place_in s b ≡ Some n → (b < s.size) × (n ≡ place_at s b (sparing_entry_at s (b - b % s.packet)))
+pub in_range : (s : Span) (b n : ℕ) → place_in s b ≡ Some n → (b < s.size) × (n ≡ place_at s b (sparing_entry_at s (b - b % s.packet)))
 in_range s b n e = go (nat_lt b s.size) refl e
   where
     less : (a b : ℕ) → nat_lt a b ≡ true → a < b

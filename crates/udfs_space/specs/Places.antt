@@ -79,6 +79,10 @@ view blocks space = record { partitions = length space.spans; place = place spac
 abbrev pub block_at : View → ℕ → ℕ → Option (ℕ × State)
 block_at view r b = option_map (λ n. (n, view.blocks n)) (view.place r b)
 
+-- so many logical blocks from one on stand one behind the other, if the first has a place
+abbrev pub StandBeside : (ℕ → Option ℕ) → ℕ → ℕ → Type 0
+StandBeside places b count = (j n : ℕ) → j < count → places b ≡ Some n → places (b + j) ≡ Some (n + j)
+
 -- one of so many consecutive logical blocks has no place
 abbrev pub is_past : (ℕ → ℕ → Option ℕ) → ℕ → ℕ → ℕ → Bool
 is_past places r b count = list_any (λ j. is_none (places r (b + j))) (range_with_len 0 count)

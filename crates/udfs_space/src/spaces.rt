@@ -7,7 +7,7 @@ ghost use Rattle.udfs_volume.specs.LayoutParts.{partition_now, parts_now};
 ghost use Rattle.udfs_volume.specs.Laws.{IsBounded, IsBoundedPartition};
 ghost use Rattle.udfs_volume.specs.Seen.{HolesRise, IfGot, Sees};
 ghost use Rattle.udfs_space.specs.Parts.{IsSound};
-ghost use Rattle.udfs_space.specs.Places.{StandsIn, block_at, block_now, is_past, length_of, place, view};
+ghost use Rattle.udfs_space.specs.Places.{StandBeside, StandsIn, block_at, block_now, is_past, length_of, place, view};
 ghost use Rattle.udfs_space.specs.Sparing.{Span, space, spans};
 ghost use Rattle.udfs_space.specs.Told.{ArePlacesUpTo, TellsLawfulSpace};
 
@@ -159,6 +159,18 @@ impl Space {
         ensures fits { IfSome result (λ n. n ≤ 4194303) }
     {
         self.find(reference, block)
+    }
+
+    /// How many logical blocks from one on stand one behind the other in the volume: 0 where the first has no place, and else at least
+    /// 1, up to the end of its packet or, where no packet of the partition is spared, of the partition. It takes no memory.
+    pub fn beside(&self, reference: u16, block: u32) -> u32
+        ensures beside { StandBeside (place self.now reference) block result }
+        ensures some { block < length_of self.now reference → 0 < result }
+    {
+        match self.spans.get(usize::from(reference)) {
+            Some(span) => span.beside(block),
+            None => 0,
+        }
     }
 
     /// Whether one of so many consecutive logical blocks has no place. It takes no memory, and no longer for

@@ -8,7 +8,7 @@ ghost use Rattle.udfs_volume.specs.LayoutParts.{partition_now};
 ghost use Rattle.udfs_volume.specs.Parts.{sparable_now};
 ghost use Rattle.udfs_volume.specs.Seen.{IfGot, Sees};
 ghost use Rattle.udfs_space.specs.Parts.{AreSound, FitAll, IsSound, IsSoundEntry, OriginalsRise};
-ghost use Rattle.udfs_space.specs.Places.{place_in};
+ghost use Rattle.udfs_space.specs.Places.{StandBeside, place_in};
 ghost use Rattle.udfs_space.specs.Sparing.{span, spared};
 
 use crate::copies::{first_place, holes, table_bytes};
@@ -95,6 +95,21 @@ impl Span {
             Some(entry) => Some(entry.mapped + offset),
             None => Some(self.start + block),
         }
+    }
+
+    /// How many logical blocks from one on stand one behind the other: those to the end of the partition where no packet is
+    /// spared, and else those to the end of the packet.
+    pub(crate) fn beside(&self, block: u32) -> u32
+        ensures beside { StandBeside (place_in self.now) block result }
+        ensures some { block < self.now.size → 0 < result }
+    {
+        if block >= self.length {
+            return 0;
+        }
+        if self.spared.is_empty() {
+            return self.length - block;
+        }
+        (self.packet - block % self.packet).min(self.length - block)
     }
 }
 

@@ -1,6 +1,7 @@
 //! A table of blocks and the places in it, which always travel together.
 
-ghost use Rattle.std.specs.Prelude.{◌≡◌, ◌≤◌, ◌<◌, IfSome, IsSome};
+ghost use Rattle.std.specs.Prelude.{◌≡◌, ◌≤◌, ◌<◌, ◌+◌, ℕ, IfSome, IsSome, Some};
+ghost use Rattle.udfs_lattice.specs.declared.facts.Fact.TheVariants.{Unknown};
 ghost use Rattle.udfs_space.specs.Places.{block_at, block_now};
 ghost use Rattle.udfs_space.specs.Views.{view_now};
 
@@ -26,5 +27,19 @@ impl<'a> View<'a> {
         ensures fits { IfSome result (λ found. found.0 ≤ 4194303) }
     {
         self.space.block_at(self.table, reference, block)
+    }
+
+    /// The block of the volume that holds a logical block, and how many logical blocks from this one on are unknown and stand one
+    /// behind the other, as far as that is told at once: up to the end of a packet of 32 blocks. It takes no memory.
+    pub fn unknown_ahead(self, reference: u16, block: u64) -> Option<(u32, u32)>
+        ensures { IfSome result (λ ahead. (j : ℕ) → j < ahead.1 → block_at (view_now self.entry) reference (block + j) ≡ Some (ahead.0 + j, Unknown)) }
+    {
+        if block > u64::from(u32::MAX) {
+            return None;
+        }
+        let first = block as u32;
+        let place = self.space.place(reference, first)?;
+        let beside = self.space.beside(reference, first);
+        Some((place, beside.min(self.table.unknown_ahead(place))))
     }
 }

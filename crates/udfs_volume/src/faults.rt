@@ -1,6 +1,6 @@
 //! What is wrong with a volume.
 
-ghost use Rattle.std.specs.Prelude.{Some};
+ghost use Rattle.std.specs.Prelude.{◌≡◌, ◌≤◌, Some, length};
 ghost use Rattle.udfs_volume.specs.FaultNames.{volume_fault_name};
 
 use std::error::Error;
@@ -46,12 +46,13 @@ pub enum VolumeFault {
     FileSet = 16,
 }
 
-/// The fault's name, as a report prints it.
-impl fmt::Display for VolumeFault {
-    ghost output = { λ fault. Some (volume_fault_name fault) };
-
-    fn fmt<W: fmt::Write>(&self, f: &mut fmt::Formatter<W>) -> fmt::Result {
-        f.write_str(match self {
+impl VolumeFault {
+    /// The fault's name, as a report prints it.
+    pub fn name(self) -> &'static str
+        ensures name { result.now ≡ volume_fault_name self }
+        ensures short { length result.now ≤ 2048 }
+    {
+        match self {
             VolumeFault::NoAnchor => "NoAnchor",
             VolumeFault::Extents => "Extents",
             VolumeFault::Pointer => "Pointer",
@@ -68,7 +69,16 @@ impl fmt::Display for VolumeFault {
             VolumeFault::SparingOrder => "SparingOrder",
             VolumeFault::MappedRange => "MappedRange",
             VolumeFault::FileSet => "FileSet",
-        })
+        }
+    }
+}
+
+/// The fault's name, as a report prints it.
+impl fmt::Display for VolumeFault {
+    ghost output = { λ fault. Some (volume_fault_name fault) };
+
+    fn fmt<W: fmt::Write>(&self, f: &mut fmt::Formatter<W>) -> fmt::Result {
+        f.write_str(self.name())
     }
 }
 

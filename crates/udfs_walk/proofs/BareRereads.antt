@@ -1,6 +1,7 @@
 -- Blocks that are gathered from nodes, some of them let go where they stand twice.
-use Rattle.std.proofs.Common.{◌≡◌, sym, ◌∙◌, ap, subst, inl, inr, ℕ, ◌+◌, ◌<◌, ◌≤◌, List, [], ◌∷◌, ◌++◌, length, map, take, get_or}
-use Rattle.std.specs.Prelude.{◌⊎◌, flat_map}
+use Rattle.std.proofs.Common.{◌≡◌, sym, ◌∙◌, ap, subst, inl, inr, ℕ, ◌+◌, ◌<◌, ◌≤◌, List, [], ◌∷◌, ◌++◌, length, map, take, get_or, ⊎_elim, Option, None, Some}
+use Rattle.std.specs.Prelude.{◌⊎◌, IfSome, flat_map}
+use Rattle.udfs_tag.specs.declared.layouts.LongAd.{LongAd}
 use Rattle.std.proofs.lemmas.Grind.{flat_map-append}
 use Rattle.std.proofs.lemmas.List.{append-nil, take_more}
 use Rattle.std.proofs.lemmas.List.Folds.{flat_map-map}
@@ -8,10 +9,13 @@ use Rattle.udfs_lattice.specs.Volumes.{Includes, ascending}
 use Rattle.udfs_lattice.proofs.PublicLaws.{ascending_includes}
 use Rattle.udfs_volume.proofs.PublicLaws.{ascending_rises}
 use Rattle.udfs_space.specs.Places.{View}
-use Rattle.udfs_walk.specs.Bare.{full_node}
+use Rattle.udfs_walk.specs.Bare.{full_node, lists_at, with_lists}
+use Rattle.udfs_walk.specs.Gathering.{AreGathered, missing_at}
 use Rattle.udfs_walk.specs.NodeFields.{NodeFields}
 use Rattle.udfs_walk.specs.Rereads.{missing_of, reread}
+use Rattle.udfs_walk.specs.TornFields.{TornFields}
 use Rattle.udfs_walk.specs.declared.standings.Standing.{Standing}
+use Rattle.udfs_walk.specs.declared.standings.Standing.TheVariants.{Whole, Torn, Loop, Fault}
 use Rattle.udfs_walk.proofs.BlockOrder.{either}
 use Rattle.udfs_walk.proofs.NamedLemmas.{take_whole}
 use Rattle.udfs_walk.proofs.Rising.{rising_same}
@@ -43,13 +47,43 @@ goes_on xs ys more e n i = go (either xs more n i)
 more_numbers : (xs ys more : List ℕ) → ascending xs ≡ ascending ys → ascending (xs ++ more) ≡ ascending (ys ++ more)
 more_numbers xs ys more e = same_numbers (xs ++ more) (ys ++ more) (goes_on xs ys more e) (goes_on ys xs more (sym e))
 
-abbrev pub missing_at : View → NodeFields → List ℕ
-missing_at v n = missing_of (full_node v n).standing
+-- what a node lacks is missing at its address
+lacks_there : (lists : TornFields) (s : Standing) (n : ℕ) → Includes (missing_of (with_lists lists s)) n → Includes lists.missing n
+lacks_there lists Whole n i = absurd i
+lacks_there lists (Torn torn) n i = i
+lacks_there lists Loop n i = absurd i
+lacks_there lists (Fault f) n i = absurd i
+
+-- a node of which all was gathered just before
+pub gathered_before : (v : View) (node : NodeFields) (blocks : List ℕ) → AreGathered v (Some node.icb) blocks → ascending blocks ≡ ascending (blocks ++ missing_at v node)
+gathered_before v node blocks h = same_numbers blocks (blocks ++ missing_at v node)
+    (λ n i. in_front blocks (missing_at v node) n i)
+    (λ n i. ⊎_elim (λ j. j) (λ j. (ascending_includes blocks n).0 (h n (lacks_there (lists_at v node.icb) node.standing n j))) (either blocks (missing_at v node) n i))
+
+-- what was gathered stays so with more blocks
+pub gathered_still : (v : View) (last : Option LongAd) (old more : List ℕ) → AreGathered v last old → AreGathered v last (old ++ more)
+gathered_still v None old more h = tt
+gathered_still v (Some a) old more h = λ n i. (ascending_includes (old ++ more) n).1 (in_front old more n ((ascending_includes old n).0 (h n i)))
+
+-- what is missing at an address was put behind the others
+pub gathered_now : (v : View) (a : LongAd) (old more : List ℕ) → more ≡ (lists_at v a).missing → AreGathered v (Some a) (old ++ more)
+gathered_now v a old more e n i = (ascending_includes (old ++ more) n).1 (in_back old more n (subst (λ z. Includes z n) (sym e) i))
+
+-- what is torn lacks what is missing at its address
+pub torn_there : (lists torn : TornFields) (s : Standing) → Torn torn ≡ with_lists lists s → torn.missing ≡ lists.missing
+torn_there lists torn Whole e = absurd (let z : ⊥ = cc in z)
+torn_there lists torn (Torn t) e = ap missing_of e
+torn_there lists torn Loop e = absurd (let z : ⊥ = cc in z)
+torn_there lists torn (Fault f) e = absurd (let z : ⊥ = cc in z)
+
+-- the same blocks, some of them let go where they stand twice
+pub gathered_settled : (v : View) (last : Option LongAd) (old new : List ℕ) → ascending new ≡ ascending old → AreGathered v last old → AreGathered v last new
+gathered_settled v last old new e h = subst (λ (z : List ℕ). IfSome last (λ a. (n : ℕ) → Includes (lists_at v a).missing n → Includes z n)) (sym e) h
 
 -- the blocks of one node more
-pub node_more : (v : View) (nodes : List NodeFields) (i : ℕ) (d : NodeFields) (old mid new : List ℕ) (s : Standing) → ascending old ≡ ascending (flat_map (missing_at v) (take i nodes)) → i < length nodes
-    → s ≡ (full_node v (get_or nodes i d)).standing → mid ≡ old ++ missing_of s → ascending new ≡ ascending mid → ascending new ≡ ascending (flat_map (missing_at v) (take (i + 1) nodes))
-node_more v nodes i d old mid new s h l e m a = a ∙ ap ascending (m ∙ ap (λ x. old ++ missing_of x) e)
+pub node_more : (v : View) (nodes : List NodeFields) (i : ℕ) (d : NodeFields) (old mid new : List ℕ) → ascending old ≡ ascending (flat_map (missing_at v) (take i nodes)) → i < length nodes
+    → ascending mid ≡ ascending (old ++ missing_at v (get_or nodes i d)) → ascending new ≡ ascending mid → ascending new ≡ ascending (flat_map (missing_at v) (take (i + 1) nodes))
+node_more v nodes i d old mid new h l m a = a ∙ m
     ∙ more_numbers old (flat_map (missing_at v) (take i nodes)) (missing_at v (get_or nodes i d)) h
     ∙ ap ascending (sym (ap (flat_map (missing_at v)) (take_more nodes i d l) ∙ flat_map-append (missing_at v) (take i nodes) (get_or nodes i d ∷ [])
     ∙ ap (λ x. flat_map (missing_at v) (take i nodes) ++ x) (append-nil (missing_at v (get_or nodes i d)))))

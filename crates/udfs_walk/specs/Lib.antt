@@ -17,3 +17,4 @@ pub mod UnnamedEntries
 pub mod NamedKeys
 pub mod NodeBodies
 pub mod Bare
+pub mod Gathering

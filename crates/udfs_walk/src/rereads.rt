@@ -1,10 +1,12 @@
 //! What has to be read again.
 
-ghost use Rattle.std.specs.Prelude.{◌≡◌, ◌++◌, IfOk, map};
+ghost use Rattle.std.specs.Prelude.{◌≡◌, ◌++◌, IfOk, Some, map, true};
 ghost use Rattle.udfs_lattice.specs.Tables.{state_of};
 ghost use Rattle.udfs_lattice.specs.Volumes.{ascending};
 ghost use Rattle.udfs_space.specs.Places.{view};
+ghost use Rattle.udfs_space.specs.Views.{view_now};
 ghost use Rattle.udfs_walk.specs.Bare.{full_node};
+ghost use Rattle.udfs_walk.specs.Gathering.{AreGathered, missing_at};
 ghost use Rattle.udfs_walk.specs.Rereads.{missing_of, reread};
 
 use crate::answers::Node;
@@ -15,6 +17,7 @@ use std::alloc::{AllocError, Global};
 use udfs_lattice::BlockTable;
 use udfs_osta::OutOfMemory;
 use udfs_space::{Space, View};
+use udfs_tag::LongAd;
 
 /// Puts the blocks that are missing in a node behind the others.
 fn push_missing(blocks: &mut Vec<u32>, standing: &Standing) -> Result<(), AllocError>
@@ -60,8 +63,42 @@ fn settle(blocks: &mut Vec<u32>, most: usize) -> usize
     blocks.len().saturating_mul(2).max(MOST_GATHERED)
 }
 
+/// Whether the address before is this one.
+fn is_again(last: Option<LongAd>, address: LongAd) -> bool
+    ensures { result ≡ true → last ≡ Some address }
+{
+    match last {
+        Some(before) => before == address,
+        None => false,
+    }
+}
+
+/// Puts the blocks that are missing in a node behind the others, unless those at its address were put there just before, and
+/// returns the address of which they were.
+fn gather(
+    alloc: Global,
+    view: View<'_>,
+    node: &Node,
+    last: Option<LongAd>,
+    blocks: &mut Vec<u32>,
+) -> Result<Option<LongAd>, AllocError>
+    requires { AreGathered (view_now view) last blocks.old.items }
+    ensures more { IfOk result (λ next. ascending blocks.new.items ≡ ascending (blocks.old.items ++ missing_at (view_now view.entry) node.now)) }
+    ensures gathered { IfOk result (λ next. AreGathered (view_now view.entry) next blocks.new.items) }
+{
+    if is_again(last, node.icb) {
+        return Ok(last);
+    }
+    let standing = full_standing(alloc, view, node.icb, &node.standing)?;
+    push_missing(blocks, &standing)?;
+    match standing {
+        Standing::Torn(_) => Ok(Some(node.icb)),
+        _ => Ok(last),
+    }
+}
+
 /// The blocks that are missing in torn nodes, ascending and each once, as [`reread`] lists them, of nodes without their
-/// blocks and holes. The lists of one node alone are held at a time.
+/// blocks and holes. The lists of one node alone are held at a time, and those of names of one file that follow one another are found once.
 ///
 /// # Errors
 ///
@@ -77,9 +114,9 @@ pub fn bare_reread(
     let view = View { table, space };
     let mut blocks = Vec::new(alloc);
     let mut most = MOST_GATHERED;
+    let mut last = None;
     for node in nodes {
-        let standing = full_standing(alloc, view, node.icb, &node.standing)?;
-        push_missing(&mut blocks, &standing)?;
+        last = gather(alloc, view, node, last, &mut blocks)?;
         most = settle(&mut blocks, most);
     }
     sort_once(&mut blocks);

@@ -184,7 +184,7 @@ fn words_that_do_not_fit(rt: HostRuntime) -> Result<(), Fail> {
     for (words, begin) in [
         (
             "forget --out t.tab a.rd",
-            "error: the following required arguments were not provided:\n  --blocks <LIST>\n",
+            "error: the following required arguments were not provided:\n  <--conflicts|--blocks <LIST>>\n",
         ),
         (
             "forget --conflicts a.rd",

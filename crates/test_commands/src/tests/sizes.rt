@@ -121,11 +121,11 @@ fn one_of_the_two_is_given(rt: HostRuntime) -> Result<(), Fail> {
         ),
         (
             "report absent.rd",
-            "error: the following required arguments were not provided:\n  --last <N>\n\nUsage: udfsalvage report --last <N> <IN>...\n",
+            "error: the following required arguments were not provided:\n  --last <N>\n\nUsage: udfsalvage report [OPTIONS] [--last <N> | --size <BYTES>] <IN>...\n",
         ),
         (
             "reread absent.rd",
-            "error: the following required arguments were not provided:\n  --last <N>\n\nUsage: udfsalvage reread --last <N> <IN>...\n",
+            "error: the following required arguments were not provided:\n  --last <N>\n\nUsage: udfsalvage reread [OPTIONS] [--last <N> | --size <BYTES>] <IN>...\n",
         ),
     ] {
         let mut memory = with_table(alloc, &table)?;

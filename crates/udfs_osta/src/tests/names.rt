@@ -1,6 +1,6 @@
 //! Names, their faults and their escaped form.
 
-use crate::{Name, NameFault};
+use crate::{Name, NameFault, is_dots, paired_char, write_escape, write_escapes};
 use std::test::Fail;
 
 fn escaped(rt: &HostRuntime, bytes: &[u8]) -> Result<String, Fail> {
@@ -130,5 +130,25 @@ fn faults_of_names(rt: HostRuntime) -> Result<(), Fail> {
         assert_eq!(rt; fault as u8, number);
         assert_eq!(rt; format!(in rt.alloc(); "{fault}")?.as_str(), text);
     }
+    Ok(())
+}
+
+#[test]
+fn parts_of_names(rt: HostRuntime) -> Result<(), Fail> {
+    assert_eq!(rt; paired_char(&[0xd83d, 0xde00, 0x41]), Some('\u{1f600}'));
+    assert_eq!(rt; paired_char(&[0xde00, 0xd83d]), None);
+    assert_eq!(rt; paired_char(&[0xd83d]), None);
+    for (units, want) in [
+        ([0x2e].as_slice(), true),
+        (&[0x2e, 0x2e], true),
+        (&[0x2e, 0x2e, 0x2e], false),
+        (&[0x2e, 0x41], false),
+    ] {
+        assert_eq!(rt; is_dots(units), want);
+    }
+    let mut text = String::new(rt.alloc());
+    write_escape(0x202e, &mut text)?;
+    write_escapes(&[0x2e, 0xd83d], &mut text)?;
+    assert_eq!(rt; text.as_str(), "\\u202E\\u002E\\uD83D");
     Ok(())
 }

@@ -4,6 +4,7 @@ use super::said::{said, space_of};
 use std::test::Fail;
 use udfs_lattice::Fact;
 use udfs_samples::{Disc, LAST};
+use udfs_space::View;
 use udfs_volume::Seen;
 
 /// One anchor, the main sequence, the second copy of the sparing table and the spared packet.
@@ -119,5 +120,45 @@ fn runs_and_wide_numbers(rt: HostRuntime) -> Result<(), Fail> {
     assert!(rt; space.block_at(&table, 0, 300).is_none());
     assert!(rt; space.block_at(&table, 0, 4_294_967_296).is_none());
     assert!(rt; space.block_at(&table, 1, 0).is_none());
+    Ok(())
+}
+
+/// Blocks that stand one behind the other, and which of them are unknown. The packet at 0 stands at 400.
+#[test]
+fn blocks_one_behind_the_other(rt: HostRuntime) -> Result<(), Fail> {
+    let alloc = rt.alloc();
+    let table = Disc::sparable(alloc)?.known_but(alloc, &[402, 403, 431, 560, 561, 562, 563])?;
+    let Seen::Got(space) = space_of(alloc, &table, LAST) else {
+        assert!(rt; false);
+        return Ok(());
+    };
+    for (reference, block, want) in [
+        (0, 0, 32),
+        (0, 31, 1),
+        (0, 32, 32),
+        (0, 290, 10),
+        (0, 299, 1),
+        (0, 300, 0),
+        (0, u32::MAX, 0),
+        (1, 0, 0),
+    ] {
+        assert_eq!(rt; space.beside(reference, block), want, "{reference} {block}");
+    }
+    let view = View {
+        table: &table,
+        space: &space,
+    };
+    for (block, want) in [
+        (1, Some((401, 0))),
+        (2, Some((402, 2))),
+        (3, Some((403, 1))),
+        (31, Some((431, 1))),
+        (288, Some((560, 4))),
+        (300, None),
+        (4_294_967_298, None),
+    ] {
+        assert_eq!(rt; view.unknown_ahead(0, block), want, "{block}");
+    }
+    assert_eq!(rt; view.unknown_ahead(1, 2), None);
     Ok(())
 }

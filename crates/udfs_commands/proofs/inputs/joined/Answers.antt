@@ -1,7 +1,9 @@
-use Rattle.std.proofs.Common.{rules}
+use Rattle.std.proofs.Common.{◌∙◌}
+use Rattle.udfs_lattice.specs.Records.{join_all}
+use Rattle.udfs_lattice.specs.TableLaws.{join_tables-empty}
 use Rattle.udfs_commands.proofs.inputs.joined.Goals as goal
 
-pub returns-in-Ok-join_sources-clause-by_path : goal.returns-in-Ok-join_sources-clause-by_path
-returns-in-Ok-join_sources-clause-by_path g c =
-    let t = c.in-Ok-join_sources.ensures.table in
-    (t.0, record { sources = c.in-Ok.sources.items; each = search rules; opened = c.in-Ok.ensures.opened; are = search rules }, t.2)
+pub returns-in-Ok-clause-by_path : goal.returns-in-Ok-clause-by_path
+returns-in-Ok-clause-by_path g c =
+    let t = c.in-Ok.ensures.by_path in
+    (t.0, t.1, t.2 ∙ rw c.new-table.ensures (join_tables-empty (join_all t.0)))

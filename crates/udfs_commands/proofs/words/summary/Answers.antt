@@ -6,7 +6,7 @@ use Rattle.udfs_commands.proofs.words.summary.Goals as goal
 
 pub returns : goal.returns
 returns c =
-    let start : app_of c.about.result ≡ new_app (codes "summary") = search rules in
+    let start : app_of c.override_usage.result ≡ new_app (codes "summary") = search rules in
     let one = c.in_ok-arg.ensures.shape c.last.ensures.1 ∙ ap₂ with_rule start c.last.ensures.0 in
     let two = c.in_ok-arg-2.ensures.shape c.disc_size.ensures.1 ∙ ap₂ with_rule one c.disc_size.ensures.0 in
     let three = c.in_ok-command.ensures.shape c.profile.ensures.1 ∙ ap₂ with_rule two c.profile.ensures.0 in

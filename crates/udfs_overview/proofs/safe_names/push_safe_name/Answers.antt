@@ -7,8 +7,8 @@ use Rattle.udfs_overview.proofs.safe_names.push_safe_name.Goals as goal
 
 pub returns-then-is_dots-clause-text : goal.returns-then-is_dots-clause-text
 returns-then-is_dots-clause-text c =
-    subst (λ x. OnOk c.push_escapes.result (string_bytes c.push_escapes.new.text ≡ string_bytes c.args.text.now ++ x))
-    (by_dots _ c.args.name.now c.is_dots.result c.units-units.ensures.value c.is_dots.ensures c.if-is_dots.true) c.push_escapes.ensures
+    subst (λ x. OnOk c.write_escapes.result (string_bytes c.write_escapes.new.text ≡ string_bytes c.args.text.now ++ x))
+    (by_dots _ c.args.name.now c.is_dots.result c.units-units.ensures.value c.is_dots.ensures c.if-is_dots.true) c.write_escapes.ensures.ok
 
 pub returns-then-is_dots-clause-safe : goal.returns-then-is_dots-clause-safe
 returns-then-is_dots-clause-safe c = characters_safe c.args.name.now c.units-units.ensures.name.range

@@ -1,42 +1,9 @@
-use Rattle.std.proofs.Common.{rules, refl, Ok, Err}
-use Rattle.udfs_reading.specs.Inputs.{inputs}
-use Rattle.udfs_reading.proofs.Outcomes.{inputs_laws}
-use Rattle.udfs_reading.proofs.Public.{public_table, public_fault, public_faulty, public_io, public_cut}
-use Rattle.udfs_reading.proofs.SoFar.{so_far_none, so_far_more, so_far_fails, so_far_all}
+use Rattle.std.proofs.Common.{◌∙◌}
+use Rattle.udfs_lattice.specs.Records.{join_all}
+use Rattle.udfs_lattice.specs.TableLaws.{join_tables-empty}
 use Rattle.udfs_reading.proofs.inputs.join_each.Goals as goal
 
-pub loop-index-init : goal.loop-index-init
-loop-index-init g c = record { so_far = so_far_none _ _ _ _ c.new-table.ensures; empty = c.new-window.ensures }
-
-pub join_input-requires : goal.join_input-requires
-join_input-requires g c = c.loop-index.invariant.empty
-
-pub loop-index-preserved : goal.loop-index-preserved
-loop-index-preserved g c =
-    let R = g.R.Source in
-    let x = c.index-inputs-index.result in
-    let new = c.join_input.new.source in
-    let joins = c.in-Ok.ensures.ok in
-    record {
-      so_far = so_far_more R.remaining R.faults _ _ _ _ new x joins.table c.join_input.new.table c.loop-index.invariant.so_far (search rules)
-          (public_table inputs inputs_laws _ _ (R.faults new) (R.faults new) (Ok joins.table) (joins.reads, refl)) c.in-Ok.ensures.count joins.joined;
-      empty = c.in-Ok.ensures.empty;
-    }
-
-pub returns-in-Err-clause-fails : goal.returns-in-Err-clause-fails
-returns-in-Err-clause-fails g c =
-    let R = g.R.Source in
-    let x = c.index-inputs-index.result in
-    let new = c.join_input.new.source in
-    let e = c.in-Err.error in
-    so_far_fails R.remaining R.faults _ _ _ _ new x e c.loop-index.invariant.so_far (search rules)
-    (public_io inputs _ _ _ _ (Err e) c.in-Err.ensures.err)
-    (public_fault inputs inputs_laws _ _ _ _ (Err e) c.in-Err.ensures.err)
-    (public_faulty inputs inputs_laws _ _ _ _ (Err e) c.in-Err.ensures.err)
-    (public_cut inputs _ _ _ _ (Err e) c.in-Err.ensures.err)
-
-pub returns-clause-table : goal.returns-clause-table
-returns-clause-table g c = (so_far_all g.R.Source.remaining g.R.Source.faults _ _ _ _ c.loop-index.invariant.so_far (search rules)).0
-
-pub returns-clause-counts : goal.returns-clause-counts
-returns-clause-counts g c = (so_far_all g.R.Source.remaining g.R.Source.faults _ _ _ _ c.loop-index.invariant.so_far (search rules)).1
+pub returns-in-Ok-clause-table : goal.returns-in-Ok-clause-table
+returns-in-Ok-clause-table g c =
+    let t = c.in-Ok.ensures.table in
+    (t.0, t.1, t.2 ∙ rw c.new-table.ensures (join_tables-empty (join_all t.0)))

@@ -1,17 +1,18 @@
+use Rattle.std.proofs.Common.{◌≡◌}
 use Rattle.udfs_reading.proofs.Good.{all_good, any_mixture, any_order, any_split, first_named}
 use Rattle.udfs_reading.proofs.inputs.join_inputs.Goals as goal
 
 pub returns-clause-good : goal.returns-clause-good
-returns-clause-good g c = all_good g.R.Source.remaining g.R.Source.faults c.args.inputs.now c.join_each-outcome.new.inputs c.join_each-outcome.result c.join_each-outcome.ensures.table c.join_each-outcome.ensures.fails
+returns-clause-good g c = all_good (λ table joined. table ≡ joined) g.R.Source.remaining g.R.Source.faults c.args.inputs.now c.join_each-outcome.new.inputs c.join_each-outcome.result c.join_each-outcome.ensures.table c.join_each-outcome.ensures.fails
 
 pub returns-clause-any_order : goal.returns-clause-any_order
-returns-clause-any_order g c = any_order g.R.Source.remaining c.args.inputs.now c.join_each-outcome.result c.join_each-outcome.ensures.table
+returns-clause-any_order g c = any_order (λ table joined. table ≡ joined) g.R.Source.remaining c.args.inputs.now c.join_each-outcome.result c.join_each-outcome.ensures.table
 
 pub returns-clause-any_split : goal.returns-clause-any_split
-returns-clause-any_split g c = any_split g.R.Source.remaining c.args.inputs.now c.join_each-outcome.result c.join_each-outcome.ensures.table
+returns-clause-any_split g c = any_split (λ table joined. table ≡ joined) g.R.Source.remaining c.args.inputs.now c.join_each-outcome.result c.join_each-outcome.ensures.table
 
 pub returns-clause-any_mixture : goal.returns-clause-any_mixture
-returns-clause-any_mixture g c = any_mixture g.R.Source.remaining c.args.inputs.now c.join_each-outcome.result c.join_each-outcome.ensures.table
+returns-clause-any_mixture g c = any_mixture (λ table joined. table ≡ joined) g.R.Source.remaining c.args.inputs.now c.join_each-outcome.result c.join_each-outcome.ensures.table
 
 pub returns-clause-first : goal.returns-clause-first
-returns-clause-first g c = first_named g.R.Source.remaining g.R.Source.faults c.args.inputs.now c.join_each-outcome.new.inputs c.join_each-outcome.result c.join_each-outcome.ensures.table c.join_each-outcome.ensures.fails
+returns-clause-first g c = first_named (λ table joined. table ≡ joined) g.R.Source.remaining g.R.Source.faults c.args.inputs.now c.join_each-outcome.new.inputs c.join_each-outcome.result c.join_each-outcome.ensures.table c.join_each-outcome.ensures.fails

@@ -24,5 +24,5 @@ returns-then-not-conflict-clause-ok g c =
       known_is = sym c.if-known.false;
       conflict_is = rw c.if-known.false (search rules);
       given = Consumes-nil _;
-      put = sym (join_tables-empty_right c.args.table.now);
+      put = sym (join_tables-empty_right (g.T.Taker.table c.args.taker.now));
     }

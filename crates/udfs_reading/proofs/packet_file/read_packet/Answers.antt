@@ -70,5 +70,5 @@ returns-clause-ok g c =
       given = Consumes-trans _ _ _ (number n) (masks_bytes s.taken ++ flat_map content s.taken) c.in_ok-packet.ensures.bytes
           (Consumes-trans _ _ _ (masks_bytes s.taken) (flat_map content s.taken) (subst (Consumes _ _) masks c.in_ok-masks.ensures.given) s.given);
       next_is = refl;
-      put = s.put ∙ ap (λ (l : List (ℕ × State)). join_tables c.args.table.now (table_of_entries l)) (sym (append-nil (listed (32 * n) s.taken)));
+      put = s.put ∙ ap (λ (l : List (ℕ × State)). join_tables (g.T.Taker.table c.args.taker.now) (table_of_entries l)) (sym (append-nil (listed (32 * n) s.taken)));
     }

@@ -30,4 +30,4 @@ returns-in_err-read_record-clause-err g c =
 pub returns-clause-ok : goal.returns-clause-ok
 returns-clause-ok g c =
     let all : c.loop-index.index ≡ c.args.count = omega arith in
-    subst (λ (n : ℕ). TakesRecords (left c.args.window.now (g.R.Source.remaining c.args.source.now)) (left c.loop-index.window (g.R.Source.remaining c.loop-index.source)) n c.args.table.now c.loop-index.table) all c.loop-index.invariant.taken
+    subst (λ (n : ℕ). TakesRecords (left c.args.window.now (g.R.Source.remaining c.args.source.now)) (left c.loop-index.window (g.R.Source.remaining c.loop-index.source)) n (g.T.Taker.table c.args.taker.now) (g.T.Taker.table c.loop-index.taker)) all c.loop-index.invariant.taken

@@ -8,6 +8,6 @@ abbrev pub invariant-loop-index : goal.invariant-loop-index
 invariant-loop-index g l =
     let R = g.R.Source in
     record {
-      taken : TakesRecords (left l.initial.window (R.remaining l.initial.source)) (left l.window (R.remaining l.source)) l.index l.initial.table l.table;
+      taken : TakesRecords (left l.initial.window (R.remaining l.initial.source)) (left l.window (R.remaining l.source)) l.index (g.T.Taker.table l.initial.taker) (g.T.Taker.table l.taker);
       kept : R.faults l.source ≡ R.faults l.initial.source;
     }

@@ -31,4 +31,4 @@ returns-in_err-floor-clause-err g c =
 pub returns-clause-ok : goal.returns-clause-ok
 returns-clause-ok g c =
     let all : c.loop-index.index ≡ c.args.count = omega arith in
-    (c.loop-index.floor, subst (λ (n : ℕ). TakesEntries (left c.args.window.now (g.R.Source.remaining c.args.source.now)) (left c.loop-index.window (g.R.Source.remaining c.loop-index.source)) n c.loop-index.floor c.args.table.now c.loop-index.table) all c.loop-index.invariant.taken)
+    (c.loop-index.floor, subst (λ (n : ℕ). TakesEntries (left c.args.window.now (g.R.Source.remaining c.args.source.now)) (left c.loop-index.window (g.R.Source.remaining c.loop-index.source)) n c.loop-index.floor (g.T.Taker.table c.args.taker.now) (g.T.Taker.table c.loop-index.taker)) all c.loop-index.invariant.taken)

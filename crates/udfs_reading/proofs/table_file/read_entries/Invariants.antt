@@ -8,6 +8,6 @@ abbrev pub invariant-loop-index : goal.invariant-loop-index
 invariant-loop-index g l =
     let R = g.R.Source in
     record {
-      taken : TakesEntries (left l.initial.window (R.remaining l.initial.source)) (left l.window (R.remaining l.source)) l.index l.floor l.initial.table l.table;
+      taken : TakesEntries (left l.initial.window (R.remaining l.initial.source)) (left l.window (R.remaining l.source)) l.index l.floor (g.T.Taker.table l.initial.taker) (g.T.Taker.table l.taker);
       kept : R.faults l.source ≡ R.faults l.initial.source;
     }
