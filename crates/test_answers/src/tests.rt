@@ -11,4 +11,5 @@ mod profiles;
 mod reporting;
 mod short_names;
 mod summing;
+mod times;
 mod unnamed;

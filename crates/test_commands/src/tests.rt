@@ -1,5 +1,6 @@
 //! The command over files in memory. What is expected comes from the formats' description, byte by byte.
 
+mod closing;
 mod devices;
 mod ends;
 mod explaining;

@@ -4,9 +4,9 @@ use Rattle.clap.specs.Words.{HasMatchesOf, Row, Text, is_simple, rows_of, subcom
 use Rattle.clap.specs.Matches.{subcommand_name_of}
 use Rattle.clap.specs.declared.parser.matches.ArgMatches.{ArgMatches}
 use Rattle.clap.specs.declared.parser.matches.Found.{Found}
-use Rattle.udfs_commands.specs.Grammar.{program_app}
-use Rattle.udfs_commands.specs.Obeying.{Asks, IsAsked, given_in}
-use Rattle.udfs_commands.specs.declared.words.Given.{Given}
+use Rattle.udfs_words.specs.Grammar.{program_app}
+use Rattle.udfs_words.specs.Obeying.{Asks, IsAsked, given_in}
+use Rattle.udfs_words.specs.declared.words.Given.{Given}
 
 some_is : {X : Type 0} (x y : X) → Some x ≡ Some y → x ≡ y
 some_is {X = X} x y e = ap (λ (o : Option X). from o) e

@@ -1,21 +1,21 @@
 //! The second line of a refusal, for a person: which file it is, what the system said of it, and what to do next.
 
-use crate::asking::asked_inputs;
-use crate::files::Files;
-use crate::last::asked_last;
-use crate::refusal::Refusal;
-use crate::shown::{Said, Shown};
-use crate::sources::InputPath;
 use crate::spared::why_spared;
-use crate::words::{BLOCKS, MANIFEST, MAPFILE, ONLY, OUT, TO, UNNAMED};
 use clap::ArgMatches;
 use std::alloc::{AllocError, Global};
 use std::fmt;
 use std::io::{Error, ErrorKind};
+use udfs_common::files::Files;
+use udfs_common::refusal::Refusal;
+use udfs_common::shown::{Said, Shown};
 use udfs_files::Kind;
 use udfs_overview::push_grouped;
 use udfs_reading::{ReadingError, ReadingFault, Source};
 use udfs_rescue::MapFault;
+use udfs_words::asking::asked_inputs;
+use udfs_words::input_path::InputPath;
+use udfs_words::last::asked_last;
+use udfs_words::words::{BLOCKS, MANIFEST, MAPFILE, ONLY, OUT, TO, UNNAMED};
 
 /// What the system says where as many files are open as it lets a program open.
 const TOO_MANY_OPEN: i32 = 24;

@@ -1,12 +1,12 @@
 //! Why what is there is not written over, for a person.
 
-use crate::files::Files;
-use crate::guard::is_among;
-use crate::shown::Shown;
-use crate::words::{FORCE, INPUTS, MANIFEST, MAPFILE, OUT, PAIRS};
 use clap::ArgMatches;
 use std::alloc::{AllocError, Global};
+use udfs_common::files::Files;
+use udfs_common::guard::is_among;
+use udfs_common::shown::Shown;
 use udfs_files::Kind;
+use udfs_words::words::{FORCE, INPUTS, MANIFEST, MAPFILE, OUT, PAIRS};
 
 /// Whether one of these paths leads where this one does.
 fn leads_there<F: Files>(

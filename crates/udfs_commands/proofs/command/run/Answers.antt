@@ -2,8 +2,8 @@ use Rattle.std.proofs.Common.{◌≡◌, Bool, rules, List, ℕ, ap, inr, subst,
 use Rattle.std.specs.String.{string_bytes}
 use Rattle.clap.specs.Matches.{found_of}
 use Rattle.clap.specs.Words.{App, HasMatchesOf, takes}
-use Rattle.udfs_commands.specs.Grammar.{program_app}
-use Rattle.udfs_commands.specs.Obeying.{IsAsked}
+use Rattle.udfs_words.specs.Grammar.{program_app}
+use Rattle.udfs_words.specs.Obeying.{IsAsked}
 use Rattle.udfs_commands.proofs.ObeyingLemmas.{asked, asks_by, done, done_whole, only_name}
 use Rattle.udfs_commands.proofs.command.run.Goals as goal
 

@@ -1,7 +1,0 @@
-use Rattle.std.proofs.Common.{inl, inr, ⊎_elim}
-use Rattle.udfs_commands.proofs.image.image.Goals as goal
-
-pub returns-clause-stand : goal.returns-clause-stand
-returns-clause-stand g c tells =
-    let t = c.in-Ok.ensures.by_path in
-    ⊎_elim (λ same. inl same) (λ has. inr (t.0, t.1, rw (← t.2) has)) (c.put_table.ensures.stand tells)

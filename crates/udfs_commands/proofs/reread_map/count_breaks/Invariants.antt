@@ -1,7 +1,0 @@
--- The runs so far and those that are left are all.
-use Rattle.std.proofs.Common.{◌≡◌, ◌≤◌, ◌+◌, drop}
-use Rattle.udfs_commands.specs.Rereading.{breaks}
-use Rattle.udfs_commands.proofs.reread_map.count_breaks.Given as goal
-
-abbrev pub invariant-loop-block : goal.invariant-loop-block
-invariant-loop-block l = (l.count + breaks l.before (drop l.block-index l.blocks) ≡ breaks l.first l.blocks) × (l.count ≤ l.block-index)

@@ -1,0 +1,12 @@
+use Rattle.std.proofs.Common.{◌≡◌, ◌++◌, ◌∷◌, [], length, rules}
+use Rattle.udfs_common.proofs.KeepingLemmas.{opens_more, at_place}
+use Rattle.udfs_common.proofs.sources.open_all.Goals as goal
+
+pub loop-index-preserved : goal.loop-index-preserved
+loop-index-preserved g c =
+    let grown : c.push.new.self.items ≡ c.loop-index.sources.items ++ c.in-Ok.source ∷ [] = search rules in
+    let many : length c.loop-index.sources.items ≡ c.loop-index.index = search rules in
+    record {
+      each = search rules;
+      opened = rw (grown) (opens_more _ _ c.args.paths.now c.loop-index.sources.items _ c.in-Ok.source c.loop-index.invariant.opened c.in-Ok.ensures.opened (rw (many) (at_place c.args.paths.now c.loop-index.index _ (search rules))));
+    }

@@ -1,0 +1,83 @@
+-- What an output may not take the place of.
+--     begins kind bytes          the bytes begin with these
+--     SomeLeads, NoneLeads       one of some paths leads to a place, or none
+--     SomeShut                   one of some paths may fail to open
+--     IsFree                     an output takes the place of no image, no mapfile and no reading, but of a reading that is an input, or by force
+--     IsSpared                   why an output is refused
+--     IsFreeMap, IsSparedMap     the same of a map of blocks to read again: it takes the place of no file but such a map, and of none of the inputs
+--     IsApart                    neither of two paths is the other, nor that of a new file that is to go in the place of the other
+--     IsFreePair                 what an image and its mapfile take the place of
+use Rattle.std.specs.Prelude.{◌≡◌, ◌≢◌, ◌⊎◌, ⊤, ℕ, List, [], ◌∷◌, Bool, true, false, Option, Some, IfSome, ◌++◌, codes, nat_eq, if◌then◌else◌, None, map}
+use Rattle.udfs_rescue.specs.Writing.{made_by, mark_line}
+use Rattle.udfs_files.specs.Disk.{IsOwn}
+
+abbrev pub begins : List ℕ → List ℕ → Bool
+begins [] bytes = true
+begins (k ∷ kind) [] = false
+begins (k ∷ kind) (b ∷ bytes) = if nat_eq k b then begins kind bytes else false
+
+-- what is at a path begins so, where that is told
+abbrev pub MayBegin : List ℕ → Option (Option (List ℕ)) → Type 0
+MayBegin kind held = IfSome held (λ file. (bytes : List ℕ) × (file ≡ Some bytes) × (begins kind bytes ≡ true))
+
+-- no file that begins so is at a path
+abbrev pub BeginsOtherwise : List ℕ → Option (Option (List ℕ)) → Type 0
+BeginsOtherwise kind held = (bytes : List ℕ) → held ≡ Some (Some bytes) → begins kind bytes ≡ false
+
+abbrev pub SomeLeads : (List ℕ → List ℕ) → List ℕ → List (List ℕ) → Type 0
+SomeLeads real place [] = ⊥
+SomeLeads real place (path ∷ paths) = (real path ≡ place) ⊎ SomeLeads real place paths
+
+abbrev pub NoneLeads : (List ℕ → List ℕ) → List ℕ → List (List ℕ) → Type 0
+NoneLeads real place [] = ⊤
+NoneLeads real place (path ∷ paths) = (real path ≢ place) × NoneLeads real place paths
+
+abbrev pub SomeShut : (List ℕ → Type 0) → List (List ℕ) → Type 0
+SomeShut shut [] = ⊥
+SomeShut shut (path ∷ paths) = shut path ⊎ SomeShut shut paths
+
+-- the first eight bytes of a reading
+abbrev pub reading_kind : List ℕ
+reading_kind = codes "UDFREAD1"
+
+-- `files` are the inputs that are files, and `parts` the images and mapfiles among the inputs
+pub record IsFree (holds : List ℕ → Option (Option (List ℕ))) (real : List ℕ → List ℕ) (in_place : List ℕ → Type 0) (files parts : List (List ℕ)) (force : Bool) (out : List ℕ) : Type 0 where
+  pub apart : NoneLeads real (real out) parts
+  pub no_pass : force ≡ false → (in_place out → ⊥) → SomeLeads real (real out) files ⊎ BeginsOtherwise reading_kind (holds (real out))
+
+-- a reading that is no input is there
+pub record IsOtherReading (holds : List ℕ → Option (Option (List ℕ))) (real : List ℕ → List ℕ) (files : List (List ℕ)) (force : Bool) (out : List ℕ) : Type 0 where
+  pub unforced : force ≡ false
+  pub no_input : NoneLeads real (real out) files
+  pub reading : MayBegin reading_kind (holds (real out))
+
+abbrev pub IsSpared : (List ℕ → Option (Option (List ℕ))) → (List ℕ → List ℕ) → List (List ℕ) → List (List ℕ) → Bool → List ℕ → Type 0
+IsSpared holds real files parts force out = SomeLeads real (real out) parts ⊎ IsOtherReading holds real files force out
+
+-- the beginning of a map of blocks to read again, which no pass's mapfile has: who made it, and the mark
+unfoldable pub domain_kind : List ℕ
+domain_kind = made_by ++ mark_line
+
+-- `parts` are the images and mapfiles among the inputs
+pub record IsFreeMap (holds : List ℕ → Option (Option (List ℕ))) (real : List ℕ → List ℕ) (in_place : List ℕ → Type 0) (parts : List (List ℕ)) (out : List ℕ) : Type 0 where
+  pub apart : NoneLeads real (real out) parts
+  pub of_kind : (in_place out → ⊥) → (bytes : List ℕ) → holds (real out) ≡ Some (Some bytes) → begins domain_kind bytes ≡ true
+
+abbrev pub IsSparedMap : (List ℕ → Option (Option (List ℕ))) → (List ℕ → List ℕ) → List (List ℕ) → List ℕ → Type 0
+IsSparedMap holds real parts out = SomeLeads real (real out) parts ⊎ BeginsOtherwise domain_kind (holds (real out))
+
+-- two paths, neither of which is that of a new file for the other
+pub record IsApart (image mapfile : List ℕ) : Type 0 where
+  pub differ : image ≢ mapfile
+  pub mapfile_is_no_own : ¬ IsOwn image mapfile
+  pub image_is_no_own : ¬ IsOwn mapfile image
+
+-- they are two, none of the inputs (`files` are those that are files, `parts` the images and mapfiles among them), and where nothing is written over by force nothing is there
+pub record IsFreePair (holds : List ℕ → Option (Option (List ℕ))) (real : List ℕ → List ℕ) (files parts : List (List ℕ)) (force : Bool) (image mapfile : List ℕ) : Type 0 where
+  pub apart : IsApart (real image) (real mapfile)
+  pub image_is_no_file : NoneLeads real (real image) files
+  pub image_is_no_part : NoneLeads real (real image) parts
+  pub mapfile_is_no_file : NoneLeads real (real mapfile) files
+  pub mapfile_is_no_part : NoneLeads real (real mapfile) parts
+  pub no_image : force ≡ false → holds (real image) ≡ Some None
+  pub no_mapfile : force ≡ false → holds (real mapfile) ≡ Some None

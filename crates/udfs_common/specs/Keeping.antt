@@ -1,0 +1,43 @@
+-- What a file that is written keeps.
+--     Opens          each source has what its path leads to
+--     OfPaths        the inputs are those of the paths, and this holds of their join
+--     IsPut          a file holds these bytes, and each crash leaves them; or they went to what is no file
+--     MayReplace     what a crash in the middle shows: what was there, or the join of the inputs in its place
+use Rattle.std.specs.Prelude.{◌≡◌, ◌⊎◌, ℕ, List, Option, Some, length, slice_get}
+use Rattle.std.specs.Io.KnownBytes.{Appends}
+use Rattle.udfs_files.specs.Disk.{Disk, Same, Replaced}
+use Rattle.udfs_lattice.specs.Tables.{Table}
+use Rattle.udfs_lattice.specs.Records.{join_all}
+use Rattle.udfs_reading.specs.Several.{TablesAre}
+use Rattle.udfs_common.specs.Sources.{IsPathOpened}
+use Rattle.udfs_common.specs.Spelling.{table_file}
+use Rattle.udfs_words.specs.declared.input_path.InputPath.{InputPath}
+use Rattle.udfs_words.specs.declared.forms.Version.{Version}
+
+-- the source at each place has what the path at that place leads to, where that is told
+abbrev pub Opens : {R : Type 0} → (List ℕ → Option (Option (List ℕ))) → (R → Option (List ℕ)) → List InputPath → List R → Type 0
+Opens {R} found remaining paths sources = (k : ℕ) (path : InputPath) (source : R) → slice_get paths k ≡ Some path → slice_get sources k ≡ Some source → IsPathOpened found path (remaining source)
+
+-- the sources of these paths have the tables
+pub record Joined {R : Type 0} (found : List ℕ → Option (Option (List ℕ))) (remaining : R → Option (List ℕ)) (paths : List InputPath) (tables : List Table) : Type 0 where
+  pub sources : List R
+  pub each : length sources ≡ length paths
+  pub opened : Opens found remaining paths sources
+  pub are : TablesAre remaining sources tables
+
+-- this holds of the join of what the paths hold
+abbrev pub OfPaths : {R : Type 0} → (List ℕ → Option (Option (List ℕ))) → (R → Option (List ℕ)) → List InputPath → (Table → Type 0) → Type 0
+OfPaths found remaining paths Holds = (tables : List Table) × Joined found remaining paths tables × Holds (join_all tables)
+
+-- the path holds the bytes, and each crash leaves them
+pub record IsKept (holds : List ℕ → Option (Option (List ℕ))) (may_leave : Disk → Type 0) (path bytes : List ℕ) : Type 0 where
+  pub held : holds path ≡ Some (Some bytes)
+  pub durable : (c : Disk) → may_leave c → c path ≡ Some bytes
+
+-- some output has taken the bytes
+abbrev pub IsTaken : {W : Type 0} → (W → Option (List ℕ)) → List ℕ → Type 0
+IsTaken {W} contents bytes = (before : W) × (after : W) × Appends (contents before) (contents after) bytes
+
+-- the disk is as it was, or a table file of inputs of these paths is in the place of what was at a path
+abbrev pub MayReplace : {R : Type 0} → (List ℕ → Option (Option (List ℕ))) → (R → Option (List ℕ)) → List InputPath → Version → List ℕ → Disk → Disk → Type 0
+MayReplace found remaining paths version out d c = Same d c ⊎ ((tables : List Table) × Joined found remaining paths tables × Replaced out (table_file version (join_all tables)) d c)

@@ -1,0 +1,5 @@
+pub mod Refusing
+pub mod Spelling
+pub mod Keeping
+pub mod Guarding
+pub mod Sources

@@ -1,0 +1,52 @@
+-- What a command says of an input that could not be read.
+use Rattle.std.specs.Prelude.{ℕ, Option, Some, None, alloc_error}
+use Rattle.udfs_reading.specs.declared.inputs.InputError.{InputError}
+use Rattle.udfs_reading.specs.declared.error.ReadingFault.{ReadingFault}
+use Rattle.udfs_reading.specs.declared.error.ReadingFault.TheVariants.{OutOfMemory}
+use Rattle.udfs_rescue.specs.declared.opening.PairFault.{PairFault}
+use Rattle.udfs_rescue.specs.declared.opening.PairFault.TheVariants as pair
+use Rattle.udfs_salvage.specs.declared.errors.RunError.{RunError}
+use Rattle.udfs_salvage.specs.declared.errors.RunError.TheVariants as run
+use Rattle.udfs_salvage.specs.declared.errors.SalvageError.{SalvageError}
+use Rattle.udfs_salvage.specs.declared.errors.SalvageError.TheVariants as salvage
+use Rattle.udfs_common.specs.declared.refusal.Refusal.{Refusal}
+use Rattle.udfs_common.specs.declared.refusal.Refusal.TheVariants.{Input, Mapfile, ImageEnds, Output, LastRange, PastEnd, TooManyPaths, Memory}
+use Rattle.udfs_common.specs.declared.sources.AnySource.{AnySource}
+use Rattle.udfs_common.specs.declared.sources.AnySource.TheVariants.{File, Paired, Refused}
+
+-- by the fault: want of memory is said as such, and any other with the input and the record
+abbrev refusal_by : InputError → ReadingFault → Refusal
+refusal_by error OutOfMemory = Memory alloc_error
+refusal_by error fault = Input error.input error.error
+
+-- an input's error, as a refusal
+abbrev pub refusal_of : InputError → Refusal
+refusal_of error = refusal_by error error.error.fault
+
+-- what a command says of an image with its mapfile that has no reading
+abbrev pub refused_pair : ℕ → PairFault → Refusal
+refused_pair input (pair.Line fault) = Mapfile input fault
+refused_pair input (pair.Reading error) = refusal_of (record { input = input; error = error })
+refused_pair input (pair.EndsBefore block) = ImageEnds input block
+refused_pair input pair.OutOfMemory = Memory alloc_error
+
+-- by the source that could not be read
+abbrev pub refusal_for : {R I : Type 0} → Option (AnySource R I) → InputError → Refusal
+refusal_for (Some (Refused fault count)) error = refused_pair error.input fault
+refusal_for (Some (File source)) error = refusal_of error
+refusal_for (Some (Paired source)) error = refusal_of error
+refusal_for None error = refusal_of error
+
+-- what a command says where there is no report
+abbrev pub salvage_refusal_of : SalvageError → Refusal
+salvage_refusal_of salvage.LastRange = LastRange
+salvage_refusal_of (salvage.PastEnd n) = PastEnd n
+salvage_refusal_of salvage.TooManyPaths = TooManyPaths
+salvage_refusal_of salvage.OutOfMemory = Memory alloc_error
+
+-- what a command says where a report was not printed, or only begun
+abbrev pub run_refusal_of : RunError → Refusal
+run_refusal_of (run.Reading error) = refusal_of error
+run_refusal_of (run.Salvage error) = salvage_refusal_of error
+run_refusal_of run.Write = Output
+run_refusal_of run.OutOfMemory = Memory alloc_error

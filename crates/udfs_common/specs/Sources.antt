@@ -1,0 +1,37 @@
+-- Inputs of both kinds as sources, and the paths that they come from.
+--     left_in file pair source      the bytes that a source has left
+--     IsPathOpened found left path x    the source has what its path leads to
+use Rattle.std.specs.Prelude.{◌≡◌, ◌⊎◌, ℕ, List, [], Option, Some, IfSome}
+use Rattle.udfs_rescue.specs.declared.pair.Pair.{Pair}
+use Rattle.udfs_rescue.specs.Opening.{IsReadingOf}
+use Rattle.udfs_common.specs.declared.sources.AnySource.{AnySource}
+use Rattle.udfs_common.specs.declared.sources.AnySource.TheVariants.{File, Paired, Refused}
+use Rattle.udfs_words.specs.declared.input_path.InputPath.{InputPath}
+use Rattle.udfs_words.specs.declared.input_path.InputPath.TheVariants as path
+
+-- by the source's kind; a pair that is refused has no byte
+abbrev pub left_in : {R I : Type 0} → (R → Option (List ℕ)) → (Pair I → Option (List ℕ)) → AnySource R I → Option (List ℕ)
+left_in file pair (File source) = file source
+left_in file pair (Paired source) = pair source
+left_in file pair (Refused fault count) = Some []
+
+abbrev pub faults_in : {R I : Type 0} → (R → ℕ) → (Pair I → ℕ) → AnySource R I → ℕ
+faults_in file pair (File source) = file source
+faults_in file pair (Paired source) = pair source
+faults_in file pair (Refused fault count) = count
+
+-- the reading of the blocks of an image that its mapfile makes known, where what both paths lead to is told; a pair that has none is refused
+pub record IsOpenedPair (found : List ℕ → Option (Option (List ℕ))) (image map : List ℕ) (left : Option (List ℕ)) : Type 0 where
+  pub image_has : Option (List ℕ)
+  pub map_has : Option (List ℕ)
+  pub image_found : IfSome (found image) (λ held. image_has ≡ held)
+  pub map_found : IfSome (found map) (λ held. map_has ≡ held)
+  pub reads : IsReadingOf image_has map_has left ⊎ (left ≡ Some [])
+
+abbrev pub HasItsPath : (List ℕ → Option (Option (List ℕ))) → InputPath → Option (List ℕ) → Type 0
+HasItsPath found (path.File p) left = IfSome (found p.now) (λ held. left ≡ held)
+HasItsPath found (path.Pair image map) left = IsOpenedPair found image.now map.now left
+
+-- what is left is what the path leads to, where that is told
+pub record IsPathOpened (found : List ℕ → Option (Option (List ℕ))) (path : InputPath) (left : Option (List ℕ)) : Type 0 where
+  pub has : HasItsPath found path left

@@ -1,0 +1,173 @@
+//! What an output may not take the place of: a pass can not be had again.
+
+ghost use Rattle.std.specs.Prelude.{◌≡◌, ◌≢◌, ◌⊎◌, ℕ, List, true, false, Some, IfOk, OnErr, map};
+ghost use Rattle.udfs_files.specs.Disk.{Fails};
+ghost use Rattle.udfs_common.specs.Guarding.{BeginsOtherwise, IsFree, IsFreeMap, IsSpared, IsSparedMap, MayBegin, NoneLeads, SomeLeads, SomeShut, begins};
+
+use crate::files::Files;
+use std::alloc::{AllocError, Global};
+use udfs_files::Kind;
+use udfs_reading::{DeviceFault, Source};
+
+/// The first eight bytes of a reading.
+const READING: &[u8] = b"UDFREAD1";
+
+/// The beginning of a map of blocks to read again: its first line, and the mark that no pass's mapfile has.
+const DOMAIN: &[u8] =
+    b"# Mapfile. Created by udfsalvage 0.1.0\n# Blocks to read again, for ddrescue -m: not the mapfile of a pass\n";
+
+/// Whether what a source has left begins with these bytes. It reads one at a time, and no more than it needs.
+fn begins_so<R: Source>(source: &mut R, kind: &[u8]) -> Result<bool, DeviceFault>
+    ensures begins { IfOk result (λ so. (bytes : List ℕ) → R.remaining source.old ≡ Some bytes → so ≡ begins kind.now bytes) }
+    ensures fault { OnErr result (Fails R.faults) }
+{
+    match kind {
+        [] => Ok(true),
+        [first, rest @ ..] => {
+            let mut byte = [0u8; 1];
+            match source.read(&mut byte) {
+                Ok(0) => Ok(false),
+                Ok(_) if byte[0] != *first => Ok(false),
+                Ok(_) => begins_so(source, rest),
+                Err(fault) => Err(fault),
+            }
+        }
+    }
+}
+
+/// Whether the file at a path begins with these bytes.
+pub fn is_kind<F: Files>(path: &str, kind: &[u8], files: &F) -> Result<bool, DeviceFault>
+    ensures yes { IfOk result (λ so. so ≡ true → MayBegin kind.now (F.holds files.now (F.real files.now path.now))) }
+    ensures no { IfOk result (λ so. so ≡ false → BeginsOtherwise kind.now (F.holds files.now (F.real files.now path.now))) }
+    ensures fault { OnErr result (F.shut files.now path.now ⊎ Fails F.Input.faults) }
+{
+    match files.open(path) {
+        Ok(mut file) => match begins_so(&mut file, kind) {
+            Ok(so) => Ok(so),
+            Err(fault) => Err(fault),
+        },
+        Err(fault) => Err(fault),
+    }
+}
+
+/// Whether a path leads to this place. A path that could not be followed is a fault: it may lead there.
+fn leads_to<F: Files>(
+    alloc: Global,
+    path: &str,
+    place: &str,
+    files: &F,
+) -> Result<Result<bool, DeviceFault>, AllocError>
+    ensures yes { IfOk result (λ found. IfOk found (λ leads. leads ≡ true → F.tells → F.real files.now path.now ≡ place.now)) }
+    ensures no { IfOk result (λ found. IfOk found (λ leads. leads ≡ false → F.tells → F.real files.now path.now ≢ place.now)) }
+    ensures fault { IfOk result (λ found. OnErr found (F.shut files.now path.now)) }
+{
+    match files.resolve(alloc, path)? {
+        Ok(target) => Ok(Ok(target.path.as_str() == place)),
+        Err(DeviceFault) => Ok(Err(DeviceFault)),
+    }
+}
+
+/// Whether one of these paths leads to this place; or a fault, where one before it could not be followed.
+pub fn is_among<F: Files>(
+    alloc: Global,
+    paths: &[&str],
+    place: &str,
+    files: &F,
+) -> Result<Result<bool, DeviceFault>, AllocError>
+    ensures yes { IfOk result (λ found. IfOk found (λ leads. leads ≡ true → F.tells → SomeLeads (F.real files.now) place.now (map (λ path. path.now) paths.now))) }
+    ensures no { IfOk result (λ found. IfOk found (λ leads. leads ≡ false → F.tells → NoneLeads (F.real files.now) place.now (map (λ path. path.now) paths.now))) }
+    ensures fault { IfOk result (λ found. OnErr found (SomeShut (F.shut files.now) (map (λ path. path.now) paths.now))) }
+{
+    match paths {
+        [] => Ok(Ok(false)),
+        [first, rest @ ..] => {
+            match leads_to(alloc, first, place, files)? {
+                Ok(false) => {}
+                Ok(true) => return Ok(Ok(true)),
+                Err(DeviceFault) => return Ok(Err(DeviceFault)),
+            }
+            match is_among(alloc, rest, place, files) {
+                Ok(found) => Ok(found),
+                Err(AllocError) => Err(AllocError),
+            }
+        }
+    }
+}
+
+/// What is known of an output before an input is read.
+#[derive(Clone, Copy, PartialEq, Eq)]
+pub enum Outlook {
+    /// It may be written.
+    Free,
+    /// What is there is not to be written over.
+    Spared,
+    /// Its path leads nowhere, what is there could not be read, or a path of an input could not be followed.
+    Unknown,
+}
+
+/// What is known of an output: it is spared where it is an image or a mapfile of the inputs, and without `force` also where it begins as a reading does
+/// and is none of the inputs that are files.
+pub fn look_at<F: Files>(
+    alloc: Global,
+    inputs: &[&str],
+    parts: &[&str],
+    force: bool,
+    out: &str,
+    files: &F,
+) -> Result<Outlook, AllocError>
+    ensures free { IfOk result (λ found. found ≡ Outlook.Free → F.tells → IsFree (F.holds files.now) (F.real files.now) (F.in_place files.now) (map (λ path. path.now) inputs.now) (map (λ path. path.now) parts.now) force out.now) }
+    ensures spared { IfOk result (λ found. found ≡ Outlook.Spared → F.tells → IsSpared (F.holds files.now) (F.real files.now) (map (λ path. path.now) inputs.now) (map (λ path. path.now) parts.now) force out.now) }
+    ensures unknown { IfOk result (λ found. found ≡ Outlook.Unknown → F.shut files.now out.now ⊎ SomeShut (F.shut files.now) (map (λ path. path.now) parts.now) ⊎ SomeShut (F.shut files.now) (map (λ path. path.now) inputs.now) ⊎ Fails F.Input.faults) }
+{
+    let Ok(target) = files.resolve(alloc, out)? else {
+        return Ok(Outlook::Unknown);
+    };
+    match is_among(alloc, parts, target.path.as_str(), files)? {
+        Ok(false) => {}
+        Ok(true) => return Ok(Outlook::Spared),
+        Err(DeviceFault) => return Ok(Outlook::Unknown),
+    }
+    if force || target.kind != Kind::Regular {
+        return Ok(Outlook::Free);
+    }
+    match is_among(alloc, inputs, target.path.as_str(), files)? {
+        Ok(false) => {}
+        Ok(true) => return Ok(Outlook::Free),
+        Err(DeviceFault) => return Ok(Outlook::Unknown),
+    }
+    match is_kind(out, READING, files) {
+        Ok(false) => Ok(Outlook::Free),
+        Ok(true) => Ok(Outlook::Spared),
+        Err(DeviceFault) => Ok(Outlook::Unknown),
+    }
+}
+
+/// What is known of a map of blocks to read again that is to be written: it is spared where it is an image or a mapfile of the inputs, or where what is there is
+/// a file and begins as no such map does, as the mapfile of a pass.
+pub fn look_at_map<F: Files>(
+    alloc: Global,
+    parts: &[&str],
+    out: &str,
+    files: &F,
+) -> Result<Outlook, AllocError>
+    ensures free { IfOk result (λ found. found ≡ Outlook.Free → F.tells → IsFreeMap (F.holds files.now) (F.real files.now) (F.in_place files.now) (map (λ path. path.now) parts.now) out.now) }
+    ensures spared { IfOk result (λ found. found ≡ Outlook.Spared → F.tells → IsSparedMap (F.holds files.now) (F.real files.now) (map (λ path. path.now) parts.now) out.now) }
+    ensures unknown { IfOk result (λ found. found ≡ Outlook.Unknown → F.shut files.now out.now ⊎ SomeShut (F.shut files.now) (map (λ path. path.now) parts.now) ⊎ Fails F.Input.faults) }
+{
+    let Ok(place) = files.resolve(alloc, out)? else {
+        return Ok(Outlook::Unknown);
+    };
+    match is_among(alloc, parts, place.path.as_str(), files)? {
+        Ok(false) => {}
+        Ok(true) => return Ok(Outlook::Spared),
+        Err(DeviceFault) => return Ok(Outlook::Unknown),
+    }
+    match place.kind {
+        Kind::Absent | Kind::Other => Ok(Outlook::Free),
+        Kind::Regular => match is_kind(out, DOMAIN, files) {
+            Ok(true) => Ok(Outlook::Free),
+            Ok(false) => Ok(Outlook::Spared),
+            Err(DeviceFault) => Ok(Outlook::Unknown),
+        },
+    }
+}

@@ -1,0 +1,60 @@
+//! The table of the inputs.
+
+ghost use Rattle.std.specs.Prelude.{◌≡◌, ◌≢◌, IfOk, IfErr, OnOk};
+ghost use Rattle.udfs_lattice.specs.Tables.{join_tables};
+ghost use Rattle.udfs_common.specs.Keeping.{OfPaths};
+ghost use Rattle.udfs_common.specs.declared.sources.AnySource.{AnySource};
+
+use crate::files::Files;
+use crate::refusal::Refusal;
+use crate::sources::{AnySource, open_all, take_sources};
+use std::alloc::Global;
+use udfs_lattice::BlockTable;
+use udfs_reading::{Source, Taker};
+use udfs_words::input_path::InputPath;
+
+/// Hands the blocks of the inputs to the taker, one source an input. All inputs are opened in order before one is read, and closed again.
+pub fn take_all<F: Files, T: Taker>(
+    alloc: Global,
+    inputs: &[InputPath<'_>],
+    taker: &mut T,
+    files: &F,
+) -> Result<(), Refusal>
+    ensures by_path { OnOk result (OfPaths (λ path. F.holds files.now (F.real files.now path)) (⟦<AnySource<F::Input, F::Image> as Source>⟧.remaining) inputs.now (λ t. T.table taker.new ≡ join_tables (T.table taker.old) t)) }
+    ensures told { IfErr result (λ refusal. (refusal ≢ Refusal.Output) × (refusal ≢ Refusal.Unkept) × (refusal ≢ Refusal.Spared)) }
+{
+    let mut sources = match open_all(alloc, inputs, files) {
+        Ok(sources) => sources,
+        Err(refusal) => return Err(refusal),
+    };
+    match take_sources(sources.as_mut_slice(), taker) {
+        Ok(()) => Ok(()),
+        Err(refusal) => Err(refusal),
+    }
+}
+
+/// The join of the inputs' tables.
+pub fn joined<F: Files>(
+    alloc: Global,
+    inputs: &[InputPath<'_>],
+    files: &F,
+) -> Result<BlockTable, Refusal>
+    ensures by_path { IfOk result (λ table. OfPaths (λ path. F.holds files.now (F.real files.now path)) (⟦<AnySource<F::Input, F::Image> as Source>⟧.remaining) inputs.now (λ t. table ≡ t)) }
+    ensures told { IfErr result (λ refusal. (refusal ≢ Refusal.Output) × (refusal ≢ Refusal.Unkept) × (refusal ≢ Refusal.Spared)) }
+{
+    let mut table = BlockTable::new(alloc);
+    match take_all(alloc, inputs, &mut table, files) {
+        Ok(()) => Ok(table),
+        Err(refusal) => Err(refusal),
+    }
+}
+
+/// What is said of an output that could not be looked at: the inputs are judged before it.
+pub fn unwritten<F: Files>(alloc: Global, inputs: &[InputPath<'_>], files: &F) -> Refusal
+    ensures { (result ≢ Refusal.Unkept) × (result ≢ Refusal.Spared) }
+{
+    match joined(alloc, inputs, files) {
+        Ok(_) => Refusal::Output,
+        Err(refusal) => refusal,
+    }
+}

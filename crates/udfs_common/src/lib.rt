@@ -1,0 +1,14 @@
+// SPDX-License-Identifier: MIT OR Apache-2.0
+//! What the commands of `udfsalvage` share: their inputs and outputs, why they refuse, and what is told beside an answer.
+#![tactic(auto)]
+
+pub mod ends;
+pub mod files;
+pub mod guard;
+pub mod inputs;
+pub mod placing;
+pub mod putting;
+pub mod refusal;
+pub mod remarks;
+pub mod shown;
+pub mod sources;

@@ -1,0 +1,172 @@
+//! Where an image and its mapfile go: two paths, neither in the other's way, that take the place of nothing that is to stay.
+
+ghost use Rattle.std.specs.Prelude.{◌≡◌, ◌≢◌, ◌⊎◌, ◌++◌, ◌≤◌, ℕ, List, true, false, Some, None, IfOk, IfErr, OnOk, IsErrOf, length, map, string_bytes, alloc_error};
+ghost use Rattle.udfs_files.specs.Disk.{Fails, IsOwn};
+ghost use Rattle.udfs_files.specs.declared.files.Kind.{Kind};
+ghost use Rattle.udfs_common.specs.Guarding.{NoneLeads, IsApart, IsFreePair};
+
+use crate::files::Files;
+use crate::guard::is_among;
+use crate::refusal::Refusal;
+use std::alloc::{AllocError, Global};
+use udfs_files::{Kind, Target};
+use udfs_reading::DeviceFault;
+
+/// Where an image and its mapfile go, every link followed.
+#[derive(Drop)]
+pub struct Places {
+    /// The image's path.
+    pub image: String,
+    /// The mapfile's path.
+    pub mapfile: String,
+    /// What is at the mapfile's path.
+    pub old: Kind,
+}
+
+/// Whether these bytes begin so.
+pub fn begin_so(bytes: &[u8], front: &[u8]) -> bool
+    ensures yes { result ≡ true → length front.now ≤ length bytes.now }
+    ensures no { result ≡ false → (more : List ℕ) → bytes.now ≢ front.now ++ more }
+{
+    bytes.len() >= front.len() && &bytes[..front.len()] == front
+}
+
+/// Whether a new file that is to go in the place of one at `path` may be called so.
+fn is_own(path: &str, name: &str) -> bool
+    ensures { result ≡ false → ¬ IsOwn path.now name.now }
+{
+    let path = path.as_bytes();
+    let name = name.as_bytes();
+    begin_so(name, path) && begin_so(&name[path.len()..], b".unfinished")
+}
+
+/// Whether two paths are two, and neither is that of a new file for the other.
+fn is_apart(image: &str, mapfile: &str) -> bool
+    ensures { result ≡ true → IsApart image.now mapfile.now }
+{
+    image != mapfile && !is_own(image, mapfile) && !is_own(mapfile, image)
+}
+
+/// Where an output goes. Something that is there stays, but a file by force.
+fn place<F: Files>(alloc: Global, out: &str, force: bool, files: &F) -> Result<Target, Refusal>
+    ensures leads { IfOk result (λ target. F.tells → string_bytes target.path ≡ F.real files.now out.now) }
+    ensures absent { IfOk result (λ target. target.kind ≡ Kind.Absent → F.tells → F.holds files.now (F.real files.now out.now) ≡ Some None) }
+    ensures free { OnOk result (force ≡ false → F.tells → F.holds files.now (F.real files.now out.now) ≡ Some None) }
+    ensures told { IfErr result (λ refusal. (refusal ≡ Refusal.Output) ⊎ (refusal ≡ Refusal.Spared) ⊎ (refusal ≡ Refusal.Memory alloc_error)) }
+    ensures cause { IsErrOf result Refusal.Output → F.shut files.now out.now }
+    ensures spared { IsErrOf result Refusal.Spared → F.in_place files.now out.now ⊎ (force ≡ false) }
+{
+    let target = match files.resolve(alloc, out) {
+        Ok(Ok(target)) => target,
+        Ok(Err(DeviceFault)) => return Err(Refusal::Output),
+        Err(AllocError) => return Err(Refusal::Memory(AllocError)),
+    };
+    match target.kind {
+        Kind::Absent => Ok(target),
+        Kind::Regular if force => Ok(target),
+        Kind::Regular | Kind::Other => Err(Refusal::Spared),
+    }
+}
+
+/// Where an image and its mapfile go. Something that is there stays, but files by force.
+pub fn find_places<F: Files>(
+    alloc: Global,
+    image: &str,
+    mapfile: &str,
+    force: bool,
+    files: &F,
+) -> Result<Places, Refusal>
+    ensures image { IfOk result (λ places. F.tells → string_bytes places.image ≡ F.real files.now image.now) }
+    ensures mapfile { IfOk result (λ places. F.tells → string_bytes places.mapfile ≡ F.real files.now mapfile.now) }
+    ensures apart { IfOk result (λ places. IsApart (string_bytes places.image) (string_bytes places.mapfile)) }
+    ensures absent { IfOk result (λ places. places.old ≡ Kind.Absent → F.tells → F.holds files.now (string_bytes places.mapfile) ≡ Some None) }
+    ensures no_image { OnOk result (force ≡ false → F.tells → F.holds files.now (F.real files.now image.now) ≡ Some None) }
+    ensures no_mapfile { OnOk result (force ≡ false → F.tells → F.holds files.now (F.real files.now mapfile.now) ≡ Some None) }
+    ensures told { IfErr result (λ refusal. (refusal ≡ Refusal.Output) ⊎ (refusal ≡ Refusal.Spared) ⊎ (refusal ≡ Refusal.Memory alloc_error)) }
+    ensures cause { IsErrOf result Refusal.Output → F.shut files.now image.now ⊎ F.shut files.now mapfile.now }
+{
+    let image = match place(alloc, image, force, files) {
+        Ok(target) => target,
+        Err(refusal) => return Err(refusal),
+    };
+    let mapfile = match place(alloc, mapfile, force, files) {
+        Ok(target) => target,
+        Err(refusal) => return Err(refusal),
+    };
+    if !is_apart(image.path.as_str(), mapfile.path.as_str()) {
+        return Err(Refusal::Spared);
+    }
+    Ok(Places {
+        image: image.path,
+        mapfile: mapfile.path,
+        old: mapfile.kind,
+    })
+}
+
+/// That none of these paths leads to a place.
+fn none_leads<F: Files>(
+    alloc: Global,
+    paths: &[&str],
+    place: &str,
+    files: &F,
+) -> Result<(), Refusal>
+    ensures none { OnOk result (F.tells → NoneLeads (F.real files.now) place.now (map (λ path. path.now) paths.now)) }
+    ensures told { IfErr result (λ refusal. (refusal ≡ Refusal.Output) ⊎ (refusal ≡ Refusal.Spared) ⊎ (refusal ≡ Refusal.Memory alloc_error)) }
+{
+    match is_among(alloc, paths, place, files) {
+        Ok(Ok(false)) => Ok(()),
+        Ok(Ok(true)) => Err(Refusal::Spared),
+        Ok(Err(DeviceFault)) => Err(Refusal::Output),
+        Err(AllocError) => Err(Refusal::Memory(AllocError)),
+    }
+}
+
+/// That no input leads to a place: neither a file, nor an image or a mapfile.
+pub fn is_no_input<F: Files>(
+    alloc: Global,
+    inputs: &[&str],
+    parts: &[&str],
+    place: &str,
+    files: &F,
+) -> Result<(), Refusal>
+    ensures inputs { OnOk result (F.tells → NoneLeads (F.real files.now) place.now (map (λ path. path.now) inputs.now)) }
+    ensures parts { OnOk result (F.tells → NoneLeads (F.real files.now) place.now (map (λ path. path.now) parts.now)) }
+    ensures told { IfErr result (λ refusal. (refusal ≡ Refusal.Output) ⊎ (refusal ≡ Refusal.Spared) ⊎ (refusal ≡ Refusal.Memory alloc_error)) }
+{
+    match none_leads(alloc, parts, place, files) {
+        Ok(()) => {}
+        Err(refusal) => return Err(refusal),
+    }
+    match none_leads(alloc, inputs, place, files) {
+        Ok(()) => Ok(()),
+        Err(refusal) => Err(refusal),
+    }
+}
+
+/// That an image and its mapfile take the place of nothing that is to stay: of no input, and without force of nothing at all. `inputs` are the inputs that are
+/// files, and `parts` the images and mapfiles among the inputs.
+pub fn look_at_both<F: Files>(
+    alloc: Global,
+    inputs: &[&str],
+    parts: &[&str],
+    image: &str,
+    mapfile: &str,
+    force: bool,
+    files: &F,
+) -> Result<(), Refusal>
+    ensures free { OnOk result (F.tells → IsFreePair (F.holds files.now) (F.real files.now) (map (λ path. path.now) inputs.now) (map (λ path. path.now) parts.now) force image.now mapfile.now) }
+    ensures told { IfErr result (λ refusal. (refusal ≡ Refusal.Output) ⊎ (refusal ≡ Refusal.Spared) ⊎ (refusal ≡ Refusal.Memory alloc_error)) }
+{
+    let places = match find_places(alloc, image, mapfile, force, files) {
+        Ok(places) => places,
+        Err(refusal) => return Err(refusal),
+    };
+    match is_no_input(alloc, inputs, parts, places.image.as_str(), files) {
+        Ok(()) => {}
+        Err(refusal) => return Err(refusal),
+    }
+    match is_no_input(alloc, inputs, parts, places.mapfile.as_str(), files) {
+        Ok(()) => Ok(()),
+        Err(refusal) => Err(refusal),
+    }
+}

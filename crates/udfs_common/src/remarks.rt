@@ -1,0 +1,145 @@
+//! What a person is told beside what is printed.
+
+use crate::files::Files;
+use std::alloc::{AllocError, Global};
+use udfs_lattice::BlockTable;
+use udfs_overview::{push_volume, spares_disagree};
+use udfs_salvage::{Report, Survey, Volume};
+use udfs_volume::sequences::sequence;
+use udfs_volume::{Profile, Seen, VolumeFault};
+
+/// What is told of a volume: its table, its last block, by which rules, and what came of opening it.
+#[derive(Clone, Copy)]
+struct Told<'a> {
+    table: &'a BlockTable,
+    last: u32,
+    profile: Profile,
+    volume: &'a Volume,
+}
+
+/// The revision of UDF that a volume is said to have, where its domain is that of UDF (UDF 2.2.4.3).
+fn revision_of(alloc: Global, told: Told<'_>) -> Option<u16> {
+    if told.last < 513 || told.last > 4_194_303 {
+        return None;
+    }
+    let Seen::Got(descriptors) = sequence(alloc, told.table, told.last) else {
+        return None;
+    };
+    let Some(volume) = descriptors.logical_volume() else {
+        return None;
+    };
+    let block = volume.block;
+    if &block[217..240] != b"*OSTA UDF Compliant\0\0\0\0".as_slice() {
+        return None;
+    }
+    Some(u16::from_le_bytes([block[240], block[241]]))
+}
+
+/// What is said of a volume whose domain the rules do not take.
+fn of_domain(alloc: Global, told: Told<'_>) -> Result<String, AllocError> {
+    let Some(revision) = revision_of(alloc, told) else {
+        return String::from_str(alloc, "volume: its domain is not that of UDF");
+    };
+    let whole = revision / 256;
+    let part = revision % 256;
+    if told.profile == Profile::Strict && Profile::Wide.accepts_revision(revision) {
+        return format!(in alloc;
+            "volume: UDF {whole:x}.{part:02x}, not 1.50 or 2.01: try --profile wide"
+        );
+    }
+    format!(in alloc; "volume: UDF {whole:x}.{part:02x}, which is not read")
+}
+
+/// The greatest block of which something is known, if there is one.
+fn last_known(table: &BlockTable) -> Option<u32> {
+    let mut greatest = None;
+    for (number, _) in table.entries() {
+        greatest = Some(number);
+    }
+    greatest
+}
+
+/// Why a volume does not open, as the first line of its summary says it.
+fn of_volume(alloc: Global, told: Told<'_>) -> Result<String, AllocError> {
+    let mut line = String::from_str(alloc, "the volume ")?;
+    if push_volume(&mut line, told.volume, told.last).is_err() {
+        return Err(AllocError);
+    }
+    String::from_str(alloc, line.as_str().trim_end())
+}
+
+/// The greatest block of which something is known, where the last block may be too large: no anchor is known, and nothing from the one before the last on.
+fn known_end(told: Told<'_>, needed: &[u32]) -> Option<u32> {
+    match last_known(told.table) {
+        Some(known) if known < told.last.saturating_sub(256) && needed.contains(&told.last) => {
+            Some(known)
+        }
+        _ => None,
+    }
+}
+
+/// What is said of a volume that wants blocks which are not known before it opens.
+fn of_holes(alloc: Global, told: Told<'_>, needed: &[u32]) -> Result<String, AllocError> {
+    let mut line = of_volume(alloc, told)?;
+    if let Some(known) = known_end(told, needed) {
+        let more = format!(in alloc; "; no block after {known} is known: is --last right?")?;
+        line.push_str(more.as_str())?;
+    }
+    Ok(line)
+}
+
+/// What is said of a volume that does not open.
+fn of_closed(alloc: Global, told: Told<'_>) -> Result<String, AllocError> {
+    match told.volume {
+        Volume::Fault(VolumeFault::Domain) => of_domain(alloc, told),
+        Volume::Holes(blocks) => of_holes(alloc, told, blocks),
+        _ => of_volume(alloc, told),
+    }
+}
+
+/// Tells who watches why a volume does not open.
+fn remark_closed<F: Files>(alloc: Global, told: Told<'_>, files: &F) {
+    if let Volume::Open(_) = told.volume {
+        return;
+    }
+    if let Ok(text) = of_closed(alloc, told) {
+        files.remark(text.as_str());
+    }
+}
+
+/// What is said of a volume of which two known copies of a sparing table do not say the same.
+const SPARES: &str =
+    "sparing copies disagree: the volume is not lawful, and files in spared packets may be old";
+
+/// Tells who watches why a volume does not open, where it does not; and of one that opens whether sparing copies disagree.
+pub fn remark_on<F: Files>(alloc: Global, survey: &Survey<'_>, files: &F) {
+    if let Volume::Open(_) = &survey.volume {
+        if spares_disagree(survey) {
+            files.remark(SPARES);
+        }
+        return;
+    }
+    remark_unopened(alloc, survey, files);
+}
+
+/// Tells who watches why the volume of a survey does not open, where it does not.
+pub fn remark_unopened<F: Files>(alloc: Global, survey: &Survey<'_>, files: &F) {
+    let told = Told {
+        table: survey.table,
+        last: survey.last,
+        profile: survey.profile,
+        volume: &survey.volume,
+    };
+    remark_closed(alloc, told, files);
+}
+
+/// Tells who watches why the volume of a report does not open, where it does not.
+pub fn remark_on_report<F: Files>(alloc: Global, report: &Report<'_>, files: &F) {
+    let told = Told {
+        table: report.table,
+        last: report.last,
+        profile: report.profile,
+        volume: &report.volume,
+    };
+    remark_closed(alloc, told, files);
+}

@@ -1,0 +1,9 @@
+pub mod ChoosingLemmas
+mod PutNodes
+mod ChosenAll
+pub mod AskedNames
+mod DigestLemmas
+mod ManifestLemmas
+pub mod LostLemmas
+mod ShortNameLemmas
+mod PlaceLemmas

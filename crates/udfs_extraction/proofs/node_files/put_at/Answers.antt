@@ -1,0 +1,62 @@
+use Rattle.std.proofs.Common.{◌≡◌, inl, refl, sym, ◌∙◌, ap, subst, true, false}
+use Rattle.udfs_walk.specs.NodeFields.{NodeFields}
+use Rattle.udfs_salvage.specs.Extraction.{is_offered, filled, fill_byte}
+use Rattle.udfs_extraction.specs.Extracting.{IsFateOf, IsSafe, deed, is_good}
+use Rattle.udfs_extraction.specs.declared.extract.Deed.TheVariants.{File, Folder, Skip}
+use Rattle.udfs_extraction.specs.declared.extract.Fate.TheVariants.{Written, Skipped}
+use Rattle.udfs_extraction.proofs.PutNodes.{offered, safe, spares_at, stay_by}
+use Rattle.udfs_extraction.proofs.node_files.put_at.Goals as goal
+
+pub returns-in_err-done-in-File-clause-stays : goal.returns-in_err-done-in-File-clause-stays
+returns-in_err-done-in-File-clause-stays g c told = stay_by c.args.path.now _ _ c.write_file.ensures.others (c.write_file.ensures.there told)
+
+pub returns-in_err-done-in-File-clause-crash : goal.returns-in_err-done-in-File-clause-crash
+returns-in_err-done-in-File-clause-crash g c told folder is_in =
+    let F = g.F.Files in
+    spares_at F.moment F.may_leave F.left_since _ _ folder c.args.path.now _ is_in c.write_file.ensures.crash (c.write_file.ensures.stays told)
+
+pub returns-in-Folder-clause-put : goal.returns-in-Folder-clause-put
+returns-in-Folder-clause-put g c n short folder at path =
+    let same : c.node_at.result.now ≡ n = let e = sym c.node_at.ensures ∙ at in cc in
+    let made : deed n.kind n.standing n.size c.args.fill ≡ Folder = subst (λ (m : NodeFields). deed m.kind m.standing m.size c.args.fill ≡ Folder) same (sym c.deed_for.ensures ∙ c.in-Folder.is) in
+    record {
+      done = subst (λ d. IsFateOf d c.put_folder-fate.result) (sym made) c.put_folder-fate.ensures.fate;
+      written = λ written told profile last reported. absurd (c.put_folder-fate.ensures.fate.0 written);
+      failed = λ bad profile last reported. inl (c.put_folder-fate.ensures.cause (λ is_made. let no_fate : true ≡ false = sym (ap is_good is_made) ∙ bad in cc));
+    }
+
+pub returns-in_ok-done-in-File-clause-put : goal.returns-in_ok-done-in-File-clause-put
+returns-in_ok-done-in-File-clause-put g c n short folder at path =
+    let F = g.F.Files in
+    let same : c.node_at.result.now ≡ n = let e = sym c.node_at.ensures ∙ at in cc in
+    let made : deed n.kind n.standing n.size c.args.fill ≡ File = subst (λ (m : NodeFields). deed m.kind m.standing m.size c.args.fill ≡ File) same (sym c.deed_for.ensures ∙ c.in-File.is) in
+    let is : is_offered n.standing n.size c.args.fill ≡ true = offered n.kind n.standing n.size c.args.fill made in
+    record {
+      done = subst (λ d. IsFateOf d c.in_ok-done-in-File.done.fate) (sym made) c.in_ok-done-in-File.ensures.fate;
+      written = λ written told profile last reported.
+          let w = c.in_ok-done-in-File.ensures.written written told profile last n reported at is in (
+            w.0,
+            w.1,
+            subst (λ p. IsSafe (F.holds c.write_file.new.files) (F.moment c.write_file.new.files) (F.left_since c.write_file.new.files) p (filled (fill_byte c.args.fill) w.0)) path
+                (safe F.moment F.may_leave F.left_since c.write_file.new.files (F.holds c.write_file.new.files) c.args.path.now _ (g.met.F.Files.only_now c.write_file.new.files) w.2),
+          );
+      failed = λ bad profile last reported. c.in_ok-done-in-File.ensures.cause (λ written. let no_fate : true ≡ false = sym (ap is_good written) ∙ bad in cc) profile last n reported at is;
+    }
+
+pub returns-in_ok-done-in-File-clause-stays : goal.returns-in_ok-done-in-File-clause-stays
+returns-in_ok-done-in-File-clause-stays g c told = stay_by c.args.path.now _ _ c.write_file.ensures.others (c.write_file.ensures.there told)
+
+pub returns-in_ok-done-in-File-clause-crash : goal.returns-in_ok-done-in-File-clause-crash
+returns-in_ok-done-in-File-clause-crash g c told folder is_in =
+    let F = g.F.Files in
+    spares_at F.moment F.may_leave F.left_since _ _ folder c.args.path.now _ is_in c.write_file.ensures.crash (c.write_file.ensures.stays told)
+
+pub returns-in-Skip-clause-put : goal.returns-in-Skip-clause-put
+returns-in-Skip-clause-put g c n short folder at path =
+    let same : c.node_at.result.now ≡ n = let e = sym c.node_at.ensures ∙ at in cc in
+    let made : deed n.kind n.standing n.size c.args.fill ≡ Skip = subst (λ (m : NodeFields). deed m.kind m.standing m.size c.args.fill ≡ Skip) same (sym c.deed_for.ensures ∙ c.in-Skip.is) in
+    record {
+      done = subst (λ d. IsFateOf d Skipped) (sym made) refl;
+      written = λ written told profile last reported. let bad : Skipped ≡ Written = written in cc;
+      failed = λ bad profile last reported. let no_fate : true ≡ false = bad in cc;
+    }

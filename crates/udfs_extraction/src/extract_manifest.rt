@@ -1,0 +1,132 @@
+//! The command `extract --manifest`: the files of a volume out into a new folder, and then a manifest of them.
+
+ghost use Rattle.std.specs.Prelude.{◌≡◌, ◌≢◌, ◌⊎◌, ℕ, List, Some, IfOk, IfErr, OnOk, map};
+ghost use Rattle.udfs_files.specs.Disk.{Fails, Goes, IsOwn, Replaced};
+ghost use Rattle.udfs_salvage.specs.Reports.{report_now};
+ghost use Rattle.udfs_extraction.specs.Extracting.{IsElsewhere, IsPut};
+ghost use Rattle.udfs_common.specs.Keeping.{IsKept, OfPaths};
+ghost use Rattle.udfs_extraction.specs.Manifests.{IsManifest, IsPutLast, ListsChosen, ListsOf, SparesListed};
+ghost use Rattle.udfs_common.specs.declared.sources.AnySource.{AnySource};
+
+use crate::extract::put_report;
+use std::alloc::{AllocError, Global};
+use udfs_common::files::Files;
+use udfs_common::inputs::joined;
+use udfs_common::refusal::Refusal;
+use udfs_common::sources::AnySource;
+use udfs_files::{Content, ReplaceError, Stage, replace};
+use udfs_reading::{Sink, Source, WriteFault, write_all};
+use udfs_salvage::{Fill, Report, salvage_by};
+use udfs_volume::Profile;
+use udfs_words::input_path::InputPath;
+
+/// The text of a manifest.
+#[derive(Drop)]
+struct ManifestText<'a> {
+    text: &'a [u8],
+}
+
+impl<'a> Content for ManifestText<'a> {
+    ghost bytes = { λ manifest. manifest.text.now };
+
+    fn write_to<W: Sink>(&self, sink: &mut W) -> Result<(), WriteFault> {
+        write_all(sink, self.text)
+    }
+}
+
+/// Puts a manifest at its place, whole or not at all.
+fn put_manifest<F: Files>(
+    alloc: Global,
+    text: &[u8],
+    place: &str,
+    files: &mut F,
+) -> Result<(), Refusal>
+    ensures kept { OnOk result (F.tells → IsKept (F.holds files.new) (F.may_leave files.new) place.now text.now) }
+    ensures crash { F.tells → Goes F.moment F.may_leave F.left_since files.old files.new (Replaced place.now text.now) }
+    ensures elsewhere { (q : List ℕ) → q ≢ place.now → (¬ IsOwn place.now q) → F.holds files.new q ≡ F.holds files.old q }
+    ensures no_node { IfErr result (λ refusal. (i : ℕ) → refusal ≢ Refusal.NoNode i) }
+{
+    let content = ManifestText { text };
+    match replace(alloc, files, place, &content) {
+        Ok(()) => Ok(()),
+        Err(ReplaceError::OutOfMemory) => Err(Refusal::Memory(AllocError)),
+        Err(ReplaceError::NotKept) => Err(Refusal::Unkept),
+        Err(_) => Err(Refusal::Output),
+    }
+}
+
+/// Makes what the report has for the folder, as far as it is asked for, and then puts the manifest of the files that were written. Where the volume does not open, it
+/// puts none.
+pub fn list_report<F: Files, O: Sink>(
+    alloc: Global,
+    report: &Report<'_>,
+    only: &[&str],
+    fill: Fill,
+    short: bool,
+    folder: &str,
+    place: &str,
+    files: &mut F,
+    out: &mut O,
+) -> Result<bool, Refusal>
+    ensures listed { IfOk result (λ good. (mid : F) × ListsOf (map (λ word. word.now) only.now) short
+        (λ f told. IsPut F.tells (Fails F.faults ⊎ Fails F.Output.faults) report.now.table.now told fill short folder.now (F.holds f) (F.moment f) (F.left_since f))
+        (λ f told fates text. F.tells → IsManifest (F.holds f) folder.now short told fates text)
+        (λ f text. F.tells → IsPutLast F.holds F.may_leave F.moment F.left_since place.now f files.new text)
+        files.old mid files.new (report_now report.now) (O.contents out.old) (O.contents out.new) (O.faults out.old) (O.faults out.new) good
+        × ((q : List ℕ) → IsElsewhere (map (λ word. word.now) only.now) short (report_now report.now) folder.now q → F.holds mid q ≡ F.holds files.old q)) }
+    ensures no_node { IfErr result (λ refusal. (i : ℕ) → refusal ≡ Refusal.NoNode i → files.new ≡ files.old) }
+    ensures spares { SparesListed F.tells F.holds F.may_leave F.moment F.left_since short folder.now place.now files.old files.new }
+{
+    let made = match put_report(alloc, report, only, fill, short, true, folder, files, out) {
+        Ok(made) => made,
+        Err(refusal) => return Err(refusal),
+    };
+    match &made.manifest {
+        Some(manifest) => match put_manifest(alloc, manifest.as_slice(), place, files) {
+            Ok(()) => Ok(made.good),
+            Err(refusal) => Err(refusal),
+        },
+        None => Ok(made.good),
+    }
+}
+
+/// Does what [`extract`](crate::extract::extract) does, and then puts the manifest of the files that were written at a place that is none of theirs, whole or not at all: the
+/// digest of each was taken while its bytes were written. Where the volume does not open, or the command is refused, it puts none, and an old one stays.
+pub fn extract_listed<F: Files, O: Sink>(
+    alloc: Global,
+    inputs: &[InputPath<'_>],
+    last: u32,
+    profile: Profile,
+    only: &[&str],
+    fill: Fill,
+    short: bool,
+    folder: &str,
+    place: &str,
+    files: &mut F,
+    out: &mut O,
+) -> Result<bool, Refusal>
+    // At `Ok` all was made and told as without a manifest, at some moment; and since then the manifest was put, and nothing else: for each file that is told as written, in order, the digest of what its
+    // path held then.
+    ensures listed { IfOk result (λ good. OfPaths (λ path. F.holds files.old (F.real files.old path)) (⟦<AnySource<F::Input, F::Image> as Source>⟧.remaining) inputs.now
+        (ListsChosen (map (λ word. word.now) only.now) short
+        (λ f table told. IsPut F.tells (Fails F.faults ⊎ Fails F.Output.faults) table told fill short folder.now (F.holds f) (F.moment f) (F.left_since f))
+        (λ f told fates text. F.tells → IsManifest (F.holds f) folder.now short told fates text)
+        (λ f text. F.tells → IsPutLast F.holds F.may_leave F.moment F.left_since place.now f files.new text)
+        F.holds folder.now files.old files.new profile last (O.contents out.old) (O.contents out.new) (O.faults out.old) (O.faults out.new) good)) }
+    // A path that is no node's is refused before anything is made.
+    ensures no_node { IfErr result (λ refusal. (i : ℕ) → refusal ≡ Refusal.NoNode i → files.new ≡ files.old) }
+    // Whatever the answer, no file that was there is changed, and nothing outside of the folder, but at the manifest's place; nor by a crash at any moment.
+    ensures spares { SparesListed F.tells F.holds F.may_leave F.moment F.left_since short folder.now place.now files.old files.new }
+{
+    let table = match joined(alloc, inputs, files) {
+        Ok(table) => table,
+        Err(refusal) => return Err(refusal),
+    };
+    files.begin(Stage::Walking);
+    let report = salvage_by(alloc, &table, last, profile)?;
+    files.begin(Stage::Writing);
+    match list_report(alloc, &report, only, fill, short, folder, place, files, out) {
+        Ok(good) => Ok(good),
+        Err(refusal) => Err(refusal),
+    }
+}

@@ -1,0 +1,186 @@
+//! What the words after `extract` ask for.
+
+ghost use Rattle.std.specs.Prelude.{◌≡◌, ◌⊎◌, ℕ, Bool, List, true, false, IfOk, IfErr, OnOk, codes, map, string_bytes};
+ghost use Rattle.clap.specs.Matches.{found_of};
+ghost use Rattle.udfs_volume.specs.declared.profiles.Profile.{Profile};
+ghost use Rattle.udfs_files.specs.Disk.{Fails, Goes};
+ghost use Rattle.udfs_salvage.specs.declared.extraction.Fill.{Fill};
+ghost use Rattle.udfs_words.specs.Asking.{IsLast, IsPicked, IsProfile, asked_for, asked_inputs, folder_text, has_manifest, has_only, input_texts, manifest_text, only_texts, pair_texts};
+ghost use Rattle.udfs_extraction.specs.Extracting.{ExtractsAll, ExtractsChosen, IsIn, IsPut, Spares, Stay};
+ghost use Rattle.udfs_common.specs.Keeping.{OfPaths};
+ghost use Rattle.udfs_extraction.specs.Manifests.{IsFreeManifest, IsManifest, IsPutLast, ListsChosen, SparesListed};
+ghost use Rattle.udfs_common.specs.declared.sources.AnySource.{AnySource};
+ghost use Rattle.udfs_words.specs.declared.input_path.InputPath.{InputPath};
+
+use crate::choosing::ALL;
+use crate::extract::extract;
+use crate::extract_manifest::extract_listed;
+use crate::manifest_place::find_manifest;
+use clap::ArgMatches;
+use std::alloc::Global;
+use udfs_common::ends::asked_end;
+use udfs_common::files::Files;
+use udfs_common::inputs::unwritten;
+use udfs_common::refusal::Refusal;
+use udfs_common::sources::AnySource;
+use udfs_reading::{Sink, Source};
+use udfs_words::asking::{asked_fill, asked_folder, asked_inputs, asked_manifest, asked_short};
+use udfs_words::profile::asked_profile;
+use udfs_words::words::{INPUTS, MANIFEST, ONLY, PAIRS};
+
+/// Does what the words after `extract` ask for where no manifest is to be written.
+fn extract_words<F: Files, O: Sink>(
+    alloc: Global,
+    words: &ArgMatches<'_>,
+    files: &mut F,
+    out: &mut O,
+) -> Result<bool, Refusal>
+    ensures extracted { IfOk result (λ good. has_only (found_of words.now) ≡ false → (fill : Fill) × (short : Bool) × (last : ℕ) × (profile : Profile) × (inputs : List InputPath) × (map asked_for inputs ≡ asked_inputs (found_of words.now)) ×
+        IsPicked (found_of words.now) (codes "fill") (Fill.Byte 0) Fill.Refuse fill × IsPicked (found_of words.now) (codes "short-names") true false short × IsLast (λ path. F.holds files.old (F.real files.old path)) inputs (found_of words.now) last × IsProfile (found_of words.now) profile ×
+        OfPaths (λ path. F.holds files.old (F.real files.old path)) (⟦<AnySource<F::Input, F::Image> as Source>⟧.remaining) inputs
+        (ExtractsAll short (λ table told. IsPut F.tells (Fails F.faults ⊎ Fails F.Output.faults) table told fill short (folder_text (found_of words.now)) (F.holds files.new) (F.moment files.new) (F.left_since files.new))
+        files.old files.new profile last (O.contents out.old) (O.contents out.new) (O.faults out.old) (O.faults out.new) good)) }
+    // With `--only` or without: only what is asked for is made, told and judged.
+    ensures chosen { IfOk result (λ good. (fill : Fill) × (short : Bool) × (last : ℕ) × (profile : Profile) × (inputs : List InputPath) × (map asked_for inputs ≡ asked_inputs (found_of words.now)) ×
+        IsPicked (found_of words.now) (codes "fill") (Fill.Byte 0) Fill.Refuse fill × IsPicked (found_of words.now) (codes "short-names") true false short × IsLast (λ path. F.holds files.old (F.real files.old path)) inputs (found_of words.now) last × IsProfile (found_of words.now) profile ×
+        OfPaths (λ path. F.holds files.old (F.real files.old path)) (⟦<AnySource<F::Input, F::Image> as Source>⟧.remaining) inputs
+        (ExtractsChosen (only_texts (found_of words.now)) short (λ table told. IsPut F.tells (Fails F.faults ⊎ Fails F.Output.faults) table told fill short (folder_text (found_of words.now)) (F.holds files.new) (F.moment files.new) (F.left_since files.new))
+        F.holds (folder_text (found_of words.now)) files.old files.new profile last (O.contents out.old) (O.contents out.new) (O.faults out.old) (O.faults out.new) good)) }
+    // A path that is no node's is refused before anything is made.
+    ensures no_node { IfErr result (λ refusal. (i : ℕ) → refusal ≡ Refusal.NoNode i → files.new ≡ files.old) }
+    ensures stays { F.tells → Stay (F.holds files.old) (F.holds files.new) }
+    ensures outside { (q : List ℕ) → (¬ IsIn (folder_text (found_of words.now)) q) → F.holds files.new q ≡ F.holds files.old q }
+    ensures crash { F.tells → Goes F.moment F.may_leave F.left_since files.old files.new (Spares (folder_text (found_of words.now)) (F.holds files.old)) }
+{
+    let inputs = asked_inputs(alloc, words)?;
+    let paths = inputs.as_slice();
+    let last = asked_end(alloc, words, paths, files)?;
+    let profile = asked_profile(words);
+    let only = words.get_strs(ONLY).unwrap_or(&[ALL]);
+    let fill = asked_fill(words);
+    let short = asked_short(words);
+    let folder = asked_folder(words);
+    match extract(
+        alloc, paths, last, profile, only, fill, short, folder, files, out,
+    ) {
+        Ok(good) => Ok(good),
+        Err(refusal) => Err(refusal),
+    }
+}
+
+/// Where the manifest that the words after `extract` ask for goes.
+pub fn asked_place<F: Files>(
+    alloc: Global,
+    words: &ArgMatches<'_>,
+    files: &F,
+) -> Result<String, Refusal>
+    ensures leads { IfOk result (λ place. F.tells → string_bytes place ≡ F.real files.now (manifest_text (found_of words.now))) }
+    ensures free { OnOk result (F.tells → IsFreeManifest (F.holds files.now) (F.real files.now) (input_texts (found_of words.now)) (pair_texts (found_of words.now)) (folder_text (found_of words.now)) (manifest_text (found_of words.now))) }
+{
+    let inputs = words.get_strs(INPUTS).unwrap_or(&[]);
+    let parts = words.get_strs(PAIRS).unwrap_or(&[]);
+    let folder = asked_folder(words);
+    match find_manifest(alloc, inputs, parts, folder, asked_manifest(words), files) {
+        Ok(place) => Ok(place),
+        Err(refusal) => Err(refusal),
+    }
+}
+
+/// Does what the words after `extract` ask for where a manifest is to be written.
+fn manifest_words<F: Files, O: Sink>(
+    alloc: Global,
+    words: &ArgMatches<'_>,
+    files: &mut F,
+    out: &mut O,
+) -> Result<bool, Refusal>
+    ensures listed { IfOk result (λ good. (fill : Fill) × (short : Bool) × (last : ℕ) × (profile : Profile) × (inputs : List InputPath) × (map asked_for inputs ≡ asked_inputs (found_of words.now)) ×
+        IsPicked (found_of words.now) (codes "fill") (Fill.Byte 0) Fill.Refuse fill × IsPicked (found_of words.now) (codes "short-names") true false short × IsLast (λ path. F.holds files.old (F.real files.old path)) inputs (found_of words.now) last × IsProfile (found_of words.now) profile ×
+        OfPaths (λ path. F.holds files.old (F.real files.old path)) (⟦<AnySource<F::Input, F::Image> as Source>⟧.remaining) inputs
+        (ListsChosen (only_texts (found_of words.now)) short
+        (λ f table told. IsPut F.tells (Fails F.faults ⊎ Fails F.Output.faults) table told fill short (folder_text (found_of words.now)) (F.holds f) (F.moment f) (F.left_since f))
+        (λ f told fates text. F.tells → IsManifest (F.holds f) (folder_text (found_of words.now)) short told fates text)
+        (λ f text. F.tells → IsPutLast F.holds F.may_leave F.moment F.left_since (F.real files.old (manifest_text (found_of words.now))) f files.new text)
+        F.holds (folder_text (found_of words.now)) files.old files.new profile last (O.contents out.old) (O.contents out.new) (O.faults out.old) (O.faults out.new) good)) }
+    // It takes the place of no file but a manifest, and never that of an input, nor of a file that is written.
+    ensures free { OnOk result (F.tells → IsFreeManifest (F.holds files.old) (F.real files.old) (input_texts (found_of words.now)) (pair_texts (found_of words.now)) (folder_text (found_of words.now)) (manifest_text (found_of words.now))) }
+    // A path that is no node's is refused before anything is made.
+    ensures no_node { IfErr result (λ refusal. (i : ℕ) → refusal ≡ Refusal.NoNode i → files.new ≡ files.old) }
+    ensures spares { (short : Bool) × IsPicked (found_of words.now) (codes "short-names") true false short × SparesListed F.tells F.holds F.may_leave F.moment F.left_since short (folder_text (found_of words.now)) (F.real files.old (manifest_text (found_of words.now))) files.old files.new }
+{
+    let short = asked_short(words);
+    let inputs = asked_inputs(alloc, words)?;
+    let paths = inputs.as_slice();
+    let place = match asked_place(alloc, words, files) {
+        Ok(place) => place,
+        Err(Refusal::Output) => return Err(unwritten(alloc, paths, files)),
+        Err(refusal) => return Err(refusal),
+    };
+    let last = asked_end(alloc, words, paths, files)?;
+    let profile = asked_profile(words);
+    let only = words.get_strs(ONLY).unwrap_or(&[ALL]);
+    let fill = asked_fill(words);
+    let folder = asked_folder(words);
+    match extract_listed(
+        alloc,
+        paths,
+        last,
+        profile,
+        only,
+        fill,
+        short,
+        folder,
+        place.as_str(),
+        files,
+        out,
+    ) {
+        Ok(good) => Ok(good),
+        Err(refusal) => Err(refusal),
+    }
+}
+
+/// Does what the words after `extract` ask for: with `--manifest` it also writes a manifest.
+pub fn extract_as<F: Files, O: Sink>(
+    alloc: Global,
+    words: &ArgMatches<'_>,
+    files: &mut F,
+    out: &mut O,
+) -> Result<bool, Refusal>
+    ensures extracted { IfOk result (λ good. has_manifest (found_of words.now) ≡ false → has_only (found_of words.now) ≡ false → (fill : Fill) × (short : Bool) × (last : ℕ) × (profile : Profile) × (inputs : List InputPath) × (map asked_for inputs ≡ asked_inputs (found_of words.now)) ×
+        IsPicked (found_of words.now) (codes "fill") (Fill.Byte 0) Fill.Refuse fill × IsPicked (found_of words.now) (codes "short-names") true false short × IsLast (λ path. F.holds files.old (F.real files.old path)) inputs (found_of words.now) last × IsProfile (found_of words.now) profile ×
+        OfPaths (λ path. F.holds files.old (F.real files.old path)) (⟦<AnySource<F::Input, F::Image> as Source>⟧.remaining) inputs
+        (ExtractsAll short (λ table told. IsPut F.tells (Fails F.faults ⊎ Fails F.Output.faults) table told fill short (folder_text (found_of words.now)) (F.holds files.new) (F.moment files.new) (F.left_since files.new))
+        files.old files.new profile last (O.contents out.old) (O.contents out.new) (O.faults out.old) (O.faults out.new) good)) }
+    // With `--only` or without: only what is asked for is made, told and judged.
+    ensures chosen { IfOk result (λ good. has_manifest (found_of words.now) ≡ false → (fill : Fill) × (short : Bool) × (last : ℕ) × (profile : Profile) × (inputs : List InputPath) × (map asked_for inputs ≡ asked_inputs (found_of words.now)) ×
+        IsPicked (found_of words.now) (codes "fill") (Fill.Byte 0) Fill.Refuse fill × IsPicked (found_of words.now) (codes "short-names") true false short × IsLast (λ path. F.holds files.old (F.real files.old path)) inputs (found_of words.now) last × IsProfile (found_of words.now) profile ×
+        OfPaths (λ path. F.holds files.old (F.real files.old path)) (⟦<AnySource<F::Input, F::Image> as Source>⟧.remaining) inputs
+        (ExtractsChosen (only_texts (found_of words.now)) short (λ table told. IsPut F.tells (Fails F.faults ⊎ Fails F.Output.faults) table told fill short (folder_text (found_of words.now)) (F.holds files.new) (F.moment files.new) (F.left_since files.new))
+        F.holds (folder_text (found_of words.now)) files.old files.new profile last (O.contents out.old) (O.contents out.new) (O.faults out.old) (O.faults out.new) good)) }
+    // With `--manifest` the same, and then the manifest is put.
+    ensures listed { IfOk result (λ good. has_manifest (found_of words.now) ≡ true → ((fill : Fill) × (short : Bool) × (last : ℕ) × (profile : Profile) × (inputs : List InputPath) × (map asked_for inputs ≡ asked_inputs (found_of words.now)) ×
+        IsPicked (found_of words.now) (codes "fill") (Fill.Byte 0) Fill.Refuse fill × IsPicked (found_of words.now) (codes "short-names") true false short × IsLast (λ path. F.holds files.old (F.real files.old path)) inputs (found_of words.now) last × IsProfile (found_of words.now) profile ×
+        OfPaths (λ path. F.holds files.old (F.real files.old path)) (⟦<AnySource<F::Input, F::Image> as Source>⟧.remaining) inputs
+        (ListsChosen (only_texts (found_of words.now)) short
+        (λ f table told. IsPut F.tells (Fails F.faults ⊎ Fails F.Output.faults) table told fill short (folder_text (found_of words.now)) (F.holds f) (F.moment f) (F.left_since f))
+        (λ f told fates text. F.tells → IsManifest (F.holds f) (folder_text (found_of words.now)) short told fates text)
+        (λ f text. F.tells → IsPutLast F.holds F.may_leave F.moment F.left_since (F.real files.old (manifest_text (found_of words.now))) f files.new text)
+        F.holds (folder_text (found_of words.now)) files.old files.new profile last (O.contents out.old) (O.contents out.new) (O.faults out.old) (O.faults out.new) good)) ×
+        (F.tells → IsFreeManifest (F.holds files.old) (F.real files.old) (input_texts (found_of words.now)) (pair_texts (found_of words.now)) (folder_text (found_of words.now)) (manifest_text (found_of words.now)))) }
+    // A path that is no node's is refused before anything is made.
+    ensures no_node { IfErr result (λ refusal. (i : ℕ) → refusal ≡ Refusal.NoNode i → files.new ≡ files.old) }
+    ensures stays { has_manifest (found_of words.now) ≡ false → F.tells → Stay (F.holds files.old) (F.holds files.new) }
+    ensures outside { has_manifest (found_of words.now) ≡ false → (q : List ℕ) → (¬ IsIn (folder_text (found_of words.now)) q) → F.holds files.new q ≡ F.holds files.old q }
+    ensures crash { has_manifest (found_of words.now) ≡ false → F.tells → Goes F.moment F.may_leave F.left_since files.old files.new (Spares (folder_text (found_of words.now)) (F.holds files.old)) }
+    ensures spares { has_manifest (found_of words.now) ≡ true → (short : Bool) × IsPicked (found_of words.now) (codes "short-names") true false short × SparesListed F.tells F.holds F.may_leave F.moment F.left_since short (folder_text (found_of words.now)) (F.real files.old (manifest_text (found_of words.now))) files.old files.new }
+{
+    if words.contains_id(MANIFEST) {
+        return match manifest_words(alloc, words, files, out) {
+            Ok(good) => Ok(good),
+            Err(refusal) => Err(refusal),
+        };
+    }
+    match extract_words(alloc, words, files, out) {
+        Ok(good) => Ok(good),
+        Err(refusal) => Err(refusal),
+    }
+}

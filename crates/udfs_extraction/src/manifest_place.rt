@@ -1,0 +1,160 @@
+//! Where a manifest goes: to a path that is none of the files that are written, and takes the place of nothing but a manifest.
+
+ghost use Rattle.std.specs.Prelude.{◌≡◌, ◌⊎◌, ◌∷◌, ◌++◌, ℕ, List, Some, true, IfOk, IfErr, OnErr, codes, map, string_bytes, alloc_error};
+ghost use Rattle.udfs_files.specs.Disk.{Fails};
+ghost use Rattle.udfs_extraction.specs.Manifests.{IsBeside, IsFreeManifest};
+ghost use Rattle.udfs_extraction.specs.SumLines.{begins_as_sums, begins_by, fits, is_digit};
+
+use crate::choosing::goes_on;
+use std::alloc::{AllocError, Global};
+use udfs_common::files::Files;
+use udfs_common::placing::{begin_so, is_no_input};
+use udfs_common::refusal::Refusal;
+use udfs_files::Kind;
+use udfs_reading::{DeviceFault, Source};
+
+/// Signs for the beginning of a manifest's line: 64 hexadecimal digits and two spaces.
+const SUM: &[u8] = b"0000000000000000000000000000000000000000000000000000000000000000  ";
+
+/// The same behind the first digit.
+const MORE: &[u8] = b"000000000000000000000000000000000000000000000000000000000000000  ";
+
+/// Whether a byte is a hexadecimal digit, of which none is upper case.
+fn is_digit(byte: u8) -> bool
+    ensures { result ≡ is_digit byte }
+{
+    (48 <= byte && byte <= 57) || (97 <= byte && byte <= 102)
+}
+
+/// Whether a byte stands in the place of this sign: `0` stands for any hexadecimal digit.
+fn fits(sign: u8, byte: u8) -> bool
+    ensures { result ≡ fits sign byte }
+{
+    if sign == b'0' {
+        is_digit(byte)
+    } else {
+        byte == sign
+    }
+}
+
+/// Whether what a source has left begins with bytes in the place of these signs. It reads one at a time, and no more than it needs.
+fn begins_by<R: Source>(source: &mut R, signs: &[u8]) -> Result<bool, DeviceFault>
+    ensures begins { IfOk result (λ so. (bytes : List ℕ) → R.remaining source.old ≡ Some bytes → so ≡ begins_by signs.now bytes) }
+    ensures fault { OnErr result (Fails R.faults) }
+{
+    match signs {
+        [] => Ok(true),
+        [first, rest @ ..] => {
+            let mut byte = [0u8; 1];
+            match source.read(&mut byte) {
+                Ok(0) => Ok(false),
+                Ok(_) if !fits(*first, byte[0]) => Ok(false),
+                Ok(_) => begins_by(source, rest),
+                Err(fault) => Err(fault),
+            }
+        }
+    }
+}
+
+/// Whether this byte, and behind it what a source has left, begin as a manifest's line does.
+fn begins_behind<R: Source>(first: u8, source: &mut R) -> Result<bool, DeviceFault>
+    ensures begins { IfOk result (λ so. (rest : List ℕ) → R.remaining source.old ≡ Some rest → so ≡ begins_as_sums (first ∷ rest)) }
+{
+    if first == b'\\' {
+        return begins_by(source, SUM);
+    }
+    if !is_digit(first) {
+        return Ok(false);
+    }
+    begins_by(source, MORE)
+}
+
+/// Whether what a source has left begins as a manifest does, or is nothing at all.
+fn begins_as_sums<R: Source>(source: &mut R) -> Result<bool, DeviceFault>
+    ensures begins { IfOk result (λ so. (bytes : List ℕ) → R.remaining source.old ≡ Some bytes → so ≡ begins_as_sums bytes) }
+{
+    let mut byte = [0u8; 1];
+    match source.read(&mut byte) {
+        Ok(0) => Ok(true),
+        Ok(_) => begins_behind(byte[0], source),
+        Err(fault) => Err(fault),
+    }
+}
+
+/// Whether the file at a path begins as a manifest does, or is empty.
+fn is_manifest<F: Files>(path: &str, files: &F) -> Result<bool, DeviceFault>
+    ensures yes { IfOk result (λ so. so ≡ true → (bytes : List ℕ) → F.holds files.now (F.real files.now path.now) ≡ Some (Some bytes) → begins_as_sums bytes ≡ true) }
+{
+    match files.open(path) {
+        Ok(mut file) => match begins_as_sums(&mut file) {
+            Ok(so) => Ok(so),
+            Err(fault) => Err(fault),
+        },
+        Err(fault) => Err(fault),
+    }
+}
+
+/// What the names of new files begin with that are to go to a place.
+fn own_name(alloc: Global, place: &str) -> Result<String, AllocError>
+    ensures { IfOk result (λ name. string_bytes name ≡ place.now ++ codes ".unfinished") }
+{
+    let mut name = String::from_str(alloc, place)?;
+    name.push_str(".unfinished")?;
+    Ok(name)
+}
+
+/// That no path in a folder is this place, nor may be that of a new file that is to go there.
+fn is_beside(alloc: Global, folder: &str, place: &str) -> Result<bool, AllocError>
+    ensures { IfOk result (λ so. so ≡ true → IsBeside folder.now place.now) }
+{
+    if folder == place {
+        return Ok(false);
+    }
+    if goes_on(folder, place) {
+        return Ok(false);
+    }
+    let own = own_name(alloc, place)?;
+    if goes_on(folder, own.as_str()) {
+        return Ok(false);
+    }
+    Ok(!begin_so(folder.as_bytes(), own.as_bytes()))
+}
+
+/// Where a manifest goes, every link followed: to a path that nothing has, or over a file that begins as a manifest does. It is spared where something else is there, or
+/// one of the inputs, and where it might come into the folder's way. `inputs` are the inputs that are files, and `parts` the images and mapfiles among the inputs.
+pub fn find_manifest<F: Files>(
+    alloc: Global,
+    inputs: &[&str],
+    parts: &[&str],
+    folder: &str,
+    out: &str,
+    files: &F,
+) -> Result<String, Refusal>
+    ensures leads { IfOk result (λ place. F.tells → string_bytes place ≡ F.real files.now out.now) }
+    ensures free { IfOk result (λ place. F.tells → IsFreeManifest (F.holds files.now) (F.real files.now) (map (λ path. path.now) inputs.now) (map (λ path. path.now) parts.now) folder.now out.now) }
+    ensures told { IfErr result (λ refusal. (refusal ≡ Refusal.Output) ⊎ (refusal ≡ Refusal.Spared) ⊎ (refusal ≡ Refusal.Memory alloc_error)) }
+{
+    let target = match files.resolve(alloc, out) {
+        Ok(Ok(target)) => target,
+        Ok(Err(DeviceFault)) => return Err(Refusal::Output),
+        Err(AllocError) => return Err(Refusal::Memory(AllocError)),
+    };
+    match is_no_input(alloc, inputs, parts, target.path.as_str(), files) {
+        Ok(()) => {}
+        Err(refusal) => return Err(refusal),
+    }
+    match is_beside(alloc, folder, target.path.as_str()) {
+        Ok(true) => {}
+        Ok(false) => return Err(Refusal::Spared),
+        Err(AllocError) => return Err(Refusal::Memory(AllocError)),
+    }
+    match target.kind {
+        Kind::Absent => Ok(target.path),
+        Kind::Regular => match is_manifest(out, files) {
+            Ok(true) => Ok(target.path),
+            Ok(false) => Err(Refusal::Spared),
+            Err(DeviceFault) => Err(Refusal::Output),
+        },
+        Kind::Other => Err(Refusal::Spared),
+    }
+}

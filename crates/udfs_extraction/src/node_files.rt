@@ -1,0 +1,345 @@
+//! The folders and files of nodes: each is made, or a file is written, or nothing.
+
+ghost use Rattle.std.specs.Prelude.{◌≡◌, ◌≢◌, ◌<◌, ◌⊎◌, ◌++◌, ℕ, Bool, true, List, [], Some, IfOk, length, slice_get, None, map, string_bytes};
+ghost use Rattle.std.specs.Io.KnownBytes.{Appends};
+ghost use Rattle.udfs_file.specs.declared.cells.Cell.{Cell};
+ghost use Rattle.udfs_files.specs.Disk.{Same, SameBut, Goes, Fails};
+ghost use Rattle.udfs_lattice.specs.Tables.{state_of};
+ghost use Rattle.udfs_volume.specs.declared.profiles.Profile.{Profile};
+ghost use Rattle.udfs_walk.specs.NodeFields.{NodeFields};
+ghost use Rattle.udfs_salvage.specs.declared.extraction.ExtractError.TheVariants as extract_error;
+ghost use Rattle.udfs_salvage.specs.Extraction.{HasCellsInBy, fill_byte, filled, is_offered};
+ghost use Rattle.udfs_salvage.specs.NodeTexts.{names_text};
+ghost use Rattle.udfs_salvage.specs.Reports.{IsReportBy, report_now};
+ghost use Rattle.udfs_extraction.specs.Extracting.{IsDone, IsFateOf, IsIn, IsPut, Spares, Stay, deed, path_below};
+ghost use Rattle.udfs_common.specs.Keeping.{IsKept};
+ghost use Rattle.udfs_extraction.specs.Choosing.{is_chosen};
+ghost use Rattle.udfs_extraction.specs.Manifests.{IsNoted};
+ghost use Rattle.udfs_extraction.specs.ShortNames.{placed};
+
+use crate::choosing::{is_above, is_chosen};
+use crate::digesting::{Filled, fill_noting};
+use crate::extract::{Deed, Done, Fate};
+use std::alloc::{AllocError, Global};
+use udfs_common::files::Files;
+use udfs_file::Kind;
+use udfs_files::Job;
+use udfs_reading::{DeviceFault, Sink};
+use udfs_salvage::{ExtractError, Fill, Report, extract_by as write_bytes, is_offered};
+use udfs_walk::{Node, Standing};
+
+/// What is done with a node: a directory that is no loop is made as a folder, and a file that is to be written becomes a
+/// file. Nothing else is ever made, so no link either.
+fn deed_for(node: &Node, fill: Fill) -> Deed
+    ensures { result ≡ deed node.now.kind node.now.standing node.now.size fill }
+{
+    match node.kind {
+        Kind::Directory => match node.standing {
+            Standing::Loop => Deed::Skip,
+            _ => Deed::Folder,
+        },
+        Kind::File => {
+            if is_offered(node, fill) {
+                Deed::File
+            } else {
+                Deed::Skip
+            }
+        }
+        _ => Deed::Skip,
+    }
+}
+
+/// What became of a node of which no file was written.
+fn without_file(fate: Fate) -> Done
+    ensures { (result.fate ≡ fate) × (result.digest ≡ None) }
+{
+    Done { fate, digest: None }
+}
+
+/// The path of a node in a folder: the folder's, and its place, which is each name in its escaped form behind a `/`. An escaped name has no
+/// `/` and is neither `.` nor `..`, so the path leads nowhere but below the folder.
+pub fn path_in(alloc: Global, folder: &str, place: &str) -> Result<String, AllocError>
+    ensures { IfOk result (λ path. string_bytes path ≡ folder.now ++ place.now) }
+{
+    let mut path = String::from_str(alloc, folder)?;
+    path.push_str(place)?;
+    Ok(path)
+}
+
+/// The node of this index.
+pub fn node_at<'a>(report: &'a Report<'_>, index: usize) -> &'a Node
+    requires { index < length report.now.nodes.items }
+    ensures { slice_get report.now.nodes.items index ≡ Some result.now }
+{
+    &report.nodes[index]
+}
+
+/// The bytes of the node of this index, as far as they are known and as `fill` says.
+#[derive(Drop)]
+struct NodeBytes<'a, 'r> {
+    alloc: Global,
+    report: &'a Report<'r>,
+    index: usize,
+    fill: Fill,
+}
+
+impl<'a, 'r> Job for NodeBytes<'a, 'r> {
+    type Refusal = ExtractError;
+
+    ghost wrote = { λ job old new. (profile : Profile) (last : ℕ) (n : NodeFields) → (job.index < length job.report.now.nodes.items) →
+        IsReportBy profile (state_of job.report.now.table.now) last (report_now job.report.now) → slice_get job.report.now.nodes.items job.index ≡ Some n → is_offered n.standing n.size job.fill ≡ true →
+        (cs : List Cell) × HasCellsInBy profile (state_of job.report.now.table.now) last job.index cs × Appends old new (filled (fill_byte job.fill) cs) };
+
+    ghost blames_sink = { λ job refusal. (refusal ≢ extract_error.OutOfMemory) × (job.index < length job.report.now.nodes.items) × (profile : Profile) × (last : ℕ) × (n : NodeFields) ×
+        IsReportBy profile (state_of job.report.now.table.now) last (report_now job.report.now) × (slice_get job.report.now.nodes.items job.index ≡ Some n) × (is_offered n.standing n.size job.fill ≡ true) };
+
+    fn write_to<W: Sink>(&self, sink: &mut W) -> Result<(), ExtractError> {
+        if self.index >= self.report.nodes.len() {
+            return Err(ExtractError::NotWhole);
+        }
+        write_bytes(self.alloc, self.report, self.index, self.fill, sink)
+    }
+}
+
+/// Removes what was begun of a file.
+pub fn give_up<F: Files>(path: &str, files: &mut F) -> Fate
+    ensures gone { result ≡ Fate.Failed → F.tells → F.holds files.new path.now ≡ Some None }
+    ensures fate { (result ≡ Fate.Failed) ⊎ (result ≡ Fate.Left) }
+    ensures others { (q : List ℕ) → q ≢ path.now → F.holds files.new q ≡ F.holds files.old q }
+    ensures crash { Goes F.moment F.may_leave F.left_since files.old files.new (SameBut path.now) }
+{
+    match files.remove(path) {
+        Ok(()) => Fate::Failed,
+        Err(DeviceFault) => Fate::Left,
+    }
+}
+
+/// Brings a new file to the disk, with its name; or removes it.
+pub fn finish_file<F: Files>(path: &str, output: F::Output, files: &mut F) -> Fate
+    requires place { F.tells → F.Output.place output ≡ path.now }
+    requires open { F.holds files.old path.now ≡ None }
+    ensures kept { result ≡ Fate.Written → F.tells → (bytes : List ℕ) → F.Output.contents output ≡ Some bytes → IsKept (F.holds files.new) (F.may_leave files.new) path.now bytes }
+    ensures gone { result ≡ Fate.Failed → F.tells → F.holds files.new path.now ≡ Some None }
+    ensures fate { IsFateOf Deed.File result }
+    ensures cause { result ≢ Fate.Written → Fails F.faults }
+    ensures others { (q : List ℕ) → q ≢ path.now → F.holds files.new q ≡ F.holds files.old q }
+    ensures crash { Goes F.moment F.may_leave F.left_since files.old files.new (SameBut path.now) }
+{
+    match files.sync(path, output) {
+        Ok(()) => {}
+        Err(DeviceFault) => return give_up(path, files),
+    }
+    match files.sync_folder(path) {
+        Ok(()) => Fate::Written,
+        Err(DeviceFault) => give_up(path, files),
+    }
+}
+
+/// Writes the node of this index to a file that was made for it, or removes the file. Where memory is refused, it is removed too.
+fn fill_file<F: Files>(
+    alloc: Global,
+    report: &Report<'_>,
+    index: usize,
+    fill: Fill,
+    digest: bool,
+    path: &str,
+    output: F::Output,
+    files: &mut F,
+) -> Result<Done, AllocError>
+    requires index { index < length report.now.nodes.items }
+    requires place { F.tells → F.Output.place output ≡ path.now }
+    requires empty { F.tells → F.Output.contents output ≡ Some [] }
+    requires open { F.holds files.old path.now ≡ None }
+    ensures written { IfOk result (λ done. done.fate ≡ Fate.Written → F.tells → (profile : Profile) (last : ℕ) (n : NodeFields) →
+        IsReportBy profile (state_of report.now.table.now) last (report_now report.now) → slice_get report.now.nodes.items index ≡ Some n → is_offered n.standing n.size fill ≡ true →
+        (cs : List Cell) × HasCellsInBy profile (state_of report.now.table.now) last index cs × IsKept (F.holds files.new) (F.may_leave files.new) path.now (filled (fill_byte fill) cs)) }
+    ensures gone { IfOk result (λ done. done.fate ≡ Fate.Failed → F.tells → F.holds files.new path.now ≡ Some None) }
+    ensures fate { IfOk result (λ done. IsFateOf Deed.File done.fate) }
+    ensures cause { IfOk result (λ done. done.fate ≢ Fate.Written → (profile : Profile) (last : ℕ) (n : NodeFields) →
+        IsReportBy profile (state_of report.now.table.now) last (report_now report.now) → slice_get report.now.nodes.items index ≡ Some n → is_offered n.standing n.size fill ≡ true → Fails F.faults ⊎ Fails F.Output.faults) }
+    ensures digest { IfOk result (λ done. IsNoted digest F.tells (F.holds files.new) path.now done.fate done.digest) }
+    ensures others { (q : List ℕ) → q ≢ path.now → F.holds files.new q ≡ F.holds files.old q }
+    ensures crash { Goes F.moment F.may_leave F.left_since files.old files.new (SameBut path.now) }
+{
+    let job = NodeBytes {
+        alloc,
+        report,
+        index,
+        fill,
+    };
+    match fill_noting::<F, NodeBytes<'_, '_>>(output, &job, digest) {
+        Ok(Filled { output, digest }) => {
+            let fate = finish_file(path, output, files);
+            Ok(Done { fate, digest })
+        }
+        Err(ExtractError::OutOfMemory) => {
+            let _ = files.remove(path);
+            Err(AllocError)
+        }
+        Err(_) => Ok(without_file(give_up(path, files))),
+    }
+}
+
+/// Writes the node of this index to a new file, which is synced then, and its folder too. Where it could not be made or written, or memory
+/// ran out, none is left, and what another file of this path holds is untouched.
+fn write_file<F: Files>(
+    alloc: Global,
+    report: &Report<'_>,
+    index: usize,
+    fill: Fill,
+    digest: bool,
+    path: &str,
+    files: &mut F,
+) -> Result<Done, AllocError>
+    requires { index < length report.now.nodes.items }
+    ensures written { IfOk result (λ done. done.fate ≡ Fate.Written → F.tells → (profile : Profile) (last : ℕ) (n : NodeFields) →
+        IsReportBy profile (state_of report.now.table.now) last (report_now report.now) → slice_get report.now.nodes.items index ≡ Some n → is_offered n.standing n.size fill ≡ true →
+        (cs : List Cell) × HasCellsInBy profile (state_of report.now.table.now) last index cs × IsKept (F.holds files.new) (F.may_leave files.new) path.now (filled (fill_byte fill) cs)) }
+    ensures gone { IfOk result (λ done. done.fate ≡ Fate.Failed → F.tells → F.holds files.new path.now ≡ F.holds files.old path.now) }
+    ensures fate { IfOk result (λ done. IsFateOf Deed.File done.fate) }
+    ensures cause { IfOk result (λ done. done.fate ≢ Fate.Written → (profile : Profile) (last : ℕ) (n : NodeFields) →
+        IsReportBy profile (state_of report.now.table.now) last (report_now report.now) → slice_get report.now.nodes.items index ≡ Some n → is_offered n.standing n.size fill ≡ true → Fails F.faults ⊎ Fails F.Output.faults) }
+    ensures digest { IfOk result (λ done. IsNoted digest F.tells (F.holds files.new) path.now done.fate done.digest) }
+    ensures others { (q : List ℕ) → q ≢ path.now → F.holds files.new q ≡ F.holds files.old q }
+    ensures there { F.tells → F.holds files.old path.now ≢ Some None → F.holds files.new path.now ≡ F.holds files.old path.now }
+    ensures stays { F.tells → F.holds files.old path.now ≢ Some None → Goes F.moment F.may_leave F.left_since files.old files.new Same }
+    ensures crash { Goes F.moment F.may_leave F.left_since files.old files.new (SameBut path.now) }
+{
+    let Ok(output) = files.make_new(path) else {
+        return Ok(without_file(Fate::Failed));
+    };
+    fill_file(alloc, report, index, fill, digest, path, output, files)
+}
+
+/// Makes a folder, and brings its name to the disk.
+pub fn put_folder<F: Files>(path: &str, files: &mut F) -> Fate
+    ensures fate { IsFateOf Deed.Folder result }
+    ensures cause { result ≢ Fate.Made → Fails F.faults }
+    ensures others { (q : List ℕ) → F.holds files.new q ≡ F.holds files.old q }
+    ensures crash { Goes F.moment F.may_leave F.left_since files.old files.new Same }
+{
+    match files.make_folder(path) {
+        Ok(()) => {}
+        Err(DeviceFault) => return Fate::Failed,
+    }
+    match files.sync_folder(path) {
+        Ok(()) => Fate::Made,
+        Err(DeviceFault) => Fate::Failed,
+    }
+}
+
+/// Does at this path what is to be done with the node of this index.
+fn put_at<F: Files>(
+    alloc: Global,
+    report: &Report<'_>,
+    index: usize,
+    fill: Fill,
+    digest: bool,
+    path: &str,
+    files: &mut F,
+) -> Result<Done, AllocError>
+    requires { index < length report.now.nodes.items }
+    ensures put { IfOk result (λ done. (n : NodeFields) (short : Bool) (folder : List ℕ) → slice_get report.now.nodes.items index ≡ Some n → path.now ≡ path_below folder (placed short (report_now report.now) index n) →
+        IsPut F.tells (Fails F.faults ⊎ Fails F.Output.faults) report.now.table.now (report_now report.now) fill short folder (F.holds files.new) (F.moment files.new) (F.left_since files.new) index n done.fate) }
+    ensures digest { IfOk result (λ done. IsNoted digest F.tells (F.holds files.new) path.now done.fate done.digest) }
+    ensures stays { F.tells → Stay (F.holds files.old) (F.holds files.new) }
+    ensures others { (q : List ℕ) → q ≢ path.now → F.holds files.new q ≡ F.holds files.old q }
+    ensures crash { F.tells → (folder : List ℕ) → IsIn folder path.now → Goes F.moment F.may_leave F.left_since files.old files.new (Spares folder (F.holds files.old)) }
+{
+    match deed_for(node_at(report, index), fill) {
+        Deed::Folder => {
+            let fate = put_folder(path, files);
+            Ok(Done { fate, digest: None })
+        }
+        Deed::File => {
+            let done = write_file(alloc, report, index, fill, digest, path, files)?;
+            Ok(done)
+        }
+        Deed::Skip => Ok(Done {
+            fate: Fate::Skipped,
+            digest: None,
+        }),
+    }
+}
+
+/// Does what is to be done with the node of this index.
+fn put_node<F: Files>(
+    alloc: Global,
+    report: &Report<'_>,
+    index: usize,
+    fill: Fill,
+    digest: bool,
+    folder: &str,
+    place: &str,
+    files: &mut F,
+) -> Result<Done, AllocError>
+    requires index { index < length report.now.nodes.items }
+    requires names { (names : List (List ℕ)) × (place.now ≡ names_text names) }
+    ensures put { IfOk result (λ done. (n : NodeFields) (short : Bool) → slice_get report.now.nodes.items index ≡ Some n → place.now ≡ names_text (placed short (report_now report.now) index n) →
+        IsPut F.tells (Fails F.faults ⊎ Fails F.Output.faults) report.now.table.now (report_now report.now) fill short folder.now (F.holds files.new) (F.moment files.new) (F.left_since files.new) index n done.fate) }
+    ensures digest { IfOk result (λ done. IsNoted digest F.tells (F.holds files.new) (folder.now ++ place.now) done.fate done.digest) }
+    ensures stays { F.tells → Stay (F.holds files.old) (F.holds files.new) }
+    ensures outside { (q : List ℕ) → (¬ IsIn folder.now q) → F.holds files.new q ≡ F.holds files.old q }
+    ensures elsewhere { (q : List ℕ) → q ≢ folder.now ++ place.now → F.holds files.new q ≡ F.holds files.old q }
+    ensures crash { F.tells → Goes F.moment F.may_leave F.left_since files.old files.new (Spares folder.now (F.holds files.old)) }
+{
+    let path = path_in(alloc, folder, place)?;
+    let done = put_at(alloc, report, index, fill, digest, path.as_str(), files)?;
+    Ok(done)
+}
+
+/// Makes the folder of the node of this index, if it is one. Whether it could be made is seen by what is put into it.
+fn put_way<F: Files>(
+    alloc: Global,
+    report: &Report<'_>,
+    index: usize,
+    folder: &str,
+    place: &str,
+    files: &mut F,
+) -> Result<(), AllocError>
+    requires { index < length report.now.nodes.items }
+    ensures others { (q : List ℕ) → F.holds files.new q ≡ F.holds files.old q }
+    ensures crash { Goes F.moment F.may_leave F.left_since files.old files.new Same }
+{
+    let node = node_at(report, index);
+    if deed_for(node, Fill::Refuse) == Deed::Folder {
+        let path = path_in(alloc, folder, place)?;
+        let _ = put_folder(path.as_str(), files);
+    }
+    Ok(())
+}
+
+/// Does what is to be done with the node of this index, if it is asked for. If not, it is passed over, but for the folder that leads to one that is.
+pub fn put_chosen<F: Files>(
+    alloc: Global,
+    report: &Report<'_>,
+    index: usize,
+    only: &[&str],
+    fill: Fill,
+    digest: bool,
+    folder: &str,
+    place: &str,
+    files: &mut F,
+) -> Result<Done, AllocError>
+    requires index { index < length report.now.nodes.items }
+    requires names { (names : List (List ℕ)) × (place.now ≡ names_text names) }
+    ensures put { IfOk result (λ done. (n : NodeFields) (short : Bool) → slice_get report.now.nodes.items index ≡ Some n → place.now ≡ names_text (placed short (report_now report.now) index n) → IsDone (map (λ word. word.now) only.now)
+        (IsPut F.tells (Fails F.faults ⊎ Fails F.Output.faults) report.now.table.now (report_now report.now) fill short folder.now (F.holds files.new) (F.moment files.new) (F.left_since files.new)) index n done.fate) }
+    ensures digest { IfOk result (λ done. IsNoted digest F.tells (F.holds files.new) (folder.now ++ place.now) done.fate done.digest) }
+    ensures stays { F.tells → Stay (F.holds files.old) (F.holds files.new) }
+    ensures outside { (q : List ℕ) → (¬ IsIn folder.now q) → F.holds files.new q ≡ F.holds files.old q }
+    ensures elsewhere { (q : List ℕ) → ((n : NodeFields) → slice_get report.now.nodes.items index ≡ Some n → is_chosen (map (λ word. word.now) only.now) n.path ≡ true → q ≢ folder.now ++ place.now) → F.holds files.new q ≡ F.holds files.old q }
+    ensures crash { F.tells → Goes F.moment F.may_leave F.left_since files.old files.new (Spares folder.now (F.holds files.old)) }
+{
+    let node = node_at(report, index);
+    if is_chosen(alloc, only, &node.path)? {
+        return match put_node(alloc, report, index, fill, digest, folder, place, files) {
+            Ok(done) => Ok(done),
+            Err(AllocError) => Err(AllocError),
+        };
+    }
+    if is_above(alloc, only, &node.path)? {
+        put_way(alloc, report, index, folder, place, files)?;
+    }
+    Ok(without_file(Fate::Passed))
+}

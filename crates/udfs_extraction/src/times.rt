@@ -1,0 +1,209 @@
+//! The times of what is made: those that the volume has.
+
+ghost use Rattle.std.specs.Prelude.{◌≡◌, true, false, codes};
+ghost use Rattle.clap.specs.Matches.{found_of};
+ghost use Rattle.udfs_words.specs.Asking.{IsPicked};
+ghost use Rattle.udfs_extraction.specs.Timing.{IsTold};
+
+use crate::choosing::is_above;
+use crate::extract::Fate;
+use crate::node_files::path_in;
+use crate::unnamed::{lost_path, push_lost_name};
+use clap::ArgMatches;
+use std::alloc::{AllocError, Global};
+use std::fmt::Write;
+use udfs_common::files::Files;
+use udfs_common::shown::Said;
+use udfs_file::Kind;
+use udfs_osta::Stamp;
+use udfs_overview::push_shown_path;
+use udfs_salvage::Report;
+use udfs_walk::{Node, Unnamed};
+use udfs_words::words::TIMES;
+
+/// Whether the words ask that times are set.
+fn asked_times(words: &ArgMatches<'_>) -> bool
+    ensures { IsPicked (found_of words.now) (codes "times") true false result }
+{
+    words.get_flag(TIMES)
+}
+
+/// Has times set from now on where the words ask for it, by the zone of the machine's clock.
+pub fn keep_times<F: Files>(words: &ArgMatches<'_>, files: &F) -> Result<(), AllocError> {
+    if asked_times(words) {
+        files.times().keep(files.zone()?);
+    }
+    Ok(())
+}
+
+/// Whether all is good where this is: where times are to be set, one that could not be set is lacking too.
+pub fn told_good<F: Files>(good: bool, words: &ArgMatches<'_>, files: &F) -> bool
+    ensures { IsTold (found_of words.now) good result }
+{
+    let times = asked_times(words);
+    if times && files.times().are_lacking() {
+        return false;
+    }
+    good
+}
+
+/// A time could not be set, which a person who watches is told in this line.
+fn miss<F: Files>(line: Result<String, AllocError>, files: &F) {
+    files.times().lack();
+    if let Ok(line) = line {
+        files.remark(line.as_str());
+    }
+}
+
+/// What is said of a file or a folder whose time could not be set.
+fn of_node<F: Files>(alloc: Global, node: &Node, files: &F) -> Result<String, AllocError> {
+    let reason = Said(files.reason());
+    let mut line = String::from_str(alloc, "time of ")?;
+    if push_shown_path(&mut line, &node.path).is_err() {
+        return Err(AllocError);
+    }
+    write!(line, ": {reason}")?;
+    Ok(line)
+}
+
+/// What is said of a lost file whose time could not be set.
+fn of_lost<F: Files>(
+    alloc: Global,
+    two: bool,
+    entry: &Unnamed,
+    files: &F,
+) -> Result<String, AllocError> {
+    let reason = Said(files.reason());
+    let mut line = String::from_str(alloc, "time of unnamed ")?;
+    push_lost_name(&mut line, two, entry)?;
+    write!(line, ": {reason}")?;
+    Ok(line)
+}
+
+/// Sets the time of what is at a path by a stamp, if that tells a moment since 1970. It answers whether that could be done, or was not to be done.
+fn set_time<F: Files>(stamp: Stamp, path: &str, files: &F) -> bool {
+    match files.times().moment(stamp) {
+        Some(micros) => files.set_modified(path, micros).is_ok(),
+        None => true,
+    }
+}
+
+/// Sets the time of what was made for a node at a place in a folder.
+fn set_node_time<F: Files>(alloc: Global, node: &Node, folder: &str, place: &str, files: &F) {
+    let Some(stamp) = node.stamp else {
+        return;
+    };
+    match path_in(alloc, folder, place) {
+        Ok(path) => {
+            if !set_time(stamp, path.as_str(), files) {
+                miss(of_node(alloc, node, files), files);
+            }
+        }
+        Err(AllocError) => files.times().lack(),
+    }
+}
+
+/// Sets the time of the file that was written for an entry which no name leads to, where times are to be set.
+pub fn set_lost_time<F: Files>(
+    alloc: Global,
+    two: bool,
+    entry: &Unnamed,
+    fate: Fate,
+    folder: &str,
+    files: &F,
+) {
+    if fate != Fate::Written || !files.times().are_kept() {
+        return;
+    }
+    match lost_path(alloc, folder, two, entry) {
+        Ok(path) => {
+            if !set_time(entry.stamp, path.as_str(), files) {
+                miss(of_lost(alloc, two, entry, files), files);
+            }
+        }
+        Err(AllocError) => files.times().lack(),
+    }
+}
+
+/// Whether a folder was made for a node with this fate: for its own sake, or for what is below it.
+fn is_folder_made(
+    alloc: Global,
+    only: &[&str],
+    node: &Node,
+    fate: Fate,
+) -> Result<bool, AllocError> {
+    match fate {
+        Fate::Made => Ok(true),
+        Fate::Passed if node.kind == Kind::Directory => is_above(alloc, only, &node.path),
+        _ => Ok(false),
+    }
+}
+
+/// A folder that was made: the index of its node, and its place.
+#[derive(Drop)]
+pub struct MadeFolder {
+    index: usize,
+    place: String,
+}
+
+/// Notes a folder that was made for the node of this index.
+fn note_folder(
+    alloc: Global,
+    index: usize,
+    place: &str,
+    made: &mut Vec<MadeFolder>,
+) -> Result<(), AllocError> {
+    let place = String::from_str(alloc, place)?;
+    made.push(MadeFolder { index, place })
+}
+
+/// Sets the time of the file that was written at a place for the node of this index, where times are to be set. A folder that was made there is noted: its time
+/// is set when all is made, since what is put into it changes it.
+pub fn note_time<F: Files>(
+    alloc: Global,
+    node: &Node,
+    index: usize,
+    only: &[&str],
+    fate: Fate,
+    folder: &str,
+    place: &str,
+    made: &mut Vec<MadeFolder>,
+    files: &F,
+) {
+    if !files.times().are_kept() {
+        return;
+    }
+    if fate == Fate::Written {
+        set_node_time(alloc, node, folder, place, files);
+    }
+    match is_folder_made(alloc, only, node, fate) {
+        Ok(true) => {
+            if note_folder(alloc, index, place, made).is_err() {
+                files.times().lack();
+            }
+        }
+        Ok(false) => {}
+        Err(AllocError) => files.times().lack(),
+    }
+}
+
+/// Sets the times of the folders that were made, from the last to the first, and at last that of the folder which stands for the root.
+pub fn set_folder_times<F: Files>(
+    alloc: Global,
+    report: &Report<'_>,
+    made: &[MadeFolder],
+    folder: &str,
+    files: &F,
+) {
+    if !files.times().are_kept() {
+        return;
+    }
+    for made in made.iter().rev() {
+        if let Some(node) = report.nodes.get(made.index) {
+            set_node_time(alloc, node, folder, made.place.as_str(), files);
+        }
+    }
+    if let Some(root) = report.nodes.first() {
+        set_node_time(alloc, root, folder, "", files);
+    }
+}

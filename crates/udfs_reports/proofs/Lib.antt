@@ -1,0 +1,2 @@
+pub mod PagingLemmas
+pub mod RereadingLemmas

@@ -1,0 +1,33 @@
+-- Numbers that rise do not fall, the last block of a volume, and what `reread --mapfile` may leave.
+use Rattle.std.proofs.Common.{◌<◌, ◌≤◌, ℕ, zero, suc, List, [], ◌∷◌, length, slice_index_or, inl, inr, refl, arith, ◌≡◌, Option, map}
+use Rattle.std.specs.List.Sorted.{IsNonDecreasing}
+use Rattle.udfs_lattice.specs.Volumes.{Includes}
+use Rattle.udfs_salvage.specs.Reports.{IsOutOfRange}
+use Rattle.udfs_volume.specs.Seen.{IsRising}
+use Rattle.clap.specs.declared.parser.matches.Found.{Found}
+use Rattle.udfs_files.specs.Disk.{Disk}
+use Rattle.udfs_volume.specs.declared.profiles.Profile.{Profile}
+use Rattle.udfs_words.specs.Asking.{IsLast, IsProfile, asked_for, asked_inputs, mapfile_text}
+use Rattle.udfs_reports.specs.Rereading.{MayDomainAsked, MayDomainOf}
+use Rattle.udfs_words.specs.declared.input_path.InputPath.{InputPath}
+
+included : (xs : List ℕ) (j : ℕ) (d : ℕ) → j < length xs → Includes xs (slice_index_or xs j d)
+included [] j d lt = absurd (omega (arith, lt))
+included (x ∷ xs) zero d lt = inl refl
+included (x ∷ xs) (suc j) d lt = inr (included xs j d (omega (arith, lt)))
+
+pub rising_does_not_fall : (xs : List ℕ) → IsRising xs → IsNonDecreasing xs
+rising_does_not_fall [] h i j d le lt = absurd (omega (arith, lt))
+rising_does_not_fall (x ∷ xs) h zero zero d le lt = omega arith
+rising_does_not_fall (x ∷ xs) h zero (suc j) d le lt = let below = h.0 (slice_index_or xs j d) (included xs j d (omega (arith, lt))) in omega (arith, below)
+rising_does_not_fall (x ∷ xs) h (suc i) zero d le lt = absurd (omega (arith, le))
+rising_does_not_fall (x ∷ xs) h (suc i) (suc j) d le lt = rising_does_not_fall xs h.1 i j d (omega (arith, le)) (omega (arith, lt))
+
+pub in_range : (last : ℕ) → (IsOutOfRange last → ⊥) → last ≤ 4194303
+in_range last h = let below : (4194303 < last) → ⊥ = λ l. h (inr l) in omega (arith, below)
+
+-- what `reread --mapfile` may leave by its arguments is what it may leave by its words
+pub may_domain : {R : Type 0} (found : List ℕ → Option (Option (List ℕ))) (remaining : R → Option (List ℕ)) (real : List ℕ → List ℕ) (words : Found) (profile : Profile) (last : ℕ) (inputs : List InputPath) (d c : Disk) →
+    IsProfile words profile → IsLast found inputs words last → map asked_for inputs ≡ asked_inputs words → MayDomainOf found remaining inputs profile last (real (mapfile_text words)) d c → MayDomainAsked found remaining real words d c
+may_domain found remaining real words profile last inputs d c is_profile is_last asked (inl same) = inl same
+may_domain found remaining real words profile last inputs d c is_profile is_last asked (inr put) = inr (profile, last, inputs, is_profile, is_last, asked, put)

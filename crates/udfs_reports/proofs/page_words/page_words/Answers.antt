@@ -1,0 +1,34 @@
+use Rattle.std.proofs.Common.{subst, rules}
+use Rattle.clap.specs.Matches.{found_of}
+use Rattle.udfs_reports.proofs.PagingLemmas.{may_page}
+use Rattle.udfs_reports.proofs.page_words.page_words.Goals as goal
+
+pub returns-in-Ok-clause-written : goal.returns-in-Ok-clause-written
+returns-in-Ok-clause-written g c =
+    record {
+      last = c.in_ok-last.last;
+      profile = c.asked_profile-profile.result;
+      inputs = c.as_slice-paths.result.now;
+      is_last = c.in_ok-last.ensures.last;
+      is_profile = c.asked_profile-profile.ensures;
+      asked = search rules;
+      puts = rw (← c.asked_page.ensures) c.in-Ok.ensures.written;
+    }
+
+pub returns-in-Ok-clause-any_moment : goal.returns-in-Ok-clause-any_moment
+returns-in-Ok-clause-any_moment g c tells place disk since =
+    let a = c.in-Ok.ensures.any_moment tells (λ at. place (subst (g.F.Files.in_place c.args.files.now) c.asked_page.ensures at)) disk since in (
+      a.0,
+      a.1,
+      may_page _ _ (g.F.Files.real c.args.files.now) (found_of c.args.words.now) c.asked_profile-profile.result c.in_ok-last.last c.as_slice-paths.result.now a.0 disk c.asked_profile-profile.ensures c.in_ok-last.ensures.last (search rules)
+          (rw (← c.asked_page.ensures) a.2),
+    )
+
+pub returns-clause-any_moment : goal.returns-clause-any_moment
+returns-clause-any_moment g c tells place disk since =
+    let a = c.in-Err-page.ensures.any_moment tells (λ at. place (subst (g.F.Files.in_place c.args.files.now) c.asked_page.ensures at)) disk since in (
+      a.0,
+      a.1,
+      may_page _ _ (g.F.Files.real c.args.files.now) (found_of c.args.words.now) c.asked_profile-profile.result c.in_ok-last.last c.as_slice-paths.result.now a.0 disk c.asked_profile-profile.ensures c.in_ok-last.ensures.last (search rules)
+          (rw (← c.asked_page.ensures) a.2),
+    )

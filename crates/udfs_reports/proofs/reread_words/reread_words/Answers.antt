@@ -1,0 +1,16 @@
+use Rattle.std.proofs.Common.{rules}
+use Rattle.udfs_reports.proofs.reread_words.reread_words.Goals as goal
+
+pub returns-in-Ok : goal.returns-in-Ok
+returns-in-Ok g c =
+    record {
+      printed = (
+        c.in_ok-last.last,
+        c.asked_profile-profile.result,
+        c.as_slice-paths.result.now,
+        search rules,
+        c.in_ok-last.ensures.last,
+        c.asked_profile-profile.ensures,
+        c.in-Ok.ensures.printed,
+      );
+    }

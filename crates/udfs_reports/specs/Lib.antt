@@ -1,0 +1,5 @@
+pub mod Rereading
+pub mod Listing
+pub mod Summarizing
+pub mod Reporting
+pub mod Paging

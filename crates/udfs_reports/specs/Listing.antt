@@ -1,0 +1,16 @@
+-- What `list` prints of the files and folders of a volume.
+--     PrintsList                the lines of the report's nodes
+use Rattle.std.specs.Prelude.{◌≡◌, ℕ, Bool, List, Option}
+use Rattle.udfs_lattice.specs.Tables.{Table, state_of}
+use Rattle.udfs_overview.specs.NodeLists.{list_text}
+use Rattle.udfs_overview.specs.declared.node_list.ListForm.{ListForm}
+use Rattle.udfs_reading.specs.Writing.{Wrote}
+use Rattle.udfs_volume.specs.declared.profiles.Profile.{Profile}
+use Rattle.udfs_salvage.specs.Reports.{Report, IsReportBy, all_whole}
+
+-- the lines of the nodes of the table's report by the rules of a profile were printed, and the answer is whether there are nodes and all are whole
+pub record PrintsList (profile : Profile) (form : ListForm) (last : ℕ) (old new : Option (List ℕ)) (i j : ℕ) (whole : Bool) (table : Table) : Type 0 where
+  pub report : Report
+  pub is_report : IsReportBy profile (state_of table) last report
+  pub prints : Wrote old new i j (list_text form report.nodes)
+  pub says : whole ≡ all_whole report.nodes

@@ -1,0 +1,13 @@
+// SPDX-License-Identifier: MIT OR Apache-2.0
+//! The commands that tell of a volume: `report`, `reread`, `list`, `summary` and `page`.
+#![tactic(auto)]
+
+mod list;
+mod page;
+pub mod page_words;
+mod report;
+pub mod report_words;
+mod reread;
+mod reread_map;
+pub mod reread_words;
+mod summary;

@@ -1,0 +1,125 @@
+//! The command `page`: readings in, the page of their volume out.
+
+ghost use Rattle.std.specs.Prelude.{◌≡◌, ◌≢◌, ◌⊎◌, ℕ, List, true, IfOk, map};
+ghost use Rattle.udfs_files.specs.Disk.{After, Disk, IsOwn};
+ghost use Rattle.udfs_common.specs.Keeping.{IsKept, IsTaken, OfPaths};
+ghost use Rattle.udfs_reports.specs.Paging.{IsFreePage, MayPage, MayPageOf, PutsPage};
+ghost use Rattle.udfs_common.specs.declared.sources.AnySource.{AnySource};
+
+use std::alloc::{AllocError, Global};
+use udfs_common::files::Files;
+use udfs_common::guard::{Outlook, is_among, is_kind};
+use udfs_common::inputs::joined;
+use udfs_common::putting::put_file;
+use udfs_common::refusal::Refusal;
+use udfs_common::sources::AnySource;
+use udfs_files::{Content, Kind, Stage};
+use udfs_lattice::BlockTable;
+use udfs_page::push_page;
+use udfs_reading::{DeviceFault, Sink, Source, WriteFault, write_all};
+use udfs_salvage::survey_volume_by;
+use udfs_volume::Profile;
+use udfs_words::input_path::InputPath;
+
+/// The beginning of a page that this program wrote.
+const PAGE: &[u8] = b"<!DOCTYPE html>\n<!-- a page of udfsalvage -->\n";
+
+/// The text of a page.
+#[derive(Drop)]
+struct PageText<'a> {
+    text: &'a str,
+}
+
+impl<'a> Content for PageText<'a> {
+    ghost bytes = { λ page. page.text.now };
+
+    fn write_to<W: Sink>(&self, sink: &mut W) -> Result<(), WriteFault> {
+        write_all(sink, self.text.as_bytes())
+    }
+}
+
+/// What is known of a page that is to be written: it is spared where it is one of the inputs, or where what is there is a file and begins as no page does.
+pub fn look_at_page<F: Files>(
+    alloc: Global,
+    inputs: &[&str],
+    parts: &[&str],
+    out: &str,
+    files: &F,
+) -> Result<Outlook, AllocError>
+    ensures free { IfOk result (λ found. found ≡ Outlook.Free → F.tells → IsFreePage (F.holds files.now) (F.real files.now) (F.in_place files.now) (map (λ path. path.now) inputs.now) (map (λ path. path.now) parts.now) out.now) }
+{
+    let Ok(place) = files.resolve(alloc, out)? else {
+        return Ok(Outlook::Unknown);
+    };
+    match is_among(alloc, inputs, place.path.as_str(), files)? {
+        Ok(false) => {}
+        Ok(true) => return Ok(Outlook::Spared),
+        Err(DeviceFault) => return Ok(Outlook::Unknown),
+    }
+    match is_among(alloc, parts, place.path.as_str(), files)? {
+        Ok(false) => {}
+        Ok(true) => return Ok(Outlook::Spared),
+        Err(DeviceFault) => return Ok(Outlook::Unknown),
+    }
+    match place.kind {
+        Kind::Absent | Kind::Other => Ok(Outlook::Free),
+        Kind::Regular => match is_kind(out, PAGE, files) {
+            Ok(true) => Ok(Outlook::Free),
+            Ok(false) => Ok(Outlook::Spared),
+            Err(DeviceFault) => Ok(Outlook::Unknown),
+        },
+    }
+}
+
+/// Puts the page of a table's volume by the rules of a profile at a path.
+fn page_of<F: Files>(
+    alloc: Global,
+    table: &BlockTable,
+    last: u32,
+    profile: Profile,
+    path: &str,
+    files: &mut F,
+) -> Result<bool, Refusal>
+    ensures written { IfOk result (λ whole. PutsPage profile last (λ bytes. (F.tells → IsKept (F.holds files.new) (F.may_leave files.new) (F.real files.old path.now) bytes) ⊎ (F.in_place files.old path.now × IsTaken F.Output.contents bytes)) whole table.now) }
+    // A crash at any moment of the call leaves all as it was, or with the page in its place, whole.
+    ensures any_moment { F.tells → (F.in_place files.old path.now → ⊥) → (c : Disk) → F.left_since files.new (F.moment files.old) c → After (F.may_leave files.old) (MayPage profile last (F.real files.old path.now) table.now) c }
+    // No other path changes, but for those of new files that are to go in its place.
+    ensures elsewhere { F.tells → (F.in_place files.old path.now → ⊥) → (q : List ℕ) → q ≢ F.real files.old path.now → (¬ IsOwn (F.real files.old path.now) q) → F.holds files.new q ≡ F.holds files.old q }
+{
+    files.begin(Stage::Walking);
+    let survey = survey_volume_by(alloc, table, last, profile)?;
+    let mut text = String::new(alloc);
+    push_page(alloc, &mut text, &survey)?;
+    let page = PageText {
+        text: text.as_str(),
+    };
+    put_file(alloc, &page, path, files)?;
+    Ok(survey.all_whole())
+}
+
+/// Joins the inputs, and puts the page of the volume by the rules of a profile, where `last` is its last block, at a path, whole or not at all. It answers whether there are files and
+/// all of them are whole. All inputs are opened in order before one is read, and the page is begun only after that.
+pub fn page<F: Files>(
+    alloc: Global,
+    inputs: &[InputPath<'_>],
+    last: u32,
+    profile: Profile,
+    path: &str,
+    files: &mut F,
+) -> Result<bool, Refusal>
+    ensures written { IfOk result (λ whole. OfPaths (λ path. F.holds files.old (F.real files.old path)) (⟦<AnySource<F::Input, F::Image> as Source>⟧.remaining) inputs.now
+        (PutsPage profile last (λ bytes. (F.tells → IsKept (F.holds files.new) (F.may_leave files.new) (F.real files.old path.now) bytes) ⊎ (F.in_place files.old path.now × IsTaken F.Output.contents bytes)) whole)) }
+    // A crash at any moment of the call leaves all as it was, or with the page in its place, whole.
+    ensures any_moment { F.tells → (F.in_place files.old path.now → ⊥) → (c : Disk) → F.left_since files.new (F.moment files.old) c → After (F.may_leave files.old) (MayPageOf (λ path. F.holds files.old (F.real files.old path)) (⟦<AnySource<F::Input, F::Image> as Source>⟧.remaining) inputs.now profile last (F.real files.old path.now)) c }
+    // No other path changes, but for those of new files that are to go in its place.
+    ensures elsewhere { F.tells → (F.in_place files.old path.now → ⊥) → (q : List ℕ) → q ≢ F.real files.old path.now → (¬ IsOwn (F.real files.old path.now) q) → F.holds files.new q ≡ F.holds files.old q }
+{
+    let table = match joined(alloc, inputs, files) {
+        Ok(table) => table,
+        Err(refusal) => return Err(refusal),
+    };
+    match page_of(alloc, &table, last, profile, path, files) {
+        Ok(whole) => Ok(whole),
+        Err(refusal) => Err(refusal),
+    }
+}

@@ -1,0 +1,167 @@
+//! The command `reread --mapfile`: readings in, the blocks to read again as a mapfile for GNU ddrescue.
+
+ghost use Rattle.std.specs.Prelude.{◌≡◌, ◌≢◌, ◌⊎◌, ◌≤◌, ℕ, List, IfOk, OnOk, length};
+ghost use Rattle.udfs_files.specs.Disk.{After, Disk, IsOwn, Replaced};
+ghost use Rattle.std.specs.List.Sorted.{IsNonDecreasing};
+ghost use Rattle.udfs_reading.specs.Writing.{Wrote};
+ghost use Rattle.udfs_rescue.specs.Writing.{domain_text};
+ghost use Rattle.udfs_common.specs.Keeping.{IsKept, IsTaken, OfPaths};
+ghost use Rattle.udfs_reports.specs.Rereading.{MayDomain, MayDomainOf, PrintsDomain, breaks, domain_line, runs_in};
+ghost use Rattle.udfs_common.specs.declared.sources.AnySource.{AnySource};
+
+use std::alloc::Global;
+use udfs_common::files::Files;
+use udfs_common::inputs::joined;
+use udfs_common::putting::put_file;
+use udfs_common::refusal::Refusal;
+use udfs_common::remarks::remark_unopened;
+use udfs_common::sources::AnySource;
+use udfs_files::{Content, Stage};
+use udfs_lattice::BlockTable;
+use udfs_reading::{Sink, Source, WriteFault, write_all};
+use udfs_rescue::write_domain;
+use udfs_salvage::survey_volume_by;
+use udfs_volume::Profile;
+use udfs_words::input_path::InputPath;
+
+/// The mapfile in which these blocks are wanted, up to the last block of a volume.
+#[derive(Drop)]
+struct Domain<'a> {
+    wanted: &'a [u32],
+    last: u32,
+    ghost rises: { IsNonDecreasing wanted.now },
+    ghost in_range: { last ≤ 4194303 },
+}
+
+impl<'a> Content for Domain<'a> {
+    ghost bytes = { λ domain. domain_text domain.wanted.now domain.last };
+
+    fn write_to<W: Sink>(&self, sink: &mut W) -> Result<(), WriteFault> {
+        write_domain(self.wanted, self.last, sink)
+    }
+}
+
+/// How many runs the blocks behind this one begin.
+fn count_breaks(first: u32, blocks: &[u32]) -> usize
+    ensures value { result ≡ breaks first blocks.now }
+    ensures few { result ≤ length blocks.now }
+{
+    let mut before = first;
+    let mut count = 0;
+    for block in blocks {
+        if *block == 0 || *block - 1 != before {
+            count += 1;
+        }
+        before = *block;
+    }
+    count
+}
+
+/// How many runs there are of blocks that follow on one another.
+fn count_runs(blocks: &[u32]) -> usize
+    ensures { result ≡ runs_in blocks.now }
+{
+    match blocks {
+        [] => 0,
+        [first, rest @ ..] => 1 + count_breaks(*first, rest),
+    }
+}
+
+/// Prints how many blocks and runs there are.
+fn print_counts<O: Sink>(alloc: Global, blocks: &[u32], out: &mut O) -> Result<(), Refusal>
+    ensures { OnOk result (Wrote (O.contents out.old) (O.contents out.new) (O.faults out.old) (O.faults out.new) (domain_line blocks.now)) }
+{
+    let mut text = String::new(alloc);
+    let count = blocks.len();
+    let runs = count_runs(blocks);
+    write!(text, "{count} blocks in {runs} runs\n")?;
+    match write_all(out, text.as_bytes()) {
+        Ok(()) => Ok(()),
+        Err(WriteFault) => Err(Refusal::Output),
+    }
+}
+
+/// Puts the mapfile in which these blocks are wanted at a path, and prints how many they are.
+fn put_domain<F: Files, O: Sink>(
+    alloc: Global,
+    wanted: &[u32],
+    last: u32,
+    path: &str,
+    files: &mut F,
+    out: &mut O,
+) -> Result<(), Refusal>
+    requires rises { IsNonDecreasing wanted.now }
+    requires in_range { last ≤ 4194303 }
+    ensures written { OnOk result ((F.tells → IsKept (F.holds files.new) (F.may_leave files.new) (F.real files.old path.now) (domain_text wanted.now last))
+        ⊎ (F.in_place files.old path.now × IsTaken F.Output.contents (domain_text wanted.now last))) }
+    ensures printed { OnOk result (Wrote (O.contents out.old) (O.contents out.new) (O.faults out.old) (O.faults out.new) (domain_line wanted.now)) }
+    // A crash at any moment of the call leaves all as it was, or with the mapfile in its place, whole.
+    ensures any_moment { F.tells → (F.in_place files.old path.now → ⊥) → (c : Disk) → F.left_since files.new (F.moment files.old) c → After (F.may_leave files.old) (Replaced (F.real files.old path.now) (domain_text wanted.now last)) c }
+    // No other path changes, but for those of new files that are to go in its place.
+    ensures elsewhere { F.tells → (F.in_place files.old path.now → ⊥) → (q : List ℕ) → q ≢ F.real files.old path.now → (¬ IsOwn (F.real files.old path.now) q) → F.holds files.new q ≡ F.holds files.old q }
+{
+    let domain = Domain { wanted, last };
+    match put_file(alloc, &domain, path, files) {
+        Ok(()) => {}
+        Err(refusal) => return Err(refusal),
+    }
+    match print_counts(alloc, wanted, out) {
+        Ok(()) => Ok(()),
+        Err(refusal) => Err(refusal),
+    }
+}
+
+/// Puts the mapfile of the blocks of a table's volume that are worth reading again by the rules of a profile at a path, and prints how many they are.
+#[tactic(auto, using(crate::proofs::RereadingLemmas::rising_does_not_fall, crate::proofs::RereadingLemmas::in_range))]
+fn map_of<F: Files, O: Sink>(
+    alloc: Global,
+    table: &BlockTable,
+    last: u32,
+    profile: Profile,
+    path: &str,
+    files: &mut F,
+    out: &mut O,
+) -> Result<bool, Refusal>
+    ensures printed { IfOk result (λ whole. PrintsDomain profile last (λ bytes. (F.tells → IsKept (F.holds files.new) (F.may_leave files.new) (F.real files.old path.now) bytes) ⊎ (F.in_place files.old path.now × IsTaken F.Output.contents bytes))
+        (O.contents out.old) (O.contents out.new) (O.faults out.old) (O.faults out.new) whole table.now) }
+    // A crash at any moment of the call leaves all as it was, or with the mapfile in its place, whole.
+    ensures any_moment { F.tells → (F.in_place files.old path.now → ⊥) → (c : Disk) → F.left_since files.new (F.moment files.old) c → After (F.may_leave files.old) (MayDomain profile last (F.real files.old path.now) table.now) c }
+    // No other path changes, but for those of new files that are to go in its place.
+    ensures elsewhere { F.tells → (F.in_place files.old path.now → ⊥) → (q : List ℕ) → q ≢ F.real files.old path.now → (¬ IsOwn (F.real files.old path.now) q) → F.holds files.new q ≡ F.holds files.old q }
+{
+    files.begin(Stage::Walking);
+    let survey = survey_volume_by(alloc, table, last, profile)?;
+    put_domain(alloc, &survey.reread, last, path, files, out)?;
+    remark_unopened(alloc, &survey, files);
+    Ok(survey.all_whole())
+}
+
+/// Joins the inputs, puts the mapfile of the blocks of the volume, of which `last` is the last, that are worth reading again by the rules of a profile at a path, whole or not at all,
+/// and prints how many they are. It answers whether there are files and all of them are whole. All inputs are opened in order before one is read, and the
+/// mapfile is begun only after that.
+pub fn reread_map<F: Files, O: Sink>(
+    alloc: Global,
+    inputs: &[InputPath<'_>],
+    last: u32,
+    profile: Profile,
+    path: &str,
+    files: &mut F,
+    out: &mut O,
+) -> Result<bool, Refusal>
+    ensures printed { IfOk result (λ whole. OfPaths (λ path. F.holds files.old (F.real files.old path)) (⟦<AnySource<F::Input, F::Image> as Source>⟧.remaining) inputs.now
+        (PrintsDomain profile last (λ bytes. (F.tells → IsKept (F.holds files.new) (F.may_leave files.new) (F.real files.old path.now) bytes) ⊎ (F.in_place files.old path.now × IsTaken F.Output.contents bytes))
+        (O.contents out.old) (O.contents out.new) (O.faults out.old) (O.faults out.new) whole)) }
+    // A crash at any moment of the call leaves all as it was, or with the mapfile in its place, whole.
+    ensures any_moment { F.tells → (F.in_place files.old path.now → ⊥) → (c : Disk) → F.left_since files.new (F.moment files.old) c → After (F.may_leave files.old) (MayDomainOf (λ path. F.holds files.old (F.real files.old path)) (⟦<AnySource<F::Input, F::Image> as Source>⟧.remaining) inputs.now profile last (F.real files.old path.now)) c }
+    // No other path changes, but for those of new files that are to go in its place.
+    ensures elsewhere { F.tells → (F.in_place files.old path.now → ⊥) → (q : List ℕ) → q ≢ F.real files.old path.now → (¬ IsOwn (F.real files.old path.now) q) → F.holds files.new q ≡ F.holds files.old q }
+{
+    let table = match joined(alloc, inputs, files) {
+        Ok(table) => table,
+        Err(refusal) => return Err(refusal),
+    };
+    match map_of(alloc, &table, last, profile, path, files, out) {
+        Ok(whole) => Ok(whole),
+        Err(refusal) => Err(refusal),
+    }
+}

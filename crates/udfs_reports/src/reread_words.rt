@@ -1,0 +1,137 @@
+//! What the words after `reread` ask for.
+
+ghost use Rattle.std.specs.Prelude.{◌≡◌, ◌≢◌, ◌⊎◌, ℕ, List, true, false, IfOk, OnOk, map};
+ghost use Rattle.clap.specs.Matches.{found_of};
+ghost use Rattle.udfs_volume.specs.declared.profiles.Profile.{Profile};
+ghost use Rattle.udfs_files.specs.Disk.{After, Disk, IsOwn};
+ghost use Rattle.udfs_words.specs.Asking.{IsLast, IsProfile, asked_for, asked_inputs, is_mapped, mapfile_text, pair_texts};
+ghost use Rattle.udfs_common.specs.Guarding.{IsFreeMap, IsSparedMap};
+ghost use Rattle.udfs_common.specs.Keeping.{IsKept, IsTaken, OfPaths};
+ghost use Rattle.udfs_common.specs.declared.sources.AnySource.{AnySource};
+ghost use Rattle.udfs_words.specs.declared.input_path.InputPath.{InputPath};
+ghost use Rattle.udfs_reports.specs.Rereading.{PrintsNumbers, WritesDomain, MayDomainAsked};
+
+use crate::reread::reread;
+use crate::reread_map::reread_map;
+use clap::ArgMatches;
+use std::alloc::{AllocError, Global};
+use udfs_common::ends::asked_end;
+use udfs_common::files::Files;
+use udfs_common::guard::{Outlook, look_at_map};
+use udfs_common::inputs::unwritten;
+use udfs_common::refusal::Refusal;
+use udfs_common::sources::AnySource;
+use udfs_reading::{Sink, Source};
+use udfs_words::asking::{asked_inputs, asked_mapfile};
+use udfs_words::profile::asked_profile;
+use udfs_words::words::{MAPFILE, PAIRS};
+
+/// What is known of the mapfile that the words after `reread` ask for.
+fn asked_map_outlook<F: Files>(
+    alloc: Global,
+    words: &ArgMatches<'_>,
+    files: &F,
+) -> Result<Outlook, AllocError>
+    ensures free { IfOk result (λ found. found ≡ Outlook.Free → F.tells → IsFreeMap (F.holds files.now) (F.real files.now) (F.in_place files.now) (pair_texts (found_of words.now)) (mapfile_text (found_of words.now))) }
+    ensures spared { IfOk result (λ found. found ≡ Outlook.Spared → F.tells → IsSparedMap (F.holds files.now) (F.real files.now) (pair_texts (found_of words.now)) (mapfile_text (found_of words.now))) }
+{
+    let parts = words.get_strs(PAIRS).unwrap_or(&[]);
+    let found = look_at_map(alloc, parts, asked_mapfile(words), files)?;
+    Ok(found)
+}
+
+/// Does what the words after `reread` ask for where a mapfile is to be written.
+fn reread_map_words<F: Files, O: Sink>(
+    alloc: Global,
+    words: &ArgMatches<'_>,
+    files: &mut F,
+    out: &mut O,
+) -> Result<bool, Refusal>
+    ensures written { IfOk result (λ whole. WritesDomain (λ path. F.holds files.old (F.real files.old path)) (⟦<AnySource<F::Input, F::Image> as Source>⟧.remaining) (found_of words.now)
+        (λ bytes. (F.tells → IsKept (F.holds files.new) (F.may_leave files.new) (F.real files.old (mapfile_text (found_of words.now))) bytes) ⊎ (F.in_place files.old (mapfile_text (found_of words.now)) × IsTaken F.Output.contents bytes))
+        (O.contents out.old) (O.contents out.new) (O.faults out.old) (O.faults out.new) whole) }
+    // It takes the place of no file but a mapfile of ddrescue's kind, and never that of an image or a mapfile of the inputs.
+    ensures free { OnOk result (F.tells → IsFreeMap (F.holds files.old) (F.real files.old) (F.in_place files.old) (pair_texts (found_of words.now)) (mapfile_text (found_of words.now))) }
+    // A crash at any moment of the call leaves all as it was, or with the mapfile in its place, whole.
+    ensures any_moment { F.tells → (F.in_place files.old (mapfile_text (found_of words.now)) → ⊥) → (c : Disk) → F.left_since files.new (F.moment files.old) c →
+        After (F.may_leave files.old) (MayDomainAsked (λ path. F.holds files.old (F.real files.old path)) (⟦<AnySource<F::Input, F::Image> as Source>⟧.remaining) (F.real files.old) (found_of words.now)) c }
+    // No other path changes, but for those of new files that are to go in its place.
+    ensures elsewhere { F.tells → (F.in_place files.old (mapfile_text (found_of words.now)) → ⊥) → (q : List ℕ) → q ≢ F.real files.old (mapfile_text (found_of words.now)) → (¬ IsOwn (F.real files.old (mapfile_text (found_of words.now))) q) → F.holds files.new q ≡ F.holds files.old q }
+{
+    let inputs = asked_inputs(alloc, words)?;
+    let paths = inputs.as_slice();
+    match asked_map_outlook(alloc, words, files) {
+        Ok(Outlook::Free) => {}
+        Ok(Outlook::Spared) => return Err(Refusal::Spared),
+        Ok(Outlook::Unknown) => return Err(unwritten(alloc, paths, files)),
+        Err(AllocError) => return Err(Refusal::Memory(AllocError)),
+    }
+    let last = asked_end(alloc, words, paths, files)?;
+    let profile = asked_profile(words);
+    match reread_map(
+        alloc,
+        paths,
+        last,
+        profile,
+        asked_mapfile(words),
+        files,
+        out,
+    ) {
+        Ok(whole) => Ok(whole),
+        Err(refusal) => Err(refusal),
+    }
+}
+
+/// Does what the words after `reread` ask for where no mapfile is to be written.
+fn reread_words<F: Files, O: Sink>(
+    alloc: Global,
+    words: &ArgMatches<'_>,
+    files: &F,
+    out: &mut O,
+) -> Result<bool, Refusal>
+    ensures printed { IfOk result (λ whole. (last : ℕ) × (profile : Profile) × (inputs : List InputPath) × (map asked_for inputs ≡ asked_inputs (found_of words.now)) ×
+        IsLast (λ path. F.holds files.now (F.real files.now path)) inputs (found_of words.now) last × IsProfile (found_of words.now) profile × OfPaths (λ path. F.holds files.now (F.real files.now path)) (⟦<AnySource<F::Input, F::Image> as Source>⟧.remaining) inputs
+        (PrintsNumbers profile last (O.contents out.old) (O.contents out.new) (O.faults out.old) (O.faults out.new) whole)) }
+{
+    let inputs = asked_inputs(alloc, words)?;
+    let paths = inputs.as_slice();
+    let last = asked_end(alloc, words, paths, files)?;
+    let profile = asked_profile(words);
+    match reread(alloc, paths, last, profile, files, out) {
+        Ok(whole) => Ok(whole),
+        Err(refusal) => Err(refusal),
+    }
+}
+
+/// Does what the words after `reread` ask for: a mapfile with `--mapfile`, and else the numbers.
+pub fn reread_as<F: Files, O: Sink>(
+    alloc: Global,
+    words: &ArgMatches<'_>,
+    files: &mut F,
+    out: &mut O,
+) -> Result<bool, Refusal>
+    ensures printed { IfOk result (λ whole. is_mapped (found_of words.now) ≡ false → (last : ℕ) × (profile : Profile) × (inputs : List InputPath) × (map asked_for inputs ≡ asked_inputs (found_of words.now)) ×
+        IsLast (λ path. F.holds files.old (F.real files.old path)) inputs (found_of words.now) last × IsProfile (found_of words.now) profile × OfPaths (λ path. F.holds files.old (F.real files.old path)) (⟦<AnySource<F::Input, F::Image> as Source>⟧.remaining) inputs
+        (PrintsNumbers profile last (O.contents out.old) (O.contents out.new) (O.faults out.old) (O.faults out.new) whole)) }
+    ensures written { IfOk result (λ whole. is_mapped (found_of words.now) ≡ true → WritesDomain (λ path. F.holds files.old (F.real files.old path)) (⟦<AnySource<F::Input, F::Image> as Source>⟧.remaining) (found_of words.now)
+        (λ bytes. (F.tells → IsKept (F.holds files.new) (F.may_leave files.new) (F.real files.old (mapfile_text (found_of words.now))) bytes) ⊎ (F.in_place files.old (mapfile_text (found_of words.now)) × IsTaken F.Output.contents bytes))
+        (O.contents out.old) (O.contents out.new) (O.faults out.old) (O.faults out.new) whole ×
+        (F.tells → IsFreeMap (F.holds files.old) (F.real files.old) (F.in_place files.old) (pair_texts (found_of words.now)) (mapfile_text (found_of words.now)))) }
+    ensures numbers { is_mapped (found_of words.now) ≡ false → files.new ≡ files.old }
+    // A crash at any moment of the call leaves all as it was, or with the mapfile in its place, whole.
+    ensures any_moment { F.tells → (F.in_place files.old (mapfile_text (found_of words.now)) → ⊥) → (c : Disk) → F.left_since files.new (F.moment files.old) c →
+        After (F.may_leave files.old) (MayDomainAsked (λ path. F.holds files.old (F.real files.old path)) (⟦<AnySource<F::Input, F::Image> as Source>⟧.remaining) (F.real files.old) (found_of words.now)) c }
+    // No other path changes, but for those of new files that are to go in its place.
+    ensures elsewhere { F.tells → (F.in_place files.old (mapfile_text (found_of words.now)) → ⊥) → (q : List ℕ) → q ≢ F.real files.old (mapfile_text (found_of words.now)) → (¬ IsOwn (F.real files.old (mapfile_text (found_of words.now))) q) → F.holds files.new q ≡ F.holds files.old q }
+{
+    if words.contains_id(MAPFILE) {
+        return match reread_map_words(alloc, words, files, out) {
+            Ok(whole) => Ok(whole),
+            Err(refusal) => Err(refusal),
+        };
+    }
+    match reread_words(alloc, words, files, out) {
+        Ok(whole) => Ok(whole),
+        Err(refusal) => Err(refusal),
+    }
+}

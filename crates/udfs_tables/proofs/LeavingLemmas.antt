@@ -1,0 +1,31 @@
+-- What `merge` and `forget` may leave by their arguments is what they may leave by their words.
+use Rattle.std.proofs.Common.{◌≡◌, ℕ, Bool, true, false, List, Option, codes, inl, inr, map, subst}
+use Rattle.clap.specs.declared.parser.matches.Found.{Found}
+use Rattle.udfs_files.specs.Disk.{Disk}
+use Rattle.udfs_words.specs.Asking.{IsPicked, asked_for, asked_inputs, asked_streams, list_texts, out_text}
+use Rattle.udfs_tables.specs.Forgetting.{IsForgottenJoin, MayForget}
+use Rattle.udfs_common.specs.Keeping.{MayReplace}
+use Rattle.udfs_tables.specs.Leaving.{MayForgetAsked, MayMerge}
+use Rattle.udfs_words.specs.declared.input_path.InputPath.{InputPath}
+use Rattle.udfs_words.specs.declared.forms.Version.{Version}
+use Rattle.udfs_words.specs.declared.forms.Version.TheVariants.{One, Two}
+
+pub may_merge : {R : Type 0} (found : List ℕ → Option (Option (List ℕ))) (remaining : R → Option (List ℕ)) (real : List ℕ → List ℕ) (words : Found) (version : Version) (inputs : List InputPath) (d c : Disk) →
+    IsPicked words (codes "v1") One Two version → map asked_for inputs ≡ asked_inputs words → MayReplace found remaining inputs version (real (out_text words)) d c → MayMerge found remaining real words d c
+may_merge found remaining real words version inputs d c picked asked (inl same) = inl same
+may_merge found remaining real words version inputs d c picked asked (inr put) = inr (version, inputs, put.0, picked, asked, put.1, put.2)
+
+-- the same of `forget`
+pub may_forget : {R : Type 0} (found : List ℕ → Option (Option (List ℕ))) (remaining : R → Option (List ℕ)) (real : List ℕ → List ℕ) (words : Found) (conflicts : Bool) (inputs : List InputPath) (lists : List (List ℕ)) (d c : Disk) →
+    IsPicked words (codes "conflicts") true false conflicts → map asked_for inputs ≡ asked_streams words → lists ≡ list_texts words → MayForget found remaining inputs conflicts lists (real (out_text words)) d c → MayForgetAsked found remaining real words d c
+may_forget found remaining real words conflicts inputs lists d c picked asked same_lists (inl same) = inl same
+may_forget found remaining real words conflicts inputs lists d c picked asked same_lists (inr put) =
+    inr (record {
+      conflicts = conflicts;
+      inputs = inputs;
+      table = put.0;
+      picked = picked;
+      asked = asked;
+      join = subst (λ (l : List (List ℕ)). IsForgottenJoin found remaining inputs conflicts l put.0) same_lists put.1;
+      put = put.2;
+    })

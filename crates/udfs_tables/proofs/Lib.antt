@@ -1,0 +1,5 @@
+pub mod ForgettingLemmas
+pub mod LeavingLemmas
+pub mod ImagingLemmas
+mod PastEnds
+pub mod ImageWordsLemmas

@@ -1,0 +1,12 @@
+use Rattle.std.proofs.Common.{inr}
+use Rattle.udfs_tables.proofs.forget.forget.Goals as goal
+
+pub returns-in-Ok-put_file-clause-any_moment : goal.returns-in-Ok-put_file-clause-any_moment
+returns-in-Ok-put_file-clause-any_moment g c tells place disk since =
+    let a = c.in-Ok-put_file.ensures.any_moment tells place disk since in
+    (a.0, a.1, inr (c.in-Ok.table, c.in-Ok.ensures.left, a.2))
+
+pub returns-clause-any_moment : goal.returns-clause-any_moment
+returns-clause-any_moment g c tells place disk since =
+    let a = c.in-Err-put_file.ensures.any_moment tells place disk since in
+    (a.0, a.1, inr (c.in-Ok.table, c.in-Ok.ensures.left, a.2))

@@ -1,0 +1,51 @@
+use Rattle.std.proofs.Common.{◌≡◌, ◌⊎◌, Bor, List, ℕ, map, subst, rules}
+use Rattle.clap.specs.Matches.{found_of}
+use Rattle.udfs_words.specs.Asking.{list_texts}
+use Rattle.udfs_common.specs.Keeping.{IsKept, IsTaken}
+use Rattle.udfs_common.specs.Spelling.{table_file}
+use Rattle.udfs_words.specs.declared.forms.Version.TheVariants.{Two}
+use Rattle.udfs_tables.proofs.ForgettingLemmas.{of_lists}
+use Rattle.udfs_tables.proofs.LeavingLemmas.{may_forget}
+use Rattle.udfs_tables.proofs.forget_words.forget_words.Goals as goal
+
+pub returns-in-Ok-forget-clause-written : goal.returns-in-Ok-forget-clause-written
+returns-in-Ok-forget-clause-written g c =
+    let F = g.F.Files in
+    let w = c.in-Ok-forget.ensures.written in
+    let lists : map (λ (path : Bor (List ℕ)). path.now) c.unwrap_or.result.now ≡ list_texts (found_of c.args.words.now) = search rules in
+    record {
+      conflicts = c.asked_conflicts.result;
+      inputs = c.as_slice-2.result.now;
+      table = w.0;
+      picked = record { with_flag = c.asked_conflicts.ensures.with_flag; without_flag = c.asked_conflicts.ensures.without_flag; unknown_flag = c.asked_conflicts.ensures.unknown_flag };
+      asked = search rules;
+      join = of_lists _ _ _ _ _ _ _ lists w.1;
+      put = subst (λ (p : List ℕ). (F.tells → IsKept (F.holds c.forget.new.files) (F.may_leave c.forget.new.files) (F.real c.args.files.now p) (table_file Two w.0))
+          ⊎ (F.in_place c.args.files.now p × IsTaken g.F.Output.Sink.contents (table_file Two w.0))) c.asked_out.ensures w.2;
+    }
+
+pub returns-in-Ok-forget-clause-any_moment : goal.returns-in-Ok-forget-clause-any_moment
+returns-in-Ok-forget-clause-any_moment g c tells place disk since =
+    let lists : map (λ (path : Bor (List ℕ)). path.now) c.unwrap_or.result.now ≡ list_texts (found_of c.args.words.now) = search rules in
+    let a = c.in-Ok-forget.ensures.any_moment tells (λ at. place (subst (g.F.Files.in_place c.args.files.now) c.asked_out.ensures at)) disk since in (
+      a.0,
+      a.1,
+      may_forget _ _ (g.F.Files.real c.args.files.now) (found_of c.args.words.now) c.asked_conflicts.result c.as_slice-2.result.now _ a.0 disk
+          (record { with_flag = c.asked_conflicts.ensures.with_flag; without_flag = c.asked_conflicts.ensures.without_flag; unknown_flag = c.asked_conflicts.ensures.unknown_flag })
+          (search rules)
+          lists
+          (rw (← c.asked_out.ensures) a.2),
+    )
+
+pub returns-clause-any_moment : goal.returns-clause-any_moment
+returns-clause-any_moment g c tells place disk since =
+    let lists : map (λ (path : Bor (List ℕ)). path.now) c.unwrap_or.result.now ≡ list_texts (found_of c.args.words.now) = search rules in
+    let a = c.in-Err-forget.ensures.any_moment tells (λ at. place (subst (g.F.Files.in_place c.args.files.now) c.asked_out.ensures at)) disk since in (
+      a.0,
+      a.1,
+      may_forget _ _ (g.F.Files.real c.args.files.now) (found_of c.args.words.now) c.asked_conflicts.result c.as_slice-2.result.now _ a.0 disk
+          (record { with_flag = c.asked_conflicts.ensures.with_flag; without_flag = c.asked_conflicts.ensures.without_flag; unknown_flag = c.asked_conflicts.ensures.unknown_flag })
+          (search rules)
+          lists
+          (rw (← c.asked_out.ensures) a.2),
+    )

@@ -1,0 +1,49 @@
+-- What a table forgets.
+--     Lists found paths blocks      the blocks of the lists at these paths, in order
+--     Forgets conflicts blocks t u  u is t without these blocks, and where asked without its conflicts
+--     IsForgottenJoin               the join of the inputs without what the words name
+--     MayForget                     what a crash in the middle shows: what was there, or that table in its place
+--     PutsForgotten                 its table file is put, as the words of the command ask for
+use Rattle.std.specs.Prelude.{◌≡◌, ◌⊎◌, ◌++◌, ℕ, List, [], ◌∷◌, Bool, true, false, cond, Option, IfSome, Ok, codes, map}
+use Rattle.clap.specs.declared.parser.matches.Found.{Found}
+use Rattle.udfs_files.specs.Disk.{Disk, Same, Replaced}
+use Rattle.udfs_lattice.specs.declared.facts.Fact.TheVariants.{Unknown}
+use Rattle.udfs_lattice.specs.Tables.{Table, is_named, state_of, without_conflict}
+use Rattle.udfs_rescue.specs.BlockLists.{list_outcome}
+use Rattle.udfs_words.specs.Asking.{IsPicked, asked_for, asked_streams, list_texts, stream_path}
+use Rattle.udfs_common.specs.Keeping.{OfPaths}
+use Rattle.udfs_common.specs.Spelling.{table_file}
+use Rattle.udfs_words.specs.declared.forms.Version.TheVariants.{Two}
+use Rattle.udfs_words.specs.declared.input_path.InputPath.{InputPath}
+
+-- the numbers are those of the list that is held, where that is told
+abbrev pub HasList : Option (Option (List ℕ)) → List ℕ → Type 0
+HasList held blocks = IfSome held (λ file. IfSome file (λ bytes. list_outcome bytes ≡ Ok blocks))
+
+-- those of the first list, and those of the others
+abbrev pub Lists : (List ℕ → Option (Option (List ℕ))) → List (List ℕ) → List ℕ → Type 0
+Lists found [] blocks = blocks ≡ []
+Lists found (path ∷ paths) blocks = (first : List ℕ) × (others : List ℕ) × HasList (found (stream_path path)) first × Lists found paths others × (blocks ≡ first ++ others)
+
+abbrev pub Forgets : Bool → List ℕ → Table → Table → Type 0
+Forgets conflicts blocks t u = (n : ℕ) → state_of u n ≡ cond (is_named blocks n) Unknown (cond conflicts (without_conflict (state_of t n)) (state_of t n))
+
+-- of the join of what the inputs' paths hold the table has all but the blocks of the lists, and where asked those in conflict
+pub record IsForgottenJoin {R : Type 0} (found : List ℕ → Option (Option (List ℕ))) (remaining : R → Option (List ℕ)) (inputs : List InputPath) (conflicts : Bool) (lists : List (List ℕ)) (table : Table) : Type 0 where
+  pub blocks : List ℕ
+  pub listed : Lists found lists blocks
+  pub left : OfPaths found remaining inputs (λ t. Forgets conflicts blocks t table)
+
+-- the disk is as it was, or the table file of such a join is in the place of what was at a path
+abbrev pub MayForget : {R : Type 0} → (List ℕ → Option (Option (List ℕ))) → (R → Option (List ℕ)) → List InputPath → Bool → List (List ℕ) → List ℕ → Disk → Disk → Type 0
+MayForget found remaining inputs conflicts lists out d c = Same d c ⊎ ((table : Table) × IsForgottenJoin found remaining inputs conflicts lists table × Replaced out (table_file Two table) d c)
+
+-- of the inputs that the words ask for, without what they name, the table file was put
+pub record PutsForgotten {R : Type 0} (found : List ℕ → Option (Option (List ℕ))) (remaining : R → Option (List ℕ)) (words : Found) (Put : List ℕ → Type 0) : Type 0 where
+  pub conflicts : Bool
+  pub inputs : List InputPath
+  pub table : Table
+  pub picked : IsPicked words (codes "conflicts") true false conflicts
+  pub asked : map asked_for inputs ≡ asked_streams words
+  pub join : IsForgottenJoin found remaining inputs conflicts (list_texts words) table
+  pub put : Put (table_file Two table)

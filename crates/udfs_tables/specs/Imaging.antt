@@ -1,0 +1,54 @@
+-- What `image` writes: the image of a table and its mapfile.
+--     Stands          how an image and its mapfile stand beside what was there before
+--     BothReplaced    what a crash in the middle shows at their paths, and elsewhere
+--     HasImage        the table has an image up to this last block, and something holds of it and its mapfile
+--     MayImage        what a crash in the middle of the command shows
+--     WritesImage     the image and the mapfile of what the words ask for
+--     ReplacesPair    the command replaces its outputs, and nothing else, whatever it answers
+use Rattle.std.specs.Prelude.{◌≡◌, ◌≢◌, ◌⊎◌, ℕ, List, Option, Some, None, map}
+use Rattle.clap.specs.declared.parser.matches.Found.{Found}
+use Rattle.udfs_files.specs.Disk.{After, Disk, IsOwn, Same}
+use Rattle.udfs_lattice.specs.Tables.{Table, state_of}
+use Rattle.udfs_rescue.specs.Images.{image_bytes}
+use Rattle.udfs_rescue.specs.Writing.{map_text, table_status}
+use Rattle.udfs_salvage.specs.Reports.{IsNothingPast, IsOutOfRange}
+use Rattle.udfs_words.specs.Asking.{IsLast, asked_for, asked_streams, mapfile_text, out_text}
+use Rattle.udfs_common.specs.Keeping.{OfPaths}
+use Rattle.udfs_words.specs.declared.input_path.InputPath.{InputPath}
+
+-- where an image a and a mapfile b were, are x and y: as they were; or no mapfile, beside the old image or the new one; or the new image and the new mapfile
+abbrev pub Stands : {V : Type 0} → V → V → V → V → V → V → V → Type 0
+Stands none bytes text a b x y = ((x ≡ a) × (y ≡ b)) ⊎ ((y ≡ none) × ((x ≡ a) ⊎ (x ≡ bytes))) ⊎ ((x ≡ bytes) × (y ≡ text))
+
+-- on a disk; at every other path but those of new files is what was there
+pub record BothReplaced (image mapfile bytes text : List ℕ) (d c : Disk) : Type 0 where
+  pub stand : Stands None (Some bytes) (Some text) (d image) (d mapfile) (c image) (c mapfile)
+  pub others : (q : List ℕ) → (¬ IsOwn image q) → (¬ IsOwn mapfile q) → q ≢ image → q ≢ mapfile → c q ≡ d q
+
+-- such a last block is in range, and nothing is known behind it
+pub record HasImage (last : ℕ) (Holds : List ℕ → List ℕ → Type 0) (t : Table) : Type 0 where
+  pub in_range : ¬ IsOutOfRange last
+  pub nothing_past : IsNothingPast (state_of t) last
+  pub is : Holds (image_bytes t last) (map_text (table_status t) last)
+
+-- the disk is as it was, or the image and the mapfile of such inputs take the places of what was there
+abbrev pub MayImage : {R : Type 0} → (List ℕ → Option (Option (List ℕ))) → (R → Option (List ℕ)) → List InputPath → ℕ → List ℕ → List ℕ → Disk → Disk → Type 0
+MayImage found remaining inputs last image mapfile d c = Same d c ⊎ OfPaths found remaining inputs (HasImage last (λ bytes text. BothReplaced image mapfile bytes text d c))
+
+-- of the inputs and the last block that the words ask for
+pub record WritesImage {R : Type 0} (found : List ℕ → Option (Option (List ℕ))) (remaining : R → Option (List ℕ)) (words : Found) (Holds : List ℕ → List ℕ → Type 0) : Type 0 where
+  pub last : ℕ
+  pub inputs : List InputPath
+  pub is_last : IsLast found inputs words last
+  pub asked : map asked_for inputs ≡ asked_streams words
+  pub writes : OfPaths found remaining inputs (HasImage last Holds)
+
+-- the same by the words
+abbrev pub MayImageAsked : {R : Type 0} → (List ℕ → Option (Option (List ℕ))) → (R → Option (List ℕ)) → (List ℕ → List ℕ) → Found → Disk → Disk → Type 0
+MayImageAsked found remaining real words d c = Same d c ⊎ WritesImage found remaining words (λ bytes text. BothReplaced (real (out_text words)) (real (mapfile_text words)) bytes text d c)
+
+-- a crash at any moment leaves one of these steps after what it might have left before; and no other path changes, but those of new files
+pub record ReplacesPair {F R : Type 0} (tells : Type 0) (holds : F → List ℕ → Option (Option (List ℕ))) (real : F → List ℕ → List ℕ) (may_leave : F → Disk → Type 0) (moment : F → ℕ) (left_since : F → ℕ → Disk → Type 0)
+    (remaining : R → Option (List ℕ)) (words : Found) (old new : F) : Type 0 where
+  pub any_moment : tells → (c : Disk) → left_since new (moment old) c → After (may_leave old) (MayImageAsked (λ path. holds old (real old path)) remaining (real old) words) c
+  pub elsewhere : tells → (q : List ℕ) → q ≢ real old (out_text words) → q ≢ real old (mapfile_text words) → (¬ IsOwn (real old (out_text words)) q) → (¬ IsOwn (real old (mapfile_text words)) q) → holds new q ≡ holds old q

@@ -1,0 +1,3 @@
+pub mod Forgetting
+pub mod Leaving
+pub mod Imaging

@@ -1,0 +1,56 @@
+//! What a person is told when `merge` is done.
+
+use crate::beside::Disagreement;
+use crate::merge_tally::{MergeTally, Totals};
+use std::alloc::{AllocError, Global};
+use udfs_common::files::Files;
+use udfs_overview::push_grouped;
+
+/// Appends a number with its thousands separated, and text behind it.
+fn push_counted(line: &mut String, number: u32, words: &str) -> Result<(), AllocError> {
+    if push_grouped(number as u128, line).is_err() {
+        return Err(AllocError);
+    }
+    line.push_str(words)
+}
+
+/// What is said of the join of so many inputs.
+fn of_totals(alloc: Global, inputs: usize, totals: Totals) -> Result<String, AllocError> {
+    let mut line = match inputs {
+        1 => String::from_str(alloc, "1 input: ")?,
+        _ => format!(in alloc; "{inputs} inputs: ")?,
+    };
+    push_counted(&mut line, totals.known, " known (")?;
+    push_counted(&mut line, totals.new_known, " new), ")?;
+    push_counted(&mut line, totals.conflicts, " in conflict (")?;
+    push_counted(&mut line, totals.new_conflicts, " new)")?;
+    Ok(line)
+}
+
+/// Whether more than one in a hundred of the blocks that are known in an input and before it disagree.
+fn is_doubtful(found: Disagreement) -> bool {
+    u64::from(found.blocks) * 100 > u64::from(found.of)
+}
+
+/// What is said of an input, counted from 1, that may be of another disc.
+fn of_doubt(alloc: Global, input: usize, found: Disagreement) -> Result<String, AllocError> {
+    let mut line = format!(in alloc; "input {input} disagrees in ")?;
+    push_counted(&mut line, found.blocks, " of ")?;
+    push_counted(&mut line, found.of, " blocks: is it the same disc?")?;
+    Ok(line)
+}
+
+/// Tells who watches what was joined of so many inputs, and which of them may be of another disc.
+pub fn remark_on_merge<F: Files>(alloc: Global, inputs: usize, tally: &mut MergeTally, files: &F) {
+    let totals = tally.close();
+    if let Ok(text) = of_totals(alloc, inputs, totals) {
+        files.remark(text.as_str());
+    }
+    for (before, found) in tally.disagreements().iter().enumerate() {
+        if is_doubtful(*found)
+            && let Ok(text) = of_doubt(alloc, before.saturating_add(2), *found)
+        {
+            files.remark(text.as_str());
+        }
+    }
+}

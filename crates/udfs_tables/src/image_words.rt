@@ -1,0 +1,92 @@
+//! What the words after `image` ask for.
+
+ghost use Rattle.std.specs.Prelude.{◌≡◌, Bool, true, false, OnOk, codes};
+ghost use Rattle.clap.specs.Matches.{found_of};
+ghost use Rattle.udfs_words.specs.Asking.{IsPicked, input_texts, mapfile_text, out_text, pair_texts};
+ghost use Rattle.udfs_common.specs.Guarding.{IsFreePair};
+ghost use Rattle.udfs_tables.specs.Imaging.{ReplacesPair, WritesImage};
+ghost use Rattle.udfs_common.specs.Keeping.{IsKept};
+ghost use Rattle.udfs_common.specs.declared.sources.AnySource.{AnySource};
+
+use crate::image::{Outputs, image};
+use clap::ArgMatches;
+use std::alloc::{AllocError, Global};
+use udfs_common::ends::asked_end;
+use udfs_common::files::Files;
+use udfs_common::inputs::unwritten;
+use udfs_common::placing::look_at_both;
+use udfs_common::refusal::Refusal;
+use udfs_common::sources::AnySource;
+use udfs_reading::Source;
+use udfs_words::asking::asked_streams;
+use udfs_words::words::{FORCE, INPUTS, MAPFILE, OUT, PAIRS};
+
+/// The outputs among the words after `image`. The grammar asks for both.
+fn asked_outputs<'a>(words: &ArgMatches<'a>) -> Outputs<'a>
+    ensures image { result.image.now ≡ out_text (found_of words.now) }
+    ensures mapfile { result.mapfile.now ≡ mapfile_text (found_of words.now) }
+    ensures force { IsPicked (found_of words.now) (codes "force") true false result.force }
+{
+    Outputs {
+        image: words.get_str(OUT).unwrap_or(""),
+        mapfile: words.get_str(MAPFILE).unwrap_or(""),
+        force: words.get_flag(FORCE),
+    }
+}
+
+/// Looks at the outputs that the words after `image` ask for.
+fn look_at_asked<F: Files>(
+    alloc: Global,
+    words: &ArgMatches<'_>,
+    outputs: Outputs<'_>,
+    files: &F,
+) -> Result<(), Refusal>
+    ensures free { OnOk result (F.tells → IsFreePair (F.holds files.now) (F.real files.now) (input_texts (found_of words.now)) (pair_texts (found_of words.now)) outputs.entry.force outputs.entry.image.now outputs.entry.mapfile.now) }
+{
+    let inputs = words.get_strs(INPUTS).unwrap_or(&[]);
+    let parts = words.get_strs(PAIRS).unwrap_or(&[]);
+    match look_at_both(
+        alloc,
+        inputs,
+        parts,
+        outputs.image,
+        outputs.mapfile,
+        outputs.force,
+        files,
+    ) {
+        Ok(()) => Ok(()),
+        Err(refusal) => Err(refusal),
+    }
+}
+
+/// Does what the words after `image` ask for.
+pub fn image_words<F: Files>(
+    alloc: Global,
+    words: &ArgMatches<'_>,
+    files: &mut F,
+) -> Result<(), Refusal>
+    // The image and the mapfile that the words ask for are at their paths, and each crash leaves them.
+    ensures written { OnOk result (WritesImage (λ path. F.holds files.old (F.real files.old path)) (⟦<AnySource<F::Input, F::Image> as Source>⟧.remaining) (found_of words.now)
+        (λ bytes text. F.tells → IsKept (F.holds files.new) (F.may_leave files.new) (F.real files.old (out_text (found_of words.now))) bytes × IsKept (F.holds files.new) (F.may_leave files.new) (F.real files.old (mapfile_text (found_of words.now))) text)) }
+    // They take the place of no input, and but by force of nothing at all.
+    ensures free { OnOk result ((force : Bool) × IsPicked (found_of words.now) (codes "force") true false force ×
+        (F.tells → IsFreePair (F.holds files.old) (F.real files.old) (input_texts (found_of words.now)) (pair_texts (found_of words.now)) force (out_text (found_of words.now)) (mapfile_text (found_of words.now)))) }
+    // Whatever it answers, and at each moment of it: a crash leaves no mapfile beside an image that lacks what it tells, and no other path changes.
+    ensures replaces { ReplacesPair F.tells F.holds F.real F.may_leave F.moment F.left_since (⟦<AnySource<F::Input, F::Image> as Source>⟧.remaining) (found_of words.now) files.old files.new }
+{
+    let Ok(inputs) = asked_streams(alloc, words) else {
+        return Err(Refusal::Memory(AllocError));
+    };
+    let paths = inputs.as_slice();
+    let outputs = asked_outputs(words);
+    match look_at_asked(alloc, words, outputs, files) {
+        Ok(()) => {}
+        Err(Refusal::Output) => return Err(unwritten(alloc, paths, files)),
+        Err(refusal) => return Err(refusal),
+    }
+    let last = asked_end(alloc, words, paths, files)?;
+    match image(alloc, paths, last, outputs, files) {
+        Ok(()) => Ok(()),
+        Err(refusal) => Err(refusal),
+    }
+}

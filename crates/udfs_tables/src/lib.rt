@@ -1,0 +1,14 @@
+// SPDX-License-Identifier: MIT OR Apache-2.0
+//! The commands that join and keep what was read: `merge`, `forget` and `image`.
+#![tactic(auto)]
+
+mod beside;
+mod closing;
+mod forget;
+pub mod forget_words;
+mod image;
+pub mod image_words;
+mod merge;
+mod merge_tally;
+pub mod merge_words;
+mod pairing;

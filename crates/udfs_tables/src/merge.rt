@@ -1,0 +1,117 @@
+//! The command `merge`: readings and table files in, one table file out.
+
+ghost use Rattle.std.specs.Prelude.{◌≡◌, ◌≢◌, ◌⊎◌, ◌<◌, ℕ, List, Some, IfOk, IfErr, OnOk, IsErrOf};
+ghost use Rattle.udfs_files.specs.Disk.{Disk, After, IsOwn, Fails};
+ghost use Rattle.udfs_lattice.specs.Tables.{Table};
+ghost use Rattle.udfs_lattice.specs.Records.{join_all};
+ghost use Rattle.udfs_reading.specs.Writing.{Writes};
+ghost use Rattle.udfs_common.specs.Keeping.{Joined, IsKept, IsTaken, MayReplace, OfPaths};
+ghost use Rattle.udfs_common.specs.Spelling.{table_file};
+
+use crate::closing::remark_on_merge;
+use crate::merge_tally::MergeTally;
+use std::alloc::{AllocError, Global};
+use udfs_common::files::Files;
+use udfs_common::inputs::take_all;
+use udfs_common::putting::put_file;
+use udfs_common::refusal::Refusal;
+use udfs_common::sources::AnySource;
+use udfs_files::Content;
+use udfs_lattice::BlockTable;
+use udfs_reading::{Sink, Source, WriteFault, write_table, write_table_v1};
+use udfs_words::forms::Version;
+use udfs_words::input_path::InputPath;
+
+/// A table to be written as a table file of this version.
+#[derive(Drop)]
+pub struct TableFile<'a> {
+    pub table: &'a BlockTable,
+    pub version: Version,
+}
+
+impl<'a> Content for TableFile<'a> {
+    ghost bytes = { λ file. table_file file.version file.table.now };
+
+    fn write_to<W: Sink>(&self, sink: &mut W) -> Result<(), WriteFault> {
+        write_version(self.table, self.version, sink)
+    }
+}
+
+/// The join of the inputs' tables, and what was counted of them.
+pub fn tallied<F: Files>(
+    alloc: Global,
+    inputs: &[InputPath<'_>],
+    files: &F,
+) -> Result<MergeTally, Refusal>
+    ensures by_path { IfOk result (λ tally. OfPaths (λ path. F.holds files.now (F.real files.now path)) (⟦<AnySource<F::Input, F::Image> as Source>⟧.remaining) inputs.now (λ t. tally ≡ t)) }
+    ensures told { IfErr result (λ refusal. (refusal ≢ Refusal.Output) × (refusal ≢ Refusal.Unkept) × (refusal ≢ Refusal.Spared)) }
+{
+    let mut tally = match MergeTally::new(alloc, inputs.len()) {
+        Ok(tally) => tally,
+        Err(AllocError) => return Err(Refusal::Memory(AllocError)),
+    };
+    match take_all(alloc, inputs, &mut tally, files) {
+        Ok(()) => Ok(tally),
+        Err(refusal) => Err(refusal),
+    }
+}
+
+/// Joins the inputs, and puts the table file of this version at the path `out`, over an old one. All inputs are opened in order before one is read, and
+/// the output is begun only after all are joined. A file is put in its place whole or not at all, and the output may be one of the inputs; a device or a pipe is
+/// written in place.
+pub fn merge<F: Files>(
+    alloc: Global,
+    inputs: &[InputPath<'_>],
+    out: &str,
+    version: Version,
+    files: &mut F,
+) -> Result<(), Refusal>
+    // At `Ok` a file at the output's path holds the table file of the join of what the input paths held, and from now on each crash leaves it.
+    ensures written { OnOk result ((tables : List Table) × Joined (λ path. F.holds files.old (F.real files.old path)) (⟦<AnySource<F::Input, F::Image> as Source>⟧.remaining) inputs.now tables ×
+        ((F.tells → IsKept (F.holds files.new) (F.may_leave files.new) (F.real files.old out.now) (table_file version (join_all tables)))
+        ⊎ (F.in_place files.old out.now × IsTaken F.Output.contents (table_file version (join_all tables))))) }
+    // A crash at any moment of the call leaves all as it was, or with the output in its place, whole.
+    ensures any_moment { F.tells → (F.in_place files.old out.now → ⊥) → (c : Disk) → F.left_since files.new (F.moment files.old) c →
+        After (F.may_leave files.old) (MayReplace (λ path. F.holds files.old (F.real files.old path)) (⟦<AnySource<F::Input, F::Image> as Source>⟧.remaining) inputs.now version (F.real files.old out.now)) c }
+    ensures untouched { IfErr result (λ refusal. refusal ≢ Refusal.Output → refusal ≢ Refusal.Unkept → files.new ≡ files.old) }
+    // A refused output leaves what its path held.
+    ensures refused { IsErrOf result Refusal.Output → F.tells → (F.in_place files.old out.now → ⊥) → F.holds files.new (F.real files.old out.now) ≡ F.holds files.old (F.real files.old out.now) }
+    // The table file is in its place where only the folder could not be synced.
+    ensures unkept { IsErrOf result Refusal.Unkept → F.tells → (tables : List Table) × Joined (λ path. F.holds files.old (F.real files.old path)) (⟦<AnySource<F::Input, F::Image> as Source>⟧.remaining) inputs.now tables ×
+        (F.holds files.new (F.real files.old out.now) ≡ Some (Some (table_file version (join_all tables)))) }
+    // No other path changes, but for those of new files that are to go in its place.
+    ensures elsewhere { F.tells → (F.in_place files.old out.now → ⊥) → (q : List ℕ) → q ≢ F.real files.old out.now → (¬ IsOwn (F.real files.old out.now) q) → F.holds files.new q ≡ F.holds files.old q }
+    // It is refused only for a fault.
+    ensures cause { IfErr result (λ refusal. (refusal ≡ Refusal.Output) ⊎ (refusal ≡ Refusal.Unkept) → F.shut files.old out.now ⊎ Fails F.faults ⊎ Fails F.Output.faults) }
+    ensures told { IfErr result (λ refusal. refusal ≢ Refusal.Spared) }
+{
+    let mut tally = match tallied(alloc, inputs, files) {
+        Ok(tally) => tally,
+        Err(refusal) => return Err(refusal),
+    };
+    let content = TableFile {
+        table: tally.table(),
+        version,
+    };
+    match put_file(alloc, &content, out, files) {
+        Ok(()) => {
+            remark_on_merge(alloc, inputs.len(), &mut tally, files);
+            Ok(())
+        }
+        Err(refusal) => Err(refusal),
+    }
+}
+
+/// Writes the table file of this version.
+fn write_version<W: Sink>(
+    table: &BlockTable,
+    version: Version,
+    output: &mut W,
+) -> Result<(), WriteFault>
+    ensures { Writes (W.contents output.old) (W.contents output.new) (W.faults output.old) (W.faults output.new) (table_file version table.now) result }
+{
+    match version {
+        Version::One => write_table_v1(table, output),
+        Version::Two => write_table(table, output),
+    }
+}

@@ -1,0 +1,140 @@
+//! An image and its mapfile are put at two paths, so that at no moment a mapfile stands beside an image that lacks what it tells.
+
+ghost use Rattle.std.specs.Prelude.{◌≡◌, ◌≢◌, ◌⊎◌, ℕ, List, Option, Some, None, IfErr, OnOk, OnErr};
+ghost use Rattle.udfs_files.specs.Disk.{Disk, Fails, Goes, Gone, IsOwn, Replaced};
+ghost use Rattle.udfs_files.specs.declared.files.Kind.{Kind};
+ghost use Rattle.udfs_tables.specs.Imaging.{BothReplaced, Stands};
+ghost use Rattle.udfs_common.specs.Guarding.{IsApart};
+
+use std::alloc::{AllocError, Global};
+use udfs_common::files::Files;
+use udfs_common::refusal::Refusal;
+use udfs_files::{Content, Kind, ReplaceError, replace};
+use udfs_reading::DeviceFault;
+
+/// Removes an old mapfile, where there is one.
+#[tactic(auto, using(crate::proofs::ImagingLemmas::goes_nowhere))]
+fn remove_old<F: Files>(files: &mut F, mapfile: &str, kind: Kind) -> Result<(), Refusal>
+    requires absent { kind ≡ Kind.Absent → F.tells → F.holds files.old mapfile.now ≡ Some None }
+    ensures gone { OnOk result (F.tells → F.holds files.new mapfile.now ≡ Some None) }
+    ensures failed { OnErr result ((q : List ℕ) → F.holds files.new q ≡ F.holds files.old q) }
+    ensures others { (q : List ℕ) → q ≢ mapfile.now → F.holds files.new q ≡ F.holds files.old q }
+    ensures told { IfErr result (λ refusal. refusal ≡ Refusal.Output) }
+    ensures cause { OnErr result (Fails F.faults) }
+    ensures crash { Goes F.moment F.may_leave F.left_since files.old files.new (Gone mapfile.now) }
+{
+    if kind == Kind::Absent {
+        return Ok(());
+    }
+    match files.remove(mapfile) {
+        Ok(()) => Ok(()),
+        Err(DeviceFault) => Err(Refusal::Output),
+    }
+}
+
+/// Removes an old mapfile, and syncs its folder: from now on no crash brings one back.
+fn clear<F: Files>(files: &mut F, mapfile: &str, kind: Kind) -> Result<(), Refusal>
+    requires absent { kind ≡ Kind.Absent → F.tells → F.holds files.old mapfile.now ≡ Some None }
+    ensures gone { OnOk result (F.tells → F.holds files.new mapfile.now ≡ Some None) }
+    ensures durable { OnOk result (F.tells → (c : Disk) → F.may_leave files.new c → c mapfile.now ≡ None) }
+    ensures either { F.tells → (F.holds files.new mapfile.now ≡ F.holds files.old mapfile.now) ⊎ (F.holds files.new mapfile.now ≡ Some None) }
+    ensures others { (q : List ℕ) → q ≢ mapfile.now → F.holds files.new q ≡ F.holds files.old q }
+    ensures told { IfErr result (λ refusal. refusal ≡ Refusal.Output) }
+    ensures cause { OnErr result (Fails F.faults) }
+    ensures crash { Goes F.moment F.may_leave F.left_since files.old files.new (Gone mapfile.now) }
+{
+    match remove_old(files, mapfile, kind) {
+        Ok(()) => {}
+        Err(refusal) => return Err(refusal),
+    }
+    match files.sync_folder(mapfile) {
+        Ok(()) => Ok(()),
+        Err(DeviceFault) => Err(Refusal::Output),
+    }
+}
+
+/// Puts a file with this content at a path, whole or not at all.
+fn put<F: Files, C: Content>(
+    alloc: Global,
+    files: &mut F,
+    path: &str,
+    content: &C,
+) -> Result<(), Refusal>
+    ensures holds { OnOk result (F.tells → F.holds files.new path.now ≡ Some (Some (C.bytes content.now))) }
+    ensures durable { OnOk result (F.tells → (c : Disk) → F.may_leave files.new c → c path.now ≡ Some (C.bytes content.now)) }
+    ensures either { F.tells → (F.holds files.new path.now ≡ F.holds files.old path.now) ⊎ (F.holds files.new path.now ≡ Some (Some (C.bytes content.now))) }
+    ensures elsewhere { (q : List ℕ) → q ≢ path.now → (¬ IsOwn path.now q) → F.holds files.new q ≡ F.holds files.old q }
+    ensures told { IfErr result (λ refusal. refusal ≢ Refusal.Spared) }
+    ensures cause { IfErr result (λ refusal. (refusal ≡ Refusal.Output) ⊎ (refusal ≡ Refusal.Unkept) → Fails F.faults ⊎ Fails F.Output.faults) }
+    ensures crash { F.tells → Goes F.moment F.may_leave F.left_since files.old files.new (Replaced path.now (C.bytes content.now)) }
+{
+    match replace(alloc, files, path, content) {
+        Ok(()) => Ok(()),
+        Err(ReplaceError::OutOfMemory) => Err(Refusal::Memory(AllocError)),
+        Err(ReplaceError::NotKept) => Err(Refusal::Unkept),
+        Err(_) => Err(Refusal::Output),
+    }
+}
+
+/// Removes an old mapfile, and puts the image.
+fn put_image<F: Files, C: Content>(
+    alloc: Global,
+    files: &mut F,
+    image: &str,
+    blocks: &C,
+    mapfile: &str,
+    kind: Kind,
+) -> Result<(), Refusal>
+    requires apart { IsApart image.now mapfile.now }
+    requires absent { kind ≡ Kind.Absent → F.tells → F.holds files.old mapfile.now ≡ Some None }
+    ensures holds { OnOk result (F.tells → F.holds files.new image.now ≡ Some (Some (C.bytes blocks.now))) }
+    ensures gone { OnOk result (F.tells → F.holds files.new mapfile.now ≡ Some None) }
+    ensures durable { OnOk result (F.tells → (c : Disk) → F.may_leave files.new c → c image.now ≡ Some (C.bytes blocks.now)) }
+    ensures cleared { OnOk result (F.tells → (c : Disk) → F.may_leave files.new c → c mapfile.now ≡ None) }
+    ensures stand { F.tells → (text : List ℕ) → Stands (Some None) (Some (Some (C.bytes blocks.now))) (Some (Some text)) (F.holds files.old image.now) (F.holds files.old mapfile.now) (F.holds files.new image.now) (F.holds files.new mapfile.now) }
+    ensures elsewhere { (q : List ℕ) → q ≢ image.now → q ≢ mapfile.now → (¬ IsOwn image.now q) → F.holds files.new q ≡ F.holds files.old q }
+    ensures told { IfErr result (λ refusal. refusal ≢ Refusal.Spared) }
+    ensures cause { IfErr result (λ refusal. (refusal ≡ Refusal.Output) ⊎ (refusal ≡ Refusal.Unkept) → Fails F.faults ⊎ Fails F.Output.faults) }
+    ensures crash { F.tells → (text : List ℕ) → Goes F.moment F.may_leave F.left_since files.old files.new (BothReplaced image.now mapfile.now (C.bytes blocks.now) text) }
+{
+    match clear(files, mapfile, kind) {
+        Ok(()) => {}
+        Err(refusal) => return Err(refusal),
+    }
+    match put(alloc, files, image, blocks) {
+        Ok(()) => Ok(()),
+        Err(refusal) => Err(refusal),
+    }
+}
+
+/// Puts an image and its mapfile, each whole or not at all: an old mapfile is removed first, and the new one is put last.
+pub fn put_both<F: Files, C: Content, D: Content>(
+    alloc: Global,
+    files: &mut F,
+    image: &str,
+    blocks: &C,
+    mapfile: &str,
+    runs: &D,
+    kind: Kind,
+) -> Result<(), Refusal>
+    requires apart { IsApart image.now mapfile.now }
+    requires absent { kind ≡ Kind.Absent → F.tells → F.holds files.old mapfile.now ≡ Some None }
+    ensures image { OnOk result (F.tells → F.holds files.new image.now ≡ Some (Some (C.bytes blocks.now))) }
+    ensures mapfile { OnOk result (F.tells → F.holds files.new mapfile.now ≡ Some (Some (D.bytes runs.now))) }
+    ensures durable_image { OnOk result (F.tells → (c : Disk) → F.may_leave files.new c → c image.now ≡ Some (C.bytes blocks.now)) }
+    ensures durable_mapfile { OnOk result (F.tells → (c : Disk) → F.may_leave files.new c → c mapfile.now ≡ Some (D.bytes runs.now)) }
+    ensures stand { F.tells → Stands (Some None) (Some (Some (C.bytes blocks.now))) (Some (Some (D.bytes runs.now))) (F.holds files.old image.now) (F.holds files.old mapfile.now) (F.holds files.new image.now) (F.holds files.new mapfile.now) }
+    ensures elsewhere { (q : List ℕ) → q ≢ image.now → q ≢ mapfile.now → (¬ IsOwn image.now q) → (¬ IsOwn mapfile.now q) → F.holds files.new q ≡ F.holds files.old q }
+    ensures told { IfErr result (λ refusal. refusal ≢ Refusal.Spared) }
+    ensures cause { IfErr result (λ refusal. (refusal ≡ Refusal.Output) ⊎ (refusal ≡ Refusal.Unkept) → Fails F.faults ⊎ Fails F.Output.faults) }
+    ensures crash { F.tells → Goes F.moment F.may_leave F.left_since files.old files.new (BothReplaced image.now mapfile.now (C.bytes blocks.now) (D.bytes runs.now)) }
+{
+    match put_image(alloc, files, image, blocks, mapfile, kind) {
+        Ok(()) => {}
+        Err(refusal) => return Err(refusal),
+    }
+    match put(alloc, files, mapfile, runs) {
+        Ok(()) => Ok(()),
+        Err(refusal) => Err(refusal),
+    }
+}

@@ -1,0 +1,186 @@
+-- What the words of a command ask for.
+--     IsPicked words flag given absent picked     the one thing with the flag, and the other without it
+--     input_texts words                           the paths of the inputs that are files, in order
+--     asked_inputs words                          the inputs: all files, and then all pairs
+--     stream_path path                            standard input for `-`, and else the path
+--     asked_streams words                         the inputs of a command that takes `-` for standard input: all files, and then all pairs
+--     are_two_streams name words                  a command of this name takes `-` for standard input, and it is there twice
+--     list_texts words                            the paths of the lists of blocks, in order
+--     out_text words                              the path of the output
+--     is_mapped words, mapfile_text words         a mapfile is asked for, and its path
+--     folder_text words                           the path of the new folder
+--     IsKnownProfile words                        the rules that are named, if any are, are those of a profile
+--     IsProfile words profile                     the rules by their name, and the strict ones where none is
+--     has_only words, only_texts words            paths of nodes are asked for, and which; or else that of the root
+--     has_manifest words, manifest_text words     a manifest is asked for, and its path
+--     has_lost words, lost_text words             a folder for lost files is asked for, and its path
+--     IsOneEnd words                              the last block, or the size of a disc, and not both
+--     EndsMap end bytes                           these bytes are a mapfile whose runs end here
+--     MapsEndAt found end inputs                  all inputs are images whose mapfiles end here
+--     IsToldLast words last                       the number of the last block, or of that with which a disc of the size ends; or 0, of which there is no report
+--     IsLast found inputs words last              the same, or where neither is told the block with which all mapfiles end
+--     IsListForm words form                       what `list` is asked to show, and how
+use Rattle.std.specs.Prelude.{◌≡◌, ◌≢◌, ◌⊎◌, ℕ, ◌+◌, ◌*◌, ◌%◌, ◌&&◌, ◌||◌, Bool, false, is_some, List, [], ◌∷◌, ◌++◌, All, Option, Some, None, IfSome, Ok, codes, map, option_map, unwrap_or, if◌then◌else◌, true}
+use Rattle.std.specs.Str.{bytes_eq}
+use Rattle.clap.specs.Matches.{matched_of, first_value, one_text, raw_values}
+use Rattle.clap.specs.declared.parser.matches.Found.{Found}
+use Rattle.udfs_volume.specs.declared.profiles.Profile.{Profile}
+use Rattle.udfs_volume.specs.declared.profiles.Profile.TheVariants.{Strict, Wide}
+use Rattle.std.specs.Str.Parse.{digits_value, without_leading_plus}
+use Rattle.udfs_rescue.specs.declared.run.Run.{Run}
+use Rattle.udfs_rescue.specs.Lines.{outcome}
+use Rattle.udfs_rescue.specs.Runs.{end_of_runs}
+use Rattle.udfs_words.specs.declared.input_path.InputPath.{InputPath}
+use Rattle.udfs_overview.specs.declared.node_list.ListForm.{ListForm}
+
+-- clap reads a flag as `true` or `false`, and a flag that it does not know as nothing
+pub record IsPicked {A : Type 0} (words : Found) (flag : List ℕ) (given absent picked : A) : Type 0 where
+  pub with_flag : one_text words flag ≡ Some (codes "true") → picked ≡ given
+  pub without_flag : one_text words flag ≡ Some (codes "false") → picked ≡ absent
+  pub unknown_flag : one_text words flag ≡ None → picked ≡ absent
+
+-- all that was given as an input, each a path
+abbrev pub input_texts : Found → List (List ℕ)
+input_texts words = unwrap_or (option_map raw_values (matched_of words (codes "input"))) []
+
+-- an input as it was asked for: the path of a file, or those of an image and its mapfile
+pub data Asked : Type 0 where
+  AskedFile : List ℕ → Asked
+  AskedPair : List ℕ → List ℕ → Asked
+
+abbrev pub asked_for : InputPath → Asked
+asked_for (path.File p) = AskedFile p.now
+asked_for (path.Pair image map) = AskedPair image.now map.now
+
+-- two values make a pair
+abbrev pub pairs_of : List (List ℕ) → List Asked
+pairs_of [] = []
+pairs_of (image ∷ []) = []
+pairs_of (image ∷ map ∷ rest) = AskedPair image map ∷ pairs_of rest
+
+-- all that was given as images and mapfiles, in turn
+abbrev pub pair_texts : Found → List (List ℕ)
+pair_texts words = unwrap_or (option_map raw_values (matched_of words (codes "ddrescue"))) []
+
+abbrev pub asked_inputs : Found → List Asked
+asked_inputs words = map AskedFile (input_texts words) ++ pairs_of (pair_texts words)
+
+-- `-` is standard input
+abbrev pub stream_path : List ℕ → List ℕ
+stream_path path = if bytes_eq path (codes "-") then codes "/dev/stdin" else path
+
+-- the same where `-` is standard input
+abbrev pub asked_streams : Found → List Asked
+asked_streams words = map AskedFile (map stream_path (input_texts words)) ++ pairs_of (pair_texts words)
+
+-- all that was given as a list of blocks, each a path
+abbrev pub list_texts : Found → List (List ℕ)
+list_texts words = unwrap_or (option_map raw_values (matched_of words (codes "blocks"))) []
+
+-- commands that take `-` for standard input
+abbrev pub takes_streams : List ℕ → Bool
+takes_streams name = bytes_eq name (codes "forget") || bytes_eq name (codes "image") || bytes_eq name (codes "list") || bytes_eq name (codes "page") || bytes_eq name (codes "summary")
+
+-- one of these paths is `-`
+abbrev pub names_stream : List (List ℕ) → Bool
+names_stream [] = false
+names_stream (path ∷ paths) = bytes_eq path (codes "-") || names_stream paths
+
+-- two of these paths are
+abbrev pub is_twice : List (List ℕ) → Bool
+is_twice [] = false
+is_twice (path ∷ paths) = if bytes_eq path (codes "-") then names_stream paths else is_twice paths
+
+-- of the inputs and the lists together, in such a command
+abbrev pub are_two_streams : List ℕ → Found → Bool
+are_two_streams name words = takes_streams name && (is_twice (input_texts words) || is_twice (list_texts words) || (names_stream (input_texts words) && names_stream (list_texts words)))
+
+-- what was given as the output, a path
+abbrev pub out_text : Found → List ℕ
+out_text words = unwrap_or (first_value words (codes "out")) []
+
+-- a path was given for a mapfile of the blocks to read again
+abbrev pub is_mapped : Found → Bool
+is_mapped words = is_some (matched_of words (codes "mapfile"))
+
+-- that path
+abbrev pub mapfile_text : Found → List ℕ
+mapfile_text words = unwrap_or (first_value words (codes "mapfile")) []
+
+-- what was given as the new folder, a path
+abbrev pub folder_text : Found → List ℕ
+folder_text words = unwrap_or (first_value words (codes "to")) []
+
+-- no rules are named but those of a profile
+abbrev pub IsKnownProfile : Found → Type 0
+IsKnownProfile words = (name : List ℕ) → first_value words (codes "profile") ≡ Some name → (name ≡ codes "strict") ⊎ (name ≡ codes "wide")
+
+-- the rules by their name, and the strict ones where none is given
+pub record IsProfile (words : Found) (profile : Profile) : Type 0 where
+  pub wide : first_value words (codes "profile") ≡ Some (codes "wide") → profile ≡ Wide
+  pub strict : first_value words (codes "profile") ≡ Some (codes "strict") → profile ≡ Strict
+  pub unnamed : first_value words (codes "profile") ≡ None → profile ≡ Strict
+
+-- paths were given of nodes that alone are asked for
+abbrev pub has_only : Found → Bool
+has_only words = is_some (matched_of words (codes "only"))
+
+-- those paths, in order; where there are none, that of the root, which asks for all
+abbrev pub only_texts : Found → List (List ℕ)
+only_texts words = unwrap_or (option_map raw_values (matched_of words (codes "only"))) (codes "/" ∷ [])
+
+-- a path was given for a manifest
+abbrev pub has_manifest : Found → Bool
+has_manifest words = is_some (matched_of words (codes "manifest"))
+
+-- that path
+abbrev pub manifest_text : Found → List ℕ
+manifest_text words = unwrap_or (first_value words (codes "manifest")) []
+
+-- a path was given for a folder of lost files
+abbrev pub has_lost : Found → Bool
+has_lost words = is_some (matched_of words (codes "unnamed"))
+
+-- that path
+abbrev pub lost_text : Found → List ℕ
+lost_text words = unwrap_or (first_value words (codes "unnamed")) []
+
+-- what was given as this is a number, in decimal
+abbrev pub IsNumber : Found → List ℕ → ℕ → Type 0
+IsNumber words id number = (text : List ℕ) × (one_text words id ≡ Some text) × (digits_value 10 (without_leading_plus text) ≡ number)
+
+-- a size that was given is that of whole blocks, and no last block was given beside it
+abbrev pub IsOneEnd : Found → Type 0
+IsOneEnd words = (size : ℕ) → IsNumber words (codes "size") size → (is_some (matched_of words (codes "last")) ≡ false) × (size ≢ 0) × (size % 2048 ≡ 0)
+
+-- these bytes are a mapfile whose last run ends here
+abbrev pub EndsMap : ℕ → List ℕ → Type 0
+EndsMap end bytes = (runs : List Run) × (outcome bytes ≡ Ok runs) × (end_of_runs runs ≡ Some end)
+
+-- an image whose mapfile, where what its path leads to is told, ends here
+abbrev pub EndsAt : (List ℕ → Option (Option (List ℕ))) → ℕ → InputPath → Type 0
+EndsAt found end (path.File p) = ⊥
+EndsAt found end (path.Pair image map) = IfSome (found map.now) (λ held. IfSome held (EndsMap end))
+
+-- all are such images
+abbrev pub MapsEndAt : (List ℕ → Option (Option (List ℕ))) → ℕ → List InputPath → Type 0
+MapsEndAt found end inputs = All (EndsAt found end) inputs
+
+-- what was given as the last block, or the block with which a disc of the size that was given ends; of 0 there is no report
+abbrev pub IsToldLast : Found → ℕ → Type 0
+IsToldLast words last = IsNumber words (codes "last") last ⊎ IsNumber words (codes "size") (2048 * (last + 1)) ⊎ (last ≡ 0)
+
+-- neither was given; there are inputs, and all are images whose mapfiles end with this block
+pub record IsLastOfMaps (found : List ℕ → Option (Option (List ℕ))) (inputs : List InputPath) (words : Found) (last : ℕ) : Type 0 where
+  pub no_last : is_some (matched_of words (codes "last")) ≡ false
+  pub no_size : is_some (matched_of words (codes "size")) ≡ false
+  pub some : inputs ≢ []
+  pub ends : MapsEndAt found (2048 * (last + 1)) inputs
+
+-- the last block, as the words tell it, or else as the mapfiles do
+abbrev pub IsLast : (List ℕ → Option (Option (List ℕ))) → List InputPath → Found → ℕ → Type 0
+IsLast found inputs words last = IsToldLast words last ⊎ IsLastOfMaps found inputs words last
+
+-- each of the three flags by its word
+abbrev pub IsListForm : Found → ListForm → Type 0
+IsListForm words form = IsPicked words (codes "torn") true false form.torn × IsPicked words (codes "null") true false form.null × IsPicked words (codes "paths") true false form.paths

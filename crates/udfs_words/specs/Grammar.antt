@@ -1,0 +1,118 @@
+-- The words that the program takes, as clap has them: each argument by its name, and the commands with their arguments.
+use Rattle.std.specs.Prelude.{ℕ, Bool, true, false, not, Some, codes, pos}
+use Rattle.clap.specs.Words.{App, Rule, Text, new_app, new_rule, with_rule, with_subcommand}
+use Rattle.clap.specs.declared.builder.ArgAction.TheVariants.{Append, Set, SetTrue}
+use Rattle.clap.specs.declared.builder.ValueParser.TheVariants.{Signed, Unsigned}
+use Rattle.udfs_words.specs.declared.words.Given.{Given}
+
+-- a flag
+abbrev pub flag_rule : Text → Rule
+flag_rule name = record (new_rule name) { long = Some name; action = Some SetTrue }
+
+-- a flag that has one letter too, by its code
+abbrev pub letter_rule : Text → ℕ → Rule
+letter_rule name letter = record (flag_rule name) { short = Some letter }
+
+-- an argument with one value, which has to be given
+abbrev pub value_rule : Text → Rule
+value_rule name = record (new_rule name) { long = Some name; action = Some Set; value_names = 1; required = true }
+
+-- `--last N`, a number of 32 bits, which may have to be given
+abbrev pub last_rule : Bool → Rule
+last_rule needed = record (value_rule (codes "last")) { parser = Some (Signed (pos 0) (pos 4294967295)); required = needed }
+
+-- `--size BYTES`, a number of 64 bits
+abbrev pub size_rule : Rule
+size_rule = record (new_rule (codes "size")) { long = Some (codes "size"); action = Some Set; value_names = 1; parser = Some (Unsigned 0 18446744073709551615) }
+
+-- `--mapfile FILE`
+abbrev pub mapfile_rule : Rule
+mapfile_rule = record (value_rule (codes "mapfile")) { required = false }
+
+-- `--profile PROFILE`
+abbrev pub profile_rule : Rule
+profile_rule = record (value_rule (codes "profile")) { required = false }
+
+-- `--out FILE` or `-o FILE`
+abbrev pub out_rule : Rule
+out_rule = record (value_rule (codes "out")) { short = Some 111 }
+
+-- `--ddrescue IMAGE MAPFILE`, any number of times
+abbrev pub pairs_rule : Rule
+pairs_rule = record (new_rule (codes "ddrescue")) { long = Some (codes "ddrescue"); value_names = 2; action = Some Append; range = Some (record { start_inclusive = 2; end_inclusive = 2 }) }
+
+-- `IN...`, of which there is one at least where no pair is
+abbrev pub inputs_rule : Bool → Rule
+inputs_rule pairs = record (new_rule (codes "input")) { value_names = 1; action = Some Append; required = not pairs; range = Some (record { start_inclusive = 1; end_inclusive = 18446744073709551615 }) }
+
+-- `--blocks LIST`, any number of times, and once at least where no conflicts are to be forgotten
+abbrev pub blocks_rule : Bool → Rule
+blocks_rule conflicts = record (new_rule (codes "blocks")) { long = Some (codes "blocks"); value_names = 1; action = Some Append; required = not conflicts }
+
+-- what every command takes: its inputs, and how much it says
+abbrev pub with_inputs : App → Bool → App
+with_inputs command pairs = with_rule (with_rule (with_rule (with_rule command (letter_rule (codes "verbose") 118)) (letter_rule (codes "quiet") 113)) pairs_rule) (inputs_rule pairs)
+
+-- `merge [--v1] [--force] --out FILE IN...`
+abbrev pub merge_app : Bool → App
+merge_app pairs = with_inputs (with_rule (with_rule (with_rule (new_app (codes "merge")) out_rule) (flag_rule (codes "v1"))) (flag_rule (codes "force"))) pairs
+
+-- a command of this name that is told where the disc ends
+abbrev pub with_last : Text → Bool → App
+with_last name needed = with_rule (with_rule (new_app name) (last_rule needed)) size_rule
+
+-- a command of this name that is told where the disc ends, and by which rules it is read
+abbrev pub with_profile : Text → Bool → App
+with_profile name size = with_rule (with_last name size) profile_rule
+
+-- `report (--last N | --size BYTES) [--profile PROFILE] [--json] IN...`
+abbrev pub report_app : Given → App
+report_app given = with_inputs (with_rule (with_profile (codes "report") given.needs_last) (flag_rule (codes "json"))) given.pairs
+
+-- `reread (--last N | --size BYTES) [--profile PROFILE] [--mapfile FILE] IN...`
+abbrev pub reread_app : Given → App
+reread_app given = with_inputs (with_rule (with_profile (codes "reread") given.needs_last) mapfile_rule) given.pairs
+
+-- `--only PATH`, any number of times
+abbrev pub only_rule : Rule
+only_rule = record (new_rule (codes "only")) { long = Some (codes "only"); value_names = 1; action = Some Append }
+
+-- `--manifest FILE`
+abbrev pub manifest_rule : Rule
+manifest_rule = record (value_rule (codes "manifest")) { required = false }
+
+-- `--unnamed DIR`
+abbrev pub unnamed_rule : Rule
+unnamed_rule = record (value_rule (codes "unnamed")) { required = false }
+
+-- `extract (--last N | --size BYTES) [--profile PROFILE] --to DIR [--fill] [--only PATH]... [--manifest FILE] [--unnamed DIR] [--times] [--short-names] IN...`
+abbrev pub extract_app : Given → App
+extract_app given = with_inputs (with_rule (with_rule (with_rule (with_rule (with_rule (with_rule (with_rule (with_profile (codes "extract") given.needs_last) (value_rule (codes "to"))) (flag_rule (codes "fill"))) only_rule) manifest_rule) unnamed_rule) (flag_rule (codes "times"))) (flag_rule (codes "short-names"))) given.pairs
+
+-- `forget --out FILE (--conflicts | --blocks LIST)... [--force] IN...`
+abbrev pub forget_app : Given → App
+forget_app given = with_inputs (with_rule (with_rule (with_rule (with_rule (new_app (codes "forget")) out_rule) (flag_rule (codes "conflicts"))) (blocks_rule given.conflicts)) (flag_rule (codes "force"))) given.pairs
+
+-- `list [--torn] [--null] [--paths] (--last N | --size BYTES) [--profile PROFILE] IN...`
+abbrev pub list_app : Given → App
+list_app given = with_inputs (with_rule (with_rule (with_rule (with_profile (codes "list") given.needs_last) (flag_rule (codes "torn"))) (flag_rule (codes "null"))) (flag_rule (codes "paths"))) given.pairs
+
+-- `summary (--last N | --size BYTES) [--profile PROFILE] IN...`
+abbrev pub summary_app : Given → App
+summary_app given = with_inputs (with_profile (codes "summary") given.needs_last) given.pairs
+
+-- `image --out IMAGE --mapfile MAPFILE [--force] (--last N | --size BYTES) IN...`
+abbrev pub image_app : Given → App
+image_app given = with_inputs (with_rule (with_rule (with_rule (with_last (codes "image") given.needs_last) out_rule) (value_rule (codes "mapfile"))) (flag_rule (codes "force"))) given.pairs
+
+-- `page --out FILE (--last N | --size BYTES) [--profile PROFILE] IN...`
+abbrev pub page_app : Given → App
+page_app given = with_inputs (with_rule (with_profile (codes "page") given.needs_last) out_rule) given.pairs
+
+-- the program before its commands: one of them has to be named, and there is `--version`
+abbrev pub program : App
+program = record (new_app (codes "udfsalvage")) { top = record (new_app (codes "udfsalvage")).top { has_version = true; subcommand_required = true } }
+
+-- the program, by what is found among the words
+abbrev pub program_app : Given → App
+program_app given = with_subcommand (with_subcommand (with_subcommand (with_subcommand (with_subcommand (with_subcommand (with_subcommand (with_subcommand (with_subcommand program (merge_app given.pairs).top) (report_app given).top) (reread_app given).top) (extract_app given).top) (forget_app given).top) (list_app given).top) (summary_app given).top) (image_app given).top) (page_app given).top

@@ -1,0 +1,240 @@
+//! The arguments that commands take.
+
+ghost use Rattle.std.specs.Prelude.{◌≡◌, false, codes};
+ghost use Rattle.clap.specs.Words.{rule_of};
+ghost use Rattle.udfs_words.specs.Grammar.{blocks_rule, flag_rule, inputs_rule, last_rule, letter_rule, manifest_rule, mapfile_rule, only_rule, out_rule, pairs_rule, profile_rule, size_rule, unnamed_rule, value_rule};
+
+use crate::words::{
+    BLOCKS, FORCE, INPUTS, LAST, MANIFEST, MAPFILE, ONLY, OUT, PAIRS, PROFILE, QUIET, SIZE, TO,
+    UNNAMED, VERBOSE,
+};
+use clap::{Arg, ArgAction, value_parser};
+use std::alloc::Global;
+
+/// The flag for saying more.
+pub fn verbose<'a>(alloc: Global) -> Arg<'a>
+    ensures { (rule_of result ≡ letter_rule (codes "verbose") 118) × (result.global ≡ false) }
+{
+    Arg::new(alloc, VERBOSE)
+        .short('v')
+        .long("verbose")
+        .help(
+            "Say more on standard error, as on a terminal: beneath a refusal, why and what to do next",
+        )
+        .action(ArgAction::SetTrue)
+}
+
+/// The flag for saying no more than has to be said.
+pub fn quiet<'a>(alloc: Global) -> Arg<'a>
+    ensures { (rule_of result ≡ letter_rule (codes "quiet") 113) × (result.global ≡ false) }
+{
+    Arg::new(alloc, QUIET)
+        .short('q')
+        .long("quiet")
+        .help("Say no more than that on standard error, also on a terminal")
+        .action(ArgAction::SetTrue)
+}
+
+/// A flag of this name.
+pub fn flag<'a>(alloc: Global, name: &'a str, help: &'a str) -> Arg<'a>
+    ensures { (rule_of result ≡ flag_rule name.now) × (result.global ≡ false) }
+{
+    Arg::new(alloc, name)
+        .long(name)
+        .help(help)
+        .action(ArgAction::SetTrue)
+}
+
+/// The flag for writing over a reading that is no input.
+pub fn force<'a>(alloc: Global) -> Arg<'a>
+    ensures { (rule_of result ≡ flag_rule (codes "force")) × (result.global ≡ false) }
+{
+    flag(
+        alloc,
+        FORCE,
+        "Write over a reading that is none of the inputs",
+    )
+}
+
+/// The rules by which the volume is read.
+pub fn profile<'a>(alloc: Global) -> Arg<'a>
+    ensures { (rule_of result ≡ profile_rule) × (result.global ≡ false) }
+{
+    Arg::new(alloc, PROFILE)
+        .long("profile")
+        .value_name("PROFILE")
+        .help("The rules by which the volume is read: strict, as without it, or wide")
+        .action(ArgAction::Set)
+}
+
+/// The mapfile to write.
+pub fn domain<'a>(alloc: Global) -> Arg<'a>
+    ensures { (rule_of result ≡ mapfile_rule) × (result.global ≡ false) }
+{
+    Arg::new(alloc, MAPFILE)
+        .long("mapfile")
+        .value_name("FILE")
+        .help("Write the blocks as a domain mapfile for ddrescue -m, and print how many they are")
+        .action(ArgAction::Set)
+}
+
+/// Lists of blocks, of which there is at least one where no conflicts are to be forgotten.
+pub fn blocks<'a>(alloc: Global, conflicts: bool) -> Arg<'a>
+    ensures { (rule_of result ≡ blocks_rule conflicts) × (result.global ≡ false) }
+{
+    Arg::new(alloc, BLOCKS)
+        .long("blocks")
+        .value_name("LIST")
+        .help("Forget the blocks of this list: decimal numbers, one a line; - is standard input")
+        .required(!conflicts)
+        .action(ArgAction::Append)
+}
+
+/// The table file to write.
+pub fn table_file<'a>(alloc: Global) -> Arg<'a>
+    ensures { (rule_of result ≡ out_rule) × (result.global ≡ false) }
+{
+    Arg::new(alloc, OUT)
+        .short('o')
+        .long("out")
+        .value_name("FILE")
+        .help("The table file to write, over an old one")
+        .required(true)
+        .action(ArgAction::Set)
+}
+
+/// The page to write.
+pub fn page_file<'a>(alloc: Global) -> Arg<'a>
+    ensures { (rule_of result ≡ out_rule) × (result.global ≡ false) }
+{
+    Arg::new(alloc, OUT)
+        .short('o')
+        .long("out")
+        .value_name("FILE")
+        .help("The page to write, over an old one; - is standard output")
+        .required(true)
+        .action(ArgAction::Set)
+}
+
+/// The image to write.
+pub fn image_file<'a>(alloc: Global) -> Arg<'a>
+    ensures { (rule_of result ≡ out_rule) × (result.global ≡ false) }
+{
+    Arg::new(alloc, OUT)
+        .short('o')
+        .long("out")
+        .value_name("IMAGE")
+        .help("The image to write: zeros stand in the place of what is not known")
+        .required(true)
+        .action(ArgAction::Set)
+}
+
+/// The image's mapfile to write.
+pub fn image_map<'a>(alloc: Global) -> Arg<'a>
+    ensures { (rule_of result ≡ value_rule (codes "mapfile")) × (result.global ≡ false) }
+{
+    Arg::new(alloc, MAPFILE)
+        .long("mapfile")
+        .value_name("MAPFILE")
+        .help("The image's mapfile to write: + known, - in conflict, ? unknown")
+        .required(true)
+        .action(ArgAction::Set)
+}
+
+/// The folder to make.
+pub fn folder<'a>(alloc: Global) -> Arg<'a>
+    ensures { (rule_of result ≡ value_rule (codes "to")) × (result.global ≡ false) }
+{
+    Arg::new(alloc, TO)
+        .long("to")
+        .value_name("DIR")
+        .help("The folder to make, which may not be there yet")
+        .required(true)
+        .action(ArgAction::Set)
+}
+
+/// Paths of nodes that alone are asked for.
+pub fn only<'a>(alloc: Global) -> Arg<'a>
+    ensures { (rule_of result ≡ only_rule) × (result.global ≡ false) }
+{
+    Arg::new(alloc, ONLY)
+        .long("only")
+        .value_name("PATH")
+        .help(
+            "Write only this file, or this folder with all below it: its path as report prints it",
+        )
+        .action(ArgAction::Append)
+}
+
+/// The manifest to write.
+pub fn manifest<'a>(alloc: Global) -> Arg<'a>
+    ensures { (rule_of result ≡ manifest_rule) × (result.global ≡ false) }
+{
+    Arg::new(alloc, MANIFEST)
+        .long("manifest")
+        .value_name("FILE")
+        .help("Write a manifest too, for sha256sum -c in the new folder, over an old one")
+        .action(ArgAction::Set)
+}
+
+/// The folder for lost files.
+pub fn lost_folder<'a>(alloc: Global) -> Arg<'a>
+    ensures { (rule_of result ≡ unnamed_rule) × (result.global ≡ false) }
+{
+    Arg::new(alloc, UNNAMED)
+        .long("unnamed")
+        .value_name("DIR")
+        .help(
+            "Write whole files without a name too, by their blocks, into this folder, which may not be there yet",
+        )
+        .action(ArgAction::Set)
+}
+
+/// The volume's last block, which may have to be given.
+pub fn last<'a>(alloc: Global, needed: bool) -> Arg<'a>
+    ensures { (rule_of result ≡ last_rule needed) × (result.global ≡ false) }
+{
+    Arg::new(alloc, LAST)
+        .long("last")
+        .value_name("N")
+        .help("The number of the volume's last block")
+        .required(needed)
+        .value_parser(value_parser!(u32))
+        .action(ArgAction::Set)
+}
+
+/// The disc's size.
+pub fn disc_size<'a>(alloc: Global) -> Arg<'a>
+    ensures { (rule_of result ≡ size_rule) × (result.global ≡ false) }
+{
+    Arg::new(alloc, SIZE)
+        .long("size")
+        .value_name("BYTES")
+        .help("The size of the disc in bytes, in place of --last")
+        .value_parser(value_parser!(u64))
+        .action(ArgAction::Set)
+}
+
+/// Images with their mapfiles.
+pub fn pair_inputs<'a>(alloc: Global) -> Arg<'a>
+    ensures { (rule_of result ≡ pairs_rule) × (result.global ≡ false) }
+{
+    Arg::new(alloc, PAIRS)
+        .long("ddrescue")
+        .value_names(&["IMAGE", "MAPFILE"])
+        .help("An image and its GNU ddrescue mapfile, as the reading of its rescued blocks")
+        .num_args(2)
+        .action(ArgAction::Append)
+}
+
+/// The inputs, of which there is at least one, or a pair.
+pub fn inputs<'a>(alloc: Global, pairs: bool) -> Arg<'a>
+    ensures { (rule_of result ≡ inputs_rule pairs) × (result.global ≡ false) }
+{
+    Arg::new(alloc, INPUTS)
+        .value_name("IN")
+        .help("The readings and table files to join")
+        .required(!pairs)
+        .num_args(1..)
+        .action(ArgAction::Append)
+}

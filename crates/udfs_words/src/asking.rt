@@ -1,0 +1,199 @@
+//! What the words of a command ask for: its inputs, its outputs and its flags.
+
+ghost use Rattle.std.specs.Prelude.{◌≡◌, ◌++◌, true, false, Some, None, IfOk, OnOk, codes, map};
+ghost use Rattle.clap.specs.Matches.{found_of, one_text};
+ghost use Rattle.udfs_salvage.specs.declared.extraction.Fill.{Fill};
+ghost use Rattle.udfs_overview.specs.declared.node_list.ListForm.{ListForm};
+ghost use Rattle.udfs_words.specs.declared.forms.Version.{Version};
+ghost use Rattle.udfs_words.specs.declared.forms.Form.{Form};
+ghost use Rattle.udfs_words.specs.Asking.{IsListForm, Asked, IsPicked, asked_for, asked_inputs, asked_streams, folder_text, lost_text, manifest_text, mapfile_text, out_text, pairs_of, stream_path};
+ghost use Rattle.udfs_words.specs.Asking.Asked.{AskedFile};
+
+use crate::forms::{Form, Version};
+use crate::input_path::InputPath;
+use crate::words::{
+    CONFLICTS, FILL, FORCE, INPUTS, JSON, MANIFEST, MAPFILE, NULL, OUT, PAIRS, PATHS, SHORT_NAMES,
+    TO, TORN, UNNAMED, V1,
+};
+use clap::ArgMatches;
+use std::alloc::{AllocError, Global};
+use udfs_overview::ListForm;
+use udfs_salvage::Fill;
+
+/// Adds files.
+#[tactic(auto, using(crate::proofs::AskingLemmas::one_more))]
+fn push_files<'a>(inputs: &mut Vec<InputPath<'a>>, paths: &[&'a str]) -> Result<(), AllocError>
+    ensures { OnOk result (map asked_for inputs.new.items ≡ map asked_for inputs.old.items ++ map AskedFile (map (λ path. path.now) paths.now)) }
+{
+    for path in paths {
+        inputs.push(InputPath::File(path))?;
+    }
+    Ok(())
+}
+
+/// A path where `-` is standard input.
+pub fn stream_path(path: &str) -> &str
+    ensures { result.now ≡ stream_path path.now }
+{
+    if path == "-" { "/dev/stdin" } else { path }
+}
+
+/// Adds files, of which `-` is standard input.
+#[tactic(auto, using(crate::proofs::AskingLemmas::one_more))]
+fn push_streams<'a>(inputs: &mut Vec<InputPath<'a>>, paths: &[&'a str]) -> Result<(), AllocError>
+    ensures { OnOk result (map asked_for inputs.new.items ≡ map asked_for inputs.old.items ++ map AskedFile (map stream_path (map (λ path. path.now) paths.now))) }
+{
+    for path in paths {
+        inputs.push(InputPath::File(stream_path(path)))?;
+    }
+    Ok(())
+}
+
+/// Adds images, each with its mapfile behind it.
+#[tactic(auto, using(crate::proofs::AskingLemmas::one_more, crate::proofs::AskingLemmas::no_pair))]
+fn push_pairs<'a>(inputs: &mut Vec<InputPath<'a>>, paths: &[&'a str]) -> Result<(), AllocError>
+    ensures { OnOk result (map asked_for inputs.new.items ≡ map asked_for inputs.old.items ++ pairs_of (map (λ path. path.now) paths.now)) }
+{
+    let mut rest = paths;
+    while let [image, map, more @ ..] = rest {
+        inputs.push(InputPath::Pair(image, map))?;
+        rest = more;
+    }
+    Ok(())
+}
+
+/// The inputs: all files, and then all images with their mapfiles.
+pub fn asked_inputs<'a>(
+    alloc: Global,
+    words: &ArgMatches<'a>,
+) -> Result<Vec<InputPath<'a>>, AllocError>
+    ensures { IfOk result (λ inputs. map asked_for inputs.items ≡ asked_inputs (found_of words.now)) }
+{
+    let mut inputs = Vec::new(alloc);
+    push_files(&mut inputs, words.get_strs(INPUTS).unwrap_or(&[]))?;
+    push_pairs(&mut inputs, words.get_strs(PAIRS).unwrap_or(&[]))?;
+    Ok(inputs)
+}
+
+/// The inputs of a command that takes `-` for standard input: all files, and then all images with their mapfiles.
+pub fn asked_streams<'a>(
+    alloc: Global,
+    words: &ArgMatches<'a>,
+) -> Result<Vec<InputPath<'a>>, AllocError>
+    ensures { IfOk result (λ inputs. map asked_for inputs.items ≡ asked_streams (found_of words.now)) }
+{
+    let mut inputs = Vec::new(alloc);
+    push_streams(&mut inputs, words.get_strs(INPUTS).unwrap_or(&[]))?;
+    push_pairs(&mut inputs, words.get_strs(PAIRS).unwrap_or(&[]))?;
+    Ok(inputs)
+}
+
+/// Whether the words ask to write over what is otherwise spared.
+pub fn asked_force(words: &ArgMatches<'_>) -> bool
+    ensures { IsPicked (found_of words.now) (codes "force") true false result }
+{
+    words.get_flag(FORCE)
+}
+
+/// The path of the output among the words, for which the grammar of its commands asks.
+pub fn asked_out<'a>(words: &ArgMatches<'a>) -> &'a str
+    ensures { result.now ≡ out_text (found_of words.now) }
+{
+    words.get_str(OUT).unwrap_or("")
+}
+
+/// The version of the table file that the words after `merge` ask for: 1 with `--v1`, and else 2.
+pub fn asked_version(words: &ArgMatches<'_>) -> Version
+    ensures unset { one_text (found_of words.now) (codes "v1") ≡ None → result ≡ Version.Two }
+    ensures without { one_text (found_of words.now) (codes "v1") ≡ Some (codes "false") → result ≡ Version.Two }
+    ensures with { one_text (found_of words.now) (codes "v1") ≡ Some (codes "true") → result ≡ Version.One }
+{
+    if words.get_flag(V1) {
+        return Version::One;
+    }
+    Version::Two
+}
+
+/// The form of the report that the words after `report` ask for: JSON with `--json`, and else text.
+pub fn asked_form(words: &ArgMatches<'_>) -> Form
+    ensures unset { one_text (found_of words.now) (codes "json") ≡ None → result ≡ Form.Text }
+    ensures without { one_text (found_of words.now) (codes "json") ≡ Some (codes "false") → result ≡ Form.Text }
+    ensures with { one_text (found_of words.now) (codes "json") ≡ Some (codes "true") → result ≡ Form.Json }
+{
+    if words.get_flag(JSON) {
+        return Form::Json;
+    }
+    Form::Text
+}
+
+/// Whether the words after `forget` name the blocks in conflict.
+pub fn asked_conflicts(words: &ArgMatches<'_>) -> bool
+    ensures { IsPicked (found_of words.now) (codes "conflicts") true false result }
+{
+    words.get_flag(CONFLICTS)
+}
+
+/// The path of the mapfile that is to be written, among the words.
+pub fn asked_mapfile<'a>(words: &ArgMatches<'a>) -> &'a str
+    ensures { result.now ≡ mapfile_text (found_of words.now) }
+{
+    words.get_str(MAPFILE).unwrap_or("")
+}
+
+/// The path of the manifest that is to be written, among the words.
+pub fn asked_manifest<'a>(words: &ArgMatches<'a>) -> &'a str
+    ensures { result.now ≡ manifest_text (found_of words.now) }
+{
+    words.get_str(MANIFEST).unwrap_or("")
+}
+
+/// What the words after `list` ask to be shown, and how.
+pub fn asked_list_form(words: &ArgMatches<'_>) -> ListForm
+    ensures { IsListForm (found_of words.now) result }
+{
+    ListForm {
+        torn: is_set(words, TORN),
+        null: is_set(words, NULL),
+        paths: is_set(words, PATHS),
+    }
+}
+
+/// Whether a flag is among the words.
+fn is_set(words: &ArgMatches<'_>, flag: &str) -> bool
+    ensures { IsPicked (found_of words.now) flag.now true false result }
+{
+    words.get_flag(flag)
+}
+
+/// The path of the folder among the words after `extract`. The grammar asks for it.
+pub fn asked_folder<'a>(words: &ArgMatches<'a>) -> &'a str
+    ensures { result.now ≡ folder_text (found_of words.now) }
+{
+    words.get_str(TO).unwrap_or("")
+}
+
+/// The path of the folder for lost files among the words after `extract`.
+pub fn asked_lost_folder<'a>(words: &ArgMatches<'a>) -> &'a str
+    ensures { result.now ≡ lost_text (found_of words.now) }
+{
+    words.get_str(UNNAMED).unwrap_or("")
+}
+
+/// Whether the words after `extract` ask for short names in the place of those that are too long.
+pub fn asked_short(words: &ArgMatches<'_>) -> bool
+    ensures { IsPicked (found_of words.now) (codes "short-names") true false result }
+{
+    is_set(words, SHORT_NAMES)
+}
+
+/// What the words after `extract` ask to write of torn files: zeros in the holes with `--fill`, and else nothing.
+pub fn asked_fill(words: &ArgMatches<'_>) -> Fill
+    ensures unset { one_text (found_of words.now) (codes "fill") ≡ None → result ≡ Fill.Refuse }
+    ensures without { one_text (found_of words.now) (codes "fill") ≡ Some (codes "false") → result ≡ Fill.Refuse }
+    ensures with { one_text (found_of words.now) (codes "fill") ≡ Some (codes "true") → result ≡ Fill.Byte 0 }
+{
+    if words.get_flag(FILL) {
+        return Fill::Byte(0);
+    }
+    Fill::Refuse
+}

@@ -1,0 +1,84 @@
+//! The last block of the volume, by its number or by the size of the disc.
+
+ghost use Rattle.std.specs.Prelude.{◌≡◌, ◌≢◌, ◌⊎◌, ◌↔◌, ◌+◌, ◌*◌, ◌%◌, IsTrue, None};
+ghost use Rattle.clap.specs.Matches.{found_of};
+ghost use Rattle.udfs_words.specs.Asking.{IsOneEnd, IsToldLast};
+
+use crate::words::{LAST, SIZE};
+use clap::ArgMatches;
+use std::fmt;
+
+/// What is wrong with the words that say where the disc ends.
+#[derive(Clone, Copy)]
+pub enum EndFault<'a> {
+    /// Both the last block and the size are given.
+    Both,
+    /// The size, as it was given, is 0 or no multiple of 2048.
+    Size(&'a str),
+}
+
+/// As clap says it of other words.
+impl<'a> fmt::Display for EndFault<'a> {
+    fn fmt<W: fmt::Write>(&self, f: &mut fmt::Formatter<W>) -> fmt::Result {
+        match self {
+            EndFault::Both => f.write_str(
+                "the argument '--last <N>' cannot be used with '--size <BYTES>'",
+            ),
+            EndFault::Size(size) => write!(
+                f,
+                "invalid value '{size}' for '--size <BYTES>': no multiple of 2048 above 0"
+            ),
+        }
+    }
+}
+
+/// Whether some disc of whole blocks has so many bytes.
+pub fn is_whole(size: u64) -> bool
+    ensures { IsTrue result ↔ (size ≢ 0) × (size % 2048 ≡ 0) }
+{
+    size != 0 && size % 2048 == 0
+}
+
+/// What is wrong with the words that say where the disc ends.
+#[tactic(auto, using(crate::proofs::AskingLemmas::no_number))]
+pub fn end_fault<'a>(words: &ArgMatches<'a>) -> Option<EndFault<'a>>
+    ensures { result ≡ None → IsOneEnd (found_of words.now) }
+{
+    let Some(size) = words.get_str(SIZE) else {
+        return None;
+    };
+    if words.contains_id(LAST) {
+        return Some(EndFault::Both);
+    }
+    match words.get_one::<u64>(SIZE) {
+        Some(bytes) if is_whole(bytes) => None,
+        _ => Some(EndFault::Size(size)),
+    }
+}
+
+/// The block with which a disc of so many bytes ends; 0, of which there is no report, where there is none that a number of 32 bits names.
+pub fn last_of_size(size: u64) -> u32
+    ensures { (size ≡ 2048 * (result + 1)) ⊎ (result ≡ 0) }
+{
+    if !is_whole(size) {
+        return 0;
+    }
+    let last = size / 2048 - 1;
+    if last > 4_294_967_295 {
+        return 0;
+    }
+    last as u32
+}
+
+/// The last block among the words, or that of the size among them; 0, of which there is no report, where neither is.
+pub fn asked_last(words: &ArgMatches<'_>) -> u32
+    ensures { IsToldLast (found_of words.now) result }
+{
+    if let Some(last) = words.get_one::<u32>(LAST) {
+        return last;
+    }
+    match words.get_one::<u64>(SIZE) {
+        Some(size) => last_of_size(size),
+        None => 0,
+    }
+}

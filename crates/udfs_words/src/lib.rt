@@ -1,0 +1,12 @@
+// SPDX-License-Identifier: MIT OR Apache-2.0
+//! The words of `udfsalvage`: their grammar, and what they ask for.
+#![tactic(auto)]
+
+mod arguments;
+pub mod asking;
+pub mod forms;
+pub mod input_path;
+pub mod last;
+pub mod profile;
+pub mod streams;
+pub mod words;

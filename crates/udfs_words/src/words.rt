@@ -1,0 +1,338 @@
+//! The words of the command line.
+
+ghost use Rattle.std.specs.Prelude.{◌≡◌, IfOk, codes, map};
+ghost use Rattle.std.specs.String.{string_bytes};
+ghost use Rattle.udfs_words.specs.Obeying.{given_in, is_given, names};
+ghost use Rattle.clap.specs.Words.{app_of, new_app};
+ghost use Rattle.udfs_words.specs.Grammar.{extract_app, forget_app, image_app, list_app, merge_app, page_app, program, program_app, report_app, reread_app, summary_app, with_inputs};
+
+use crate::arguments::{
+    blocks, disc_size, domain, flag, folder, force, image_file, image_map, inputs, last,
+    lost_folder, manifest, only, page_file, pair_inputs, profile, quiet, table_file, verbose,
+};
+use clap::Command;
+use std::alloc::{AllocError, Global};
+
+/// The inputs' id among the matches.
+pub const INPUTS: &str = "input";
+
+/// The id of images with their mapfiles among the matches.
+pub const PAIRS: &str = "ddrescue";
+
+/// The output file's id among the matches.
+pub const OUT: &str = "out";
+
+/// The id of the flag for writing over a reading that is no input.
+pub const FORCE: &str = "force";
+
+/// The last block's id among the matches.
+pub const LAST: &str = "last";
+
+/// The id of the disc's size among the matches.
+pub const SIZE: &str = "size";
+
+/// The id of the rules by which the volume is read among the matches.
+pub const PROFILE: &str = "profile";
+
+/// The id of the mapfile to write among the matches.
+pub const MAPFILE: &str = "mapfile";
+
+/// The id of the flag for forgetting blocks in conflict.
+pub const CONFLICTS: &str = "conflicts";
+
+/// The id of lists of blocks among the matches.
+pub const BLOCKS: &str = "blocks";
+
+/// The id of the flag for version 1.
+pub const V1: &str = "v1";
+
+/// The new folder's id among the matches.
+pub const TO: &str = "to";
+
+/// The id of the flag for writing torn files.
+pub const FILL: &str = "fill";
+
+/// The id of the paths that alone are asked for among the matches.
+pub const ONLY: &str = "only";
+
+/// The manifest's id among the matches.
+pub const MANIFEST: &str = "manifest";
+
+/// The id of the folder for lost files among the matches.
+pub const UNNAMED: &str = "unnamed";
+
+/// The id of the flag for setting times among the matches.
+pub const TIMES: &str = "times";
+
+/// The id of the flag for short names among the matches.
+pub const SHORT_NAMES: &str = "short-names";
+
+/// The id of the flag for JSON among the matches.
+pub const JSON: &str = "json";
+
+/// The id of the flag for leaving out what is whole among the matches.
+pub const TORN: &str = "torn";
+
+/// The id of the flag for lines that end with a zero byte among the matches.
+pub const NULL: &str = "null";
+
+/// The id of the flag for paths alone among the matches.
+pub const PATHS: &str = "paths";
+
+/// The id of the flag for saying more among the matches.
+pub const VERBOSE: &str = "verbose";
+
+/// The id of the flag for saying no more than has to be said among the matches.
+pub const QUIET: &str = "quiet";
+
+/// What is found among the words before they are parsed: it decides what else has to be given.
+#[derive(Clone, Copy)]
+pub struct Given {
+    /// Images with their mapfiles: then there need be no other input.
+    pub pairs: bool,
+    /// Neither the size of the disc nor images, whose mapfiles may tell it: then there has to be the last block.
+    pub needs_last: bool,
+    /// That conflicts are to be forgotten: then there need be no list of blocks.
+    pub conflicts: bool,
+}
+
+/// Whether a word is this option, or begins with the option and the sign of its value.
+fn names(option: &str, signed: &[u8], word: &str) -> bool
+    ensures { result ≡ names option.now signed.now word.now }
+{
+    let bytes = word.as_bytes();
+    word == option || (bytes.len() >= signed.len() && &bytes[..signed.len()] == signed)
+}
+
+/// Whether such a word is among these.
+fn is_given(option: &str, signed: &[u8], words: &[String]) -> bool
+    ensures { result ≡ is_given option.now signed.now (map string_bytes words.now) }
+{
+    match words {
+        [] => false,
+        [word, rest @ ..] => {
+            if names(option, signed, word) {
+                return true;
+            }
+            is_given(option, signed, rest)
+        }
+    }
+}
+
+/// What is found among the words.
+pub fn given_in(words: &[String]) -> Given
+    ensures { result ≡ given_in (map string_bytes words.now) }
+{
+    Given {
+        pairs: is_given("--ddrescue", b"--ddrescue=", words),
+        needs_last: !is_given("--size", b"--size=", words)
+            && !is_given("--ddrescue", b"--ddrescue=", words),
+        conflicts: is_given("--conflicts", b"--conflicts=", words),
+    }
+}
+
+/// The program before its commands.
+fn program<'a>(alloc: Global) -> Command<'a>
+    ensures { app_of result ≡ program }
+{
+    Command::new(alloc, "udfsalvage")
+        .about("Salvages scratched rewritable UDF discs from several passes over them")
+        .version("0.1.0")
+        .subcommand_required(true)
+}
+
+/// The commands and what they take.
+pub fn grammar<'a>(alloc: Global, given: Given) -> Result<Command<'a>, AllocError>
+    ensures { IfOk result (λ command. app_of command ≡ program_app given) }
+{
+    program(alloc)
+        .subcommand(merge(alloc, given.pairs)?)?
+        .subcommand(report(alloc, given)?)?
+        .subcommand(reread(alloc, given)?)?
+        .subcommand(extract(alloc, given)?)?
+        .subcommand(forget(alloc, given)?)?
+        .subcommand(list(alloc, given)?)?
+        .subcommand(summary(alloc, given)?)?
+        .subcommand(image(alloc, given)?)?
+        .subcommand(page(alloc, given)?)
+}
+
+/// `merge [--v1] [--force] --out FILE IN...`
+fn merge<'a>(alloc: Global, pairs: bool) -> Result<Command<'a>, AllocError>
+    ensures { IfOk result (λ command. app_of command ≡ merge_app pairs) }
+{
+    let command = Command::new(alloc, "merge")
+        .about("Joins readings and table files into one table file")
+        .arg(table_file(alloc))?
+        .arg(flag(alloc, V1, "Write the table file in version 1, the old form"))?
+        .arg(force(alloc))?;
+    with_inputs(alloc, command, pairs)
+}
+
+/// `report (--last N | --size BYTES) [--profile PROFILE] [--json] IN...`
+fn report<'a>(alloc: Global, given: Given) -> Result<Command<'a>, AllocError>
+    ensures { IfOk result (λ command. app_of command ≡ report_app given) }
+{
+    let command = Command::new(alloc, "report")
+        .about("Prints what the inputs tell of the volume, and which blocks to read again")
+        .override_usage("udfsalvage report [OPTIONS] [--last <N> | --size <BYTES>] <IN>...")
+        .arg(last(alloc, given.needs_last))?
+        .arg(disc_size(alloc))?
+        .arg(profile(alloc))?
+        .arg(flag(alloc, JSON, "Print it as JSON"))?;
+    with_inputs(alloc, command, given.pairs)
+}
+
+/// `reread (--last N | --size BYTES) [--profile PROFILE] [--mapfile FILE] IN...`
+fn reread<'a>(alloc: Global, given: Given) -> Result<Command<'a>, AllocError>
+    ensures { IfOk result (λ command. app_of command ≡ reread_app given) }
+{
+    let command = Command::new(alloc, "reread")
+        .about("Prints the numbers of the blocks to read again")
+        .override_usage("udfsalvage reread [OPTIONS] [--last <N> | --size <BYTES>] <IN>...")
+        .arg(last(alloc, given.needs_last))?
+        .arg(disc_size(alloc))?
+        .arg(profile(alloc))?
+        .arg(domain(alloc))?;
+    with_inputs(alloc, command, given.pairs)
+}
+
+/// `extract` before its arguments.
+fn bare_extract<'a>(alloc: Global) -> Command<'a>
+    ensures { app_of result ≡ new_app (codes "extract") }
+{
+    Command::new(alloc, "extract")
+        .about("Writes the files that are whole into a new folder")
+        .override_usage(
+            "udfsalvage extract [OPTIONS] [--last <N> | --size <BYTES>] --to <DIR> <IN>...",
+        )
+}
+
+/// `extract (--last N | --size BYTES) [--profile PROFILE] --to DIR [--fill] [--only PATH]... [--manifest FILE] [--unnamed DIR] [--times] [--short-names] IN...`
+fn extract<'a>(alloc: Global, given: Given) -> Result<Command<'a>, AllocError>
+    ensures { IfOk result (λ command. app_of command ≡ extract_app given) }
+{
+    let command = bare_extract(alloc)
+        .arg(last(alloc, given.needs_last))?
+        .arg(disc_size(alloc))?
+        .arg(profile(alloc))?
+        .arg(folder(alloc))?
+        .arg(flag(
+            alloc,
+            FILL,
+            "Write torn files too, with zeros for the bytes that are missing",
+        ))?
+        .arg(only(alloc))?
+        .arg(manifest(alloc))?
+        .arg(lost_folder(alloc))?
+        .arg(flag(
+            alloc,
+            TIMES,
+            "Set the times of the files and folders to those that the volume has for them",
+        ))?
+        .arg(flag(
+            alloc,
+            SHORT_NAMES,
+            "Write what has a name that is too long under a short one: its beginning and a number",
+        ))?;
+    with_inputs(alloc, command, given.pairs)
+}
+
+/// `forget --out FILE (--conflicts | --blocks LIST)... [--force] IN...`
+fn forget<'a>(alloc: Global, given: Given) -> Result<Command<'a>, AllocError>
+    ensures { IfOk result (λ command. app_of command ≡ forget_app given) }
+{
+    let command = Command::new(alloc, "forget")
+        .about("Writes the table of the inputs, in which some blocks are unknown again")
+        .override_usage(
+            "udfsalvage forget [OPTIONS] --out <FILE> <--conflicts|--blocks <LIST>> <IN>...",
+        )
+        .arg(table_file(alloc))?
+        .arg(flag(alloc, CONFLICTS, "Forget the blocks in conflict"))?
+        .arg(blocks(alloc, given.conflicts))?
+        .arg(force(alloc))?;
+    with_inputs(alloc, command, given.pairs)
+}
+
+/// `list [--torn] [--null] [--paths] (--last N | --size BYTES) [--profile PROFILE] IN...`
+fn list<'a>(alloc: Global, given: Given) -> Result<Command<'a>, AllocError>
+    ensures { IfOk result (λ command. app_of command ≡ list_app given) }
+{
+    let command = Command::new(alloc, "list")
+        .about(
+            "Prints a line for each file and folder: standing, kind, bytes lost, size, time and path",
+        )
+        .override_usage("udfsalvage list [OPTIONS] [--last <N> | --size <BYTES>] <IN>...")
+        .arg(last(alloc, given.needs_last))?
+        .arg(disc_size(alloc))?
+        .arg(profile(alloc))?
+        .arg(flag(alloc, TORN, "Leave out what is whole"))?
+        .arg(flag(alloc, NULL, "End lines with a zero byte"))?
+        .arg(flag(alloc, PATHS, "Print the paths alone"))?;
+    with_inputs(alloc, command, given.pairs)
+}
+
+/// `image --out IMAGE --mapfile MAPFILE [--force] (--last N | --size BYTES) IN...`
+fn image<'a>(alloc: Global, given: Given) -> Result<Command<'a>, AllocError>
+    ensures { IfOk result (λ command. app_of command ≡ image_app given) }
+{
+    let command = Command::new(alloc, "image")
+        .about("Writes what is known of the disc as an image, with its mapfile")
+        .override_usage(
+            "udfsalvage image [OPTIONS] [--last <N> | --size <BYTES>] --out <IMAGE> --mapfile <MAPFILE> <IN>...",
+        )
+        .arg(last(alloc, given.needs_last))?
+        .arg(disc_size(alloc))?
+        .arg(image_file(alloc))?
+        .arg(image_map(alloc))?
+        .arg(flag(
+            alloc,
+            FORCE,
+            "Write over an image or a mapfile that is there and is none of the inputs",
+        ))?;
+    with_inputs(alloc, command, given.pairs)
+}
+
+/// What every command takes: its inputs, and how much it says.
+fn with_inputs<'a>(
+    alloc: Global,
+    command: Command<'a>,
+    pairs: bool,
+) -> Result<Command<'a>, AllocError>
+    ensures { IfOk result (λ whole. app_of whole ≡ with_inputs (app_of command.entry) pairs) }
+{
+    command
+        .arg(verbose(alloc))?
+        .arg(quiet(alloc))?
+        .arg(pair_inputs(alloc))?
+        .arg(inputs(alloc, pairs))
+}
+
+/// `summary (--last N | --size BYTES) [--profile PROFILE] IN...`
+fn summary<'a>(alloc: Global, given: Given) -> Result<Command<'a>, AllocError>
+    ensures { IfOk result (λ command. app_of command ≡ summary_app given) }
+{
+    let command = Command::new(alloc, "summary")
+        .about("Prints what a person wants to know of the volume, on one screen")
+        .override_usage("udfsalvage summary [OPTIONS] [--last <N> | --size <BYTES>] <IN>...")
+        .arg(last(alloc, given.needs_last))?
+        .arg(disc_size(alloc))?
+        .arg(profile(alloc))?;
+    with_inputs(alloc, command, given.pairs)
+}
+
+/// `page --out FILE (--last N | --size BYTES) [--profile PROFILE] IN...`
+fn page<'a>(alloc: Global, given: Given) -> Result<Command<'a>, AllocError>
+    ensures { IfOk result (λ command. app_of command ≡ page_app given) }
+{
+    let command = Command::new(alloc, "page")
+        .about("Writes what is known of the volume as a page for a browser, to print or to keep")
+        .override_usage(
+            "udfsalvage page [OPTIONS] [--last <N> | --size <BYTES>] --out <FILE> <IN>...",
+        )
+        .arg(last(alloc, given.needs_last))?
+        .arg(disc_size(alloc))?
+        .arg(profile(alloc))?
+        .arg(page_file(alloc))?;
+    with_inputs(alloc, command, given.pairs)
+}
