@@ -9,7 +9,6 @@ use Rattle.udfs_extraction.specs.Extracting.{IsIn, Spares, Stay}
 use Rattle.udfs_extraction.specs.LostFiles.{IsNewFolder, SparesLost, lost_others}
 use Rattle.udfs_extraction.specs.Manifests.{SparesListed}
 
-BODY
 -- no file that was there changes, nor anything outside the new folder, and no crash at any moment changes them; with a manifest that is so until it is put, and then nothing else changes
 pub record NodesSpare {F : Type 0} (tells : Type 0) (holds : F → List ℕ → Option (Option (List ℕ))) (real : F → List ℕ → List ℕ) (may_leave : F → Disk → Type 0) (moment : F → ℕ) (left_since : F → ℕ → Disk → Type 0) (words : Found) (old new : F) : Type 0 where
   pub stays : has_manifest words ≡ false → tells → Stay (holds old) (holds new)
