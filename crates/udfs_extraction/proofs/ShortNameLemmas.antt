@@ -15,7 +15,7 @@ use Rattle.udfs_osta.specs.Names.{pair_units, units_of}
 use Rattle.udfs_extraction.specs.ShortNames.{front_bytes, front_count, unit_bytes, unit_size}
 
 -- a unit that is not escaped has the bytes of its character
-plain_size : (u : ℕ) → must_escape u ≡ false → unit_size u ≡ len_utf8 u
+pub plain_size : (u : ℕ) → must_escape u ≡ false → unit_size u ≡ len_utf8 u
 plain_size u plain = ap (λ b. length (encode_utf8_all (cond b (escape u) (u ∷ [])))) plain ∙ ap length (append-nil _) ∙ length-encode u
 
 -- two bytes
