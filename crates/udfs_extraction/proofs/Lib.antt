@@ -6,4 +6,5 @@ mod DigestLemmas
 mod ManifestLemmas
 pub mod LostLemmas
 mod ShortNameLemmas
+mod ShortNameSizes
 mod PlaceLemmas

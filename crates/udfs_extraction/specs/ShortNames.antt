@@ -1,15 +1,17 @@
 -- How files and folders are named where names that are too long get short ones.
 --     icb_number two reference block    the number of an information control block
 --     is_too_long name                  a name that no usual file system takes
+--     IsFileName name                   a name that each takes
 --     short_name two icb name           as much of its beginning as fits, `~`, and the number
 --     above nodes depth index           the last node up to this one whose path has so many names
 --     placed short report index n        the names by which a node is written
 --     own_name short report n           the short name of a node, where it has one
-use Rattle.std.specs.Prelude.{◌≡◌, ℕ, zero, suc, ◌+◌, ◌-◌, ◌/◌, ◌%◌, ◌==◌, ◌&&◌, Bool, false, nat_lt, nat_le, List, [], ◌∷◌, ◌++◌, Option, Some, None, cond, codes, decimal, length, option_map, slice_get, slice_index, take, unwrap_or, if◌then◌else◌}
+use Rattle.std.specs.Prelude.{◌≡◌, ℕ, zero, suc, ◌+◌, ◌-◌, ◌≤◌, ◌/◌, ◌%◌, ◌==◌, ◌&&◌, Bool, false, nat_lt, nat_le, List, [], ◌∷◌, ◌++◌, Option, Some, None, cond, codes, decimal, length, option_map, slice_get, slice_index, take, unwrap_or, if◌then◌else◌}
 use Rattle.std.specs.Str.{encode_utf8_all}
 use Rattle.std.specs.Char.Utf16.{is_high_surrogate, is_low_surrogate}
 use Rattle.udfs_osta.specs.Escapes.{escaped, shown_unit}
 use Rattle.udfs_osta.specs.Fronts.{begins_with_pair}
+use Rattle.udfs_osta.specs.Parts.{IsPathPart}
 use Rattle.udfs_tag.specs.declared.layouts.LongAd.{LongAd}
 use Rattle.udfs_walk.specs.NodeFields.{NodeFields}
 use Rattle.udfs_salvage.specs.Reports.{Report}
@@ -24,6 +26,11 @@ icb_number two reference block = cond two (decimal reference ++ codes "-" ++ dec
 -- its escaped form has more bytes than Linux's file systems take
 abbrev pub is_too_long : List ℕ → Bool
 is_too_long name = nat_lt 255 (length (escaped name))
+
+-- its escaped form has at most 255 bytes, and can stand in a path: it is not empty, not `.` or `..`, and has no `/`, no control and so no zero byte
+pub record IsFileName (name : List ℕ) : Type 0 where
+  pub few : length (escaped name) ≤ 255
+  pub part : IsPathPart (escaped name)
 
 -- the bytes of a unit in no pair, in its escaped form
 abbrev pub unit_size : ℕ → ℕ

@@ -1,9 +1,9 @@
 //! Names that are too long for a file system, and the short ones in their place.
 
-ghost use Rattle.std.specs.Prelude.{◌≡◌, ◌≤◌, ◌<◌, ◌++◌, ◌&&◌, IfOk, OnOk, length, string_bytes};
+ghost use Rattle.std.specs.Prelude.{◌≡◌, ◌≤◌, ◌<◌, ◌++◌, ◌&&◌, IfOk, IfSome, OnOk, length, string_bytes};
 ghost use Rattle.std.specs.Char.Utf16.{is_high_surrogate, is_low_surrogate};
 ghost use Rattle.udfs_osta.specs.Fronts.{front_len};
-ghost use Rattle.udfs_extraction.specs.ShortNames.{front_bytes, front_count, icb_number, is_too_long, short_end, short_name, shortened, unit_bytes, unit_size};
+ghost use Rattle.udfs_extraction.specs.ShortNames.{IsFileName, front_bytes, front_count, icb_number, is_too_long, short_end, short_name, shortened, unit_bytes, unit_size};
 
 use std::alloc::{AllocError, Global};
 use std::fmt::Write;
@@ -121,7 +121,9 @@ fn short_end(alloc: Global, two: bool, icb: LongAd) -> Result<String, AllocError
 
 /// The short one of a name: as much of its beginning as fits with what stands behind it.
 fn short_name(alloc: Global, two: bool, icb: LongAd, name: &Name) -> Result<Name, AllocError>
-    ensures { IfOk result (λ short. short ≡ short_name two icb name.now) }
+    ensures name { IfOk result (λ short. short ≡ short_name two icb name.now) }
+    // File systems take it.
+    ensures fits { IfOk result (λ short. IsFileName short) }
 {
     let end = short_end(alloc, two, icb)?;
     let units = name.units();
@@ -144,7 +146,9 @@ pub fn shortened(
     icb: LongAd,
     name: &Name,
 ) -> Result<Option<Name>, AllocError>
-    ensures { IfOk result (λ short. short ≡ shortened two icb name.now) }
+    ensures name { IfOk result (λ short. short ≡ shortened two icb name.now) }
+    // File systems take it.
+    ensures fits { IfOk result (λ short. IfSome short (λ short. IsFileName short)) }
 {
     if !is_too_long(alloc, name)? {
         return Ok(None);

@@ -1,11 +1,12 @@
-use Rattle.std.proofs.Common.{rules, ◌≡◌, ◌<◌, ◌++◌, ◌∷◌, ◌-◌, ◌∙◌, ℕ, List, Ok, ap, ap₂, arith, length, length-append, sym, take}
+use Rattle.std.proofs.Common.{rules, ◌≡◌, ◌<◌, ◌++◌, ◌∷◌, ◌-◌, ◌∙◌, ℕ, List, Ok, ap, ap₂, arith, length, length-append, subst, sym, take}
 use Rattle.udfs_osta.specs.Names.{units_of}
-use Rattle.udfs_extraction.specs.ShortNames.{front_count, icb_number, short_end, short_name, unit_bytes}
+use Rattle.udfs_extraction.specs.ShortNames.{IsFileName, front_count, icb_number, short_end, short_name, unit_bytes}
 use Rattle.udfs_extraction.proofs.ShortNameLemmas.{is_read, unit_bytes-append}
+use Rattle.udfs_extraction.proofs.ShortNameSizes.{short_fits}
 use Rattle.udfs_extraction.proofs.short_names.short_name.Goals as goal
 
-pub returns-in-Ok : goal.returns-in-Ok
-returns-in-Ok c =
+pub returns-in-Ok-clause-name : goal.returns-in-Ok-clause-name
+returns-in-Ok-clause-name c =
     let name = c.args.name.now in
     let front = c.split_at.result.0.now in
     let end = c.as_bytes.result.now in
@@ -19,3 +20,8 @@ returns-in-Ok c =
     let given : units_of (16 ∷ unit_bytes (front ++ end)) ≡ Ok c.in-Ok.short = ap (λ l. units_of (16 ∷ l)) (unit_bytes-append front end) ∙ ap units_of (sym bytes) ∙ read in
     let some : 0 < length (front ++ end) = omega (arith, length-append front end, ap length is_end) in
     is_read c.in-Ok.short (front ++ end) some given ∙ ap₂ (λ x y. x ++ y) is_front is_end
+
+pub returns-in-Ok-clause-fits : goal.returns-in-Ok-clause-fits
+returns-in-Ok-clause-fits c =
+    let is : c.in-Ok.short ≡ short_name c.args.two c.args.icb c.args.name.now = returns-in-Ok-clause-name c in
+    subst IsFileName (sym is) (short_fits c.args.two c.args.icb c.args.name.now (search rules) (search rules))
