@@ -1,6 +1,6 @@
 -- The bytes of names, and how much of one fits.
 use Rattle.std.proofs.Common.{◌≡◌, ◌∙◌, ◌<◌, ◌≤◌, ◌+◌, ap₂, sym, ℕ, false, true, Bool, cond, ap, arith, length, drop, nat_le, refl, List, [], ◌∷◌, ◌-◌, ◌*◌, ◌/◌, ◌%◌, ◌&&◌, ◌++◌, ◌==◌}
-use Rattle.std.specs.Prelude.{Ok, Err, Result}
+use Rattle.std.specs.Prelude.{Ok, Err}
 use Rattle.std.specs.Str.{encode_utf8_all}
 use Rattle.std.specs.Char.{len_utf8}
 use Rattle.std.specs.Char.Utf16.{is_high_surrogate, is_low_surrogate}
@@ -9,7 +9,6 @@ use Rattle.std.proofs.lemmas.Str.{length-encode}
 use Rattle.std.proofs.lemmas.Bool.Decides.{nat_tests}
 use Rattle.udfs_osta.specs.Escapes.{escape, must_escape}
 use Rattle.udfs_osta.specs.Fronts.{front_len}
-use Rattle.udfs_osta.specs.declared.names.NameFault.{NameFault}
 use Rattle.udfs_osta.specs.declared.names.NameFault.TheVariants.{Odd}
 use Rattle.udfs_osta.specs.Names.{pair_units, units_of}
 use Rattle.udfs_extraction.specs.ShortNames.{front_bytes, front_count, unit_bytes, unit_size}

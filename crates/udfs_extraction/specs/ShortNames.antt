@@ -2,11 +2,12 @@
 --     icb_number two reference block    the number of an information control block
 --     is_too_long name                  a name that no usual file system takes
 --     IsFileName name                   a name that each takes
+--     IsShortOf name end short          as much of its beginning as fits, and this end
 --     short_name two icb name           as much of its beginning as fits, `~`, and the number
 --     above nodes depth index           the last node up to this one whose path has so many names
 --     placed short report index n        the names by which a node is written
 --     own_name short report n           the short name of a node, where it has one
-use Rattle.std.specs.Prelude.{◌≡◌, ℕ, zero, suc, ◌+◌, ◌-◌, ◌≤◌, ◌/◌, ◌%◌, ◌==◌, ◌&&◌, Bool, false, nat_lt, nat_le, List, [], ◌∷◌, ◌++◌, Option, Some, None, cond, codes, decimal, length, option_map, slice_get, slice_index, take, unwrap_or, if◌then◌else◌}
+use Rattle.std.specs.Prelude.{◌≡◌, ◌<◌, ℕ, zero, suc, ◌+◌, ◌-◌, ◌≤◌, ◌/◌, ◌%◌, ◌==◌, ◌&&◌, Bool, false, nat_lt, nat_le, List, [], ◌∷◌, ◌++◌, Option, Some, None, cond, codes, decimal, length, option_map, slice_get, slice_index, take, unwrap_or, if◌then◌else◌}
 use Rattle.std.specs.Str.{encode_utf8_all}
 use Rattle.std.specs.Char.Utf16.{is_high_surrogate, is_low_surrogate}
 use Rattle.udfs_osta.specs.Escapes.{escaped, shown_unit}
@@ -55,6 +56,13 @@ short_end two icb = codes "~" ++ icb_number two icb.reference icb.block
 -- the beginning, as far as both have at most 255 bytes, and the end
 abbrev pub short_name : Bool → LongAd → List ℕ → List ℕ
 short_name two icb name = take (front_count (255 - length (short_end two icb)) name) name ++ short_end two icb
+
+-- A beginning of a name with this end behind it, which file systems take. No longer beginning has room.
+pub record IsShortOf (name end short : List ℕ) : Type 0 where
+  pub count : ℕ
+  pub is : short ≡ take count name ++ end
+  pub fits : IsFileName short
+  pub longest : (more : ℕ) → count < more → more ≤ length name → 255 < length (escaped (take more name ++ end))
 
 -- the short one of a name that is too long
 abbrev pub shortened : Bool → LongAd → List ℕ → Option (List ℕ)

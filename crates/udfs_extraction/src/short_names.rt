@@ -3,7 +3,7 @@
 ghost use Rattle.std.specs.Prelude.{◌≡◌, ◌≤◌, ◌<◌, ◌++◌, ◌&&◌, IfOk, IfSome, OnOk, length, string_bytes};
 ghost use Rattle.std.specs.Char.Utf16.{is_high_surrogate, is_low_surrogate};
 ghost use Rattle.udfs_osta.specs.Fronts.{front_len};
-ghost use Rattle.udfs_extraction.specs.ShortNames.{IsFileName, front_bytes, front_count, icb_number, is_too_long, short_end, short_name, shortened, unit_bytes, unit_size};
+ghost use Rattle.udfs_extraction.specs.ShortNames.{IsFileName, IsShortOf, front_bytes, front_count, icb_number, is_too_long, short_end, short_name, shortened, unit_bytes, unit_size};
 
 use std::alloc::{AllocError, Global};
 use std::fmt::Write;
@@ -122,8 +122,7 @@ fn short_end(alloc: Global, two: bool, icb: LongAd) -> Result<String, AllocError
 /// The short one of a name: as much of its beginning as fits with what stands behind it.
 fn short_name(alloc: Global, two: bool, icb: LongAd, name: &Name) -> Result<Name, AllocError>
     ensures name { IfOk result (λ short. short ≡ short_name two icb name.now) }
-    // File systems take it.
-    ensures fits { IfOk result (λ short. IsFileName short) }
+    ensures longest { IfOk result (λ short. IsShortOf name.now (short_end two icb) short) }
 {
     let end = short_end(alloc, two, icb)?;
     let units = name.units();

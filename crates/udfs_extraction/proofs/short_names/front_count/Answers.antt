@@ -1,4 +1,4 @@
-use Rattle.std.proofs.Common.{rules, ◌≡◌, ◌<◌, ◌≤◌, ◌+◌, ap, arith, drop, length, sym}
+use Rattle.std.proofs.Common.{rules, ◌<◌, ◌≤◌, arith, length}
 use Rattle.udfs_extraction.specs.ShortNames.{front_count}
 use Rattle.udfs_extraction.proofs.ShortNameLemmas.{no_front, taken_front}
 use Rattle.udfs_extraction.proofs.short_names.front_count.Goals as goal

@@ -1,8 +1,8 @@
-use Rattle.std.proofs.Common.{rules, ◌≡◌, ◌<◌, ◌++◌, ◌∷◌, ◌-◌, ◌∙◌, ℕ, List, Ok, ap, ap₂, arith, length, length-append, subst, sym, take}
+use Rattle.std.proofs.Common.{rules, ◌≡◌, ◌<◌, ◌++◌, ◌∷◌, ◌-◌, ◌∙◌, Ok, ap, ap₂, arith, length, length-append, subst, sym, take}
 use Rattle.udfs_osta.specs.Names.{units_of}
-use Rattle.udfs_extraction.specs.ShortNames.{IsFileName, front_count, icb_number, short_end, short_name, unit_bytes}
+use Rattle.udfs_extraction.specs.ShortNames.{IsShortOf, front_count, short_end, short_name, unit_bytes}
 use Rattle.udfs_extraction.proofs.ShortNameLemmas.{is_read, unit_bytes-append}
-use Rattle.udfs_extraction.proofs.ShortNameSizes.{short_fits}
+use Rattle.udfs_extraction.proofs.ShortNameSizes.{is_short_of}
 use Rattle.udfs_extraction.proofs.short_names.short_name.Goals as goal
 
 pub returns-in-Ok-clause-name : goal.returns-in-Ok-clause-name
@@ -21,7 +21,7 @@ returns-in-Ok-clause-name c =
     let some : 0 < length (front ++ end) = omega (arith, length-append front end, ap length is_end) in
     is_read c.in-Ok.short (front ++ end) some given ∙ ap₂ (λ x y. x ++ y) is_front is_end
 
-pub returns-in-Ok-clause-fits : goal.returns-in-Ok-clause-fits
-returns-in-Ok-clause-fits c =
+pub returns-in-Ok-clause-longest : goal.returns-in-Ok-clause-longest
+returns-in-Ok-clause-longest c =
     let is : c.in-Ok.short ≡ short_name c.args.two c.args.icb c.args.name.now = returns-in-Ok-clause-name c in
-    subst IsFileName (sym is) (short_fits c.args.two c.args.icb c.args.name.now (search rules) (search rules))
+    subst (IsShortOf c.args.name.now (short_end c.args.two c.args.icb)) (sym is) (is_short_of c.args.two c.args.icb c.args.name.now (search rules) (search rules))
