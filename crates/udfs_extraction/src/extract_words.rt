@@ -1,7 +1,7 @@
 //! What the words after `extract` ask for.
 
-ghost use Rattle.std.specs.Prelude.{◌≡◌, ◌⊎◌, ℕ, Bool, List, true, false, IfOk, IfErr, OnOk, codes, map, string_bytes};
-ghost use Rattle.clap.specs.Matches.{found_of};
+ghost use Rattle.std.specs.Prelude.{◌≡◌, ◌⊎◌, ℕ, Bool, List, true, false, None, Some, IfOk, IfErr, OnOk, codes, map, string_bytes};
+ghost use Rattle.clap.specs.Matches.{found_of, one_text};
 ghost use Rattle.udfs_volume.specs.declared.profiles.Profile.{Profile};
 ghost use Rattle.udfs_files.specs.Disk.{Fails, Goes};
 ghost use Rattle.udfs_salvage.specs.declared.extraction.Fill.{Fill};
@@ -24,9 +24,29 @@ use udfs_common::inputs::unwritten;
 use udfs_common::refusal::Refusal;
 use udfs_common::sources::AnySource;
 use udfs_reading::{Sink, Source};
-use udfs_words::asking::{asked_fill, asked_folder, asked_inputs, asked_manifest, asked_short};
+use udfs_salvage::Fill;
+use udfs_words::asking::{asked_folder, asked_inputs, asked_manifest};
 use udfs_words::profile::asked_profile;
-use udfs_words::words::{INPUTS, MANIFEST, ONLY, PAIRS};
+use udfs_words::words::{FILL, INPUTS, MANIFEST, ONLY, PAIRS, SHORT_NAMES};
+
+/// What the words after `extract` ask to write of torn files: zeros in the holes with `--fill`, and else nothing.
+pub fn asked_fill(words: &ArgMatches<'_>) -> Fill
+    ensures unset { one_text (found_of words.now) (codes "fill") ≡ None → result ≡ Fill.Refuse }
+    ensures without { one_text (found_of words.now) (codes "fill") ≡ Some (codes "false") → result ≡ Fill.Refuse }
+    ensures with { one_text (found_of words.now) (codes "fill") ≡ Some (codes "true") → result ≡ Fill.Byte 0 }
+{
+    if words.get_flag(FILL) {
+        return Fill::Byte(0);
+    }
+    Fill::Refuse
+}
+
+/// Whether the words after `extract` ask for short names in the place of those that are too long.
+pub fn asked_short(words: &ArgMatches<'_>) -> bool
+    ensures { IsPicked (found_of words.now) (codes "short-names") true false result }
+{
+    words.get_flag(SHORT_NAMES)
+}
 
 /// Does what the words after `extract` ask for where no manifest is to be written.
 fn extract_words<F: Files, O: Sink>(

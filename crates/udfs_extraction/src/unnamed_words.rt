@@ -16,7 +16,7 @@ ghost use Rattle.udfs_words.specs.declared.input_path.InputPath.{InputPath};
 
 use crate::choosing::ALL;
 use crate::extract_unnamed::{extract_listed_with_lost, extract_with_lost};
-use crate::extract_words::{asked_place, extract_as};
+use crate::extract_words::{asked_fill, asked_place, asked_short, extract_as};
 use crate::unnamed_place::find_new_folder;
 use clap::ArgMatches;
 use std::alloc::Global;
@@ -26,9 +26,7 @@ use udfs_common::inputs::unwritten;
 use udfs_common::refusal::Refusal;
 use udfs_common::sources::AnySource;
 use udfs_reading::{Sink, Source};
-use udfs_words::asking::{
-    asked_fill, asked_folder, asked_inputs, asked_lost_folder, asked_manifest, asked_short,
-};
+use udfs_words::asking::{asked_folder, asked_inputs, asked_lost_folder, asked_manifest};
 use udfs_words::profile::asked_profile;
 use udfs_words::words::{MANIFEST, ONLY, UNNAMED};
 

@@ -3,17 +3,17 @@
 ghost use Rattle.std.specs.Prelude.{◌≡◌, ℕ, List, IfOk, codes, map};
 ghost use Rattle.clap.specs.Matches.{found_of};
 ghost use Rattle.udfs_volume.specs.declared.profiles.Profile.{Profile};
-ghost use Rattle.udfs_words.specs.Asking.{IsLast, IsPicked, IsProfile, asked_for, asked_inputs, asked_streams, IsListForm};
+ghost use Rattle.udfs_words.specs.Asking.{IsLast, IsPicked, IsProfile, asked_for, asked_inputs, asked_streams};
 ghost use Rattle.udfs_reports.specs.Reporting.{PrintsAs};
 ghost use Rattle.udfs_common.specs.Keeping.{OfPaths};
 ghost use Rattle.udfs_common.specs.declared.sources.AnySource.{AnySource};
 ghost use Rattle.udfs_words.specs.declared.input_path.InputPath.{InputPath};
-ghost use Rattle.udfs_reports.specs.Listing.{PrintsList};
+ghost use Rattle.udfs_reports.specs.Listing.{IsListForm, PrintsList};
 ghost use Rattle.udfs_reports.specs.Summarizing.{PrintsSummary};
 ghost use Rattle.udfs_overview.specs.declared.node_list.ListForm.{ListForm};
 ghost use Rattle.udfs_words.specs.declared.forms.Form.{Form};
 
-use crate::list::list;
+use crate::list::{asked_list_form, list};
 use crate::report::report_as;
 use crate::summary::summary;
 use clap::ArgMatches;
@@ -23,7 +23,7 @@ use udfs_common::files::Files;
 use udfs_common::refusal::Refusal;
 use udfs_common::sources::AnySource;
 use udfs_reading::{Sink, Source};
-use udfs_words::asking::{asked_form, asked_inputs, asked_list_form, asked_streams};
+use udfs_words::asking::{asked_form, asked_inputs, asked_streams};
 use udfs_words::profile::asked_profile;
 
 /// Does what the words after `report` ask for.

@@ -19,7 +19,6 @@
 --     MapsEndAt found end inputs                  all inputs are images whose mapfiles end here
 --     IsToldLast words last                       the number of the last block, or of that with which a disc of the size ends; or 0, of which there is no report
 --     IsLast found inputs words last              the same, or where neither is told the block with which all mapfiles end
---     IsListForm words form                       what `list` is asked to show, and how
 use Rattle.std.specs.Prelude.{◌≡◌, ◌≢◌, ◌⊎◌, ℕ, ◌+◌, ◌*◌, ◌%◌, ◌&&◌, ◌||◌, Bool, false, is_some, List, [], ◌∷◌, ◌++◌, All, Option, Some, None, IfSome, Ok, codes, map, option_map, unwrap_or, if◌then◌else◌, true}
 use Rattle.std.specs.Str.{bytes_eq}
 use Rattle.clap.specs.Matches.{matched_of, first_value, one_text, raw_values}
@@ -31,7 +30,7 @@ use Rattle.udfs_rescue.specs.declared.run.Run.{Run}
 use Rattle.udfs_rescue.specs.Lines.{outcome}
 use Rattle.udfs_rescue.specs.Runs.{end_of_runs}
 use Rattle.udfs_words.specs.declared.input_path.InputPath.{InputPath}
-use Rattle.udfs_overview.specs.declared.node_list.ListForm.{ListForm}
+use Rattle.udfs_words.specs.declared.input_path.InputPath.TheVariants as path
 
 -- clap reads a flag as `true` or `false`, and a flag that it does not know as nothing
 pub record IsPicked {A : Type 0} (words : Found) (flag : List ℕ) (given absent picked : A) : Type 0 where
@@ -180,7 +179,3 @@ pub record IsLastOfMaps (found : List ℕ → Option (Option (List ℕ))) (input
 -- the last block, as the words tell it, or else as the mapfiles do
 abbrev pub IsLast : (List ℕ → Option (Option (List ℕ))) → List InputPath → Found → ℕ → Type 0
 IsLast found inputs words last = IsToldLast words last ⊎ IsLastOfMaps found inputs words last
-
--- each of the three flags by its word
-abbrev pub IsListForm : Found → ListForm → Type 0
-IsListForm words form = IsPicked words (codes "torn") true false form.torn × IsPicked words (codes "null") true false form.null × IsPicked words (codes "paths") true false form.paths

@@ -2,23 +2,18 @@
 
 ghost use Rattle.std.specs.Prelude.{◌≡◌, ◌++◌, true, false, Some, None, IfOk, OnOk, codes, map};
 ghost use Rattle.clap.specs.Matches.{found_of, one_text};
-ghost use Rattle.udfs_salvage.specs.declared.extraction.Fill.{Fill};
-ghost use Rattle.udfs_overview.specs.declared.node_list.ListForm.{ListForm};
 ghost use Rattle.udfs_words.specs.declared.forms.Version.{Version};
 ghost use Rattle.udfs_words.specs.declared.forms.Form.{Form};
-ghost use Rattle.udfs_words.specs.Asking.{IsListForm, Asked, IsPicked, asked_for, asked_inputs, asked_streams, folder_text, lost_text, manifest_text, mapfile_text, out_text, pairs_of, stream_path};
+ghost use Rattle.udfs_words.specs.Asking.{Asked, IsPicked, asked_for, asked_inputs, asked_streams, folder_text, lost_text, manifest_text, mapfile_text, out_text, pairs_of, stream_path};
 ghost use Rattle.udfs_words.specs.Asking.Asked.{AskedFile};
 
 use crate::forms::{Form, Version};
 use crate::input_path::InputPath;
 use crate::words::{
-    CONFLICTS, FILL, FORCE, INPUTS, JSON, MANIFEST, MAPFILE, NULL, OUT, PAIRS, PATHS, SHORT_NAMES,
-    TO, TORN, UNNAMED, V1,
+    CONFLICTS, FORCE, INPUTS, JSON, MANIFEST, MAPFILE, OUT, PAIRS, TO, UNNAMED, V1,
 };
 use clap::ArgMatches;
 use std::alloc::{AllocError, Global};
-use udfs_overview::ListForm;
-use udfs_salvage::Fill;
 
 /// Adds files.
 #[tactic(auto, using(crate::proofs::AskingLemmas::one_more))]
@@ -147,19 +142,8 @@ pub fn asked_manifest<'a>(words: &ArgMatches<'a>) -> &'a str
     words.get_str(MANIFEST).unwrap_or("")
 }
 
-/// What the words after `list` ask to be shown, and how.
-pub fn asked_list_form(words: &ArgMatches<'_>) -> ListForm
-    ensures { IsListForm (found_of words.now) result }
-{
-    ListForm {
-        torn: is_set(words, TORN),
-        null: is_set(words, NULL),
-        paths: is_set(words, PATHS),
-    }
-}
-
 /// Whether a flag is among the words.
-fn is_set(words: &ArgMatches<'_>, flag: &str) -> bool
+pub fn is_set(words: &ArgMatches<'_>, flag: &str) -> bool
     ensures { IsPicked (found_of words.now) flag.now true false result }
 {
     words.get_flag(flag)
@@ -177,23 +161,4 @@ pub fn asked_lost_folder<'a>(words: &ArgMatches<'a>) -> &'a str
     ensures { result.now ≡ lost_text (found_of words.now) }
 {
     words.get_str(UNNAMED).unwrap_or("")
-}
-
-/// Whether the words after `extract` ask for short names in the place of those that are too long.
-pub fn asked_short(words: &ArgMatches<'_>) -> bool
-    ensures { IsPicked (found_of words.now) (codes "short-names") true false result }
-{
-    is_set(words, SHORT_NAMES)
-}
-
-/// What the words after `extract` ask to write of torn files: zeros in the holes with `--fill`, and else nothing.
-pub fn asked_fill(words: &ArgMatches<'_>) -> Fill
-    ensures unset { one_text (found_of words.now) (codes "fill") ≡ None → result ≡ Fill.Refuse }
-    ensures without { one_text (found_of words.now) (codes "fill") ≡ Some (codes "false") → result ≡ Fill.Refuse }
-    ensures with { one_text (found_of words.now) (codes "fill") ≡ Some (codes "true") → result ≡ Fill.Byte 0 }
-{
-    if words.get_flag(FILL) {
-        return Fill::Byte(0);
-    }
-    Fill::Refuse
 }
