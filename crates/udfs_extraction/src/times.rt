@@ -154,7 +154,8 @@ fn note_folder(
     made: &mut Vec<MadeFolder>,
 ) -> Result<(), AllocError> {
     let place = String::from_str(alloc, place)?;
-    made.push(MadeFolder { index, place })
+    made.push(MadeFolder { index, place })?;
+    Ok(())
 }
 
 /// Sets the time of the file that was written at a place for the node of this index, where times are to be set. A folder that was made there is noted: its time

@@ -1,6 +1,7 @@
 //! What `extract --short-names` writes: a name whose escaped form has more than 255 bytes is cut, and `~` and the number of its block stand behind it.
 
 use super::extracting::{A, built, is_done, runs};
+use super::times::SAMPLE;
 use std::alloc::{AllocError, Global};
 use std::test::Fail;
 use test_runs::{Memory, ran, with_table};
@@ -94,16 +95,13 @@ fn without_the_option_a_name_stays(rt: HostRuntime) -> Result<(), Fail> {
 fn a_folder_gets_a_short_name(rt: HostRuntime) -> Result<(), Fail> {
     let alloc = rt.alloc();
     let root: [NamedEntry; 3] = [(LONG, 20), (LONG, 30), (b"\x08B", 4)];
-    let mut memory = disc(
-        alloc,
-        &root,
-        &[(b"\x08A", 3), (LONG, 4)],
-        &[(b"\x08A", 4)],
-    )?;
+    let mut memory = disc(alloc, &root, &[(b"\x08A", 3), (LONG, 4)], &[(b"\x08A", 4)])?;
     let ran = ran(alloc, &mut memory, WORDS)?;
     let long = ones(alloc, 127)?;
     let front = ones(alloc, 84)?;
-    let told = format!(in alloc; "written /{long}/A\nwritten /{long}/{long} as {front}~4\nwritten /{long}/A\nwritten /B\n")?;
+    let told = format!(in alloc;
+        "written /{long}/A\nwritten /{long}/{long} as {front}~4\nwritten /{long}/A\nwritten /B\n"
+    )?;
     assert!(rt; is_done(&ran, 0, told.as_str()), "{ran:?}");
     let first = format!(in alloc; "out/{front}~20/A")?;
     let below = format!(in alloc; "out/{front}~20/{front}~4")?;
@@ -225,13 +223,38 @@ fn only_what_is_asked_for(rt: HostRuntime) -> Result<(), Fail> {
     let front = ones(alloc, 84)?;
     for (asked, line) in [("", "A"), ("/A", "A")] {
         let mut memory = disc(alloc, &[(LONG, 20), (b"\x08B", 4)], &[(b"\x08A", 3)], &[])?;
-        let words = format!(in alloc; "extract --last 600 --to out --short-names --only /{long}{asked} disc.tab")?;
+        let words = format!(in alloc;
+            "extract --last 600 --to out --short-names --only /{long}{asked} disc.tab"
+        )?;
         let ran = ran(alloc, &mut memory, words.as_str())?;
         let told = format!(in alloc; "written /{long}/{line}\n")?;
         assert!(rt; is_done(&ran, 0, told.as_str()), "{ran:?}");
         let place = format!(in alloc; "out/{front}~20/A")?;
         assert!(rt; memory.survives(place.as_str(), runs(alloc, &A)?.as_slice()));
         assert_eq!(rt; memory.count(), 2);
+    }
+    Ok(())
+}
+
+/// Of the file, of the folder that it is in, and of one that leads to what is asked for.
+#[test]
+fn times_are_set_where_the_files_are(rt: HostRuntime) -> Result<(), Fail> {
+    let alloc = rt.alloc();
+    let long = ones(alloc, 127)?;
+    let front = ones(alloc, 84)?;
+    let place = format!(in alloc; "out/{front}~20/{front}~3")?;
+    let folder = format!(in alloc; "out/{front}~20")?;
+    let asked = format!(in alloc; "--only /{long}/{long}")?;
+    for only in ["", asked.as_str()] {
+        let mut memory = disc(alloc, &[(LONG, 20)], &[(LONG, 3)], &[])?;
+        let words = format!(in alloc;
+            "extract --last 600 --to out --short-names --times {only} disc.tab"
+        )?;
+        let ran = ran(alloc, &mut memory, words.as_str())?;
+        assert_eq!(rt; ran.status, 0);
+        assert_eq!(rt; memory.modified(place.as_str()), SAMPLE);
+        assert_eq!(rt; memory.modified(folder.as_str()), SAMPLE);
+        assert_eq!(rt; memory.modified("out"), SAMPLE);
     }
     Ok(())
 }
