@@ -18,13 +18,13 @@ loop-depth-preserved c =
     elim c.match-get.branch [
       | in-Some+in_ok-push_part w ↦
           let name = w.in-Some.name.now in
-          let part = unwrap_or (shortened two w.icb_at.result name) name in
+          let part = unwrap_or (shortened two w.icb_at-icb.result name) name in
           let step : string_bytes c.match-get.text ≡ string_bytes c.loop-depth.text ++ name_text part = ap string_bytes w.text-is ∙ w.in_ok-push_part.ensures in
           record {
             text = λ n at way.
                 let so_far = parts two (icb_above nodes c.args.index n) 1 (take i path) in
                 step ∙ ap (λ t. t ++ name_text part) (inv.text n at way) ∙ append_assoc old (names_text so_far) (name_text part)
-                ∙ ap (λ t. old ++ t) (ap (λ x. names_text so_far ++ name_text (unwrap_or (shortened two x name) name)) (w.icb_at.ensures n at way) ∙ sym (parts_next two (icb_above nodes c.args.index n) i path name w.in-Some.ensures));
+                ∙ ap (λ t. old ++ t) (ap (λ x. names_text so_far ++ name_text (unwrap_or (shortened two x name) name)) (w.icb_at-icb.ensures n at way) ∙ sym (parts_next two (icb_above nodes c.args.index n) i path name w.in-Some.ensures));
             names = (inv.names.0 ++ part ∷ [], step ∙ ap (λ t. t ++ name_text part) inv.names.1 ∙ append_assoc old (names_text inv.names.0) (name_text part) ∙ ap (λ t. old ++ t) (sym (names_more inv.names.0 part)));
           }
       | in_default w ↦ absurd (some_name path i (let h = c.loop-depth-test.true in let e = c.len-depth-end.ensures in omega (arith, h, e)) w.in_default.ensures)
