@@ -124,17 +124,23 @@ fn one_in_a_hundred_is_no_other_disc(rt: HostRuntime) -> Result<(), Fail> {
     Ok(())
 }
 
+/// Records of the blocks from this one up to that one, each of bytes of its own.
+fn records(alloc: Global, from: u32, to: u32) -> Result<Vec<(u32, u8)>, AllocError> {
+    let mut all = Vec::new(alloc);
+    for block in from..to {
+        all.push((block, (block % 200) as u8))?;
+    }
+    Ok(all)
+}
+
 /// Blocks 0 to 99 are in the first reading and 100 to 199 in the second. The third has all of them: two are others, and then three. With
 /// two others 198 are known and 99 of them new; with three 197, of which 98 are new.
 #[test]
 fn a_third_input_of_another_disc_is_doubted(rt: HostRuntime) -> Result<(), Fail> {
     let alloc = rt.alloc();
-    let mut all = Vec::new(alloc);
-    for block in 0..200u32 {
-        all.push((block, (block % 200) as u8))?;
-    }
-    let (front, back) = all.as_slice().split_at(100);
-    let mut third = Vec::from_slice(alloc, all.as_slice())?;
+    let front = records(alloc, 0, 100)?;
+    let back = records(alloc, 100, 200)?;
+    let mut third = records(alloc, 0, 200)?;
     for (place, lines) in [
         (7usize, ""),
         (107, "3 inputs: 198 known (99 new), 2 in conflict (2 new)\n"),
@@ -150,8 +156,8 @@ fn a_third_input_of_another_disc_is_doubted(rt: HostRuntime) -> Result<(), Fail>
             continue;
         }
         let mut memory = Memory::new(alloc);
-        memory.store("first.rd", reading(alloc, front)?.as_slice())?;
-        memory.store("second.rd", reading(alloc, back)?.as_slice())?;
+        memory.store("first.rd", reading(alloc, front.as_slice())?.as_slice())?;
+        memory.store("second.rd", reading(alloc, back.as_slice())?.as_slice())?;
         memory.store("third.rd", reading(alloc, third.as_slice())?.as_slice())?;
         let words = "merge -v --out t.tab first.rd second.rd third.rd";
         assert!(rt; closes(alloc, &mut memory, words, lines)?, "{place}");
@@ -306,14 +312,17 @@ fn a_pair_is_an_input(rt: HostRuntime) -> Result<(), Fail> {
 fn figures_have_their_thousands_apart(rt: HostRuntime) -> Result<(), Fail> {
     let alloc = rt.alloc();
     let mut memory = Memory::new(alloc);
+    let mut front = Vec::new(alloc);
     let mut entries = Vec::new(alloc);
     let mut others = Vec::new(alloc);
     for block in 0..1100u32 {
+        if block < 1000 {
+            front.push((block + 4_000, 0x61u8))?;
+        }
         entries.push((block + 4_000, 0x61u8))?;
         others.push((block + 4_000, 0x62u8))?;
     }
-    let (front, _) = entries.as_slice().split_at(1000);
-    memory.store("some.tab", table(alloc, front)?.as_slice())?;
+    memory.store("some.tab", table(alloc, front.as_slice())?.as_slice())?;
     memory.store("all.rd", reading(alloc, entries.as_slice())?.as_slice())?;
     memory.store("else.tab", table(alloc, others.as_slice())?.as_slice())?;
     let lines =
