@@ -9,6 +9,7 @@ mod only;
 mod paging;
 mod profiles;
 mod reporting;
+mod short_names;
 mod summing;
 mod times;
 mod unnamed;

@@ -1,7 +1,7 @@
 //! The program as a function: words and files in, a status out.
 
-ghost use Rattle.std.specs.Prelude.{◌≡◌, ◌≢◌, ◌⊎◌, ℕ, List, Bool, true, false, Some, None, IfOk, IfSome, OnOk, OnErr, codes, cond, map};
-ghost use Rattle.clap.specs.Matches.{found_of, one_text};
+ghost use Rattle.std.specs.Prelude.{◌≡◌, ◌≢◌, ◌⊎◌, ℕ, List, Bool, true, false, None, IfOk, IfSome, OnOk, OnErr, codes, cond, map};
+ghost use Rattle.clap.specs.Matches.{found_of};
 ghost use Rattle.udfs_lattice.specs.Tables.{Table};
 ghost use Rattle.udfs_lattice.specs.Records.{join_all};
 ghost use Rattle.udfs_files.specs.Disk.{Fails};
@@ -19,7 +19,6 @@ ghost use Rattle.udfs_words.specs.declared.input_path.InputPath.{InputPath};
 ghost use Rattle.udfs_reports.specs.Rereading.{PrintsNumbers, WritesDomain, MayDomainAsked, RereadSpares};
 ghost use Rattle.clap.specs.declared.parser.matches.Found.{Found};
 ghost use Rattle.std.specs.String.{string_bytes};
-ghost use Rattle.clap.specs.Words.{kind_of};
 ghost use Rattle.udfs_extraction.specs.Sparing.{ExtractSpares};
 ghost use Rattle.udfs_tables.specs.Leaving.{MayForgetAsked, MayMerge, ReplacesOut};
 ghost use Rattle.udfs_extraction.specs.LostFiles.{AddsLost, ExtractAsked, IsLostPut, IsNewFolder, SparesLost, WritesLost, lost_others};
@@ -34,44 +33,30 @@ ghost use Rattle.udfs_extraction.specs.Timing.{IsTold};
 ghost use Rattle.udfs_words.specs.declared.forms.Version.{Version};
 ghost use Rattle.udfs_words.specs.declared.forms.Form.{Form};
 
-use crate::hints::second_line;
 use crate::printing::send;
-use clap::error::ErrorKind;
-use clap::{ArgMatches, Error};
+use crate::refusing::{ask_for_last, command_of, explain, refuse, show, tell, tell_profile};
+use clap::ArgMatches;
 use std::alloc::{AllocError, Global};
 use udfs_common::files::Files;
 use udfs_common::refusal::Refusal;
 use udfs_common::sources::AnySource;
 use udfs_extraction::timed_words::extract_timed;
 use udfs_extraction::times::keep_times;
-use udfs_reading::{DeviceFault, Sink, Source};
+use udfs_reading::{Sink, Source};
 use udfs_reports::page_words::page_words;
 use udfs_reports::report_words::{list_words, report_words, summary_words};
 use udfs_reports::reread_words::reread_as;
 use udfs_tables::forget_words::forget_words;
 use udfs_tables::image_words::image_words;
 use udfs_tables::merge_words::merge_words;
-use udfs_words::last::{EndFault, end_fault};
+use udfs_words::last::end_fault;
 use udfs_words::profile::unknown_profile;
 use udfs_words::streams::are_two_streams;
 use udfs_words::words::{QUIET, VERBOSE, given_in, grammar};
 
-/// The line for want of memory, which itself takes none.
-const NO_MEMORY: &[u8] = b"udfsalvage: out of memory\n";
-
 /// What is said where standard input is to be read twice.
 const TWO_STREAMS: &[u8] =
     b"error: the argument '-' cannot be used multiple times\n\nFor more information, try '--help'.\n";
-
-/// How clap lists that a list of blocks is missing.
-const NO_BLOCKS: &str = "\n  --blocks <LIST>\n";
-
-/// How it lists that one of two is missing.
-const NOTHING_TO_FORGET: &str = "\n  <--conflicts|--blocks <LIST>>\n";
-
-/// What is said of a word that is not text.
-const NOT_TEXT: &[u8] =
-    b"error: invalid UTF-8 was detected in one or more arguments\n\nFor more information, try '--help'.\n";
 
 /// Runs the command that the words ask for, the program's name first, and answers its exit status: 0 where it is done and
 /// nothing is lacking, 1 where a volume is not whole, 2 where the command is refused. A refusal is one line on `err`, and a fault of the words is clap's text there. Help and the
@@ -106,38 +91,38 @@ pub fn run<F: Files, O: Sink, E: Sink>(
         (F.tells → IsFreeMap (F.holds files.old) (F.real files.old) (F.in_place files.old) (pair_texts found) (mapfile_text found))) }
     // Where `--times` asks for times, one that could not be set is lacking too.
     ensures extract { GrammarTakes (map string_bytes words.now) → Asks (map string_bytes words.now) (codes "extract") → result ≢ 2 → (all : Bool) × (result ≡ cond all 0 1) × (found : Found) × IsAsked (map string_bytes words.now) (codes "extract") found ×
-        ((good : Bool) × IsTold found good all × (has_lost found ≡ false → has_manifest found ≡ false → has_only found ≡ false → (fill : Fill) × (last : ℕ) × (profile : Profile) × (inputs : List InputPath) × (map asked_for inputs ≡ asked_inputs found) ×
-        IsPicked found (codes "fill") (Fill.Byte 0) Fill.Refuse fill × IsLast (λ path. F.holds files.old (F.real files.old path)) inputs found last × IsProfile found profile ×
+        ((good : Bool) × IsTold found good all × (has_lost found ≡ false → has_manifest found ≡ false → has_only found ≡ false → (fill : Fill) × (short : Bool) × (last : ℕ) × (profile : Profile) × (inputs : List InputPath) × (map asked_for inputs ≡ asked_inputs found) ×
+        IsPicked found (codes "fill") (Fill.Byte 0) Fill.Refuse fill × IsPicked found (codes "short-names") true false short × IsLast (λ path. F.holds files.old (F.real files.old path)) inputs found last × IsProfile found profile ×
         OfPaths (λ path. F.holds files.old (F.real files.old path)) (⟦<AnySource<F::Input, F::Image> as Source>⟧.remaining) inputs
-        (ExtractsAll (λ table told. IsPut F.tells (Fails F.faults ⊎ Fails F.Output.faults) table told fill (folder_text found) (F.holds files.new) (F.moment files.new) (F.left_since files.new))
+        (ExtractsAll short (λ table told. IsPut F.tells (Fails F.faults ⊎ Fails F.Output.faults) table told fill short (folder_text found) (F.holds files.new) (F.moment files.new) (F.left_since files.new))
         files.old files.new profile last (O.contents out.old) (O.contents out.new) (O.faults out.old) (O.faults out.new) good))) }
     ensures chosen { GrammarTakes (map string_bytes words.now) → Asks (map string_bytes words.now) (codes "extract") → result ≢ 2 → (all : Bool) × (result ≡ cond all 0 1) × (found : Found) × IsAsked (map string_bytes words.now) (codes "extract") found ×
-        ((good : Bool) × IsTold found good all × (has_lost found ≡ false → has_manifest found ≡ false → (fill : Fill) × (last : ℕ) × (profile : Profile) × (inputs : List InputPath) × (map asked_for inputs ≡ asked_inputs found) ×
-        IsPicked found (codes "fill") (Fill.Byte 0) Fill.Refuse fill × IsLast (λ path. F.holds files.old (F.real files.old path)) inputs found last × IsProfile found profile ×
+        ((good : Bool) × IsTold found good all × (has_lost found ≡ false → has_manifest found ≡ false → (fill : Fill) × (short : Bool) × (last : ℕ) × (profile : Profile) × (inputs : List InputPath) × (map asked_for inputs ≡ asked_inputs found) ×
+        IsPicked found (codes "fill") (Fill.Byte 0) Fill.Refuse fill × IsPicked found (codes "short-names") true false short × IsLast (λ path. F.holds files.old (F.real files.old path)) inputs found last × IsProfile found profile ×
         OfPaths (λ path. F.holds files.old (F.real files.old path)) (⟦<AnySource<F::Input, F::Image> as Source>⟧.remaining) inputs
-        (ExtractsChosen (only_texts found) (λ table told. IsPut F.tells (Fails F.faults ⊎ Fails F.Output.faults) table told fill (folder_text found) (F.holds files.new) (F.moment files.new) (F.left_since files.new))
+        (ExtractsChosen (only_texts found) short (λ table told. IsPut F.tells (Fails F.faults ⊎ Fails F.Output.faults) table told fill short (folder_text found) (F.holds files.new) (F.moment files.new) (F.left_since files.new))
         F.holds (folder_text found) files.old files.new profile last (O.contents out.old) (O.contents out.new) (O.faults out.old) (O.faults out.new) good))) }
     ensures listed { GrammarTakes (map string_bytes words.now) → Asks (map string_bytes words.now) (codes "extract") → result ≢ 2 → (all : Bool) × (result ≡ cond all 0 1) × (found : Found) × IsAsked (map string_bytes words.now) (codes "extract") found ×
-        ((good : Bool) × IsTold found good all × (has_lost found ≡ false → has_manifest found ≡ true → ((fill : Fill) × (last : ℕ) × (profile : Profile) × (inputs : List InputPath) × (map asked_for inputs ≡ asked_inputs found) ×
-        IsPicked found (codes "fill") (Fill.Byte 0) Fill.Refuse fill × IsLast (λ path. F.holds files.old (F.real files.old path)) inputs found last × IsProfile found profile ×
+        ((good : Bool) × IsTold found good all × (has_lost found ≡ false → has_manifest found ≡ true → ((fill : Fill) × (short : Bool) × (last : ℕ) × (profile : Profile) × (inputs : List InputPath) × (map asked_for inputs ≡ asked_inputs found) ×
+        IsPicked found (codes "fill") (Fill.Byte 0) Fill.Refuse fill × IsPicked found (codes "short-names") true false short × IsLast (λ path. F.holds files.old (F.real files.old path)) inputs found last × IsProfile found profile ×
         OfPaths (λ path. F.holds files.old (F.real files.old path)) (⟦<AnySource<F::Input, F::Image> as Source>⟧.remaining) inputs
-        (ListsChosen (only_texts found)
-        (λ f table told. IsPut F.tells (Fails F.faults ⊎ Fails F.Output.faults) table told fill (folder_text found) (F.holds f) (F.moment f) (F.left_since f))
-        (λ f nodes fates text. F.tells → IsManifest (F.holds f) (folder_text found) nodes fates text)
+        (ListsChosen (only_texts found) short
+        (λ f table told. IsPut F.tells (Fails F.faults ⊎ Fails F.Output.faults) table told fill short (folder_text found) (F.holds f) (F.moment f) (F.left_since f))
+        (λ f told fates text. F.tells → IsManifest (F.holds f) (folder_text found) short told fates text)
         (λ f text. F.tells → IsPutLast F.holds F.may_leave F.moment F.left_since (F.real files.old (manifest_text found)) f files.new text)
         F.holds (folder_text found) files.old files.new profile last (O.contents out.old) (O.contents out.new) (O.faults out.old) (O.faults out.new) good)) ×
         (F.tells → IsFreeManifest (F.holds files.old) (F.real files.old) (input_texts found) (pair_texts found) (folder_text found) (manifest_text found)))) }
     // With `--unnamed` the same, and then the lost files are written, into a folder that was not there.
     ensures lost { GrammarTakes (map string_bytes words.now) → Asks (map string_bytes words.now) (codes "extract") → result ≢ 2 → (all : Bool) × (result ≡ cond all 0 1) × (found : Found) × IsAsked (map string_bytes words.now) (codes "extract") found ×
-        ((good : Bool) × IsTold found good all × (has_lost found ≡ true → has_manifest found ≡ false → ExtractAsked (λ path. F.holds files.old (F.real files.old path)) (⟦<AnySource<F::Input, F::Image> as Source>⟧.remaining) found (λ fill last profile. AddsLost
-        (λ (mid : F) (between : O) nodes_good. ExtractsChosen (only_texts found) (λ table told. IsPut F.tells (Fails F.faults ⊎ Fails F.Output.faults) table told fill (folder_text found) (F.holds mid) (F.moment mid) (F.left_since mid))
+        ((good : Bool) × IsTold found good all × (has_lost found ≡ true → has_manifest found ≡ false → ExtractAsked (λ path. F.holds files.old (F.real files.old path)) (⟦<AnySource<F::Input, F::Image> as Source>⟧.remaining) found (λ fill short last profile. AddsLost
+        (λ (mid : F) (between : O) nodes_good. ExtractsChosen (only_texts found) short (λ table told. IsPut F.tells (Fails F.faults ⊎ Fails F.Output.faults) table told fill short (folder_text found) (F.holds mid) (F.moment mid) (F.left_since mid))
         F.holds (folder_text found) files.old mid profile last (O.contents out.old) (O.contents between) (O.faults out.old) (O.faults between) nodes_good)
         (λ (mid : F) (between : O) lost_good. WritesLost (λ table told two. IsLostPut F.tells (Fails F.faults ⊎ Fails F.Output.faults) table told (lost_text found) two (F.holds files.new) (F.moment files.new) (F.left_since files.new))
         (SparesLost F.tells F.holds F.may_leave F.moment F.left_since (lost_text found) mid files.new) profile last (O.contents between) (O.contents out.new) (O.faults between) (O.faults out.new) lost_good) good))) }
     ensures listed_lost { GrammarTakes (map string_bytes words.now) → Asks (map string_bytes words.now) (codes "extract") → result ≢ 2 → (all : Bool) × (result ≡ cond all 0 1) × (found : Found) × IsAsked (map string_bytes words.now) (codes "extract") found ×
-        ((good : Bool) × IsTold found good all × (has_lost found ≡ true → has_manifest found ≡ true → ExtractAsked (λ path. F.holds files.old (F.real files.old path)) (⟦<AnySource<F::Input, F::Image> as Source>⟧.remaining) found (λ fill last profile. AddsLost
-        (λ (mid : F) (between : O) nodes_good. ListsChosen (only_texts found) (λ f table told. IsPut F.tells (Fails F.faults ⊎ Fails F.Output.faults) table told fill (folder_text found) (F.holds f) (F.moment f) (F.left_since f))
-        (λ f nodes fates text. F.tells → IsManifest (F.holds f) (folder_text found) nodes fates text)
+        ((good : Bool) × IsTold found good all × (has_lost found ≡ true → has_manifest found ≡ true → ExtractAsked (λ path. F.holds files.old (F.real files.old path)) (⟦<AnySource<F::Input, F::Image> as Source>⟧.remaining) found (λ fill short last profile. AddsLost
+        (λ (mid : F) (between : O) nodes_good. ListsChosen (only_texts found) short (λ f table told. IsPut F.tells (Fails F.faults ⊎ Fails F.Output.faults) table told fill short (folder_text found) (F.holds f) (F.moment f) (F.left_since f))
+        (λ f told fates text. F.tells → IsManifest (F.holds f) (folder_text found) short told fates text)
         (λ f text. F.tells → IsPutLast F.holds F.may_leave F.moment F.left_since (F.real files.old (manifest_text found)) f mid text)
         F.holds (folder_text found) files.old mid profile last (O.contents out.old) (O.contents between) (O.faults out.old) (O.faults between) nodes_good)
         (λ (mid : F) (between : O) lost_good. WritesLost (λ table told two. IsLostPut F.tells (Fails F.faults ⊎ Fails F.Output.faults) table told (lost_text found) two (F.holds files.new) (F.moment files.new) (F.left_since files.new))
@@ -250,33 +235,33 @@ fn obey<F: Files, O: Sink>(
     ensures reread { name.now ≡ codes "reread" → IfSome result (λ outcome. IfOk outcome (λ whole. is_mapped (found_of words.now) ≡ false → (last : ℕ) × (profile : Profile) × (inputs : List InputPath) × (map asked_for inputs ≡ asked_inputs (found_of words.now)) ×
         IsLast (λ path. F.holds files.old (F.real files.old path)) inputs (found_of words.now) last × IsProfile (found_of words.now) profile × OfPaths (λ path. F.holds files.old (F.real files.old path)) (⟦<AnySource<F::Input, F::Image> as Source>⟧.remaining) inputs
         (PrintsNumbers profile last (O.contents out.old) (O.contents out.new) (O.faults out.old) (O.faults out.new) whole))) }
-    ensures extract { name.now ≡ codes "extract" → IfSome result (λ outcome. IfOk outcome (λ all. (good : Bool) × IsTold (found_of words.now) good all × (has_lost (found_of words.now) ≡ false → has_manifest (found_of words.now) ≡ false → has_only (found_of words.now) ≡ false → (fill : Fill) × (last : ℕ) × (profile : Profile) × (inputs : List InputPath) × (map asked_for inputs ≡ asked_inputs (found_of words.now)) ×
-        IsPicked (found_of words.now) (codes "fill") (Fill.Byte 0) Fill.Refuse fill × IsLast (λ path. F.holds files.old (F.real files.old path)) inputs (found_of words.now) last × IsProfile (found_of words.now) profile ×
+    ensures extract { name.now ≡ codes "extract" → IfSome result (λ outcome. IfOk outcome (λ all. (good : Bool) × IsTold (found_of words.now) good all × (has_lost (found_of words.now) ≡ false → has_manifest (found_of words.now) ≡ false → has_only (found_of words.now) ≡ false → (fill : Fill) × (short : Bool) × (last : ℕ) × (profile : Profile) × (inputs : List InputPath) × (map asked_for inputs ≡ asked_inputs (found_of words.now)) ×
+        IsPicked (found_of words.now) (codes "fill") (Fill.Byte 0) Fill.Refuse fill × IsPicked (found_of words.now) (codes "short-names") true false short × IsLast (λ path. F.holds files.old (F.real files.old path)) inputs (found_of words.now) last × IsProfile (found_of words.now) profile ×
         OfPaths (λ path. F.holds files.old (F.real files.old path)) (⟦<AnySource<F::Input, F::Image> as Source>⟧.remaining) inputs
-        (ExtractsAll (λ table told. IsPut F.tells (Fails F.faults ⊎ Fails F.Output.faults) table told fill (folder_text (found_of words.now)) (F.holds files.new) (F.moment files.new) (F.left_since files.new))
+        (ExtractsAll short (λ table told. IsPut F.tells (Fails F.faults ⊎ Fails F.Output.faults) table told fill short (folder_text (found_of words.now)) (F.holds files.new) (F.moment files.new) (F.left_since files.new))
         files.old files.new profile last (O.contents out.old) (O.contents out.new) (O.faults out.old) (O.faults out.new) good)))) }
-    ensures chosen { name.now ≡ codes "extract" → IfSome result (λ outcome. IfOk outcome (λ all. (good : Bool) × IsTold (found_of words.now) good all × (has_lost (found_of words.now) ≡ false → has_manifest (found_of words.now) ≡ false → (fill : Fill) × (last : ℕ) × (profile : Profile) × (inputs : List InputPath) × (map asked_for inputs ≡ asked_inputs (found_of words.now)) ×
-        IsPicked (found_of words.now) (codes "fill") (Fill.Byte 0) Fill.Refuse fill × IsLast (λ path. F.holds files.old (F.real files.old path)) inputs (found_of words.now) last × IsProfile (found_of words.now) profile ×
+    ensures chosen { name.now ≡ codes "extract" → IfSome result (λ outcome. IfOk outcome (λ all. (good : Bool) × IsTold (found_of words.now) good all × (has_lost (found_of words.now) ≡ false → has_manifest (found_of words.now) ≡ false → (fill : Fill) × (short : Bool) × (last : ℕ) × (profile : Profile) × (inputs : List InputPath) × (map asked_for inputs ≡ asked_inputs (found_of words.now)) ×
+        IsPicked (found_of words.now) (codes "fill") (Fill.Byte 0) Fill.Refuse fill × IsPicked (found_of words.now) (codes "short-names") true false short × IsLast (λ path. F.holds files.old (F.real files.old path)) inputs (found_of words.now) last × IsProfile (found_of words.now) profile ×
         OfPaths (λ path. F.holds files.old (F.real files.old path)) (⟦<AnySource<F::Input, F::Image> as Source>⟧.remaining) inputs
-        (ExtractsChosen (only_texts (found_of words.now)) (λ table told. IsPut F.tells (Fails F.faults ⊎ Fails F.Output.faults) table told fill (folder_text (found_of words.now)) (F.holds files.new) (F.moment files.new) (F.left_since files.new))
+        (ExtractsChosen (only_texts (found_of words.now)) short (λ table told. IsPut F.tells (Fails F.faults ⊎ Fails F.Output.faults) table told fill short (folder_text (found_of words.now)) (F.holds files.new) (F.moment files.new) (F.left_since files.new))
         F.holds (folder_text (found_of words.now)) files.old files.new profile last (O.contents out.old) (O.contents out.new) (O.faults out.old) (O.faults out.new) good)))) }
-    ensures listed { name.now ≡ codes "extract" → IfSome result (λ outcome. IfOk outcome (λ all. (good : Bool) × IsTold (found_of words.now) good all × (has_lost (found_of words.now) ≡ false → has_manifest (found_of words.now) ≡ true → ((fill : Fill) × (last : ℕ) × (profile : Profile) × (inputs : List InputPath) × (map asked_for inputs ≡ asked_inputs (found_of words.now)) ×
-        IsPicked (found_of words.now) (codes "fill") (Fill.Byte 0) Fill.Refuse fill × IsLast (λ path. F.holds files.old (F.real files.old path)) inputs (found_of words.now) last × IsProfile (found_of words.now) profile ×
+    ensures listed { name.now ≡ codes "extract" → IfSome result (λ outcome. IfOk outcome (λ all. (good : Bool) × IsTold (found_of words.now) good all × (has_lost (found_of words.now) ≡ false → has_manifest (found_of words.now) ≡ true → ((fill : Fill) × (short : Bool) × (last : ℕ) × (profile : Profile) × (inputs : List InputPath) × (map asked_for inputs ≡ asked_inputs (found_of words.now)) ×
+        IsPicked (found_of words.now) (codes "fill") (Fill.Byte 0) Fill.Refuse fill × IsPicked (found_of words.now) (codes "short-names") true false short × IsLast (λ path. F.holds files.old (F.real files.old path)) inputs (found_of words.now) last × IsProfile (found_of words.now) profile ×
         OfPaths (λ path. F.holds files.old (F.real files.old path)) (⟦<AnySource<F::Input, F::Image> as Source>⟧.remaining) inputs
-        (ListsChosen (only_texts (found_of words.now))
-        (λ f table told. IsPut F.tells (Fails F.faults ⊎ Fails F.Output.faults) table told fill (folder_text (found_of words.now)) (F.holds f) (F.moment f) (F.left_since f))
-        (λ f nodes fates text. F.tells → IsManifest (F.holds f) (folder_text (found_of words.now)) nodes fates text)
+        (ListsChosen (only_texts (found_of words.now)) short
+        (λ f table told. IsPut F.tells (Fails F.faults ⊎ Fails F.Output.faults) table told fill short (folder_text (found_of words.now)) (F.holds f) (F.moment f) (F.left_since f))
+        (λ f told fates text. F.tells → IsManifest (F.holds f) (folder_text (found_of words.now)) short told fates text)
         (λ f text. F.tells → IsPutLast F.holds F.may_leave F.moment F.left_since (F.real files.old (manifest_text (found_of words.now))) f files.new text)
         F.holds (folder_text (found_of words.now)) files.old files.new profile last (O.contents out.old) (O.contents out.new) (O.faults out.old) (O.faults out.new) good)) ×
         (F.tells → IsFreeManifest (F.holds files.old) (F.real files.old) (input_texts (found_of words.now)) (pair_texts (found_of words.now)) (folder_text (found_of words.now)) (manifest_text (found_of words.now)))))) }
-    ensures lost { name.now ≡ codes "extract" → IfSome result (λ outcome. IfOk outcome (λ all. (good : Bool) × IsTold (found_of words.now) good all × (has_lost (found_of words.now) ≡ true → has_manifest (found_of words.now) ≡ false → ExtractAsked (λ path. F.holds files.old (F.real files.old path)) (⟦<AnySource<F::Input, F::Image> as Source>⟧.remaining) (found_of words.now) (λ fill last profile. AddsLost
-        (λ (mid : F) (between : O) nodes_good. ExtractsChosen (only_texts (found_of words.now)) (λ table told. IsPut F.tells (Fails F.faults ⊎ Fails F.Output.faults) table told fill (folder_text (found_of words.now)) (F.holds mid) (F.moment mid) (F.left_since mid))
+    ensures lost { name.now ≡ codes "extract" → IfSome result (λ outcome. IfOk outcome (λ all. (good : Bool) × IsTold (found_of words.now) good all × (has_lost (found_of words.now) ≡ true → has_manifest (found_of words.now) ≡ false → ExtractAsked (λ path. F.holds files.old (F.real files.old path)) (⟦<AnySource<F::Input, F::Image> as Source>⟧.remaining) (found_of words.now) (λ fill short last profile. AddsLost
+        (λ (mid : F) (between : O) nodes_good. ExtractsChosen (only_texts (found_of words.now)) short (λ table told. IsPut F.tells (Fails F.faults ⊎ Fails F.Output.faults) table told fill short (folder_text (found_of words.now)) (F.holds mid) (F.moment mid) (F.left_since mid))
         F.holds (folder_text (found_of words.now)) files.old mid profile last (O.contents out.old) (O.contents between) (O.faults out.old) (O.faults between) nodes_good)
         (λ (mid : F) (between : O) lost_good. WritesLost (λ table told two. IsLostPut F.tells (Fails F.faults ⊎ Fails F.Output.faults) table told (lost_text (found_of words.now)) two (F.holds files.new) (F.moment files.new) (F.left_since files.new))
         (SparesLost F.tells F.holds F.may_leave F.moment F.left_since (lost_text (found_of words.now)) mid files.new) profile last (O.contents between) (O.contents out.new) (O.faults between) (O.faults out.new) lost_good) good)))) }
-    ensures listed_lost { name.now ≡ codes "extract" → IfSome result (λ outcome. IfOk outcome (λ all. (good : Bool) × IsTold (found_of words.now) good all × (has_lost (found_of words.now) ≡ true → has_manifest (found_of words.now) ≡ true → ExtractAsked (λ path. F.holds files.old (F.real files.old path)) (⟦<AnySource<F::Input, F::Image> as Source>⟧.remaining) (found_of words.now) (λ fill last profile. AddsLost
-        (λ (mid : F) (between : O) nodes_good. ListsChosen (only_texts (found_of words.now)) (λ f table told. IsPut F.tells (Fails F.faults ⊎ Fails F.Output.faults) table told fill (folder_text (found_of words.now)) (F.holds f) (F.moment f) (F.left_since f))
-        (λ f nodes fates text. F.tells → IsManifest (F.holds f) (folder_text (found_of words.now)) nodes fates text)
+    ensures listed_lost { name.now ≡ codes "extract" → IfSome result (λ outcome. IfOk outcome (λ all. (good : Bool) × IsTold (found_of words.now) good all × (has_lost (found_of words.now) ≡ true → has_manifest (found_of words.now) ≡ true → ExtractAsked (λ path. F.holds files.old (F.real files.old path)) (⟦<AnySource<F::Input, F::Image> as Source>⟧.remaining) (found_of words.now) (λ fill short last profile. AddsLost
+        (λ (mid : F) (between : O) nodes_good. ListsChosen (only_texts (found_of words.now)) short (λ f table told. IsPut F.tells (Fails F.faults ⊎ Fails F.Output.faults) table told fill short (folder_text (found_of words.now)) (F.holds f) (F.moment f) (F.left_since f))
+        (λ f told fates text. F.tells → IsManifest (F.holds f) (folder_text (found_of words.now)) short told fates text)
         (λ f text. F.tells → IsPutLast F.holds F.may_leave F.moment F.left_since (F.real files.old (manifest_text (found_of words.now))) f mid text)
         F.holds (folder_text (found_of words.now)) files.old mid profile last (O.contents out.old) (O.contents between) (O.faults out.old) (O.faults between) nodes_good)
         (λ (mid : F) (between : O) lost_good. WritesLost (λ table told two. IsLostPut F.tells (Fails F.faults ⊎ Fails F.Output.faults) table told (lost_text (found_of words.now)) two (F.holds files.new) (F.moment files.new) (F.left_since files.new))
@@ -373,138 +358,4 @@ fn finish<F: Files, E: Sink>(
             status
         }
     }
-}
-
-/// The word behind the program's name, which is that of its command where the words are good.
-fn command_of(line: &[String]) -> &str {
-    match line {
-        [_, command, ..] => command.as_str(),
-        _ => "",
-    }
-}
-
-/// Says more of a refusal of the command that is called so beneath its line, where a person watches or the words ask for it.
-fn explain<F: Files, E: Sink>(
-    alloc: Global,
-    refusal: &Refusal,
-    command: &str,
-    words: &ArgMatches<'_>,
-    files: &F,
-    err: &mut E,
-)
-    ensures quiet { one_text (found_of words.now) (codes "quiet") ≡ Some (codes "true") → err.new ≡ err.old }
-{
-    if words.get_flag(QUIET) || !(files.is_watched() || words.get_flag(VERBOSE)) {
-        return;
-    }
-    if let Ok(Some(more)) = second_line(alloc, refusal, command, words, files)
-        && let Ok(line) = format!(in alloc; "  {more}\n")
-    {
-        let _ = send(line.as_bytes(), err);
-    }
-}
-
-/// Says that the words of the command line could not be had, and answers the status.
-pub fn refuse_words<E: Sink>(wants_memory: bool, err: &mut E) -> u8
-    ensures { result ≡ 2 }
-{
-    let text = if wants_memory { NO_MEMORY } else { NOT_TEXT };
-    let _ = send(text, err);
-    2
-}
-
-/// Shows clap's text: help and version on `out`, a fault of the words on `err`.
-fn show<O: Sink, E: Sink>(alloc: Global, error: &Error, out: &mut O, err: &mut E) -> u8
-    ensures status { (result ≡ 0) ⊎ (result ≡ 2) }
-    ensures silent { result ≡ 0 → err.new ≡ err.old }
-    ensures memory { kind_of error.now ≡ ErrorKind.OutOfMemory → result ≡ 2 }
-{
-    if error.use_stderr() || error.kind() == ErrorKind::OutOfMemory {
-        return show_fault(alloc, error, err);
-    }
-    let Ok(text) = format!(in alloc; "{error}") else {
-        return refuse(alloc, &Refusal::Memory(AllocError), err);
-    };
-    match send(text.as_bytes(), out) {
-        (_, Ok(())) => 0,
-        (_, Err(DeviceFault)) => refuse(alloc, &Refusal::Output, err),
-    }
-}
-
-/// Shows clap's text of a fault of the words, and answers the status.
-fn show_fault<E: Sink>(alloc: Global, error: &Error, err: &mut E) -> u8
-    ensures { result ≡ 2 }
-{
-    if error.kind() == ErrorKind::OutOfMemory {
-        return refuse(alloc, &Refusal::Memory(AllocError), err);
-    }
-    match fault_text(alloc, error) {
-        Ok(text) => {
-            let _ = send(text.as_bytes(), err);
-            2
-        }
-        Err(AllocError) => refuse(alloc, &Refusal::Memory(AllocError), err),
-    }
-}
-
-/// Clap's text of a fault of the words. Where a list of blocks is missing, the other word that would do is named too, as clap does in a group of which one
-/// has to be given.
-fn fault_text(alloc: Global, error: &Error) -> Result<String, AllocError> {
-    let text = format!(in alloc; "{error}")?;
-    match text.as_str().split_once(NO_BLOCKS) {
-        Some((before, after)) => format!(in alloc; "{before}{NOTHING_TO_FORGET}{after}"),
-        None => Ok(text),
-    }
-}
-
-/// Says, as clap does where nothing could tell it, that the last block has to be given, and answers the status.
-fn ask_for_last<E: Sink>(alloc: Global, line: &[String], err: &mut E) -> u8
-    ensures { result ≡ 2 }
-{
-    let mut given = given_in(line);
-    given.needs_last = true;
-    let command = match grammar(alloc, given) {
-        Ok(command) => command,
-        Err(AllocError) => return refuse(alloc, &Refusal::Memory(AllocError), err),
-    };
-    match command.try_get_matches_from(line) {
-        Err(error) => show_fault(alloc, &error, err),
-        // The grammar asks for it.
-        Ok(_) => refuse(alloc, &Refusal::NoLast, err),
-    }
-}
-
-/// Says in clap's form what is wrong with the words that say where the disc ends, and answers the status.
-fn tell<E: Sink>(alloc: Global, fault: EndFault<'_>, err: &mut E) -> u8
-    ensures { result ≡ 2 }
-{
-    let _ = match format!(in alloc; "error: {fault}\n\nFor more information, try '--help'.\n") {
-        Ok(text) => send(text.as_bytes(), err),
-        Err(AllocError) => send(NO_MEMORY, err),
-    };
-    2
-}
-
-/// Says in clap's form that these rules are none, and answers the status.
-fn tell_profile<E: Sink>(alloc: Global, name: &str, err: &mut E) -> u8
-    ensures { result ≡ 2 }
-{
-    let _ = match format!(in alloc;
-        "error: invalid value '{name}' for '--profile <PROFILE>'\n  [possible values: strict, wide]\n\nFor more information, try '--help'.\n"
-    ) {
-        Ok(text) => send(text.as_bytes(), err),
-        Err(AllocError) => send(NO_MEMORY, err),
-    };
-    2
-}
-
-/// Prints a refusal's line, and answers the status. Where not even the line can be had, it is that of want of memory.
-fn refuse<E: Sink>(alloc: Global, refusal: &Refusal, err: &mut E) -> u8
-    ensures { result ≡ 2 }
-{
-    let _ = match format!(in alloc; "udfsalvage: {refusal}\n") {
-        Ok(line) => send(line.as_bytes(), err),
-        Err(AllocError) => send(NO_MEMORY, err),
-    };
-    2
 }

@@ -5,7 +5,9 @@
 mod command;
 mod hints;
 mod printing;
+mod refusing;
 mod spared;
 
-pub use command::{refuse_words, run};
+pub use command::run;
+pub use refusing::refuse_words;
 pub use udfs_extraction::asks_by_names;

@@ -1,7 +1,7 @@
 //! The table of the inputs.
 
 ghost use Rattle.std.specs.Prelude.{◌≡◌, ◌≢◌, IfOk, IfErr, OnOk};
-ghost use Rattle.udfs_lattice.specs.Tables.{join_tables};
+ghost use Rattle.udfs_lattice.specs.Tables.{Table, join_tables};
 ghost use Rattle.udfs_common.specs.Keeping.{OfPaths};
 ghost use Rattle.udfs_common.specs.declared.sources.AnySource.{AnySource};
 
@@ -14,13 +14,13 @@ use udfs_reading::{Source, Taker};
 use udfs_words::input_path::InputPath;
 
 /// Hands the blocks of the inputs to the taker, one source an input. All inputs are opened in order before one is read, and closed again.
-pub fn take_all<F: Files, T: Taker>(
+pub fn take_all<F: Files, T: Taker<AnySource<F::Input, F::Image>>>(
     alloc: Global,
     inputs: &[InputPath<'_>],
     taker: &mut T,
     files: &F,
 ) -> Result<(), Refusal>
-    ensures by_path { OnOk result (OfPaths (λ path. F.holds files.now (F.real files.now path)) (⟦<AnySource<F::Input, F::Image> as Source>⟧.remaining) inputs.now (λ t. T.table taker.new ≡ join_tables (T.table taker.old) t)) }
+    ensures by_path { OnOk result (OfPaths (λ path. F.holds files.now (F.real files.now path)) (⟦<AnySource<F::Input, F::Image> as Source>⟧.remaining) inputs.now (λ t. (s : Table) → T.took taker.old s → T.took taker.new (join_tables s t))) }
     ensures told { IfErr result (λ refusal. (refusal ≢ Refusal.Output) × (refusal ≢ Refusal.Unkept) × (refusal ≢ Refusal.Spared)) }
 {
     let mut sources = match open_all(alloc, inputs, files) {

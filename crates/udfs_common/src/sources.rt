@@ -152,11 +152,11 @@ pub fn refusal_for<R: Source, I: Image>(sources: &[AnySource<R, I>], error: Inpu
 }
 
 /// Reads the inputs in order, and hands their blocks to the taker.
-pub fn take_sources<R: Source, I: Image, T: Taker>(
+pub fn take_sources<R: Source, I: Image, T: Taker<AnySource<R, I>>>(
     sources: &mut [AnySource<R, I>],
     taker: &mut T,
 ) -> Result<(), Refusal>
-    ensures table { OnOk result ((ts : List Table) × TablesAre (⟦<AnySource<R, I> as Source>⟧.remaining) sources.old ts × (T.table taker.new ≡ join_tables (T.table taker.old) (join_all ts))) }
+    ensures table { OnOk result ((ts : List Table) × TablesAre (⟦<AnySource<R, I> as Source>⟧.remaining) sources.old ts × ((t : Table) → T.took taker.old t → T.took taker.new (join_tables t (join_all ts)))) }
     ensures told { IfErr result (λ refusal. (refusal ≢ Refusal.Output) × (refusal ≢ Refusal.Unkept) × (refusal ≢ Refusal.Spared)) }
 {
     match take_inputs(&mut *sources, taker) {

@@ -5,3 +5,6 @@ pub mod AskedNames
 mod DigestLemmas
 mod ManifestLemmas
 pub mod LostLemmas
+mod ShortNameLemmas
+mod ShortNameSizes
+mod PlaceLemmas

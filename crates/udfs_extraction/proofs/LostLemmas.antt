@@ -1,5 +1,5 @@
 -- How the entries that no name leads to are gone through, and what was written stays.
-use Rattle.std.proofs.Common.{◌≡◌, ◌≢◌, inl, inr, ⊎_elim, ℕ, ◌++◌, ◌≤◌, List, [], ◌∷◌, Option, Some, None, refl, sym, ◌∙◌, subst, arith, length, ap, slice_get, append_assoc, rules, Bool, true, false, cond}
+use Rattle.std.proofs.Common.{◌≡◌, ◌≢◌, inl, inr, ⊎_elim, ℕ, ◌++◌, ◌≤◌, List, [], ◌∷◌, Option, Some, None, refl, sym, ◌∙◌, subst, arith, length, ap, slice_get, append_assoc, rules, Bool, true, false, cond, codes}
 use Rattle.udfs_files.specs.Disk.{Disk, Same, SameBut, Goes}
 use Rattle.udfs_lattice.specs.Tables.{Table, state_of}
 use Rattle.udfs_volume.specs.declared.profiles.Profile.{Profile}
@@ -8,7 +8,7 @@ use Rattle.udfs_walk.specs.declared.answers.Unnamed.{Unnamed}
 use Rattle.udfs_salvage.specs.Reports.{Report, IsReportBy}
 use Rattle.udfs_salvage.specs.Texts.{has_two}
 use Rattle.clap.specs.declared.parser.matches.Found.{Found}
-use Rattle.udfs_words.specs.Asking.{folder_text, has_manifest, lost_text, manifest_text}
+use Rattle.udfs_words.specs.Asking.{IsPicked, folder_text, has_manifest, lost_text, manifest_text}
 use Rattle.udfs_extraction.specs.Extracting.{ExtractsChosen, IsElsewhere, IsIn, IsSafe, PutsOf, Spares, Stay, TellsLines, all_good}
 use Rattle.udfs_extraction.specs.LostFiles.{AddsLost, EachLost, IsLostPut, IsUnder, PutsLost, SparesLost, SparesUnder, WritesLost, lost_line, lost_lines, lost_others}
 use Rattle.udfs_extraction.specs.Sparing.{NodesSpare}
@@ -140,14 +140,14 @@ puts_lost P two us old new i j heard good is put = record {
 -- ---- of the report of a table
 
 -- what is made and told of nodes
-pub chosen_of : {F : Type 0} (only : List (List ℕ)) (P : Table → Report → ℕ → NodeFields → Fate → Type 0) (Is : List NodeFields → List Fate → List ℕ → Type 0) (holds : F → Held) (folder : List ℕ) (before after : F) (profile : Profile) (last : ℕ) (old new : Option (List ℕ)) (i j : ℕ) (good : Bool) (manifest : Option (List ℕ))
-    (r t u : Table) (report : Report) → r ≡ t → t ≡ u → IsReportBy profile (state_of t) last report → PutsNoted only (P r) Is before after report old new i j good manifest → ((q : List ℕ) → IsElsewhere only report.nodes folder q → holds after q ≡ holds before q)
-    → ExtractsChosen only P holds folder before after profile last old new i j good u
-chosen_of only P Is holds folder before after profile last old new i j good manifest r t u report one two is_report puts elsewhere =
-    subst (λ x. ExtractsChosen only P holds folder before after profile last old new i j good x) two (record {
+pub chosen_of : {F : Type 0} (only : List (List ℕ)) (short : Bool) (P : Table → Report → ℕ → NodeFields → Fate → Type 0) (Is : Report → List Fate → List ℕ → Type 0) (holds : F → Held) (folder : List ℕ) (before after : F) (profile : Profile) (last : ℕ) (old new : Option (List ℕ)) (i j : ℕ) (good : Bool) (manifest : Option (List ℕ))
+    (r t u : Table) (report : Report) → r ≡ t → t ≡ u → IsReportBy profile (state_of t) last report → PutsNoted only short (P r) Is before after report old new i j good manifest → ((q : List ℕ) → IsElsewhere only short report folder q → holds after q ≡ holds before q)
+    → ExtractsChosen only short P holds folder before after profile last old new i j good u
+chosen_of only short P Is holds folder before after profile last old new i j good manifest r t u report one two is_report puts elsewhere =
+    subst (λ x. ExtractsChosen only short P holds folder before after profile last old new i j good x) two (record {
       report = report;
       is_report = is_report;
-      puts = subst (λ x. PutsOf only (P x) before after report old new i j good) one (by_both report.volume _ _ _ _ (λ p. p.puts) (λ n. n.0) puts);
+      puts = subst (λ x. PutsOf only short (P x) before after report old new i j good) one (by_both report.volume _ _ _ _ (λ p. p.puts) (λ n. n.0) puts);
       elsewhere = elsewhere;
     })
 
@@ -175,7 +175,7 @@ module _ {F : Type 0} (tells : Type 0) (holds : F → Held) (real : F → List �
   AllSpare = (mid : F) × NodesSpare tells holds real may_leave moment left_since words old mid × SparesLost tells holds may_leave moment left_since (lost_text words) mid new
 
   -- with a manifest
-  pub listed_spare : has_manifest words ≡ true → (mid : F) × SparesListed tells holds may_leave moment left_since (folder_text words) (real old (manifest_text words)) old mid × SparesLost tells holds may_leave moment left_since (lost_text words) mid new → AllSpare
+  pub listed_spare : has_manifest words ≡ true → (mid : F) × ((short : Bool) × IsPicked words (codes "short-names") true false short × SparesListed tells holds may_leave moment left_since short (folder_text words) (real old (manifest_text words)) old mid) × SparesLost tells holds may_leave moment left_since (lost_text words) mid new → AllSpare
   listed_spare is (mid, listed, lost) = (
     mid,
     record {

@@ -1,6 +1,6 @@
 -- The manifest of the nodes so far; and that it is put last, at a place beside the folder.
 use Rattle.std.proofs.lemmas.List.{append-nil}
-use Rattle.std.proofs.Common.{◌≡◌, ◌≢◌, ◌⊎◌, inl, inr, ⊎_elim, ℕ, ◌++◌, List, [], ◌∷◌, Bool, true, false, Option, Some, None, refl, sym, ◌∙◌, subst, length, ap, slice_get, drop, append_assoc, codes}
+use Rattle.std.proofs.Common.{◌≡◌, ◌≢◌, ◌⊎◌, inl, inr, ⊎_elim, ℕ, suc, ◌+◌, arith, ◌++◌, List, [], ◌∷◌, Bool, true, false, Option, Some, None, refl, sym, ◌∙◌, subst, length, ap, slice_get, drop, append_assoc, codes}
 use Rattle.udfs_files.specs.Disk.{Disk, IsOwn}
 use Rattle.std.specs.Prelude.{◌&&◌}
 use Rattle.std.specs.List.{list_all}
@@ -15,7 +15,7 @@ use Rattle.udfs_salvage.specs.NodeTexts.{names_text}
 use Rattle.udfs_salvage.specs.Reports.{IsReportBy, Report, is_whole}
 use Rattle.udfs_extraction.specs.Choosing.{chosen, goes_on, is_node}
 use Rattle.udfs_extraction.specs.Extracting.{IsDone, IsElsewhere, IsIn, Puts, PutsBy, Stay, all_good, path_below}
-use Rattle.udfs_extraction.specs.Manifests.{IsBeside, IsLine, IsManifest, IsNoted, ListsChosen, ListsOf, MayPutLast, PutsListed, PutsWith, SparesListed, note_line}
+use Rattle.udfs_extraction.specs.Manifests.{AreLines, IsBeside, IsLine, IsNoted, ListsChosen, ListsOf, MayPutLast, PutsListed, PutsWith, SparesListed, note_line}
 use Rattle.udfs_extraction.specs.declared.extract.Fate.{Fate}
 use Rattle.udfs_extraction.specs.declared.extract.Fate.TheVariants.{Made, Written, Failed, Left, Skipped, Passed}
 use Rattle.udfs_extraction.proofs.ChoosingLemmas.{on_behind}
@@ -26,41 +26,48 @@ Held = List ℕ → Option (Option (List ℕ))
 
 -- ---- the lines
 
-line_still : (folder : List ℕ) (before after : Held) → Stay before after → (n : NodeFields) (fate : Fate) (text : List ℕ) → IsLine before folder n fate text → IsLine after folder n fate text
-line_still folder before after stay n Made text is = is
-line_still folder before after stay n Written text is = (is.0, stay _ _ is.1, is.2)
-line_still folder before after stay n Failed text is = is
-line_still folder before after stay n Left text is = is
-line_still folder before after stay n Skipped text is = is
-line_still folder before after stay n Passed text is = is
+line_still : (folder : List ℕ) (before after : Held) → Stay before after → (names : List (List ℕ)) (fate : Fate) (text : List ℕ) → IsLine before folder names fate text → IsLine after folder names fate text
+line_still folder before after stay names Made text is = is
+line_still folder before after stay names Written text is = (is.0, stay _ _ is.1, is.2)
+line_still folder before after stay names Failed text is = is
+line_still folder before after stay names Left text is = is
+line_still folder before after stay names Skipped text is = is
+line_still folder before after stay names Passed text is = is
 
--- where files stay, a manifest of them stays one
-pub manifest_still : (folder : List ℕ) (before after : Held) → Stay before after → (ns : List NodeFields) (fates : List Fate) (text : List ℕ) → IsManifest before folder ns fates text → IsManifest after folder ns fates text
-manifest_still folder before after stay ns [] text is = is
-manifest_still folder before after stay [] (fate ∷ fates) text is = absurd is
-manifest_still folder before after stay (n ∷ ns) (fate ∷ fates) text is =
-    (is.0, is.1, line_still folder before after stay n fate is.0 is.2, manifest_still folder before after stay ns fates is.1 is.3, is.4)
+-- where files stay, the lines of them stay so
+pub lines_still : (place : ℕ → NodeFields → List (List ℕ)) (folder : List ℕ) (before after : Held) → Stay before after → (k : ℕ) (ns : List NodeFields) (fates : List Fate) (text : List ℕ)
+    → AreLines place before folder k ns fates text → AreLines place after folder k ns fates text
+lines_still place folder before after stay k ns [] text is = is
+lines_still place folder before after stay k [] (fate ∷ fates) text is = absurd is
+lines_still place folder before after stay k (n ∷ ns) (fate ∷ fates) text is =
+    (is.0, is.1, line_still folder before after stay (place k n) fate is.0 is.2, lines_still place folder before after stay (suc k) ns fates is.1 is.3, is.4)
 
 -- one line more
-pub manifest_more : (holds : Held) (folder : List ℕ) (ns : List NodeFields) (fates : List Fate) (n : NodeFields) (fate : Fate) (text line : List ℕ) → slice_get ns (length fates) ≡ Some n
-    → IsManifest holds folder ns fates text → IsLine holds folder n fate line → IsManifest holds folder ns (fates ++ fate ∷ []) (text ++ line)
-manifest_more holds folder [] [] n fate text line at is one = let bad : None ≡ Some n = at in absurd (let no : ⊥ = cc in no)
-manifest_more holds folder (m ∷ ns) [] n fate text line at is one =
+pub line_more : (place : ℕ → NodeFields → List (List ℕ)) (holds : Held) (folder : List ℕ) (k : ℕ) (ns : List NodeFields) (fates : List Fate) (n : NodeFields) (fate : Fate) (text line : List ℕ) → slice_get ns (length fates) ≡ Some n
+    → AreLines place holds folder k ns fates text → IsLine holds folder (place (length fates + k) n) fate line → AreLines place holds folder k ns (fates ++ fate ∷ []) (text ++ line)
+line_more place holds folder k [] [] n fate text line at is one = let bad : None ≡ Some n = at in absurd (let no : ⊥ = cc in no)
+line_more place holds folder k (m ∷ ns) [] n fate text line at is one =
     let e : m ≡ n = cc in
-    (line, [], subst (λ x. IsLine holds folder x fate line) (sym e) one, refl, ap (λ t. t ++ line) is ∙ sym (append-nil line))
-manifest_more holds folder [] (f ∷ fates) n fate text line at is one = absurd is
-manifest_more holds folder (m ∷ ns) (f ∷ fates) n fate text line at is one =
-    (is.0, is.1 ++ line, is.2, manifest_more holds folder ns fates n fate is.1 line at is.3 one, ap (λ t. t ++ line) is.4 ∙ append_assoc is.0 is.1 line)
+    let z : 0 + k ≡ k = omega arith in
+    (line, [], subst (λ x. IsLine holds folder (place k x) fate line) (sym e) (subst (λ x. IsLine holds folder (place x n) fate line) z one), refl, ap (λ t. t ++ line) is ∙ sym (append-nil line))
+line_more place holds folder k [] (f ∷ fates) n fate text line at is one = absurd is
+line_more place holds folder k (m ∷ ns) (f ∷ fates) n fate text line at is one = (
+  is.0,
+  is.1 ++ line,
+  is.2,
+  line_more place holds folder (suc k) ns fates n fate is.1 line at is.3 (subst (λ x. IsLine holds folder (place x n) fate line) (omega arith) one),
+  ap (λ t. t ++ line) is.4 ∙ append_assoc is.0 is.1 line,
+)
 
 -- what is noted of a node is its line
-pub noted_line : (wanted : Bool) (tells : Type 0) (holds : Held) (folder : List ℕ) (n : NodeFields) (fate : Fate) (digest : Option (List ℕ)) → wanted ≡ true → tells → IsNoted wanted tells holds (path_below folder n.path) fate digest
-    → IsLine holds folder n fate (note_line fate digest n.path)
-noted_line wanted tells holds folder n Made digest is told noted = refl
-noted_line wanted tells holds folder n Written digest is told noted = let w = noted refl is told in (w.0, w.1, ap (λ d. note_line Written d n.path) w.2)
-noted_line wanted tells holds folder n Failed digest is told noted = refl
-noted_line wanted tells holds folder n Left digest is told noted = refl
-noted_line wanted tells holds folder n Skipped digest is told noted = refl
-noted_line wanted tells holds folder n Passed digest is told noted = refl
+pub noted_line : (wanted : Bool) (tells : Type 0) (holds : Held) (folder : List ℕ) (names : List (List ℕ)) (fate : Fate) (digest : Option (List ℕ)) → wanted ≡ true → tells → IsNoted wanted tells holds (path_below folder names) fate digest
+    → IsLine holds folder names fate (note_line fate digest (names_text names))
+noted_line wanted tells holds folder names Made digest is told noted = refl
+noted_line wanted tells holds folder names Written digest is told noted = let w = noted refl is told in (w.0, w.1, ap (λ d. note_line Written d (names_text names)) w.2)
+noted_line wanted tells holds folder names Failed digest is told noted = refl
+noted_line wanted tells holds folder names Left digest is told noted = refl
+noted_line wanted tells holds folder names Skipped digest is told noted = refl
+noted_line wanted tells holds folder names Passed digest is told noted = refl
 
 -- ---- what is put
 
@@ -71,45 +78,45 @@ by_both (holes blocks) A B N M to or puts = or puts
 by_both (faulty fault) A B N M to or puts = or puts
 
 -- there is a text, so the volume opens
-pub listed_by : (volume : Answer Found) (only : List (List ℕ)) (P : ℕ → NodeFields → Fate → Type 0) (Is Is' : List NodeFields → List Fate → List ℕ → Type 0) (Put : List ℕ → Type 0) (nodes : List NodeFields) (old new : Option (List ℕ)) (i j : ℕ) (good : Bool) (manifest : Option (List ℕ)) (text : List ℕ) (N M : Type 0)
-    → ((ns : List NodeFields) (fs : List Fate) (t : List ℕ) → Is ns fs t → Is' ns fs t) → PutsBy volume (PutsWith only P Is nodes old new i j good manifest) (N × (manifest ≡ None)) → manifest ≡ Some text → Put text → PutsBy volume (PutsListed only P Is' Put nodes old new i j good) M
-listed_by (found f) only P Is Is' Put nodes old new i j good manifest text N M to puts is put =
+pub listed_by : (volume : Answer Found) (only : List (List ℕ)) (own : NodeFields → Option (List ℕ)) (P : ℕ → NodeFields → Fate → Type 0) (Is Is' : List Fate → List ℕ → Type 0) (Put : List ℕ → Type 0) (nodes : List NodeFields) (old new : Option (List ℕ)) (i j : ℕ) (good : Bool) (manifest : Option (List ℕ)) (text : List ℕ) (N M : Type 0)
+    → ((fs : List Fate) (t : List ℕ) → Is fs t → Is' fs t) → PutsBy volume (PutsWith only own P Is nodes old new i j good manifest) (N × (manifest ≡ None)) → manifest ≡ Some text → Put text → PutsBy volume (PutsListed only own P Is' Put nodes old new i j good) M
+listed_by (found f) only own P Is Is' Put nodes old new i j good manifest text N M to puts is put =
     let e : Some text ≡ Some puts.text = sym is ∙ puts.has in
     let same : text ≡ puts.text = cc in
-    record { puts = puts.puts; text = puts.text; is_text = to _ _ _ puts.is_text; put = subst Put same put }
-listed_by (holes blocks) only P Is Is' Put nodes old new i j good manifest text N M to puts is put = let bad : None ≡ Some text = sym puts.1 ∙ is in absurd (let no : ⊥ = cc in no)
-listed_by (faulty fault) only P Is Is' Put nodes old new i j good manifest text N M to puts is put = let bad : None ≡ Some text = sym puts.1 ∙ is in absurd (let no : ⊥ = cc in no)
+    record { puts = puts.puts; text = puts.text; is_text = to _ _ puts.is_text; put = subst Put same put }
+listed_by (holes blocks) only own P Is Is' Put nodes old new i j good manifest text N M to puts is put = let bad : None ≡ Some text = sym puts.1 ∙ is in absurd (let no : ⊥ = cc in no)
+listed_by (faulty fault) only own P Is Is' Put nodes old new i j good manifest text N M to puts is put = let bad : None ≡ Some text = sym puts.1 ∙ is in absurd (let no : ⊥ = cc in no)
 
 -- there is none, so it does not
-pub unlisted_by : (volume : Answer Found) (only : List (List ℕ)) (P : ℕ → NodeFields → Fate → Type 0) (Is : List NodeFields → List Fate → List ℕ → Type 0) (nodes : List NodeFields) (old new : Option (List ℕ)) (i j : ℕ) (good : Bool) (manifest : Option (List ℕ)) (L N M : Type 0)
-    → PutsBy volume (PutsWith only P Is nodes old new i j good manifest) (N × (manifest ≡ None)) → manifest ≡ None → (N → M) → PutsBy volume L M
-unlisted_by (found f) only P Is nodes old new i j good manifest L N M puts none to = let bad : None ≡ Some puts.text = sym none ∙ puts.has in absurd (let no : ⊥ = cc in no)
-unlisted_by (holes blocks) only P Is nodes old new i j good manifest L N M puts none to = to puts.0
-unlisted_by (faulty fault) only P Is nodes old new i j good manifest L N M puts none to = to puts.0
+pub unlisted_by : (volume : Answer Found) (only : List (List ℕ)) (own : NodeFields → Option (List ℕ)) (P : ℕ → NodeFields → Fate → Type 0) (Is : List Fate → List ℕ → Type 0) (nodes : List NodeFields) (old new : Option (List ℕ)) (i j : ℕ) (good : Bool) (manifest : Option (List ℕ)) (L N M : Type 0)
+    → PutsBy volume (PutsWith only own P Is nodes old new i j good manifest) (N × (manifest ≡ None)) → manifest ≡ None → (N → M) → PutsBy volume L M
+unlisted_by (found f) only own P Is nodes old new i j good manifest L N M puts none to = let bad : None ≡ Some puts.text = sym none ∙ puts.has in absurd (let no : ⊥ = cc in no)
+unlisted_by (holes blocks) only own P Is nodes old new i j good manifest L N M puts none to = to puts.0
+unlisted_by (faulty fault) only own P Is nodes old new i j good manifest L N M puts none to = to puts.0
 
 -- the text is that of some fates
-pub text_of : (volume : Answer Found) (only : List (List ℕ)) (P : ℕ → NodeFields → Fate → Type 0) (Is : List NodeFields → List Fate → List ℕ → Type 0) (nodes : List NodeFields) (old new : Option (List ℕ)) (i j : ℕ) (good : Bool) (manifest : Option (List ℕ)) (text : List ℕ) (N : Type 0)
-    → PutsBy volume (PutsWith only P Is nodes old new i j good manifest) (N × (manifest ≡ None)) → manifest ≡ Some text → (fates : List Fate) × Is (drop 1 nodes) fates text
-text_of (found f) only P Is nodes old new i j good manifest text N puts is =
+pub text_of : (volume : Answer Found) (only : List (List ℕ)) (own : NodeFields → Option (List ℕ)) (P : ℕ → NodeFields → Fate → Type 0) (Is : List Fate → List ℕ → Type 0) (nodes : List NodeFields) (old new : Option (List ℕ)) (i j : ℕ) (good : Bool) (manifest : Option (List ℕ)) (text : List ℕ) (N : Type 0)
+    → PutsBy volume (PutsWith only own P Is nodes old new i j good manifest) (N × (manifest ≡ None)) → manifest ≡ Some text → (fates : List Fate) × Is fates text
+text_of (found f) only own P Is nodes old new i j good manifest text N puts is =
     let e : Some puts.text ≡ Some text = sym puts.has ∙ is in
     let same : puts.text ≡ text = cc in
-    (puts.puts.fates, subst (Is (drop 1 nodes) puts.puts.fates) same puts.is_text)
-text_of (holes blocks) only P Is nodes old new i j good manifest text N puts is = let bad : None ≡ Some text = sym puts.1 ∙ is in absurd (let no : ⊥ = cc in no)
-text_of (faulty fault) only P Is nodes old new i j good manifest text N puts is = let bad : None ≡ Some text = sym puts.1 ∙ is in absurd (let no : ⊥ = cc in no)
+    (puts.puts.fates, subst (Is puts.puts.fates) same puts.is_text)
+text_of (holes blocks) only own P Is nodes old new i j good manifest text N puts is = let bad : None ≡ Some text = sym puts.1 ∙ is in absurd (let no : ⊥ = cc in no)
+text_of (faulty fault) only own P Is nodes old new i j good manifest text N puts is = let bad : None ≡ Some text = sym puts.1 ∙ is in absurd (let no : ⊥ = cc in no)
 
 -- the volume opens
 pub by_open : (v w : code_volume.Volume) → v ≡ w → (A N : Type 0) → PutsBy (volume_now w) A N → PutsBy (volume_now v) A N
 by_open v w e A N p = subst (λ x. PutsBy (volume_now x) A N) (sym e) p
 
 -- all have their fates, and there is a text of them
-pub puts_with : (only : List (List ℕ)) (P : ℕ → NodeFields → Fate → Type 0) (Is : List NodeFields → List Fate → List ℕ → Type 0) (nodes : List NodeFields) (old new : Option (List ℕ)) (i j : ℕ) (good : Bool) (fates : List Fate) (heard nothing_failed whole : Bool) (text : List ℕ)
-    → list_all (is_node nodes) only ≡ true → Puts (IsDone only P) nodes old new i j heard fates → length fates ≡ length (drop 1 nodes) → heard ≡ true → nothing_failed ≡ all_good fates → whole ≡ list_all (λ (n : NodeFields). is_whole n.standing) (chosen only nodes)
-    → good ≡ (nothing_failed && whole) → Is (drop 1 nodes) fates text → PutsWith only P Is nodes old new i j good (Some text)
-puts_with only P Is nodes old new i j good fates heard nothing_failed whole text named puts all is_heard failed is_whole says is_text = record {
+pub puts_with : (only : List (List ℕ)) (own : NodeFields → Option (List ℕ)) (P : ℕ → NodeFields → Fate → Type 0) (Is : List Fate → List ℕ → Type 0) (nodes : List NodeFields) (old new : Option (List ℕ)) (i j : ℕ) (good : Bool) (fates : List Fate) (heard nothing_failed whole : Bool) (text : List ℕ)
+    → list_all (is_node nodes) only ≡ true → Puts own (IsDone only P) nodes old new i j heard fates → length fates ≡ length (drop 1 nodes) → heard ≡ true → nothing_failed ≡ all_good fates → whole ≡ list_all (λ (n : NodeFields). is_whole n.standing) (chosen only nodes)
+    → good ≡ (nothing_failed && whole) → Is fates text → PutsWith only own P Is nodes old new i j good (Some text)
+puts_with only own P Is nodes old new i j good fates heard nothing_failed whole text named puts all is_heard failed is_whole says is_text = record {
   puts = record {
     named = named;
     fates = fates;
-    puts = subst (λ h. Puts (IsDone only P) nodes old new i j h fates) is_heard puts;
+    puts = subst (λ h. Puts own (IsDone only P) nodes old new i j h fates) is_heard puts;
     all = all;
     says = says ∙ ap (λ b. b && whole) failed ∙ ap (λ b. all_good fates && b) is_whole;
   };
@@ -119,22 +126,22 @@ puts_with only P Is nodes old new i j good fates heard nothing_failed whole text
 }
 
 -- of the report of a table
-pub lists_chosen : {F : Type 0} (only : List (List ℕ)) (P : F → Table → Report → ℕ → NodeFields → Fate → Type 0) (Is : F → List NodeFields → List Fate → List ℕ → Type 0) (Put : F → List ℕ → Type 0) (holds : F → Held) (folder : List ℕ) (before after : F) (profile : Profile) (last : ℕ) (old new : Option (List ℕ)) (i j : ℕ) (good : Bool)
-    (r t u : Table) (mid : F) (report : Report) → r ≡ t → t ≡ u → IsReportBy profile (state_of t) last report → ListsOf only (λ f. P f r) Is Put before mid after report old new i j good → ((q : List ℕ) → IsElsewhere only report.nodes folder q → holds mid q ≡ holds before q)
-    → ListsChosen only P Is Put holds folder before after profile last old new i j good u
-lists_chosen only P Is Put holds folder before after profile last old new i j good r t u mid report one two is_report puts elsewhere =
-    subst (λ x. ListsChosen only P Is Put holds folder before after profile last old new i j good x) two (record {
+pub lists_chosen : {F : Type 0} (only : List (List ℕ)) (short : Bool) (P : F → Table → Report → ℕ → NodeFields → Fate → Type 0) (Is : F → Report → List Fate → List ℕ → Type 0) (Put : F → List ℕ → Type 0) (holds : F → Held) (folder : List ℕ) (before after : F) (profile : Profile) (last : ℕ) (old new : Option (List ℕ)) (i j : ℕ) (good : Bool)
+    (r t u : Table) (mid : F) (report : Report) → r ≡ t → t ≡ u → IsReportBy profile (state_of t) last report → ListsOf only short (λ f. P f r) Is Put before mid after report old new i j good → ((q : List ℕ) → IsElsewhere only short report folder q → holds mid q ≡ holds before q)
+    → ListsChosen only short P Is Put holds folder before after profile last old new i j good u
+lists_chosen only short P Is Put holds folder before after profile last old new i j good r t u mid report one two is_report puts elsewhere =
+    subst (λ x. ListsChosen only short P Is Put holds folder before after profile last old new i j good x) two (record {
       mid = mid;
       report = report;
       is_report = is_report;
-      puts = subst (λ x. ListsOf only (λ f. P f x) Is Put before mid after report old new i j good) one puts;
+      puts = subst (λ x. ListsOf only short (λ f. P f x) Is Put before mid after report old new i j good) one puts;
       elsewhere = elsewhere;
     })
 
 -- what is known of the text that is put may be told otherwise
-pub lists_by : {F : Type 0} (only : List (List ℕ)) (P : F → Table → Report → ℕ → NodeFields → Fate → Type 0) (Is : F → List NodeFields → List Fate → List ℕ → Type 0) (Put Put' : F → List ℕ → Type 0) (holds : F → Held) (folder : List ℕ) (before after : F) (profile : Profile) (last : ℕ) (old new : Option (List ℕ)) (i j : ℕ) (good : Bool) (table : Table)
-    → ((f : F) (text : List ℕ) → Put f text → Put' f text) → ListsChosen only P Is Put holds folder before after profile last old new i j good table → ListsChosen only P Is Put' holds folder before after profile last old new i j good table
-lists_by only P Is Put Put' holds folder before after profile last old new i j good table to x = record {
+pub lists_by : {F : Type 0} (only : List (List ℕ)) (short : Bool) (P : F → Table → Report → ℕ → NodeFields → Fate → Type 0) (Is : F → Report → List Fate → List ℕ → Type 0) (Put Put' : F → List ℕ → Type 0) (holds : F → Held) (folder : List ℕ) (before after : F) (profile : Profile) (last : ℕ) (old new : Option (List ℕ)) (i j : ℕ) (good : Bool) (table : Table)
+    → ((f : F) (text : List ℕ) → Put f text → Put' f text) → ListsChosen only short P Is Put holds folder before after profile last old new i j good table → ListsChosen only short P Is Put' holds folder before after profile last old new i j good table
+lists_by only short P Is Put Put' holds folder before after profile last old new i j good table to x = record {
   mid = x.mid;
   report = x.report;
   is_report = x.is_report;
@@ -143,8 +150,8 @@ lists_by only P Is Put Put' holds folder before after profile last old new i j g
 }
 
 -- nothing was begun
-pub nothing_listed : {F : Type 0} (tells : Type 0) (holds : F → Held) (may_leave : F → Disk → Type 0) (moment : F → ℕ) (left_since : F → ℕ → Disk → Type 0) (folder place : List ℕ) (files : F) → SparesListed tells holds may_leave moment left_since folder place files files
-nothing_listed tells holds may_leave moment left_since folder place files = record {
+pub nothing_listed : {F : Type 0} (tells : Type 0) (holds : F → Held) (may_leave : F → Disk → Type 0) (moment : F → ℕ) (left_since : F → ℕ → Disk → Type 0) (short : Bool) (folder place : List ℕ) (files : F) → SparesListed tells holds may_leave moment left_since short folder place files files
+nothing_listed tells holds may_leave moment left_since short folder place files = record {
   mid = files;
   stays = λ told q bytes is. is;
   outside = λ q out. refl;
@@ -153,14 +160,14 @@ nothing_listed tells holds may_leave moment left_since folder place files = reco
 }
 
 -- so may its place
-pub spares_at_place : {F : Type 0} (tells : Type 0) (holds : F → Held) (may_leave : F → Disk → Type 0) (moment : F → ℕ) (left_since : F → ℕ → Disk → Type 0) (folder place real : List ℕ) (before after : F) → (tells → place ≡ real)
-    → SparesListed tells holds may_leave moment left_since folder place before after → SparesListed tells holds may_leave moment left_since folder real before after
-spares_at_place tells holds may_leave moment left_since folder place real before after same x = record {
+pub spares_at_place : {F : Type 0} (tells : Type 0) (holds : F → Held) (may_leave : F → Disk → Type 0) (moment : F → ℕ) (left_since : F → ℕ → Disk → Type 0) (short : Bool) (folder place real : List ℕ) (before after : F) → (tells → place ≡ real)
+    → SparesListed tells holds may_leave moment left_since short folder place before after → SparesListed tells holds may_leave moment left_since short folder real before after
+spares_at_place tells holds may_leave moment left_since short folder place real before after same x = record {
   mid = x.mid;
   stays = x.stays;
   outside = x.outside;
   crash = x.crash;
-  last = λ told. subst (λ p. (after ≡ x.mid) ⊎ MayPutLast holds may_leave moment left_since folder p x.mid after) (same told) (x.last told);
+  last = λ told. subst (λ p. (after ≡ x.mid) ⊎ MayPutLast holds may_leave moment left_since short folder p x.mid after) (same told) (x.last told);
 }
 
 -- ---- its place

@@ -124,21 +124,21 @@ module _ {F : Type 0} (moment : F → ℕ) (may_leave : F → Disk → Type 0) (
   }
 
   -- what was put stays put
-  pub put_still : (tells fails : Type 0) (table : Table) (report : Report) (fill : Fill) (folder : List ℕ) (mid new : F) (before after : Held) → ((t : ℕ) (c : Disk) → t ≤ moment mid → may_leave mid c → left_since mid t c)
+  pub put_still : (tells fails : Type 0) (table : Table) (report : Report) (fill : Fill) (short : Bool) (folder : List ℕ) (mid new : F) (before after : Held) → ((t : ℕ) (c : Disk) → t ≤ moment mid → may_leave mid c → left_since mid t c)
       → (tells → Stay before after) → (tells → GoesBy mid new (Spares folder before)) → (k : ℕ) (n : NodeFields) (fate : Fate)
-      → IsPut tells fails table report fill folder before (moment mid) (left_since mid) k n fate → IsPut tells fails table report fill folder after (moment new) (left_since new) k n fate
-  put_still tells fails table report fill folder mid new before after counts_now stay goes k n fate put = record {
+      → IsPut tells fails table report fill short folder before (moment mid) (left_since mid) k n fate → IsPut tells fails table report fill short folder after (moment new) (left_since new) k n fate
+  put_still tells fails table report fill short folder mid new before after counts_now stay goes k n fate put = record {
     done = put.done;
     written = λ is told profile last reported. let w = put.written is told profile last reported in (w.0, w.1, safe_still mid new folder _ _ before after counts_now (stay told) (goes told) w.2);
     failed = put.failed;
   }
 
   -- and so did what was done of nodes that are asked for
-  pub done_still : (only : List (List ℕ)) (tells fails : Type 0) (table : Table) (report : Report) (fill : Fill) (folder : List ℕ) (mid new : F) (before after : Held) → ((t : ℕ) (c : Disk) → t ≤ moment mid → may_leave mid c → left_since mid t c)
+  pub done_still : (only : List (List ℕ)) (tells fails : Type 0) (table : Table) (report : Report) (fill : Fill) (short : Bool) (folder : List ℕ) (mid new : F) (before after : Held) → ((t : ℕ) (c : Disk) → t ≤ moment mid → may_leave mid c → left_since mid t c)
       → (tells → Stay before after) → (tells → GoesBy mid new (Spares folder before)) → (k : ℕ) (n : NodeFields) (fate : Fate)
-      → IsDone only (IsPut tells fails table report fill folder before (moment mid) (left_since mid)) k n fate → IsDone only (IsPut tells fails table report fill folder after (moment new) (left_since new)) k n fate
-  done_still only tells fails table report fill folder mid new before after counts_now stay goes k n fate done = record {
-    asked = λ is. put_still tells fails table report fill folder mid new before after counts_now stay goes k n fate (done.asked is);
+      → IsDone only (IsPut tells fails table report fill short folder before (moment mid) (left_since mid)) k n fate → IsDone only (IsPut tells fails table report fill short folder after (moment new) (left_since new)) k n fate
+  done_still only tells fails table report fill short folder mid new before after counts_now stay goes k n fate done = record {
+    asked = λ is. put_still tells fails table report fill short folder mid new before after counts_now stay goes k n fate (done.asked is);
     passed = done.passed;
   }
 
@@ -153,11 +153,13 @@ each_more P k (m ∷ ns) [] n fate at each one = let e : m ≡ n = cc in let z :
 each_more P k [] (f ∷ fates) n fate at each one = absurd each
 each_more P k (m ∷ ns) (f ∷ fates) n fate at each one = (each.0, each_more P (suc k) ns fates n fate at each.1 (subst (λ x. P x n fate) (omega arith) one))
 
-pub lines_more : (ns : List NodeFields) (fates : List Fate) (n : NodeFields) (fate : Fate) → slice_get ns (length fates) ≡ Some n → fate_lines ns (fates ++ fate ∷ []) ≡ fate_lines ns fates ++ fate_line fate n.path
-lines_more [] [] n fate at = let bad : None ≡ Some n = at in cc
-lines_more (m ∷ ns) [] n fate at = let e : m ≡ n = cc in search rules
-lines_more [] (f ∷ fates) n fate at = let bad : None ≡ Some n = at in cc
-lines_more (m ∷ ns) (f ∷ fates) n fate at = ap (λ l. fate_line f m.path ++ l) (lines_more ns fates n fate at) ∙ sym (append_assoc (fate_line f m.path) (fate_lines ns fates) (fate_line fate n.path))
+pub lines_more : (own : NodeFields → Option (List ℕ)) (ns : List NodeFields) (fates : List Fate) (n : NodeFields) (fate : Fate) → slice_get ns (length fates) ≡ Some n
+    → fate_lines own ns (fates ++ fate ∷ []) ≡ fate_lines own ns fates ++ fate_line fate n.path (own n)
+lines_more own [] [] n fate at = let bad : None ≡ Some n = at in cc
+lines_more own (m ∷ ns) [] n fate at = let e : m ≡ n = cc in search rules
+lines_more own [] (f ∷ fates) n fate at = let bad : None ≡ Some n = at in cc
+lines_more own (m ∷ ns) (f ∷ fates) n fate at =
+    ap (λ l. fate_line f m.path (own m) ++ l) (lines_more own ns fates n fate at) ∙ sym (append_assoc (fate_line f m.path (own m)) (fate_lines own ns fates) (fate_line fate n.path (own n)))
 
 pub good_more : (fates : List Fate) (fate : Fate) → all_good (fates ++ fate ∷ []) ≡ (if is_good fate then all_good fates else false)
 good_more fates fate = elim (cases_Bool (is_good fate)) [ inl good ↦ same fates good ∙ sym (ap (λ b. if b then all_good fates else false) good) | inr bad ↦ none fates bad ∙ sym (ap (λ b. if b then all_good fates else false) bad) ]

@@ -1,6 +1,6 @@
 -- What a command makes of the nodes of a volume.
 --     deed kind standing size fill     a folder, a file, or nothing
---     fate_lines nodes fates           what is printed of nodes, each with its fate, in order
+--     fate_lines own nodes fates       what is printed of nodes, each with its fate, in order, and with its short name where it has one
 --     IsIn folder q                    a path below a folder by escaped names
 --     Spares folder held               nothing outside of the folder changes, nor any file that was there
 --     IsSafe .. path bytes             a path holds these bytes, and since some moment each crash leaves them
@@ -9,7 +9,7 @@
 --     PutsReport                       all nodes with their files and lines, or the line of a volume that does not open
 --     IsDone only P index node fate    this holds of a node that is asked for, and nothing is made or told of another
 --     ExtractsChosen                   what is made and told of the nodes that are asked for, and of no other
-use Rattle.std.specs.Prelude.{◌≡◌, ◌≢◌, ℕ, ◌≤◌, Bool, true, false, List, [], ◌∷◌, ◌++◌, ⊤, suc, Option, Some, cond, codes, drop, length, slice_get, if◌then◌else◌, ◌&&◌}
+use Rattle.std.specs.Prelude.{◌≡◌, ◌≢◌, ℕ, ◌≤◌, Bool, true, false, List, [], ◌∷◌, ◌++◌, ⊤, suc, Option, Some, None, cond, codes, drop, length, slice_get, if◌then◌else◌, ◌&&◌}
 use Rattle.std.specs.List.{list_all}
 use Rattle.udfs_file.specs.declared.cells.Cell.{Cell}
 use Rattle.udfs_files.specs.Disk.{Disk}
@@ -17,6 +17,7 @@ use Rattle.udfs_reading.specs.Writing.{Wrote, Failed as WriteFailed}
 use Rattle.udfs_walk.specs.NodeFields.{NodeFields}
 use Rattle.udfs_volume.specs.declared.profiles.Profile.{Profile}
 use Rattle.udfs_salvage.specs.Extraction.{HasCellsInBy, fill_byte, filled}
+use Rattle.udfs_osta.specs.Escapes.{escaped}
 use Rattle.udfs_salvage.specs.NodeTexts.{names_text}
 use Rattle.udfs_salvage.specs.Texts.{line, volume_line}
 use Rattle.udfs_salvage.specs.Found.{Found}
@@ -30,6 +31,7 @@ use Rattle.udfs_salvage.specs.Extraction.{is_offered}
 use Rattle.udfs_salvage.specs.Reports.{Report, IsReportBy, all_whole, is_whole}
 use Rattle.udfs_salvage.specs.declared.extraction.Fill.{Fill}
 use Rattle.udfs_extraction.specs.Choosing.{chosen, is_chosen, is_node}
+use Rattle.udfs_extraction.specs.ShortNames.{own_name, placed}
 use Rattle.udfs_extraction.specs.declared.extract.Deed.{Deed}
 use Rattle.udfs_extraction.specs.declared.extract.Deed.TheVariants.{Folder, File, Skip}
 use Rattle.udfs_extraction.specs.declared.extract.Fate.{Fate}
@@ -56,19 +58,24 @@ IsFateOf Folder fate = (fate ≢ Written) × (fate ≢ Skipped) × (fate ≢ Pas
 IsFateOf File fate = (fate ≢ Made) × (fate ≢ Skipped) × (fate ≢ Passed)
 IsFateOf Skip fate = fate ≡ Skipped
 
--- a folder that was made has no line, nor has a node that is not asked for
-abbrev pub fate_line : Fate → List (List ℕ) → List ℕ
-fate_line Made path = []
-fate_line Written path = line (codes "written " ++ names_text path)
-fate_line Failed path = line (codes "failed " ++ names_text path)
-fate_line Left path = line (codes "failed " ++ names_text path)
-fate_line Skipped path = line (codes "skipped " ++ names_text path)
-fate_line Passed path = []
+-- a file that was written has its short name behind its path, where it has one
+abbrev pub written_line : List (List ℕ) → Option (List ℕ) → List ℕ
+written_line path None = line (codes "written " ++ names_text path)
+written_line path (Some own) = line (codes "written " ++ names_text path ++ codes " as " ++ escaped own)
 
-abbrev pub fate_lines : List NodeFields → List Fate → List ℕ
-fate_lines ns [] = []
-fate_lines [] (fate ∷ fates) = []
-fate_lines (n ∷ ns) (fate ∷ fates) = fate_line fate n.path ++ fate_lines ns fates
+-- a folder that was made has no line, nor has a node that is not asked for
+abbrev pub fate_line : Fate → List (List ℕ) → Option (List ℕ) → List ℕ
+fate_line Made path own = []
+fate_line Written path own = written_line path own
+fate_line Failed path own = line (codes "failed " ++ names_text path)
+fate_line Left path own = line (codes "failed " ++ names_text path)
+fate_line Skipped path own = line (codes "skipped " ++ names_text path)
+fate_line Passed path own = []
+
+abbrev pub fate_lines : (NodeFields → Option (List ℕ)) → List NodeFields → List Fate → List ℕ
+fate_lines own ns [] = []
+fate_lines own [] (fate ∷ fates) = []
+fate_lines own (n ∷ ns) (fate ∷ fates) = fate_line fate n.path (own n) ++ fate_lines own ns fates
 
 -- no file and no folder failed
 abbrev pub is_good : Fate → Bool
@@ -83,7 +90,7 @@ abbrev pub all_good : List Fate → Bool
 all_good [] = true
 all_good (fate ∷ fates) = if is_good fate then all_good fates else false
 
--- a node's path in the folder: that of the folder, and each name in its escaped form behind a `/`
+-- a path in the folder: that of the folder, and each name in its escaped form behind a `/`
 abbrev pub path_below : List ℕ → List (List ℕ) → List ℕ
 path_below folder names = folder ++ names_text names
 
@@ -106,12 +113,12 @@ pub record IsSafe (holds : List ℕ → Option (Option (List ℕ))) (moment : �
   pub past : since ≤ moment
   pub durable : (c : Disk) → left_since since c → c path ≡ Some bytes
 
--- A file that is told as written holds exactly the bytes of the node at its place in the report; and nothing fails but for a fault.
-pub record IsPut (tells fails : Type 0) (table : Table) (report : Report) (fill : Fill) (folder : List ℕ) (holds : List ℕ → Option (Option (List ℕ))) (moment : ℕ) (left_since : ℕ → Disk → Type 0)
+-- A file that is told as written is where its path leads, or with short names its place, and holds exactly the bytes of the node at this index of the report; and nothing fails but for a fault.
+pub record IsPut (tells fails : Type 0) (table : Table) (report : Report) (fill : Fill) (short : Bool) (folder : List ℕ) (holds : List ℕ → Option (Option (List ℕ))) (moment : ℕ) (left_since : ℕ → Disk → Type 0)
     (index : ℕ) (n : NodeFields) (fate : Fate) : Type 0 where
   pub done : IsFateOf (deed n.kind n.standing n.size fill) fate
   pub written : fate ≡ Written → tells → (profile : Profile) (last : ℕ) → IsReportBy profile (state_of table) last report → (cs : List Cell) × HasCellsInBy profile (state_of table) last index cs
-      × IsSafe holds moment left_since (path_below folder n.path) (filled (fill_byte fill) cs)
+      × IsSafe holds moment left_since (path_below folder (placed short report index n)) (filled (fill_byte fill) cs)
   pub failed : is_good fate ≡ false → (profile : Profile) (last : ℕ) → IsReportBy profile (state_of table) last report → fails
 
 -- this holds of each node, of which the first has this index, and its fate, as far as there are fates
@@ -131,14 +138,14 @@ TellsOn true still old new i j text = TellsLines still old new i j text
 TellsOn false still old new i j text = (still ≡ false) × (new ≡ old) × (j ≡ i)
 
 -- the nodes behind the root, as far as there are fates, and what was told of them
-pub record Puts (P : ℕ → NodeFields → Fate → Type 0) (nodes : List NodeFields) (old new : Option (List ℕ)) (i j : ℕ) (heard : Bool) (fates : List Fate) : Type 0 where
+pub record Puts (own : NodeFields → Option (List ℕ)) (P : ℕ → NodeFields → Fate → Type 0) (nodes : List NodeFields) (old new : Option (List ℕ)) (i j : ℕ) (heard : Bool) (fates : List Fate) : Type 0 where
   pub each : Each P 1 (drop 1 nodes) fates
-  pub lines : TellsLines heard old new i j (fate_lines (drop 1 nodes) fates)
+  pub lines : TellsLines heard old new i j (fate_lines own (drop 1 nodes) fates)
 
 -- all of them have their fates, and it is good where none failed and all nodes are whole
-pub record PutsAll (P : ℕ → NodeFields → Fate → Type 0) (nodes : List NodeFields) (old new : Option (List ℕ)) (i j : ℕ) (good : Bool) : Type 0 where
+pub record PutsAll (own : NodeFields → Option (List ℕ)) (P : ℕ → NodeFields → Fate → Type 0) (nodes : List NodeFields) (old new : Option (List ℕ)) (i j : ℕ) (good : Bool) : Type 0 where
   pub fates : List Fate
-  pub puts : Puts P nodes old new i j true fates
+  pub puts : Puts own P nodes old new i j true fates
   pub all : length fates ≡ length (drop 1 nodes)
   pub says : good ≡ (all_good fates && all_whole nodes)
 
@@ -154,14 +161,14 @@ PutsBy (holes listed) opens does_not = does_not
 PutsBy (faulty fault) opens does_not = does_not
 
 -- what is made and told of a report
-abbrev pub PutsReport : {F : Type 0} → (Report → ℕ → NodeFields → Fate → Type 0) → F → F → Report → Option (List ℕ) → Option (List ℕ) → ℕ → ℕ → Bool → Type 0
-PutsReport P before after report old new i j good = PutsBy report.volume (PutsAll (P report) report.nodes old new i j good) (PutsNone before after report.volume old new i j good)
+abbrev pub PutsReport : {F : Type 0} → Bool → (Report → ℕ → NodeFields → Fate → Type 0) → F → F → Report → Option (List ℕ) → Option (List ℕ) → ℕ → ℕ → Bool → Type 0
+PutsReport short P before after report old new i j good = PutsBy report.volume (PutsAll (own_name short report) (P report) report.nodes old new i j good) (PutsNone before after report.volume old new i j good)
 
 -- of the report of the table by the rules of a profile
-pub record ExtractsAll {F : Type 0} (P : Table → Report → ℕ → NodeFields → Fate → Type 0) (before after : F) (profile : Profile) (last : ℕ) (old new : Option (List ℕ)) (i j : ℕ) (good : Bool) (table : Table) : Type 0 where
+pub record ExtractsAll {F : Type 0} (short : Bool) (P : Table → Report → ℕ → NodeFields → Fate → Type 0) (before after : F) (profile : Profile) (last : ℕ) (old new : Option (List ℕ)) (i j : ℕ) (good : Bool) (table : Table) : Type 0 where
   pub report : Report
   pub is_report : IsReportBy profile (state_of table) last report
-  pub puts : PutsReport (P table) before after report old new i j good
+  pub puts : PutsReport short (P table) before after report old new i j good
 
 -- of a node that one of the words asks for this holds, and nothing is made or told of another
 pub record IsDone (only : List (List ℕ)) (P : ℕ → NodeFields → Fate → Type 0) (index : ℕ) (n : NodeFields) (fate : Fate) : Type 0 where
@@ -169,25 +176,25 @@ pub record IsDone (only : List (List ℕ)) (P : ℕ → NodeFields → Fate → 
   pub passed : is_chosen only n.path ≡ false → fate ≡ Passed
 
 -- each word is the path of a node; and it is good where nothing failed and all nodes that are asked for are whole
-pub record PutsChosen (only : List (List ℕ)) (P : ℕ → NodeFields → Fate → Type 0) (nodes : List NodeFields) (old new : Option (List ℕ)) (i j : ℕ) (good : Bool) : Type 0 where
+pub record PutsChosen (only : List (List ℕ)) (own : NodeFields → Option (List ℕ)) (P : ℕ → NodeFields → Fate → Type 0) (nodes : List NodeFields) (old new : Option (List ℕ)) (i j : ℕ) (good : Bool) : Type 0 where
   pub named : list_all (is_node nodes) only ≡ true
   pub fates : List Fate
-  pub puts : Puts (IsDone only P) nodes old new i j true fates
+  pub puts : Puts own (IsDone only P) nodes old new i j true fates
   pub all : length fates ≡ length (drop 1 nodes)
   pub says : good ≡ (all_good fates && list_all (λ n. is_whole n.standing) (chosen only nodes))
 
 -- what is made and told of the nodes of a report that are asked for
-abbrev pub PutsOf : {F : Type 0} → List (List ℕ) → (Report → ℕ → NodeFields → Fate → Type 0) → F → F → Report → Option (List ℕ) → Option (List ℕ) → ℕ → ℕ → Bool → Type 0
-PutsOf only P before after report old new i j good = PutsBy report.volume (PutsChosen only (P report) report.nodes old new i j good) (PutsNone before after report.volume old new i j good)
+abbrev pub PutsOf : {F : Type 0} → List (List ℕ) → Bool → (Report → ℕ → NodeFields → Fate → Type 0) → F → F → Report → Option (List ℕ) → Option (List ℕ) → ℕ → ℕ → Bool → Type 0
+PutsOf only short P before after report old new i j good = PutsBy report.volume (PutsChosen only (own_name short report) (P report) report.nodes old new i j good) (PutsNone before after report.volume old new i j good)
 
 -- no node that is asked for has its file at this path
-abbrev pub IsElsewhere : List (List ℕ) → List NodeFields → List ℕ → List ℕ → Type 0
-IsElsewhere only nodes folder q = (k : ℕ) (n : NodeFields) → slice_get nodes k ≡ Some n → is_chosen only n.path ≡ true → q ≢ path_below folder n.path
+abbrev pub IsElsewhere : List (List ℕ) → Bool → Report → List ℕ → List ℕ → Type 0
+IsElsewhere only short report folder q = (k : ℕ) (n : NodeFields) → slice_get report.nodes k ≡ Some n → is_chosen only n.path ≡ true → q ≢ path_below folder (placed short report k n)
 
 -- of the report of the table by the rules of a profile; and no path changes but those of nodes that are asked for
-pub record ExtractsChosen {F : Type 0} (only : List (List ℕ)) (P : Table → Report → ℕ → NodeFields → Fate → Type 0) (holds : F → List ℕ → Option (Option (List ℕ))) (folder : List ℕ) (before after : F) (profile : Profile) (last : ℕ)
+pub record ExtractsChosen {F : Type 0} (only : List (List ℕ)) (short : Bool) (P : Table → Report → ℕ → NodeFields → Fate → Type 0) (holds : F → List ℕ → Option (Option (List ℕ))) (folder : List ℕ) (before after : F) (profile : Profile) (last : ℕ)
     (old new : Option (List ℕ)) (i j : ℕ) (good : Bool) (table : Table) : Type 0 where
   pub report : Report
   pub is_report : IsReportBy profile (state_of table) last report
-  pub puts : PutsOf only (P table) before after report old new i j good
-  pub elsewhere : (q : List ℕ) → IsElsewhere only report.nodes folder q → holds after q ≡ holds before q
+  pub puts : PutsOf only short (P table) before after report old new i j good
+  pub elsewhere : (q : List ℕ) → IsElsewhere only short report folder q → holds after q ≡ holds before q

@@ -5,4 +5,5 @@ pub mod SumLines
 pub mod Manifests
 pub mod LostFiles
 pub mod Timing
+pub mod ShortNames
 pub mod Sparing

@@ -9,7 +9,7 @@
 --     AddsLost                         the nodes are written and told as without `--unnamed`, and then the lost files
 --     ExtractAsked                     this holds of the inputs, by what the words ask for
 --     IsNewFolder                      nothing is where the folder is to be, and other paths do not lead there
-use Rattle.std.specs.Prelude.{◌≡◌, ◌≢◌, ℕ, Bool, true, false, List, [], ◌∷◌, ◌++◌, ⊤, ◌&&◌, Option, Some, None, cond, codes, decimal, length, map}
+use Rattle.std.specs.Prelude.{◌≡◌, ◌≢◌, ℕ, Bool, true, false, List, [], ◌∷◌, ◌++◌, ⊤, ◌&&◌, Option, Some, None, cond, codes, length, map}
 use Rattle.udfs_file.specs.declared.cells.Cell.{Cell}
 use Rattle.udfs_files.specs.Disk.{Disk, Goes}
 use Rattle.udfs_reading.specs.Writing.{Wrote}
@@ -27,6 +27,7 @@ use Rattle.udfs_words.specs.Asking.{IsLast, IsPicked, IsProfile, asked_for, aske
 use Rattle.udfs_extraction.specs.Extracting.{IsFateOf, IsSafe, Stay, all_good, is_good}
 use Rattle.udfs_common.specs.Guarding.{NoneLeads}
 use Rattle.udfs_common.specs.Keeping.{OfPaths}
+use Rattle.udfs_extraction.specs.ShortNames.{icb_number}
 use Rattle.udfs_words.specs.declared.input_path.InputPath.{InputPath}
 use Rattle.udfs_extraction.specs.declared.extract.Deed.{Deed}
 use Rattle.udfs_extraction.specs.declared.extract.Deed.TheVariants.{File, Skip}
@@ -37,7 +38,7 @@ use Rattle.udfs_extraction.specs.declared.extract.Fate.TheVariants.{Made, Writte
 
 -- the logical block, in decimal, with the partition reference in front where there are two partitions
 abbrev pub lost_name : Bool → Unnamed → List ℕ
-lost_name two u = cond two (decimal u.reference ++ codes "-" ++ decimal u.block) (decimal u.block)
+lost_name two u = icb_number two u.reference u.block
 
 -- the path of its file
 abbrev pub lost_path : List ℕ → Bool → Unnamed → List ℕ
@@ -132,14 +133,16 @@ pub record IsNewFolder (holds : List ℕ → Option (Option (List ℕ))) (real :
 abbrev pub lost_others : Found → List (List ℕ)
 lost_others words = cond (has_manifest words) (folder_text words ∷ manifest_text words ∷ []) (folder_text words ∷ [])
 
--- this holds of the inputs, by the last block, the profile and the fill that the words ask for
-pub record ExtractAsked {R : Type 0} (found : List ℕ → Option (Option (List ℕ))) (remaining : R → Option (List ℕ)) (words : Found) (Holds : Fill → ℕ → Profile → Table → Type 0) : Type 0 where
+-- this holds of the inputs, by the last block, the profile, the fill and the names that the words ask for
+pub record ExtractAsked {R : Type 0} (found : List ℕ → Option (Option (List ℕ))) (remaining : R → Option (List ℕ)) (words : Found) (Holds : Fill → Bool → ℕ → Profile → Table → Type 0) : Type 0 where
   pub fill : Fill
+  pub short : Bool
   pub last : ℕ
   pub profile : Profile
   pub inputs : List InputPath
   pub are_inputs : map asked_for inputs ≡ asked_inputs words
   pub is_fill : IsPicked words (codes "fill") (Byte 0) Refuse fill
+  pub is_short : IsPicked words (codes "short-names") true false short
   pub is_last : IsLast found inputs words last
   pub is_profile : IsProfile words profile
-  pub of_inputs : OfPaths found remaining inputs (Holds fill last profile)
+  pub of_inputs : OfPaths found remaining inputs (Holds fill short last profile)

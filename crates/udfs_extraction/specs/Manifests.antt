@@ -1,11 +1,11 @@
 -- The manifest of the files that `extract` writes.
 --     file_line path bytes                    the line of a file with these bytes
---     IsManifest holds folder nodes fates     the lines of all files that were written, in order, each with the digest of what its path holds
+--     IsManifest holds folder short report fates     the lines of all files that were written, in order, each with the digest of what its path holds
 --     PutsNoted                               what is made and told of a report, with the manifest
 --     ListsChosen                             the same of the report of a table, and the manifest is put after the files
 --     SparesListed                            what is left as it was, whatever is answered
 --     IsFreeManifest                          a manifest takes the place of no file but a manifest, of none of the inputs, and of none that is written
-use Rattle.std.specs.Prelude.{◌≡◌, ◌≢◌, ◌⊎◌, ℕ, Bool, true, List, [], ◌∷◌, ◌++◌, Option, Some, None, drop}
+use Rattle.std.specs.Prelude.{◌≡◌, ◌≢◌, ◌⊎◌, ℕ, Bool, true, List, [], ◌∷◌, ◌++◌, suc, Option, Some, None, drop}
 use Rattle.sha2.specs.Sha256.{sha256}
 use Rattle.udfs_files.specs.Disk.{Disk, Goes, IsOwn, Replaced}
 use Rattle.udfs_lattice.specs.Tables.{Table, state_of}
@@ -16,6 +16,7 @@ use Rattle.udfs_salvage.specs.Reports.{Report, IsReportBy}
 use Rattle.udfs_extraction.specs.Extracting.{IsElsewhere, IsIn, PutsBy, PutsChosen, PutsNone, Spares, Stay, path_below}
 use Rattle.udfs_common.specs.Guarding.{NoneLeads}
 use Rattle.udfs_common.specs.Keeping.{IsKept}
+use Rattle.udfs_extraction.specs.ShortNames.{own_name, placed}
 use Rattle.udfs_extraction.specs.SumLines.{begins_as_sums, sum_line}
 use Rattle.udfs_extraction.specs.declared.extract.Fate.{Fate}
 use Rattle.udfs_extraction.specs.declared.extract.Fate.TheVariants.{Made, Written, Failed, Left, Skipped, Passed}
@@ -24,45 +25,50 @@ use Rattle.udfs_extraction.specs.declared.extract.Fate.TheVariants.{Made, Writte
 abbrev pub file_line : List (List ℕ) → List ℕ → List ℕ
 file_line path bytes = sum_line (sha256 bytes) (drop 1 (names_text path))
 
--- a file that was written has the line of what its path holds, and nothing else has one
-abbrev pub IsLine : (List ℕ → Option (Option (List ℕ))) → List ℕ → NodeFields → Fate → List ℕ → Type 0
-IsLine holds folder n Made text = text ≡ []
-IsLine holds folder n Written text = (bytes : List ℕ) × (holds (path_below folder n.path) ≡ Some (Some bytes)) × (text ≡ file_line n.path bytes)
-IsLine holds folder n Failed text = text ≡ []
-IsLine holds folder n Left text = text ≡ []
-IsLine holds folder n Skipped text = text ≡ []
-IsLine holds folder n Passed text = text ≡ []
+-- a file that was written, by these names, has the line of what its path holds, and nothing else has one
+abbrev pub IsLine : (List ℕ → Option (Option (List ℕ))) → List ℕ → List (List ℕ) → Fate → List ℕ → Type 0
+IsLine holds folder names Made text = text ≡ []
+IsLine holds folder names Written text = (bytes : List ℕ) × (holds (path_below folder names) ≡ Some (Some bytes)) × (text ≡ file_line names bytes)
+IsLine holds folder names Failed text = text ≡ []
+IsLine holds folder names Left text = text ≡ []
+IsLine holds folder names Skipped text = text ≡ []
+IsLine holds folder names Passed text = text ≡ []
 
--- the lines of nodes, in order, as far as there are fates
-abbrev pub IsManifest : (List ℕ → Option (Option (List ℕ))) → List ℕ → List NodeFields → List Fate → List ℕ → Type 0
-IsManifest holds folder nodes [] text = text ≡ []
-IsManifest holds folder [] (fate ∷ fates) text = ⊥
-IsManifest holds folder (n ∷ ns) (fate ∷ fates) text = (first : List ℕ) × (rest : List ℕ) × IsLine holds folder n fate first × IsManifest holds folder ns fates rest × (text ≡ first ++ rest)
+-- the lines of nodes, of which the first has this index, in order, as far as there are fates
+abbrev pub AreLines : (ℕ → NodeFields → List (List ℕ)) → (List ℕ → Option (Option (List ℕ))) → List ℕ → ℕ → List NodeFields → List Fate → List ℕ → Type 0
+AreLines names holds folder index nodes [] text = text ≡ []
+AreLines names holds folder index [] (fate ∷ fates) text = ⊥
+AreLines names holds folder index (n ∷ ns) (fate ∷ fates) text =
+    (first : List ℕ) × (rest : List ℕ) × IsLine holds folder (names index n) fate first × AreLines names holds folder (suc index) ns fates rest × (text ≡ first ++ rest)
+
+-- those of the nodes behind the root, each where it was written
+abbrev pub IsManifest : (List ℕ → Option (Option (List ℕ))) → List ℕ → Bool → Report → List Fate → List ℕ → Type 0
+IsManifest holds folder short report fates text = AreLines (placed short report) holds folder 1 (drop 1 report.nodes) fates text
 
 -- where a digest is wanted and the file of a node was written, it is that of the bytes that its path holds
 abbrev pub IsNoted : Bool → Type 0 → (List ℕ → Option (Option (List ℕ))) → List ℕ → Fate → Option (List ℕ) → Type 0
 IsNoted wanted tells holds path fate digest = fate ≡ Written → wanted ≡ true → tells → (bytes : List ℕ) × (holds path ≡ Some (Some bytes)) × (digest ≡ Some (sha256 bytes))
 
--- what is appended for a node with this fate and digest
-abbrev pub note_line : Fate → Option (List ℕ) → List (List ℕ) → List ℕ
-note_line Made digest path = []
-note_line Written None path = []
-note_line Written (Some digest) path = sum_line digest (drop 1 (names_text path))
-note_line Failed digest path = []
-note_line Left digest path = []
-note_line Skipped digest path = []
-note_line Passed digest path = []
+-- what is appended for a node with this fate and digest, whose place has this text
+abbrev pub note_line : Fate → Option (List ℕ) → List ℕ → List ℕ
+note_line Made digest text = []
+note_line Written None text = []
+note_line Written (Some digest) text = sum_line digest (drop 1 text)
+note_line Failed digest text = []
+note_line Left digest text = []
+note_line Skipped digest text = []
+note_line Passed digest text = []
 
 -- what is made and told of nodes that are asked for, and a text that this holds of, with them and their fates
-pub record PutsWith (only : List (List ℕ)) (P : ℕ → NodeFields → Fate → Type 0) (Is : List NodeFields → List Fate → List ℕ → Type 0) (nodes : List NodeFields) (old new : Option (List ℕ)) (i j : ℕ) (good : Bool) (manifest : Option (List ℕ)) : Type 0 where
-  pub puts : PutsChosen only P nodes old new i j good
+pub record PutsWith (only : List (List ℕ)) (own : NodeFields → Option (List ℕ)) (P : ℕ → NodeFields → Fate → Type 0) (Is : List Fate → List ℕ → Type 0) (nodes : List NodeFields) (old new : Option (List ℕ)) (i j : ℕ) (good : Bool) (manifest : Option (List ℕ)) : Type 0 where
+  pub puts : PutsChosen only own P nodes old new i j good
   pub text : List ℕ
-  pub is_text : Is (drop 1 nodes) puts.fates text
+  pub is_text : Is puts.fates text
   pub has : manifest ≡ Some text
 
 -- what is made and told of a report, and the text
-abbrev pub PutsNoted : {F : Type 0} → List (List ℕ) → (Report → ℕ → NodeFields → Fate → Type 0) → (List NodeFields → List Fate → List ℕ → Type 0) → F → F → Report → Option (List ℕ) → Option (List ℕ) → ℕ → ℕ → Bool → Option (List ℕ) → Type 0
-PutsNoted only P Is before after report old new i j good manifest = PutsBy report.volume (PutsWith only (P report) Is report.nodes old new i j good manifest) (PutsNone before after report.volume old new i j good × (manifest ≡ None))
+abbrev pub PutsNoted : {F : Type 0} → List (List ℕ) → Bool → (Report → ℕ → NodeFields → Fate → Type 0) → (Report → List Fate → List ℕ → Type 0) → F → F → Report → Option (List ℕ) → Option (List ℕ) → ℕ → ℕ → Bool → Option (List ℕ) → Type 0
+PutsNoted only short P Is before after report old new i j good manifest = PutsBy report.volume (PutsWith only (own_name short report) (P report) (Is report) report.nodes old new i j good manifest) (PutsNone before after report.volume old new i j good × (manifest ≡ None))
 
 -- ---- the manifest is put
 
@@ -73,44 +79,44 @@ pub record IsPutLast {F : Type 0} (holds : F → List ℕ → Option (Option (Li
   pub elsewhere : (q : List ℕ) → q ≢ place → (¬ IsOwn place q) → holds after q ≡ holds mid q
 
 -- the manifest of the files as they are then, and this holds of it
-pub record PutsListed (only : List (List ℕ)) (P : ℕ → NodeFields → Fate → Type 0) (Is : List NodeFields → List Fate → List ℕ → Type 0) (Put : List ℕ → Type 0) (nodes : List NodeFields) (old new : Option (List ℕ)) (i j : ℕ) (good : Bool) : Type 0 where
-  pub puts : PutsChosen only P nodes old new i j good
+pub record PutsListed (only : List (List ℕ)) (own : NodeFields → Option (List ℕ)) (P : ℕ → NodeFields → Fate → Type 0) (Is : List Fate → List ℕ → Type 0) (Put : List ℕ → Type 0) (nodes : List NodeFields) (old new : Option (List ℕ)) (i j : ℕ) (good : Bool) : Type 0 where
+  pub puts : PutsChosen only own P nodes old new i j good
   pub text : List ℕ
-  pub is_text : Is (drop 1 nodes) puts.fates text
+  pub is_text : Is puts.fates text
   pub put : Put text
 
 -- At some moment all is made and told as without a manifest; then it is put. Of a volume that does not open, none is.
-abbrev pub ListsOf : {F : Type 0} → List (List ℕ) → (F → Report → ℕ → NodeFields → Fate → Type 0) → (F → List NodeFields → List Fate → List ℕ → Type 0) → (F → List ℕ → Type 0) → F → F → F → Report → Option (List ℕ) → Option (List ℕ) → ℕ → ℕ → Bool → Type 0
-ListsOf only P Is Put before mid after report old new i j good =
-    PutsBy report.volume (PutsListed only (P mid report) (Is mid) (Put mid) report.nodes old new i j good) (PutsNone before mid report.volume old new i j good × (after ≡ mid))
+abbrev pub ListsOf : {F : Type 0} → List (List ℕ) → Bool → (F → Report → ℕ → NodeFields → Fate → Type 0) → (F → Report → List Fate → List ℕ → Type 0) → (F → List ℕ → Type 0) → F → F → F → Report → Option (List ℕ) → Option (List ℕ) → ℕ → ℕ → Bool → Type 0
+ListsOf only short P Is Put before mid after report old new i j good =
+    PutsBy report.volume (PutsListed only (own_name short report) (P mid report) (Is mid report) (Put mid) report.nodes old new i j good) (PutsNone before mid report.volume old new i j good × (after ≡ mid))
 
 -- the same of the report of a table by the rules of a profile; and until the manifest is put no path changes but those of nodes that are asked for
-pub record ListsChosen {F : Type 0} (only : List (List ℕ)) (P : F → Table → Report → ℕ → NodeFields → Fate → Type 0) (Is : F → List NodeFields → List Fate → List ℕ → Type 0) (Put : F → List ℕ → Type 0) (holds : F → List ℕ → Option (Option (List ℕ))) (folder : List ℕ)
+pub record ListsChosen {F : Type 0} (only : List (List ℕ)) (short : Bool) (P : F → Table → Report → ℕ → NodeFields → Fate → Type 0) (Is : F → Report → List Fate → List ℕ → Type 0) (Put : F → List ℕ → Type 0) (holds : F → List ℕ → Option (Option (List ℕ))) (folder : List ℕ)
     (before after : F) (profile : Profile) (last : ℕ) (old new : Option (List ℕ)) (i j : ℕ) (good : Bool) (table : Table) : Type 0 where
   pub mid : F
   pub report : Report
   pub is_report : IsReportBy profile (state_of table) last report
-  pub puts : ListsOf only (λ f. P f table) Is Put before mid after report old new i j good
-  pub elsewhere : (q : List ℕ) → IsElsewhere only report.nodes folder q → holds mid q ≡ holds before q
+  pub puts : ListsOf only short (λ f. P f table) Is Put before mid after report old new i j good
+  pub elsewhere : (q : List ℕ) → IsElsewhere only short report folder q → holds mid q ≡ holds before q
 
 -- ---- what is left as it was
 
 -- a manifest of files as they are is put, or was to be: a crash leaves it whole, or what was there; no other path changes, but those of new files that are to go in its place
-pub record MayPutLast {F : Type 0} (holds : F → List ℕ → Option (Option (List ℕ))) (may_leave : F → Disk → Type 0) (moment : F → ℕ) (left_since : F → ℕ → Disk → Type 0) (folder place : List ℕ) (mid after : F) : Type 0 where
-  pub nodes : List NodeFields
+pub record MayPutLast {F : Type 0} (holds : F → List ℕ → Option (Option (List ℕ))) (may_leave : F → Disk → Type 0) (moment : F → ℕ) (left_since : F → ℕ → Disk → Type 0) (short : Bool) (folder place : List ℕ) (mid after : F) : Type 0 where
+  pub report : Report
   pub fates : List Fate
   pub text : List ℕ
-  pub is_manifest : IsManifest (holds mid) folder nodes fates text
+  pub is_manifest : IsManifest (holds mid) folder short report fates text
   pub crash : Goes moment may_leave left_since mid after (Replaced place text)
   pub elsewhere : (q : List ℕ) → q ≢ place → (¬ IsOwn place q) → holds after q ≡ holds mid q
 
 -- until some moment no file that was there changes, nor anything outside the new folder, crashes included; then nothing changes, or a manifest is put
-pub record SparesListed {F : Type 0} (tells : Type 0) (holds : F → List ℕ → Option (Option (List ℕ))) (may_leave : F → Disk → Type 0) (moment : F → ℕ) (left_since : F → ℕ → Disk → Type 0) (folder place : List ℕ) (before after : F) : Type 0 where
+pub record SparesListed {F : Type 0} (tells : Type 0) (holds : F → List ℕ → Option (Option (List ℕ))) (may_leave : F → Disk → Type 0) (moment : F → ℕ) (left_since : F → ℕ → Disk → Type 0) (short : Bool) (folder place : List ℕ) (before after : F) : Type 0 where
   pub mid : F
   pub stays : tells → Stay (holds before) (holds mid)
   pub outside : (q : List ℕ) → (¬ IsIn folder q) → holds mid q ≡ holds before q
   pub crash : tells → Goes moment may_leave left_since before mid (Spares folder (holds before))
-  pub last : tells → (after ≡ mid) ⊎ MayPutLast holds may_leave moment left_since folder place mid after
+  pub last : tells → (after ≡ mid) ⊎ MayPutLast holds may_leave moment left_since short folder place mid after
 
 -- ---- its place
 

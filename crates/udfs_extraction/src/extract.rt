@@ -7,12 +7,14 @@ ghost use Rattle.udfs_salvage.specs.Reports.{report_now};
 ghost use Rattle.udfs_extraction.specs.Extracting.{ExtractsChosen, IsDone, IsElsewhere, IsIn, IsPut, Puts, Spares, Stay, all_good, is_good};
 ghost use Rattle.udfs_common.specs.Keeping.{OfPaths};
 ghost use Rattle.udfs_extraction.specs.Manifests.{IsManifest, PutsNoted};
+ghost use Rattle.udfs_extraction.specs.ShortNames.{own_name};
 ghost use Rattle.udfs_common.specs.declared.sources.AnySource.{AnySource};
 
 use crate::choosing::{all_are_nodes, chosen_are_whole};
 use crate::fate_remarks::remark_on_fate;
 use crate::manifest::note;
 use crate::node_files::{node_at, put_chosen, put_folder};
+use crate::places::place_of;
 use crate::telling::tell;
 use crate::times::{note_time, set_folder_times};
 use std::alloc::{AllocError, Global};
@@ -91,34 +93,40 @@ fn put_nodes<F: Files, O: Sink>(
     report: &Report<'_>,
     only: &[&str],
     fill: Fill,
+    short: bool,
     digest: bool,
     folder: &str,
     files: &mut F,
     out: &mut O,
 ) -> Result<Told, AllocError>
-    ensures put { (heard : Bool) × (fates : List Fate) × Puts (IsDone (map (λ word. word.now) only.now)
-        (IsPut F.tells (Fails F.faults ⊎ Fails F.Output.faults) report.now.table.now (report_now report.now) fill folder.now (F.holds files.new) (F.moment files.new) (F.left_since files.new)))
+    ensures put { (heard : Bool) × (fates : List Fate) × Puts (own_name short (report_now report.now)) (IsDone (map (λ word. word.now) only.now)
+        (IsPut F.tells (Fails F.faults ⊎ Fails F.Output.faults) report.now.table.now (report_now report.now) fill short folder.now (F.holds files.new) (F.moment files.new) (F.left_since files.new)))
         report.now.nodes.items (O.contents out.old) (O.contents out.new) (O.faults out.old) (O.faults out.new) heard fates ×
         IfOk result (λ told. (length fates ≡ length (drop 1 report.now.nodes.items)) × (told.heard ≡ heard) × (told.good ≡ all_good fates) ×
-        (digest ≡ true → F.tells → IsManifest (F.holds files.new) folder.now (drop 1 report.now.nodes.items) fates told.manifest.items)) }
+        (digest ≡ true → F.tells → IsManifest (F.holds files.new) folder.now short (report_now report.now) fates told.manifest.items)) }
     ensures stays { F.tells → Stay (F.holds files.old) (F.holds files.new) }
     ensures outside { (q : List ℕ) → (¬ IsIn folder.now q) → F.holds files.new q ≡ F.holds files.old q }
-    ensures elsewhere { (q : List ℕ) → IsElsewhere (map (λ word. word.now) only.now) report.now.nodes.items folder.now q → F.holds files.new q ≡ F.holds files.old q }
+    ensures elsewhere { (q : List ℕ) → IsElsewhere (map (λ word. word.now) only.now) short (report_now report.now) folder.now q → F.holds files.new q ≡ F.holds files.old q }
     ensures crash { F.tells → Goes F.moment F.may_leave F.left_since files.old files.new (Spares folder.now (F.holds files.old)) }
 {
     let mut good = true;
     let mut heard = true;
     let mut manifest = Vec::new(alloc);
     let mut made = Vec::new(alloc);
+    let mut way = Vec::new(alloc);
     for index in 1..report.nodes.len() {
-        let done = put_chosen(alloc, report, index, only, fill, digest, folder, files)?;
+        let target = place_of(alloc, report, index, short, &mut way)?;
+        let place = target.text.as_str();
+        let done = put_chosen(
+            alloc, report, index, only, fill, digest, folder, place, files,
+        )?;
         let node = node_at(report, index);
-        note(alloc, &mut manifest, done, &node.path)?;
+        note(alloc, &mut manifest, done, place)?;
         good = still_good(good, done.fate);
-        heard = tell(alloc, heard, done.fate, &node.path, out)?;
+        heard = tell(alloc, heard, done.fate, &node.path, &target.own, out)?;
         remark_on_fate(alloc, done.fate, &node.path, files);
         note_time(
-            alloc, node, index, only, done.fate, folder, &mut made, files,
+            alloc, node, index, only, done.fate, folder, place, &mut made, files,
         );
     }
     set_folder_times(alloc, report, made.as_slice(), folder, files);
@@ -152,19 +160,20 @@ pub fn put_report<F: Files, O: Sink>(
     report: &Report<'_>,
     only: &[&str],
     fill: Fill,
+    short: bool,
     digest: bool,
     folder: &str,
     files: &mut F,
     out: &mut O,
 ) -> Result<Made, Refusal>
-    ensures put { IfOk result (λ made. PutsNoted (map (λ word. word.now) only.now)
-        (λ told. IsPut F.tells (Fails F.faults ⊎ Fails F.Output.faults) report.now.table.now told fill folder.now (F.holds files.new) (F.moment files.new) (F.left_since files.new))
-        (λ nodes fates text. digest ≡ true → F.tells → IsManifest (F.holds files.new) folder.now nodes fates text)
+    ensures put { IfOk result (λ made. PutsNoted (map (λ word. word.now) only.now) short
+        (λ told. IsPut F.tells (Fails F.faults ⊎ Fails F.Output.faults) report.now.table.now told fill short folder.now (F.holds files.new) (F.moment files.new) (F.left_since files.new))
+        (λ told fates text. digest ≡ true → F.tells → IsManifest (F.holds files.new) folder.now short told fates text)
         files.old files.new (report_now report.now) (O.contents out.old) (O.contents out.new) (O.faults out.old) (O.faults out.new) made.good (option_map (λ m. m.items) made.manifest)) }
     ensures no_node { IfErr result (λ refusal. (i : ℕ) → refusal ≡ Refusal.NoNode i → files.new ≡ files.old) }
     ensures stays { F.tells → Stay (F.holds files.old) (F.holds files.new) }
     ensures outside { (q : List ℕ) → (¬ IsIn folder.now q) → F.holds files.new q ≡ F.holds files.old q }
-    ensures elsewhere { (q : List ℕ) → IsElsewhere (map (λ word. word.now) only.now) report.now.nodes.items folder.now q → F.holds files.new q ≡ F.holds files.old q }
+    ensures elsewhere { (q : List ℕ) → IsElsewhere (map (λ word. word.now) only.now) short (report_now report.now) folder.now q → F.holds files.new q ≡ F.holds files.old q }
     ensures crash { F.tells → Goes F.moment F.may_leave F.left_since files.old files.new (Spares folder.now (F.holds files.old)) }
 {
     match &report.volume {
@@ -174,7 +183,9 @@ pub fn put_report<F: Files, O: Sink>(
             if put_folder(folder, files) != Fate::Made {
                 return Err(Refusal::Folder);
             }
-            let told = match put_nodes(alloc, report, only, fill, digest, folder, files, out) {
+            let told = match put_nodes(
+                alloc, report, only, fill, short, digest, folder, files, out,
+            ) {
                 Ok(told) => told,
                 Err(AllocError) => return Err(Refusal::Memory(AllocError)),
             };
@@ -207,13 +218,14 @@ pub fn extract<F: Files, O: Sink>(
     profile: Profile,
     only: &[&str],
     fill: Fill,
+    short: bool,
     folder: &str,
     files: &mut F,
     out: &mut O,
 ) -> Result<bool, Refusal>
     // At `Ok` each node behind the root that is asked for has its line, and each file that is told as written is there, whole, and each crash since then leaves it. No path changes but theirs.
     ensures chosen { IfOk result (λ good. OfPaths (λ path. F.holds files.old (F.real files.old path)) (⟦<AnySource<F::Input, F::Image> as Source>⟧.remaining) inputs.now
-        (ExtractsChosen (map (λ word. word.now) only.now) (λ table told. IsPut F.tells (Fails F.faults ⊎ Fails F.Output.faults) table told fill folder.now (F.holds files.new) (F.moment files.new) (F.left_since files.new))
+        (ExtractsChosen (map (λ word. word.now) only.now) short (λ table told. IsPut F.tells (Fails F.faults ⊎ Fails F.Output.faults) table told fill short folder.now (F.holds files.new) (F.moment files.new) (F.left_since files.new))
         F.holds folder.now files.old files.new profile last (O.contents out.old) (O.contents out.new) (O.faults out.old) (O.faults out.new) good)) }
     // A path that is no node's is refused before anything is made.
     ensures no_node { IfErr result (λ refusal. (i : ℕ) → refusal ≡ Refusal.NoNode i → files.new ≡ files.old) }
@@ -226,6 +238,6 @@ pub fn extract<F: Files, O: Sink>(
     files.begin(Stage::Walking);
     let report = salvage_by(alloc, &table, last, profile)?;
     files.begin(Stage::Writing);
-    let made = put_report(alloc, &report, only, fill, false, folder, files, out)?;
+    let made = put_report(alloc, &report, only, fill, short, false, folder, files, out)?;
     Ok(made.good)
 }

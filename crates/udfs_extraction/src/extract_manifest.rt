@@ -62,21 +62,22 @@ pub fn list_report<F: Files, O: Sink>(
     report: &Report<'_>,
     only: &[&str],
     fill: Fill,
+    short: bool,
     folder: &str,
     place: &str,
     files: &mut F,
     out: &mut O,
 ) -> Result<bool, Refusal>
-    ensures listed { IfOk result (λ good. (mid : F) × ListsOf (map (λ word. word.now) only.now)
-        (λ f told. IsPut F.tells (Fails F.faults ⊎ Fails F.Output.faults) report.now.table.now told fill folder.now (F.holds f) (F.moment f) (F.left_since f))
-        (λ f nodes fates text. F.tells → IsManifest (F.holds f) folder.now nodes fates text)
+    ensures listed { IfOk result (λ good. (mid : F) × ListsOf (map (λ word. word.now) only.now) short
+        (λ f told. IsPut F.tells (Fails F.faults ⊎ Fails F.Output.faults) report.now.table.now told fill short folder.now (F.holds f) (F.moment f) (F.left_since f))
+        (λ f told fates text. F.tells → IsManifest (F.holds f) folder.now short told fates text)
         (λ f text. F.tells → IsPutLast F.holds F.may_leave F.moment F.left_since place.now f files.new text)
         files.old mid files.new (report_now report.now) (O.contents out.old) (O.contents out.new) (O.faults out.old) (O.faults out.new) good
-        × ((q : List ℕ) → IsElsewhere (map (λ word. word.now) only.now) report.now.nodes.items folder.now q → F.holds mid q ≡ F.holds files.old q)) }
+        × ((q : List ℕ) → IsElsewhere (map (λ word. word.now) only.now) short (report_now report.now) folder.now q → F.holds mid q ≡ F.holds files.old q)) }
     ensures no_node { IfErr result (λ refusal. (i : ℕ) → refusal ≡ Refusal.NoNode i → files.new ≡ files.old) }
-    ensures spares { SparesListed F.tells F.holds F.may_leave F.moment F.left_since folder.now place.now files.old files.new }
+    ensures spares { SparesListed F.tells F.holds F.may_leave F.moment F.left_since short folder.now place.now files.old files.new }
 {
-    let made = match put_report(alloc, report, only, fill, true, folder, files, out) {
+    let made = match put_report(alloc, report, only, fill, short, true, folder, files, out) {
         Ok(made) => made,
         Err(refusal) => return Err(refusal),
     };
@@ -98,6 +99,7 @@ pub fn extract_listed<F: Files, O: Sink>(
     profile: Profile,
     only: &[&str],
     fill: Fill,
+    short: bool,
     folder: &str,
     place: &str,
     files: &mut F,
@@ -106,15 +108,15 @@ pub fn extract_listed<F: Files, O: Sink>(
     // At `Ok` all was made and told as without a manifest, at some moment; and since then the manifest was put, and nothing else: for each file that is told as written, in order, the digest of what its
     // path held then.
     ensures listed { IfOk result (λ good. OfPaths (λ path. F.holds files.old (F.real files.old path)) (⟦<AnySource<F::Input, F::Image> as Source>⟧.remaining) inputs.now
-        (ListsChosen (map (λ word. word.now) only.now)
-        (λ f table told. IsPut F.tells (Fails F.faults ⊎ Fails F.Output.faults) table told fill folder.now (F.holds f) (F.moment f) (F.left_since f))
-        (λ f nodes fates text. F.tells → IsManifest (F.holds f) folder.now nodes fates text)
+        (ListsChosen (map (λ word. word.now) only.now) short
+        (λ f table told. IsPut F.tells (Fails F.faults ⊎ Fails F.Output.faults) table told fill short folder.now (F.holds f) (F.moment f) (F.left_since f))
+        (λ f told fates text. F.tells → IsManifest (F.holds f) folder.now short told fates text)
         (λ f text. F.tells → IsPutLast F.holds F.may_leave F.moment F.left_since place.now f files.new text)
         F.holds folder.now files.old files.new profile last (O.contents out.old) (O.contents out.new) (O.faults out.old) (O.faults out.new) good)) }
     // A path that is no node's is refused before anything is made.
     ensures no_node { IfErr result (λ refusal. (i : ℕ) → refusal ≡ Refusal.NoNode i → files.new ≡ files.old) }
     // Whatever the answer, no file that was there is changed, and nothing outside of the folder, but at the manifest's place; nor by a crash at any moment.
-    ensures spares { SparesListed F.tells F.holds F.may_leave F.moment F.left_since folder.now place.now files.old files.new }
+    ensures spares { SparesListed F.tells F.holds F.may_leave F.moment F.left_since short folder.now place.now files.old files.new }
 {
     let table = match joined(alloc, inputs, files) {
         Ok(table) => table,
@@ -123,7 +125,7 @@ pub fn extract_listed<F: Files, O: Sink>(
     files.begin(Stage::Walking);
     let report = salvage_by(alloc, &table, last, profile)?;
     files.begin(Stage::Writing);
-    match list_report(alloc, &report, only, fill, folder, place, files, out) {
+    match list_report(alloc, &report, only, fill, short, folder, place, files, out) {
         Ok(good) => Ok(good),
         Err(refusal) => Err(refusal),
     }

@@ -32,6 +32,7 @@ pub fn extract_with_lost<F: Files, O: Sink>(
     profile: Profile,
     only: &[&str],
     fill: Fill,
+    short: bool,
     folder: &str,
     lost: &str,
     files: &mut F,
@@ -39,8 +40,8 @@ pub fn extract_with_lost<F: Files, O: Sink>(
 ) -> Result<bool, Refusal>
     // At `Ok` all was made and told as without lost files, at some moment; and since then each lost file has its line, and each that is told as written is there, and each crash since then leaves it.
     ensures added { IfOk result (λ good. OfPaths (λ path. F.holds files.old (F.real files.old path)) (⟦<AnySource<F::Input, F::Image> as Source>⟧.remaining) inputs.now
-        (AddsLost (λ (mid : F) (between : O) nodes_good. ExtractsChosen (map (λ word. word.now) only.now)
-        (λ table told. IsPut F.tells (Fails F.faults ⊎ Fails F.Output.faults) table told fill folder.now (F.holds mid) (F.moment mid) (F.left_since mid))
+        (AddsLost (λ (mid : F) (between : O) nodes_good. ExtractsChosen (map (λ word. word.now) only.now) short
+        (λ table told. IsPut F.tells (Fails F.faults ⊎ Fails F.Output.faults) table told fill short folder.now (F.holds mid) (F.moment mid) (F.left_since mid))
         F.holds folder.now files.old mid profile last (O.contents out.old) (O.contents between) (O.faults out.old) (O.faults between) nodes_good)
         (λ (mid : F) (between : O) lost_good. WritesLost
         (λ table told two. IsLostPut F.tells (Fails F.faults ⊎ Fails F.Output.faults) table told lost.now two (F.holds files.new) (F.moment files.new) (F.left_since files.new))
@@ -60,7 +61,7 @@ pub fn extract_with_lost<F: Files, O: Sink>(
     files.begin(Stage::Walking);
     let report = salvage_by(alloc, &table, last, profile)?;
     files.begin(Stage::Writing);
-    let made = match put_report(alloc, &report, only, fill, false, folder, files, out) {
+    let made = match put_report(alloc, &report, only, fill, short, false, folder, files, out) {
         Ok(made) => made,
         Err(refusal) => return Err(refusal),
     };
@@ -79,6 +80,7 @@ pub fn extract_listed_with_lost<F: Files, O: Sink>(
     profile: Profile,
     only: &[&str],
     fill: Fill,
+    short: bool,
     folder: &str,
     place: &str,
     lost: &str,
@@ -87,9 +89,9 @@ pub fn extract_listed_with_lost<F: Files, O: Sink>(
 ) -> Result<bool, Refusal>
     // At `Ok` all was made and told as without lost files, at some moment; and since then each lost file has its line, and each that is told as written is there, and each crash since then leaves it.
     ensures added { IfOk result (λ good. OfPaths (λ path. F.holds files.old (F.real files.old path)) (⟦<AnySource<F::Input, F::Image> as Source>⟧.remaining) inputs.now
-        (AddsLost (λ (mid : F) (between : O) nodes_good. ListsChosen (map (λ word. word.now) only.now)
-        (λ f table told. IsPut F.tells (Fails F.faults ⊎ Fails F.Output.faults) table told fill folder.now (F.holds f) (F.moment f) (F.left_since f))
-        (λ f nodes fates text. F.tells → IsManifest (F.holds f) folder.now nodes fates text)
+        (AddsLost (λ (mid : F) (between : O) nodes_good. ListsChosen (map (λ word. word.now) only.now) short
+        (λ f table told. IsPut F.tells (Fails F.faults ⊎ Fails F.Output.faults) table told fill short folder.now (F.holds f) (F.moment f) (F.left_since f))
+        (λ f told fates text. F.tells → IsManifest (F.holds f) folder.now short told fates text)
         (λ f text. F.tells → IsPutLast F.holds F.may_leave F.moment F.left_since place.now f mid text)
         F.holds folder.now files.old mid profile last (O.contents out.old) (O.contents between) (O.faults out.old) (O.faults between) nodes_good)
         (λ (mid : F) (between : O) lost_good. WritesLost
@@ -100,7 +102,7 @@ pub fn extract_listed_with_lost<F: Files, O: Sink>(
     // A path that is no node's is refused before anything is made.
     ensures no_node { IfErr result (λ refusal. (i : ℕ) → refusal ≡ Refusal.NoNode i → files.new ≡ files.old) }
     // Whatever the answer, no file that was there is changed, and nothing outside of the two folders, but at the manifest's place; nor by a crash at any moment.
-    ensures spares { (mid : F) × SparesListed F.tells F.holds F.may_leave F.moment F.left_since folder.now place.now files.old mid × SparesLost F.tells F.holds F.may_leave F.moment F.left_since lost.now mid files.new }
+    ensures spares { (mid : F) × SparesListed F.tells F.holds F.may_leave F.moment F.left_since short folder.now place.now files.old mid × SparesLost F.tells F.holds F.may_leave F.moment F.left_since lost.now mid files.new }
 {
     let table = match joined(alloc, inputs, files) {
         Ok(table) => table,
@@ -109,7 +111,7 @@ pub fn extract_listed_with_lost<F: Files, O: Sink>(
     files.begin(Stage::Walking);
     let report = salvage_by(alloc, &table, last, profile)?;
     files.begin(Stage::Writing);
-    let made = match list_report(alloc, &report, only, fill, folder, place, files, out) {
+    let made = match list_report(alloc, &report, only, fill, short, folder, place, files, out) {
         Ok(made) => made,
         Err(refusal) => return Err(refusal),
     };

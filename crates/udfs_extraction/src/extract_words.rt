@@ -1,6 +1,6 @@
 //! What the words after `extract` ask for.
 
-ghost use Rattle.std.specs.Prelude.{◌≡◌, ◌⊎◌, ℕ, List, true, false, None, Some, IfOk, IfErr, OnOk, codes, map, string_bytes};
+ghost use Rattle.std.specs.Prelude.{◌≡◌, ◌⊎◌, ℕ, Bool, List, true, false, None, Some, IfOk, IfErr, OnOk, codes, map, string_bytes};
 ghost use Rattle.clap.specs.Matches.{found_of, one_text};
 ghost use Rattle.udfs_volume.specs.declared.profiles.Profile.{Profile};
 ghost use Rattle.udfs_files.specs.Disk.{Fails, Goes};
@@ -27,7 +27,7 @@ use udfs_reading::{Sink, Source};
 use udfs_salvage::Fill;
 use udfs_words::asking::{asked_folder, asked_inputs, asked_manifest};
 use udfs_words::profile::asked_profile;
-use udfs_words::words::{FILL, INPUTS, MANIFEST, ONLY, PAIRS};
+use udfs_words::words::{FILL, INPUTS, MANIFEST, ONLY, PAIRS, SHORT_NAMES};
 
 /// What the words after `extract` ask to write of torn files: zeros in the holes with `--fill`, and else nothing.
 pub fn asked_fill(words: &ArgMatches<'_>) -> Fill
@@ -41,6 +41,13 @@ pub fn asked_fill(words: &ArgMatches<'_>) -> Fill
     Fill::Refuse
 }
 
+/// Whether the words after `extract` ask for short names in the place of those that are too long.
+pub fn asked_short(words: &ArgMatches<'_>) -> bool
+    ensures { IsPicked (found_of words.now) (codes "short-names") true false result }
+{
+    words.get_flag(SHORT_NAMES)
+}
+
 /// Does what the words after `extract` ask for where no manifest is to be written.
 fn extract_words<F: Files, O: Sink>(
     alloc: Global,
@@ -48,16 +55,16 @@ fn extract_words<F: Files, O: Sink>(
     files: &mut F,
     out: &mut O,
 ) -> Result<bool, Refusal>
-    ensures extracted { IfOk result (λ good. has_only (found_of words.now) ≡ false → (fill : Fill) × (last : ℕ) × (profile : Profile) × (inputs : List InputPath) × (map asked_for inputs ≡ asked_inputs (found_of words.now)) ×
-        IsPicked (found_of words.now) (codes "fill") (Fill.Byte 0) Fill.Refuse fill × IsLast (λ path. F.holds files.old (F.real files.old path)) inputs (found_of words.now) last × IsProfile (found_of words.now) profile ×
+    ensures extracted { IfOk result (λ good. has_only (found_of words.now) ≡ false → (fill : Fill) × (short : Bool) × (last : ℕ) × (profile : Profile) × (inputs : List InputPath) × (map asked_for inputs ≡ asked_inputs (found_of words.now)) ×
+        IsPicked (found_of words.now) (codes "fill") (Fill.Byte 0) Fill.Refuse fill × IsPicked (found_of words.now) (codes "short-names") true false short × IsLast (λ path. F.holds files.old (F.real files.old path)) inputs (found_of words.now) last × IsProfile (found_of words.now) profile ×
         OfPaths (λ path. F.holds files.old (F.real files.old path)) (⟦<AnySource<F::Input, F::Image> as Source>⟧.remaining) inputs
-        (ExtractsAll (λ table told. IsPut F.tells (Fails F.faults ⊎ Fails F.Output.faults) table told fill (folder_text (found_of words.now)) (F.holds files.new) (F.moment files.new) (F.left_since files.new))
+        (ExtractsAll short (λ table told. IsPut F.tells (Fails F.faults ⊎ Fails F.Output.faults) table told fill short (folder_text (found_of words.now)) (F.holds files.new) (F.moment files.new) (F.left_since files.new))
         files.old files.new profile last (O.contents out.old) (O.contents out.new) (O.faults out.old) (O.faults out.new) good)) }
     // With `--only` or without: only what is asked for is made, told and judged.
-    ensures chosen { IfOk result (λ good. (fill : Fill) × (last : ℕ) × (profile : Profile) × (inputs : List InputPath) × (map asked_for inputs ≡ asked_inputs (found_of words.now)) ×
-        IsPicked (found_of words.now) (codes "fill") (Fill.Byte 0) Fill.Refuse fill × IsLast (λ path. F.holds files.old (F.real files.old path)) inputs (found_of words.now) last × IsProfile (found_of words.now) profile ×
+    ensures chosen { IfOk result (λ good. (fill : Fill) × (short : Bool) × (last : ℕ) × (profile : Profile) × (inputs : List InputPath) × (map asked_for inputs ≡ asked_inputs (found_of words.now)) ×
+        IsPicked (found_of words.now) (codes "fill") (Fill.Byte 0) Fill.Refuse fill × IsPicked (found_of words.now) (codes "short-names") true false short × IsLast (λ path. F.holds files.old (F.real files.old path)) inputs (found_of words.now) last × IsProfile (found_of words.now) profile ×
         OfPaths (λ path. F.holds files.old (F.real files.old path)) (⟦<AnySource<F::Input, F::Image> as Source>⟧.remaining) inputs
-        (ExtractsChosen (only_texts (found_of words.now)) (λ table told. IsPut F.tells (Fails F.faults ⊎ Fails F.Output.faults) table told fill (folder_text (found_of words.now)) (F.holds files.new) (F.moment files.new) (F.left_since files.new))
+        (ExtractsChosen (only_texts (found_of words.now)) short (λ table told. IsPut F.tells (Fails F.faults ⊎ Fails F.Output.faults) table told fill short (folder_text (found_of words.now)) (F.holds files.new) (F.moment files.new) (F.left_since files.new))
         F.holds (folder_text (found_of words.now)) files.old files.new profile last (O.contents out.old) (O.contents out.new) (O.faults out.old) (O.faults out.new) good)) }
     // A path that is no node's is refused before anything is made.
     ensures no_node { IfErr result (λ refusal. (i : ℕ) → refusal ≡ Refusal.NoNode i → files.new ≡ files.old) }
@@ -71,8 +78,11 @@ fn extract_words<F: Files, O: Sink>(
     let profile = asked_profile(words);
     let only = words.get_strs(ONLY).unwrap_or(&[ALL]);
     let fill = asked_fill(words);
+    let short = asked_short(words);
     let folder = asked_folder(words);
-    match extract(alloc, paths, last, profile, only, fill, folder, files, out) {
+    match extract(
+        alloc, paths, last, profile, only, fill, short, folder, files, out,
+    ) {
         Ok(good) => Ok(good),
         Err(refusal) => Err(refusal),
     }
@@ -103,20 +113,21 @@ fn manifest_words<F: Files, O: Sink>(
     files: &mut F,
     out: &mut O,
 ) -> Result<bool, Refusal>
-    ensures listed { IfOk result (λ good. (fill : Fill) × (last : ℕ) × (profile : Profile) × (inputs : List InputPath) × (map asked_for inputs ≡ asked_inputs (found_of words.now)) ×
-        IsPicked (found_of words.now) (codes "fill") (Fill.Byte 0) Fill.Refuse fill × IsLast (λ path. F.holds files.old (F.real files.old path)) inputs (found_of words.now) last × IsProfile (found_of words.now) profile ×
+    ensures listed { IfOk result (λ good. (fill : Fill) × (short : Bool) × (last : ℕ) × (profile : Profile) × (inputs : List InputPath) × (map asked_for inputs ≡ asked_inputs (found_of words.now)) ×
+        IsPicked (found_of words.now) (codes "fill") (Fill.Byte 0) Fill.Refuse fill × IsPicked (found_of words.now) (codes "short-names") true false short × IsLast (λ path. F.holds files.old (F.real files.old path)) inputs (found_of words.now) last × IsProfile (found_of words.now) profile ×
         OfPaths (λ path. F.holds files.old (F.real files.old path)) (⟦<AnySource<F::Input, F::Image> as Source>⟧.remaining) inputs
-        (ListsChosen (only_texts (found_of words.now))
-        (λ f table told. IsPut F.tells (Fails F.faults ⊎ Fails F.Output.faults) table told fill (folder_text (found_of words.now)) (F.holds f) (F.moment f) (F.left_since f))
-        (λ f nodes fates text. F.tells → IsManifest (F.holds f) (folder_text (found_of words.now)) nodes fates text)
+        (ListsChosen (only_texts (found_of words.now)) short
+        (λ f table told. IsPut F.tells (Fails F.faults ⊎ Fails F.Output.faults) table told fill short (folder_text (found_of words.now)) (F.holds f) (F.moment f) (F.left_since f))
+        (λ f told fates text. F.tells → IsManifest (F.holds f) (folder_text (found_of words.now)) short told fates text)
         (λ f text. F.tells → IsPutLast F.holds F.may_leave F.moment F.left_since (F.real files.old (manifest_text (found_of words.now))) f files.new text)
         F.holds (folder_text (found_of words.now)) files.old files.new profile last (O.contents out.old) (O.contents out.new) (O.faults out.old) (O.faults out.new) good)) }
     // It takes the place of no file but a manifest, and never that of an input, nor of a file that is written.
     ensures free { OnOk result (F.tells → IsFreeManifest (F.holds files.old) (F.real files.old) (input_texts (found_of words.now)) (pair_texts (found_of words.now)) (folder_text (found_of words.now)) (manifest_text (found_of words.now))) }
     // A path that is no node's is refused before anything is made.
     ensures no_node { IfErr result (λ refusal. (i : ℕ) → refusal ≡ Refusal.NoNode i → files.new ≡ files.old) }
-    ensures spares { SparesListed F.tells F.holds F.may_leave F.moment F.left_since (folder_text (found_of words.now)) (F.real files.old (manifest_text (found_of words.now))) files.old files.new }
+    ensures spares { (short : Bool) × IsPicked (found_of words.now) (codes "short-names") true false short × SparesListed F.tells F.holds F.may_leave F.moment F.left_since short (folder_text (found_of words.now)) (F.real files.old (manifest_text (found_of words.now))) files.old files.new }
 {
+    let short = asked_short(words);
     let inputs = asked_inputs(alloc, words)?;
     let paths = inputs.as_slice();
     let place = match asked_place(alloc, words, files) {
@@ -136,6 +147,7 @@ fn manifest_words<F: Files, O: Sink>(
         profile,
         only,
         fill,
+        short,
         folder,
         place.as_str(),
         files,
@@ -153,24 +165,24 @@ pub fn extract_as<F: Files, O: Sink>(
     files: &mut F,
     out: &mut O,
 ) -> Result<bool, Refusal>
-    ensures extracted { IfOk result (λ good. has_manifest (found_of words.now) ≡ false → has_only (found_of words.now) ≡ false → (fill : Fill) × (last : ℕ) × (profile : Profile) × (inputs : List InputPath) × (map asked_for inputs ≡ asked_inputs (found_of words.now)) ×
-        IsPicked (found_of words.now) (codes "fill") (Fill.Byte 0) Fill.Refuse fill × IsLast (λ path. F.holds files.old (F.real files.old path)) inputs (found_of words.now) last × IsProfile (found_of words.now) profile ×
+    ensures extracted { IfOk result (λ good. has_manifest (found_of words.now) ≡ false → has_only (found_of words.now) ≡ false → (fill : Fill) × (short : Bool) × (last : ℕ) × (profile : Profile) × (inputs : List InputPath) × (map asked_for inputs ≡ asked_inputs (found_of words.now)) ×
+        IsPicked (found_of words.now) (codes "fill") (Fill.Byte 0) Fill.Refuse fill × IsPicked (found_of words.now) (codes "short-names") true false short × IsLast (λ path. F.holds files.old (F.real files.old path)) inputs (found_of words.now) last × IsProfile (found_of words.now) profile ×
         OfPaths (λ path. F.holds files.old (F.real files.old path)) (⟦<AnySource<F::Input, F::Image> as Source>⟧.remaining) inputs
-        (ExtractsAll (λ table told. IsPut F.tells (Fails F.faults ⊎ Fails F.Output.faults) table told fill (folder_text (found_of words.now)) (F.holds files.new) (F.moment files.new) (F.left_since files.new))
+        (ExtractsAll short (λ table told. IsPut F.tells (Fails F.faults ⊎ Fails F.Output.faults) table told fill short (folder_text (found_of words.now)) (F.holds files.new) (F.moment files.new) (F.left_since files.new))
         files.old files.new profile last (O.contents out.old) (O.contents out.new) (O.faults out.old) (O.faults out.new) good)) }
     // With `--only` or without: only what is asked for is made, told and judged.
-    ensures chosen { IfOk result (λ good. has_manifest (found_of words.now) ≡ false → (fill : Fill) × (last : ℕ) × (profile : Profile) × (inputs : List InputPath) × (map asked_for inputs ≡ asked_inputs (found_of words.now)) ×
-        IsPicked (found_of words.now) (codes "fill") (Fill.Byte 0) Fill.Refuse fill × IsLast (λ path. F.holds files.old (F.real files.old path)) inputs (found_of words.now) last × IsProfile (found_of words.now) profile ×
+    ensures chosen { IfOk result (λ good. has_manifest (found_of words.now) ≡ false → (fill : Fill) × (short : Bool) × (last : ℕ) × (profile : Profile) × (inputs : List InputPath) × (map asked_for inputs ≡ asked_inputs (found_of words.now)) ×
+        IsPicked (found_of words.now) (codes "fill") (Fill.Byte 0) Fill.Refuse fill × IsPicked (found_of words.now) (codes "short-names") true false short × IsLast (λ path. F.holds files.old (F.real files.old path)) inputs (found_of words.now) last × IsProfile (found_of words.now) profile ×
         OfPaths (λ path. F.holds files.old (F.real files.old path)) (⟦<AnySource<F::Input, F::Image> as Source>⟧.remaining) inputs
-        (ExtractsChosen (only_texts (found_of words.now)) (λ table told. IsPut F.tells (Fails F.faults ⊎ Fails F.Output.faults) table told fill (folder_text (found_of words.now)) (F.holds files.new) (F.moment files.new) (F.left_since files.new))
+        (ExtractsChosen (only_texts (found_of words.now)) short (λ table told. IsPut F.tells (Fails F.faults ⊎ Fails F.Output.faults) table told fill short (folder_text (found_of words.now)) (F.holds files.new) (F.moment files.new) (F.left_since files.new))
         F.holds (folder_text (found_of words.now)) files.old files.new profile last (O.contents out.old) (O.contents out.new) (O.faults out.old) (O.faults out.new) good)) }
     // With `--manifest` the same, and then the manifest is put.
-    ensures listed { IfOk result (λ good. has_manifest (found_of words.now) ≡ true → ((fill : Fill) × (last : ℕ) × (profile : Profile) × (inputs : List InputPath) × (map asked_for inputs ≡ asked_inputs (found_of words.now)) ×
-        IsPicked (found_of words.now) (codes "fill") (Fill.Byte 0) Fill.Refuse fill × IsLast (λ path. F.holds files.old (F.real files.old path)) inputs (found_of words.now) last × IsProfile (found_of words.now) profile ×
+    ensures listed { IfOk result (λ good. has_manifest (found_of words.now) ≡ true → ((fill : Fill) × (short : Bool) × (last : ℕ) × (profile : Profile) × (inputs : List InputPath) × (map asked_for inputs ≡ asked_inputs (found_of words.now)) ×
+        IsPicked (found_of words.now) (codes "fill") (Fill.Byte 0) Fill.Refuse fill × IsPicked (found_of words.now) (codes "short-names") true false short × IsLast (λ path. F.holds files.old (F.real files.old path)) inputs (found_of words.now) last × IsProfile (found_of words.now) profile ×
         OfPaths (λ path. F.holds files.old (F.real files.old path)) (⟦<AnySource<F::Input, F::Image> as Source>⟧.remaining) inputs
-        (ListsChosen (only_texts (found_of words.now))
-        (λ f table told. IsPut F.tells (Fails F.faults ⊎ Fails F.Output.faults) table told fill (folder_text (found_of words.now)) (F.holds f) (F.moment f) (F.left_since f))
-        (λ f nodes fates text. F.tells → IsManifest (F.holds f) (folder_text (found_of words.now)) nodes fates text)
+        (ListsChosen (only_texts (found_of words.now)) short
+        (λ f table told. IsPut F.tells (Fails F.faults ⊎ Fails F.Output.faults) table told fill short (folder_text (found_of words.now)) (F.holds f) (F.moment f) (F.left_since f))
+        (λ f told fates text. F.tells → IsManifest (F.holds f) (folder_text (found_of words.now)) short told fates text)
         (λ f text. F.tells → IsPutLast F.holds F.may_leave F.moment F.left_since (F.real files.old (manifest_text (found_of words.now))) f files.new text)
         F.holds (folder_text (found_of words.now)) files.old files.new profile last (O.contents out.old) (O.contents out.new) (O.faults out.old) (O.faults out.new) good)) ×
         (F.tells → IsFreeManifest (F.holds files.old) (F.real files.old) (input_texts (found_of words.now)) (pair_texts (found_of words.now)) (folder_text (found_of words.now)) (manifest_text (found_of words.now)))) }
@@ -179,7 +191,7 @@ pub fn extract_as<F: Files, O: Sink>(
     ensures stays { has_manifest (found_of words.now) ≡ false → F.tells → Stay (F.holds files.old) (F.holds files.new) }
     ensures outside { has_manifest (found_of words.now) ≡ false → (q : List ℕ) → (¬ IsIn (folder_text (found_of words.now)) q) → F.holds files.new q ≡ F.holds files.old q }
     ensures crash { has_manifest (found_of words.now) ≡ false → F.tells → Goes F.moment F.may_leave F.left_since files.old files.new (Spares (folder_text (found_of words.now)) (F.holds files.old)) }
-    ensures spares { has_manifest (found_of words.now) ≡ true → SparesListed F.tells F.holds F.may_leave F.moment F.left_since (folder_text (found_of words.now)) (F.real files.old (manifest_text (found_of words.now))) files.old files.new }
+    ensures spares { has_manifest (found_of words.now) ≡ true → (short : Bool) × IsPicked (found_of words.now) (codes "short-names") true false short × SparesListed F.tells F.holds F.may_leave F.moment F.left_since short (folder_text (found_of words.now)) (F.real files.old (manifest_text (found_of words.now))) files.old files.new }
 {
     if words.contains_id(MANIFEST) {
         return match manifest_words(alloc, words, files, out) {

@@ -12,6 +12,8 @@ mod fate_remarks;
 mod manifest;
 mod manifest_place;
 mod node_files;
+mod places;
+mod short_names;
 mod telling;
 pub mod timed_words;
 pub mod times;

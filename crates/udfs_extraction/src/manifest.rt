@@ -2,14 +2,11 @@
 
 ghost use Rattle.std.specs.Prelude.{◌≡◌, ◌++◌, OnOk, drop};
 ghost use Rattle.std.specs.List.{list_any};
-ghost use Rattle.udfs_salvage.specs.NodeTexts.{names_text};
 ghost use Rattle.udfs_extraction.specs.Manifests.{note_line};
 ghost use Rattle.udfs_extraction.specs.SumLines.{must_escape, path_byte, path_text, sum_line};
 
 use crate::extract::{Done, Fate};
 use std::alloc::{AllocError, Global};
-use udfs_salvage::push_names;
-use udfs_walk::Path;
 
 /// Whether a byte of a path is written with a backslash: a backslash, a line feed and a carriage return are.
 fn must_escape(byte: u8) -> bool
@@ -85,20 +82,18 @@ fn behind_slash(path: &[u8]) -> &[u8]
     }
 }
 
-/// Appends the line of a node's file, if it was written and its digest taken: its path in the folder has no `/` in front.
+/// Appends the line of a node's file, if it was written and its digest taken: its place in the folder without the `/` in front.
 pub fn note(
     alloc: Global,
     manifest: &mut Vec<u8>,
     done: Done,
-    names: &Path,
+    place: &str,
 ) -> Result<(), AllocError>
-    ensures { OnOk result (manifest.new.items ≡ manifest.old.items ++ note_line done.fate done.digest names.now) }
+    ensures { OnOk result (manifest.new.items ≡ manifest.old.items ++ note_line done.fate done.digest place.now) }
 {
     match (done.fate, done.digest) {
         (Fate::Written, Some(digest)) => {
-            let mut path = String::new(alloc);
-            push_names(&mut path, names)?;
-            push_sum_line(alloc, manifest, &digest, behind_slash(path.as_bytes()))?;
+            push_sum_line(alloc, manifest, &digest, behind_slash(place.as_bytes()))?;
             Ok(())
         }
         _ => Ok(()),

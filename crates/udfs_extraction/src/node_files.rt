@@ -1,6 +1,6 @@
 //! The folders and files of nodes: each is made, or a file is written, or nothing.
 
-ghost use Rattle.std.specs.Prelude.{◌≡◌, ◌≢◌, ◌<◌, ◌⊎◌, ℕ, true, List, [], Some, IfOk, length, slice_get, None, map, string_bytes};
+ghost use Rattle.std.specs.Prelude.{◌≡◌, ◌≢◌, ◌<◌, ◌⊎◌, ◌++◌, ℕ, Bool, true, List, [], Some, IfOk, length, slice_get, None, map, string_bytes};
 ghost use Rattle.std.specs.Io.KnownBytes.{Appends};
 ghost use Rattle.udfs_file.specs.declared.cells.Cell.{Cell};
 ghost use Rattle.udfs_files.specs.Disk.{Same, SameBut, Goes, Fails};
@@ -9,10 +9,13 @@ ghost use Rattle.udfs_volume.specs.declared.profiles.Profile.{Profile};
 ghost use Rattle.udfs_walk.specs.NodeFields.{NodeFields};
 ghost use Rattle.udfs_salvage.specs.declared.extraction.ExtractError.TheVariants as extract_error;
 ghost use Rattle.udfs_salvage.specs.Extraction.{HasCellsInBy, fill_byte, filled, is_offered};
+ghost use Rattle.udfs_salvage.specs.NodeTexts.{names_text};
 ghost use Rattle.udfs_salvage.specs.Reports.{IsReportBy, report_now};
-ghost use Rattle.udfs_extraction.specs.Extracting.{IsDone, IsElsewhere, IsFateOf, IsIn, IsPut, Spares, Stay, deed, path_below};
+ghost use Rattle.udfs_extraction.specs.Extracting.{IsDone, IsFateOf, IsIn, IsPut, Spares, Stay, deed, path_below};
 ghost use Rattle.udfs_common.specs.Keeping.{IsKept};
+ghost use Rattle.udfs_extraction.specs.Choosing.{is_chosen};
 ghost use Rattle.udfs_extraction.specs.Manifests.{IsNoted};
+ghost use Rattle.udfs_extraction.specs.ShortNames.{placed};
 
 use crate::choosing::{is_above, is_chosen};
 use crate::digesting::{Filled, fill_noting};
@@ -22,8 +25,8 @@ use udfs_common::files::Files;
 use udfs_file::Kind;
 use udfs_files::Job;
 use udfs_reading::{DeviceFault, Sink};
-use udfs_salvage::{ExtractError, Fill, Report, extract_by as write_bytes, is_offered, push_names};
-use udfs_walk::{Node, Path, Standing};
+use udfs_salvage::{ExtractError, Fill, Report, extract_by as write_bytes, is_offered};
+use udfs_walk::{Node, Standing};
 
 /// What is done with a node: a directory that is no loop is made as a folder, and a file that is to be written becomes a
 /// file. Nothing else is ever made, so no link either.
@@ -53,13 +56,13 @@ fn without_file(fate: Fate) -> Done
     Done { fate, digest: None }
 }
 
-/// The path of a node in a folder: the folder's, and each name in its escaped form behind a `/`. An escaped name has no
+/// The path of a node in a folder: the folder's, and its place, which is each name in its escaped form behind a `/`. An escaped name has no
 /// `/` and is neither `.` nor `..`, so the path leads nowhere but below the folder.
-pub fn path_in(alloc: Global, folder: &str, names: &Path) -> Result<String, AllocError>
-    ensures { IfOk result (λ path. string_bytes path ≡ path_below folder.now names.now) }
+pub fn path_in(alloc: Global, folder: &str, place: &str) -> Result<String, AllocError>
+    ensures { IfOk result (λ path. string_bytes path ≡ folder.now ++ place.now) }
 {
     let mut path = String::from_str(alloc, folder)?;
-    push_names(&mut path, names)?;
+    path.push_str(place)?;
     Ok(path)
 }
 
@@ -236,8 +239,8 @@ fn put_at<F: Files>(
     files: &mut F,
 ) -> Result<Done, AllocError>
     requires { index < length report.now.nodes.items }
-    ensures put { IfOk result (λ done. (n : NodeFields) (folder : List ℕ) → slice_get report.now.nodes.items index ≡ Some n → path.now ≡ path_below folder n.path →
-        IsPut F.tells (Fails F.faults ⊎ Fails F.Output.faults) report.now.table.now (report_now report.now) fill folder (F.holds files.new) (F.moment files.new) (F.left_since files.new) index n done.fate) }
+    ensures put { IfOk result (λ done. (n : NodeFields) (short : Bool) (folder : List ℕ) → slice_get report.now.nodes.items index ≡ Some n → path.now ≡ path_below folder (placed short (report_now report.now) index n) →
+        IsPut F.tells (Fails F.faults ⊎ Fails F.Output.faults) report.now.table.now (report_now report.now) fill short folder (F.holds files.new) (F.moment files.new) (F.left_since files.new) index n done.fate) }
     ensures digest { IfOk result (λ done. IsNoted digest F.tells (F.holds files.new) path.now done.fate done.digest) }
     ensures stays { F.tells → Stay (F.holds files.old) (F.holds files.new) }
     ensures others { (q : List ℕ) → q ≢ path.now → F.holds files.new q ≡ F.holds files.old q }
@@ -267,19 +270,20 @@ fn put_node<F: Files>(
     fill: Fill,
     digest: bool,
     folder: &str,
+    place: &str,
     files: &mut F,
 ) -> Result<Done, AllocError>
-    requires { index < length report.now.nodes.items }
-    ensures put { IfOk result (λ done. (n : NodeFields) → slice_get report.now.nodes.items index ≡ Some n →
-        IsPut F.tells (Fails F.faults ⊎ Fails F.Output.faults) report.now.table.now (report_now report.now) fill folder.now (F.holds files.new) (F.moment files.new) (F.left_since files.new) index n done.fate) }
-    ensures digest { IfOk result (λ done. (n : NodeFields) → slice_get report.now.nodes.items index ≡ Some n → IsNoted digest F.tells (F.holds files.new) (path_below folder.now n.path) done.fate done.digest) }
+    requires index { index < length report.now.nodes.items }
+    requires names { (names : List (List ℕ)) × (place.now ≡ names_text names) }
+    ensures put { IfOk result (λ done. (n : NodeFields) (short : Bool) → slice_get report.now.nodes.items index ≡ Some n → place.now ≡ names_text (placed short (report_now report.now) index n) →
+        IsPut F.tells (Fails F.faults ⊎ Fails F.Output.faults) report.now.table.now (report_now report.now) fill short folder.now (F.holds files.new) (F.moment files.new) (F.left_since files.new) index n done.fate) }
+    ensures digest { IfOk result (λ done. IsNoted digest F.tells (F.holds files.new) (folder.now ++ place.now) done.fate done.digest) }
     ensures stays { F.tells → Stay (F.holds files.old) (F.holds files.new) }
     ensures outside { (q : List ℕ) → (¬ IsIn folder.now q) → F.holds files.new q ≡ F.holds files.old q }
-    ensures elsewhere { (q : List ℕ) → ((n : NodeFields) → slice_get report.now.nodes.items index ≡ Some n → q ≢ path_below folder.now n.path) → F.holds files.new q ≡ F.holds files.old q }
+    ensures elsewhere { (q : List ℕ) → q ≢ folder.now ++ place.now → F.holds files.new q ≡ F.holds files.old q }
     ensures crash { F.tells → Goes F.moment F.may_leave F.left_since files.old files.new (Spares folder.now (F.holds files.old)) }
 {
-    let node = node_at(report, index);
-    let path = path_in(alloc, folder, &node.path)?;
+    let path = path_in(alloc, folder, place)?;
     let done = put_at(alloc, report, index, fill, digest, path.as_str(), files)?;
     Ok(done)
 }
@@ -290,6 +294,7 @@ fn put_way<F: Files>(
     report: &Report<'_>,
     index: usize,
     folder: &str,
+    place: &str,
     files: &mut F,
 ) -> Result<(), AllocError>
     requires { index < length report.now.nodes.items }
@@ -298,7 +303,7 @@ fn put_way<F: Files>(
 {
     let node = node_at(report, index);
     if deed_for(node, Fill::Refuse) == Deed::Folder {
-        let path = path_in(alloc, folder, &node.path)?;
+        let path = path_in(alloc, folder, place)?;
         let _ = put_folder(path.as_str(), files);
     }
     Ok(())
@@ -313,26 +318,28 @@ pub fn put_chosen<F: Files>(
     fill: Fill,
     digest: bool,
     folder: &str,
+    place: &str,
     files: &mut F,
 ) -> Result<Done, AllocError>
-    requires { index < length report.now.nodes.items }
-    ensures put { IfOk result (λ done. (n : NodeFields) → slice_get report.now.nodes.items index ≡ Some n → IsDone (map (λ word. word.now) only.now)
-        (IsPut F.tells (Fails F.faults ⊎ Fails F.Output.faults) report.now.table.now (report_now report.now) fill folder.now (F.holds files.new) (F.moment files.new) (F.left_since files.new)) index n done.fate) }
-    ensures digest { IfOk result (λ done. (n : NodeFields) → slice_get report.now.nodes.items index ≡ Some n → IsNoted digest F.tells (F.holds files.new) (path_below folder.now n.path) done.fate done.digest) }
+    requires index { index < length report.now.nodes.items }
+    requires names { (names : List (List ℕ)) × (place.now ≡ names_text names) }
+    ensures put { IfOk result (λ done. (n : NodeFields) (short : Bool) → slice_get report.now.nodes.items index ≡ Some n → place.now ≡ names_text (placed short (report_now report.now) index n) → IsDone (map (λ word. word.now) only.now)
+        (IsPut F.tells (Fails F.faults ⊎ Fails F.Output.faults) report.now.table.now (report_now report.now) fill short folder.now (F.holds files.new) (F.moment files.new) (F.left_since files.new)) index n done.fate) }
+    ensures digest { IfOk result (λ done. IsNoted digest F.tells (F.holds files.new) (folder.now ++ place.now) done.fate done.digest) }
     ensures stays { F.tells → Stay (F.holds files.old) (F.holds files.new) }
     ensures outside { (q : List ℕ) → (¬ IsIn folder.now q) → F.holds files.new q ≡ F.holds files.old q }
-    ensures elsewhere { (q : List ℕ) → IsElsewhere (map (λ word. word.now) only.now) report.now.nodes.items folder.now q → F.holds files.new q ≡ F.holds files.old q }
+    ensures elsewhere { (q : List ℕ) → ((n : NodeFields) → slice_get report.now.nodes.items index ≡ Some n → is_chosen (map (λ word. word.now) only.now) n.path ≡ true → q ≢ folder.now ++ place.now) → F.holds files.new q ≡ F.holds files.old q }
     ensures crash { F.tells → Goes F.moment F.may_leave F.left_since files.old files.new (Spares folder.now (F.holds files.old)) }
 {
     let node = node_at(report, index);
     if is_chosen(alloc, only, &node.path)? {
-        return match put_node(alloc, report, index, fill, digest, folder, files) {
+        return match put_node(alloc, report, index, fill, digest, folder, place, files) {
             Ok(done) => Ok(done),
             Err(AllocError) => Err(AllocError),
         };
     }
     if is_above(alloc, only, &node.path)? {
-        put_way(alloc, report, index, folder, files)?;
+        put_way(alloc, report, index, folder, place, files)?;
     }
     Ok(without_file(Fate::Passed))
 }

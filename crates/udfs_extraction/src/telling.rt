@@ -3,10 +3,11 @@
 ghost use Rattle.std.specs.Prelude.{◌≡◌, ◌<◌, ◌++◌, true, false, IfOk, OnErr, string_bytes};
 ghost use Rattle.udfs_salvage.specs.NodeTexts.{names_text};
 ghost use Rattle.udfs_salvage.specs.Texts.{line};
-ghost use Rattle.udfs_extraction.specs.Extracting.{TellsOn, fate_line};
+ghost use Rattle.udfs_extraction.specs.Extracting.{TellsOn, fate_line, written_line};
 
 use crate::extract::Fate;
 use std::alloc::{AllocError, Global};
+use udfs_osta::Name;
 use udfs_reading::{Sink, WriteFault, write_all};
 use udfs_salvage::push_names;
 use udfs_walk::Path;
@@ -21,15 +22,33 @@ fn line_of(alloc: Global, word: &str, names: &Path) -> Result<String, AllocError
     Ok(text)
 }
 
+/// The line of a node that was written, with its short name where it has one.
+fn written_line(alloc: Global, names: &Path, own: &Option<Name>) -> Result<String, AllocError>
+    ensures { IfOk result (λ text. string_bytes text ≡ written_line names.now own.now) }
+{
+    match own {
+        None => line_of(alloc, "written ", names),
+        Some(short) => {
+            let mut text = String::from_str(alloc, "written ")?;
+            push_names(&mut text, names)?;
+            text.push_str(" as ")?;
+            short.write_escaped(&mut text)?;
+            text.push('\n')?;
+            Ok(text)
+        }
+    }
+}
+
 /// Prints what became of a node, where the output took all before it, and answers whether it took this too. Where memory is refused, nothing is printed.
 pub fn tell<O: Sink>(
     alloc: Global,
     heard: bool,
     fate: Fate,
     names: &Path,
+    own: &Option<Name>,
     out: &mut O,
 ) -> Result<bool, AllocError>
-    ensures lines { IfOk result (λ still. TellsOn heard still (O.contents out.old) (O.contents out.new) (O.faults out.old) (O.faults out.new) (fate_line fate names.now)) }
+    ensures lines { IfOk result (λ still. TellsOn heard still (O.contents out.old) (O.contents out.new) (O.faults out.old) (O.faults out.new) (fate_line fate names.now own.now)) }
     ensures memory { OnErr result (out.new ≡ out.old) }
 {
     if !heard {
@@ -37,7 +56,7 @@ pub fn tell<O: Sink>(
     }
     let line = match fate {
         Fate::Made | Fate::Passed => return Ok(true),
-        Fate::Written => line_of(alloc, "written ", names)?,
+        Fate::Written => written_line(alloc, names, own)?,
         Fate::Failed | Fate::Left => line_of(alloc, "failed ", names)?,
         Fate::Skipped => line_of(alloc, "skipped ", names)?,
     };

@@ -88,12 +88,12 @@ fn set_time<F: Files>(stamp: Stamp, path: &str, files: &F) -> bool {
     }
 }
 
-/// Sets the time of what was made for a node in a folder.
-fn set_node_time<F: Files>(alloc: Global, node: &Node, folder: &str, files: &F) {
+/// Sets the time of what was made for a node at a place in a folder.
+fn set_node_time<F: Files>(alloc: Global, node: &Node, folder: &str, place: &str, files: &F) {
     let Some(stamp) = node.stamp else {
         return;
     };
-    match path_in(alloc, folder, &node.path) {
+    match path_in(alloc, folder, place) {
         Ok(path) => {
             if !set_time(stamp, path.as_str(), files) {
                 miss(of_node(alloc, node, files), files);
@@ -139,7 +139,26 @@ fn is_folder_made(
     }
 }
 
-/// Sets the time of the file that was written for the node of this index, where times are to be set. A folder that was made is noted: its time
+/// A folder that was made: the index of its node, and its place.
+#[derive(Drop)]
+pub struct MadeFolder {
+    index: usize,
+    place: String,
+}
+
+/// Notes a folder that was made for the node of this index.
+fn note_folder(
+    alloc: Global,
+    index: usize,
+    place: &str,
+    made: &mut Vec<MadeFolder>,
+) -> Result<(), AllocError> {
+    let place = String::from_str(alloc, place)?;
+    made.push(MadeFolder { index, place })?;
+    Ok(())
+}
+
+/// Sets the time of the file that was written at a place for the node of this index, where times are to be set. A folder that was made there is noted: its time
 /// is set when all is made, since what is put into it changes it.
 pub fn note_time<F: Files>(
     alloc: Global,
@@ -148,18 +167,19 @@ pub fn note_time<F: Files>(
     only: &[&str],
     fate: Fate,
     folder: &str,
-    made: &mut Vec<usize>,
+    place: &str,
+    made: &mut Vec<MadeFolder>,
     files: &F,
 ) {
     if !files.times().are_kept() {
         return;
     }
     if fate == Fate::Written {
-        set_node_time(alloc, node, folder, files);
+        set_node_time(alloc, node, folder, place, files);
     }
     match is_folder_made(alloc, only, node, fate) {
         Ok(true) => {
-            if made.push(index).is_err() {
+            if note_folder(alloc, index, place, made).is_err() {
                 files.times().lack();
             }
         }
@@ -168,23 +188,23 @@ pub fn note_time<F: Files>(
     }
 }
 
-/// Sets the times of the folders of these indices, from the last to the first, and at last that of the folder which stands for the root.
+/// Sets the times of the folders that were made, from the last to the first, and at last that of the folder which stands for the root.
 pub fn set_folder_times<F: Files>(
     alloc: Global,
     report: &Report<'_>,
-    made: &[usize],
+    made: &[MadeFolder],
     folder: &str,
     files: &F,
 ) {
     if !files.times().are_kept() {
         return;
     }
-    for index in made.iter().rev() {
-        if let Some(node) = report.nodes.get(*index) {
-            set_node_time(alloc, node, folder, files);
+    for made in made.iter().rev() {
+        if let Some(node) = report.nodes.get(made.index) {
+            set_node_time(alloc, node, folder, made.place.as_str(), files);
         }
     }
     if let Some(root) = report.nodes.first() {
-        set_node_time(alloc, root, folder, files);
+        set_node_time(alloc, root, folder, "", files);
     }
 }

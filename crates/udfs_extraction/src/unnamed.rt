@@ -19,9 +19,9 @@ ghost use Rattle.udfs_extraction.specs.LostFiles.{EachLost, IsLostPut, PutsLost,
 
 use crate::extract::{Deed, Fate, still_good};
 use crate::node_files::{finish_file, give_up, put_folder};
+use crate::short_names::push_icb_number;
 use crate::times::set_lost_time;
 use std::alloc::{AllocError, Global};
-use std::fmt::Write;
 use udfs_common::files::Files;
 use udfs_common::refusal::Refusal;
 use udfs_files::{Job, fill_by};
@@ -35,12 +35,7 @@ use udfs_walk::Unnamed;
 pub fn push_lost_name(text: &mut String, two: bool, entry: &Unnamed) -> Result<(), AllocError>
     ensures { OnOk result (string_bytes text.new ≡ string_bytes text.old ++ lost_name two entry.now) }
 {
-    let block = entry.block;
-    if two {
-        let reference = entry.reference;
-        return write!(text, "{reference}-{block}");
-    }
-    write!(text, "{block}")
+    push_icb_number(text, two, entry.reference, entry.block)
 }
 
 /// The path of the file of an entry in a folder.

@@ -1,6 +1,6 @@
 //! What the words after `extract` ask for, with a folder for lost files or without.
 
-ghost use Rattle.std.specs.Prelude.{◌≡◌, ◌⊎◌, ◌∷◌, [], ℕ, List, true, false, IfOk, IfErr, OnOk, codes, map};
+ghost use Rattle.std.specs.Prelude.{◌≡◌, ◌⊎◌, ◌∷◌, [], ℕ, Bool, List, true, false, IfOk, IfErr, OnOk, codes, map};
 ghost use Rattle.clap.specs.Matches.{found_of};
 ghost use Rattle.udfs_volume.specs.declared.profiles.Profile.{Profile};
 ghost use Rattle.udfs_files.specs.Disk.{Fails, Goes};
@@ -16,7 +16,7 @@ ghost use Rattle.udfs_words.specs.declared.input_path.InputPath.{InputPath};
 
 use crate::choosing::ALL;
 use crate::extract_unnamed::{extract_listed_with_lost, extract_with_lost};
-use crate::extract_words::{asked_fill, asked_place, extract_as};
+use crate::extract_words::{asked_fill, asked_place, asked_short, extract_as};
 use crate::unnamed_place::find_new_folder;
 use clap::ArgMatches;
 use std::alloc::Global;
@@ -37,8 +37,8 @@ fn with_lost_words<F: Files, O: Sink>(
     files: &mut F,
     out: &mut O,
 ) -> Result<bool, Refusal>
-    ensures added { IfOk result (λ good. ExtractAsked (λ path. F.holds files.old (F.real files.old path)) (⟦<AnySource<F::Input, F::Image> as Source>⟧.remaining) (found_of words.now) (λ fill last profile. AddsLost
-        (λ (mid : F) (between : O) nodes_good. ExtractsChosen (only_texts (found_of words.now)) (λ table told. IsPut F.tells (Fails F.faults ⊎ Fails F.Output.faults) table told fill (folder_text (found_of words.now)) (F.holds mid) (F.moment mid) (F.left_since mid))
+    ensures added { IfOk result (λ good. ExtractAsked (λ path. F.holds files.old (F.real files.old path)) (⟦<AnySource<F::Input, F::Image> as Source>⟧.remaining) (found_of words.now) (λ fill short last profile. AddsLost
+        (λ (mid : F) (between : O) nodes_good. ExtractsChosen (only_texts (found_of words.now)) short (λ table told. IsPut F.tells (Fails F.faults ⊎ Fails F.Output.faults) table told fill short (folder_text (found_of words.now)) (F.holds mid) (F.moment mid) (F.left_since mid))
         F.holds (folder_text (found_of words.now)) files.old mid profile last (O.contents out.old) (O.contents between) (O.faults out.old) (O.faults between) nodes_good)
         (λ (mid : F) (between : O) lost_good. WritesLost (λ table told two. IsLostPut F.tells (Fails F.faults ⊎ Fails F.Output.faults) table told (lost_text (found_of words.now)) two (F.holds files.new) (F.moment files.new) (F.left_since files.new))
         (SparesLost F.tells F.holds F.may_leave F.moment F.left_since (lost_text (found_of words.now)) mid files.new) profile last (O.contents between) (O.contents out.new) (O.faults between) (O.faults out.new) lost_good) good)) }
@@ -61,8 +61,9 @@ fn with_lost_words<F: Files, O: Sink>(
     let profile = asked_profile(words);
     let only = words.get_strs(ONLY).unwrap_or(&[ALL]);
     let fill = asked_fill(words);
+    let short = asked_short(words);
     match extract_with_lost(
-        alloc, paths, last, profile, only, fill, folder, lost, files, out,
+        alloc, paths, last, profile, only, fill, short, folder, lost, files, out,
     ) {
         Ok(good) => Ok(good),
         Err(refusal) => Err(refusal),
@@ -76,9 +77,9 @@ fn listed_with_lost_words<F: Files, O: Sink>(
     files: &mut F,
     out: &mut O,
 ) -> Result<bool, Refusal>
-    ensures added { IfOk result (λ good. ExtractAsked (λ path. F.holds files.old (F.real files.old path)) (⟦<AnySource<F::Input, F::Image> as Source>⟧.remaining) (found_of words.now) (λ fill last profile. AddsLost
-        (λ (mid : F) (between : O) nodes_good. ListsChosen (only_texts (found_of words.now)) (λ f table told. IsPut F.tells (Fails F.faults ⊎ Fails F.Output.faults) table told fill (folder_text (found_of words.now)) (F.holds f) (F.moment f) (F.left_since f))
-        (λ f nodes fates text. F.tells → IsManifest (F.holds f) (folder_text (found_of words.now)) nodes fates text)
+    ensures added { IfOk result (λ good. ExtractAsked (λ path. F.holds files.old (F.real files.old path)) (⟦<AnySource<F::Input, F::Image> as Source>⟧.remaining) (found_of words.now) (λ fill short last profile. AddsLost
+        (λ (mid : F) (between : O) nodes_good. ListsChosen (only_texts (found_of words.now)) short (λ f table told. IsPut F.tells (Fails F.faults ⊎ Fails F.Output.faults) table told fill short (folder_text (found_of words.now)) (F.holds f) (F.moment f) (F.left_since f))
+        (λ f told fates text. F.tells → IsManifest (F.holds f) (folder_text (found_of words.now)) short told fates text)
         (λ f text. F.tells → IsPutLast F.holds F.may_leave F.moment F.left_since (F.real files.old (manifest_text (found_of words.now))) f mid text)
         F.holds (folder_text (found_of words.now)) files.old mid profile last (O.contents out.old) (O.contents between) (O.faults out.old) (O.faults between) nodes_good)
         (λ (mid : F) (between : O) lost_good. WritesLost (λ table told two. IsLostPut F.tells (Fails F.faults ⊎ Fails F.Output.faults) table told (lost_text (found_of words.now)) two (F.holds files.new) (F.moment files.new) (F.left_since files.new))
@@ -89,9 +90,10 @@ fn listed_with_lost_words<F: Files, O: Sink>(
     ensures free_manifest { OnOk result (F.tells → IsFreeManifest (F.holds files.old) (F.real files.old) (input_texts (found_of words.now)) (pair_texts (found_of words.now)) (folder_text (found_of words.now)) (manifest_text (found_of words.now))) }
     // A path that is no node's is refused before anything is made.
     ensures no_node { IfErr result (λ refusal. (i : ℕ) → refusal ≡ Refusal.NoNode i → files.new ≡ files.old) }
-    ensures spares { (mid : F) × SparesListed F.tells F.holds F.may_leave F.moment F.left_since (folder_text (found_of words.now)) (F.real files.old (manifest_text (found_of words.now))) files.old mid ×
+    ensures spares { (mid : F) × ((short : Bool) × IsPicked (found_of words.now) (codes "short-names") true false short × SparesListed F.tells F.holds F.may_leave F.moment F.left_since short (folder_text (found_of words.now)) (F.real files.old (manifest_text (found_of words.now))) files.old mid) ×
         SparesLost F.tells F.holds F.may_leave F.moment F.left_since (lost_text (found_of words.now)) mid files.new }
 {
+    let short = asked_short(words);
     let inputs = asked_inputs(alloc, words)?;
     let paths = inputs.as_slice();
     let place = match asked_place(alloc, words, files) {
@@ -116,6 +118,7 @@ fn listed_with_lost_words<F: Files, O: Sink>(
         profile,
         only,
         fill,
+        short,
         folder,
         place.as_str(),
         lost,
@@ -134,14 +137,14 @@ fn lost_words<F: Files, O: Sink>(
     files: &mut F,
     out: &mut O,
 ) -> Result<bool, Refusal>
-    ensures added { IfOk result (λ good. has_manifest (found_of words.now) ≡ false → ExtractAsked (λ path. F.holds files.old (F.real files.old path)) (⟦<AnySource<F::Input, F::Image> as Source>⟧.remaining) (found_of words.now) (λ fill last profile. AddsLost
-        (λ (mid : F) (between : O) nodes_good. ExtractsChosen (only_texts (found_of words.now)) (λ table told. IsPut F.tells (Fails F.faults ⊎ Fails F.Output.faults) table told fill (folder_text (found_of words.now)) (F.holds mid) (F.moment mid) (F.left_since mid))
+    ensures added { IfOk result (λ good. has_manifest (found_of words.now) ≡ false → ExtractAsked (λ path. F.holds files.old (F.real files.old path)) (⟦<AnySource<F::Input, F::Image> as Source>⟧.remaining) (found_of words.now) (λ fill short last profile. AddsLost
+        (λ (mid : F) (between : O) nodes_good. ExtractsChosen (only_texts (found_of words.now)) short (λ table told. IsPut F.tells (Fails F.faults ⊎ Fails F.Output.faults) table told fill short (folder_text (found_of words.now)) (F.holds mid) (F.moment mid) (F.left_since mid))
         F.holds (folder_text (found_of words.now)) files.old mid profile last (O.contents out.old) (O.contents between) (O.faults out.old) (O.faults between) nodes_good)
         (λ (mid : F) (between : O) lost_good. WritesLost (λ table told two. IsLostPut F.tells (Fails F.faults ⊎ Fails F.Output.faults) table told (lost_text (found_of words.now)) two (F.holds files.new) (F.moment files.new) (F.left_since files.new))
         (SparesLost F.tells F.holds F.may_leave F.moment F.left_since (lost_text (found_of words.now)) mid files.new) profile last (O.contents between) (O.contents out.new) (O.faults between) (O.faults out.new) lost_good) good)) }
-    ensures listed { IfOk result (λ good. has_manifest (found_of words.now) ≡ true → ExtractAsked (λ path. F.holds files.old (F.real files.old path)) (⟦<AnySource<F::Input, F::Image> as Source>⟧.remaining) (found_of words.now) (λ fill last profile. AddsLost
-        (λ (mid : F) (between : O) nodes_good. ListsChosen (only_texts (found_of words.now)) (λ f table told. IsPut F.tells (Fails F.faults ⊎ Fails F.Output.faults) table told fill (folder_text (found_of words.now)) (F.holds f) (F.moment f) (F.left_since f))
-        (λ f nodes fates text. F.tells → IsManifest (F.holds f) (folder_text (found_of words.now)) nodes fates text)
+    ensures listed { IfOk result (λ good. has_manifest (found_of words.now) ≡ true → ExtractAsked (λ path. F.holds files.old (F.real files.old path)) (⟦<AnySource<F::Input, F::Image> as Source>⟧.remaining) (found_of words.now) (λ fill short last profile. AddsLost
+        (λ (mid : F) (between : O) nodes_good. ListsChosen (only_texts (found_of words.now)) short (λ f table told. IsPut F.tells (Fails F.faults ⊎ Fails F.Output.faults) table told fill short (folder_text (found_of words.now)) (F.holds f) (F.moment f) (F.left_since f))
+        (λ f told fates text. F.tells → IsManifest (F.holds f) (folder_text (found_of words.now)) short told fates text)
         (λ f text. F.tells → IsPutLast F.holds F.may_leave F.moment F.left_since (F.real files.old (manifest_text (found_of words.now))) f mid text)
         F.holds (folder_text (found_of words.now)) files.old mid profile last (O.contents out.old) (O.contents between) (O.faults out.old) (O.faults between) nodes_good)
         (λ (mid : F) (between : O) lost_good. WritesLost (λ table told two. IsLostPut F.tells (Fails F.faults ⊎ Fails F.Output.faults) table told (lost_text (found_of words.now)) two (F.holds files.new) (F.moment files.new) (F.left_since files.new))
@@ -172,36 +175,36 @@ pub fn extract_asked<F: Files, O: Sink>(
     files: &mut F,
     out: &mut O,
 ) -> Result<bool, Refusal>
-    ensures extracted { IfOk result (λ good. has_lost (found_of words.now) ≡ false → has_manifest (found_of words.now) ≡ false → has_only (found_of words.now) ≡ false → (fill : Fill) × (last : ℕ) × (profile : Profile) × (inputs : List InputPath) × (map asked_for inputs ≡ asked_inputs (found_of words.now)) ×
-        IsPicked (found_of words.now) (codes "fill") (Fill.Byte 0) Fill.Refuse fill × IsLast (λ path. F.holds files.old (F.real files.old path)) inputs (found_of words.now) last × IsProfile (found_of words.now) profile ×
+    ensures extracted { IfOk result (λ good. has_lost (found_of words.now) ≡ false → has_manifest (found_of words.now) ≡ false → has_only (found_of words.now) ≡ false → (fill : Fill) × (short : Bool) × (last : ℕ) × (profile : Profile) × (inputs : List InputPath) × (map asked_for inputs ≡ asked_inputs (found_of words.now)) ×
+        IsPicked (found_of words.now) (codes "fill") (Fill.Byte 0) Fill.Refuse fill × IsPicked (found_of words.now) (codes "short-names") true false short × IsLast (λ path. F.holds files.old (F.real files.old path)) inputs (found_of words.now) last × IsProfile (found_of words.now) profile ×
         OfPaths (λ path. F.holds files.old (F.real files.old path)) (⟦<AnySource<F::Input, F::Image> as Source>⟧.remaining) inputs
-        (ExtractsAll (λ table told. IsPut F.tells (Fails F.faults ⊎ Fails F.Output.faults) table told fill (folder_text (found_of words.now)) (F.holds files.new) (F.moment files.new) (F.left_since files.new))
+        (ExtractsAll short (λ table told. IsPut F.tells (Fails F.faults ⊎ Fails F.Output.faults) table told fill short (folder_text (found_of words.now)) (F.holds files.new) (F.moment files.new) (F.left_since files.new))
         files.old files.new profile last (O.contents out.old) (O.contents out.new) (O.faults out.old) (O.faults out.new) good)) }
     // With `--only` or without: only what is asked for is made, told and judged.
-    ensures chosen { IfOk result (λ good. has_lost (found_of words.now) ≡ false → has_manifest (found_of words.now) ≡ false → (fill : Fill) × (last : ℕ) × (profile : Profile) × (inputs : List InputPath) × (map asked_for inputs ≡ asked_inputs (found_of words.now)) ×
-        IsPicked (found_of words.now) (codes "fill") (Fill.Byte 0) Fill.Refuse fill × IsLast (λ path. F.holds files.old (F.real files.old path)) inputs (found_of words.now) last × IsProfile (found_of words.now) profile ×
+    ensures chosen { IfOk result (λ good. has_lost (found_of words.now) ≡ false → has_manifest (found_of words.now) ≡ false → (fill : Fill) × (short : Bool) × (last : ℕ) × (profile : Profile) × (inputs : List InputPath) × (map asked_for inputs ≡ asked_inputs (found_of words.now)) ×
+        IsPicked (found_of words.now) (codes "fill") (Fill.Byte 0) Fill.Refuse fill × IsPicked (found_of words.now) (codes "short-names") true false short × IsLast (λ path. F.holds files.old (F.real files.old path)) inputs (found_of words.now) last × IsProfile (found_of words.now) profile ×
         OfPaths (λ path. F.holds files.old (F.real files.old path)) (⟦<AnySource<F::Input, F::Image> as Source>⟧.remaining) inputs
-        (ExtractsChosen (only_texts (found_of words.now)) (λ table told. IsPut F.tells (Fails F.faults ⊎ Fails F.Output.faults) table told fill (folder_text (found_of words.now)) (F.holds files.new) (F.moment files.new) (F.left_since files.new))
+        (ExtractsChosen (only_texts (found_of words.now)) short (λ table told. IsPut F.tells (Fails F.faults ⊎ Fails F.Output.faults) table told fill short (folder_text (found_of words.now)) (F.holds files.new) (F.moment files.new) (F.left_since files.new))
         F.holds (folder_text (found_of words.now)) files.old files.new profile last (O.contents out.old) (O.contents out.new) (O.faults out.old) (O.faults out.new) good)) }
     // With `--manifest` the same, and then the manifest is put.
-    ensures listed { IfOk result (λ good. has_lost (found_of words.now) ≡ false → has_manifest (found_of words.now) ≡ true → ((fill : Fill) × (last : ℕ) × (profile : Profile) × (inputs : List InputPath) × (map asked_for inputs ≡ asked_inputs (found_of words.now)) ×
-        IsPicked (found_of words.now) (codes "fill") (Fill.Byte 0) Fill.Refuse fill × IsLast (λ path. F.holds files.old (F.real files.old path)) inputs (found_of words.now) last × IsProfile (found_of words.now) profile ×
+    ensures listed { IfOk result (λ good. has_lost (found_of words.now) ≡ false → has_manifest (found_of words.now) ≡ true → ((fill : Fill) × (short : Bool) × (last : ℕ) × (profile : Profile) × (inputs : List InputPath) × (map asked_for inputs ≡ asked_inputs (found_of words.now)) ×
+        IsPicked (found_of words.now) (codes "fill") (Fill.Byte 0) Fill.Refuse fill × IsPicked (found_of words.now) (codes "short-names") true false short × IsLast (λ path. F.holds files.old (F.real files.old path)) inputs (found_of words.now) last × IsProfile (found_of words.now) profile ×
         OfPaths (λ path. F.holds files.old (F.real files.old path)) (⟦<AnySource<F::Input, F::Image> as Source>⟧.remaining) inputs
-        (ListsChosen (only_texts (found_of words.now))
-        (λ f table told. IsPut F.tells (Fails F.faults ⊎ Fails F.Output.faults) table told fill (folder_text (found_of words.now)) (F.holds f) (F.moment f) (F.left_since f))
-        (λ f nodes fates text. F.tells → IsManifest (F.holds f) (folder_text (found_of words.now)) nodes fates text)
+        (ListsChosen (only_texts (found_of words.now)) short
+        (λ f table told. IsPut F.tells (Fails F.faults ⊎ Fails F.Output.faults) table told fill short (folder_text (found_of words.now)) (F.holds f) (F.moment f) (F.left_since f))
+        (λ f told fates text. F.tells → IsManifest (F.holds f) (folder_text (found_of words.now)) short told fates text)
         (λ f text. F.tells → IsPutLast F.holds F.may_leave F.moment F.left_since (F.real files.old (manifest_text (found_of words.now))) f files.new text)
         F.holds (folder_text (found_of words.now)) files.old files.new profile last (O.contents out.old) (O.contents out.new) (O.faults out.old) (O.faults out.new) good)) ×
         (F.tells → IsFreeManifest (F.holds files.old) (F.real files.old) (input_texts (found_of words.now)) (pair_texts (found_of words.now)) (folder_text (found_of words.now)) (manifest_text (found_of words.now)))) }
     // With `--unnamed` the same, and then the lost files are written.
-    ensures added { IfOk result (λ good. has_lost (found_of words.now) ≡ true → has_manifest (found_of words.now) ≡ false → ExtractAsked (λ path. F.holds files.old (F.real files.old path)) (⟦<AnySource<F::Input, F::Image> as Source>⟧.remaining) (found_of words.now) (λ fill last profile. AddsLost
-        (λ (mid : F) (between : O) nodes_good. ExtractsChosen (only_texts (found_of words.now)) (λ table told. IsPut F.tells (Fails F.faults ⊎ Fails F.Output.faults) table told fill (folder_text (found_of words.now)) (F.holds mid) (F.moment mid) (F.left_since mid))
+    ensures added { IfOk result (λ good. has_lost (found_of words.now) ≡ true → has_manifest (found_of words.now) ≡ false → ExtractAsked (λ path. F.holds files.old (F.real files.old path)) (⟦<AnySource<F::Input, F::Image> as Source>⟧.remaining) (found_of words.now) (λ fill short last profile. AddsLost
+        (λ (mid : F) (between : O) nodes_good. ExtractsChosen (only_texts (found_of words.now)) short (λ table told. IsPut F.tells (Fails F.faults ⊎ Fails F.Output.faults) table told fill short (folder_text (found_of words.now)) (F.holds mid) (F.moment mid) (F.left_since mid))
         F.holds (folder_text (found_of words.now)) files.old mid profile last (O.contents out.old) (O.contents between) (O.faults out.old) (O.faults between) nodes_good)
         (λ (mid : F) (between : O) lost_good. WritesLost (λ table told two. IsLostPut F.tells (Fails F.faults ⊎ Fails F.Output.faults) table told (lost_text (found_of words.now)) two (F.holds files.new) (F.moment files.new) (F.left_since files.new))
         (SparesLost F.tells F.holds F.may_leave F.moment F.left_since (lost_text (found_of words.now)) mid files.new) profile last (O.contents between) (O.contents out.new) (O.faults between) (O.faults out.new) lost_good) good)) }
-    ensures listed_added { IfOk result (λ good. has_lost (found_of words.now) ≡ true → has_manifest (found_of words.now) ≡ true → ExtractAsked (λ path. F.holds files.old (F.real files.old path)) (⟦<AnySource<F::Input, F::Image> as Source>⟧.remaining) (found_of words.now) (λ fill last profile. AddsLost
-        (λ (mid : F) (between : O) nodes_good. ListsChosen (only_texts (found_of words.now)) (λ f table told. IsPut F.tells (Fails F.faults ⊎ Fails F.Output.faults) table told fill (folder_text (found_of words.now)) (F.holds f) (F.moment f) (F.left_since f))
-        (λ f nodes fates text. F.tells → IsManifest (F.holds f) (folder_text (found_of words.now)) nodes fates text)
+    ensures listed_added { IfOk result (λ good. has_lost (found_of words.now) ≡ true → has_manifest (found_of words.now) ≡ true → ExtractAsked (λ path. F.holds files.old (F.real files.old path)) (⟦<AnySource<F::Input, F::Image> as Source>⟧.remaining) (found_of words.now) (λ fill short last profile. AddsLost
+        (λ (mid : F) (between : O) nodes_good. ListsChosen (only_texts (found_of words.now)) short (λ f table told. IsPut F.tells (Fails F.faults ⊎ Fails F.Output.faults) table told fill short (folder_text (found_of words.now)) (F.holds f) (F.moment f) (F.left_since f))
+        (λ f told fates text. F.tells → IsManifest (F.holds f) (folder_text (found_of words.now)) short told fates text)
         (λ f text. F.tells → IsPutLast F.holds F.may_leave F.moment F.left_since (F.real files.old (manifest_text (found_of words.now))) f mid text)
         F.holds (folder_text (found_of words.now)) files.old mid profile last (O.contents out.old) (O.contents between) (O.faults out.old) (O.faults between) nodes_good)
         (λ (mid : F) (between : O) lost_good. WritesLost (λ table told two. IsLostPut F.tells (Fails F.faults ⊎ Fails F.Output.faults) table told (lost_text (found_of words.now)) two (F.holds files.new) (F.moment files.new) (F.left_since files.new))

@@ -1,4 +1,6 @@
 pub mod WindowLemmas
+pub mod PlaceLemmas
+pub mod GainLemmas
 pub mod Numbers
 pub mod Ends
 pub mod Records

@@ -1,4 +1,6 @@
 pub mod Device
+pub mod Places
+pub mod Gains
 pub mod Field
 pub mod Format
 pub mod Kind

@@ -3,6 +3,7 @@
 ghost use Rattle.std.specs.Prelude.{◌≡◌, ℕ, ◌≤◌, ◌∷◌, [], length, OnOk, OnErr, IfOk, IfErr};
 ghost use Rattle.std.specs.Io.KnownBytes.{Consumes, IsAtEnd};
 ghost use Rattle.udfs_reading.specs.Device.{left};
+ghost use Rattle.udfs_reading.specs.Places.{MovesOn};
 ghost use Rattle.udfs_reading.specs.Field.{CutsField, Overruns};
 ghost use Rattle.udfs_reading.specs.Format.{number};
 
@@ -21,12 +22,13 @@ pub fn field<R: Source>(
     number: u32,
 ) -> Result<(), ReadingError>
     requires { size ≤ 2048 }
-    ensures whole { OnOk result (size ≤ length window.new) }
-    ensures left { OnOk result (Consumes (left window.old (R.remaining source.old)) (left window.new (R.remaining source.new)) []) }
+    ensures whole { OnOk result (size ≤ length window.new.bytes) }
+    ensures left { OnOk result (Consumes (left window.old.bytes (R.remaining source.old)) (left window.new.bytes (R.remaining source.new)) []) }
     ensures count { OnOk result (R.faults source.new ≡ R.faults source.old) }
-    ensures err { IfErr result (λ e. CutsField (left window.old (R.remaining source.old)) (left window.new (R.remaining source.new))
+    ensures at { OnOk result (window.new.at ≡ window.old.at) }
+    ensures err { IfErr result (λ e. CutsField (left window.old.bytes (R.remaining source.old)) (left window.new.bytes (R.remaining source.new))
         (R.faults source.old) (R.faults source.new) size number e) }
-    ensures empty { OnErr result (window.new ≡ []) }
+    ensures empty { OnErr result (window.new.bytes ≡ []) }
 {
     match window.hold(source, size) {
         Ok(true) => Ok(()),
@@ -53,11 +55,12 @@ pub fn read_number<R: Source>(
     window: &mut Window,
     in_record: u32,
 ) -> Result<u32, ReadingError>
-    ensures bytes { IfOk result (λ n. Consumes (left window.old (R.remaining source.old)) (left window.new (R.remaining source.new)) (number n)) }
+    ensures bytes { IfOk result (λ n. Consumes (left window.old.bytes (R.remaining source.old)) (left window.new.bytes (R.remaining source.new)) (number n)) }
     ensures count { OnOk result (R.faults source.new ≡ R.faults source.old) }
-    ensures err { IfErr result (λ e. CutsField (left window.old (R.remaining source.old)) (left window.new (R.remaining source.new))
+    ensures at { OnOk result (MovesOn window.old.at window.new.at (left window.old.bytes (R.remaining source.old)) (left window.new.bytes (R.remaining source.new))) }
+    ensures err { IfErr result (λ e. CutsField (left window.old.bytes (R.remaining source.old)) (left window.new.bytes (R.remaining source.new))
         (R.faults source.old) (R.faults source.new) 4 in_record e) }
-    ensures empty { OnErr result (window.new ≡ []) }
+    ensures empty { OnErr result (window.new.bytes ≡ []) }
 {
     field(source, window, 4, in_record)?;
     let n = LittleEndian::read_u32(window.chunk::<4>());
@@ -71,11 +74,12 @@ pub fn read_byte<R: Source>(
     window: &mut Window,
     in_record: u32,
 ) -> Result<u8, ReadingError>
-    ensures bytes { IfOk result (λ byte. Consumes (left window.old (R.remaining source.old)) (left window.new (R.remaining source.new)) (byte ∷ [])) }
+    ensures bytes { IfOk result (λ byte. Consumes (left window.old.bytes (R.remaining source.old)) (left window.new.bytes (R.remaining source.new)) (byte ∷ [])) }
     ensures count { OnOk result (R.faults source.new ≡ R.faults source.old) }
-    ensures err { IfErr result (λ e. CutsField (left window.old (R.remaining source.old)) (left window.new (R.remaining source.new))
+    ensures at { OnOk result (MovesOn window.old.at window.new.at (left window.old.bytes (R.remaining source.old)) (left window.new.bytes (R.remaining source.new))) }
+    ensures err { IfErr result (λ e. CutsField (left window.old.bytes (R.remaining source.old)) (left window.new.bytes (R.remaining source.new))
         (R.faults source.old) (R.faults source.new) 1 in_record e) }
-    ensures empty { OnErr result (window.new ≡ []) }
+    ensures empty { OnErr result (window.new.bytes ≡ []) }
 {
     field(source, window, 1, in_record)?;
     let byte = window.chunk::<1>()[0];
@@ -85,12 +89,13 @@ pub fn read_byte<R: Source>(
 
 /// Takes the next eight bytes.
 pub fn read_magic<R: Source>(source: &mut R, window: &mut Window) -> Result<[u8; 8], ReadingError>
-    ensures bytes { IfOk result (λ magic. Consumes (left window.old (R.remaining source.old)) (left window.new (R.remaining source.new)) magic) }
+    ensures bytes { IfOk result (λ magic. Consumes (left window.old.bytes (R.remaining source.old)) (left window.new.bytes (R.remaining source.new)) magic) }
     ensures eight { IfOk result (λ magic. length magic ≡ 8) }
     ensures count { OnOk result (R.faults source.new ≡ R.faults source.old) }
-    ensures err { IfErr result (λ e. CutsField (left window.old (R.remaining source.old)) (left window.new (R.remaining source.new))
+    ensures at { OnOk result (MovesOn window.old.at window.new.at (left window.old.bytes (R.remaining source.old)) (left window.new.bytes (R.remaining source.new))) }
+    ensures err { IfErr result (λ e. CutsField (left window.old.bytes (R.remaining source.old)) (left window.new.bytes (R.remaining source.new))
         (R.faults source.old) (R.faults source.new) 8 0 e) }
-    ensures empty { OnErr result (window.new ≡ []) }
+    ensures empty { OnErr result (window.new.bytes ≡ []) }
 {
     field(source, window, 8, 0)?;
     let magic = *window.chunk::<8>();
@@ -104,12 +109,12 @@ pub fn read_end<R: Source>(
     window: &mut Window,
     count: u32,
 ) -> Result<(), ReadingError>
-    ensures ok { OnOk result (Consumes (left window.old (R.remaining source.old)) (left window.new (R.remaining source.new)) []) }
-    ensures end { OnOk result (IsAtEnd (left window.new (R.remaining source.new))) }
+    ensures ok { OnOk result (Consumes (left window.old.bytes (R.remaining source.old)) (left window.new.bytes (R.remaining source.new)) []) }
+    ensures end { OnOk result (IsAtEnd (left window.new.bytes (R.remaining source.new))) }
     ensures count { OnOk result (R.faults source.new ≡ R.faults source.old) }
-    ensures err { IfErr result (λ e. Overruns (left window.old (R.remaining source.old)) (left window.new (R.remaining source.new))
+    ensures err { IfErr result (λ e. Overruns (left window.old.bytes (R.remaining source.old)) (left window.new.bytes (R.remaining source.new))
         (R.faults source.old) (R.faults source.new) count e) }
-    ensures empty { window.new ≡ [] }
+    ensures empty { window.new.bytes ≡ [] }
 {
     let outcome = window.hold(source, 1);
     window.clear();

@@ -4,6 +4,7 @@ ghost use Rattle.std.specs.Prelude.{◌≡◌, ℕ, List, ◌++◌, [], OnOk, If
 ghost use Rattle.std.specs.Io.KnownBytes.{Consumes};
 ghost use Rattle.udfs_reading.specs.declared.error.ReadingFault.TheVariants.{Io, OutOfMemory};
 ghost use Rattle.udfs_reading.specs.Device.{left};
+ghost use Rattle.udfs_reading.specs.Places.{MovesOn};
 ghost use Rattle.udfs_reading.specs.Format.{number, bare};
 ghost use Rattle.std.specs.Str.{bytes_eq};
 ghost use Rattle.udfs_reading.specs.Kind.{kind};
@@ -19,12 +20,13 @@ use crate::window::Window;
 
 /// Takes the block size and the number of records, which stand behind the magic in each format.
 pub fn read_count<R: Source>(source: &mut R, window: &mut Window) -> Result<u32, ReadingError>
-    ensures bytes { IfOk result (λ count. Consumes (left window.old (R.remaining source.old)) (left window.new (R.remaining source.new)) (number 2048 ++ number count)) }
+    ensures bytes { IfOk result (λ count. Consumes (left window.old.bytes (R.remaining source.old)) (left window.new.bytes (R.remaining source.new)) (number 2048 ++ number count)) }
     ensures count { OnOk result (R.faults source.new ≡ R.faults source.old) }
-    ensures err { IfErr result (λ e. (magic : List ℕ) → Ends (kind (bare magic)) magic (left window.old (R.remaining source.old)) (left window.new (R.remaining source.new))
+    ensures at { OnOk result (MovesOn window.old.at window.new.at (left window.old.bytes (R.remaining source.old)) (left window.new.bytes (R.remaining source.new))) }
+    ensures err { IfErr result (λ e. (magic : List ℕ) → Ends (kind (bare magic)) magic (left window.old.bytes (R.remaining source.old)) (left window.new.bytes (R.remaining source.new))
         (R.faults source.old) (R.faults source.new) e) }
     ensures of_file { IfErr result (λ e. e.fault ≡ OutOfMemory → ⊥) }
-    ensures empty { IfErr result (λ e. e.fault ≡ Io → window.new ≡ []) }
+    ensures empty { IfErr result (λ e. e.fault ≡ Io → window.new.bytes ≡ []) }
 {
     let size = read_number(source, window, 0)?;
     if size != 2048 {

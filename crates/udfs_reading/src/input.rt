@@ -5,6 +5,8 @@ ghost use Rattle.std.specs.Str.{bytes_eq};
 ghost use Rattle.udfs_reading.specs.declared.error.ReadingFault.TheVariants.{Io};
 ghost use Rattle.udfs_lattice.specs.Tables.{Table, IsTable};
 ghost use Rattle.udfs_reading.specs.Device.{left};
+ghost use Rattle.udfs_reading.specs.Gains.{Gains};
+ghost use Rattle.udfs_reading.specs.Places.{StandsAt};
 ghost use Rattle.udfs_reading.specs.Answers.{IsOfFile, GivesTable, GivesFault, TakesFile, RefusesFaulty, FailsAfter};
 ghost use Rattle.udfs_reading.specs.Inputs.{files, kind_accepted, tables, inputs};
 ghost use Rattle.udfs_reading.specs.Outcome.{Ends, Takes, Reads, Stops};
@@ -31,17 +33,18 @@ pub enum Accepted {
 }
 
 /// Reads a reading to the end of the source, and hands its blocks to the taker.
-fn join_reading<R: Source, T: Taker>(
+fn join_reading<R: Source, T: Taker<R>>(
     source: &mut R,
     window: &mut Window,
     taker: &mut T,
 ) -> Result<(), ReadingError>
-    ensures ok { OnOk result (Takes readings [] (left window.old (R.remaining source.old)) (left window.new (R.remaining source.new)) (T.table taker.old) (T.table taker.new)) }
+    requires { StandsAt (T.input taker.now) window.now.at (left window.now.bytes (R.remaining source.now)) }
+    ensures ok { OnOk result (Gains (T.took taker.old) (T.took taker.new) (Takes readings [] (left window.old.bytes (R.remaining source.old)) (left window.new.bytes (R.remaining source.new)))) }
     ensures count { OnOk result (R.faults source.new ≡ R.faults source.old) }
-    ensures err { IfErr result (λ e. Ends readings [] (left window.old (R.remaining source.old)) (left window.new (R.remaining source.new))
+    ensures err { IfErr result (λ e. Ends readings [] (left window.old.bytes (R.remaining source.old)) (left window.new.bytes (R.remaining source.new))
         (R.faults source.old) (R.faults source.new) e) }
-    ensures empty { IfErr result (λ e. e.fault ≡ Io → window.new ≡ []) }
-    ensures done { OnOk result (window.new ≡ []) }
+    ensures empty { IfErr result (λ e. e.fault ≡ Io → window.new.bytes ≡ []) }
+    ensures done { OnOk result (window.new.bytes ≡ []) }
 {
     let magic = read_magic(source, window)?;
     if names_reading(&magic) {
@@ -62,18 +65,19 @@ fn names_accepted(readings: bool, bytes: &[u8; 8]) -> bool
 }
 
 /// Reads a table file of either version, or a reading where these are accepted, to the end of the source, and hands its blocks to the taker.
-fn join_files<R: Source, T: Taker>(
+fn join_files<R: Source, T: Taker<R>>(
     source: &mut R,
     window: &mut Window,
     readings: bool,
     taker: &mut T,
 ) -> Result<(), ReadingError>
-    ensures ok { OnOk result (Takes (files readings) [] (left window.old (R.remaining source.old)) (left window.new (R.remaining source.new)) (T.table taker.old) (T.table taker.new)) }
+    requires { StandsAt (T.input taker.now) window.now.at (left window.now.bytes (R.remaining source.now)) }
+    ensures ok { OnOk result (Gains (T.took taker.old) (T.took taker.new) (Takes (files readings) [] (left window.old.bytes (R.remaining source.old)) (left window.new.bytes (R.remaining source.new)))) }
     ensures count { OnOk result (R.faults source.new ≡ R.faults source.old) }
-    ensures err { IfErr result (λ e. Ends (files readings) [] (left window.old (R.remaining source.old)) (left window.new (R.remaining source.new))
+    ensures err { IfErr result (λ e. Ends (files readings) [] (left window.old.bytes (R.remaining source.old)) (left window.new.bytes (R.remaining source.new))
         (R.faults source.old) (R.faults source.new) e) }
-    ensures empty { IfErr result (λ e. e.fault ≡ Io → window.new ≡ []) }
-    ensures done { OnOk result (window.new ≡ []) }
+    ensures empty { IfErr result (λ e. e.fault ≡ Io → window.new.bytes ≡ []) }
+    ensures done { OnOk result (window.new.bytes ≡ []) }
 {
     let magic = read_magic(source, window)?;
     if names_accepted(readings, &magic) {
@@ -95,34 +99,36 @@ fn join_files<R: Source, T: Taker>(
 }
 
 /// Reads a file of any kind to the end of the source, and hands its blocks to the taker.
-pub fn join_any<R: Source, T: Taker>(
+pub fn join_any<R: Source, T: Taker<R>>(
     source: &mut R,
     window: &mut Window,
     taker: &mut T,
 ) -> Result<(), ReadingError>
-    ensures ok { OnOk result (Takes inputs [] (left window.old (R.remaining source.old)) (left window.new (R.remaining source.new)) (T.table taker.old) (T.table taker.new)) }
+    requires { StandsAt (T.input taker.now) window.now.at (left window.now.bytes (R.remaining source.now)) }
+    ensures ok { OnOk result (Gains (T.took taker.old) (T.took taker.new) (Takes inputs [] (left window.old.bytes (R.remaining source.old)) (left window.new.bytes (R.remaining source.new)))) }
     ensures count { OnOk result (R.faults source.new ≡ R.faults source.old) }
-    ensures err { IfErr result (λ e. Ends inputs [] (left window.old (R.remaining source.old)) (left window.new (R.remaining source.new))
+    ensures err { IfErr result (λ e. Ends inputs [] (left window.old.bytes (R.remaining source.old)) (left window.new.bytes (R.remaining source.new))
         (R.faults source.old) (R.faults source.new) e) }
-    ensures empty { IfErr result (λ e. e.fault ≡ Io → window.new ≡ []) }
-    ensures done { OnOk result (window.new ≡ []) }
+    ensures empty { IfErr result (λ e. e.fault ≡ Io → window.new.bytes ≡ []) }
+    ensures done { OnOk result (window.new.bytes ≡ []) }
 {
     join_files(source, window, true, taker)
 }
 
 /// Reads a file that is accepted to the end of the source, and hands its blocks to the taker.
-fn join_accepted<R: Source, T: Taker>(
+fn join_accepted<R: Source, T: Taker<R>>(
     source: &mut R,
     window: &mut Window,
     which: Accepted,
     taker: &mut T,
 ) -> Result<(), ReadingError>
-    ensures ok { OnOk result (Takes (kind_accepted which) [] (left window.old (R.remaining source.old)) (left window.new (R.remaining source.new)) (T.table taker.old) (T.table taker.new)) }
+    requires { StandsAt (T.input taker.now) window.now.at (left window.now.bytes (R.remaining source.now)) }
+    ensures ok { OnOk result (Gains (T.took taker.old) (T.took taker.new) (Takes (kind_accepted which) [] (left window.old.bytes (R.remaining source.old)) (left window.new.bytes (R.remaining source.new)))) }
     ensures count { OnOk result (R.faults source.new ≡ R.faults source.old) }
-    ensures err { IfErr result (λ e. Ends (kind_accepted which) [] (left window.old (R.remaining source.old)) (left window.new (R.remaining source.new))
+    ensures err { IfErr result (λ e. Ends (kind_accepted which) [] (left window.old.bytes (R.remaining source.old)) (left window.new.bytes (R.remaining source.new))
         (R.faults source.old) (R.faults source.new) e) }
-    ensures empty { IfErr result (λ e. e.fault ≡ Io → window.new ≡ []) }
-    ensures done { OnOk result (window.new ≡ []) }
+    ensures empty { IfErr result (λ e. e.fault ≡ Io → window.new.bytes ≡ []) }
+    ensures done { OnOk result (window.new.bytes ≡ []) }
 {
     match which {
         Accepted::Readings => join_reading(source, window, taker),

@@ -5,6 +5,7 @@ ghost use Rattle.udfs_lattice.specs.Tables.{Table, join_tables};
 ghost use Rattle.udfs_lattice.specs.Records.{Record, table_of, join_all, SameTables, SameRecords, all_records};
 ghost use Rattle.udfs_reading.specs.declared.error.ReadingFault.{ReadingFault};
 ghost use Rattle.udfs_reading.specs.Answers.{IsOfFile};
+ghost use Rattle.udfs_reading.specs.Gains.{Gains};
 ghost use Rattle.udfs_reading.specs.Inputs.{inputs};
 ghost use Rattle.udfs_reading.specs.Outcome.{Stops};
 ghost use Rattle.udfs_reading.specs.Several.{TablesAre, AllTell, AllReadings, Joins, InputFails, IsFirstFaulty};
@@ -25,25 +26,26 @@ pub struct InputError {
 }
 
 /// Reads one input through an empty window, and hands its blocks to the taker.
-fn take_input<R: Source, T: Taker>(
+fn take_input<R: Source, T: Taker<R>>(
     source: &mut R,
     window: &mut Window,
     taker: &mut T,
 ) -> Result<(), ReadingError>
-    requires { window.now ≡ [] }
-    ensures ok { OnOk result (Joins inputs (R.remaining source.old) (R.remaining source.new) (T.table taker.old) (T.table taker.new)) }
+    requires { window.now.bytes ≡ [] }
+    ensures ok { OnOk result (Gains (T.took taker.old) (T.took taker.new) (Joins inputs (R.remaining source.old) (R.remaining source.new))) }
     ensures count { OnOk result (R.faults source.new ≡ R.faults source.old) }
     ensures err { IfErr result (λ e. Stops inputs (R.remaining source.old) (R.remaining source.new)
         (R.faults source.old) (R.faults source.new) e) }
-    ensures empty { OnOk result (window.new ≡ []) }
+    ensures empty { OnOk result (window.new.bytes ≡ []) }
 {
-    taker.begin();
+    window.clear();
+    taker.begin(source);
     join_any(source, window, taker)?;
     Ok(())
 }
 
-fn take_each<R: Source, T: Taker>(inputs: &mut [R], taker: &mut T) -> Result<(), InputError>
-    ensures table { OnOk result ((ts : List Table) × TablesAre R.remaining inputs.old ts × (T.table taker.new ≡ join_tables (T.table taker.old) (join_all ts))) }
+fn take_each<R: Source, T: Taker<R>>(inputs: &mut [R], taker: &mut T) -> Result<(), InputError>
+    ensures table { OnOk result ((ts : List Table) × TablesAre R.remaining inputs.old ts × ((t : Table) → T.took taker.old t → T.took taker.new (join_tables t (join_all ts)))) }
     ensures counts { OnOk result (map R.faults inputs.new ≡ map R.faults inputs.old) }
     ensures fails { IfErr result (λ e. InputFails R.remaining R.faults inputs.old inputs.new e) }
 {
@@ -63,22 +65,25 @@ fn take_each<R: Source, T: Taker>(inputs: &mut [R], taker: &mut T) -> Result<(),
 /// # Errors
 ///
 /// As [`join_inputs`] has them. The taker has taken some of the blocks then, and what they are is not said.
-pub fn take_inputs<R: Source, T: Taker>(inputs: &mut [R], taker: &mut T) -> Result<(), InputError>
+pub fn take_inputs<R: Source, T: Taker<R>>(
+    inputs: &mut [R],
+    taker: &mut T,
+) -> Result<(), InputError>
     // The inputs' tables are joined to that of the taker, and no device failed.
-    ensures table { OnOk result ((ts : List Table) × TablesAre R.remaining inputs.old ts × (T.table taker.new ≡ join_tables (T.table taker.old) (join_all ts))) }
+    ensures table { OnOk result ((ts : List Table) × TablesAre R.remaining inputs.old ts × ((t : Table) → T.took taker.old t → T.took taker.new (join_tables t (join_all ts)))) }
     ensures counts { OnOk result (map R.faults inputs.new ≡ map R.faults inputs.old) }
     // Where each input is a good file, only a device or want of memory refuses.
     ensures good { (ts : List Table) → AllTell R.remaining inputs.old ts →
-        MatchResult result (λ _. T.table taker.new ≡ join_tables (T.table taker.old) (join_all ts)) (λ e. ¬ IsOfFile e.error.fault) }
+        MatchResult result (λ _. (t : Table) → T.took taker.old t → T.took taker.new (join_tables t (join_all ts))) (λ e. ¬ IsOfFile e.error.fault) }
     // What was taken is one and the same for every order and repetition of the inputs' tables,
     ensures any_order { (ts us : List Table) → AllTell R.remaining inputs.old ts → SameTables ts us →
-        OnOk result (T.table taker.new ≡ join_tables (T.table taker.old) (join_all us)) }
+        OnOk result ((t : Table) → T.took taker.old t → T.took taker.new (join_tables t (join_all us))) }
     // and for readings however their records are ordered, repeated and split over files.
     ensures any_split { (rss : List (List Record)) (rs : List Record) → AllReadings R.remaining inputs.old rss →
-        SameRecords (all_records rss) rs → OnOk result (T.table taker.new ≡ join_tables (T.table taker.old) (table_of rs)) }
+        SameRecords (all_records rss) rs → OnOk result ((t : Table) → T.took taker.old t → T.took taker.new (join_tables t (table_of rs))) }
     // So for a mixture of files, where each input, a reading or a table file, has the table of some of the records.
     ensures any_mixture { (rss : List (List Record)) (rs : List Record) → AllTell R.remaining inputs.old (map table_of rss) →
-        SameRecords (all_records rss) rs → OnOk result (T.table taker.new ≡ join_tables (T.table taker.old) (table_of rs)) }
+        SameRecords (all_records rss) rs → OnOk result ((t : Table) → T.took taker.old t → T.took taker.new (join_tables t (table_of rs))) }
     // The first input that is no good file is named, with its fault and record, or a device or memory is blamed.
     ensures first { (input : ℕ) (fault : ReadingFault) (number : ℕ) → IsFirstFaulty R.remaining inputs.old input fault number →
         MatchResult result (λ _. ⊥) (λ e. IsOfFile e.error.fault → (e.input ≡ input) × (e.error.fault ≡ fault) × (e.error.number ≡ number)) }

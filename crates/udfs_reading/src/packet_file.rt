@@ -5,6 +5,8 @@ ghost use Rattle.std.specs.Prelude.{◌≡◌, ℕ, ◌+◌, ◌*◌, ◌^◌, �
 ghost use Rattle.std.specs.Io.KnownBytes.{Consumes};
 ghost use Rattle.udfs_reading.specs.declared.error.ReadingFault.TheVariants.{Io};
 ghost use Rattle.udfs_reading.specs.Device.{left};
+ghost use Rattle.udfs_reading.specs.Gains.{Gains};
+ghost use Rattle.udfs_reading.specs.Places.{MovesOn, StandsAt};
 ghost use Rattle.udfs_reading.specs.Format.{number, header};
 ghost use Rattle.udfs_reading.specs.Outcome.{Ends, Takes};
 ghost use Rattle.udfs_reading.specs.PacketFile.{packet_magic, Packet};
@@ -35,13 +37,14 @@ fn read_masks<R: Source>(
     entry: u32,
     packet: u32,
 ) -> Result<Masks, ReadingError>
-    ensures given { IfOk result (λ masks. Consumes (left window.old (R.remaining source.old)) (left window.new (R.remaining source.new)) (number masks.known ++ number masks.conflict)) }
+    ensures given { IfOk result (λ masks. Consumes (left window.old.bytes (R.remaining source.old)) (left window.new.bytes (R.remaining source.new)) (number masks.known ++ number masks.conflict)) }
     ensures masks { IfOk result (λ masks. AreMasks masks.known masks.conflict) }
     ensures count { OnOk result (R.faults source.new ≡ R.faults source.old) }
+    ensures at { OnOk result (MovesOn window.old.at window.new.at (left window.old.bytes (R.remaining source.old)) (left window.new.bytes (R.remaining source.new))) }
     ensures err { IfErr result (λ e. (count : ℕ) (done : List Packet) → IsNextPacket count done packet → length done + 1 ≡ entry →
-        Ends tables_v2 (packets_front count done ++ number packet) (left window.old (R.remaining source.old)) (left window.new (R.remaining source.new))
+        Ends tables_v2 (packets_front count done ++ number packet) (left window.old.bytes (R.remaining source.old)) (left window.new.bytes (R.remaining source.new))
         (R.faults source.old) (R.faults source.new) e) }
-    ensures empty { IfErr result (λ e. e.fault ≡ Io → window.new ≡ []) }
+    ensures empty { IfErr result (λ e. e.fault ≡ Io → window.new.bytes ≡ []) }
 {
     let known = read_number(source, window, entry)?;
     let conflict = read_number(source, window, entry)?;
@@ -61,7 +64,7 @@ fn read_masks<R: Source>(
 }
 
 /// Takes the bytes of a block that is known, and hands its state to the taker.
-fn join_place<R: Source, T: Taker>(
+fn join_place<R: Source, T: Taker<R>>(
     source: &mut R,
     window: &mut Window,
     entry: u32,
@@ -70,12 +73,14 @@ fn join_place<R: Source, T: Taker>(
     conflict: bool,
     taker: &mut T,
 ) -> Result<(), ReadingError>
-    requires { block ≤ 4194303 }
-    ensures ok { OnOk result (TakesPlace (left window.old (R.remaining source.old)) (left window.new (R.remaining source.new)) block known (cond known false conflict) (T.table taker.old) (T.table taker.new)) }
+    requires block { block ≤ 4194303 }
+    requires at { StandsAt (T.input taker.now) window.now.at (left window.now.bytes (R.remaining source.now)) }
+    ensures ok { OnOk result (Gains (T.took taker.old) (T.took taker.new) (TakesPlace (left window.old.bytes (R.remaining source.old)) (left window.new.bytes (R.remaining source.new)) block known (cond known false conflict))) }
     ensures count { OnOk result (R.faults source.new ≡ R.faults source.old) }
-    ensures err { IfErr result (λ e. PlaceFails (left window.old (R.remaining source.old)) (left window.new (R.remaining source.new))
+    ensures at { OnOk result (StandsAt (T.input taker.new) window.new.at (left window.new.bytes (R.remaining source.new))) }
+    ensures err { IfErr result (λ e. PlaceFails (left window.old.bytes (R.remaining source.old)) (left window.new.bytes (R.remaining source.new))
         (R.faults source.old) (R.faults source.new) entry known e) }
-    ensures empty { IfErr result (λ e. e.fault ≡ Io → window.new ≡ []) }
+    ensures empty { IfErr result (λ e. e.fault ≡ Io → window.new.bytes ≡ []) }
 {
     if known {
         join_block(source, window, entry, block, taker)?;
@@ -94,7 +99,7 @@ fn join_place<R: Source, T: Taker>(
 }
 
 /// Takes the blocks of a packet, and hands their states to the taker. The masks are halved from block to block.
-fn read_blocks<R: Source, T: Taker>(
+fn read_blocks<R: Source, T: Taker<R>>(
     source: &mut R,
     window: &mut Window,
     entry: u32,
@@ -104,12 +109,14 @@ fn read_blocks<R: Source, T: Taker>(
 ) -> Result<(), ReadingError>
     requires packet { packet ≤ 131071 }
     requires masks { AreMasks masks.known masks.conflict }
-    ensures ok { OnOk result (TakesStates (left window.old (R.remaining source.old)) (left window.new (R.remaining source.new)) (32 * packet) masks.known masks.conflict (T.table taker.old) (T.table taker.new)) }
+    requires at { StandsAt (T.input taker.now) window.now.at (left window.now.bytes (R.remaining source.now)) }
+    ensures ok { OnOk result (Gains (T.took taker.old) (T.took taker.new) (TakesStates (left window.old.bytes (R.remaining source.old)) (left window.new.bytes (R.remaining source.new)) (32 * packet) masks.known masks.conflict)) }
     ensures count { OnOk result (R.faults source.new ≡ R.faults source.old) }
+    ensures at { OnOk result (StandsAt (T.input taker.new) window.new.at (left window.new.bytes (R.remaining source.new))) }
     ensures err { IfErr result (λ e. (count : ℕ) (done : List Packet) → IsNextPacket count done packet → length done + 1 ≡ entry →
-        Ends tables_v2 (packets_front count done ++ (number packet ++ (number masks.known ++ number masks.conflict))) (left window.old (R.remaining source.old)) (left window.new (R.remaining source.new))
+        Ends tables_v2 (packets_front count done ++ (number packet ++ (number masks.known ++ number masks.conflict))) (left window.old.bytes (R.remaining source.old)) (left window.new.bytes (R.remaining source.new))
         (R.faults source.old) (R.faults source.new) e) }
-    ensures empty { IfErr result (λ e. e.fault ≡ Io → window.new ≡ []) }
+    ensures empty { IfErr result (λ e. e.fault ≡ Io → window.new.bytes ≡ []) }
 {
     let mut known = masks.known;
     let mut conflict = masks.conflict;
@@ -132,19 +139,21 @@ fn read_blocks<R: Source, T: Taker>(
 }
 
 /// Takes a packet whose number is at least `low`, and answers the next low.
-fn read_packet<R: Source, T: Taker>(
+fn read_packet<R: Source, T: Taker<R>>(
     source: &mut R,
     window: &mut Window,
     entry: u32,
     low: u32,
     taker: &mut T,
 ) -> Result<u32, ReadingError>
-    ensures ok { IfOk result (λ next. TakesPacket (left window.old (R.remaining source.old)) (left window.new (R.remaining source.new)) low next (T.table taker.old) (T.table taker.new)) }
+    requires { StandsAt (T.input taker.now) window.now.at (left window.now.bytes (R.remaining source.now)) }
+    ensures ok { IfOk result (λ next. Gains (T.took taker.old) (T.took taker.new) (TakesPacket (left window.old.bytes (R.remaining source.old)) (left window.new.bytes (R.remaining source.new)) low next)) }
     ensures count { OnOk result (R.faults source.new ≡ R.faults source.old) }
+    ensures at { OnOk result (StandsAt (T.input taker.new) window.new.at (left window.new.bytes (R.remaining source.new))) }
     ensures err { IfErr result (λ e. (count : ℕ) (done : List Packet) → IsUnderPackets count done → length done + 1 ≡ entry → low_after 0 done ≡ low →
-        Ends tables_v2 (packets_front count done) (left window.old (R.remaining source.old)) (left window.new (R.remaining source.new))
+        Ends tables_v2 (packets_front count done) (left window.old.bytes (R.remaining source.old)) (left window.new.bytes (R.remaining source.new))
         (R.faults source.old) (R.faults source.new) e) }
-    ensures empty { IfErr result (λ e. e.fault ≡ Io → window.new ≡ []) }
+    ensures empty { IfErr result (λ e. e.fault ≡ Io → window.new.bytes ≡ []) }
 {
     let packet = read_number(source, window, entry)?;
     if packet > LAST_PACKET {
@@ -165,17 +174,18 @@ fn read_packet<R: Source, T: Taker>(
 }
 
 /// Takes this many packets, and hands them to the taker.
-fn read_packets<R: Source, T: Taker>(
+fn read_packets<R: Source, T: Taker<R>>(
     source: &mut R,
     window: &mut Window,
     count: u32,
     taker: &mut T,
 ) -> Result<(), ReadingError>
-    ensures ok { OnOk result ((low : ℕ) × TakesPackets (left window.old (R.remaining source.old)) (left window.new (R.remaining source.new)) count low (T.table taker.old) (T.table taker.new)) }
+    requires { StandsAt (T.input taker.now) window.now.at (left window.now.bytes (R.remaining source.now)) }
+    ensures ok { OnOk result ((low : ℕ) × Gains (T.took taker.old) (T.took taker.new) (TakesPackets (left window.old.bytes (R.remaining source.old)) (left window.new.bytes (R.remaining source.new)) count low)) }
     ensures count { OnOk result (R.faults source.new ≡ R.faults source.old) }
-    ensures err { IfErr result (λ e. Ends tables_v2 (header packet_magic count) (left window.old (R.remaining source.old)) (left window.new (R.remaining source.new))
+    ensures err { IfErr result (λ e. Ends tables_v2 (header packet_magic count) (left window.old.bytes (R.remaining source.old)) (left window.new.bytes (R.remaining source.new))
         (R.faults source.old) (R.faults source.new) e) }
-    ensures empty { IfErr result (λ e. e.fault ≡ Io → window.new ≡ []) }
+    ensures empty { IfErr result (λ e. e.fault ≡ Io → window.new.bytes ≡ []) }
 {
     let mut low = 0;
     for index in 0..count {
@@ -186,17 +196,18 @@ fn read_packets<R: Source, T: Taker>(
 
 /// Reads what stands behind the magic of a table file of version 2, to the end of the source, and hands its
 /// blocks to the taker. An error leaves it with some of them.
-pub fn read_body<R: Source, T: Taker>(
+pub fn read_body<R: Source, T: Taker<R>>(
     source: &mut R,
     window: &mut Window,
     taker: &mut T,
 ) -> Result<(), ReadingError>
-    ensures ok { OnOk result (Takes tables_v2 packet_magic (left window.old (R.remaining source.old)) (left window.new (R.remaining source.new)) (T.table taker.old) (T.table taker.new)) }
+    requires { StandsAt (T.input taker.now) window.now.at (left window.now.bytes (R.remaining source.now)) }
+    ensures ok { OnOk result (Gains (T.took taker.old) (T.took taker.new) (Takes tables_v2 packet_magic (left window.old.bytes (R.remaining source.old)) (left window.new.bytes (R.remaining source.new)))) }
     ensures count { OnOk result (R.faults source.new ≡ R.faults source.old) }
-    ensures err { IfErr result (λ e. Ends tables_v2 packet_magic (left window.old (R.remaining source.old)) (left window.new (R.remaining source.new))
+    ensures err { IfErr result (λ e. Ends tables_v2 packet_magic (left window.old.bytes (R.remaining source.old)) (left window.new.bytes (R.remaining source.new))
         (R.faults source.old) (R.faults source.new) e) }
-    ensures empty { IfErr result (λ e. e.fault ≡ Io → window.new ≡ []) }
-    ensures done { OnOk result (window.new ≡ []) }
+    ensures empty { IfErr result (λ e. e.fault ≡ Io → window.new.bytes ≡ []) }
+    ensures done { OnOk result (window.new.bytes ≡ []) }
 {
     let count = read_count(source, window)?;
     read_packets(source, window, count, taker)?;

@@ -4,6 +4,8 @@ ghost use Rattle.std.specs.Prelude.{◌≡◌, ℕ, ◌+◌, ◌≤◌, ◌++◌
 ghost use Rattle.udfs_lattice.specs.States.{State};
 ghost use Rattle.udfs_reading.specs.declared.error.ReadingFault.TheVariants.{Io};
 ghost use Rattle.udfs_reading.specs.Device.{left};
+ghost use Rattle.udfs_reading.specs.Gains.{Gains};
+ghost use Rattle.udfs_reading.specs.Places.{StandsAt};
 ghost use Rattle.udfs_reading.specs.Format.{number, header};
 ghost use Rattle.udfs_reading.specs.Outcome.{Ends, Takes};
 ghost use Rattle.udfs_reading.specs.TableFile.{table_magic};
@@ -18,20 +20,22 @@ use crate::taker::Taker;
 use crate::window::Window;
 
 /// Takes the state of a block, and hands it to the taker.
-fn read_state<R: Source, T: Taker>(
+fn read_state<R: Source, T: Taker<R>>(
     source: &mut R,
     window: &mut Window,
     entry: u32,
     block: u32,
     taker: &mut T,
 ) -> Result<(), ReadingError>
-    requires { block ≤ 4194303 }
-    ensures ok { OnOk result (TakesState (left window.old (R.remaining source.old)) (left window.new (R.remaining source.new)) block (T.table taker.old) (T.table taker.new)) }
+    requires block { block ≤ 4194303 }
+    requires at { StandsAt (T.input taker.now) window.now.at (left window.now.bytes (R.remaining source.now)) }
+    ensures ok { OnOk result (Gains (T.took taker.old) (T.took taker.new) (TakesState (left window.old.bytes (R.remaining source.old)) (left window.new.bytes (R.remaining source.new)) block)) }
     ensures count { OnOk result (R.faults source.new ≡ R.faults source.old) }
+    ensures at { OnOk result (StandsAt (T.input taker.new) window.new.at (left window.new.bytes (R.remaining source.new))) }
     ensures err { IfErr result (λ e. (count : ℕ) (done : List (ℕ × State)) → IsUnderEntries count done → length done + 1 ≡ entry → floor_after 0 done ≤ block →
-        Ends tables_v1 (entries_front count done ++ number block) (left window.old (R.remaining source.old)) (left window.new (R.remaining source.new))
+        Ends tables_v1 (entries_front count done ++ number block) (left window.old.bytes (R.remaining source.old)) (left window.new.bytes (R.remaining source.new))
         (R.faults source.old) (R.faults source.new) e) }
-    ensures empty { IfErr result (λ e. e.fault ≡ Io → window.new ≡ []) }
+    ensures empty { IfErr result (λ e. e.fault ≡ Io → window.new.bytes ≡ []) }
 {
     let code = read_byte(source, window, entry)?;
     if code == 1 {
@@ -54,19 +58,21 @@ fn read_state<R: Source, T: Taker>(
 }
 
 /// Takes an entry whose block is at least `floor`, and answers the next floor.
-fn read_entry<R: Source, T: Taker>(
+fn read_entry<R: Source, T: Taker<R>>(
     source: &mut R,
     window: &mut Window,
     entry: u32,
     floor: u32,
     taker: &mut T,
 ) -> Result<u32, ReadingError>
-    ensures ok { IfOk result (λ next. TakesEntry (left window.old (R.remaining source.old)) (left window.new (R.remaining source.new)) floor next (T.table taker.old) (T.table taker.new)) }
+    requires { StandsAt (T.input taker.now) window.now.at (left window.now.bytes (R.remaining source.now)) }
+    ensures ok { IfOk result (λ next. Gains (T.took taker.old) (T.took taker.new) (TakesEntry (left window.old.bytes (R.remaining source.old)) (left window.new.bytes (R.remaining source.new)) floor next)) }
     ensures count { OnOk result (R.faults source.new ≡ R.faults source.old) }
+    ensures at { OnOk result (StandsAt (T.input taker.new) window.new.at (left window.new.bytes (R.remaining source.new))) }
     ensures err { IfErr result (λ e. (count : ℕ) (done : List (ℕ × State)) → IsUnderEntries count done → length done + 1 ≡ entry → floor_after 0 done ≡ floor →
-        Ends tables_v1 (entries_front count done) (left window.old (R.remaining source.old)) (left window.new (R.remaining source.new))
+        Ends tables_v1 (entries_front count done) (left window.old.bytes (R.remaining source.old)) (left window.new.bytes (R.remaining source.new))
         (R.faults source.old) (R.faults source.new) e) }
-    ensures empty { IfErr result (λ e. e.fault ≡ Io → window.new ≡ []) }
+    ensures empty { IfErr result (λ e. e.fault ≡ Io → window.new.bytes ≡ []) }
 {
     let block = read_number(source, window, entry)?;
     if block > LAST_BLOCK {
@@ -86,17 +92,18 @@ fn read_entry<R: Source, T: Taker>(
 }
 
 /// Takes this many entries, and hands them to the taker.
-fn read_entries<R: Source, T: Taker>(
+fn read_entries<R: Source, T: Taker<R>>(
     source: &mut R,
     window: &mut Window,
     count: u32,
     taker: &mut T,
 ) -> Result<(), ReadingError>
-    ensures ok { OnOk result ((floor : ℕ) × TakesEntries (left window.old (R.remaining source.old)) (left window.new (R.remaining source.new)) count floor (T.table taker.old) (T.table taker.new)) }
+    requires { StandsAt (T.input taker.now) window.now.at (left window.now.bytes (R.remaining source.now)) }
+    ensures ok { OnOk result ((floor : ℕ) × Gains (T.took taker.old) (T.took taker.new) (TakesEntries (left window.old.bytes (R.remaining source.old)) (left window.new.bytes (R.remaining source.new)) count floor)) }
     ensures count { OnOk result (R.faults source.new ≡ R.faults source.old) }
-    ensures err { IfErr result (λ e. Ends tables_v1 (header table_magic count) (left window.old (R.remaining source.old)) (left window.new (R.remaining source.new))
+    ensures err { IfErr result (λ e. Ends tables_v1 (header table_magic count) (left window.old.bytes (R.remaining source.old)) (left window.new.bytes (R.remaining source.new))
         (R.faults source.old) (R.faults source.new) e) }
-    ensures empty { IfErr result (λ e. e.fault ≡ Io → window.new ≡ []) }
+    ensures empty { IfErr result (λ e. e.fault ≡ Io → window.new.bytes ≡ []) }
 {
     let mut floor = 0;
     for index in 0..count {
@@ -107,17 +114,18 @@ fn read_entries<R: Source, T: Taker>(
 
 /// Reads what stands behind the magic of a table file, to the end of the source, and hands its entries
 /// to the taker. An error leaves it with some of them.
-pub fn read_body<R: Source, T: Taker>(
+pub fn read_body<R: Source, T: Taker<R>>(
     source: &mut R,
     window: &mut Window,
     taker: &mut T,
 ) -> Result<(), ReadingError>
-    ensures ok { OnOk result (Takes tables_v1 table_magic (left window.old (R.remaining source.old)) (left window.new (R.remaining source.new)) (T.table taker.old) (T.table taker.new)) }
+    requires { StandsAt (T.input taker.now) window.now.at (left window.now.bytes (R.remaining source.now)) }
+    ensures ok { OnOk result (Gains (T.took taker.old) (T.took taker.new) (Takes tables_v1 table_magic (left window.old.bytes (R.remaining source.old)) (left window.new.bytes (R.remaining source.new)))) }
     ensures count { OnOk result (R.faults source.new ≡ R.faults source.old) }
-    ensures err { IfErr result (λ e. Ends tables_v1 table_magic (left window.old (R.remaining source.old)) (left window.new (R.remaining source.new))
+    ensures err { IfErr result (λ e. Ends tables_v1 table_magic (left window.old.bytes (R.remaining source.old)) (left window.new.bytes (R.remaining source.new))
         (R.faults source.old) (R.faults source.new) e) }
-    ensures empty { IfErr result (λ e. e.fault ≡ Io → window.new ≡ []) }
-    ensures done { OnOk result (window.new ≡ []) }
+    ensures empty { IfErr result (λ e. e.fault ≡ Io → window.new.bytes ≡ []) }
+    ensures done { OnOk result (window.new.bytes ≡ []) }
 {
     let count = read_count(source, window)?;
     read_entries(source, window, count, taker)?;

@@ -1,61 +1,81 @@
 //! What takes the blocks of inputs: a table, or what stands in the place of one.
 
-ghost use Rattle.std.specs.Prelude.{◌≡◌, ◌≤◌, OnOk, OnErr};
+ghost use Rattle.std.specs.Prelude.{◌≡◌, ◌≤◌, ℕ, List, Option, None, OnOk, OnErr};
 ghost use Rattle.udfs_lattice.specs.declared.facts.Fact.TheVariants.{Conflict};
 ghost use Rattle.udfs_lattice.specs.Tables.{Table, join_tables, one_entry, one_record};
+ghost use Rattle.udfs_reading.specs.Places.{StandsAt, HasBlockAt};
 
-use std::alloc::AllocError;
+use crate::device::Source;
 use udfs_lattice::{BlockTable, Fact};
 
-/// What takes what inputs say of blocks. It is told of each content and of each conflict in the order in which they stand in
-/// an input, and of each beginning of an input.
-pub trait Taker {
-    /// The table of what it took so far.
-    ghost table: { Self → Table };
+/// A taker did not take what it was told: for want of memory, or because what it looks into failed. A taker that looks into
+/// something tells itself which it was.
+#[derive(Clone, Copy, Debug, PartialEq, Eq)]
+pub struct NotTaken;
+
+/// What takes what inputs of the kind `R` say of blocks. It is told of each content and of each conflict in the order in which
+/// they stand in an input, and of each beginning of an input.
+pub trait Taker<R: Source> {
+    /// This is the table of what it took so far. Where it keeps no bytes, but looks into inputs, it says so only where these
+    /// tell what they hold.
+    ghost took: { Self → Table → Type 0 };
+
+    /// The bytes of the input that is being taken, where it looks into it, and it tells them.
+    ghost input: { Self → Option (List ℕ) };
 
     /// The next input begins. It is said before its first byte is read.
-    fn begin(&mut self)
-        ensures { table self.new ≡ table self.old };
+    fn begin(&mut self, source: &mut R)
+        ensures same { (t : Table) → took self.old t → took self.new t }
+        ensures input { StandsAt (input self.new) 0 (R.remaining source.new) }
+        ensures unread { R.remaining source.new ≡ R.remaining source.old }
+        ensures count { R.faults source.new ≡ R.faults source.old };
 
-    /// Takes the bytes of block `block` in one reading, as [`BlockTable::put`] does.
+    /// Takes the bytes of block `block` in one reading, as [`BlockTable::put`] does. They stand behind the first `at` bytes
+    /// of the input, modulo 2 ^ 64.
     ///
     /// # Errors
     ///
-    /// `AllocError` for want of memory. Its table is as it was then.
-    fn put(&mut self, block: u32, bytes: &[u8; 2048]) -> Result<(), AllocError>
-        requires { block ≤ 4194303 }
-        ensures ok { OnOk result (table self.new ≡ join_tables (table self.old) (one_record block bytes.now)) }
-        ensures err { OnErr result (table self.new ≡ table self.old) };
+    /// `NotTaken` for want of memory, or because what it looks into failed. Its table is as it was then.
+    fn put(&mut self, block: u32, bytes: &[u8; 2048], at: u64) -> Result<(), NotTaken>
+        requires block { block ≤ 4194303 }
+        requires at { HasBlockAt (input self.now) at bytes.now }
+        ensures ok { OnOk result ((t : Table) → took self.old t → took self.new (join_tables t (one_record block bytes.now))) }
+        ensures err { OnErr result ((t : Table) → took self.old t → took self.new t) }
+        ensures input { input self.new ≡ input self.old };
 
     /// Takes that block `block` is in conflict, as [`BlockTable::add`] does with `Fact::Conflict`.
     ///
     /// # Errors
     ///
     /// As [`put`](Self::put).
-    fn dispute(&mut self, block: u32) -> Result<(), AllocError>
+    fn dispute(&mut self, block: u32) -> Result<(), NotTaken>
         requires { block ≤ 4194303 }
-        ensures ok { OnOk result (table self.new ≡ join_tables (table self.old) (one_entry block Conflict)) }
-        ensures err { OnErr result (table self.new ≡ table self.old) };
+        ensures ok { OnOk result ((t : Table) → took self.old t → took self.new (join_tables t (one_entry block Conflict))) }
+        ensures err { OnErr result ((t : Table) → took self.old t → took self.new t) }
+        ensures input { input self.new ≡ input self.old };
 }
 
-impl Taker for BlockTable {
-    ghost table = { λ t. t };
+/// It keeps the bytes, and has no need to know where they stand.
+impl<R: Source> Taker<R> for BlockTable {
+    ghost took = { λ a t. a ≡ t };
 
-    fn begin(&mut self) {
+    ghost input = { λ _. None };
+
+    fn begin(&mut self, _source: &mut R) {
         let _ = self;
     }
 
-    fn put(&mut self, block: u32, bytes: &[u8; 2048]) -> Result<(), AllocError> {
+    fn put(&mut self, block: u32, bytes: &[u8; 2048], _at: u64) -> Result<(), NotTaken> {
         match BlockTable::put(self, block, bytes) {
             Ok(()) => Ok(()),
-            Err(_) => Err(AllocError),
+            Err(_) => Err(NotTaken),
         }
     }
 
-    fn dispute(&mut self, block: u32) -> Result<(), AllocError> {
+    fn dispute(&mut self, block: u32) -> Result<(), NotTaken> {
         match self.add(block, Fact::Conflict) {
             Ok(()) => Ok(()),
-            Err(_) => Err(AllocError),
+            Err(_) => Err(NotTaken),
         }
     }
 }

@@ -1,5 +1,7 @@
 //! What a taker is told of inputs, in which order.
 
+ghost use Rattle.std.specs.Prelude.{◌≡◌, None};
+
 use super::*;
 use crate::tests::{DISPUTED, reading};
 use std::alloc::AllocError;
@@ -10,7 +12,8 @@ use udfs_lattice::{BlockTable, Fact};
 #[derive(Clone, Copy, Debug, PartialEq, Eq)]
 enum Told {
     Begins,
-    Bytes(u32, u8),
+    /// The block, its last byte, and how many bytes of the input stand before it.
+    Bytes(u32, u8, u64),
     Conflict(u32),
 }
 
@@ -21,26 +24,39 @@ struct Log {
     told: Vec<Told>,
 }
 
-impl Taker for Log {
-    ghost table = { λ l. l.table };
+impl Log {
+    fn tell(&mut self, told: Told) -> Result<(), NotTaken>
+        ensures { self.new.table ≡ self.old.table }
+    {
+        match self.told.push(told) {
+            Ok(()) => Ok(()),
+            Err(_) => Err(NotTaken),
+        }
+    }
+}
 
-    fn begin(&mut self) {
+impl<R: Source> Taker<R> for Log {
+    ghost took = { λ l t. l.table ≡ t };
+
+    ghost input = { λ _. None };
+
+    fn begin(&mut self, _source: &mut R) {
         let _ = self.told.push(Told::Begins);
     }
 
-    fn put(&mut self, block: u32, bytes: &[u8; 2048]) -> Result<(), AllocError> {
-        self.told.push(Told::Bytes(block, bytes[2047]))?;
+    fn put(&mut self, block: u32, bytes: &[u8; 2048], at: u64) -> Result<(), NotTaken> {
+        self.tell(Told::Bytes(block, bytes[2047], at))?;
         match self.table.put(block, bytes) {
             Ok(()) => Ok(()),
-            Err(_) => Err(AllocError),
+            Err(_) => Err(NotTaken),
         }
     }
 
-    fn dispute(&mut self, block: u32) -> Result<(), AllocError> {
-        self.told.push(Told::Conflict(block))?;
+    fn dispute(&mut self, block: u32) -> Result<(), NotTaken> {
+        self.tell(Told::Conflict(block))?;
         match self.table.add(block, Fact::Conflict) {
             Ok(()) => Ok(()),
-            Err(_) => Err(AllocError),
+            Err(_) => Err(NotTaken),
         }
     }
 }
@@ -74,14 +90,14 @@ fn a_taker_is_told_all_in_order(rt: HostRuntime) -> Result<(), Fail> {
         log.told.as_slice(),
         [
             Told::Begins,
-            Told::Bytes(301, 0x61),
-            Told::Bytes(5, 0x62),
-            Told::Bytes(301, 0x61),
+            Told::Bytes(301, 0x61, 20),
+            Told::Bytes(5, 0x62, 2072),
+            Told::Bytes(301, 0x61, 4124),
             Told::Begins,
             Told::Conflict(300),
             Told::Begins,
             Told::Conflict(300),
-            Told::Bytes(301, 0x63),
+            Told::Bytes(301, 0x63, 28),
         ]
         .as_slice()
     );

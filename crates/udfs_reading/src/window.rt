@@ -1,6 +1,6 @@
 //! The bytes of a file that were read ahead of the fields that are judged.
 
-ghost use Rattle.std.specs.Prelude.{◌≡◌, ℕ, slice_index, ◌-◌, ◌<◌, ◌≤◌, ◌+◌, [], length, take, drop, slice_range, get_or, IfOk, OnErr, true, false};
+ghost use Rattle.std.specs.Prelude.{◌≡◌, ℕ, slice_index, ◌-◌, ◌<◌, ◌≤◌, ◌+◌, ◌%◌, ◌^◌, [], length, take, drop, slice_range, get_or, IfOk, OnErr, true, false};
 ghost use Rattle.std.specs.Io.KnownBytes.{Consumes, IsAtEnd};
 ghost use Rattle.udfs_reading.specs.Device.{CountsFault, left};
 
@@ -10,20 +10,26 @@ use std::marker::Model;
 /// How many bytes a source is asked for at once.
 const PIECE: usize = 262_144;
 
-/// Bytes that were read and not yet taken. They stand in a piece of their own, and no memory is asked for.
+/// Bytes that were read and not yet taken. They stand in a piece of their own, and no memory is asked for. It counts the
+/// bytes of the input that it let go.
 #[derive(Drop)]
 pub struct Window {
     bytes: [u8; 262_144],
     start: usize,
     end: usize,
+    /// How many bytes of the input stand before those that are held, modulo 2 ^ 64.
+    at: u64,
 }
 
 impl Model for Window {
-    ghost use Rattle.std.specs.Prelude.{List, ℕ, ◌≤◌, slice_range};
+    ghost use Rattle.std.specs.Prelude.{◌≤◌, slice_range};
+    ghost use Rattle.udfs_reading.specs.Places.{Ahead, ahead_code};
 
-    ghost Value = { List ℕ };
+    ghost Value = { Ahead };
 
-    ghost view = { λ w. slice_range w.bytes w.start w.end };
+    ghost coded = { ahead_code };
+
+    ghost view = { λ w. record { bytes = slice_range w.bytes w.start w.end; at = w.at } };
 
     ghost invariant = { λ w. (w.start ≤ w.end) × (w.end ≤ 262144) };
 }
@@ -50,24 +56,33 @@ fn bounded(bytes: &[u8]) -> &[u8]
 
 impl Window {
     pub fn new() -> Self
-        ensures { result ≡ [] }
+        ensures bytes { result.bytes ≡ [] }
+        ensures at { result.at ≡ 0 }
     {
         Window {
             bytes: [0; 262_144],
             start: 0,
             end: 0,
+            at: 0,
         }
     }
 
     pub fn len(&self) -> usize
-        ensures { result ≡ length self.now }
+        ensures { result ≡ length self.now.bytes }
     {
         self.end - self.start
     }
 
+    /// How many bytes of the input stand before those that are held, modulo 2 ^ 64.
+    pub fn at(&self) -> u64
+        ensures { result ≡ self.now.at }
+    {
+        self.at
+    }
+
     /// The bytes, in the order in which they were read.
     pub fn bytes(&self) -> &[u8]
-        ensures value { result.now ≡ self.now }
+        ensures value { result.now ≡ self.now.bytes }
         ensures range { (i : ℕ) → slice_index result.now i < 256 }
     {
         bounded(&self.bytes[self.start..self.end])
@@ -75,8 +90,8 @@ impl Window {
 
     /// The first `N` bytes.
     pub fn chunk<const N: usize>(&self) -> &[u8; N]
-        requires { N ≤ length self.now }
-        ensures value { result.now ≡ take N self.now }
+        requires { N ≤ length self.now.bytes }
+        ensures value { result.now ≡ take N self.now.bytes }
         ensures range { (i : ℕ) → slice_index result.now i < 256 }
     {
         self.bytes().first_chunk::<N>().unwrap()
@@ -84,27 +99,32 @@ impl Window {
 
     /// Lets go of the first bytes.
     pub fn take(&mut self, count: usize)
-        requires { count ≤ length self.now }
-        ensures { self.new ≡ drop count self.old }
+        requires { count ≤ length self.now.bytes }
+        ensures bytes { self.new.bytes ≡ drop count self.old.bytes }
+        ensures at { self.new.at ≡ (self.old.at + count) % 2 ^ 64 }
     {
         self.start += count;
+        self.at = self.at.wrapping_add(count as u64);
     }
 
-    /// Lets go of all bytes.
+    /// Lets go of all bytes, and of the input: what is read next is the front of another one.
     pub fn clear(&mut self)
-        ensures { self.new ≡ [] }
+        ensures bytes { self.new.bytes ≡ [] }
+        ensures at { self.new.at ≡ 0 }
     {
         self.start = 0;
         self.end = 0;
+        self.at = 0;
     }
 
     /// Asks the source once for as many more bytes as there is room for, and answers how many came.
     fn more<R: Source>(&mut self, source: &mut R) -> Result<usize, DeviceFault>
-        requires { length self.now < 2048 }
-        ensures left { Consumes (left self.old (R.remaining source.old)) (left self.new (R.remaining source.new)) [] }
-        ensures grown { IfOk result (λ n. length self.new ≡ length self.old + n) }
+        requires { length self.now.bytes < 2048 }
+        ensures left { Consumes (left self.old.bytes (R.remaining source.old)) (left self.new.bytes (R.remaining source.new)) [] }
+        ensures grown { IfOk result (λ n. length self.new.bytes ≡ length self.old.bytes + n) }
         ensures end { IfOk result (λ n. n ≡ 0 → IsAtEnd (R.remaining source.new)) }
-        ensures fault { OnErr result (self.new ≡ self.old) }
+        ensures fault { OnErr result (self.new.bytes ≡ self.old.bytes) }
+        ensures at { self.new.at ≡ self.old.at }
         ensures count { CountsFault (R.faults source.old) (R.faults source.new) result }
     {
         move_to_front(&mut self.bytes, self.start, self.end);
@@ -118,11 +138,12 @@ impl Window {
     /// Reads ahead until there are `size` bytes, and answers whether there are, or the source is at its end.
     pub fn hold<R: Source>(&mut self, source: &mut R, size: usize) -> Result<bool, DeviceFault>
         requires { size ≤ 2048 }
-        ensures left { Consumes (left self.old (R.remaining source.old)) (left self.new (R.remaining source.new)) [] }
-        ensures held { IfOk result (λ held. held ≡ true → size ≤ length self.new) }
-        ensures short { IfOk result (λ held. held ≡ false → length self.new < size) }
+        ensures left { Consumes (left self.old.bytes (R.remaining source.old)) (left self.new.bytes (R.remaining source.new)) [] }
+        ensures held { IfOk result (λ held. held ≡ true → size ≤ length self.new.bytes) }
+        ensures short { IfOk result (λ held. held ≡ false → length self.new.bytes < size) }
         ensures end { IfOk result (λ held. held ≡ false → IsAtEnd (R.remaining source.new)) }
-        ensures fault { OnErr result (length self.new < size) }
+        ensures fault { OnErr result (length self.new.bytes < size) }
+        ensures at { self.new.at ≡ self.old.at }
         ensures count { CountsFault (R.faults source.old) (R.faults source.new) result }
     {
         while self.len() < size {

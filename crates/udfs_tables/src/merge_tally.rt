@@ -1,6 +1,6 @@
 //! The join of the inputs of `merge`, and what is told of it when it is done.
 
-ghost use Rattle.std.specs.Prelude.{◌≡◌, IfOk};
+ghost use Rattle.std.specs.Prelude.{◌≡◌, None, IfOk};
 ghost use Rattle.udfs_lattice.specs.Tables.{conflict_count, empty_table, known_count};
 
 use crate::beside::{Beside, Disagreement};
@@ -8,7 +8,7 @@ use std::alloc::{AllocError, Global};
 use std::marker::Model;
 use std::mem;
 use udfs_lattice::{BlockTable, Fact};
-use udfs_reading::Taker;
+use udfs_reading::{NotTaken, Source, Taker};
 
 /// How many blocks are known and in conflict in a join, and how many are not so in its first input.
 #[derive(Clone, Copy, Debug, PartialEq, Eq)]
@@ -133,28 +133,34 @@ fn state_before(joined: &BlockTable, begun: usize, block: u32) -> Fact<&[u8; 204
     }
 }
 
-impl Taker for MergeTally {
-    ghost table = { λ m. m };
+impl<R: Source> Taker<R> for MergeTally {
+    ghost took = { λ m t. m ≡ t };
 
-    fn begin(&mut self) {
+    ghost input = { λ _. None };
+
+    fn begin(&mut self, _source: &mut R) {
         self.end_input();
         self.begun = self.begun.saturating_add(1);
     }
 
-    fn put(&mut self, block: u32, bytes: &[u8; 2048]) -> Result<(), AllocError> {
+    fn put(&mut self, block: u32, bytes: &[u8; 2048], _at: u64) -> Result<(), NotTaken> {
         let before = state_before(&self.joined, self.begun, block);
-        self.input.hear(block, bytes, before)?;
+        if self.input.hear(block, bytes, before).is_err() {
+            return Err(NotTaken);
+        }
         match self.joined.put(block, bytes) {
             Ok(()) => Ok(()),
-            Err(_) => Err(AllocError),
+            Err(_) => Err(NotTaken),
         }
     }
 
-    fn dispute(&mut self, block: u32) -> Result<(), AllocError> {
-        self.input.hear_conflict(block)?;
+    fn dispute(&mut self, block: u32) -> Result<(), NotTaken> {
+        if self.input.hear_conflict(block).is_err() {
+            return Err(NotTaken);
+        }
         match self.joined.add(block, Fact::Conflict) {
             Ok(()) => Ok(()),
-            Err(_) => Err(AllocError),
+            Err(_) => Err(NotTaken),
         }
     }
 }

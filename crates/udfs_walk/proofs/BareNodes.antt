@@ -18,8 +18,7 @@ use Rattle.udfs_walk.specs.Bare.{bare_standing, bare_entry, bare_node, body_list
 use Rattle.udfs_walk.specs.NodeFields.{NodeFields}
 use Rattle.udfs_walk.specs.TornFields.{TornFields}
 use Rattle.udfs_walk.specs.Nodes.{node, node_at, told}
-use Rattle.udfs_walk.specs.Frames.{FrameFields, IsEntryTaken}
-use Rattle.udfs_walk.specs.Routes.{Walked, inside, is_deep, is_loop}
+use Rattle.udfs_walk.specs.Routes.{Walked, is_deep, is_loop}
 use Rattle.udfs_walk.specs.Standings.{body_standing, cells_standing, depth_or, kind_standing, standing_or_fault}
 use Rattle.udfs_walk.specs.Targets.{Icb, Target, bad, unread, entry, target}
 use Rattle.udfs_walk.specs.UnnamedEntries.{address_of, entry_alone, icbs_in, names, unnamed, unnamed_at, unnamed_with}
@@ -79,16 +78,14 @@ pub full_again : (v : View) (w : Walked) → full_node v (bare_node (node v w)) 
 unfolding node lists_at
 full_again v w = at_target v w (target v w.address) (lists_at v (node v w).icb) (ap (λ a. target_lists v a (target v a)) (icb_in v w (target v w.address)))
 
-pub full_more : (v : View) (w : Walked) (old new : List NodeFields) (n : NodeFields) → new ≡ old ++ bare_node n ∷ [] → n ≡ node v w → map (full_node v) new ≡ map (full_node v) old ++ n ∷ []
-full_more v w old new n e h = ap (map (full_node v)) e ∙ map-append (full_node v) old (bare_node n ∷ [])
-    ∙ ap (λ x. map (full_node v) old ++ x ∷ []) (ap (λ x. full_node v (bare_node x)) h ∙ full_again v w ∙ sym h)
+pub full_is : (v : View) (w : Walked) (n : NodeFields) → n ≡ bare_node (node v w) → full_node v n ≡ node v w
+full_is v w n h = ap (full_node v) h ∙ full_again v w
 
-pub full_first : (v : View) (w : Walked) (old new : List NodeFields) (n : NodeFields) → old ≡ [] → new ≡ old ++ bare_node n ∷ [] → n ≡ node v w → map (full_node v) new ≡ n ∷ []
-full_first v w old new n z e h = full_more v w old new n e h ∙ ap (λ x. map (full_node v) x ++ n ∷ []) z
+pub full_more : (v : View) (old new : List NodeFields) (n : NodeFields) → new ≡ old ++ n ∷ [] → map (full_node v) new ≡ map (full_node v) old ++ full_node v n ∷ []
+full_more v old new n e = ap (map (full_node v)) e ∙ map-append (full_node v) old (n ∷ [])
 
-pub full_taken : (v : View) (f g : FrameFields) (old new : List NodeFields) (taken : NodeFields × Option FrameFields) → new ≡ old ++ bare_node taken.0 ∷ [] → IsEntryTaken v f (Some taken) g
-    → map (full_node v) new ≡ map (full_node v) old ++ taken.0 ∷ []
-full_taken v f g old new taken e t = full_more v (inside f.path f.above t.entry) old new taken.0 e t.node
+pub full_first : (v : View) (old new : List NodeFields) (n : NodeFields) → old ≡ [] → new ≡ old ++ n ∷ [] → map (full_node v) new ≡ full_node v n ∷ []
+full_first v old new n z e = full_more v old new n e ∙ ap (λ x. map (full_node v) x ++ full_node v n ∷ []) z
 
 -- ---- entries that no name leads to
 some_is : {A : Type 0} (x y : A) → Some x ≡ Some y → x ≡ y

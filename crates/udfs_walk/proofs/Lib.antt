@@ -14,3 +14,4 @@ pub mod PortionGaps
 pub mod BlockOrder
 pub mod BareNodes
 pub mod BareRereads
+pub mod MemoLemmas

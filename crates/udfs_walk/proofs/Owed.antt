@@ -1,9 +1,9 @@
 -- What a walk still owes: all that stands below the entries that are left.
 --     IsWalking v root nodes frames room     the nodes so far, and what the directories still owe, are all
-use Rattle.std.proofs.Common.{◌≡◌, refl, sym, ◌∙◌, ap, subst, ℕ, ◌+◌, ◌<◌, ◌≤◌, false, List, [], ◌∷◌, ◌++◌, Option, None, Some, length, map, arith, append_assoc, length-append}
-use Rattle.std.specs.Prelude.{suc, flat_map, Result, Err, IsErrAnd, MatchResult}
+use Rattle.std.proofs.Common.{◌≡◌, refl, sym, ◌∙◌, ap, subst, ℕ, ◌+◌, ◌<◌, ◌≤◌, false, List, [], ◌∷◌, ◌++◌, Option, None, Some, length, map, arith, append_assoc, length-append, drop, get_or}
+use Rattle.std.specs.Prelude.{suc, flat_map, Result, Err, IfErr, IsErrAnd, MatchResult}
 use Rattle.std.proofs.lemmas.Result.{err_from_is_err_and}
-use Rattle.std.proofs.lemmas.List.{append-nil, length-map}
+use Rattle.std.proofs.lemmas.List.{append-nil, drop_more, length-map}
 use Rattle.udfs_tag.specs.declared.layouts.LongAd.{LongAd}
 use Rattle.udfs_space.specs.Places.{View}
 use Rattle.udfs_file.specs.declared.directories.DirEntry.{DirEntry}
@@ -177,7 +177,19 @@ walk_below v root nodes frames rest f room w e b = tree_more v root 65536 (
     owed_below : DirEntry → List Walked
     owed_below d = tree v (inside f.path f.above d)
 
+-- ---- the next entry
+pub drop_next : {A : Type 0} (xs : List A) (i : ℕ) (x : A) → i < length xs → x ≡ get_or xs i x → drop i xs ≡ x ∷ drop (i + 1) xs
+drop_next xs i x h e = drop_more xs i x h ∙ ap (λ y. y ∷ drop (i + 1) xs) (sym e)
+
 -- ---- an error that is handed up
+pub step_refused : {A : Type 0} (v : View) (most : ℕ) (f : FrameFields) (e : DirEntry) (rest : List DirEntry) (w : Walked) (r : Result A NodesError) (error : NodesError) → IsErrAnd r (λ d. d ≡ error)
+    → f.left ≡ e ∷ rest → w ≡ inside f.path f.above e → AreRefused most (entries_below v w) error → IfErr r (IsStepRefused v most f)
+step_refused v most f e rest w r error h l q a = let x = err_from_is_err_and r h in subst (λ r. IfErr r (IsStepRefused v most f)) (sym (x.1 ∙ ap Err x.2)) (go error a)
+  where
+    go : (d : NodesError) → AreRefused most (entries_below v w) d → IsStepRefused v most f d
+    go TooManyPaths m = record { entry = e; rest = rest; first = l; many = subst (λ z. most < length (entries_below v z)) q m }
+    go OutOfMemory m = tt
+
 pub start_refused : {A : Type 0} (v : View) (root : LongAd) (path : List (List ℕ)) (above : List Icb) (P : A → Type 0) (r : Result A NodesError) (error : NodesError) → IsErrAnd r (λ e. e ≡ error)
     → AreRefused 65535 (entries_below v (end_at root path above false)) error → path ≡ [] → above ≡ [] → MatchResult r P (IsNodesRefused v root)
 start_refused v root path above P r error h a p q = let x = err_from_is_err_and r h in subst (λ r. MatchResult r P (IsNodesRefused v root)) (sym (x.1 ∙ ap Err x.2)) (go error a)

@@ -18,3 +18,4 @@ pub mod NamedKeys
 pub mod NodeBodies
 pub mod Bare
 pub mod Gathering
+pub mod Memos

@@ -1,7 +1,10 @@
 -- The end of a route as code has it.
 --     end_at address path above hidden       the same, put together
 --     AreRefused entries error               why entries are not told
-use Rattle.std.specs.Prelude.{ℕ, ◌<◌, Bool, List, length, ⊤}
+--     AreListed kept entries                 the entries that are kept, if there are any
+use Rattle.std.specs.Prelude.{ℕ, ◌≡◌, ◌<◌, Bool, List, [], length, Option, Some, None, ⊤}
+use Rattle.std.specs.declared.rc.Rc.{Rc}
+use Rattle.std.specs.declared.vec.Vec.{Vec}
 use Rattle.udfs_tag.specs.declared.layouts.LongAd.{LongAd}
 use Rattle.udfs_space.specs.Places.{View}
 use Rattle.udfs_file.specs.Entries.{entry_of}
@@ -35,3 +38,13 @@ Stands view a (Entry bytes) = IsStanding view a.reference a.block bytes
 abbrev pub AreRefused : ℕ → List DirEntry → NodesError → Type 0
 AreRefused most entries TooManyPaths = most < length entries
 AreRefused most entries OutOfMemory = ⊤
+
+-- ---- the entries to which a route goes on, kept for all routes; where there are none they need not be kept
+module _ {Y Z : Type 0} where
+  abbrev pub AreListed : Option (Rc (Vec DirEntry Y) Z) → List DirEntry → Type 0
+  AreListed None entries = entries ≡ []
+  AreListed (Some kept) entries = kept.value.items ≡ entries
+
+  abbrev pub count_listed : Option (Rc (Vec DirEntry Y) Z) → ℕ
+  count_listed None = 0
+  count_listed (Some kept) = length kept.value.items

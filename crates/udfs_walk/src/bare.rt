@@ -5,7 +5,7 @@ ghost use Rattle.udfs_space.specs.Views.{view_now};
 ghost use Rattle.udfs_file.specs.Bodies.{body};
 ghost use Rattle.udfs_file.specs.Entries.{entry_of};
 ghost use Rattle.udfs_file.specs.Stretches.{IsStanding};
-ghost use Rattle.udfs_walk.specs.Bare.{bare_standing, bare_entry, bare_node, body_lists, full_entry, full_node, lists_at, lists_of, no_lists, with_lists};
+ghost use Rattle.udfs_walk.specs.Bare.{bare_standing, bare_entry, body_lists, full_entry, full_node, lists_at, lists_of, no_lists, with_lists};
 ghost use Rattle.udfs_walk.specs.UnnamedEntries.{address_of};
 
 use crate::answers::{Node, Unnamed};
@@ -18,7 +18,7 @@ use udfs_space::View;
 use udfs_tag::LongAd;
 
 /// Nothing that is missing.
-fn no_lists(alloc: Global) -> Torn
+pub(crate) fn no_lists(alloc: Global) -> Torn
     ensures { result ≡ no_lists }
 {
     Torn {
@@ -28,7 +28,7 @@ fn no_lists(alloc: Global) -> Torn
 }
 
 /// What is missing where an entry stands in a block that is not known.
-pub(crate) fn one_block(alloc: Global, n: u32) -> Result<Torn, AllocError>
+fn one_block(alloc: Global, n: u32) -> Result<Torn, AllocError>
     ensures { IfOk result (λ torn. torn ≡ record { missing = n ∷ []; holes = [] }) }
 {
     let missing = vec![in alloc; n]?;
@@ -45,30 +45,6 @@ fn bare(alloc: Global, standing: Standing) -> Standing
         Standing::Torn(_) => Standing::Torn(no_lists(alloc)),
         Standing::Loop => Standing::Loop,
         Standing::Fault(fault) => Standing::Fault(fault),
-    }
-}
-
-/// A node without the blocks and the holes.
-pub(crate) fn bare_node(alloc: Global, node: Node) -> Node
-    ensures { result ≡ bare_node node }
-{
-    let Node {
-        path,
-        icb,
-        kind,
-        size,
-        stamp,
-        hidden,
-        standing,
-    } = node;
-    Node {
-        path,
-        icb,
-        kind,
-        size,
-        stamp,
-        hidden,
-        standing: bare(alloc, standing),
     }
 }
 

@@ -39,11 +39,10 @@ impl Path {
     }
 
     /// The path of a name in a directory.
-    pub(crate) fn inside(alloc: Global, folder: &Names, name: Name) -> Result<Path, AllocError>
-        ensures { IfOk result (λ path. path ≡ shared folder.now.value.items ++ name ∷ []) }
+    pub(crate) fn inside(folder: &Names, name: Rc<Name>) -> Result<Path, AllocError>
+        ensures { IfOk result (λ path. path ≡ shared folder.now.value.items ++ name.value ∷ []) }
     {
         let folder = folder.clone()?;
-        let name = Rc::new(alloc, name)?;
         Ok(Path {
             folder,
             name: Some(name),

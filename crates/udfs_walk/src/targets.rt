@@ -1,7 +1,8 @@
 //! What the address of an information control block leads to.
 
-ghost use Rattle.std.specs.Prelude.{◌≡◌};
+ghost use Rattle.std.specs.Prelude.{◌≡◌, ◌<◌};
 ghost use Rattle.udfs_space.specs.Views.{view_now};
+ghost use Rattle.udfs_walk.specs.NamedKeys.{key_of};
 ghost use Rattle.udfs_walk.specs.Targets.{target};
 ghost use Rattle.udfs_walk.specs.Visits.{Stands, target_now};
 
@@ -10,6 +11,14 @@ use udfs_file::{Entry, NodeFault};
 use udfs_lattice::Fact;
 use udfs_space::View;
 use udfs_tag::LongAd;
+
+/// An ICB as one number.
+pub(crate) fn key(reference: u16, block: u32) -> u64
+    ensures value { result ≡ key_of reference block }
+    ensures block { block < 4294967296 }
+{
+    u64::from(reference) * 4294967296 + u64::from(block)
+}
 
 /// What an address leads to.
 #[derive(Drop)]

@@ -10,25 +10,17 @@ ghost use Rattle.udfs_space.specs.Views.{view_now};
 ghost use Rattle.udfs_walk.specs.UnnamedEntries.{icbs_in, unnamed, unnamed_at};
 ghost use Rattle.udfs_walk.specs.Bare.{full_entry, full_node};
 ghost use Rattle.udfs_walk.specs.NodeFields.{NodeFields};
-ghost use Rattle.udfs_walk.specs.NamedKeys.{AreNamed, key_of};
+ghost use Rattle.udfs_walk.specs.NamedKeys.{AreNamed};
 
 use crate::answers::{Node, Unnamed};
 use crate::bare::{bare_entry, entry_address, full_entries};
-use crate::targets::{Target, target_at};
-use crate::visits::standing_told;
+use crate::targets::{Target, key, target_at};
+use crate::told::body_told;
 use std::alloc::{AllocError, Global};
 use udfs_file::file_sets::address_fault;
 use udfs_lattice::BlockTable;
 use udfs_osta::OutOfMemory;
 use udfs_space::{Space, View};
-
-/// An ICB as one number.
-fn key(reference: u16, block: u32) -> u64
-    ensures value { result ≡ key_of reference block }
-    ensures block { block < 4294967296 }
-{
-    u64::from(reference) * 4294967296 + u64::from(block)
-}
 
 /// The ICBs that nodes name, in rising order.
 fn named(alloc: Global, space: &Space, nodes: &[Node]) -> Result<Vec<u64>, AllocError>
@@ -105,14 +97,14 @@ fn unnamed_at(
             if is_among(keys, key) {
                 return Ok(None);
             }
-            let standing = standing_told(alloc, view, &entry, address, false, false)?;
+            let told = body_told(alloc, view, &entry, address)?;
             Ok(Some(Unnamed {
                 reference,
                 block,
                 kind: entry.kind(),
                 size: entry.size(),
                 stamp: entry.stamp(),
-                standing,
+                standing: told.standing,
             }))
         }
     }

@@ -5,6 +5,7 @@ ghost use Rattle.udfs_lattice.specs.Tables.{state_of};
 ghost use Rattle.udfs_space.specs.Places.{view};
 ghost use Rattle.udfs_space.specs.Views.{view_now};
 ghost use Rattle.udfs_walk.specs.Bare.{bare_node, full_node};
+ghost use Rattle.udfs_walk.specs.Memos.{IsMemo};
 ghost use Rattle.udfs_walk.specs.Nodes.{node};
 ghost use Rattle.udfs_walk.specs.Visits.{AreRefused, end_at};
 ghost use Rattle.udfs_walk.specs.Walks.{AreNodes, IsNodesRefused};
@@ -13,14 +14,15 @@ ghost use Rattle.udfs_walk.specs.Targets.{icb_of};
 ghost use Rattle.udfs_walk.specs.Frames.{IsFrameOf, IsStepRefused, IsEntryTaken, count_left, frame_at, frames_with};
 
 use crate::answers::{Node, NodesError};
-use crate::bare::{bare_node, full_nodes};
+use crate::bare::full_nodes;
+use crate::children::Children;
+use crate::memos::Memo;
 use crate::paths::{Names, Path};
 use crate::visits::{Visit, visited};
 use bitflags::Flags;
 use std::alloc::{AllocError, Global};
 use std::marker::Model;
-use std::vec::IntoIter;
-use udfs_file::{DirEntry, Marks};
+use udfs_file::Marks;
 use udfs_lattice::BlockTable;
 use udfs_space::{Space, View};
 use udfs_tag::LongAd;
@@ -35,18 +37,20 @@ struct Frame {
     names: Names,
     /// The ICBs of the directories on the way, its own among them.
     above: Vec<(u16, u32)>,
-    /// The entries that were not gone into.
-    entries: IntoIter<DirEntry>,
+    /// Its entries.
+    entries: Children,
+    /// How many of them were gone into.
+    passed: usize,
 }
 
 impl Model for Frame {
-    ghost use Rattle.std.specs.Vec.Iter.{into_iter_items};
+    ghost use Rattle.std.specs.Prelude.{drop};
     ghost use Rattle.udfs_walk.specs.Frames.{FrameFields};
     ghost use Rattle.udfs_walk.specs.Paths.{shared};
 
     ghost Value = { FrameFields };
 
-    ghost view = { λ f. record { path = shared f.names.value.items; above = f.above.items; left = into_iter_items f.entries } };
+    ghost view = { λ f. record { path = shared f.names.value.items; above = f.above.items; left = drop f.passed f.entries.value.items } };
 }
 
 /// The ICBs above a directory, and its own.
@@ -64,7 +68,8 @@ fn with_icb(
 }
 
 impl Frame {
-    /// Goes to what stands at the end of a route: its node, and itself as a directory, where a route goes on.
+    /// Goes to what stands at the end of a route: its node, without the blocks and the holes, and itself as a directory,
+    /// where a route goes on.
     fn enter(
         alloc: Global,
         view: View<'_>,
@@ -73,20 +78,26 @@ impl Frame {
         above: &[(u16, u32)],
         hidden: bool,
         most: usize,
+        memo: &mut Memo,
     ) -> Result<(Node, Option<Frame>), NodesError>
-        ensures node { IfOk result (λ entered. entered.0 ≡ node (view_now view.entry) (end_at address path above.now hidden)) }
+        requires { IsMemo (view_now view) memo.old }
+        ensures node { IfOk result (λ entered. entered.0 ≡ bare_node (node (view_now view.entry) (end_at address path above.now hidden))) }
         ensures frame { IfOk result (λ entered. IsFrameOf entered.1 (frame_at (view_now view.entry) (end_at address path above.now hidden))) }
         ensures few { IfOk result (λ entered. count_left entered.1 ≤ most) }
+        ensures memo { IfOk result (λ entered. IsMemo (view_now view.entry) memo.new) }
         ensures refused { IfErr result (AreRefused most (entries_below (view_now view.entry) (end_at address path above.now hidden))) }
     {
-        let Visit { node, entries } = visited(alloc, view, address, path, above, hidden, most)?;
-        if entries.is_empty() {
+        let Visit { node, entries } = visited(
+            alloc, view, address, path, above, hidden, most, memo,
+        )?;
+        let Some(entries) = entries else {
             return Ok((node, None));
-        }
+        };
         let frame = Frame {
             names: node.path.names(alloc)?,
             above: with_icb(alloc, above, address)?,
-            entries: entries.into_iter(),
+            entries,
+            passed: 0,
         };
         Ok((node, Some(frame)))
     }
@@ -97,18 +108,30 @@ impl Frame {
         alloc: Global,
         view: View<'_>,
         most: usize,
+        memo: &mut Memo,
     ) -> Result<Option<(Node, Option<Frame>)>, NodesError>
+        requires { IsMemo (view_now view) memo.old }
         ensures taken { IfOk result (λ taken. IsEntryTaken (view_now view.entry) self.old taken self.new) }
         ensures few { IfOk result (λ taken. MatchOption taken (Unit {0}) (λ entered. count_left entered.1 ≤ most)) }
+        ensures memo { IfOk result (λ taken. IsMemo (view_now view.entry) memo.new) }
         ensures refused { IfErr result (IsStepRefused (view_now view.entry) most self.old) }
     {
-        let Some(entry) = self.entries.next() else {
+        let Some(entry) = self.entries.get(self.passed) else {
             return Ok(None);
         };
-        let DirEntry { name, icb, marks } = entry;
-        let path = Path::inside(alloc, &self.names, name)?;
-        let hidden = marks.contains(Marks::HIDDEN);
-        let entered = Frame::enter(alloc, view, icb, path, &self.above, hidden, most)?;
+        self.passed += 1;
+        let path = Path::inside(&self.names, entry.name.clone()?)?;
+        let hidden = entry.marks.contains(Marks::HIDDEN);
+        let entered = Frame::enter(
+            alloc,
+            view,
+            entry.icb,
+            path,
+            &self.above,
+            hidden,
+            most,
+            memo,
+        )?;
         Ok(Some(entered))
     }
 }
@@ -129,16 +152,16 @@ fn count_left(frame: &Option<Frame>) -> usize
     ensures { result ≡ count_left frame.now }
 {
     match frame {
-        Some(frame) => frame.entries.len(),
+        Some(frame) => frame.entries.len().saturating_sub(frame.passed),
         None => 0,
     }
 }
 
-/// Puts a node behind the others, without the blocks and the holes.
-fn put(alloc: Global, nodes: &mut Vec<Node>, node: Node) -> Result<(), AllocError>
-    ensures { IfOk result (λ done. nodes.new.items ≡ nodes.old.items ++ bare_node node ∷ []) }
+/// Puts a node behind the others.
+fn put(nodes: &mut Vec<Node>, node: Node) -> Result<(), AllocError>
+    ensures { IfOk result (λ done. nodes.new.items ≡ nodes.old.items ++ node ∷ []) }
 {
-    nodes.push(bare_node(alloc, node))?;
+    nodes.push(node)?;
     Ok(())
 }
 
@@ -146,7 +169,7 @@ fn put(alloc: Global, nodes: &mut Vec<Node>, node: Node) -> Result<(), AllocErro
 /// each with all that is below it. The root's address is the one that the file set names.
 ///
 /// An entry that is a directory on its own path is a loop, and is not entered; nor is a directory with 64 names in
-/// its path. A directory is read once for each of its nodes.
+/// its path. The body of an entry is read once for all of its nodes.
 ///
 /// # Errors
 ///
@@ -185,19 +208,20 @@ pub fn bare_nodes(
     let path = Path::root(alloc)?;
     // So many nodes may still be found behind those that were, and behind the entries that are left.
     let mut room: usize = MOST_NODES - 1;
-    let (node, frame) = Frame::enter(alloc, view, root, path, &[], false, room)?;
+    let mut memo = Memo::new(alloc);
+    let (node, frame) = Frame::enter(alloc, view, root, path, &[], false, room, &mut memo)?;
     room -= count_left(&frame);
     let mut nodes = Vec::new(alloc);
-    put(alloc, &mut nodes, node)?;
+    put(&mut nodes, node)?;
     let mut frames = Vec::new(alloc);
     keep(&mut frames, frame)?;
     'walk: while let Some(mut frame) = frames.pop() {
-        let (node, below) = match frame.step(alloc, view, room)? {
+        let (node, below) = match frame.step(alloc, view, room, &mut memo)? {
             None => continue,
             Some(taken) => taken,
         };
         room -= count_left(&below);
-        put(alloc, &mut nodes, node)?;
+        put(&mut nodes, node)?;
         keep(&mut frames, Some(frame))?;
         keep(&mut frames, below)?;
     }

@@ -85,9 +85,9 @@ manifest_rule = record (value_rule (codes "manifest")) { required = false }
 abbrev pub unnamed_rule : Rule
 unnamed_rule = record (value_rule (codes "unnamed")) { required = false }
 
--- `extract (--last N | --size BYTES) [--profile PROFILE] --to DIR [--fill] [--only PATH]... [--manifest FILE] [--unnamed DIR] [--times] IN...`
+-- `extract (--last N | --size BYTES) [--profile PROFILE] --to DIR [--fill] [--only PATH]... [--manifest FILE] [--unnamed DIR] [--times] [--short-names] IN...`
 abbrev pub extract_app : Given → App
-extract_app given = with_inputs (with_rule (with_rule (with_rule (with_rule (with_rule (with_rule (with_profile (codes "extract") given.needs_last) (value_rule (codes "to"))) (flag_rule (codes "fill"))) only_rule) manifest_rule) unnamed_rule) (flag_rule (codes "times"))) given.pairs
+extract_app given = with_inputs (with_rule (with_rule (with_rule (with_rule (with_rule (with_rule (with_rule (with_profile (codes "extract") given.needs_last) (value_rule (codes "to"))) (flag_rule (codes "fill"))) only_rule) manifest_rule) unnamed_rule) (flag_rule (codes "times"))) (flag_rule (codes "short-names"))) given.pairs
 
 -- `forget --out FILE (--conflicts | --blocks LIST)... [--force] IN...`
 abbrev pub forget_app : Given → App

@@ -64,6 +64,9 @@ pub const UNNAMED: &str = "unnamed";
 /// The id of the flag for setting times among the matches.
 pub const TIMES: &str = "times";
 
+/// The id of the flag for short names among the matches.
+pub const SHORT_NAMES: &str = "short-names";
+
 /// The id of the flag for JSON among the matches.
 pub const JSON: &str = "json";
 
@@ -205,7 +208,7 @@ fn bare_extract<'a>(alloc: Global) -> Command<'a>
         )
 }
 
-/// `extract (--last N | --size BYTES) [--profile PROFILE] --to DIR [--fill] [--only PATH]... [--manifest FILE] [--unnamed DIR] [--times] IN...`
+/// `extract (--last N | --size BYTES) [--profile PROFILE] --to DIR [--fill] [--only PATH]... [--manifest FILE] [--unnamed DIR] [--times] [--short-names] IN...`
 fn extract<'a>(alloc: Global, given: Given) -> Result<Command<'a>, AllocError>
     ensures { IfOk result (λ command. app_of command ≡ extract_app given) }
 {
@@ -226,6 +229,11 @@ fn extract<'a>(alloc: Global, given: Given) -> Result<Command<'a>, AllocError>
             alloc,
             TIMES,
             "Set the times of the files and folders to those that the volume has for them",
+        ))?
+        .arg(flag(
+            alloc,
+            SHORT_NAMES,
+            "Write what has a name that is too long under a short one: its beginning and a number",
         ))?;
     with_inputs(alloc, command, given.pairs)
 }

@@ -10,7 +10,7 @@ use udfs_samples::{Bytes, Disc};
 const WORDS: &str = "extract --last 600 --to out --times disc.tab";
 
 /// The stamp of the sample volumes, in microseconds after 1970.
-const SAMPLE: Option<u64> = Some(994_239_000_000_000);
+pub const SAMPLE: Option<u64> = Some(994_239_000_000_000);
 
 /// A stamp of 2004-07-01T12:30:45.123456 without an offset (ECMA-167 1/7.3: type 1, -2047, the year, the rest byte by byte).
 const SUMMER: [u8; 12] = [0x01, 0x18, 0xd4, 7, 7, 1, 12, 30, 45, 12, 34, 56];

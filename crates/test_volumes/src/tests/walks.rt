@@ -4,4 +4,5 @@ mod deep;
 mod memory;
 mod paths;
 mod rows;
+mod shared;
 mod told;

@@ -1,4 +1,4 @@
-use Rattle.std.proofs.Common.{◌∙◌}
+use Rattle.std.proofs.Common.{refl, ◌∙◌}
 use Rattle.udfs_lattice.specs.Records.{join_all}
 use Rattle.udfs_lattice.specs.TableLaws.{join_tables-empty}
 use Rattle.udfs_common.proofs.inputs.joined.Goals as goal
@@ -6,4 +6,4 @@ use Rattle.udfs_common.proofs.inputs.joined.Goals as goal
 pub returns-in-Ok-clause-by_path : goal.returns-in-Ok-clause-by_path
 returns-in-Ok-clause-by_path g c =
     let t = c.in-Ok.ensures.by_path in
-    (t.0, t.1, t.2 ∙ rw c.new-table.ensures (join_tables-empty (join_all t.0)))
+    (t.0, t.1, t.2 c.new-table.result refl ∙ rw c.new-table.ensures (join_tables-empty (join_all t.0)))

@@ -1,11 +1,13 @@
-use Rattle.std.proofs.Common.{rules, ◌≡◌, ◌⊎◌, ◌+◌, ◌++◌, ◌∷◌, ◌≤◌, ℕ, suc, List, [], Some, refl, sym, ◌∙◌, ap, subst, arith, length, length-append, slice_get, drop, map, Bor, false, if◌then◌else◌}
+use Rattle.std.proofs.Common.{rules, ◌≡◌, ◌≢◌, ◌⊎◌, ◌+◌, ◌++◌, ◌∷◌, ◌≤◌, ℕ, suc, Bool, List, [], Option, Some, refl, sym, ◌∙◌, ap, subst, arith, length, length-append, slice_get, string_bytes, drop, map, Bor, false, true, if◌then◌else◌}
 use Rattle.udfs_files.specs.Disk.{Fails}
 use Rattle.udfs_walk.specs.NodeFields.{NodeFields}
+use Rattle.udfs_salvage.specs.NodeTexts.{names_text}
 use Rattle.udfs_salvage.specs.Reports.{report_now}
 use Rattle.udfs_extraction.specs.Extracting.{IsDone, IsPut, TellsLines, TellsOn, fate_line, fate_lines, is_good}
 use Rattle.udfs_extraction.specs.declared.extract.Fate.{Fate}
-use Rattle.udfs_extraction.specs.Manifests.{IsManifest, note_line}
-use Rattle.udfs_extraction.proofs.ManifestLemmas.{manifest_more, manifest_still, noted_line}
+use Rattle.udfs_extraction.specs.Manifests.{AreLines, IsLine, IsNoted, note_line}
+use Rattle.udfs_extraction.specs.ShortNames.{IsWay, own_name, placed}
+use Rattle.udfs_extraction.proofs.ManifestLemmas.{line_more, lines_still, noted_line}
 use Rattle.udfs_extraction.proofs.PutNodes.{all_behind, done_still, each_few, each_map, each_more, good_more, lines_more, one_on, spares_nothing, spares_on, tells_on}
 use Rattle.udfs_extraction.proofs.extract.put_nodes.Goals as goal
 
@@ -14,6 +16,7 @@ loop-index-init g c =
     let F = g.F.Files in
     record {
       put = ([], record { each = tt; lines = record { given = search rules; kept = refl } }, refl, refl, λ wanted told. search rules);
+      way = λ k next. let z : k ≡ 0 = omega (arith, next) in subst (λ x. IsWay c.args.report.now.nodes.items x c.new-way.result.items) (sym z) (λ d. search rules);
       stays = λ told q bytes is. is;
       outside = λ q out. refl;
       elsewhere = λ q other. refl;
@@ -28,7 +31,7 @@ returns-in_err-done-clause-put g c =
       c.loop-index.heard,
       put.0,
       record {
-        each = each_map _ _ (λ k n fate. done_still F.moment F.may_leave F.left_since (map (λ (word : Bor (List ℕ)). word.now) c.args.only.now) F.tells (Fails F.faults ⊎ Fails g.F.Output.Sink.faults) c.args.report.now.table.now (report_now c.args.report.now) c.args.fill c.args.folder.now
+        each = each_map _ _ (λ k n fate. done_still F.moment F.may_leave F.left_since (map (λ (word : Bor (List ℕ)). word.now) c.args.only.now) F.tells (Fails F.faults ⊎ Fails g.F.Output.Sink.faults) c.args.report.now.table.now (report_now c.args.report.now) c.args.fill c.args.short c.args.folder.now
             c.loop-index.files c.put_chosen.new.files (F.holds c.loop-index.files) (F.holds c.put_chosen.new.files) (g.met.F.Files.counts_now c.loop-index.files) step.stays step.crash k n fate) 1 _ put.0 put.1.each;
         lines = put.1.lines;
       },
@@ -41,6 +44,16 @@ returns-in_err-done-clause-crash g c told =
     let inv = c.loop-index.invariant in
     spares_on F.moment F.may_leave F.left_since c.args.files.now c.loop-index.files c.put_chosen.new.files c.args.folder.now (F.holds c.args.files.now) (F.holds c.loop-index.files) (inv.stays told) (inv.crash told) (c.put_chosen.ensures.crash told)
 
+pub returns-in_err-done-clause-elsewhere : goal.returns-in_err-done-clause-elsewhere
+returns-in_err-done-clause-elsewhere g c q other =
+    let inv = c.loop-index.invariant in
+    let after : c.loop-index.index ≡ suc (length inv.put.0) = omega (arith, inv.put.2) in
+    let target = c.in_ok-target.ensures in
+    let is : c.as_str-place.result.now ≡ string_bytes c.in_ok-target.target.text = search rules in
+    let there : (m : NodeFields) → slice_get c.args.report.now.nodes.items c.loop-index.index ≡ Some m → c.as_str-place.result.now ≡ names_text (placed c.args.short (report_now c.args.report.now) c.loop-index.index m)
+    = λ m at. is ∙ target.text m (length inv.put.0) at (sym after) (inv.way (length inv.put.0) (sym after)) in
+    c.put_chosen.ensures.elsewhere q (λ m at chosen e. other c.loop-index.index m at chosen (e ∙ ap (λ t. c.args.folder.now ++ t) (there m at))) ∙ inv.elsewhere q other
+
 pub returns-in_err-note-clause-put : goal.returns-in_err-note-clause-put
 returns-in_err-note-clause-put g c =
     let F = g.F.Files in
@@ -49,7 +62,7 @@ returns-in_err-note-clause-put g c =
       c.loop-index.heard,
       put.0,
       record {
-        each = each_map _ _ (λ k n fate. done_still F.moment F.may_leave F.left_since (map (λ (word : Bor (List ℕ)). word.now) c.args.only.now) F.tells (Fails F.faults ⊎ Fails g.F.Output.Sink.faults) c.args.report.now.table.now (report_now c.args.report.now) c.args.fill c.args.folder.now
+        each = each_map _ _ (λ k n fate. done_still F.moment F.may_leave F.left_since (map (λ (word : Bor (List ℕ)). word.now) c.args.only.now) F.tells (Fails F.faults ⊎ Fails g.F.Output.Sink.faults) c.args.report.now.table.now (report_now c.args.report.now) c.args.fill c.args.short c.args.folder.now
             c.loop-index.files c.put_chosen.new.files (F.holds c.loop-index.files) (F.holds c.put_chosen.new.files) (g.met.F.Files.counts_now c.loop-index.files) step.stays step.crash k n fate) 1 _ put.0 put.1.each;
         lines = put.1.lines;
       },
@@ -62,6 +75,16 @@ returns-in_err-note-clause-crash g c told =
     let inv = c.loop-index.invariant in
     spares_on F.moment F.may_leave F.left_since c.args.files.now c.loop-index.files c.put_chosen.new.files c.args.folder.now (F.holds c.args.files.now) (F.holds c.loop-index.files) (inv.stays told) (inv.crash told) (c.put_chosen.ensures.crash told)
 
+pub returns-in_err-note-clause-elsewhere : goal.returns-in_err-note-clause-elsewhere
+returns-in_err-note-clause-elsewhere g c q other =
+    let inv = c.loop-index.invariant in
+    let after : c.loop-index.index ≡ suc (length inv.put.0) = omega (arith, inv.put.2) in
+    let target = c.in_ok-target.ensures in
+    let is : c.as_str-place.result.now ≡ string_bytes c.in_ok-target.target.text = search rules in
+    let there : (m : NodeFields) → slice_get c.args.report.now.nodes.items c.loop-index.index ≡ Some m → c.as_str-place.result.now ≡ names_text (placed c.args.short (report_now c.args.report.now) c.loop-index.index m)
+    = λ m at. is ∙ target.text m (length inv.put.0) at (sym after) (inv.way (length inv.put.0) (sym after)) in
+    c.put_chosen.ensures.elsewhere q (λ m at chosen e. other c.loop-index.index m at chosen (e ∙ ap (λ t. c.args.folder.now ++ t) (there m at))) ∙ inv.elsewhere q other
+
 pub returns-in_err-heard-clause-put : goal.returns-in_err-heard-clause-put
 returns-in_err-heard-clause-put g c =
     let F = g.F.Files in
@@ -71,9 +94,9 @@ returns-in_err-heard-clause-put g c =
       c.loop-index.heard,
       put.0,
       record {
-        each = each_map _ _ (λ k n fate. done_still F.moment F.may_leave F.left_since (map (λ (word : Bor (List ℕ)). word.now) c.args.only.now) F.tells (Fails F.faults ⊎ Fails g.F.Output.Sink.faults) c.args.report.now.table.now (report_now c.args.report.now) c.args.fill c.args.folder.now
+        each = each_map _ _ (λ k n fate. done_still F.moment F.may_leave F.left_since (map (λ (word : Bor (List ℕ)). word.now) c.args.only.now) F.tells (Fails F.faults ⊎ Fails g.F.Output.Sink.faults) c.args.report.now.table.now (report_now c.args.report.now) c.args.fill c.args.short c.args.folder.now
             c.loop-index.files c.put_chosen.new.files (F.holds c.loop-index.files) (F.holds c.put_chosen.new.files) (g.met.F.Files.counts_now c.loop-index.files) step.stays step.crash k n fate) 1 _ put.0 put.1.each;
-        lines = subst (λ o. TellsLines c.loop-index.heard (S.contents c.args.out.now) (S.contents o) (S.faults c.args.out.now) (S.faults o) (fate_lines (drop 1 c.args.report.now.nodes.items) put.0)) (sym c.in_err-heard.ensures.memory) put.1.lines;
+        lines = subst (λ o. TellsLines c.loop-index.heard (S.contents c.args.out.now) (S.contents o) (S.faults c.args.out.now) (S.faults o) (fate_lines (own_name c.args.short (report_now c.args.report.now)) (drop 1 c.args.report.now.nodes.items) put.0)) (sym c.in_err-heard.ensures.memory) put.1.lines;
       },
       search rules,
     )
@@ -84,44 +107,72 @@ returns-in_err-heard-clause-crash g c told =
     let inv = c.loop-index.invariant in
     spares_on F.moment F.may_leave F.left_since c.args.files.now c.loop-index.files c.put_chosen.new.files c.args.folder.now (F.holds c.args.files.now) (F.holds c.loop-index.files) (inv.stays told) (inv.crash told) (c.put_chosen.ensures.crash told)
 
+pub returns-in_err-heard-clause-elsewhere : goal.returns-in_err-heard-clause-elsewhere
+returns-in_err-heard-clause-elsewhere g c q other =
+    let inv = c.loop-index.invariant in
+    let after : c.loop-index.index ≡ suc (length inv.put.0) = omega (arith, inv.put.2) in
+    let target = c.in_ok-target.ensures in
+    let is : c.as_str-place.result.now ≡ string_bytes c.in_ok-target.target.text = search rules in
+    let there : (m : NodeFields) → slice_get c.args.report.now.nodes.items c.loop-index.index ≡ Some m → c.as_str-place.result.now ≡ names_text (placed c.args.short (report_now c.args.report.now) c.loop-index.index m)
+    = λ m at. is ∙ target.text m (length inv.put.0) at (sym after) (inv.way (length inv.put.0) (sym after)) in
+    c.put_chosen.ensures.elsewhere q (λ m at chosen e. other c.loop-index.index m at chosen (e ∙ ap (λ t. c.args.folder.now ++ t) (there m at))) ∙ inv.elsewhere q other
+
 pub loop-index-preserved : goal.loop-index-preserved
 loop-index-preserved g c =
     let F = g.F.Files in
     let S = g.O.Sink in
     let inv = c.loop-index.invariant in
+    let after : c.loop-index.index ≡ suc (length inv.put.0) = omega (arith, inv.put.2) in
+    let target = c.in_ok-target.ensures in
+    let is : c.as_str-place.result.now ≡ string_bytes c.in_ok-target.target.text = search rules in
+    let there : (m : NodeFields) → slice_get c.args.report.now.nodes.items c.loop-index.index ≡ Some m → c.as_str-place.result.now ≡ names_text (placed c.args.short (report_now c.args.report.now) c.loop-index.index m)
+    = λ m at. is ∙ target.text m (length inv.put.0) at (sym after) (inv.way (length inv.put.0) (sym after)) in
     let fates = inv.put.0 in
     let fate = c.in_ok-done.done.fate in
     let n = c.node_at-node.result.now in
+    let report = report_now c.args.report.now in
+    let own = own_name c.args.short report in
     let seen : c.node.inside.path ≡ n.path = search rules in
     let nodes = c.args.report.now.nodes.items in
     let step = c.put_chosen.ensures in
-    let P : ℕ → NodeFields → Fate → Type 0 = IsDone (map (λ (word : Bor (List ℕ)). word.now) c.args.only.now) (IsPut F.tells (Fails F.faults ⊎ Fails g.F.Output.Sink.faults) c.args.report.now.table.now (report_now c.args.report.now) c.args.fill c.args.folder.now (F.holds c.put_chosen.new.files) (F.moment c.put_chosen.new.files) (F.left_since c.put_chosen.new.files)) in
-    let count : length fates + 1 ≡ c.loop-index.index = inv.put.2 in
-    let after : c.loop-index.index ≡ suc (length fates) = omega (arith, count) in
+    let index = c.loop-index.index in
+    let names = placed c.args.short report index n in
+    let here : c.as_str-place.result.now ≡ names_text names = there n c.node_at-node.ensures in
+    let P : ℕ → NodeFields → Fate → Type 0 = IsDone (map (λ (word : Bor (List ℕ)). word.now) c.args.only.now) (IsPut F.tells (Fails F.faults ⊎ Fails g.F.Output.Sink.faults) c.args.report.now.table.now (report_now c.args.report.now) c.args.fill c.args.short c.args.folder.now (F.holds c.put_chosen.new.files) (F.moment c.put_chosen.new.files) (F.left_since c.put_chosen.new.files)) in
+    let count : length fates + 1 ≡ index = inv.put.2 in
     let at : slice_get (drop 1 nodes) (length fates) ≡ Some n = one_on nodes (length fates) ∙ subst (λ k. slice_get nodes k ≡ Some n) after c.node_at-node.ensures in
+    let short_one : c.in_ok-target.target.own ≡ own n = target.own n c.node_at-node.ensures in
     record {
       put = (
         fates ++ fate ∷ [],
         record {
           each = each_more P 1 (drop 1 nodes) fates n fate at
-              (each_map _ P (λ k m f. done_still F.moment F.may_leave F.left_since (map (λ (word : Bor (List ℕ)). word.now) c.args.only.now) F.tells (Fails F.faults ⊎ Fails g.F.Output.Sink.faults) c.args.report.now.table.now (report_now c.args.report.now) c.args.fill c.args.folder.now
+              (each_map _ P (λ k m f. done_still F.moment F.may_leave F.left_since (map (λ (word : Bor (List ℕ)). word.now) c.args.only.now) F.tells (Fails F.faults ⊎ Fails g.F.Output.Sink.faults) c.args.report.now.table.now (report_now c.args.report.now) c.args.fill c.args.short c.args.folder.now
               c.loop-index.files c.put_chosen.new.files (F.holds c.loop-index.files) (F.holds c.put_chosen.new.files) (g.met.F.Files.counts_now c.loop-index.files) step.stays step.crash k m f) 1 _ fates inv.put.1.each)
-              (subst (λ k. P k n fate) (sym count) (c.in_ok-done.ensures.put n c.node_at-node.ensures));
-          lines = subst (λ t. TellsLines c.in_ok-heard.heard (S.contents c.args.out.now) (S.contents c.tell.new.out) (S.faults c.args.out.now) (S.faults c.tell.new.out) t) (sym (lines_more (drop 1 nodes) fates n fate at))
-              (tells_on c.loop-index.heard c.in_ok-heard.heard (S.contents c.args.out.now) (S.contents c.loop-index.out) (S.contents c.tell.new.out) (S.faults c.args.out.now) (S.faults c.loop-index.out) (S.faults c.tell.new.out) (fate_lines (drop 1 nodes) fates) (fate_line fate n.path) inv.put.1.lines
-              (subst (λ (names : List (List ℕ)). TellsOn c.loop-index.heard c.in_ok-heard.heard (S.contents c.loop-index.out) (S.contents c.tell.new.out) (S.faults c.loop-index.out) (S.faults c.tell.new.out) (fate_line fate names)) seen c.in_ok-heard.ensures.lines));
+              (subst (λ k. P k n fate) (sym count) (c.in_ok-done.ensures.put n c.args.short c.node_at-node.ensures here));
+          lines = subst (λ t. TellsLines c.in_ok-heard.heard (S.contents c.args.out.now) (S.contents c.tell.new.out) (S.faults c.args.out.now) (S.faults c.tell.new.out) t) (sym (lines_more own (drop 1 nodes) fates n fate at))
+              (tells_on c.loop-index.heard c.in_ok-heard.heard (S.contents c.args.out.now) (S.contents c.loop-index.out) (S.contents c.tell.new.out) (S.faults c.args.out.now) (S.faults c.loop-index.out) (S.faults c.tell.new.out) (fate_lines own (drop 1 nodes) fates) (fate_line fate n.path (own n)) inv.put.1.lines
+              (subst (λ (o : Option (List ℕ)). TellsOn c.loop-index.heard c.in_ok-heard.heard (S.contents c.loop-index.out) (S.contents c.tell.new.out) (S.faults c.loop-index.out) (S.faults c.tell.new.out) (fate_line fate n.path o)) short_one
+              (subst (λ (path : List (List ℕ)). TellsOn c.loop-index.heard c.in_ok-heard.heard (S.contents c.loop-index.out) (S.contents c.tell.new.out) (S.faults c.loop-index.out) (S.faults c.tell.new.out) (fate_line fate path c.in_ok-target.target.own)) seen c.in_ok-heard.ensures.lines)));
         },
         (let more = length-append fates (fate ∷ []) in omega (arith, count, more)),
         c.still_good-good.ensures ∙ ap (λ b. if is_good fate then b else false) inv.put.3 ∙ sym (good_more fates fate),
         λ wanted told.
-            let still = manifest_still c.args.folder.now (F.holds c.loop-index.files) (F.holds c.put_chosen.new.files) (step.stays told) (drop 1 nodes) fates c.loop-index.manifest.items (inv.put.4 wanted told) in
-            let one = noted_line c.args.digest F.tells (F.holds c.put_chosen.new.files) c.args.folder.now n fate c.in_ok-done.done.digest wanted told (c.in_ok-done.ensures.digest n c.node_at-node.ensures) in
-            let more = manifest_more (F.holds c.put_chosen.new.files) c.args.folder.now (drop 1 nodes) fates n fate c.loop-index.manifest.items _ at still one in
-            subst (λ t. IsManifest (F.holds c.put_chosen.new.files) c.args.folder.now (drop 1 nodes) (fates ++ fate ∷ []) t) (sym (subst (λ (names : List (List ℕ)). c.note.new.manifest.items ≡ c.loop-index.manifest.items ++ note_line fate c.in_ok-done.done.digest names) seen c.in_ok-note.ensures)) more,
+            let holds = F.holds c.put_chosen.new.files in
+            let folder = c.args.folder.now in
+            let still = lines_still (placed c.args.short report) folder (F.holds c.loop-index.files) holds (step.stays told) 1 (drop 1 nodes) fates c.loop-index.manifest.items (inv.put.4 wanted told) in
+            let noted = subst (λ t. IsNoted c.args.digest F.tells holds (folder ++ t) fate c.in_ok-done.done.digest) here c.in_ok-done.ensures.digest in
+            let one = noted_line c.args.digest F.tells holds folder names fate c.in_ok-done.done.digest wanted told noted in
+            let line = note_line fate c.in_ok-done.done.digest (names_text names) in
+            let more = line_more (placed c.args.short report) holds folder 1 (drop 1 nodes) fates n fate c.loop-index.manifest.items line at still (subst (λ k. IsLine holds folder (placed c.args.short report k n) fate line) (sym count) one) in
+            subst (λ t. AreLines (placed c.args.short report) holds folder 1 (drop 1 nodes) (fates ++ fate ∷ []) t) (sym (subst (λ t. c.note.new.manifest.items ≡ c.loop-index.manifest.items ++ note_line fate c.in_ok-done.done.digest t) here c.in_ok-note.ensures)) more,
       );
+      way = λ k next.
+          let e : k ≡ index = omega (arith, next) in
+          subst (λ x. IsWay nodes x c.place_of.new.way.items) (sym e) (target.way (length fates) (sym after) (inv.way (length fates) (sym after)));
       stays = λ told q bytes is. step.stays told q bytes (inv.stays told q bytes is);
       outside = λ q out. step.outside q out ∙ inv.outside q out;
-      elsewhere = λ q other. step.elsewhere q other ∙ inv.elsewhere q other;
+      elsewhere = λ q other. step.elsewhere q (λ m at chosen e. other index m at chosen (e ∙ ap (λ t. c.args.folder.now ++ t) (there m at))) ∙ inv.elsewhere q other;
       crash = λ told. spares_on F.moment F.may_leave F.left_since c.args.files.now c.loop-index.files c.put_chosen.new.files c.args.folder.now (F.holds c.args.files.now) (F.holds c.loop-index.files) (inv.stays told) (inv.crash told) (step.crash told);
     }
 

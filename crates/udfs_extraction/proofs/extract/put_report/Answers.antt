@@ -33,4 +33,4 @@ returns-else-not-told-clause-put g c =
     let heard : put.0 ≡ true = search rules in
     let named : list_all (is_node nodes) only ≡ true = search rules in
     let whole : c.in_ok-whole-in-Open.whole ≡ list_all (λ (n : NodeFields). is_whole n.standing) (chosen only nodes) = search rules in
-    by_open _ _ c.in-Open.is _ _ (puts_with _ _ _ _ _ _ _ _ _ put.1 put.0 c.in-Ok.told.good c.in_ok-whole-in-Open.whole c.in-Ok.told.manifest.items named put.2 put.3.0 heard put.3.2 whole c.is_all_good.ensures put.3.3)
+    by_open _ _ c.in-Open.is _ _ (puts_with _ _ _ _ _ _ _ _ _ _ put.1 put.0 c.in-Ok.told.good c.in_ok-whole-in-Open.whole c.in-Ok.told.manifest.items named put.2 put.3.0 heard put.3.2 whole c.is_all_good.ensures put.3.3)

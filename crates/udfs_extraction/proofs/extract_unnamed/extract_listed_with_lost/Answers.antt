@@ -4,10 +4,10 @@ use Rattle.udfs_extraction.proofs.ManifestLemmas.{lists_chosen, nothing_listed}
 use Rattle.udfs_extraction.proofs.extract_unnamed.extract_listed_with_lost.Goals as goal
 
 pub returns-in-Err-clause-spares : goal.returns-in-Err-clause-spares
-returns-in-Err-clause-spares g c = (c.args.files.now, nothing_listed _ _ _ _ _ _ _ _, nothing_lost _ _ _ _ _ _ _)
+returns-in-Err-clause-spares g c = (c.args.files.now, nothing_listed _ _ _ _ _ _ _ _ _, nothing_lost _ _ _ _ _ _ _)
 
 pub returns-in_err-report-clause-spares : goal.returns-in_err-report-clause-spares
-returns-in_err-report-clause-spares g c = (c.args.files.now, nothing_listed _ _ _ _ _ _ _ _, nothing_lost _ _ _ _ _ _ _)
+returns-in_err-report-clause-spares g c = (c.args.files.now, nothing_listed _ _ _ _ _ _ _ _ _, nothing_lost _ _ _ _ _ _ _)
 
 pub returns-in-Err-list_report-clause-spares : goal.returns-in-Err-list_report-clause-spares
 returns-in-Err-list_report-clause-spares g c = (c.list_report.new.files, c.list_report.ensures.spares, nothing_lost _ _ _ _ _ _ _)
@@ -30,7 +30,7 @@ returns-in-Ok-put_lost-clause-added g c =
         between = c.list_report.new.out;
         nodes_good = c.in-Ok-list_report.made;
         lost_good = c.in-Ok-put_lost.good;
-        nodes = lists_chosen _ _ _ _ _ _ _ _ _ _ _ _ _ _ _ _ _ _ l.0 told c.in_ok-report.ensures.of.0 of.2 c.in_ok-report.ensures.report l.1 l.2;
+        nodes = lists_chosen _ _ _ _ _ _ _ _ _ _ _ _ _ _ _ _ _ _ _ l.0 told c.in_ok-report.ensures.of.0 of.2 c.in_ok-report.ensures.report l.1 l.2;
         lost = lost_of _ _ _ _ _ _ _ _ _ _ _ _ told c.in_ok-report.ensures.of.0 of.2 c.in_ok-report.ensures.report c.in-Ok-put_lost.ensures.put c.put_lost.ensures.spares;
         says = c.is_all_good.ensures;
       },

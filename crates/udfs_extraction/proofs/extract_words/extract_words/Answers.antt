@@ -9,11 +9,13 @@ pub returns-in-Ok-clause-chosen : goal.returns-in-Ok-clause-chosen
 returns-in-Ok-clause-chosen g c =
     let only : map (λ (p : Bor (List ℕ)). p.now) c.unwrap_or-only.result.now ≡ only_texts (found_of c.args.words.now) = paths_or _ _ _ _ (codes "/" ∷ []) c.get_strs.ensures refl c.unwrap_or-only.ensures in (
       c.asked_fill-fill.result,
+      c.asked_short-short.result,
       c.in_ok-last.last,
       c.asked_profile-profile.result,
       c.as_slice-paths.result.now,
       search rules,
       record { with_flag = c.asked_fill-fill.ensures.with; without_flag = c.asked_fill-fill.ensures.without; unknown_flag = c.asked_fill-fill.ensures.unset },
+      c.asked_short-short.ensures,
       c.in_ok-last.ensures.last,
       c.asked_profile-profile.ensures,
       rw (← c.asked_folder-folder.ensures) (rw (← only) c.in-Ok.ensures.chosen),
@@ -25,12 +27,14 @@ returns-in-Ok-clause-extracted g c none =
     let all : map (λ (p : Bor (List ℕ)). p.now) c.unwrap_or-only.result.now ≡ codes "/" ∷ [] = only ∙ all_asked (found_of c.args.words.now) none in
     let done = rw all at c.in-Ok.ensures.chosen in (
       c.asked_fill-fill.result,
+      c.asked_short-short.result,
       c.in_ok-last.last,
       c.asked_profile-profile.result,
       c.as_slice-paths.result.now,
       search rules,
       record { with_flag = c.asked_fill-fill.ensures.with; without_flag = c.asked_fill-fill.ensures.without; unknown_flag = c.asked_fill-fill.ensures.unset },
+      c.asked_short-short.ensures,
       c.in_ok-last.ensures.last,
       c.asked_profile-profile.ensures,
-      rw (← c.asked_folder-folder.ensures) (done.0, done.1, extracts_all _ _ _ _ _ _ _ _ _ _ _ _ _ done.2),
+      rw (← c.asked_folder-folder.ensures) (done.0, done.1, extracts_all _ _ _ _ _ _ _ _ _ _ _ _ _ _ done.2),
     )

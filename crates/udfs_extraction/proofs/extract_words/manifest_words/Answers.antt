@@ -7,16 +7,16 @@ use Rattle.udfs_extraction.proofs.ManifestLemmas.{lists_by, nothing_listed, spar
 use Rattle.udfs_extraction.proofs.extract_words.manifest_words.Goals as goal
 
 pub returns-in_err-inputs-clause-spares : goal.returns-in_err-inputs-clause-spares
-returns-in_err-inputs-clause-spares g c = nothing_listed _ _ _ _ _ _ _ _
+returns-in_err-inputs-clause-spares g c = (c.asked_short-short.result, c.asked_short-short.ensures, nothing_listed _ _ _ _ _ _ _ _ _)
 
 pub returns-in-Err-Output-clause-spares : goal.returns-in-Err-Output-clause-spares
-returns-in-Err-Output-clause-spares g c = nothing_listed _ _ _ _ _ _ _ _
+returns-in-Err-Output-clause-spares g c = (c.asked_short-short.result, c.asked_short-short.ensures, nothing_listed _ _ _ _ _ _ _ _ _)
 
 pub returns-in-Err-clause-spares : goal.returns-in-Err-clause-spares
-returns-in-Err-clause-spares g c = nothing_listed _ _ _ _ _ _ _ _
+returns-in-Err-clause-spares g c = (c.asked_short-short.result, c.asked_short-short.ensures, nothing_listed _ _ _ _ _ _ _ _ _)
 
 pub returns-in_err-last-clause-spares : goal.returns-in_err-last-clause-spares
-returns-in_err-last-clause-spares g c = nothing_listed _ _ _ _ _ _ _ _
+returns-in_err-last-clause-spares g c = (c.asked_short-short.result, c.asked_short-short.ensures, nothing_listed _ _ _ _ _ _ _ _ _)
 
 pub returns-in-Ok-extract_listed-clause-listed : goal.returns-in-Ok-extract_listed-clause-listed
 returns-in-Ok-extract_listed-clause-listed g c =
@@ -26,17 +26,19 @@ returns-in-Ok-extract_listed-clause-listed g c =
     let of_nodes = rw only at c.in-Ok-extract_listed.ensures.listed in
     let listed = rw c.asked_folder-folder.ensures at of_nodes in (
       c.asked_fill-fill.result,
+      c.asked_short-short.result,
       c.in_ok-last.last,
       c.asked_profile-profile.result,
       c.as_slice-paths.result.now,
       search rules,
       record { with_flag = c.asked_fill-fill.ensures.with; without_flag = c.asked_fill-fill.ensures.without; unknown_flag = c.asked_fill-fill.ensures.unset },
+      c.asked_short-short.ensures,
       c.in_ok-last.ensures.last,
       c.asked_profile-profile.ensures,
       (
         listed.0,
         listed.1,
-        lists_by _ _ _ _ _ _ _ _ _ _ _ _ _ _ _ _ _ (λ f text put told. subst (λ p. IsPutLast F.holds F.may_leave F.moment F.left_since p f c.extract_listed.new.files text) (at told) (put told)) listed.2,
+        lists_by _ _ _ _ _ _ _ _ _ _ _ _ _ _ _ _ _ _ (λ f text put told. subst (λ p. IsPutLast F.holds F.may_leave F.moment F.left_since p f c.extract_listed.new.files text) (at told) (put told)) listed.2,
       ),
     )
 
@@ -44,10 +46,10 @@ pub returns-in-Ok-extract_listed-clause-spares : goal.returns-in-Ok-extract_list
 returns-in-Ok-extract_listed-clause-spares g c =
     let F = g.F.Files in
     let at : F.tells → c.as_str.result.now ≡ F.real c.args.files.now (manifest_text (found_of c.args.words.now)) = λ told. search rules in
-    spares_at_place _ _ _ _ _ _ _ _ _ _ at (rw (← c.asked_folder-folder.ensures) c.extract_listed.ensures.spares)
+    (c.asked_short-short.result, c.asked_short-short.ensures, spares_at_place _ _ _ _ _ _ _ _ _ _ _ at (rw (← c.asked_folder-folder.ensures) c.extract_listed.ensures.spares))
 
 pub returns-clause-spares : goal.returns-clause-spares
 returns-clause-spares g c =
     let F = g.F.Files in
     let at : F.tells → c.as_str.result.now ≡ F.real c.args.files.now (manifest_text (found_of c.args.words.now)) = λ told. search rules in
-    spares_at_place _ _ _ _ _ _ _ _ _ _ at (rw (← c.asked_folder-folder.ensures) c.extract_listed.ensures.spares)
+    (c.asked_short-short.result, c.asked_short-short.ensures, spares_at_place _ _ _ _ _ _ _ _ _ _ _ at (rw (← c.asked_folder-folder.ensures) c.extract_listed.ensures.spares))

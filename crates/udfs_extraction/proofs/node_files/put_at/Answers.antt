@@ -16,7 +16,7 @@ returns-in_err-done-in-File-clause-crash g c told folder is_in =
     spares_at F.moment F.may_leave F.left_since _ _ folder c.args.path.now _ is_in c.write_file.ensures.crash (c.write_file.ensures.stays told)
 
 pub returns-in-Folder-clause-put : goal.returns-in-Folder-clause-put
-returns-in-Folder-clause-put g c n folder at path =
+returns-in-Folder-clause-put g c n short folder at path =
     let same : c.node_at.result.now ≡ n = let e = sym c.node_at.ensures ∙ at in cc in
     let made : deed n.kind n.standing n.size c.args.fill ≡ Folder = subst (λ (m : NodeFields). deed m.kind m.standing m.size c.args.fill ≡ Folder) same (sym c.deed_for.ensures ∙ c.in-Folder.is) in
     record {
@@ -26,7 +26,7 @@ returns-in-Folder-clause-put g c n folder at path =
     }
 
 pub returns-in_ok-done-in-File-clause-put : goal.returns-in_ok-done-in-File-clause-put
-returns-in_ok-done-in-File-clause-put g c n folder at path =
+returns-in_ok-done-in-File-clause-put g c n short folder at path =
     let F = g.F.Files in
     let same : c.node_at.result.now ≡ n = let e = sym c.node_at.ensures ∙ at in cc in
     let made : deed n.kind n.standing n.size c.args.fill ≡ File = subst (λ (m : NodeFields). deed m.kind m.standing m.size c.args.fill ≡ File) same (sym c.deed_for.ensures ∙ c.in-File.is) in
@@ -52,7 +52,7 @@ returns-in_ok-done-in-File-clause-crash g c told folder is_in =
     spares_at F.moment F.may_leave F.left_since _ _ folder c.args.path.now _ is_in c.write_file.ensures.crash (c.write_file.ensures.stays told)
 
 pub returns-in-Skip-clause-put : goal.returns-in-Skip-clause-put
-returns-in-Skip-clause-put g c n folder at path =
+returns-in-Skip-clause-put g c n short folder at path =
     let same : c.node_at.result.now ≡ n = let e = sym c.node_at.ensures ∙ at in cc in
     let made : deed n.kind n.standing n.size c.args.fill ≡ Skip = subst (λ (m : NodeFields). deed m.kind m.standing m.size c.args.fill ≡ Skip) same (sym c.deed_for.ensures ∙ c.in-Skip.is) in
     record {

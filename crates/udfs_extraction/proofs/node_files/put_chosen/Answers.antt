@@ -4,12 +4,26 @@ use Rattle.udfs_extraction.specs.Choosing.{is_chosen}
 use Rattle.udfs_extraction.proofs.node_files.put_chosen.Goals as goal
 
 pub returns-in-Ok-clause-put : goal.returns-in-Ok-clause-put
-returns-in-Ok-clause-put g c n at =
+returns-in-Ok-clause-put g c n short at placed_at =
     let only = map (λ (word : Bor (List ℕ)). word.now) c.args.only.now in
     let same : c.node_at-node.result.now ≡ n = let e = sym c.node_at-node.ensures ∙ at in cc in
     let seen : c.node.inside.path ≡ c.node_at-node.result.now.path = search rules in
     let asked : is_chosen only n.path ≡ true = subst (λ (p : List (List ℕ)). is_chosen only p ≡ true) (seen ∙ ap (λ (m : NodeFields). m.path) same) (sym c.in_ok-is_chosen.ensures ∙ c.if-branch.true) in
     record {
-      asked = λ is. c.in-Ok.ensures.put n at;
+      asked = λ is. c.in-Ok.ensures.put n short at placed_at;
       passed = λ is. let bad : true ≡ false = sym asked ∙ is in cc;
     }
+
+pub returns-in-Ok-clause-elsewhere : goal.returns-in-Ok-clause-elsewhere
+returns-in-Ok-clause-elsewhere g c q other =
+    let only = map (λ (word : Bor (List ℕ)). word.now) c.args.only.now in
+    let seen : c.node.inside.path ≡ c.node_at-node.result.now.path = search rules in
+    let asked : is_chosen only c.node_at-node.result.now.path ≡ true = subst (λ (p : List (List ℕ)). is_chosen only p ≡ true) seen (sym c.in_ok-is_chosen.ensures ∙ c.if-branch.true) in
+    c.put_node.ensures.elsewhere q (other c.node_at-node.result.now c.node_at-node.ensures asked)
+
+pub returns-in-Err-clause-elsewhere : goal.returns-in-Err-clause-elsewhere
+returns-in-Err-clause-elsewhere g c q other =
+    let only = map (λ (word : Bor (List ℕ)). word.now) c.args.only.now in
+    let seen : c.node.inside.path ≡ c.node_at-node.result.now.path = search rules in
+    let asked : is_chosen only c.node_at-node.result.now.path ≡ true = subst (λ (p : List (List ℕ)). is_chosen only p ≡ true) seen (sym c.in_ok-is_chosen.ensures ∙ c.if-branch.true) in
+    c.put_node.ensures.elsewhere q (other c.node_at-node.result.now c.node_at-node.ensures asked)

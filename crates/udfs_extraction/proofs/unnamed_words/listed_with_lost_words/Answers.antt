@@ -8,19 +8,19 @@ use Rattle.udfs_extraction.proofs.ManifestLemmas.{lists_by, nothing_listed, spar
 use Rattle.udfs_extraction.proofs.unnamed_words.listed_with_lost_words.Goals as goal
 
 pub returns-in_err-inputs-clause-spares : goal.returns-in_err-inputs-clause-spares
-returns-in_err-inputs-clause-spares g c = (c.args.files.now, nothing_listed _ _ _ _ _ _ _ _, nothing_lost _ _ _ _ _ _ _)
+returns-in_err-inputs-clause-spares g c = (c.args.files.now, (c.asked_short-short.result, c.asked_short-short.ensures, nothing_listed _ _ _ _ _ _ _ _ _), nothing_lost _ _ _ _ _ _ _)
 
 pub returns-in-Err-Output-clause-spares : goal.returns-in-Err-Output-clause-spares
-returns-in-Err-Output-clause-spares g c = (c.args.files.now, nothing_listed _ _ _ _ _ _ _ _, nothing_lost _ _ _ _ _ _ _)
+returns-in-Err-Output-clause-spares g c = (c.args.files.now, (c.asked_short-short.result, c.asked_short-short.ensures, nothing_listed _ _ _ _ _ _ _ _ _), nothing_lost _ _ _ _ _ _ _)
 
 pub returns-in-Err-clause-spares : goal.returns-in-Err-clause-spares
-returns-in-Err-clause-spares g c = (c.args.files.now, nothing_listed _ _ _ _ _ _ _ _, nothing_lost _ _ _ _ _ _ _)
+returns-in-Err-clause-spares g c = (c.args.files.now, (c.asked_short-short.result, c.asked_short-short.ensures, nothing_listed _ _ _ _ _ _ _ _ _), nothing_lost _ _ _ _ _ _ _)
 
 pub returns-in-Err-find_new_folder-clause-spares : goal.returns-in-Err-find_new_folder-clause-spares
-returns-in-Err-find_new_folder-clause-spares g c = (c.args.files.now, nothing_listed _ _ _ _ _ _ _ _, nothing_lost _ _ _ _ _ _ _)
+returns-in-Err-find_new_folder-clause-spares g c = (c.args.files.now, (c.asked_short-short.result, c.asked_short-short.ensures, nothing_listed _ _ _ _ _ _ _ _ _), nothing_lost _ _ _ _ _ _ _)
 
 pub returns-in_err-last-clause-spares : goal.returns-in_err-last-clause-spares
-returns-in_err-last-clause-spares g c = (c.args.files.now, nothing_listed _ _ _ _ _ _ _ _, nothing_lost _ _ _ _ _ _ _)
+returns-in_err-last-clause-spares g c = (c.args.files.now, (c.asked_short-short.result, c.asked_short-short.ensures, nothing_listed _ _ _ _ _ _ _ _ _), nothing_lost _ _ _ _ _ _ _)
 
 pub returns-in-Ok-extract_listed_with_lost-clause-added : goal.returns-in-Ok-extract_listed_with_lost-clause-added
 returns-in-Ok-extract_listed_with_lost-clause-added g c =
@@ -32,17 +32,19 @@ returns-in-Ok-extract_listed_with_lost-clause-added g c =
     let added = rw c.asked_lost_folder-lost.ensures at to_folder in
     record {
       fill = c.asked_fill-fill.result;
+      short = c.asked_short-short.result;
       last = c.in_ok-last.last;
       profile = c.asked_profile-profile.result;
       inputs = c.as_slice-paths.result.now;
       are_inputs = search rules;
       is_fill = record { with_flag = c.asked_fill-fill.ensures.with; without_flag = c.asked_fill-fill.ensures.without; unknown_flag = c.asked_fill-fill.ensures.unset };
+      is_short = c.asked_short-short.ensures;
       is_last = c.in_ok-last.ensures.last;
       is_profile = c.asked_profile-profile.ensures;
       of_inputs = (
         added.0,
         added.1,
-        adds_by _ _ _ _ _ (λ mid between good listed. lists_by _ _ _ _ _ _ _ _ _ _ _ _ _ _ _ _ _
+        adds_by _ _ _ _ _ (λ mid between good listed. lists_by _ _ _ _ _ _ _ _ _ _ _ _ _ _ _ _ _ _
             (λ f text put told. subst (λ p. IsPutLast F.holds F.may_leave F.moment F.left_since p f mid text) (at told) (put told)) listed) added.2,
       );
     }
@@ -52,11 +54,11 @@ returns-in-Ok-extract_listed_with_lost-clause-spares g c =
     let F = g.F.Files in
     let at : F.tells → c.as_str.result.now ≡ F.real c.args.files.now (manifest_text (found_of c.args.words.now)) = λ told. search rules in
     let s = rw c.asked_folder-folder.ensures at (rw c.asked_lost_folder-lost.ensures at c.extract_listed_with_lost.ensures.spares) in
-    (s.0, spares_at_place _ _ _ _ _ _ _ _ _ _ at s.1, s.2)
+    (s.0, (c.asked_short-short.result, c.asked_short-short.ensures, spares_at_place _ _ _ _ _ _ _ _ _ _ _ at s.1), s.2)
 
 pub returns-clause-spares : goal.returns-clause-spares
 returns-clause-spares g c =
     let F = g.F.Files in
     let at : F.tells → c.as_str.result.now ≡ F.real c.args.files.now (manifest_text (found_of c.args.words.now)) = λ told. search rules in
     let s = rw c.asked_folder-folder.ensures at (rw c.asked_lost_folder-lost.ensures at c.extract_listed_with_lost.ensures.spares) in
-    (s.0, spares_at_place _ _ _ _ _ _ _ _ _ _ at s.1, s.2)
+    (s.0, (c.asked_short-short.result, c.asked_short-short.ensures, spares_at_place _ _ _ _ _ _ _ _ _ _ _ at s.1), s.2)

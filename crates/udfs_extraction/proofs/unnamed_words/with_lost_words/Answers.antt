@@ -20,11 +20,13 @@ returns-in-Ok-extract_with_lost-clause-added g c =
     let only : map (λ (p : Bor (List ℕ)). p.now) c.unwrap_or-only.result.now ≡ only_texts (found_of c.args.words.now) = paths_or _ _ _ _ (codes "/" ∷ []) c.get_strs.ensures refl c.unwrap_or-only.ensures in
     record {
       fill = c.asked_fill-fill.result;
+      short = c.asked_short-short.result;
       last = c.in_ok-last.last;
       profile = c.asked_profile-profile.result;
       inputs = c.as_slice-paths.result.now;
       are_inputs = search rules;
       is_fill = record { with_flag = c.asked_fill-fill.ensures.with; without_flag = c.asked_fill-fill.ensures.without; unknown_flag = c.asked_fill-fill.ensures.unset };
+      is_short = c.asked_short-short.ensures;
       is_last = c.in_ok-last.ensures.last;
       is_profile = c.asked_profile-profile.ensures;
       of_inputs = rw (← c.asked_folder-folder.ensures) (rw (← c.asked_lost_folder-lost.ensures) (rw (← only) c.in-Ok-extract_with_lost.ensures.added));

@@ -21,5 +21,8 @@ returns-then-size-ne2048-clause-err g c magic =
 pub returns-in_err-count-clause-err : goal.returns-in_err-count-clause-err
 returns-in_err-count-clause-err g c =
     let p = err_from_is_err_and c.from_residual-in_err-count.result c.from_residual-in_err-count.ensures.1 in
-    let size = subst (λ (n : ℕ). Consumes (left c.args.window.now (g.R.Source.remaining c.args.source.now)) (left c.read_number.new.window (g.R.Source.remaining c.read_number.new.source)) (number n)) c.if-size-ne2048.false c.in_ok-size.ensures.bytes in
+    let size = subst (λ (n : ℕ). Consumes (left c.args.window.now.bytes (g.R.Source.remaining c.args.source.now)) (left c.read_number.new.window.bytes (g.R.Source.remaining c.read_number.new.source)) (number n)) c.if-size-ne2048.false c.in_ok-size.ensures.bytes in
     rw (p.1, p.2) (λ magic. ends_cut (bare magic) AtCount magic (number 2048) tt refl refl size c.in_ok-size.ensures.count c.in_err-count.ensures.err)
+
+pub returns-clause-at : goal.returns-clause-at
+returns-clause-at g c input stands = c.in_ok-count.ensures.at input (c.in_ok-size.ensures.at input stands)

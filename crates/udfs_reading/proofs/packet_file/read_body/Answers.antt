@@ -6,6 +6,7 @@ use Rattle.std.proofs.KnownBytes.{Consumes-trans}
 use Rattle.udfs_reading.specs.PacketFile.{packet_magic, packet_bytes}
 use Rattle.udfs_reading.specs.PacketReading.{packet_format, tables_v2, AtPacketsEnd, table_of_packets}
 use Rattle.udfs_reading.specs.Format.{number}
+use Rattle.udfs_reading.proofs.GainLemmas.{gained, gains_as}
 use Rattle.udfs_reading.proofs.Ends.{ends_after, ends_bare, ends_end}
 use Rattle.udfs_reading.proofs.Packets.{whole_packet_front, is_packet_file}
 use Rattle.udfs_reading.proofs.packet_file.read_body.Goals as goal
@@ -25,7 +26,7 @@ returns-in_err-read_packets-clause-err g c =
 pub returns-in_err-read_end-clause-err : goal.returns-in_err-read_end-clause-err
 returns-in_err-read_end-clause-err g c =
     let p = err_from_is_err_and c.from_residual-in_err-read_end.result c.from_residual-in_err-read_end.ensures.1 in
-    let t = c.in_ok-read_packets.ensures.ok.1 in
+    let t = gained c.in_ok-read_packets.ensures.ok.1 in
     let n = c.in_ok-count.count in
     let got = (number 2048 ++ number n) ++ flat_map packet_bytes t.taken in
     let fits : n < 2 ^ 32 = search rules in
@@ -37,8 +38,8 @@ returns-in_err-read_end-clause-err g c =
 
 pub returns-clause-ok : goal.returns-clause-ok
 returns-clause-ok g c =
-    let t = c.in_ok-read_packets.ensures.ok.1 in
     let n = c.in_ok-count.count in
+    gains_as (λ before after t.
     let got = (number 2048 ++ number n) ++ flat_map packet_bytes t.taken in
     let file = is_packet_file n t.taken t.many t.rises in
     record {
@@ -50,4 +51,7 @@ returns-clause-ok g c =
       end = c.in_ok-read_end.ensures.end;
       file = (file.0, file.1);
       joined = t.put;
-    }
+    }) c.in_ok-read_packets.ensures.ok.1
+
+pub read_packets-requires : goal.read_packets-requires
+read_packets-requires g c = c.in_ok-count.ensures.at _ c.requires

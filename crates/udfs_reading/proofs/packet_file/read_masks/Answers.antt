@@ -46,3 +46,6 @@ returns-then-conflict-eq0-clause-err g c count done next at =
             (clash_here k d (search rules) (search rules) (inr (c.if-known-eq0.true, c.if-conflict-eq0.true))),
       );
     }
+
+pub returns-clause-at : goal.returns-clause-at
+returns-clause-at g c input stands = c.in_ok-conflict.ensures.at input (c.in_ok-known.ensures.at input stands)

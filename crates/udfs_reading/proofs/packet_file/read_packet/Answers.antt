@@ -10,6 +10,7 @@ use Rattle.udfs_reading.specs.declared.error.ReadingFault.TheVariants.{BlockNumb
 use Rattle.udfs_reading.specs.Format.{number, value_of, In}
 use Rattle.udfs_reading.specs.PacketFile.{mask_of, content, masks_bytes}
 use Rattle.udfs_reading.specs.PacketReading.{packet_format, tables_v2, packets_front, listed, AtPacket}
+use Rattle.udfs_reading.proofs.GainLemmas.{gains_as}
 use Rattle.udfs_reading.proofs.Numbers.{length-number, value_of-number}
 use Rattle.udfs_reading.proofs.PacketMasks.{mask_some}
 use Rattle.udfs_reading.proofs.Ends.{fault_at, ends_cut, ends_after}
@@ -57,9 +58,9 @@ returns-in_err-read_blocks-clause-err g c =
 
 pub returns-clause-ok : goal.returns-clause-ok
 returns-clause-ok g c =
-    let s = c.in_ok-read_blocks.ensures.ok in
     let n = c.in_ok-packet.packet in
     let m = c.in_ok-masks.masks in
+    gains_as (λ before after s.
     let masks : number m.known ++ number m.conflict ≡ masks_bytes s.taken = ap (λ (k : ℕ). number k ++ number m.conflict) (sym s.known_is) ∙ ap (λ (k : ℕ). number (mask_of is_known s.taken) ++ number k) (sym s.conflict_is) in
     let some : 0 < mask_of is_known s.taken + mask_of is_conflict s.taken = rw (s.known_is, s.conflict_is) c.in_ok-masks.ensures.masks.1 in
     record {
@@ -70,5 +71,8 @@ returns-clause-ok g c =
       given = Consumes-trans _ _ _ (number n) (masks_bytes s.taken ++ flat_map content s.taken) c.in_ok-packet.ensures.bytes
           (Consumes-trans _ _ _ (masks_bytes s.taken) (flat_map content s.taken) (subst (Consumes _ _) masks c.in_ok-masks.ensures.given) s.given);
       next_is = refl;
-      put = s.put ∙ ap (λ (l : List (ℕ × State)). join_tables (g.T.Taker.table c.args.taker.now) (table_of_entries l)) (sym (append-nil (listed (32 * n) s.taken)));
-    }
+      put = s.put ∙ ap (λ (l : List (ℕ × State)). join_tables before (table_of_entries l)) (sym (append-nil (listed (32 * n) s.taken)));
+    }) c.in_ok-read_blocks.ensures.ok
+
+pub read_blocks-requires-clause-at : goal.read_blocks-requires-clause-at
+read_blocks-requires-clause-at g c = c.in_ok-masks.ensures.at _ (c.in_ok-packet.ensures.at _ c.requires)

@@ -6,6 +6,7 @@ use Rattle.std.proofs.KnownBytes.{Consumes-trans}
 use Rattle.udfs_lattice.specs.Records.{table_of}
 use Rattle.udfs_reading.specs.Reading.{magic, record_bytes, reading_format, readings, AtEnd}
 use Rattle.udfs_reading.specs.Format.{number}
+use Rattle.udfs_reading.proofs.GainLemmas.{gained, gains_as}
 use Rattle.udfs_reading.proofs.Ends.{ends_after, ends_bare, ends_end}
 use Rattle.udfs_reading.proofs.Records.{whole_front, is_reading}
 use Rattle.udfs_reading.proofs.reading.read_body.Goals as goal
@@ -25,7 +26,7 @@ returns-in_err-read_records-clause-err g c =
 pub returns-in_err-read_end-clause-err : goal.returns-in_err-read_end-clause-err
 returns-in_err-read_end-clause-err g c =
     let p = err_from_is_err_and c.from_residual-in_err-read_end.result c.from_residual-in_err-read_end.ensures.1 in
-    let t = c.in_ok-read_records.ensures.ok in
+    let t = gained c.in_ok-read_records.ensures.ok in
     let n = c.in_ok-count.count in
     let got = (number 2048 ++ number n) ++ flat_map record_bytes t.taken in
     let fits : n < 2 ^ 32 = search rules in
@@ -37,10 +38,10 @@ returns-in_err-read_end-clause-err g c =
 
 pub returns-clause-ok : goal.returns-clause-ok
 returns-clause-ok g c =
-    let t = c.in_ok-read_records.ensures.ok in
     let n = c.in_ok-count.count in
-    let got = (number 2048 ++ number n) ++ flat_map record_bytes t.taken in
     let fits : n < 2 ^ 32 = search rules in
+    gains_as (λ before after t.
+    let got = (number 2048 ++ number n) ++ flat_map record_bytes t.taken in
     let file = is_reading n t.taken t.many fits t.are_records in
     record {
       got = got;
@@ -51,4 +52,7 @@ returns-clause-ok g c =
       end = c.in_ok-read_end.ensures.end;
       file = (t.taken, file.0, file.1, refl);
       joined = t.put;
-    }
+    }) c.in_ok-read_records.ensures.ok
+
+pub read_records-requires : goal.read_records-requires
+read_records-requires g c = c.in_ok-count.ensures.at _ c.requires

@@ -4,6 +4,7 @@ use Rattle.std.proofs.KnownBytes.{Consumes-nil, Consumes-trans}
 use Rattle.udfs_reading.specs.declared.error.ReadingFault.TheVariants.{BlockNumber}
 use Rattle.udfs_reading.specs.Reading.{front, AtBlock, AtBytes, reading_format}
 use Rattle.udfs_reading.specs.Format.{number, value_of, In}
+use Rattle.udfs_reading.proofs.GainLemmas.{gains_as}
 use Rattle.udfs_reading.proofs.Numbers.{length-number, value_of-number}
 use Rattle.udfs_reading.proofs.Ends.{fault_at, ends_cut, ends_block}
 use Rattle.udfs_reading.proofs.JudgeRecords.{header_is_sound}
@@ -33,10 +34,12 @@ returns-in_err-join_block-clause-err g c =
 pub returns-clause-ok : goal.returns-clause-ok
 returns-clause-ok g c =
     let n = c.in_ok-block.block in
-    let t = c.in_ok-join_block.ensures.ok in
-    record {
+    gains_as (λ before after t. record {
       taken = (n, t.taken);
       is_record = record { number = c.if-block-gt-LAST_BLOCK.false; block = t.is_block };
       given = Consumes-trans _ _ _ (number n) t.taken c.in_ok-block.ensures.bytes t.given;
       put = t.put;
-    }
+    }) c.in_ok-join_block.ensures.ok
+
+pub join_block-requires-clause-at : goal.join_block-requires-clause-at
+join_block-requires-clause-at g c = c.in_ok-block.ensures.at _ c.requires

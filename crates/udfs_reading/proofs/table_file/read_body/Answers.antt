@@ -7,6 +7,7 @@ use Rattle.udfs_lattice.specs.Records.{table_of_entries}
 use Rattle.udfs_reading.specs.TableFile.{table_magic, entry_bytes}
 use Rattle.udfs_reading.specs.TableReading.{table_format, tables_v1, AtTableEnd}
 use Rattle.udfs_reading.specs.Format.{number}
+use Rattle.udfs_reading.proofs.GainLemmas.{gained, gains_as}
 use Rattle.udfs_reading.proofs.Ends.{ends_after, ends_bare, ends_end}
 use Rattle.udfs_reading.proofs.Entries.{whole_table_front, is_table_file}
 use Rattle.udfs_reading.proofs.table_file.read_body.Goals as goal
@@ -26,7 +27,7 @@ returns-in_err-read_entries-clause-err g c =
 pub returns-in_err-read_end-clause-err : goal.returns-in_err-read_end-clause-err
 returns-in_err-read_end-clause-err g c =
     let p = err_from_is_err_and c.from_residual-in_err-read_end.result c.from_residual-in_err-read_end.ensures.1 in
-    let t = c.in_ok-read_entries.ensures.ok.1 in
+    let t = gained c.in_ok-read_entries.ensures.ok.1 in
     let n = c.in_ok-count.count in
     let got = (number 2048 ++ number n) ++ flat_map entry_bytes t.taken in
     let fits : n < 2 ^ 32 = search rules in
@@ -38,8 +39,8 @@ returns-in_err-read_end-clause-err g c =
 
 pub returns-clause-ok : goal.returns-clause-ok
 returns-clause-ok g c =
-    let t = c.in_ok-read_entries.ensures.ok.1 in
     let n = c.in_ok-count.count in
+    gains_as (λ before after t.
     let got = (number 2048 ++ number n) ++ flat_map entry_bytes t.taken in
     let file = is_table_file n t.taken t.many t.rises in
     record {
@@ -51,4 +52,7 @@ returns-clause-ok g c =
       end = c.in_ok-read_end.ensures.end;
       file = (file.0, file.1);
       joined = t.put;
-    }
+    }) c.in_ok-read_entries.ensures.ok.1
+
+pub read_entries-requires : goal.read_entries-requires
+read_entries-requires g c = c.in_ok-count.ensures.at _ c.requires

@@ -1,6 +1,8 @@
 -- The entries so far were read, and joined to the table.
 use Rattle.std.proofs.Common.{◌≡◌}
 use Rattle.udfs_reading.specs.Device.{left}
+use Rattle.udfs_reading.specs.Gains.{Gains}
+use Rattle.udfs_reading.specs.Places.{StandsAt}
 use Rattle.udfs_reading.specs.TableReading.{TakesEntries}
 use Rattle.udfs_reading.proofs.table_file.read_entries.Given as goal
 
@@ -8,6 +10,7 @@ abbrev pub invariant-loop-index : goal.invariant-loop-index
 invariant-loop-index g l =
     let R = g.R.Source in
     record {
-      taken : TakesEntries (left l.initial.window (R.remaining l.initial.source)) (left l.window (R.remaining l.source)) l.index l.floor (g.T.Taker.table l.initial.taker) (g.T.Taker.table l.taker);
+      taken : Gains (g.T.Taker.took l.initial.taker) (g.T.Taker.took l.taker) (TakesEntries (left l.initial.window.bytes (R.remaining l.initial.source)) (left l.window.bytes (R.remaining l.source)) l.index l.floor);
+      at : StandsAt (g.T.Taker.input l.taker) l.window.at (left l.window.bytes (R.remaining l.source));
       kept : R.faults l.source ≡ R.faults l.initial.source;
     }

@@ -5,6 +5,7 @@ use Rattle.udfs_reading.specs.declared.error.ReadingFault.TheVariants.{BlockNumb
 use Rattle.udfs_reading.specs.Format.{number, value_of, In}
 use Rattle.udfs_reading.specs.TableFile.{state_bytes}
 use Rattle.udfs_reading.specs.TableReading.{table_format, tables_v1, entries_front, AtNumber}
+use Rattle.udfs_reading.proofs.GainLemmas.{gains_as}
 use Rattle.udfs_reading.proofs.Numbers.{length-number, value_of-number}
 use Rattle.udfs_reading.proofs.Ends.{fault_at, ends_cut, ends_after}
 use Rattle.udfs_reading.proofs.table_file.read_entry.Goals as goal
@@ -41,12 +42,14 @@ returns-in_err-read_state-clause-err g c =
 
 pub returns-clause-ok : goal.returns-clause-ok
 returns-clause-ok g c =
-    let s = c.in_ok-read_state.ensures.ok in
-    record {
+    gains_as (λ before after s. record {
       taken = (c.in_ok-block.block, s.taken);
       above = c.if-block-floor.false;
       entry = s.entry;
       given = Consumes-trans _ _ _ (number c.in_ok-block.block) (state_bytes s.taken) c.in_ok-block.ensures.bytes s.given;
       next_is = refl;
       put = s.put;
-    }
+    }) c.in_ok-read_state.ensures.ok
+
+pub read_state-requires-clause-at : goal.read_state-requires-clause-at
+read_state-requires-clause-at g c = c.in_ok-block.ensures.at _ c.requires

@@ -21,8 +21,8 @@ returns-in-Fault c = λ nodes a. no_entry (view_now c.args.view) nodes (c.args.r
 pub returns-in-Unread : goal.returns-in-Unread
 returns-in-Unread c = λ nodes a. no_entry (view_now c.args.view) nodes (c.args.reference, c.args.block) (unread c.in-Unread.field-0) (c.in-Unread.ensures.value ∙ ap (target (view_now c.args.view)) c.entry_address-address.ensures) refl
 
-pub returns-in_ok-standing-in-Entry : goal.returns-in_ok-standing-in-Entry
-returns-in_ok-standing-in-Entry c = λ nodes a. is_unnamed (view_now c.args.view) nodes c.args.keys.now c.args.reference c.args.block c.key-key.result c.is_among.result
+pub returns-in_ok-told-in-Entry : goal.returns-in_ok-told-in-Entry
+returns-in_ok-told-in-Entry c = λ nodes a. is_unnamed (view_now c.args.view) nodes c.args.keys.now c.args.reference c.args.block c.key-key.result c.is_among.result
     (entry_of c.in-Entry.entry) _ a c.key-key.ensures.block c.key-key.ensures.value c.is_among.ensures c.if-is_among.false (c.in-Entry.ensures.value ∙ ap (target (view_now c.args.view)) c.entry_address-address.ensures)
     (λ i. record {
       reference = c.args.reference;
@@ -30,5 +30,5 @@ returns-in_ok-standing-in-Entry c = λ nodes a. is_unnamed (view_now c.args.view
       kind = c.kind.ensures i;
       size = c.size.ensures i;
       stamp = c.stamp.ensures i;
-      standing = (c.in_ok-standing-in-Entry.ensures ∙ ap (λ z. body_standing (entry_of c.in-Entry.entry).kind false (body (view_now c.args.view) z.reference z.block (entry_of c.in-Entry.entry))) c.entry_address-address.ensures) i;
+      standing = (c.in_ok-told-in-Entry.ensures.standing ∙ ap (λ z. body_standing (entry_of c.in-Entry.entry).kind false (body (view_now c.args.view) z.reference z.block (entry_of c.in-Entry.entry))) c.entry_address-address.ensures) i;
     })

@@ -2,31 +2,32 @@ use Rattle.std.proofs.Common.{◌∙◌, ap, cond, nat_le}
 use Rattle.udfs_space.specs.Views.{view_now}
 use Rattle.udfs_file.specs.Bodies.{body}
 use Rattle.udfs_file.specs.Entries.{entry_of}
+use Rattle.udfs_walk.specs.Bare.{bare_node, bare_standing}
 use Rattle.udfs_walk.specs.Standings.{body_standing}
 use Rattle.udfs_walk.specs.Nodes.{told, untold}
 use Rattle.udfs_walk.specs.Targets.{bad, entry, unread}
 use Rattle.udfs_walk.specs.Visits.{end_at}
-use Rattle.udfs_walk.specs.declared.standings.Standing.TheVariants.{Loop}
+use Rattle.udfs_walk.specs.declared.standings.Standing.TheVariants.{Loop, Torn}
 use Rattle.udfs_walk.proofs.TargetLemmas.{node_is}
 use Rattle.udfs_walk.proofs.visits.visited.Goals as goal
 
 pub returns-in-Fault-clause-node : goal.returns-in-Fault-clause-node
 returns-in-Fault-clause-node c =
     let w = end_at c.args.address c.args.path c.args.above.now c.args.hidden in
-    c.unread.ensures c.args.above.now ∙ node_is (view_now c.args.view) w (bad c.in-Fault.fault) c.in-Fault.ensures.value
+    c.unread.ensures c.args.above.now ∙ ap bare_node (node_is (view_now c.args.view) w (bad c.in-Fault.fault) c.in-Fault.ensures.value)
 
-pub returns-in_ok-standing-in-Unread-clause-node : goal.returns-in_ok-standing-in-Unread-clause-node
-returns-in_ok-standing-in-Unread-clause-node c =
+pub returns-in-Unread-clause-node : goal.returns-in-Unread-clause-node
+returns-in-Unread-clause-node c =
     let w = end_at c.args.address c.args.path c.args.above.now c.args.hidden in
-    c.unread-in-Unread.ensures c.args.above.now ∙ ap (untold w) c.in_ok-standing-in-Unread.ensures
-    ∙ node_is (view_now c.args.view) w (unread c.in-Unread.n) c.in-Unread.ensures.value
+    c.unread-in-Unread.ensures c.args.above.now ∙ ap (λ lists. untold w (Torn lists)) c.no_lists.ensures
+    ∙ ap bare_node (node_is (view_now c.args.view) w (unread c.in-Unread.field-0) c.in-Unread.ensures.value)
 
-pub returns-in_ok-told-in-Entry-clause-node : goal.returns-in_ok-told-in-Entry-clause-node
-returns-in_ok-told-in-Entry-clause-node c =
+pub returns-in_ok-standing-in-Entry-clause-node : goal.returns-in_ok-standing-in-Entry-clause-node
+returns-in_ok-standing-in-Entry-clause-node c =
     let v = view_now c.args.view in
     let w = end_at c.args.address c.args.path c.args.above.now c.args.hidden in
     let e = entry_of c.in-Entry.entry in
     let n = c.len-is_deep.ensures in
-    c.read.ensures c.args.above.now ∙ ap (told w e) c.in_ok-told-in-Entry.ensures.standing
-    ∙ (λ i. told w e (cond (c.is_loop-is_loop.ensures i) Loop (body_standing e.kind (nat_le 64 (n i)) (body v c.args.address.reference c.args.address.block e))))
-    ∙ node_is v w (entry e) c.in-Entry.ensures.value
+    c.read.ensures c.args.above.now ∙ ap (told w e) c.in_ok-standing-in-Entry.ensures.standing
+    ∙ (λ i. told w e (bare_standing (cond (c.is_loop-is_loop.ensures i) Loop (body_standing e.kind (nat_le 64 (n i)) (body v c.args.address.reference c.args.address.block e)))))
+    ∙ ap bare_node (node_is v w (entry e) c.in-Entry.ensures.value)

@@ -8,9 +8,10 @@ abbrev pub invariant-loop-self : goal.invariant-loop-self
 invariant-loop-self g l =
     let R = g.R.Source in
     record {
-      given : Consumes (left l.initial.self (R.remaining l.initial.source)) (left l.self (R.remaining l.source)) [];
+      given : Consumes (left l.initial.self.bytes (R.remaining l.initial.source)) (left l.self.bytes (R.remaining l.source)) [];
+      place : l.self.at ≡ l.initial.self.at;
       kept : R.faults l.source ≡ R.faults l.initial.source;
     }
 
 abbrev pub decreases-loop-self : goal.decreases-loop-self
-decreases-loop-self g l = l.size - length l.self
+decreases-loop-self g l = l.size - length l.self.bytes

@@ -1,6 +1,7 @@
-use Rattle.std.proofs.Common.{◌∙◌, ap}
+use Rattle.std.proofs.Common.{◌∙◌, ap, subst}
 use Rattle.udfs_space.specs.Views.{view_now}
-use Rattle.udfs_walk.specs.Visits.{end_at}
+use Rattle.udfs_walk.specs.Routes.{entries_below}
+use Rattle.udfs_walk.specs.Visits.{AreListed, end_at}
 use Rattle.udfs_walk.proofs.TargetLemmas.{node_path}
 use Rattle.udfs_walk.proofs.walks.Frame.enter.Goals as goal
 
@@ -9,5 +10,5 @@ returns-clause-frame c =
     let v = view_now c.args.view in
     let w = end_at c.args.address c.args.path c.args.above.now c.args.hidden in
     let path = c.in_ok-names.ensures ∙ ap (λ n. n.path) (c.node.view_is ∙ c.in_ok-node.ensures.node) ∙ node_path v w in
-    let left = c.into_iter.ensures.rest ∙ c.in_ok-node.ensures.entries in
+    let left = subst (λ o. AreListed o (entries_below v w)) c.in-Some.is c.in_ok-node.ensures.entries in
     (λ i. record { path = path i; above = c.in_ok-with_icb.ensures i; left = left i })

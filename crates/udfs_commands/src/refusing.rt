@@ -1,0 +1,163 @@
+//! What is said where a command is refused, or where the words are not those of one.
+
+ghost use Rattle.std.specs.Prelude.{◌≡◌, ◌⊎◌, Some, true, codes};
+ghost use Rattle.clap.specs.Matches.{found_of, one_text};
+ghost use Rattle.clap.specs.Words.{kind_of};
+
+use crate::hints::second_line;
+use crate::printing::send;
+use clap::error::ErrorKind;
+use clap::{ArgMatches, Error};
+use std::alloc::{AllocError, Global};
+use udfs_common::files::Files;
+use udfs_common::refusal::Refusal;
+use udfs_reading::{DeviceFault, Sink};
+use udfs_words::last::EndFault;
+use udfs_words::words::{QUIET, VERBOSE, given_in, grammar};
+
+/// The line for want of memory, which itself takes none.
+const NO_MEMORY: &[u8] = b"udfsalvage: out of memory\n";
+
+/// How clap lists that a list of blocks is missing.
+const NO_BLOCKS: &str = "\n  --blocks <LIST>\n";
+
+/// How it lists that one of two is missing.
+const NOTHING_TO_FORGET: &str = "\n  <--conflicts|--blocks <LIST>>\n";
+
+/// What is said of a word that is not text.
+const NOT_TEXT: &[u8] =
+    b"error: invalid UTF-8 was detected in one or more arguments\n\nFor more information, try '--help'.\n";
+
+/// The word behind the program's name, which is that of its command where the words are good.
+pub fn command_of(line: &[String]) -> &str {
+    match line {
+        [_, command, ..] => command.as_str(),
+        _ => "",
+    }
+}
+
+/// Says more of a refusal of the command that is called so beneath its line, where a person watches or the words ask for it.
+pub fn explain<F: Files, E: Sink>(
+    alloc: Global,
+    refusal: &Refusal,
+    command: &str,
+    words: &ArgMatches<'_>,
+    files: &F,
+    err: &mut E,
+)
+    ensures quiet { one_text (found_of words.now) (codes "quiet") ≡ Some (codes "true") → err.new ≡ err.old }
+{
+    if words.get_flag(QUIET) || !(files.is_watched() || words.get_flag(VERBOSE)) {
+        return;
+    }
+    if let Ok(Some(more)) = second_line(alloc, refusal, command, words, files)
+        && let Ok(line) = format!(in alloc; "  {more}\n")
+    {
+        let _ = send(line.as_bytes(), err);
+    }
+}
+
+/// Says that the words of the command line could not be had, and answers the status.
+pub fn refuse_words<E: Sink>(wants_memory: bool, err: &mut E) -> u8
+    ensures { result ≡ 2 }
+{
+    let text = if wants_memory { NO_MEMORY } else { NOT_TEXT };
+    let _ = send(text, err);
+    2
+}
+
+/// Shows clap's text: help and version on `out`, a fault of the words on `err`.
+pub fn show<O: Sink, E: Sink>(alloc: Global, error: &Error, out: &mut O, err: &mut E) -> u8
+    ensures status { (result ≡ 0) ⊎ (result ≡ 2) }
+    ensures silent { result ≡ 0 → err.new ≡ err.old }
+    ensures memory { kind_of error.now ≡ ErrorKind.OutOfMemory → result ≡ 2 }
+{
+    if error.use_stderr() || error.kind() == ErrorKind::OutOfMemory {
+        return show_fault(alloc, error, err);
+    }
+    let Ok(text) = format!(in alloc; "{error}") else {
+        return refuse(alloc, &Refusal::Memory(AllocError), err);
+    };
+    match send(text.as_bytes(), out) {
+        (_, Ok(())) => 0,
+        (_, Err(DeviceFault)) => refuse(alloc, &Refusal::Output, err),
+    }
+}
+
+/// Shows clap's text of a fault of the words, and answers the status.
+fn show_fault<E: Sink>(alloc: Global, error: &Error, err: &mut E) -> u8
+    ensures { result ≡ 2 }
+{
+    if error.kind() == ErrorKind::OutOfMemory {
+        return refuse(alloc, &Refusal::Memory(AllocError), err);
+    }
+    match fault_text(alloc, error) {
+        Ok(text) => {
+            let _ = send(text.as_bytes(), err);
+            2
+        }
+        Err(AllocError) => refuse(alloc, &Refusal::Memory(AllocError), err),
+    }
+}
+
+/// Clap's text of a fault of the words. Where a list of blocks is missing, the other word that would do is named too, as clap does in a group of which one
+/// has to be given.
+fn fault_text(alloc: Global, error: &Error) -> Result<String, AllocError> {
+    let text = format!(in alloc; "{error}")?;
+    match text.as_str().split_once(NO_BLOCKS) {
+        Some((before, after)) => format!(in alloc; "{before}{NOTHING_TO_FORGET}{after}"),
+        None => Ok(text),
+    }
+}
+
+/// Says, as clap does where nothing could tell it, that the last block has to be given, and answers the status.
+pub fn ask_for_last<E: Sink>(alloc: Global, line: &[String], err: &mut E) -> u8
+    ensures { result ≡ 2 }
+{
+    let mut given = given_in(line);
+    given.needs_last = true;
+    let command = match grammar(alloc, given) {
+        Ok(command) => command,
+        Err(AllocError) => return refuse(alloc, &Refusal::Memory(AllocError), err),
+    };
+    match command.try_get_matches_from(line) {
+        Err(error) => show_fault(alloc, &error, err),
+        // The grammar asks for it.
+        Ok(_) => refuse(alloc, &Refusal::NoLast, err),
+    }
+}
+
+/// Says in clap's form what is wrong with the words that say where the disc ends, and answers the status.
+pub fn tell<E: Sink>(alloc: Global, fault: EndFault<'_>, err: &mut E) -> u8
+    ensures { result ≡ 2 }
+{
+    let _ = match format!(in alloc; "error: {fault}\n\nFor more information, try '--help'.\n") {
+        Ok(text) => send(text.as_bytes(), err),
+        Err(AllocError) => send(NO_MEMORY, err),
+    };
+    2
+}
+
+/// Says in clap's form that these rules are none, and answers the status.
+pub fn tell_profile<E: Sink>(alloc: Global, name: &str, err: &mut E) -> u8
+    ensures { result ≡ 2 }
+{
+    let _ = match format!(in alloc;
+        "error: invalid value '{name}' for '--profile <PROFILE>'\n  [possible values: strict, wide]\n\nFor more information, try '--help'.\n"
+    ) {
+        Ok(text) => send(text.as_bytes(), err),
+        Err(AllocError) => send(NO_MEMORY, err),
+    };
+    2
+}
+
+/// Prints a refusal's line, and answers the status. Where not even the line can be had, it is that of want of memory.
+pub fn refuse<E: Sink>(alloc: Global, refusal: &Refusal, err: &mut E) -> u8
+    ensures { result ≡ 2 }
+{
+    let _ = match format!(in alloc; "udfsalvage: {refusal}\n") {
+        Ok(line) => send(line.as_bytes(), err),
+        Err(AllocError) => send(NO_MEMORY, err),
+    };
+    2
+}

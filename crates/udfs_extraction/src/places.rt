@@ -1,0 +1,163 @@
+//! Where nodes are written below the folder: by the names of their paths, or by short ones in the place of those that are too long.
+
+ghost use Rattle.std.specs.Prelude.{◌≡◌, ◌<◌, ◌++◌, ℕ, suc, List, Some, IfOk, OnOk, length, slice_get, string_bytes, unwrap_or};
+ghost use Rattle.udfs_salvage.specs.Found.{volume_now};
+ghost use Rattle.udfs_salvage.specs.NodeTexts.{name_text, names_text};
+ghost use Rattle.udfs_salvage.specs.Reports.{report_now};
+ghost use Rattle.udfs_salvage.specs.Texts.{has_two};
+ghost use Rattle.udfs_walk.specs.NodeFields.{NodeFields};
+ghost use Rattle.udfs_extraction.specs.ShortNames.{IsWay, icb_above, own_name, parts, placed, shortened};
+
+use crate::node_files::node_at;
+use crate::short_names::shortened;
+use std::alloc::{AllocError, Global};
+use udfs_osta::Name;
+use udfs_salvage::{Report, has_two_partitions, push_names};
+use udfs_tag::LongAd;
+
+/// Makes a list of so many numbers and one more, by zeros behind those that it has.
+fn lengthen(way: &mut Vec<usize>, depth: usize) -> Result<(), AllocError>
+    ensures long { OnOk result (depth < length way.new.items) }
+    ensures same { OnOk result ((d : ℕ) → unwrap_or (slice_get way.new.items d) 0 ≡ unwrap_or (slice_get way.old.items d) 0) }
+{
+    while way.len() <= depth {
+        way.push(0)?;
+    }
+    Ok(())
+}
+
+/// Notes where a walk through the nodes of a report has come: for each length of a path, the last node that has it.
+fn enter(way: &mut Vec<usize>, report: &Report<'_>, index: usize) -> Result<(), AllocError>
+    requires { index < length report.now.nodes.items }
+    ensures { OnOk result ((k : ℕ) → suc k ≡ index → IsWay report.now.nodes.items k way.old.items → IsWay report.now.nodes.items index way.new.items) }
+{
+    let depth = node_at(report, index).path.len();
+    lengthen(way, depth)?;
+    way[depth] = index;
+    Ok(())
+}
+
+/// The information control block of the last node up to this index whose path has so many names.
+fn icb_at(report: &Report<'_>, way: &[usize], index: usize, depth: usize) -> LongAd
+    requires { index < length report.now.nodes.items }
+    ensures { (n : NodeFields) → slice_get report.now.nodes.items index ≡ Some n → IsWay report.now.nodes.items index way.now → result ≡ icb_above report.now.nodes.items index n depth }
+{
+    let above = if depth < way.len() { way[depth] } else { 0 };
+    if above < report.nodes.len() {
+        node_at(report, above).icb
+    } else {
+        node_at(report, index).icb
+    }
+}
+
+/// Appends a name behind a `/`, or the short one of a name that is too long.
+fn push_part(
+    alloc: Global,
+    text: &mut String,
+    two: bool,
+    icb: LongAd,
+    name: &Name,
+) -> Result<(), AllocError>
+    ensures { OnOk result (string_bytes text.new ≡ string_bytes text.old ++ name_text (unwrap_or (shortened two icb name.now) name.now)) }
+{
+    text.push('/')?;
+    match shortened(alloc, two, icb, name)? {
+        Some(short) => short.write_escaped(text),
+        None => name.write_escaped(text),
+    }
+}
+
+/// Appends the names of the path of the node of this index, each behind a `/`, and the short ones of those that are too long.
+fn push_parts(
+    alloc: Global,
+    text: &mut String,
+    report: &Report<'_>,
+    index: usize,
+    way: &[usize],
+) -> Result<(), AllocError>
+    requires { index < length report.now.nodes.items }
+    ensures text { OnOk result ((n : NodeFields) → slice_get report.now.nodes.items index ≡ Some n → IsWay report.now.nodes.items index way.now →
+        string_bytes text.new ≡ string_bytes text.old ++ names_text (parts (has_two (volume_now report.now.volume)) (icb_above report.now.nodes.items index n) 1 n.path)) }
+    ensures names { OnOk result ((names : List (List ℕ)) × (string_bytes text.new ≡ string_bytes text.old ++ names_text names)) }
+{
+    let two = has_two_partitions(&report.volume);
+    let path = &node_at(report, index).path;
+    for depth in 0..path.len() {
+        if let Some(name) = path.get(depth) {
+            let icb = icb_at(report, way, index, depth + 1);
+            push_part(alloc, text, two, icb, name)?;
+        }
+    }
+    Ok(())
+}
+
+/// Where a node is written.
+#[derive(Drop)]
+pub struct Place {
+    /// Its place below the folder: names in their escaped forms, each behind a `/`.
+    pub text: String,
+    /// Its short name, where it has one.
+    pub own: Option<Name>,
+}
+
+/// The place of the node of this index. With `short`, names that are too long are shortened by the nodes that they lead to.
+fn place_text(
+    alloc: Global,
+    report: &Report<'_>,
+    index: usize,
+    short: bool,
+    way: &[usize],
+) -> Result<String, AllocError>
+    requires { index < length report.now.nodes.items }
+    ensures text { IfOk result (λ text. (n : NodeFields) → slice_get report.now.nodes.items index ≡ Some n → IsWay report.now.nodes.items index way.now → string_bytes text ≡ names_text (placed short (report_now report.now) index n)) }
+    ensures names { IfOk result (λ text. (names : List (List ℕ)) × (string_bytes text ≡ names_text names)) }
+{
+    let mut text = String::new(alloc);
+    if short {
+        push_parts(alloc, &mut text, report, index, way)?;
+    } else {
+        push_names(&mut text, &node_at(report, index).path)?;
+    }
+    Ok(text)
+}
+
+/// The short name of the node of this index, where short ones are asked for and its own is too long.
+fn own_name(
+    alloc: Global,
+    report: &Report<'_>,
+    index: usize,
+    short: bool,
+) -> Result<Option<Name>, AllocError>
+    requires { index < length report.now.nodes.items }
+    ensures { IfOk result (λ own. (n : NodeFields) → slice_get report.now.nodes.items index ≡ Some n → own ≡ own_name short (report_now report.now) n) }
+{
+    if !short {
+        return Ok(None);
+    }
+    let node = node_at(report, index);
+    match node.path.last() {
+        Some(name) => shortened(alloc, has_two_partitions(&report.volume), node.icb, name),
+        None => Ok(None),
+    }
+}
+
+/// Where the node of this index is written. `way` has the way to the node before it, and then the way to this one.
+pub fn place_of(
+    alloc: Global,
+    report: &Report<'_>,
+    index: usize,
+    short: bool,
+    way: &mut Vec<usize>,
+) -> Result<Place, AllocError>
+    requires { index < length report.now.nodes.items }
+    ensures way { IfOk result (λ place. (k : ℕ) → suc k ≡ index → IsWay report.now.nodes.items k way.old.items → IsWay report.now.nodes.items index way.new.items) }
+    ensures text { IfOk result (λ place. (n : NodeFields) (k : ℕ) → slice_get report.now.nodes.items index ≡ Some n → suc k ≡ index → IsWay report.now.nodes.items k way.old.items →
+        string_bytes place.text ≡ names_text (placed short (report_now report.now) index n)) }
+    ensures names { IfOk result (λ place. (names : List (List ℕ)) × (string_bytes place.text ≡ names_text names)) }
+    ensures own { IfOk result (λ place. (n : NodeFields) → slice_get report.now.nodes.items index ≡ Some n → place.own ≡ own_name short (report_now report.now) n) }
+{
+    enter(way, report, index)?;
+    let text = place_text(alloc, report, index, short, way.as_slice())?;
+    let own = own_name(alloc, report, index, short)?;
+    Ok(Place { text, own })
+}

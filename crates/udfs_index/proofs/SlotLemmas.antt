@@ -1,0 +1,92 @@
+-- What packets say after one of them has changed.
+use Rattle.std.proofs.Common.{◌≡◌, ◌≢◌, ℕ, zero, suc, ◌*◌, ◌/◌, ◌%◌, ◌^◌, ◌<◌, ◌==◌, Bool, true, false, cond, List, [], ◌∷◌, ◌++◌, length, Option, Some, slice_index_or, bit_and, bit_or, w32, refl, sym, ap, ◌∙◌, arith}
+use Rattle.std.specs.Int.{bit_at, bit_not}
+use Rattle.std.specs.List.{slice_get}
+use Rattle.std.proofs.Math.ListN.{set}
+use Rattle.std.proofs.lemmas.Bool.{eqb-true, eqb-false}
+use Rattle.std.proofs.lemmas.Bool.Decides.{nat_tests}
+use Rattle.std.proofs.lemmas.List.{get_or-set_same, get_or-set_other}
+use Rattle.std.proofs.lemmas.Nat.Bits.{bit_at-zero, bit_at_set_other, bit_at_set_same, bit_at_clear_other, bit_at_clear_same}
+use Rattle.udfs_lattice.specs.declared.facts.Fact.TheVariants.{Unknown, Known, Conflict}
+use Rattle.udfs_index.specs.declared.packet.Packet.{Packet}
+use Rattle.udfs_index.specs.Slots.{Slot, slot_by, slot_in, slot_found, slot_at, IsSlotSet, AreSlotsSet, AreSlotsSame}
+
+-- ---- one packet
+-- block i is put to a place
+pub put_slot : (k c : ℕ) (ps : List ℕ) (i place j : ℕ) (b : Bool) → (j == i) ≡ b → i < 32 → i < length ps
+    → slot_by (bit_at (bit_or k (1 * 2 ^ i % 2 ^ 32)) j == 1) (bit_at c j == 1) (slice_index_or (set ps i place) j 0) ≡ cond b (Known place) (slot_by (bit_at k j == 1) (bit_at c j == 1) (slice_index_or ps j 0))
+put_slot k c ps i place j true is small within =
+    let same : j ≡ i = eqb-true j i is in
+    let bit : bit_at (bit_or k (1 * 2 ^ i % 2 ^ 32)) j ≡ 1 = ap (bit_at (bit_or k (1 * 2 ^ i % 2 ^ 32))) same ∙ bit_at_set_same w32 k i small in
+    ap (λ (x : ℕ). slot_by (x == 1) (bit_at c j == 1) (slice_index_or (set ps i place) j 0)) bit
+    ∙ ap Known (ap (λ (x : ℕ). slice_index_or (set ps i place) x 0) same ∙ get_or-set_same ps i place 0 within)
+put_slot k c ps i place j false is small within =
+    let other : j ≢ i = eqb-false j i is in
+    ap (λ (x : ℕ). slot_by (x == 1) (bit_at c j == 1) (slice_index_or (set ps i place) j 0)) (bit_at_set_other w32 k i small j other)
+    ∙ ap (slot_by (bit_at k j == 1) (bit_at c j == 1)) (get_or-set_other ps i j place 0 other)
+
+-- block i is put into conflict
+pub dispute_slot : (k c : ℕ) (ps : List ℕ) (i j : ℕ) (b : Bool) → (j == i) ≡ b → i < 32 → j < 32
+    → slot_by (bit_at (bit_and k (bit_not w32 (1 * 2 ^ i % 2 ^ 32))) j == 1) (bit_at (bit_or c (1 * 2 ^ i % 2 ^ 32)) j == 1) (slice_index_or ps j 0) ≡ cond b Conflict (slot_by (bit_at k j == 1) (bit_at c j == 1) (slice_index_or ps j 0))
+dispute_slot k c ps i j true is small near =
+    let same : j ≡ i = eqb-true j i is in
+    let clear : bit_at (bit_and k (bit_not w32 (1 * 2 ^ i % 2 ^ 32))) j ≡ 0 = ap (bit_at (bit_and k (bit_not w32 (1 * 2 ^ i % 2 ^ 32)))) same ∙ bit_at_clear_same w32 k i small in
+    let bit : bit_at (bit_or c (1 * 2 ^ i % 2 ^ 32)) j ≡ 1 = ap (bit_at (bit_or c (1 * 2 ^ i % 2 ^ 32))) same ∙ bit_at_set_same w32 c i small in
+    ap (λ (x : ℕ). slot_by (x == 1) (bit_at (bit_or c (1 * 2 ^ i % 2 ^ 32)) j == 1) (slice_index_or ps j 0)) clear
+    ∙ ap (λ (x : ℕ). slot_by false (x == 1) (slice_index_or ps j 0)) bit
+dispute_slot k c ps i j false is small near =
+    let other : j ≢ i = eqb-false j i is in
+    ap (λ (x : ℕ). slot_by (x == 1) (bit_at (bit_or c (1 * 2 ^ i % 2 ^ 32)) j == 1) (slice_index_or ps j 0)) (bit_at_clear_other w32 k i small j near other)
+    ∙ ap (λ (x : ℕ). slot_by (bit_at k j == 1) (x == 1) (slice_index_or ps j 0)) (bit_at_set_other w32 c i small j other)
+
+-- ---- several packets
+-- of a new packet nothing is known
+pub is_unknown : (ps : List ℕ) (i : ℕ) → slot_by (bit_at 0 i == 1) (bit_at 0 i == 1) (slice_index_or ps i 0) ≡ Unknown
+is_unknown ps i = ap (λ (x : ℕ). slot_by (x == 1) (x == 1) (slice_index_or ps i 0)) (bit_at-zero i)
+
+-- and it says nothing beside the others
+got_more : (ps : List Packet) (p : Packet) (k i : ℕ) → slot_in p i ≡ Unknown → slot_found (slice_get (ps ++ p ∷ []) k) i ≡ slot_found (slice_get ps k) i
+got_more [] p zero i h = h
+got_more [] p (suc k) i h = refl
+got_more (x ∷ ps) p zero i h = refl
+got_more (x ∷ ps) p (suc k) i h = got_more ps p k i h
+
+pub slots_more : (old ps : List Packet) (p : Packet) → ((i : ℕ) → slot_in p i ≡ Unknown) → AreSlotsSame old ps → AreSlotsSame old (ps ++ p ∷ [])
+slots_more old ps p h same q = got_more ps p (q / 32) (q % 32) (h (q % 32)) ∙ same q
+
+got_same : (ps : List Packet) (k : ℕ) (p : Packet) → k < length ps → slice_get (set ps k p) k ≡ Some p
+got_same [] k p within = absurd (omega (arith, within))
+got_same (x ∷ ps) zero p within = refl
+got_same (x ∷ ps) (suc k) p within = got_same ps k p (omega (arith, within))
+
+got_other : (ps : List Packet) (k j : ℕ) (p : Packet) → j ≢ k → slice_get (set ps k p) j ≡ slice_get ps j
+got_other [] k j p other = refl
+got_other (x ∷ ps) zero zero p other = absurd (other refl)
+got_other (x ∷ ps) zero (suc j) p other = refl
+got_other (x ∷ ps) (suc k) zero p other = refl
+got_other (x ∷ ps) (suc k) (suc j) p other = got_other ps k j p (λ e. other (ap suc e))
+
+same_place : (q n : ℕ) → q / 32 ≡ n / 32 → (q % 32 == n % 32) ≡ (q == n)
+same_place q n e = grind (arith, nat_tests, e)
+
+other_place : (q n : ℕ) → q / 32 ≢ n / 32 → (b : Bool) → (q == n) ≡ b → b ≡ false
+other_place q n other true is = absurd (other (ap (λ (x : ℕ). x / 32) (eqb-true q n is)))
+other_place q n other false is = refl
+
+set_in : (ps : List Packet) (n : ℕ) (p new : Packet) (slot : Slot) → n / 32 < length ps → slice_get ps (n / 32) ≡ Some p → IsSlotSet p (n % 32) slot new → (q : ℕ) (b : Bool) → (q / 32 == n / 32) ≡ b
+    → slot_at (set ps (n / 32) new) q ≡ cond (q == n) slot (slot_at ps q)
+set_in ps n p new slot within was says q true is =
+    let same : q / 32 ≡ n / 32 = eqb-true (q / 32) (n / 32) is in
+    ap (λ (k : ℕ). slot_found (slice_get (set ps (n / 32) new) k) (q % 32)) same
+    ∙ ap (λ (o : Option Packet). slot_found o (q % 32)) (got_same ps (n / 32) new within)
+    ∙ says (q % 32) (omega arith)
+    ∙ ap (λ (b : Bool). cond b slot (slot_in p (q % 32))) (same_place q n same)
+    ∙ ap (λ (o : Option Packet). cond (q == n) slot (slot_found o (q % 32))) (sym was ∙ ap (slice_get ps) (sym same))
+set_in ps n p new slot within was says q false is =
+    let other : q / 32 ≢ n / 32 = eqb-false (q / 32) (n / 32) is in
+    ap (λ (o : Option Packet). slot_found o (q % 32)) (got_other ps (n / 32) (q / 32) new other)
+    ∙ ap (λ (b : Bool). cond b slot (slot_at ps q)) (sym (other_place q n other (q == n) refl))
+
+-- the packet of block n has changed
+pub slots_set : (old ps : List Packet) (n : ℕ) (p new : Packet) (slot : Slot) → AreSlotsSame old ps → n / 32 < length ps → slice_get ps (n / 32) ≡ Some p → IsSlotSet p (n % 32) slot new → AreSlotsSet old n slot (set ps (n / 32) new)
+slots_set old ps n p new slot same within was says q = set_in ps n p new slot within was says q (q / 32 == n / 32) refl ∙ ap (cond (q == n) slot) (same q)

@@ -1,0 +1,32 @@
+-- Where the bytes of a block stand, and what an index says of the inputs that it looks into.
+use Rattle.std.specs.Prelude.{◌≡◌, ℕ, ◌/◌, ◌%◌, ◌^◌, ◌<◌, List, [], take, drop, map, Option, Some, get_or}
+use Rattle.std.specs.Option.{option_map}
+use Rattle.udfs_lattice.specs.declared.facts.Fact.TheVariants.{Unknown, Known, Conflict}
+use Rattle.udfs_lattice.specs.States.{State}
+use Rattle.udfs_lattice.specs.Tables.{Table, state_of}
+use Rattle.udfs_index.specs.declared.packet.Packet.{Packet}
+use Rattle.udfs_index.specs.Slots.{Slot, slot_at}
+
+-- what stands behind the first `at` bytes, where they are told
+abbrev pub behind : ℕ → Option (List ℕ) → Option (List ℕ)
+behind at content = option_map (drop at) content
+
+-- the bytes of a block in these inputs: the place names the input, from 0, and how many of its bytes stand before
+abbrev pub bytes_at : List (List ℕ) → ℕ → List ℕ
+bytes_at wholes place = take 2048 (drop (place % 2 ^ 44) (get_or wholes (place / 2 ^ 44) []))
+
+-- what a slot says of the inputs
+abbrev pub state_by : List (List ℕ) → Slot → State
+state_by wholes Unknown = Unknown
+state_by wholes (Known place) = Known (bytes_at wholes place)
+state_by wholes Conflict = Conflict
+
+-- a place is in one of so many inputs
+abbrev pub IsInside : ℕ → Slot → Type 0
+IsInside inputs Unknown = Unit {0}
+IsInside inputs (Known place) = place / 2 ^ 44 < inputs
+IsInside inputs Conflict = Unit {0}
+
+-- where all inputs tell their bytes, the packets say what the table does
+abbrev pub Says : List (Option (List ℕ)) → List Packet → Table → Type 0
+Says contents packets t = (wholes : List (List ℕ)) → contents ≡ map Some wholes → (n : ℕ) → state_of t n ≡ state_by wholes (slot_at packets n)

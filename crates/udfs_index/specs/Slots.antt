@@ -1,0 +1,42 @@
+-- What an index says of a block: that nothing is known of it, where its bytes stand, or that it is in conflict.
+use Rattle.std.specs.Prelude.{◌≡◌, ℕ, ◌/◌, ◌%◌, ◌<◌, ◌==◌, Bool, true, false, cond, List, Option, None, Some, slice_index_or}
+use Rattle.std.specs.Int.{bit_at}
+use Rattle.std.specs.List.{slice_get}
+use Rattle.udfs_lattice.specs.declared.facts.Fact.{Fact}
+use Rattle.udfs_lattice.specs.declared.facts.Fact.TheVariants.{Unknown, Known, Conflict}
+use Rattle.udfs_index.specs.declared.packet.Packet.{Packet}
+
+-- a known block has a place
+abbrev pub Slot : Type 0
+Slot = Fact ℕ
+
+-- what the two bits of a block say, and its place
+abbrev pub slot_by : Bool → Bool → ℕ → Slot
+slot_by true conflict place = Known place
+slot_by false true place = Conflict
+slot_by false false place = Unknown
+
+-- what a packet says of its block i
+abbrev pub slot_in : Packet → ℕ → Slot
+slot_in p i = slot_by (bit_at p.known i == 1) (bit_at p.conflict i == 1) (slice_index_or p.places i 0)
+
+-- the packet says this of its block i, and of the others what it said
+abbrev pub IsSlotSet : Packet → ℕ → Slot → Packet → Type 0
+IsSlotSet p i slot q = (j : ℕ) → j < 32 → slot_in q j ≡ cond (j == i) slot (slot_in p j)
+
+-- where there is no packet, nothing is known
+abbrev pub slot_found : Option Packet → ℕ → Slot
+slot_found None i = Unknown
+slot_found (Some p) i = slot_in p i
+
+-- what the packets say of block n
+abbrev pub slot_at : List Packet → ℕ → Slot
+slot_at packets n = slot_found (slice_get packets (n / 32)) (n % 32)
+
+-- the packets say this of block n, and of the others what they said
+abbrev pub AreSlotsSet : List Packet → ℕ → Slot → List Packet → Type 0
+AreSlotsSet old n slot new = (q : ℕ) → slot_at new q ≡ cond (q == n) slot (slot_at old q)
+
+-- the packets say what they said
+abbrev pub AreSlotsSame : List Packet → List Packet → Type 0
+AreSlotsSame old new = (q : ℕ) → slot_at new q ≡ slot_at old q

@@ -1,0 +1,65 @@
+//! The places of 32 blocks.
+
+ghost use Rattle.std.specs.Prelude.{◌≡◌, ◌<◌, ◌==◌, ℕ};
+ghost use Rattle.std.specs.Int.{bit_at};
+ghost use Rattle.udfs_lattice.specs.declared.facts.Fact.TheVariants.{Known, Conflict};
+ghost use Rattle.udfs_index.specs.Slots.{IsSlotSet, slot_in};
+
+use udfs_lattice::Fact;
+
+/// What is said of 32 blocks: a mask of the known ones, a mask of those in conflict, of which a known one is none, and the
+/// place of each known one.
+#[derive(Clone, Copy)]
+pub struct Packet {
+    known: u32,
+    conflict: u32,
+    places: [u64; 32],
+}
+
+/// Nothing is known of its blocks.
+pub const UNKNOWN: Packet = Packet {
+    known: 0,
+    conflict: 0,
+    places: [0; 32],
+};
+
+fn is_set(mask: u32, i: u32) -> bool
+    requires { i < 32 }
+    ensures { result ≡ (bit_at mask i == 1) }
+{
+    mask >> i & 1 == 1
+}
+
+impl Packet {
+    /// What is said of block `i`.
+    pub fn slot(&self, i: u32) -> Fact<u64>
+        requires { i < 32 }
+        ensures { result ≡ slot_in self.now i }
+    {
+        if is_set(self.known, i) {
+            return Fact::Known(self.places[i as usize]);
+        }
+        if is_set(self.conflict, i) {
+            return Fact::Conflict;
+        }
+        Fact::Unknown
+    }
+
+    /// Block `i` is known, and its bytes stand there.
+    pub fn put(&mut self, i: u32, place: u64)
+        requires { i < 32 }
+        ensures { IsSlotSet self.old i (Known place) self.new }
+    {
+        self.places[i as usize] = place;
+        self.known |= 1 << i;
+    }
+
+    /// Block `i` is in conflict.
+    pub fn dispute(&mut self, i: u32)
+        requires { i < 32 }
+        ensures { IsSlotSet self.old i Conflict self.new }
+    {
+        self.known &= !(1 << i);
+        self.conflict |= 1 << i;
+    }
+}

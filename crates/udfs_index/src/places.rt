@@ -1,0 +1,88 @@
+//! The places of all blocks.
+
+ghost use Rattle.std.specs.Prelude.{◌≡◌, ◌≤◌, ◌<◌, ℕ, length, [], IfOk, OnOk, OnErr};
+ghost use Rattle.udfs_lattice.specs.declared.facts.Fact.TheVariants.{Unknown, Known, Conflict};
+ghost use Rattle.udfs_index.specs.Slots.{AreSlotsSame, AreSlotsSet, slot_at};
+
+use crate::packet::{Packet, UNKNOWN};
+use std::alloc::{AllocError, Global};
+use udfs_lattice::Fact;
+
+/// How many packets of 32 blocks there are at most.
+const PACKETS: usize = 131_072;
+
+/// What is said of each block. There is room for all packets from the beginning, 36 MB at most; the system gives as much of
+/// it as is written, up to the highest block.
+#[derive(Drop)]
+pub struct Places {
+    pub packets: Vec<Packet>,
+}
+
+/// Adds packets of which nothing is known, up to this number.
+fn reach(packets: &mut Vec<Packet>, number: usize) -> Result<(), AllocError>
+    requires { number < 131072 }
+    ensures same { AreSlotsSame packets.old.items packets.new.items }
+    ensures reached { OnOk result (number < length packets.new.items) }
+{
+    while packets.len() <= number {
+        packets.push(UNKNOWN)?;
+    }
+    Ok(())
+}
+
+impl Places {
+    /// Nothing is known of any block.
+    ///
+    /// # Errors
+    ///
+    /// `AllocError` for want of memory.
+    pub fn new(alloc: Global) -> Result<Places, AllocError>
+        ensures { IfOk result (λ places. (q : ℕ) → slot_at places.packets.items q ≡ Unknown) }
+    {
+        Ok(Places {
+            packets: Vec::with_capacity(alloc, PACKETS)?,
+        })
+    }
+
+    /// What is said of block `n`.
+    pub fn slot(&self, n: u32) -> Fact<u64>
+        ensures { result ≡ slot_at self.now.packets.items n }
+    {
+        match self.packets.get((n / 32) as usize) {
+            Some(packet) => packet.slot(n % 32),
+            None => Fact::Unknown,
+        }
+    }
+
+    /// Block `n` is known, and its bytes stand there.
+    ///
+    /// # Errors
+    ///
+    /// `AllocError` for want of memory. Of each block is said what was said.
+    pub fn put(&mut self, n: u32, place: u64) -> Result<(), AllocError>
+        requires { n ≤ 4194303 }
+        ensures ok { OnOk result (AreSlotsSet self.old.packets.items n (Known place) self.new.packets.items) }
+        ensures err { OnErr result (AreSlotsSame self.old.packets.items self.new.packets.items) }
+    {
+        let number = (n / 32) as usize;
+        reach(&mut self.packets, number)?;
+        self.packets[number].put(n % 32, place);
+        Ok(())
+    }
+
+    /// Block `n` is in conflict.
+    ///
+    /// # Errors
+    ///
+    /// As [`put`](Self::put).
+    pub fn dispute(&mut self, n: u32) -> Result<(), AllocError>
+        requires { n ≤ 4194303 }
+        ensures ok { OnOk result (AreSlotsSet self.old.packets.items n Conflict self.new.packets.items) }
+        ensures err { OnErr result (AreSlotsSame self.old.packets.items self.new.packets.items) }
+    {
+        let number = (n / 32) as usize;
+        reach(&mut self.packets, number)?;
+        self.packets[number].dispute(n % 32);
+        Ok(())
+    }
+}

@@ -1,0 +1,46 @@
+//! An input that is read at any position.
+
+ghost use Rattle.std.specs.Prelude.{◌≡◌, ℕ, ◌+◌, ◌^◌, ◌≤◌, ◌<◌, List, Option, length, take, drop, true, IfOk, IfSome};
+
+use udfs_reading::DeviceFault;
+
+/// What is read at positions, and does not change meanwhile: a file, or bytes in memory.
+pub trait Stored {
+    /// Its bytes, where it tells them.
+    ghost content: { Self → Option (List ℕ) };
+
+    /// How many bytes it has.
+    ///
+    /// # Errors
+    ///
+    /// `DeviceFault` where the device failed.
+    fn size(&self) -> Result<u64, DeviceFault>
+        ensures { IfSome (content self.now) (λ all. IfOk result (λ n. n ≡ length all)) };
+
+    /// Reads the bytes from position `at` on into the front of the buffer, and answers how many came. Into some room it
+    /// answers 0 only at or after the end.
+    ///
+    /// # Errors
+    ///
+    /// `DeviceFault` where the device failed.
+    fn read_at(&self, at: u64, buf: &mut [u8]) -> Result<usize, DeviceFault>
+        ensures bound { IfOk result (λ n. n ≤ length buf.new) }
+        ensures value { IfSome (content self.now) (λ all. IfOk result (λ n. take n buf.new ≡ take n (drop at all))) }
+        ensures end { IfSome (content self.now) (λ all. IfOk result (λ n. n ≡ 0 → 0 < length buf.new → length all ≤ at)) };
+}
+
+/// Fills the buffer from position `at` on, and answers whether there were so many bytes.
+pub fn fill<S: Stored>(stored: &S, at: u64, buf: &mut [u8]) -> Result<bool, DeviceFault>
+    requires { at + length buf.old < 2 ^ 64 }
+    ensures { IfOk result (λ whole. whole ≡ true → IfSome (S.content stored.now) (λ all. buf.new ≡ take (length buf.new) (drop at all))) }
+{
+    let mut filled = 0usize;
+    while filled < buf.len() {
+        let count = stored.read_at(at + filled as u64, &mut buf[filled..])?;
+        if count == 0 {
+            return Ok(false);
+        }
+        filled += count;
+    }
+    Ok(true)
+}

@@ -1,0 +1,73 @@
+-- What is kept of entries, each by the number of its information control block.
+--     word_of standing, standing_of word     a standing without its blocks and holes, in a word and again
+--     known_of kind body                     what is kept of an entry of this kind with this body
+--     known_standing is_deep known           the standing that is kept
+--     IsMemo view memo                       what is kept is told by what stands there
+use Rattle.std.specs.Prelude.{◌≡◌, ℕ, ◌<◌, Bool, true, false, ◌&&◌, List, length, nat_lt, Some}
+use Rattle.std.specs.declared.rc.Rc.{Rc}
+use Rattle.std.specs.declared.vec.Vec.{Vec}
+use Rattle.std.specs.BTreeMap.{BTreeMap, get}
+use Rattle.std.specs.Ordering.{nat_cmp}
+use Rattle.udfs_space.specs.Places.{View}
+use Rattle.udfs_file.specs.Bodies.{Body, body}
+use Rattle.udfs_file.specs.Entries.{entry_of}
+use Rattle.udfs_file.specs.Stretches.{IsStanding}
+use Rattle.udfs_file.specs.declared.directories.DirEntry.{DirEntry}
+use Rattle.udfs_file.specs.declared.faults.Kind.{Kind}
+use Rattle.udfs_file.specs.declared.faults.NodeFault.TheVariants.{Depth}
+use Rattle.udfs_walk.specs.Bare.{no_lists}
+use Rattle.udfs_walk.specs.NamedKeys.{key_of}
+use Rattle.udfs_walk.specs.Routes.{kind_entries}
+use Rattle.udfs_walk.specs.Standings.{body_standing}
+use Rattle.udfs_walk.specs.declared.memos.Known.{Known}
+use Rattle.udfs_walk.specs.declared.memos.Memo.{Memo}
+use Rattle.udfs_walk.specs.declared.memos.Word.{Word}
+use Rattle.udfs_walk.specs.declared.memos.Word.TheVariants as word
+use Rattle.udfs_walk.specs.declared.standings.Standing.{Standing}
+use Rattle.udfs_walk.specs.declared.standings.Standing.TheVariants.{Whole, Torn, Loop, Fault}
+
+-- a standing in a word
+abbrev pub word_of : Standing → Word
+word_of Whole = word.Whole
+word_of (Torn torn) = word.Torn
+word_of Loop = word.Loop
+word_of (Fault f) = word.Fault f
+
+-- the standing of a word, without blocks and holes
+abbrev pub standing_of : Word → Standing
+standing_of word.Whole = Whole
+standing_of word.Torn = Torn no_lists
+standing_of word.Loop = Loop
+standing_of (word.Fault f) = Fault f
+
+-- a directory with entries and so many names in its path is not entered, unless another fault comes first
+abbrev pub deep_word : Bool → Word → Word
+deep_word true word.Whole = word.Fault Depth
+deep_word true word.Torn = word.Fault Depth
+deep_word true word.Loop = word.Fault Depth
+deep_word true (word.Fault f) = word.Fault f
+deep_word false w = w
+
+-- how whole an entry of this kind with this body is, and whether it lists entries
+abbrev pub known_of : Kind → Body → Known
+known_of kind b = record { word = word_of (body_standing kind false b); lists = nat_lt 0 (length (kind_entries kind b)) }
+
+-- the standing that is kept, where the entry is no loop
+abbrev pub known_standing : Bool → Known → Standing
+known_standing is_deep known = standing_of (deep_word (is_deep && known.lists) known.word)
+
+-- what is kept by the number of an ICB is so for the bytes that stand there
+abbrev pub AreKept : {X : Type 0} → View → (ℕ → ℕ → List ℕ → X → Type 0) → BTreeMap ℕ X → Type 0
+AreKept view IsSo kept = (r b : ℕ) (bytes : List ℕ) (x : _) → b < 4294967296 → IsStanding view r b bytes → get nat_cmp kept (key_of r b) ≡ Some x → IsSo r b bytes x
+
+-- what the body tells of the entry there
+abbrev pub IsWordOf : View → ℕ → ℕ → List ℕ → Known → Type 0
+IsWordOf view r b bytes known = known ≡ known_of (entry_of bytes).kind (body view r b (entry_of bytes))
+
+-- what the entry there lists
+abbrev pub IsListOf : {Y Z : Type 0} → View → ℕ → ℕ → List ℕ → Rc (Vec DirEntry Y) Z → Type 0
+IsListOf view r b bytes entries = entries.value.items ≡ kind_entries (entry_of bytes).kind (body view r b (entry_of bytes))
+
+-- all that is kept is told by what stands there
+abbrev pub IsMemo : View → Memo → Type 0
+IsMemo view memo = AreKept view (IsWordOf view) memo.words × AreKept view (IsListOf view) memo.lists

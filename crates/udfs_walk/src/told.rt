@@ -1,0 +1,153 @@
+//! What the body of an entry tells: how whole the entry is, and what it lists as a directory.
+
+ghost use Rattle.std.specs.Prelude.{◌≤◌, ◌≡◌, ◌<◌, ◌^◌, IfErr, IfOk, List, false, length, nat_lt};
+ghost use Rattle.udfs_space.specs.Views.{view_now};
+ghost use Rattle.udfs_file.specs.Stretches.{IsStanding, cells_of};
+ghost use Rattle.udfs_file.specs.Entries.{entry_of};
+ghost use Rattle.udfs_file.specs.Bodies.{body, cells};
+ghost use Rattle.udfs_file.specs.Fronts.{IsEndOf, directory, directory_entries, fault_in};
+ghost use Rattle.udfs_file.specs.declared.cells.Cell.{Cell};
+ghost use Rattle.udfs_walk.specs.Standings.{body_standing, kind_standing, standing_or_fault};
+ghost use Rattle.udfs_walk.specs.Routes.{kind_entries};
+ghost use Rattle.udfs_walk.specs.Visits.{AreRefused};
+
+use crate::answers::NodesError;
+use crate::gaps::cells_standing;
+use crate::standings::Standing;
+use std::alloc::{AllocError, Global};
+use udfs_file::directories::{DirEnd, DirFront};
+use udfs_file::{Body, Dir, DirEntry, Entry, FrontError, Kind, WalkError};
+use udfs_space::View;
+use udfs_tag::LongAd;
+
+/// What the body of an entry tells, wherever in the tree the entry stands.
+#[derive(Drop)]
+pub(crate) struct Told {
+    /// How whole the entry is, where it is no loop and fewer than 64 names lead to it.
+    pub(crate) standing: Standing,
+    /// Whether it lists entries, as a directory.
+    pub(crate) lists: bool,
+}
+
+/// What a directory tells that ends so, where its cells alone would have this standing.
+fn ended(end: DirEnd, standing: Standing) -> Told
+    ensures standing { (cs : List Cell) → IsEndOf end cs → result.standing ≡ standing_or_fault (fault_in (directory cs).rest) standing }
+    ensures lists { (cs : List Cell) → IsEndOf end cs → result.lists ≡ nat_lt 0 (length (directory_entries cs)) }
+{
+    let standing = match end.fault {
+        Some(fault) => Standing::Fault(fault),
+        None => standing,
+    };
+    Told {
+        standing,
+        lists: end.lists,
+    }
+}
+
+/// What a body tells of an entry of this kind.
+fn kind_told(alloc: Global, view: View<'_>, kind: Kind, body: &Body) -> Result<Told, AllocError>
+    requires { length (cells_of (view_now view) body.now) < 2 ^ 64 }
+    ensures standing { IfOk result (λ told. told.standing ≡ kind_standing kind false (cells_of (view_now view.entry) body.now)) }
+    ensures lists { IfOk result (λ told. told.lists ≡ nat_lt 0 (length (kind_entries kind (cells (cells_of (view_now view.entry) body.now))))) }
+{
+    let standing = cells_standing(alloc, view, body)?;
+    match kind {
+        Kind::Directory => Ok(ended(Dir::end(view.table, view.space, body), standing)),
+        _ => Ok(Told {
+            standing,
+            lists: false,
+        }),
+    }
+}
+
+/// What the body of an entry tells that stands at an address. No entry of a directory is kept.
+pub(crate) fn body_told(
+    alloc: Global,
+    view: View<'_>,
+    entry: &Entry<'_>,
+    address: LongAd,
+) -> Result<Told, AllocError>
+    requires { IsStanding (view_now view) address.reference address.block entry.now }
+    ensures standing { IfOk result (λ told. told.standing ≡ body_standing (entry_of entry.now).kind false
+        (body (view_now view.entry) address.reference address.block (entry_of entry.now))) }
+    ensures lists { IfOk result (λ told. told.lists ≡ nat_lt 0 (length (kind_entries (entry_of entry.now).kind
+        (body (view_now view.entry) address.reference address.block (entry_of entry.now))))) }
+{
+    match Body::read(
+        alloc,
+        view.table,
+        view.space,
+        entry,
+        address.reference,
+        address.block,
+    ) {
+        Err(WalkError::OutOfMemory) => Err(AllocError),
+        Err(WalkError::Fault(fault)) => Ok(Told {
+            standing: Standing::Fault(fault),
+            lists: false,
+        }),
+        Ok(body) => {
+            // The body has as many cells as this number of 64 bits says.
+            let _size = entry.size();
+            let told = kind_told(alloc, view, entry.kind(), &body)?;
+            Ok(told)
+        }
+    }
+}
+
+/// The entries of a body's front, of which there are at most so many.
+fn body_entries(
+    alloc: Global,
+    view: View<'_>,
+    kind: Kind,
+    body: &Body,
+    most: usize,
+) -> Result<Vec<DirEntry>, NodesError>
+    ensures entries { IfOk result (λ entries. entries.items ≡ kind_entries kind (cells (cells_of (view_now view.entry) body.now))) }
+    ensures few { IfOk result (λ entries. length entries.items ≤ most) }
+    ensures refused { IfErr result (AreRefused most (kind_entries kind (cells (cells_of (view_now view.entry) body.now)))) }
+{
+    match kind {
+        Kind::Directory => match Dir::front_within(alloc, view.table, view.space, body, most) {
+            Ok(front) => {
+                let DirFront { entries, .. } = front;
+                Ok(entries)
+            }
+            Err(FrontError::TooMany) => Err(NodesError::TooManyPaths),
+            Err(FrontError::OutOfMemory) => Err(NodesError::OutOfMemory),
+        },
+        _ => Ok(Vec::new(alloc)),
+    }
+}
+
+/// The entries that an entry lists which stands at an address; there are at most so many.
+pub(crate) fn entries_told(
+    alloc: Global,
+    view: View<'_>,
+    entry: &Entry<'_>,
+    address: LongAd,
+    most: usize,
+) -> Result<Vec<DirEntry>, NodesError>
+    requires { IsStanding (view_now view) address.reference address.block entry.now }
+    ensures entries { IfOk result (λ entries. entries.items ≡ kind_entries (entry_of entry.now).kind
+        (body (view_now view.entry) address.reference address.block (entry_of entry.now))) }
+    ensures few { IfOk result (λ entries. length entries.items ≤ most) }
+    ensures refused { IfErr result (AreRefused most (kind_entries (entry_of entry.now).kind
+        (body (view_now view.entry) address.reference address.block (entry_of entry.now)))) }
+{
+    match Body::read(
+        alloc,
+        view.table,
+        view.space,
+        entry,
+        address.reference,
+        address.block,
+    ) {
+        Err(WalkError::OutOfMemory) => Err(NodesError::OutOfMemory),
+        Err(WalkError::Fault(_)) => Ok(Vec::new(alloc)),
+        Ok(body) => {
+            let entries = body_entries(alloc, view, entry.kind(), &body, most)?;
+            Ok(entries)
+        }
+    }
+}
