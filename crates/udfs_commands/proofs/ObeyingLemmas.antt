@@ -1,6 +1,6 @@
 -- The name and the arguments of the command that the words ask for, from what each of them is by itself.
-use Rattle.std.proofs.Common.{◌≡◌, ◌≢◌, ℕ, cond, Result, Ok, Err, IfOk, OnOk, OnErr, Bool, true, false, ◌∙◌, Option, Some, None, option_map, List, ap, ap₂, subst, sym, refl}
-use Rattle.clap.specs.Words.{HasMatchesOf, Row, Text, is_simple, rows_of, subcommand_rows_of}
+use Rattle.std.proofs.Common.{◌≡◌, ◌≢◌, ℕ, cond, Result, Ok, Err, IfOk, OnOk, OnErr, Bool, true, false, ◌∙◌, Option, Some, None, option_map, List, [], ap, ap₂, subst, sym, refl, arith}
+use Rattle.clap.specs.Words.{App, HasMatchesOf, Row, Text, fault_of, is_simple, is_simple_and_free, rows_of, subcommand_rows_of}
 use Rattle.clap.specs.Matches.{subcommand_name_of}
 use Rattle.clap.specs.declared.parser.matches.ArgMatches.{ArgMatches}
 use Rattle.clap.specs.declared.parser.matches.Found.{Found}
@@ -38,6 +38,20 @@ simple_by false false false = refl
 simple : (given : Given) → is_simple (program_app given) ≡ true
 simple given = simple_by given.pairs given.needs_last given.conflicts
 
+free_by : (pairs needs_last conflicts : Bool) → is_simple_and_free (program_app (record { pairs = pairs; needs_last = needs_last; conflicts = conflicts })) ≡ true
+free_by true true true = refl
+free_by true true false = refl
+free_by true false true = refl
+free_by true false false = refl
+free_by false true true = refl
+free_by false true false = refl
+free_by false false true = refl
+free_by false false false = refl
+
+-- where clap found matches there is no fault in the words
+pub no_fault : (app : App) (words : List Text) → app ≡ program_app (given_in words) → (is_simple_and_free app ≡ true → fault_of app words ≡ []) → fault_of (program_app (given_in words)) words ≡ []
+no_fault app words is found = subst (λ (a : App). fault_of a words ≡ []) is (found (ap is_simple_and_free is ∙ free_by (given_in words).pairs (given_in words).needs_last (given_in words).conflicts))
+
 pub asked : (m : ArgMatches) (words : List Text) (name : Text) (found : Found) → HasMatchesOf (program_app (given_in words)) words m
     → Some name ≡ subcommand_name_of m → Some (rows_of found) ≡ option_map (λ (p : Text × List Row). p.1) (subcommand_rows_of m) → IsAsked words name found
 asked m words name found h named rows = sym ((h (simple (given_in words))).1) ∙ both _ _ _ name (rows_of found) named rows
@@ -61,3 +75,9 @@ done_whole (Ok false) r P Q ok err some is p q = absurd (no is)
     no : false ≡ true → ⊥
     no e = cc
 done_whole (Err e) r P Q ok err some is p q = absurd (some err)
+
+-- what holds of a refusal, with its status
+pub refused : {E : Type 0} (o : Result Bool E) (r : ℕ) (P : Type 0) → IfOk o (λ w. r ≡ cond w 0 1) → r ≡ 2 → OnErr o P → P
+refused (Ok true) r P ok two p = absurd (omega (arith, ok, two))
+refused (Ok false) r P ok two p = absurd (omega (arith, ok, two))
+refused (Err e) r P ok two p = p

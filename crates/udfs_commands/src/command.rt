@@ -1,10 +1,9 @@
 //! The program as a function: words and files in, a status out.
 
-ghost use Rattle.std.specs.Prelude.{◌≡◌, ◌≢◌, ◌⊎◌, ℕ, List, Bool, true, false, None, IfOk, IfSome, OnOk, OnErr, codes, cond, map};
+ghost use Rattle.std.specs.Prelude.{◌≡◌, ◌≢◌, ◌⊎◌, ℕ, List, [], Bool, true, false, None, IfOk, IfSome, OnOk, OnErr, codes, cond, map};
 ghost use Rattle.clap.specs.Matches.{found_of};
-ghost use Rattle.udfs_lattice.specs.Tables.{Table};
-ghost use Rattle.udfs_lattice.specs.Records.{join_all};
-ghost use Rattle.udfs_files.specs.Disk.{Fails};
+ghost use Rattle.clap.specs.Words.{fault_of};
+ghost use Rattle.udfs_files.specs.Disk.{Fails, SinkFails};
 ghost use Rattle.udfs_volume.specs.declared.profiles.Profile.{Profile};
 ghost use Rattle.udfs_salvage.specs.declared.extraction.Fill.{Fill};
 ghost use Rattle.udfs_words.specs.Asking.{IsKnownProfile, IsLast, IsOneEnd, IsPicked, IsProfile, are_two_streams, asked_for, asked_inputs, asked_streams, folder_text, has_lost, has_manifest, has_only, input_texts, is_mapped, lost_text, manifest_text, mapfile_text, only_texts, out_text, pair_texts};
@@ -13,24 +12,23 @@ ghost use Rattle.udfs_tables.specs.Forgetting.{PutsForgotten};
 ghost use Rattle.udfs_common.specs.Guarding.{IsFreePair, IsFree, IsFreeMap};
 ghost use Rattle.udfs_tables.specs.Imaging.{ReplacesPair, WritesImage};
 ghost use Rattle.udfs_reports.specs.Reporting.{PrintsAs};
-ghost use Rattle.udfs_common.specs.Keeping.{IsKept, IsTaken, Joined, OfPaths};
+ghost use Rattle.udfs_common.specs.Keeping.{FailedOut, IsKept, IsTaken, OfPaths, RefusedOut};
 ghost use Rattle.udfs_common.specs.declared.sources.AnySource.{AnySource};
 ghost use Rattle.udfs_words.specs.declared.input_path.InputPath.{InputPath};
-ghost use Rattle.udfs_reports.specs.Rereading.{PrintsNumbers, WritesDomain, MayDomainAsked, RereadSpares};
+ghost use Rattle.udfs_reports.specs.Rereading.{DomainAsked, PrintsNumbers, WritesDomain, MayDomainAsked, RereadSpares};
 ghost use Rattle.clap.specs.declared.parser.matches.Found.{Found};
 ghost use Rattle.std.specs.String.{string_bytes};
 ghost use Rattle.udfs_extraction.specs.Sparing.{ExtractSpares};
-ghost use Rattle.udfs_tables.specs.Leaving.{MayForgetAsked, MayMerge, ReplacesOut};
+ghost use Rattle.udfs_tables.specs.Leaving.{MayForgetAsked, MayMerge, PutsJoin, ReplacesOut};
 ghost use Rattle.udfs_extraction.specs.LostFiles.{AddsLost, ExtractAsked, IsLostPut, IsNewFolder, SparesLost, WritesLost, lost_others};
 ghost use Rattle.udfs_extraction.specs.Manifests.{IsFreeManifest, IsManifest, IsPutLast, ListsChosen};
 ghost use Rattle.udfs_reports.specs.Listing.{IsListForm, PrintsList};
-ghost use Rattle.udfs_reports.specs.Paging.{IsFreePage, MayPageAsked, ReplacesPage, WritesPage, page_path};
+ghost use Rattle.udfs_reports.specs.Paging.{IsFreePage, MayPageAsked, PageAsked, ReplacesPage, WritesPage, page_path};
 ghost use Rattle.udfs_reports.specs.Summarizing.{PrintsSummary};
-ghost use Rattle.udfs_words.specs.Obeying.{Asks, GrammarTakes, IsAsked};
+ghost use Rattle.udfs_words.specs.Obeying.{Asks, GrammarTakes, IsAsked, given_in};
+ghost use Rattle.udfs_words.specs.Grammar.{program_app};
 ghost use Rattle.udfs_overview.specs.declared.node_list.ListForm.{ListForm};
-ghost use Rattle.udfs_common.specs.Spelling.{table_file};
 ghost use Rattle.udfs_extraction.specs.Timing.{IsTold};
-ghost use Rattle.udfs_words.specs.declared.forms.Version.{Version};
 ghost use Rattle.udfs_words.specs.declared.forms.Form.{Form};
 
 use crate::printing::send;
@@ -71,77 +69,75 @@ pub fn run<F: Files, O: Sink, E: Sink>(
     ensures status { (result ≡ 0) ⊎ (result ≡ 1) ⊎ (result ≡ 2) }
     ensures silent { result ≢ 2 → err.new ≡ err.old }
     ensures merge { GrammarTakes (map string_bytes words.now) → Asks (map string_bytes words.now) (codes "merge") → result ≢ 2 → (result ≡ 0) × (found : Found) × IsAsked (map string_bytes words.now) (codes "merge") found ×
-        ((version : Version) × (inputs : List InputPath) × (tables : List Table) × IsPicked found (codes "v1") Version.One Version.Two version ×
-        (map asked_for inputs ≡ asked_inputs found) × Joined (λ path. F.holds files.old (F.real files.old path)) (⟦<AnySource<F::Input, F::Image> as Source>⟧.remaining) inputs tables ×
-        ((F.tells → IsKept (F.holds files.new) (F.may_leave files.new) (F.real files.old (out_text found)) (table_file version (join_all tables)))
-        ⊎ (F.in_place files.old (out_text found) × IsTaken F.Output.contents (table_file version (join_all tables))))) × ((force : Bool) × IsPicked found (codes "force") true false force ×
+        PutsJoin (λ path. F.holds files.old (F.real files.old path)) (⟦<AnySource<F::Input, F::Image> as Source>⟧.remaining) found
+        (λ bytes. (F.tells → IsKept (F.holds files.new) (F.may_leave files.new) (F.real files.old (out_text found)) bytes) ⊎ (F.in_place files.old (out_text found) × IsTaken F.Output.stream bytes)) × ((force : Bool) × IsPicked found (codes "force") true false force ×
         (F.tells → IsFree (F.holds files.old) (F.real files.old) (F.in_place files.old) (input_texts found) (pair_texts found) force (out_text found))) }
     ensures report { GrammarTakes (map string_bytes words.now) → Asks (map string_bytes words.now) (codes "report") → result ≢ 2 → (whole : Bool) × (result ≡ cond whole 0 1) × (found : Found) × IsAsked (map string_bytes words.now) (codes "report") found ×
         ((form : Form) × (last : ℕ) × (profile : Profile) × (inputs : List InputPath) × (map asked_for inputs ≡ asked_inputs found) ×
         IsPicked found (codes "json") Form.Json Form.Text form × IsLast (λ path. F.holds files.old (F.real files.old path)) inputs found last × IsProfile found profile ×
-        OfPaths (λ path. F.holds files.old (F.real files.old path)) (⟦<AnySource<F::Input, F::Image> as Source>⟧.remaining) inputs (PrintsAs profile form last (O.contents out.old) (O.contents out.new) (O.faults out.old) (O.faults out.new) whole)) }
+        OfPaths (λ path. F.holds files.old (F.real files.old path)) (⟦<AnySource<F::Input, F::Image> as Source>⟧.remaining) inputs (PrintsAs profile form last (O.stream out.old) (O.stream out.new) whole)) }
     ensures reread { GrammarTakes (map string_bytes words.now) → Asks (map string_bytes words.now) (codes "reread") → result ≢ 2 → (whole : Bool) × (result ≡ cond whole 0 1) × (found : Found) × IsAsked (map string_bytes words.now) (codes "reread") found ×
         (is_mapped found ≡ false → (last : ℕ) × (profile : Profile) × (inputs : List InputPath) × (map asked_for inputs ≡ asked_inputs found) ×
         IsLast (λ path. F.holds files.old (F.real files.old path)) inputs found last × IsProfile found profile × OfPaths (λ path. F.holds files.old (F.real files.old path)) (⟦<AnySource<F::Input, F::Image> as Source>⟧.remaining) inputs
-        (PrintsNumbers profile last (O.contents out.old) (O.contents out.new) (O.faults out.old) (O.faults out.new) whole)) }
+        (PrintsNumbers profile last (O.stream out.old) (O.stream out.new) whole)) }
     ensures reread_map { GrammarTakes (map string_bytes words.now) → Asks (map string_bytes words.now) (codes "reread") → result ≢ 2 → (whole : Bool) × (result ≡ cond whole 0 1) × (found : Found) × IsAsked (map string_bytes words.now) (codes "reread") found ×
         (is_mapped found ≡ true → WritesDomain (λ path. F.holds files.old (F.real files.old path)) (⟦<AnySource<F::Input, F::Image> as Source>⟧.remaining) found
-        (λ bytes. (F.tells → IsKept (F.holds files.new) (F.may_leave files.new) (F.real files.old (mapfile_text found)) bytes) ⊎ (F.in_place files.old (mapfile_text found) × IsTaken F.Output.contents bytes))
-        (O.contents out.old) (O.contents out.new) (O.faults out.old) (O.faults out.new) whole ×
+        (λ bytes. (F.tells → IsKept (F.holds files.new) (F.may_leave files.new) (F.real files.old (mapfile_text found)) bytes) ⊎ (F.in_place files.old (mapfile_text found) × IsTaken F.Output.stream bytes))
+        (O.stream out.old) (O.stream out.new) whole ×
         (F.tells → IsFreeMap (F.holds files.old) (F.real files.old) (F.in_place files.old) (pair_texts found) (mapfile_text found))) }
     // Where `--times` asks for times, one that could not be set is lacking too.
     ensures extract { GrammarTakes (map string_bytes words.now) → Asks (map string_bytes words.now) (codes "extract") → result ≢ 2 → (all : Bool) × (result ≡ cond all 0 1) × (found : Found) × IsAsked (map string_bytes words.now) (codes "extract") found ×
         ((good : Bool) × IsTold found good all × (has_lost found ≡ false → has_manifest found ≡ false → has_only found ≡ false → (fill : Fill) × (short : Bool) × (last : ℕ) × (profile : Profile) × (inputs : List InputPath) × (map asked_for inputs ≡ asked_inputs found) ×
         IsPicked found (codes "fill") (Fill.Byte 0) Fill.Refuse fill × IsPicked found (codes "short-names") true false short × IsLast (λ path. F.holds files.old (F.real files.old path)) inputs found last × IsProfile found profile ×
         OfPaths (λ path. F.holds files.old (F.real files.old path)) (⟦<AnySource<F::Input, F::Image> as Source>⟧.remaining) inputs
-        (ExtractsAll short (λ table told. IsPut F.tells (Fails F.faults ⊎ Fails F.Output.faults) table told fill short (folder_text found) (F.holds files.new) (F.moment files.new) (F.left_since files.new))
-        files.old files.new profile last (O.contents out.old) (O.contents out.new) (O.faults out.old) (O.faults out.new) good))) }
+        (ExtractsAll short (λ table told. IsPut F.tells (Fails F.faults ⊎ SinkFails F.Output.stream) table told fill short (folder_text found) (F.holds files.new) (F.moment files.new) (F.left_since files.new))
+        files.old files.new profile last (O.stream out.old) (O.stream out.new) good))) }
     ensures chosen { GrammarTakes (map string_bytes words.now) → Asks (map string_bytes words.now) (codes "extract") → result ≢ 2 → (all : Bool) × (result ≡ cond all 0 1) × (found : Found) × IsAsked (map string_bytes words.now) (codes "extract") found ×
         ((good : Bool) × IsTold found good all × (has_lost found ≡ false → has_manifest found ≡ false → (fill : Fill) × (short : Bool) × (last : ℕ) × (profile : Profile) × (inputs : List InputPath) × (map asked_for inputs ≡ asked_inputs found) ×
         IsPicked found (codes "fill") (Fill.Byte 0) Fill.Refuse fill × IsPicked found (codes "short-names") true false short × IsLast (λ path. F.holds files.old (F.real files.old path)) inputs found last × IsProfile found profile ×
         OfPaths (λ path. F.holds files.old (F.real files.old path)) (⟦<AnySource<F::Input, F::Image> as Source>⟧.remaining) inputs
-        (ExtractsChosen (only_texts found) short (λ table told. IsPut F.tells (Fails F.faults ⊎ Fails F.Output.faults) table told fill short (folder_text found) (F.holds files.new) (F.moment files.new) (F.left_since files.new))
-        F.holds (folder_text found) files.old files.new profile last (O.contents out.old) (O.contents out.new) (O.faults out.old) (O.faults out.new) good))) }
+        (ExtractsChosen (only_texts found) short (λ table told. IsPut F.tells (Fails F.faults ⊎ SinkFails F.Output.stream) table told fill short (folder_text found) (F.holds files.new) (F.moment files.new) (F.left_since files.new))
+        F.holds (folder_text found) files.old files.new profile last (O.stream out.old) (O.stream out.new) good))) }
     ensures listed { GrammarTakes (map string_bytes words.now) → Asks (map string_bytes words.now) (codes "extract") → result ≢ 2 → (all : Bool) × (result ≡ cond all 0 1) × (found : Found) × IsAsked (map string_bytes words.now) (codes "extract") found ×
         ((good : Bool) × IsTold found good all × (has_lost found ≡ false → has_manifest found ≡ true → ((fill : Fill) × (short : Bool) × (last : ℕ) × (profile : Profile) × (inputs : List InputPath) × (map asked_for inputs ≡ asked_inputs found) ×
         IsPicked found (codes "fill") (Fill.Byte 0) Fill.Refuse fill × IsPicked found (codes "short-names") true false short × IsLast (λ path. F.holds files.old (F.real files.old path)) inputs found last × IsProfile found profile ×
         OfPaths (λ path. F.holds files.old (F.real files.old path)) (⟦<AnySource<F::Input, F::Image> as Source>⟧.remaining) inputs
         (ListsChosen (only_texts found) short
-        (λ f table told. IsPut F.tells (Fails F.faults ⊎ Fails F.Output.faults) table told fill short (folder_text found) (F.holds f) (F.moment f) (F.left_since f))
+        (λ f table told. IsPut F.tells (Fails F.faults ⊎ SinkFails F.Output.stream) table told fill short (folder_text found) (F.holds f) (F.moment f) (F.left_since f))
         (λ f told fates text. F.tells → IsManifest (F.holds f) (folder_text found) short told fates text)
         (λ f text. F.tells → IsPutLast F.holds F.may_leave F.moment F.left_since (F.real files.old (manifest_text found)) f files.new text)
-        F.holds (folder_text found) files.old files.new profile last (O.contents out.old) (O.contents out.new) (O.faults out.old) (O.faults out.new) good)) ×
+        F.holds (folder_text found) files.old files.new profile last (O.stream out.old) (O.stream out.new) good)) ×
         (F.tells → IsFreeManifest (F.holds files.old) (F.real files.old) (input_texts found) (pair_texts found) (folder_text found) (manifest_text found)))) }
     // With `--unnamed` the same, and then the lost files are written, into a folder that was not there.
     ensures lost { GrammarTakes (map string_bytes words.now) → Asks (map string_bytes words.now) (codes "extract") → result ≢ 2 → (all : Bool) × (result ≡ cond all 0 1) × (found : Found) × IsAsked (map string_bytes words.now) (codes "extract") found ×
         ((good : Bool) × IsTold found good all × (has_lost found ≡ true → has_manifest found ≡ false → ExtractAsked (λ path. F.holds files.old (F.real files.old path)) (⟦<AnySource<F::Input, F::Image> as Source>⟧.remaining) found (λ fill short last profile. AddsLost
-        (λ (mid : F) (between : O) nodes_good. ExtractsChosen (only_texts found) short (λ table told. IsPut F.tells (Fails F.faults ⊎ Fails F.Output.faults) table told fill short (folder_text found) (F.holds mid) (F.moment mid) (F.left_since mid))
-        F.holds (folder_text found) files.old mid profile last (O.contents out.old) (O.contents between) (O.faults out.old) (O.faults between) nodes_good)
-        (λ (mid : F) (between : O) lost_good. WritesLost (λ table told two. IsLostPut F.tells (Fails F.faults ⊎ Fails F.Output.faults) table told (lost_text found) two (F.holds files.new) (F.moment files.new) (F.left_since files.new))
-        (SparesLost F.tells F.holds F.may_leave F.moment F.left_since (lost_text found) mid files.new) profile last (O.contents between) (O.contents out.new) (O.faults between) (O.faults out.new) lost_good) good))) }
+        (λ (mid : F) (between : O) nodes_good. ExtractsChosen (only_texts found) short (λ table told. IsPut F.tells (Fails F.faults ⊎ SinkFails F.Output.stream) table told fill short (folder_text found) (F.holds mid) (F.moment mid) (F.left_since mid))
+        F.holds (folder_text found) files.old mid profile last (O.stream out.old) (O.stream between) nodes_good)
+        (λ (mid : F) (between : O) lost_good. WritesLost (λ table told two. IsLostPut F.tells (Fails F.faults ⊎ SinkFails F.Output.stream) table told (lost_text found) two (F.holds files.new) (F.moment files.new) (F.left_since files.new))
+        (SparesLost F.tells F.holds F.may_leave F.moment F.left_since (lost_text found) mid files.new) profile last (O.stream between) (O.stream out.new) lost_good) good))) }
     ensures listed_lost { GrammarTakes (map string_bytes words.now) → Asks (map string_bytes words.now) (codes "extract") → result ≢ 2 → (all : Bool) × (result ≡ cond all 0 1) × (found : Found) × IsAsked (map string_bytes words.now) (codes "extract") found ×
         ((good : Bool) × IsTold found good all × (has_lost found ≡ true → has_manifest found ≡ true → ExtractAsked (λ path. F.holds files.old (F.real files.old path)) (⟦<AnySource<F::Input, F::Image> as Source>⟧.remaining) found (λ fill short last profile. AddsLost
-        (λ (mid : F) (between : O) nodes_good. ListsChosen (only_texts found) short (λ f table told. IsPut F.tells (Fails F.faults ⊎ Fails F.Output.faults) table told fill short (folder_text found) (F.holds f) (F.moment f) (F.left_since f))
+        (λ (mid : F) (between : O) nodes_good. ListsChosen (only_texts found) short (λ f table told. IsPut F.tells (Fails F.faults ⊎ SinkFails F.Output.stream) table told fill short (folder_text found) (F.holds f) (F.moment f) (F.left_since f))
         (λ f told fates text. F.tells → IsManifest (F.holds f) (folder_text found) short told fates text)
         (λ f text. F.tells → IsPutLast F.holds F.may_leave F.moment F.left_since (F.real files.old (manifest_text found)) f mid text)
-        F.holds (folder_text found) files.old mid profile last (O.contents out.old) (O.contents between) (O.faults out.old) (O.faults between) nodes_good)
-        (λ (mid : F) (between : O) lost_good. WritesLost (λ table told two. IsLostPut F.tells (Fails F.faults ⊎ Fails F.Output.faults) table told (lost_text found) two (F.holds files.new) (F.moment files.new) (F.left_since files.new))
-        (SparesLost F.tells F.holds F.may_leave F.moment F.left_since (lost_text found) mid files.new) profile last (O.contents between) (O.contents out.new) (O.faults between) (O.faults out.new) lost_good) good))) }
+        F.holds (folder_text found) files.old mid profile last (O.stream out.old) (O.stream between) nodes_good)
+        (λ (mid : F) (between : O) lost_good. WritesLost (λ table told two. IsLostPut F.tells (Fails F.faults ⊎ SinkFails F.Output.stream) table told (lost_text found) two (F.holds files.new) (F.moment files.new) (F.left_since files.new))
+        (SparesLost F.tells F.holds F.may_leave F.moment F.left_since (lost_text found) mid files.new) profile last (O.stream between) (O.stream out.new) lost_good) good))) }
     ensures free_lost { GrammarTakes (map string_bytes words.now) → Asks (map string_bytes words.now) (codes "extract") → result ≢ 2 → (good : Bool) × (result ≡ cond good 0 1) × (found : Found) × IsAsked (map string_bytes words.now) (codes "extract") found ×
         ((has_lost found ≡ true → F.tells → IsNewFolder (F.holds files.old) (F.real files.old) (lost_others found) (lost_text found)) × (has_lost found ≡ true → has_manifest found ≡ true → F.tells → IsFreeManifest (F.holds files.old) (F.real files.old) (input_texts found) (pair_texts found) (folder_text found) (manifest_text found))) }
     ensures forget { GrammarTakes (map string_bytes words.now) → Asks (map string_bytes words.now) (codes "forget") → result ≢ 2 → (result ≡ 0) × (found : Found) × IsAsked (map string_bytes words.now) (codes "forget") found ×
         PutsForgotten (λ path. F.holds files.old (F.real files.old path)) (⟦<AnySource<F::Input, F::Image> as Source>⟧.remaining) found
-        (λ bytes. (F.tells → IsKept (F.holds files.new) (F.may_leave files.new) (F.real files.old (out_text found)) bytes) ⊎ (F.in_place files.old (out_text found) × IsTaken F.Output.contents bytes)) ×
+        (λ bytes. (F.tells → IsKept (F.holds files.new) (F.may_leave files.new) (F.real files.old (out_text found)) bytes) ⊎ (F.in_place files.old (out_text found) × IsTaken F.Output.stream bytes)) ×
         ((force : Bool) × IsPicked found (codes "force") true false force ×
         (F.tells → IsFree (F.holds files.old) (F.real files.old) (F.in_place files.old) (input_texts found) (pair_texts found) force (out_text found))) }
     ensures list { GrammarTakes (map string_bytes words.now) → Asks (map string_bytes words.now) (codes "list") → result ≢ 2 → (whole : Bool) × (result ≡ cond whole 0 1) × (found : Found) × IsAsked (map string_bytes words.now) (codes "list") found ×
         ((form : ListForm) × (last : ℕ) × (profile : Profile) × (inputs : List InputPath) × (map asked_for inputs ≡ asked_streams found) ×
         IsListForm found form × IsLast (λ path. F.holds files.old (F.real files.old path)) inputs found last × IsProfile found profile × OfPaths (λ path. F.holds files.old (F.real files.old path)) (⟦<AnySource<F::Input, F::Image> as Source>⟧.remaining) inputs
-        (PrintsList profile form last (O.contents out.old) (O.contents out.new) (O.faults out.old) (O.faults out.new) whole)) }
+        (PrintsList profile form last (O.stream out.old) (O.stream out.new) whole)) }
     ensures summary { GrammarTakes (map string_bytes words.now) → Asks (map string_bytes words.now) (codes "summary") → result ≢ 2 → (whole : Bool) × (result ≡ cond whole 0 1) × (found : Found) × IsAsked (map string_bytes words.now) (codes "summary") found ×
         ((last : ℕ) × (profile : Profile) × (inputs : List InputPath) × (map asked_for inputs ≡ asked_streams found) ×
         IsLast (λ path. F.holds files.old (F.real files.old path)) inputs found last × IsProfile found profile × OfPaths (λ path. F.holds files.old (F.real files.old path)) (⟦<AnySource<F::Input, F::Image> as Source>⟧.remaining) inputs
-        (PrintsSummary profile last (O.contents out.old) (O.contents out.new) (O.faults out.old) (O.faults out.new) whole)) }
+        (PrintsSummary profile last (O.stream out.old) (O.stream out.new) whole)) }
     ensures image { GrammarTakes (map string_bytes words.now) → Asks (map string_bytes words.now) (codes "image") → result ≢ 2 → (result ≡ 0) × (found : Found) × IsAsked (map string_bytes words.now) (codes "image") found ×
         WritesImage (λ path. F.holds files.old (F.real files.old path)) (⟦<AnySource<F::Input, F::Image> as Source>⟧.remaining) found
         (λ bytes text. F.tells → IsKept (F.holds files.new) (F.may_leave files.new) (F.real files.old (out_text found)) bytes × IsKept (F.holds files.new) (F.may_leave files.new) (F.real files.old (mapfile_text found)) text) ×
@@ -149,7 +145,7 @@ pub fn run<F: Files, O: Sink, E: Sink>(
         (F.tells → IsFreePair (F.holds files.old) (F.real files.old) (input_texts found) (pair_texts found) force (out_text found) (mapfile_text found))) }
     ensures page { GrammarTakes (map string_bytes words.now) → Asks (map string_bytes words.now) (codes "page") → result ≢ 2 → (whole : Bool) × (result ≡ cond whole 0 1) × (found : Found) × IsAsked (map string_bytes words.now) (codes "page") found ×
         (WritesPage (λ path. F.holds files.old (F.real files.old path)) (⟦<AnySource<F::Input, F::Image> as Source>⟧.remaining) found
-        (λ bytes. (F.tells → IsKept (F.holds files.new) (F.may_leave files.new) (F.real files.old (page_path found)) bytes) ⊎ (F.in_place files.old (page_path found) × IsTaken F.Output.contents bytes)) whole ×
+        (λ bytes. (F.tells → IsKept (F.holds files.new) (F.may_leave files.new) (F.real files.old (page_path found)) bytes) ⊎ (F.in_place files.old (page_path found) × IsTaken F.Output.stream bytes)) whole ×
         (F.tells → IsFreePage (F.holds files.old) (F.real files.old) (F.in_place files.old) (input_texts found) (pair_texts found) (page_path found))) }
     // A last block and a size are never taken together, nor a size that is not that of whole blocks.
     ensures one_end { GrammarTakes (map string_bytes words.now) → result ≢ 2 → (name : List ℕ) × (found : Found) × IsAsked (map string_bytes words.now) name found × IsOneEnd found }
@@ -175,6 +171,21 @@ pub fn run<F: Files, O: Sink, E: Sink>(
         (MayPageAsked (λ path. F.holds files.old (F.real files.old path)) (⟦<AnySource<F::Input, F::Image> as Source>⟧.remaining) (F.real files.old) found)) }
     ensures extracting { Asks (map string_bytes words.now) (codes "extract") → (files.new ≡ files.old) ⊎ ((found : Found) × IsAsked (map string_bytes words.now) (codes "extract") found ×
         ExtractSpares F.tells F.holds F.real F.may_leave F.moment F.left_since found files.old files.new) }
+    // Words in which clap finds a fault change nothing, nor do those that ask for help.
+    ensures faulty { fault_of (program_app (given_in (map string_bytes words.now))) (map string_bytes words.now) ≢ [] → files.new ≡ files.old }
+    // With status 2 all is as it was; or a call failed, and then the path of the command's file holds what it held or that file, whole, and no other path changes, but those of new files for it. Of the two files of `image`, `imaging` says what is there.
+    ensures merge_refused { Asks (map string_bytes words.now) (codes "merge") → result ≡ 2 → (files.new ≡ files.old) ⊎ ((found : Found) × IsAsked (map string_bytes words.now) (codes "merge") found ×
+        FailedOut F.tells F.holds F.real F.in_place (F.shut files.old (out_text found) ⊎ Fails F.faults ⊎ SinkFails F.Output.stream) (out_text found) files.old files.new
+        (PutsJoin (λ path. F.holds files.old (F.real files.old path)) (⟦<AnySource<F::Input, F::Image> as Source>⟧.remaining) found)) }
+    ensures forget_refused { Asks (map string_bytes words.now) (codes "forget") → result ≡ 2 → (files.new ≡ files.old) ⊎ ((found : Found) × IsAsked (map string_bytes words.now) (codes "forget") found ×
+        FailedOut F.tells F.holds F.real F.in_place (F.shut files.old (out_text found) ⊎ Fails F.faults ⊎ SinkFails F.Output.stream) (out_text found) files.old files.new
+        (PutsForgotten (λ path. F.holds files.old (F.real files.old path)) (⟦<AnySource<F::Input, F::Image> as Source>⟧.remaining) found)) }
+    ensures page_refused { Asks (map string_bytes words.now) (codes "page") → result ≡ 2 → (files.new ≡ files.old) ⊎ ((found : Found) × IsAsked (map string_bytes words.now) (codes "page") found ×
+        FailedOut F.tells F.holds F.real F.in_place (F.shut files.old (page_path found) ⊎ Fails F.faults ⊎ SinkFails F.Output.stream) (page_path found) files.old files.new
+        (PageAsked (λ path. F.holds files.old (F.real files.old path)) (⟦<AnySource<F::Input, F::Image> as Source>⟧.remaining) found)) }
+    ensures reread_refused { Asks (map string_bytes words.now) (codes "reread") → result ≡ 2 → (files.new ≡ files.old) ⊎ ((found : Found) × IsAsked (map string_bytes words.now) (codes "reread") found ×
+        FailedOut F.tells F.holds F.real F.in_place (F.shut files.old (mapfile_text found) ⊎ Fails F.faults ⊎ SinkFails F.Output.stream) (mapfile_text found) files.old files.new
+        (DomainAsked (λ path. F.holds files.old (F.real files.old path)) (⟦<AnySource<F::Input, F::Image> as Source>⟧.remaining) found)) }
 {
     let command = match grammar(alloc, given_in(words)) {
         Ok(command) => command,
@@ -219,66 +230,64 @@ fn obey<F: Files, O: Sink>(
     out: &mut O,
 ) -> Option<Result<bool, Refusal>>
     ensures done { name.now ≡ codes "merge" → IfSome result (λ outcome. IfOk outcome (λ whole. whole ≡ true)) }
-    ensures merge { name.now ≡ codes "merge" → IfSome result (λ outcome. OnOk outcome ((version : Version) × (inputs : List InputPath) × (tables : List Table) × IsPicked (found_of words.now) (codes "v1") Version.One Version.Two version ×
-        (map asked_for inputs ≡ asked_inputs (found_of words.now)) × Joined (λ path. F.holds files.old (F.real files.old path)) (⟦<AnySource<F::Input, F::Image> as Source>⟧.remaining) inputs tables ×
-        ((F.tells → IsKept (F.holds files.new) (F.may_leave files.new) (F.real files.old (out_text (found_of words.now))) (table_file version (join_all tables)))
-        ⊎ (F.in_place files.old (out_text (found_of words.now)) × IsTaken F.Output.contents (table_file version (join_all tables)))))) }
+    ensures merge { name.now ≡ codes "merge" → IfSome result (λ outcome. OnOk outcome (PutsJoin (λ path. F.holds files.old (F.real files.old path)) (⟦<AnySource<F::Input, F::Image> as Source>⟧.remaining) (found_of words.now)
+        (λ bytes. (F.tells → IsKept (F.holds files.new) (F.may_leave files.new) (F.real files.old (out_text (found_of words.now))) bytes) ⊎ (F.in_place files.old (out_text (found_of words.now)) × IsTaken F.Output.stream bytes)))) }
     ensures free { name.now ≡ codes "merge" → IfSome result (λ outcome. OnOk outcome ((force : Bool) × IsPicked (found_of words.now) (codes "force") true false force ×
         (F.tells → IsFree (F.holds files.old) (F.real files.old) (F.in_place files.old) (input_texts (found_of words.now)) (pair_texts (found_of words.now)) force (out_text (found_of words.now))))) }
     ensures report { name.now ≡ codes "report" → IfSome result (λ outcome. IfOk outcome (λ whole. (form : Form) × (last : ℕ) × (profile : Profile) × (inputs : List InputPath) × (map asked_for inputs ≡ asked_inputs (found_of words.now)) ×
         IsPicked (found_of words.now) (codes "json") Form.Json Form.Text form × IsLast (λ path. F.holds files.old (F.real files.old path)) inputs (found_of words.now) last × IsProfile (found_of words.now) profile ×
-        OfPaths (λ path. F.holds files.old (F.real files.old path)) (⟦<AnySource<F::Input, F::Image> as Source>⟧.remaining) inputs (PrintsAs profile form last (O.contents out.old) (O.contents out.new) (O.faults out.old) (O.faults out.new) whole))) }
+        OfPaths (λ path. F.holds files.old (F.real files.old path)) (⟦<AnySource<F::Input, F::Image> as Source>⟧.remaining) inputs (PrintsAs profile form last (O.stream out.old) (O.stream out.new) whole))) }
     ensures reread_map { name.now ≡ codes "reread" → IfSome result (λ outcome. IfOk outcome (λ whole. is_mapped (found_of words.now) ≡ true → WritesDomain (λ path. F.holds files.old (F.real files.old path)) (⟦<AnySource<F::Input, F::Image> as Source>⟧.remaining) (found_of words.now)
-        (λ bytes. (F.tells → IsKept (F.holds files.new) (F.may_leave files.new) (F.real files.old (mapfile_text (found_of words.now))) bytes) ⊎ (F.in_place files.old (mapfile_text (found_of words.now)) × IsTaken F.Output.contents bytes))
-        (O.contents out.old) (O.contents out.new) (O.faults out.old) (O.faults out.new) whole ×
+        (λ bytes. (F.tells → IsKept (F.holds files.new) (F.may_leave files.new) (F.real files.old (mapfile_text (found_of words.now))) bytes) ⊎ (F.in_place files.old (mapfile_text (found_of words.now)) × IsTaken F.Output.stream bytes))
+        (O.stream out.old) (O.stream out.new) whole ×
         (F.tells → IsFreeMap (F.holds files.old) (F.real files.old) (F.in_place files.old) (pair_texts (found_of words.now)) (mapfile_text (found_of words.now))))) }
     ensures reread { name.now ≡ codes "reread" → IfSome result (λ outcome. IfOk outcome (λ whole. is_mapped (found_of words.now) ≡ false → (last : ℕ) × (profile : Profile) × (inputs : List InputPath) × (map asked_for inputs ≡ asked_inputs (found_of words.now)) ×
         IsLast (λ path. F.holds files.old (F.real files.old path)) inputs (found_of words.now) last × IsProfile (found_of words.now) profile × OfPaths (λ path. F.holds files.old (F.real files.old path)) (⟦<AnySource<F::Input, F::Image> as Source>⟧.remaining) inputs
-        (PrintsNumbers profile last (O.contents out.old) (O.contents out.new) (O.faults out.old) (O.faults out.new) whole))) }
+        (PrintsNumbers profile last (O.stream out.old) (O.stream out.new) whole))) }
     ensures extract { name.now ≡ codes "extract" → IfSome result (λ outcome. IfOk outcome (λ all. (good : Bool) × IsTold (found_of words.now) good all × (has_lost (found_of words.now) ≡ false → has_manifest (found_of words.now) ≡ false → has_only (found_of words.now) ≡ false → (fill : Fill) × (short : Bool) × (last : ℕ) × (profile : Profile) × (inputs : List InputPath) × (map asked_for inputs ≡ asked_inputs (found_of words.now)) ×
         IsPicked (found_of words.now) (codes "fill") (Fill.Byte 0) Fill.Refuse fill × IsPicked (found_of words.now) (codes "short-names") true false short × IsLast (λ path. F.holds files.old (F.real files.old path)) inputs (found_of words.now) last × IsProfile (found_of words.now) profile ×
         OfPaths (λ path. F.holds files.old (F.real files.old path)) (⟦<AnySource<F::Input, F::Image> as Source>⟧.remaining) inputs
-        (ExtractsAll short (λ table told. IsPut F.tells (Fails F.faults ⊎ Fails F.Output.faults) table told fill short (folder_text (found_of words.now)) (F.holds files.new) (F.moment files.new) (F.left_since files.new))
-        files.old files.new profile last (O.contents out.old) (O.contents out.new) (O.faults out.old) (O.faults out.new) good)))) }
+        (ExtractsAll short (λ table told. IsPut F.tells (Fails F.faults ⊎ SinkFails F.Output.stream) table told fill short (folder_text (found_of words.now)) (F.holds files.new) (F.moment files.new) (F.left_since files.new))
+        files.old files.new profile last (O.stream out.old) (O.stream out.new) good)))) }
     ensures chosen { name.now ≡ codes "extract" → IfSome result (λ outcome. IfOk outcome (λ all. (good : Bool) × IsTold (found_of words.now) good all × (has_lost (found_of words.now) ≡ false → has_manifest (found_of words.now) ≡ false → (fill : Fill) × (short : Bool) × (last : ℕ) × (profile : Profile) × (inputs : List InputPath) × (map asked_for inputs ≡ asked_inputs (found_of words.now)) ×
         IsPicked (found_of words.now) (codes "fill") (Fill.Byte 0) Fill.Refuse fill × IsPicked (found_of words.now) (codes "short-names") true false short × IsLast (λ path. F.holds files.old (F.real files.old path)) inputs (found_of words.now) last × IsProfile (found_of words.now) profile ×
         OfPaths (λ path. F.holds files.old (F.real files.old path)) (⟦<AnySource<F::Input, F::Image> as Source>⟧.remaining) inputs
-        (ExtractsChosen (only_texts (found_of words.now)) short (λ table told. IsPut F.tells (Fails F.faults ⊎ Fails F.Output.faults) table told fill short (folder_text (found_of words.now)) (F.holds files.new) (F.moment files.new) (F.left_since files.new))
-        F.holds (folder_text (found_of words.now)) files.old files.new profile last (O.contents out.old) (O.contents out.new) (O.faults out.old) (O.faults out.new) good)))) }
+        (ExtractsChosen (only_texts (found_of words.now)) short (λ table told. IsPut F.tells (Fails F.faults ⊎ SinkFails F.Output.stream) table told fill short (folder_text (found_of words.now)) (F.holds files.new) (F.moment files.new) (F.left_since files.new))
+        F.holds (folder_text (found_of words.now)) files.old files.new profile last (O.stream out.old) (O.stream out.new) good)))) }
     ensures listed { name.now ≡ codes "extract" → IfSome result (λ outcome. IfOk outcome (λ all. (good : Bool) × IsTold (found_of words.now) good all × (has_lost (found_of words.now) ≡ false → has_manifest (found_of words.now) ≡ true → ((fill : Fill) × (short : Bool) × (last : ℕ) × (profile : Profile) × (inputs : List InputPath) × (map asked_for inputs ≡ asked_inputs (found_of words.now)) ×
         IsPicked (found_of words.now) (codes "fill") (Fill.Byte 0) Fill.Refuse fill × IsPicked (found_of words.now) (codes "short-names") true false short × IsLast (λ path. F.holds files.old (F.real files.old path)) inputs (found_of words.now) last × IsProfile (found_of words.now) profile ×
         OfPaths (λ path. F.holds files.old (F.real files.old path)) (⟦<AnySource<F::Input, F::Image> as Source>⟧.remaining) inputs
         (ListsChosen (only_texts (found_of words.now)) short
-        (λ f table told. IsPut F.tells (Fails F.faults ⊎ Fails F.Output.faults) table told fill short (folder_text (found_of words.now)) (F.holds f) (F.moment f) (F.left_since f))
+        (λ f table told. IsPut F.tells (Fails F.faults ⊎ SinkFails F.Output.stream) table told fill short (folder_text (found_of words.now)) (F.holds f) (F.moment f) (F.left_since f))
         (λ f told fates text. F.tells → IsManifest (F.holds f) (folder_text (found_of words.now)) short told fates text)
         (λ f text. F.tells → IsPutLast F.holds F.may_leave F.moment F.left_since (F.real files.old (manifest_text (found_of words.now))) f files.new text)
-        F.holds (folder_text (found_of words.now)) files.old files.new profile last (O.contents out.old) (O.contents out.new) (O.faults out.old) (O.faults out.new) good)) ×
+        F.holds (folder_text (found_of words.now)) files.old files.new profile last (O.stream out.old) (O.stream out.new) good)) ×
         (F.tells → IsFreeManifest (F.holds files.old) (F.real files.old) (input_texts (found_of words.now)) (pair_texts (found_of words.now)) (folder_text (found_of words.now)) (manifest_text (found_of words.now)))))) }
     ensures lost { name.now ≡ codes "extract" → IfSome result (λ outcome. IfOk outcome (λ all. (good : Bool) × IsTold (found_of words.now) good all × (has_lost (found_of words.now) ≡ true → has_manifest (found_of words.now) ≡ false → ExtractAsked (λ path. F.holds files.old (F.real files.old path)) (⟦<AnySource<F::Input, F::Image> as Source>⟧.remaining) (found_of words.now) (λ fill short last profile. AddsLost
-        (λ (mid : F) (between : O) nodes_good. ExtractsChosen (only_texts (found_of words.now)) short (λ table told. IsPut F.tells (Fails F.faults ⊎ Fails F.Output.faults) table told fill short (folder_text (found_of words.now)) (F.holds mid) (F.moment mid) (F.left_since mid))
-        F.holds (folder_text (found_of words.now)) files.old mid profile last (O.contents out.old) (O.contents between) (O.faults out.old) (O.faults between) nodes_good)
-        (λ (mid : F) (between : O) lost_good. WritesLost (λ table told two. IsLostPut F.tells (Fails F.faults ⊎ Fails F.Output.faults) table told (lost_text (found_of words.now)) two (F.holds files.new) (F.moment files.new) (F.left_since files.new))
-        (SparesLost F.tells F.holds F.may_leave F.moment F.left_since (lost_text (found_of words.now)) mid files.new) profile last (O.contents between) (O.contents out.new) (O.faults between) (O.faults out.new) lost_good) good)))) }
+        (λ (mid : F) (between : O) nodes_good. ExtractsChosen (only_texts (found_of words.now)) short (λ table told. IsPut F.tells (Fails F.faults ⊎ SinkFails F.Output.stream) table told fill short (folder_text (found_of words.now)) (F.holds mid) (F.moment mid) (F.left_since mid))
+        F.holds (folder_text (found_of words.now)) files.old mid profile last (O.stream out.old) (O.stream between) nodes_good)
+        (λ (mid : F) (between : O) lost_good. WritesLost (λ table told two. IsLostPut F.tells (Fails F.faults ⊎ SinkFails F.Output.stream) table told (lost_text (found_of words.now)) two (F.holds files.new) (F.moment files.new) (F.left_since files.new))
+        (SparesLost F.tells F.holds F.may_leave F.moment F.left_since (lost_text (found_of words.now)) mid files.new) profile last (O.stream between) (O.stream out.new) lost_good) good)))) }
     ensures listed_lost { name.now ≡ codes "extract" → IfSome result (λ outcome. IfOk outcome (λ all. (good : Bool) × IsTold (found_of words.now) good all × (has_lost (found_of words.now) ≡ true → has_manifest (found_of words.now) ≡ true → ExtractAsked (λ path. F.holds files.old (F.real files.old path)) (⟦<AnySource<F::Input, F::Image> as Source>⟧.remaining) (found_of words.now) (λ fill short last profile. AddsLost
-        (λ (mid : F) (between : O) nodes_good. ListsChosen (only_texts (found_of words.now)) short (λ f table told. IsPut F.tells (Fails F.faults ⊎ Fails F.Output.faults) table told fill short (folder_text (found_of words.now)) (F.holds f) (F.moment f) (F.left_since f))
+        (λ (mid : F) (between : O) nodes_good. ListsChosen (only_texts (found_of words.now)) short (λ f table told. IsPut F.tells (Fails F.faults ⊎ SinkFails F.Output.stream) table told fill short (folder_text (found_of words.now)) (F.holds f) (F.moment f) (F.left_since f))
         (λ f told fates text. F.tells → IsManifest (F.holds f) (folder_text (found_of words.now)) short told fates text)
         (λ f text. F.tells → IsPutLast F.holds F.may_leave F.moment F.left_since (F.real files.old (manifest_text (found_of words.now))) f mid text)
-        F.holds (folder_text (found_of words.now)) files.old mid profile last (O.contents out.old) (O.contents between) (O.faults out.old) (O.faults between) nodes_good)
-        (λ (mid : F) (between : O) lost_good. WritesLost (λ table told two. IsLostPut F.tells (Fails F.faults ⊎ Fails F.Output.faults) table told (lost_text (found_of words.now)) two (F.holds files.new) (F.moment files.new) (F.left_since files.new))
-        (SparesLost F.tells F.holds F.may_leave F.moment F.left_since (lost_text (found_of words.now)) mid files.new) profile last (O.contents between) (O.contents out.new) (O.faults between) (O.faults out.new) lost_good) good)))) }
+        F.holds (folder_text (found_of words.now)) files.old mid profile last (O.stream out.old) (O.stream between) nodes_good)
+        (λ (mid : F) (between : O) lost_good. WritesLost (λ table told two. IsLostPut F.tells (Fails F.faults ⊎ SinkFails F.Output.stream) table told (lost_text (found_of words.now)) two (F.holds files.new) (F.moment files.new) (F.left_since files.new))
+        (SparesLost F.tells F.holds F.may_leave F.moment F.left_since (lost_text (found_of words.now)) mid files.new) profile last (O.stream between) (O.stream out.new) lost_good) good)))) }
     ensures free_lost { name.now ≡ codes "extract" → IfSome result (λ outcome. IfOk outcome (λ good. (has_lost (found_of words.now) ≡ true → F.tells → IsNewFolder (F.holds files.old) (F.real files.old) (lost_others (found_of words.now)) (lost_text (found_of words.now))) × (has_lost (found_of words.now) ≡ true → has_manifest (found_of words.now) ≡ true → F.tells → IsFreeManifest (F.holds files.old) (F.real files.old) (input_texts (found_of words.now)) (pair_texts (found_of words.now)) (folder_text (found_of words.now)) (manifest_text (found_of words.now))))) }
     ensures done_forget { name.now ≡ codes "forget" → IfSome result (λ outcome. IfOk outcome (λ whole. whole ≡ true)) }
     ensures forget { name.now ≡ codes "forget" → IfSome result (λ outcome. OnOk outcome
         (PutsForgotten (λ path. F.holds files.old (F.real files.old path)) (⟦<AnySource<F::Input, F::Image> as Source>⟧.remaining) (found_of words.now)
-        (λ bytes. (F.tells → IsKept (F.holds files.new) (F.may_leave files.new) (F.real files.old (out_text (found_of words.now))) bytes) ⊎ (F.in_place files.old (out_text (found_of words.now)) × IsTaken F.Output.contents bytes)))) }
+        (λ bytes. (F.tells → IsKept (F.holds files.new) (F.may_leave files.new) (F.real files.old (out_text (found_of words.now))) bytes) ⊎ (F.in_place files.old (out_text (found_of words.now)) × IsTaken F.Output.stream bytes)))) }
     ensures free_forget { name.now ≡ codes "forget" → IfSome result (λ outcome. OnOk outcome ((force : Bool) × IsPicked (found_of words.now) (codes "force") true false force ×
         (F.tells → IsFree (F.holds files.old) (F.real files.old) (F.in_place files.old) (input_texts (found_of words.now)) (pair_texts (found_of words.now)) force (out_text (found_of words.now))))) }
     ensures list { name.now ≡ codes "list" → IfSome result (λ outcome. IfOk outcome (λ whole. (form : ListForm) × (last : ℕ) × (profile : Profile) × (inputs : List InputPath) × (map asked_for inputs ≡ asked_streams (found_of words.now)) ×
         IsListForm (found_of words.now) form × IsLast (λ path. F.holds files.old (F.real files.old path)) inputs (found_of words.now) last × IsProfile (found_of words.now) profile × OfPaths (λ path. F.holds files.old (F.real files.old path)) (⟦<AnySource<F::Input, F::Image> as Source>⟧.remaining) inputs
-        (PrintsList profile form last (O.contents out.old) (O.contents out.new) (O.faults out.old) (O.faults out.new) whole))) }
+        (PrintsList profile form last (O.stream out.old) (O.stream out.new) whole))) }
     ensures summary { name.now ≡ codes "summary" → IfSome result (λ outcome. IfOk outcome (λ whole. (last : ℕ) × (profile : Profile) × (inputs : List InputPath) × (map asked_for inputs ≡ asked_streams (found_of words.now)) ×
         IsLast (λ path. F.holds files.old (F.real files.old path)) inputs (found_of words.now) last × IsProfile (found_of words.now) profile × OfPaths (λ path. F.holds files.old (F.real files.old path)) (⟦<AnySource<F::Input, F::Image> as Source>⟧.remaining) inputs
-        (PrintsSummary profile last (O.contents out.old) (O.contents out.new) (O.faults out.old) (O.faults out.new) whole))) }
+        (PrintsSummary profile last (O.stream out.old) (O.stream out.new) whole))) }
     ensures done_image { name.now ≡ codes "image" → IfSome result (λ outcome. IfOk outcome (λ whole. whole ≡ true)) }
     ensures image { name.now ≡ codes "image" → IfSome result (λ outcome. OnOk outcome
         (WritesImage (λ path. F.holds files.old (F.real files.old path)) (⟦<AnySource<F::Input, F::Image> as Source>⟧.remaining) (found_of words.now)
@@ -286,7 +295,7 @@ fn obey<F: Files, O: Sink>(
     ensures free_image { name.now ≡ codes "image" → IfSome result (λ outcome. OnOk outcome ((force : Bool) × IsPicked (found_of words.now) (codes "force") true false force ×
         (F.tells → IsFreePair (F.holds files.old) (F.real files.old) (input_texts (found_of words.now)) (pair_texts (found_of words.now)) force (out_text (found_of words.now)) (mapfile_text (found_of words.now))))) }
     ensures page { name.now ≡ codes "page" → IfSome result (λ outcome. IfOk outcome (λ whole. WritesPage (λ path. F.holds files.old (F.real files.old path)) (⟦<AnySource<F::Input, F::Image> as Source>⟧.remaining) (found_of words.now)
-        (λ bytes. (F.tells → IsKept (F.holds files.new) (F.may_leave files.new) (F.real files.old (page_path (found_of words.now))) bytes) ⊎ (F.in_place files.old (page_path (found_of words.now)) × IsTaken F.Output.contents bytes)) whole ×
+        (λ bytes. (F.tells → IsKept (F.holds files.new) (F.may_leave files.new) (F.real files.old (page_path (found_of words.now))) bytes) ⊎ (F.in_place files.old (page_path (found_of words.now)) × IsTaken F.Output.stream bytes)) whole ×
         (F.tells → IsFreePage (F.holds files.old) (F.real files.old) (F.in_place files.old) (input_texts (found_of words.now)) (pair_texts (found_of words.now)) (page_path (found_of words.now))))) }
     // What is there stays, whatever the answer: only `merge`, `forget`, `image`, `page`, `reread --mapfile` and `extract` change files at all.
     ensures reads { (name.now ≡ codes "merge" → ⊥) → (name.now ≡ codes "forget" → ⊥) → (name.now ≡ codes "image" → ⊥) → (name.now ≡ codes "page" → ⊥) → (name.now ≡ codes "reread" → ⊥) → (name.now ≡ codes "extract" → ⊥) → files.new ≡ files.old }
@@ -300,6 +309,16 @@ fn obey<F: Files, O: Sink>(
     ensures paging { name.now ≡ codes "page" → ReplacesPage F.tells F.holds F.real F.in_place F.may_leave F.moment F.left_since (found_of words.now) files.old files.new
         (MayPageAsked (λ path. F.holds files.old (F.real files.old path)) (⟦<AnySource<F::Input, F::Image> as Source>⟧.remaining) (F.real files.old) (found_of words.now)) }
     ensures extracting { name.now ≡ codes "extract" → ExtractSpares F.tells F.holds F.real F.may_leave F.moment F.left_since (found_of words.now) files.old files.new }
+    // What a refusal leaves.
+    ensures merge_refused { name.now ≡ codes "merge" → IfSome result (λ outcome. OnErr outcome (RefusedOut F.tells F.holds F.real F.in_place (F.shut files.old (out_text (found_of words.now)) ⊎ Fails F.faults ⊎ SinkFails F.Output.stream) (out_text (found_of words.now)) files.old files.new
+        (PutsJoin (λ path. F.holds files.old (F.real files.old path)) (⟦<AnySource<F::Input, F::Image> as Source>⟧.remaining) (found_of words.now)))) }
+    ensures forget_refused { name.now ≡ codes "forget" → IfSome result (λ outcome. OnErr outcome (RefusedOut F.tells F.holds F.real F.in_place (F.shut files.old (out_text (found_of words.now)) ⊎ Fails F.faults ⊎ SinkFails F.Output.stream) (out_text (found_of words.now)) files.old files.new
+        (PutsForgotten (λ path. F.holds files.old (F.real files.old path)) (⟦<AnySource<F::Input, F::Image> as Source>⟧.remaining) (found_of words.now)))) }
+    ensures page_refused { name.now ≡ codes "page" → IfSome result (λ outcome. OnErr outcome (RefusedOut F.tells F.holds F.real F.in_place (F.shut files.old (page_path (found_of words.now)) ⊎ Fails F.faults ⊎ SinkFails F.Output.stream) (page_path (found_of words.now)) files.old files.new
+        (PageAsked (λ path. F.holds files.old (F.real files.old path)) (⟦<AnySource<F::Input, F::Image> as Source>⟧.remaining) (found_of words.now)))) }
+    ensures reread_refused { name.now ≡ codes "reread" → IfSome result (λ outcome. OnErr outcome (RefusedOut F.tells F.holds F.real F.in_place (F.shut files.old (mapfile_text (found_of words.now)) ⊎ Fails F.faults ⊎ SinkFails F.Output.stream) (mapfile_text (found_of words.now)) files.old files.new
+        (DomainAsked (λ path. F.holds files.old (F.real files.old path)) (⟦<AnySource<F::Input, F::Image> as Source>⟧.remaining) (found_of words.now)))) }
+    ensures unnamed { result ≡ None → files.new ≡ files.old }
 {
     match name {
         "merge" => Some(match merge_words(alloc, words, files) {

@@ -10,8 +10,8 @@ use udfs_reading::{DeviceFault, Sink};
 pub fn send<W: Sink>(bytes: &[u8], sink: &mut W) -> (usize, Result<(), DeviceFault>)
     ensures bound { result.0 ≤ length bytes.now }
     ensures all { OnOk result.1 (result.0 ≡ length bytes.now) }
-    ensures bytes { Appends (W.contents sink.old) (W.contents sink.new) (take result.0 bytes.now) }
-    ensures count { CountsFault (W.faults sink.old) (W.faults sink.new) result.1 }
+    ensures bytes { Appends (W.stream sink.old).contents (W.stream sink.new).contents (take result.0 bytes.now) }
+    ensures count { CountsFault (W.stream sink.old).faults (W.stream sink.new).faults result.1 }
 {
     let mut sent = 0;
     while sent < bytes.len() {

@@ -6,7 +6,9 @@
 --     IsSpared                   why an output is refused
 --     IsFreeMap, IsSparedMap     the same of a map of blocks to read again: it takes the place of no file but such a map, and of none of the inputs
 --     IsApart                    neither of two paths is the other, nor that of a new file that is to go in the place of the other
+--     AreInTheWay                one of them is
 --     IsFreePair                 what an image and its mapfile take the place of
+--     IsSparedPair               why they are refused
 use Rattle.std.specs.Prelude.{◌≡◌, ◌≢◌, ◌⊎◌, ⊤, ℕ, List, [], ◌∷◌, Bool, true, false, Option, Some, IfSome, ◌++◌, codes, nat_eq, if◌then◌else◌, None, map}
 use Rattle.udfs_rescue.specs.Writing.{made_by, mark_line}
 use Rattle.udfs_files.specs.Disk.{IsOwn}
@@ -72,6 +74,10 @@ pub record IsApart (image mapfile : List ℕ) : Type 0 where
   pub mapfile_is_no_own : ¬ IsOwn image mapfile
   pub image_is_no_own : ¬ IsOwn mapfile image
 
+-- the paths are one, or one of them is that of a new file for the other
+abbrev pub AreInTheWay : List ℕ → List ℕ → Type 0
+AreInTheWay image mapfile = (image ≡ mapfile) ⊎ IsOwn image mapfile ⊎ IsOwn mapfile image
+
 -- they are two, none of the inputs (`files` are those that are files, `parts` the images and mapfiles among them), and where nothing is written over by force nothing is there
 pub record IsFreePair (holds : List ℕ → Option (Option (List ℕ))) (real : List ℕ → List ℕ) (files parts : List (List ℕ)) (force : Bool) (image mapfile : List ℕ) : Type 0 where
   pub apart : IsApart (real image) (real mapfile)
@@ -81,3 +87,12 @@ pub record IsFreePair (holds : List ℕ → Option (Option (List ℕ))) (real : 
   pub mapfile_is_no_part : NoneLeads real (real mapfile) parts
   pub no_image : force ≡ false → holds (real image) ≡ Some None
   pub no_mapfile : force ≡ false → holds (real mapfile) ≡ Some None
+
+-- files may not be written over, or something that is no file may be there, or they are in each other's way
+abbrev pub HaveNoPlace : (List ℕ → List ℕ) → (List ℕ → Type 0) → Bool → List ℕ → List ℕ → Type 0
+HaveNoPlace real in_place force image mapfile = (force ≡ false) ⊎ in_place image ⊎ in_place mapfile ⊎ AreInTheWay (real image) (real mapfile)
+
+-- or one of them is one of the inputs
+abbrev pub IsSparedPair : (List ℕ → List ℕ) → (List ℕ → Type 0) → List (List ℕ) → List (List ℕ) → Bool → List ℕ → List ℕ → Type 0
+IsSparedPair real in_place files parts force image mapfile = HaveNoPlace real in_place force image mapfile ⊎
+    SomeLeads real (real image) parts ⊎ SomeLeads real (real image) files ⊎ SomeLeads real (real mapfile) parts ⊎ SomeLeads real (real mapfile) files

@@ -1,6 +1,6 @@
 //! Where a disc ends: by the words, or by the mapfiles of all inputs.
 
-ghost use Rattle.std.specs.Prelude.{◌≡◌, ◌≢◌, true, [], IfOk, IfErr, IfSome};
+ghost use Rattle.std.specs.Prelude.{◌≡◌, ◌≢◌, ◌%◌, true, [], IfOk, IfErr, IfSome};
 ghost use Rattle.clap.specs.Matches.{found_of};
 ghost use Rattle.udfs_words.specs.Asking.{EndsAt, EndsMap, IsLast, MapsEndAt};
 
@@ -80,7 +80,7 @@ fn size_by_maps<F: Files>(
     inputs: &[InputPath<'_>],
     files: &F,
 ) -> Result<Option<u64>, AllocError>
-    ensures { IfOk result (λ found. IfSome found (λ end. MapsEndAt (λ path. F.holds files.now (F.real files.now path)) end inputs.now × (inputs.now ≢ []))) }
+    ensures { IfOk result (λ found. IfSome found (λ end. MapsEndAt (λ path. F.holds files.now (F.real files.now path)) end inputs.now × (inputs.now ≢ []) × (end ≢ 0) × (end % 2048 ≡ 0))) }
 {
     let [first, rest @ ..] = inputs else {
         return Ok(None);

@@ -3,7 +3,7 @@
 ghost use Rattle.std.specs.Prelude.{◌≡◌, ◌≢◌, ◌⊎◌, ◌++◌, ◌≤◌, ℕ, List, true, false, Some, None, IfOk, IfErr, OnOk, IsErrOf, length, map, string_bytes, alloc_error};
 ghost use Rattle.udfs_files.specs.Disk.{Fails, IsOwn};
 ghost use Rattle.udfs_files.specs.declared.files.Kind.{Kind};
-ghost use Rattle.udfs_common.specs.Guarding.{NoneLeads, IsApart, IsFreePair};
+ghost use Rattle.udfs_common.specs.Guarding.{AreInTheWay, HaveNoPlace, NoneLeads, IsApart, IsFreePair, IsSparedPair, SomeLeads};
 
 use crate::files::Files;
 use crate::guard::is_among;
@@ -26,6 +26,7 @@ pub struct Places {
 /// Whether these bytes begin so.
 pub fn begin_so(bytes: &[u8], front: &[u8]) -> bool
     ensures yes { result ≡ true → length front.now ≤ length bytes.now }
+    ensures so { result ≡ true → (more : List ℕ) × (bytes.now ≡ front.now ++ more) }
     ensures no { result ≡ false → (more : List ℕ) → bytes.now ≢ front.now ++ more }
 {
     bytes.len() >= front.len() && &bytes[..front.len()] == front
@@ -33,7 +34,8 @@ pub fn begin_so(bytes: &[u8], front: &[u8]) -> bool
 
 /// Whether a new file that is to go in the place of one at `path` may be called so.
 fn is_own(path: &str, name: &str) -> bool
-    ensures { result ≡ false → ¬ IsOwn path.now name.now }
+    ensures yes { result ≡ true → IsOwn path.now name.now }
+    ensures no { result ≡ false → ¬ IsOwn path.now name.now }
 {
     let path = path.as_bytes();
     let name = name.as_bytes();
@@ -42,7 +44,8 @@ fn is_own(path: &str, name: &str) -> bool
 
 /// Whether two paths are two, and neither is that of a new file for the other.
 fn is_apart(image: &str, mapfile: &str) -> bool
-    ensures { result ≡ true → IsApart image.now mapfile.now }
+    ensures yes { result ≡ true → IsApart image.now mapfile.now }
+    ensures no { result ≡ false → AreInTheWay image.now mapfile.now }
 {
     image != mapfile && !is_own(image, mapfile) && !is_own(mapfile, image)
 }
@@ -84,6 +87,7 @@ pub fn find_places<F: Files>(
     ensures no_mapfile { OnOk result (force ≡ false → F.tells → F.holds files.now (F.real files.now mapfile.now) ≡ Some None) }
     ensures told { IfErr result (λ refusal. (refusal ≡ Refusal.Output) ⊎ (refusal ≡ Refusal.Spared) ⊎ (refusal ≡ Refusal.Memory alloc_error)) }
     ensures cause { IsErrOf result Refusal.Output → F.shut files.now image.now ⊎ F.shut files.now mapfile.now }
+    ensures spared { IsErrOf result Refusal.Spared → F.tells → HaveNoPlace (F.real files.now) (F.in_place files.now) force image.now mapfile.now }
 {
     let image = match place(alloc, image, force, files) {
         Ok(target) => target,
@@ -111,6 +115,7 @@ fn none_leads<F: Files>(
     files: &F,
 ) -> Result<(), Refusal>
     ensures none { OnOk result (F.tells → NoneLeads (F.real files.now) place.now (map (λ path. path.now) paths.now)) }
+    ensures some { IsErrOf result Refusal.Spared → F.tells → SomeLeads (F.real files.now) place.now (map (λ path. path.now) paths.now) }
     ensures told { IfErr result (λ refusal. (refusal ≡ Refusal.Output) ⊎ (refusal ≡ Refusal.Spared) ⊎ (refusal ≡ Refusal.Memory alloc_error)) }
 {
     match is_among(alloc, paths, place, files) {
@@ -131,6 +136,7 @@ pub fn is_no_input<F: Files>(
 ) -> Result<(), Refusal>
     ensures inputs { OnOk result (F.tells → NoneLeads (F.real files.now) place.now (map (λ path. path.now) inputs.now)) }
     ensures parts { OnOk result (F.tells → NoneLeads (F.real files.now) place.now (map (λ path. path.now) parts.now)) }
+    ensures some { IsErrOf result Refusal.Spared → F.tells → SomeLeads (F.real files.now) place.now (map (λ path. path.now) parts.now) ⊎ SomeLeads (F.real files.now) place.now (map (λ path. path.now) inputs.now) }
     ensures told { IfErr result (λ refusal. (refusal ≡ Refusal.Output) ⊎ (refusal ≡ Refusal.Spared) ⊎ (refusal ≡ Refusal.Memory alloc_error)) }
 {
     match none_leads(alloc, parts, place, files) {
@@ -155,6 +161,7 @@ pub fn look_at_both<F: Files>(
     files: &F,
 ) -> Result<(), Refusal>
     ensures free { OnOk result (F.tells → IsFreePair (F.holds files.now) (F.real files.now) (map (λ path. path.now) inputs.now) (map (λ path. path.now) parts.now) force image.now mapfile.now) }
+    ensures spared { IsErrOf result Refusal.Spared → F.tells → IsSparedPair (F.real files.now) (F.in_place files.now) (map (λ path. path.now) inputs.now) (map (λ path. path.now) parts.now) force image.now mapfile.now }
     ensures told { IfErr result (λ refusal. (refusal ≡ Refusal.Output) ⊎ (refusal ≡ Refusal.Spared) ⊎ (refusal ≡ Refusal.Memory alloc_error)) }
 {
     let places = match find_places(alloc, image, mapfile, force, files) {

@@ -1,8 +1,8 @@
 //! A file is put at a path, or written to what is there and is no file.
 
 ghost use Rattle.std.specs.Prelude.{◌≡◌, ◌≢◌, ◌⊎◌, ℕ, List, Some, IfErr, OnOk, OnErr, IsErrOf};
-ghost use Rattle.udfs_files.specs.Disk.{Disk, After, IsOwn, Replaced, Fails};
-ghost use Rattle.udfs_common.specs.Keeping.{IsKept, IsTaken};
+ghost use Rattle.udfs_files.specs.Disk.{Disk, After, IsOwn, Replaced, Fails, SinkFails};
+ghost use Rattle.udfs_common.specs.Keeping.{IsKept, IsTaken, RefusedOut};
 
 use crate::files::Files;
 use crate::refusal::Refusal;
@@ -18,7 +18,7 @@ pub fn put_file<F: Files, C: Content>(
     files: &mut F,
 ) -> Result<(), Refusal>
     ensures written { OnOk result ((F.tells → IsKept (F.holds files.new) (F.may_leave files.new) (F.real files.old out.now) (C.bytes content.now))
-        ⊎ (F.in_place files.old out.now × IsTaken F.Output.contents (C.bytes content.now))) }
+        ⊎ (F.in_place files.old out.now × IsTaken F.Output.stream (C.bytes content.now))) }
     ensures any_moment { F.tells → (F.in_place files.old out.now → ⊥) → (c : Disk) → F.left_since files.new (F.moment files.old) c →
         After (F.may_leave files.old) (Replaced (F.real files.old out.now) (C.bytes content.now)) c }
     ensures untouched { IfErr result (λ refusal. refusal ≢ Refusal.Output → refusal ≢ Refusal.Unkept → files.new ≡ files.old) }
@@ -27,7 +27,9 @@ pub fn put_file<F: Files, C: Content>(
     ensures unkept { IsErrOf result Refusal.Unkept → F.tells → F.holds files.new (F.real files.old out.now) ≡ Some (Some (C.bytes content.now)) }
     // No other path changes, but for those of new files that are to go in its place.
     ensures elsewhere { F.tells → (F.in_place files.old out.now → ⊥) → (q : List ℕ) → q ≢ F.real files.old out.now → (¬ IsOwn (F.real files.old out.now) q) → F.holds files.new q ≡ F.holds files.old q }
-    ensures cause { IfErr result (λ refusal. (refusal ≡ Refusal.Output) ⊎ (refusal ≡ Refusal.Unkept) → F.shut files.old out.now ⊎ Fails F.faults ⊎ Fails F.Output.faults) }
+    ensures cause { IfErr result (λ refusal. (refusal ≡ Refusal.Output) ⊎ (refusal ≡ Refusal.Unkept) → F.shut files.old out.now ⊎ Fails F.faults ⊎ SinkFails F.Output.stream) }
+    // A refusal leaves all as it was; or a call failed, and then the path holds what it held or the new file, whole.
+    ensures left { OnErr result (RefusedOut F.tells F.holds F.real F.in_place (F.shut files.old out.now ⊎ Fails F.faults ⊎ SinkFails F.Output.stream) out.now files.old files.new (λ Put. Put (C.bytes content.now))) }
     ensures told { IfErr result (λ refusal. refusal ≢ Refusal.Spared) }
 {
     files.begin(Stage::Writing);
@@ -53,9 +55,9 @@ fn write_in_place<F: Files, C: Content>(
     path: &str,
     content: &C,
 ) -> Result<(), Refusal>
-    ensures taken { OnOk result (IsTaken F.Output.contents (C.bytes content.now)) }
+    ensures taken { OnOk result (IsTaken F.Output.stream (C.bytes content.now)) }
     ensures refused { IfErr result (λ refusal. refusal ≡ Refusal.Output) }
-    ensures cause { OnErr result (Fails F.faults ⊎ Fails F.Output.faults) }
+    ensures cause { OnErr result (Fails F.faults ⊎ SinkFails F.Output.stream) }
 {
     let Ok(output) = files.make(path) else {
         return Err(Refusal::Output);

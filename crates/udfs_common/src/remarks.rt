@@ -4,7 +4,7 @@ use crate::files::Files;
 use std::alloc::{AllocError, Global};
 use udfs_lattice::BlockTable;
 use udfs_overview::{push_volume, spares_disagree};
-use udfs_salvage::{Report, Survey, Volume};
+use udfs_salvage::{Listing, Survey, Volume};
 use udfs_volume::sequences::sequence;
 use udfs_volume::{Profile, Seen, VolumeFault};
 
@@ -133,13 +133,13 @@ pub fn remark_unopened<F: Files>(alloc: Global, survey: &Survey<'_>, files: &F) 
     remark_closed(alloc, told, files);
 }
 
-/// Tells who watches why the volume of a report does not open, where it does not.
-pub fn remark_on_report<F: Files>(alloc: Global, report: &Report<'_>, files: &F) {
+/// Tells who watches why the volume of a listing does not open, where it does not.
+pub fn remark_on_listing<F: Files>(alloc: Global, listing: &Listing<'_>, files: &F) {
     let told = Told {
-        table: report.table,
-        last: report.last,
-        profile: report.profile,
-        volume: &report.volume,
+        table: listing.table,
+        last: listing.last,
+        profile: listing.profile,
+        volume: &listing.volume,
     };
     remark_closed(alloc, told, files);
 }

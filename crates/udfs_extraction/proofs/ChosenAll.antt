@@ -13,6 +13,7 @@ use Rattle.udfs_extraction.specs.Extracting.{ExtractsAll, ExtractsChosen, PutsAl
 use Rattle.udfs_extraction.specs.ShortNames.{own_name}
 use Rattle.udfs_extraction.specs.declared.extract.Fate.{Fate}
 use Rattle.udfs_extraction.proofs.PutNodes.{each_map}
+use Rattle.udfs_reading.specs.Device.{Stream}
 
 -- the word that asks for all
 abbrev all : List (List ℕ)
@@ -27,8 +28,8 @@ some_whole : (nodes : List NodeFields) → list_all (is_node nodes) all ≡ true
 some_whole [] named = let bad : false ≡ true = named in cc
 some_whole (n ∷ nodes) named = refl
 
-puts_all : (own : NodeFields → Option (List ℕ)) (P : ℕ → NodeFields → Fate → Type 0) (nodes : List NodeFields) (old new : Option (List ℕ)) (i j : ℕ) (good : Bool) → PutsChosen all own P nodes old new i j good → PutsAll own P nodes old new i j good
-puts_all own P nodes old new i j good p = record {
+puts_all : (own : NodeFields → Option (List ℕ)) (P : ℕ → NodeFields → Fate → Type 0) (nodes : List NodeFields) (old new : Stream) (good : Bool) → PutsChosen all own P nodes old new good → PutsAll own P nodes old new good
+puts_all own P nodes old new good p = record {
   fates = p.fates;
   puts = record { each = each_map _ P (λ k n fate done. done.asked refl) 1 (drop 1 nodes) p.fates p.puts.each; lines = p.puts.lines };
   all = p.all;
@@ -40,10 +41,10 @@ by_volume (found f) A B N to puts = to puts
 by_volume (holes blocks) A B N to puts = puts
 by_volume (faulty fault) A B N to puts = puts
 
-pub extracts_all : {F : Type 0} (short : Bool) (P : Table → Report → ℕ → NodeFields → Fate → Type 0) (holds : F → List ℕ → Option (Option (List ℕ))) (folder : List ℕ) (before after : F) (profile : Profile) (last : ℕ) (old new : Option (List ℕ)) (i j : ℕ) (good : Bool) (table : Table)
-    → ExtractsChosen (codes "/" ∷ []) short P holds folder before after profile last old new i j good table → ExtractsAll short P before after profile last old new i j good table
-extracts_all short P holds folder before after profile last old new i j good table x = record {
+pub extracts_all : {F : Type 0} (short : Bool) (P : Table → Report → ℕ → NodeFields → Fate → Type 0) (holds : F → List ℕ → Option (Option (List ℕ))) (folder : List ℕ) (before after : F) (profile : Profile) (last : ℕ) (old new : Stream) (good : Bool) (table : Table)
+    → ExtractsChosen (codes "/" ∷ []) short P holds folder before after profile last old new good table → ExtractsAll short P before after profile last old new good table
+extracts_all short P holds folder before after profile last old new good table x = record {
   report = x.report;
   is_report = x.is_report;
-  puts = by_volume x.report.volume _ _ _ (puts_all (own_name short x.report) (P table x.report) x.report.nodes old new i j good) x.puts;
+  puts = by_volume x.report.volume _ _ _ (puts_all (own_name short x.report) (P table x.report) x.report.nodes old new good) x.puts;
 }

@@ -8,3 +8,4 @@ pub mod LostLemmas
 mod ShortNameLemmas
 mod ShortNameSizes
 mod PlaceLemmas
+mod ListedLemmas

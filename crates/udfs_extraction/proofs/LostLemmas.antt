@@ -16,6 +16,7 @@ use Rattle.udfs_extraction.specs.Manifests.{PutsNoted, SparesListed}
 use Rattle.udfs_extraction.specs.declared.extract.Fate.{Fate}
 use Rattle.udfs_extraction.proofs.ManifestLemmas.{by_both}
 use Rattle.udfs_extraction.proofs.PutNodes.{goes_on, goes_wider, stay_by}
+use Rattle.udfs_reading.specs.Device.{Stream}
 
 abbrev Held : Type 0
 Held = List ℕ → Option (Option (List ℕ))
@@ -127,12 +128,12 @@ lost_lines_more two [] (f ∷ fates) u fate at = let bad : None ≡ Some u = at 
 lost_lines_more two (w ∷ us) (f ∷ fates) u fate at = ap (λ l. lost_line two f w ++ l) (lost_lines_more two us fates u fate at) ∙ sym (append_assoc (lost_line two f w) (lost_lines two us fates) (lost_line two fate u))
 
 -- where all lines were taken, all of it is told
-pub puts_lost : (P : Unnamed → Fate → Type 0) (two : Bool) (us : List Unnamed) (old new : Option (List ℕ)) (i j : ℕ) (heard good : Bool) → heard ≡ true
-    → (fates : List Fate) × EachLost P us fates × TellsLines heard old new i j (lost_lines two us fates) × (length fates ≡ length us) × (good ≡ all_good fates) → PutsLost P two us old new i j good
-puts_lost P two us old new i j heard good is put = record {
+pub puts_lost : (P : Unnamed → Fate → Type 0) (two : Bool) (us : List Unnamed) (old new : Stream) (heard good : Bool) → heard ≡ true
+    → (fates : List Fate) × EachLost P us fates × TellsLines heard old new (lost_lines two us fates) × (length fates ≡ length us) × (good ≡ all_good fates) → PutsLost P two us old new good
+puts_lost P two us old new heard good is put = record {
   fates = put.0;
   each = put.1;
-  lines = subst (λ h. TellsLines h old new i j (lost_lines two us put.0)) is put.2;
+  lines = subst (λ h. TellsLines h old new (lost_lines two us put.0)) is put.2;
   all = put.3;
   says = put.4;
 }
@@ -140,25 +141,25 @@ puts_lost P two us old new i j heard good is put = record {
 -- ---- of the report of a table
 
 -- what is made and told of nodes
-pub chosen_of : {F : Type 0} (only : List (List ℕ)) (short : Bool) (P : Table → Report → ℕ → NodeFields → Fate → Type 0) (Is : Report → List Fate → List ℕ → Type 0) (holds : F → Held) (folder : List ℕ) (before after : F) (profile : Profile) (last : ℕ) (old new : Option (List ℕ)) (i j : ℕ) (good : Bool) (manifest : Option (List ℕ))
-    (r t u : Table) (report : Report) → r ≡ t → t ≡ u → IsReportBy profile (state_of t) last report → PutsNoted only short (P r) Is before after report old new i j good manifest → ((q : List ℕ) → IsElsewhere only short report folder q → holds after q ≡ holds before q)
-    → ExtractsChosen only short P holds folder before after profile last old new i j good u
-chosen_of only short P Is holds folder before after profile last old new i j good manifest r t u report one two is_report puts elsewhere =
-    subst (λ x. ExtractsChosen only short P holds folder before after profile last old new i j good x) two (record {
+pub chosen_of : {F : Type 0} (only : List (List ℕ)) (short : Bool) (P : Table → Report → ℕ → NodeFields → Fate → Type 0) (Is : Report → List Fate → List ℕ → Type 0) (holds : F → Held) (folder : List ℕ) (before after : F) (profile : Profile) (last : ℕ) (old new : Stream) (good : Bool) (manifest : Option (List ℕ))
+    (r t u : Table) (report : Report) → r ≡ t → t ≡ u → IsReportBy profile (state_of t) last report → PutsNoted only short (P r) Is before after report old new good manifest → ((q : List ℕ) → IsElsewhere only short report folder q → holds after q ≡ holds before q)
+    → ExtractsChosen only short P holds folder before after profile last old new good u
+chosen_of only short P Is holds folder before after profile last old new good manifest r t u report one two is_report puts elsewhere =
+    subst (λ x. ExtractsChosen only short P holds folder before after profile last old new good x) two (record {
       report = report;
       is_report = is_report;
-      puts = subst (λ x. PutsOf only short (P x) before after report old new i j good) one (by_both report.volume _ _ _ _ (λ p. p.puts) (λ n. n.0) puts);
+      puts = subst (λ x. PutsOf only short (P x) before after report old new good) one (by_both report.volume _ _ _ _ (λ p. p.puts) (λ n. n.0) puts);
       elsewhere = elsewhere;
     })
 
 -- what is made and told of the entries that no name leads to
-pub lost_of : (P : Table → Report → Bool → Unnamed → Fate → Type 0) (Spares : Type 0) (profile : Profile) (last : ℕ) (old new : Option (List ℕ)) (i j : ℕ) (good : Bool) (r t u : Table) (report : Report) → r ≡ t → t ≡ u
-    → IsReportBy profile (state_of t) last report → PutsLost (P r report (has_two report.volume)) (has_two report.volume) report.unnamed old new i j good → Spares → WritesLost P Spares profile last old new i j good u
-lost_of P Spares profile last old new i j good r t u report one two is_report puts spares =
-    subst (λ x. WritesLost P Spares profile last old new i j good x) two (record {
+pub lost_of : (P : Table → Report → Bool → Unnamed → Fate → Type 0) (Spares : Type 0) (profile : Profile) (last : ℕ) (old new : Stream) (good : Bool) (r t u : Table) (report : Report) → r ≡ t → t ≡ u
+    → IsReportBy profile (state_of t) last report → PutsLost (P r report (has_two report.volume)) (has_two report.volume) report.unnamed old new good → Spares → WritesLost P Spares profile last old new good u
+lost_of P Spares profile last old new good r t u report one two is_report puts spares =
+    subst (λ x. WritesLost P Spares profile last old new good x) two (record {
       report = report;
       is_report = is_report;
-      puts = subst (λ x. PutsLost (P x report (has_two report.volume)) (has_two report.volume) report.unnamed old new i j good) one puts;
+      puts = subst (λ x. PutsLost (P x report (has_two report.volume)) (has_two report.volume) report.unnamed old new good) one puts;
       spared = spares;
     })
 

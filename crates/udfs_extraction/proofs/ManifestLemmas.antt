@@ -20,6 +20,7 @@ use Rattle.udfs_extraction.specs.declared.extract.Fate.{Fate}
 use Rattle.udfs_extraction.specs.declared.extract.Fate.TheVariants.{Made, Written, Failed, Left, Skipped, Passed}
 use Rattle.udfs_extraction.proofs.ChoosingLemmas.{on_behind}
 use Rattle.udfs_extraction.proofs.PutNodes.{spares_nothing}
+use Rattle.udfs_reading.specs.Device.{Stream}
 
 abbrev Held : Type 0
 Held = List ℕ → Option (Option (List ℕ))
@@ -78,45 +79,45 @@ by_both (holes blocks) A B N M to or puts = or puts
 by_both (faulty fault) A B N M to or puts = or puts
 
 -- there is a text, so the volume opens
-pub listed_by : (volume : Answer Found) (only : List (List ℕ)) (own : NodeFields → Option (List ℕ)) (P : ℕ → NodeFields → Fate → Type 0) (Is Is' : List Fate → List ℕ → Type 0) (Put : List ℕ → Type 0) (nodes : List NodeFields) (old new : Option (List ℕ)) (i j : ℕ) (good : Bool) (manifest : Option (List ℕ)) (text : List ℕ) (N M : Type 0)
-    → ((fs : List Fate) (t : List ℕ) → Is fs t → Is' fs t) → PutsBy volume (PutsWith only own P Is nodes old new i j good manifest) (N × (manifest ≡ None)) → manifest ≡ Some text → Put text → PutsBy volume (PutsListed only own P Is' Put nodes old new i j good) M
-listed_by (found f) only own P Is Is' Put nodes old new i j good manifest text N M to puts is put =
+pub listed_by : (volume : Answer Found) (only : List (List ℕ)) (own : NodeFields → Option (List ℕ)) (P : ℕ → NodeFields → Fate → Type 0) (Is Is' : List Fate → List ℕ → Type 0) (Put : List ℕ → Type 0) (nodes : List NodeFields) (old new : Stream) (good : Bool) (manifest : Option (List ℕ)) (text : List ℕ) (N M : Type 0)
+    → ((fs : List Fate) (t : List ℕ) → Is fs t → Is' fs t) → PutsBy volume (PutsWith only own P Is nodes old new good manifest) (N × (manifest ≡ None)) → manifest ≡ Some text → Put text → PutsBy volume (PutsListed only own P Is' Put nodes old new good) M
+listed_by (found f) only own P Is Is' Put nodes old new good manifest text N M to puts is put =
     let e : Some text ≡ Some puts.text = sym is ∙ puts.has in
     let same : text ≡ puts.text = cc in
     record { puts = puts.puts; text = puts.text; is_text = to _ _ puts.is_text; put = subst Put same put }
-listed_by (holes blocks) only own P Is Is' Put nodes old new i j good manifest text N M to puts is put = let bad : None ≡ Some text = sym puts.1 ∙ is in absurd (let no : ⊥ = cc in no)
-listed_by (faulty fault) only own P Is Is' Put nodes old new i j good manifest text N M to puts is put = let bad : None ≡ Some text = sym puts.1 ∙ is in absurd (let no : ⊥ = cc in no)
+listed_by (holes blocks) only own P Is Is' Put nodes old new good manifest text N M to puts is put = let bad : None ≡ Some text = sym puts.1 ∙ is in absurd (let no : ⊥ = cc in no)
+listed_by (faulty fault) only own P Is Is' Put nodes old new good manifest text N M to puts is put = let bad : None ≡ Some text = sym puts.1 ∙ is in absurd (let no : ⊥ = cc in no)
 
 -- there is none, so it does not
-pub unlisted_by : (volume : Answer Found) (only : List (List ℕ)) (own : NodeFields → Option (List ℕ)) (P : ℕ → NodeFields → Fate → Type 0) (Is : List Fate → List ℕ → Type 0) (nodes : List NodeFields) (old new : Option (List ℕ)) (i j : ℕ) (good : Bool) (manifest : Option (List ℕ)) (L N M : Type 0)
-    → PutsBy volume (PutsWith only own P Is nodes old new i j good manifest) (N × (manifest ≡ None)) → manifest ≡ None → (N → M) → PutsBy volume L M
-unlisted_by (found f) only own P Is nodes old new i j good manifest L N M puts none to = let bad : None ≡ Some puts.text = sym none ∙ puts.has in absurd (let no : ⊥ = cc in no)
-unlisted_by (holes blocks) only own P Is nodes old new i j good manifest L N M puts none to = to puts.0
-unlisted_by (faulty fault) only own P Is nodes old new i j good manifest L N M puts none to = to puts.0
+pub unlisted_by : (volume : Answer Found) (only : List (List ℕ)) (own : NodeFields → Option (List ℕ)) (P : ℕ → NodeFields → Fate → Type 0) (Is : List Fate → List ℕ → Type 0) (nodes : List NodeFields) (old new : Stream) (good : Bool) (manifest : Option (List ℕ)) (L N M : Type 0)
+    → PutsBy volume (PutsWith only own P Is nodes old new good manifest) (N × (manifest ≡ None)) → manifest ≡ None → (N → M) → PutsBy volume L M
+unlisted_by (found f) only own P Is nodes old new good manifest L N M puts none to = let bad : None ≡ Some puts.text = sym none ∙ puts.has in absurd (let no : ⊥ = cc in no)
+unlisted_by (holes blocks) only own P Is nodes old new good manifest L N M puts none to = to puts.0
+unlisted_by (faulty fault) only own P Is nodes old new good manifest L N M puts none to = to puts.0
 
 -- the text is that of some fates
-pub text_of : (volume : Answer Found) (only : List (List ℕ)) (own : NodeFields → Option (List ℕ)) (P : ℕ → NodeFields → Fate → Type 0) (Is : List Fate → List ℕ → Type 0) (nodes : List NodeFields) (old new : Option (List ℕ)) (i j : ℕ) (good : Bool) (manifest : Option (List ℕ)) (text : List ℕ) (N : Type 0)
-    → PutsBy volume (PutsWith only own P Is nodes old new i j good manifest) (N × (manifest ≡ None)) → manifest ≡ Some text → (fates : List Fate) × Is fates text
-text_of (found f) only own P Is nodes old new i j good manifest text N puts is =
+pub text_of : (volume : Answer Found) (only : List (List ℕ)) (own : NodeFields → Option (List ℕ)) (P : ℕ → NodeFields → Fate → Type 0) (Is : List Fate → List ℕ → Type 0) (nodes : List NodeFields) (old new : Stream) (good : Bool) (manifest : Option (List ℕ)) (text : List ℕ) (N : Type 0)
+    → PutsBy volume (PutsWith only own P Is nodes old new good manifest) (N × (manifest ≡ None)) → manifest ≡ Some text → (fates : List Fate) × Is fates text
+text_of (found f) only own P Is nodes old new good manifest text N puts is =
     let e : Some puts.text ≡ Some text = sym puts.has ∙ is in
     let same : puts.text ≡ text = cc in
     (puts.puts.fates, subst (Is puts.puts.fates) same puts.is_text)
-text_of (holes blocks) only own P Is nodes old new i j good manifest text N puts is = let bad : None ≡ Some text = sym puts.1 ∙ is in absurd (let no : ⊥ = cc in no)
-text_of (faulty fault) only own P Is nodes old new i j good manifest text N puts is = let bad : None ≡ Some text = sym puts.1 ∙ is in absurd (let no : ⊥ = cc in no)
+text_of (holes blocks) only own P Is nodes old new good manifest text N puts is = let bad : None ≡ Some text = sym puts.1 ∙ is in absurd (let no : ⊥ = cc in no)
+text_of (faulty fault) only own P Is nodes old new good manifest text N puts is = let bad : None ≡ Some text = sym puts.1 ∙ is in absurd (let no : ⊥ = cc in no)
 
 -- the volume opens
 pub by_open : (v w : code_volume.Volume) → v ≡ w → (A N : Type 0) → PutsBy (volume_now w) A N → PutsBy (volume_now v) A N
 by_open v w e A N p = subst (λ x. PutsBy (volume_now x) A N) (sym e) p
 
 -- all have their fates, and there is a text of them
-pub puts_with : (only : List (List ℕ)) (own : NodeFields → Option (List ℕ)) (P : ℕ → NodeFields → Fate → Type 0) (Is : List Fate → List ℕ → Type 0) (nodes : List NodeFields) (old new : Option (List ℕ)) (i j : ℕ) (good : Bool) (fates : List Fate) (heard nothing_failed whole : Bool) (text : List ℕ)
-    → list_all (is_node nodes) only ≡ true → Puts own (IsDone only P) nodes old new i j heard fates → length fates ≡ length (drop 1 nodes) → heard ≡ true → nothing_failed ≡ all_good fates → whole ≡ list_all (λ (n : NodeFields). is_whole n.standing) (chosen only nodes)
-    → good ≡ (nothing_failed && whole) → Is fates text → PutsWith only own P Is nodes old new i j good (Some text)
-puts_with only own P Is nodes old new i j good fates heard nothing_failed whole text named puts all is_heard failed is_whole says is_text = record {
+pub puts_with : (only : List (List ℕ)) (own : NodeFields → Option (List ℕ)) (P : ℕ → NodeFields → Fate → Type 0) (Is : List Fate → List ℕ → Type 0) (nodes : List NodeFields) (old new : Stream) (good : Bool) (fates : List Fate) (heard nothing_failed whole : Bool) (text : List ℕ)
+    → list_all (is_node nodes) only ≡ true → Puts own (IsDone only P) nodes old new heard fates → length fates ≡ length (drop 1 nodes) → heard ≡ true → nothing_failed ≡ all_good fates → whole ≡ list_all (λ (n : NodeFields). is_whole n.standing) (chosen only nodes)
+    → good ≡ (nothing_failed && whole) → Is fates text → PutsWith only own P Is nodes old new good (Some text)
+puts_with only own P Is nodes old new good fates heard nothing_failed whole text named puts all is_heard failed is_whole says is_text = record {
   puts = record {
     named = named;
     fates = fates;
-    puts = subst (λ h. Puts own (IsDone only P) nodes old new i j h fates) is_heard puts;
+    puts = subst (λ h. Puts own (IsDone only P) nodes old new h fates) is_heard puts;
     all = all;
     says = says ∙ ap (λ b. b && whole) failed ∙ ap (λ b. all_good fates && b) is_whole;
   };
@@ -126,22 +127,22 @@ puts_with only own P Is nodes old new i j good fates heard nothing_failed whole 
 }
 
 -- of the report of a table
-pub lists_chosen : {F : Type 0} (only : List (List ℕ)) (short : Bool) (P : F → Table → Report → ℕ → NodeFields → Fate → Type 0) (Is : F → Report → List Fate → List ℕ → Type 0) (Put : F → List ℕ → Type 0) (holds : F → Held) (folder : List ℕ) (before after : F) (profile : Profile) (last : ℕ) (old new : Option (List ℕ)) (i j : ℕ) (good : Bool)
-    (r t u : Table) (mid : F) (report : Report) → r ≡ t → t ≡ u → IsReportBy profile (state_of t) last report → ListsOf only short (λ f. P f r) Is Put before mid after report old new i j good → ((q : List ℕ) → IsElsewhere only short report folder q → holds mid q ≡ holds before q)
-    → ListsChosen only short P Is Put holds folder before after profile last old new i j good u
-lists_chosen only short P Is Put holds folder before after profile last old new i j good r t u mid report one two is_report puts elsewhere =
-    subst (λ x. ListsChosen only short P Is Put holds folder before after profile last old new i j good x) two (record {
+pub lists_chosen : {F : Type 0} (only : List (List ℕ)) (short : Bool) (P : F → Table → Report → ℕ → NodeFields → Fate → Type 0) (Is : F → Report → List Fate → List ℕ → Type 0) (Put : F → List ℕ → Type 0) (holds : F → Held) (folder : List ℕ) (before after : F) (profile : Profile) (last : ℕ) (old new : Stream) (good : Bool)
+    (r t u : Table) (mid : F) (report : Report) → r ≡ t → t ≡ u → IsReportBy profile (state_of t) last report → ListsOf only short (λ f. P f r) Is Put before mid after report old new good → ((q : List ℕ) → IsElsewhere only short report folder q → holds mid q ≡ holds before q)
+    → ListsChosen only short P Is Put holds folder before after profile last old new good u
+lists_chosen only short P Is Put holds folder before after profile last old new good r t u mid report one two is_report puts elsewhere =
+    subst (λ x. ListsChosen only short P Is Put holds folder before after profile last old new good x) two (record {
       mid = mid;
       report = report;
       is_report = is_report;
-      puts = subst (λ x. ListsOf only short (λ f. P f x) Is Put before mid after report old new i j good) one puts;
+      puts = subst (λ x. ListsOf only short (λ f. P f x) Is Put before mid after report old new good) one puts;
       elsewhere = elsewhere;
     })
 
 -- what is known of the text that is put may be told otherwise
-pub lists_by : {F : Type 0} (only : List (List ℕ)) (short : Bool) (P : F → Table → Report → ℕ → NodeFields → Fate → Type 0) (Is : F → Report → List Fate → List ℕ → Type 0) (Put Put' : F → List ℕ → Type 0) (holds : F → Held) (folder : List ℕ) (before after : F) (profile : Profile) (last : ℕ) (old new : Option (List ℕ)) (i j : ℕ) (good : Bool) (table : Table)
-    → ((f : F) (text : List ℕ) → Put f text → Put' f text) → ListsChosen only short P Is Put holds folder before after profile last old new i j good table → ListsChosen only short P Is Put' holds folder before after profile last old new i j good table
-lists_by only short P Is Put Put' holds folder before after profile last old new i j good table to x = record {
+pub lists_by : {F : Type 0} (only : List (List ℕ)) (short : Bool) (P : F → Table → Report → ℕ → NodeFields → Fate → Type 0) (Is : F → Report → List Fate → List ℕ → Type 0) (Put Put' : F → List ℕ → Type 0) (holds : F → Held) (folder : List ℕ) (before after : F) (profile : Profile) (last : ℕ) (old new : Stream) (good : Bool) (table : Table)
+    → ((f : F) (text : List ℕ) → Put f text → Put' f text) → ListsChosen only short P Is Put holds folder before after profile last old new good table → ListsChosen only short P Is Put' holds folder before after profile last old new good table
+lists_by only short P Is Put Put' holds folder before after profile last old new good table to x = record {
   mid = x.mid;
   report = x.report;
   is_report = x.is_report;

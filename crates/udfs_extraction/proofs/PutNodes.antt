@@ -19,6 +19,7 @@ use Rattle.udfs_extraction.specs.Extracting.{Each, IsDone, IsIn, IsPut, IsSafe, 
 use Rattle.udfs_common.specs.Keeping.{IsKept}
 use Rattle.udfs_extraction.specs.declared.extract.Deed.TheVariants.{Folder, File, Skip}
 use Rattle.udfs_extraction.specs.declared.extract.Fate.{Fate}
+use Rattle.udfs_reading.specs.Device.{Stream}
 
 abbrev pub Held : Type 0
 Held = List ℕ → Option (Option (List ℕ))
@@ -175,9 +176,9 @@ good_more fates fate = elim (cases_Bool (is_good fate)) [ inl good ↦ same fate
       | inr is ↦ ap (λ b. if b then all_good (fs ++ fate ∷ []) else false) is
     ]
 
-pub tells_more : (heard : Bool) (old mid new : Option (List ℕ)) (i j k : ℕ) (text more : List ℕ) → TellsLines true old mid i j text → TellsLines heard mid new j k more → TellsLines heard old new i k (text ++ more)
-tells_more true old mid new i j k text more one two = record { given = Appends-trans _ _ _ _ _ one.given two.given; kept = two.kept ∙ one.kept }
-tells_more false old mid new i j k text more one two = record {
+pub tells_more : (heard : Bool) (old mid new : Stream) (text more : List ℕ) → TellsLines true old mid text → TellsLines heard mid new more → TellsLines heard old new (text ++ more)
+tells_more true old mid new text more one two = record { given = Appends-trans _ _ _ _ _ one.given two.given; kept = two.kept ∙ one.kept }
+tells_more false old mid new text more one two = record {
   out = text ++ two.out;
   rest = two.rest;
   given = Appends-trans _ _ _ _ _ one.given two.given;
@@ -185,14 +186,14 @@ tells_more false old mid new i j k text more one two = record {
   moved = two.moved ∙ ap (λ n. (n + 1) % 2 ^ 64) one.kept;
 }
 
-pub tells_on : (before still : Bool) (old mid new : Option (List ℕ)) (i j k : ℕ) (text more : List ℕ) → TellsLines before old mid i j text → TellsOn before still mid new j k more → TellsLines still old new i k (text ++ more)
-tells_on true still old mid new i j k text more one two = tells_more still old mid new i j k text more one two
-tells_on false still old mid new i j k text more one two = subst (λ b. TellsLines b old new i k (text ++ more)) (sym two.0) (record {
+pub tells_on : (before still : Bool) (old mid new : Stream) (text more : List ℕ) → TellsLines before old mid text → TellsOn before still mid new more → TellsLines still old new (text ++ more)
+tells_on true still old mid new text more one two = tells_more still old mid new text more one two
+tells_on false still old mid new text more one two = subst (λ b. TellsLines b old new (text ++ more)) (sym two.0) (record {
   out = one.out;
   rest = one.rest ++ more;
-  given = subst (λ m. Appends old m one.out) (sym two.1) one.given;
+  given = subst (λ (m : Stream). Appends old.contents m.contents one.out) (sym two.1) one.given;
   whole = ap (λ l. l ++ more) one.whole ∙ append_assoc one.out one.rest more;
-  moved = two.2 ∙ one.moved;
+  moved = ap (λ (m : Stream). m.faults) two.1 ∙ one.moved;
 })
 
 pub each_few : (P : ℕ → NodeFields → Fate → Type 0) (k : ℕ) (ns : List NodeFields) (fates : List Fate) → Each P k ns fates → length fates ≤ length ns

@@ -36,6 +36,7 @@ use Rattle.udfs_extraction.specs.declared.extract.Deed.{Deed}
 use Rattle.udfs_extraction.specs.declared.extract.Deed.TheVariants.{Folder, File, Skip}
 use Rattle.udfs_extraction.specs.declared.extract.Fate.{Fate}
 use Rattle.udfs_extraction.specs.declared.extract.Fate.TheVariants.{Made, Written, Failed, Left, Skipped, Passed}
+use Rattle.udfs_reading.specs.Device.{Stream}
 
 -- a loop is a directory that is not entered
 abbrev pub directory_deed : Standing → Deed
@@ -128,31 +129,31 @@ Each P index [] (fate ∷ fates) = ⊥
 Each P index (n ∷ ns) (fate ∷ fates) = P index n fate × Each P (suc index) ns fates
 
 -- all of the lines were written; or a beginning, and then the sink failed
-abbrev pub TellsLines : Bool → Option (List ℕ) → Option (List ℕ) → ℕ → ℕ → List ℕ → Type 0
-TellsLines true old new i j text = Wrote old new i j text
-TellsLines false old new i j text = WriteFailed old new i j text
+abbrev pub TellsLines : Bool → Stream → Stream → List ℕ → Type 0
+TellsLines true old new text = Wrote old new text
+TellsLines false old new text = WriteFailed old new text
 
 -- more lines, where all before them were written; and else none
-abbrev pub TellsOn : Bool → Bool → Option (List ℕ) → Option (List ℕ) → ℕ → ℕ → List ℕ → Type 0
-TellsOn true still old new i j text = TellsLines still old new i j text
-TellsOn false still old new i j text = (still ≡ false) × (new ≡ old) × (j ≡ i)
+abbrev pub TellsOn : Bool → Bool → Stream → Stream → List ℕ → Type 0
+TellsOn true still old new text = TellsLines still old new text
+TellsOn false still old new text = (still ≡ false) × (new ≡ old)
 
 -- the nodes behind the root, as far as there are fates, and what was told of them
-pub record Puts (own : NodeFields → Option (List ℕ)) (P : ℕ → NodeFields → Fate → Type 0) (nodes : List NodeFields) (old new : Option (List ℕ)) (i j : ℕ) (heard : Bool) (fates : List Fate) : Type 0 where
+pub record Puts (own : NodeFields → Option (List ℕ)) (P : ℕ → NodeFields → Fate → Type 0) (nodes : List NodeFields) (old new : Stream) (heard : Bool) (fates : List Fate) : Type 0 where
   pub each : Each P 1 (drop 1 nodes) fates
-  pub lines : TellsLines heard old new i j (fate_lines own (drop 1 nodes) fates)
+  pub lines : TellsLines heard old new (fate_lines own (drop 1 nodes) fates)
 
 -- all of them have their fates, and it is good where none failed and all nodes are whole
-pub record PutsAll (own : NodeFields → Option (List ℕ)) (P : ℕ → NodeFields → Fate → Type 0) (nodes : List NodeFields) (old new : Option (List ℕ)) (i j : ℕ) (good : Bool) : Type 0 where
+pub record PutsAll (own : NodeFields → Option (List ℕ)) (P : ℕ → NodeFields → Fate → Type 0) (nodes : List NodeFields) (old new : Stream) (good : Bool) : Type 0 where
   pub fates : List Fate
-  pub puts : Puts own P nodes old new i j true fates
+  pub puts : Puts own P nodes old new true fates
   pub all : length fates ≡ length (drop 1 nodes)
   pub says : good ≡ (all_good fates && all_whole nodes)
 
 -- nothing is made of a volume that does not open, but its line is printed
-pub record PutsNone {F : Type 0} (before after : F) (volume : Answer Found) (old new : Option (List ℕ)) (i j : ℕ) (good : Bool) : Type 0 where
+pub record PutsNone {F : Type 0} (before after : F) (volume : Answer Found) (old new : Stream) (good : Bool) : Type 0 where
   pub untouched : after ≡ before
-  pub line : Wrote old new i j (volume_line volume)
+  pub line : Wrote old new (volume_line volume)
   pub lacks : good ≡ false
 
 abbrev pub PutsBy : Answer Found → Type 0 → Type 0 → Type 0
@@ -161,14 +162,14 @@ PutsBy (holes listed) opens does_not = does_not
 PutsBy (faulty fault) opens does_not = does_not
 
 -- what is made and told of a report
-abbrev pub PutsReport : {F : Type 0} → Bool → (Report → ℕ → NodeFields → Fate → Type 0) → F → F → Report → Option (List ℕ) → Option (List ℕ) → ℕ → ℕ → Bool → Type 0
-PutsReport short P before after report old new i j good = PutsBy report.volume (PutsAll (own_name short report) (P report) report.nodes old new i j good) (PutsNone before after report.volume old new i j good)
+abbrev pub PutsReport : {F : Type 0} → Bool → (Report → ℕ → NodeFields → Fate → Type 0) → F → F → Report → Stream → Stream → Bool → Type 0
+PutsReport short P before after report old new good = PutsBy report.volume (PutsAll (own_name short report) (P report) report.nodes old new good) (PutsNone before after report.volume old new good)
 
 -- of the report of the table by the rules of a profile
-pub record ExtractsAll {F : Type 0} (short : Bool) (P : Table → Report → ℕ → NodeFields → Fate → Type 0) (before after : F) (profile : Profile) (last : ℕ) (old new : Option (List ℕ)) (i j : ℕ) (good : Bool) (table : Table) : Type 0 where
+pub record ExtractsAll {F : Type 0} (short : Bool) (P : Table → Report → ℕ → NodeFields → Fate → Type 0) (before after : F) (profile : Profile) (last : ℕ) (old new : Stream) (good : Bool) (table : Table) : Type 0 where
   pub report : Report
   pub is_report : IsReportBy profile (state_of table) last report
-  pub puts : PutsReport short (P table) before after report old new i j good
+  pub puts : PutsReport short (P table) before after report old new good
 
 -- of a node that one of the words asks for this holds, and nothing is made or told of another
 pub record IsDone (only : List (List ℕ)) (P : ℕ → NodeFields → Fate → Type 0) (index : ℕ) (n : NodeFields) (fate : Fate) : Type 0 where
@@ -176,16 +177,16 @@ pub record IsDone (only : List (List ℕ)) (P : ℕ → NodeFields → Fate → 
   pub passed : is_chosen only n.path ≡ false → fate ≡ Passed
 
 -- each word is the path of a node; and it is good where nothing failed and all nodes that are asked for are whole
-pub record PutsChosen (only : List (List ℕ)) (own : NodeFields → Option (List ℕ)) (P : ℕ → NodeFields → Fate → Type 0) (nodes : List NodeFields) (old new : Option (List ℕ)) (i j : ℕ) (good : Bool) : Type 0 where
+pub record PutsChosen (only : List (List ℕ)) (own : NodeFields → Option (List ℕ)) (P : ℕ → NodeFields → Fate → Type 0) (nodes : List NodeFields) (old new : Stream) (good : Bool) : Type 0 where
   pub named : list_all (is_node nodes) only ≡ true
   pub fates : List Fate
-  pub puts : Puts own (IsDone only P) nodes old new i j true fates
+  pub puts : Puts own (IsDone only P) nodes old new true fates
   pub all : length fates ≡ length (drop 1 nodes)
   pub says : good ≡ (all_good fates && list_all (λ n. is_whole n.standing) (chosen only nodes))
 
 -- what is made and told of the nodes of a report that are asked for
-abbrev pub PutsOf : {F : Type 0} → List (List ℕ) → Bool → (Report → ℕ → NodeFields → Fate → Type 0) → F → F → Report → Option (List ℕ) → Option (List ℕ) → ℕ → ℕ → Bool → Type 0
-PutsOf only short P before after report old new i j good = PutsBy report.volume (PutsChosen only (own_name short report) (P report) report.nodes old new i j good) (PutsNone before after report.volume old new i j good)
+abbrev pub PutsOf : {F : Type 0} → List (List ℕ) → Bool → (Report → ℕ → NodeFields → Fate → Type 0) → F → F → Report → Stream → Stream → Bool → Type 0
+PutsOf only short P before after report old new good = PutsBy report.volume (PutsChosen only (own_name short report) (P report) report.nodes old new good) (PutsNone before after report.volume old new good)
 
 -- no node that is asked for has its file at this path
 abbrev pub IsElsewhere : List (List ℕ) → Bool → Report → List ℕ → List ℕ → Type 0
@@ -193,8 +194,8 @@ IsElsewhere only short report folder q = (k : ℕ) (n : NodeFields) → slice_ge
 
 -- of the report of the table by the rules of a profile; and no path changes but those of nodes that are asked for
 pub record ExtractsChosen {F : Type 0} (only : List (List ℕ)) (short : Bool) (P : Table → Report → ℕ → NodeFields → Fate → Type 0) (holds : F → List ℕ → Option (Option (List ℕ))) (folder : List ℕ) (before after : F) (profile : Profile) (last : ℕ)
-    (old new : Option (List ℕ)) (i j : ℕ) (good : Bool) (table : Table) : Type 0 where
+    (old new : Stream) (good : Bool) (table : Table) : Type 0 where
   pub report : Report
   pub is_report : IsReportBy profile (state_of table) last report
-  pub puts : PutsOf only short (P table) before after report old new i j good
+  pub puts : PutsOf only short (P table) before after report old new good
   pub elsewhere : (q : List ℕ) → IsElsewhere only short report folder q → holds after q ≡ holds before q

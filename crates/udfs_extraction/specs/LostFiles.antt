@@ -33,6 +33,7 @@ use Rattle.udfs_extraction.specs.declared.extract.Deed.{Deed}
 use Rattle.udfs_extraction.specs.declared.extract.Deed.TheVariants.{File, Skip}
 use Rattle.udfs_extraction.specs.declared.extract.Fate.{Fate}
 use Rattle.udfs_extraction.specs.declared.extract.Fate.TheVariants.{Made, Written, Failed, Left, Skipped, Passed}
+use Rattle.udfs_reading.specs.Device.{Stream}
 
 -- ---- names and lines
 
@@ -96,18 +97,18 @@ EachLost P [] (fate ∷ fates) = ⊥
 EachLost P (u ∷ us) (fate ∷ fates) = P u fate × EachLost P us fates
 
 -- all entries have their fates and lines, and it is good where none failed
-pub record PutsLost (P : Unnamed → Fate → Type 0) (two : Bool) (us : List Unnamed) (old new : Option (List ℕ)) (i j : ℕ) (good : Bool) : Type 0 where
+pub record PutsLost (P : Unnamed → Fate → Type 0) (two : Bool) (us : List Unnamed) (old new : Stream) (good : Bool) : Type 0 where
   pub fates : List Fate
   pub each : EachLost P us fates
-  pub lines : Wrote old new i j (lost_lines two us fates)
+  pub lines : Wrote old new (lost_lines two us fates)
   pub all : length fates ≡ length us
   pub says : good ≡ all_good fates
 
 -- of the entries of the report of the table by the rules of a profile, of which a volume that does not open has none
-pub record WritesLost (P : Table → Report → Bool → Unnamed → Fate → Type 0) (spares : Type 0) (profile : Profile) (last : ℕ) (old new : Option (List ℕ)) (i j : ℕ) (good : Bool) (table : Table) : Type 0 where
+pub record WritesLost (P : Table → Report → Bool → Unnamed → Fate → Type 0) (spares : Type 0) (profile : Profile) (last : ℕ) (old new : Stream) (good : Bool) (table : Table) : Type 0 where
   pub report : Report
   pub is_report : IsReportBy profile (state_of table) last report
-  pub puts : PutsLost (P table report (has_two report.volume)) (has_two report.volume) report.unnamed old new i j good
+  pub puts : PutsLost (P table report (has_two report.volume)) (has_two report.volume) report.unnamed old new good
   pub spared : spares
 
 -- At some moment the nodes are made and told, as without `--unnamed`; then the lost files are. It is good where both is.

@@ -20,6 +20,7 @@ use Rattle.udfs_extraction.specs.ShortNames.{own_name, placed}
 use Rattle.udfs_extraction.specs.SumLines.{begins_as_sums, sum_line}
 use Rattle.udfs_extraction.specs.declared.extract.Fate.{Fate}
 use Rattle.udfs_extraction.specs.declared.extract.Fate.TheVariants.{Made, Written, Failed, Left, Skipped, Passed}
+use Rattle.udfs_reading.specs.Device.{Stream}
 
 -- the digest of the bytes, and the path in the folder, with no `/` in front
 abbrev pub file_line : List (List ℕ) → List ℕ → List ℕ
@@ -60,15 +61,15 @@ note_line Skipped digest text = []
 note_line Passed digest text = []
 
 -- what is made and told of nodes that are asked for, and a text that this holds of, with them and their fates
-pub record PutsWith (only : List (List ℕ)) (own : NodeFields → Option (List ℕ)) (P : ℕ → NodeFields → Fate → Type 0) (Is : List Fate → List ℕ → Type 0) (nodes : List NodeFields) (old new : Option (List ℕ)) (i j : ℕ) (good : Bool) (manifest : Option (List ℕ)) : Type 0 where
-  pub puts : PutsChosen only own P nodes old new i j good
+pub record PutsWith (only : List (List ℕ)) (own : NodeFields → Option (List ℕ)) (P : ℕ → NodeFields → Fate → Type 0) (Is : List Fate → List ℕ → Type 0) (nodes : List NodeFields) (old new : Stream) (good : Bool) (manifest : Option (List ℕ)) : Type 0 where
+  pub puts : PutsChosen only own P nodes old new good
   pub text : List ℕ
   pub is_text : Is puts.fates text
   pub has : manifest ≡ Some text
 
 -- what is made and told of a report, and the text
-abbrev pub PutsNoted : {F : Type 0} → List (List ℕ) → Bool → (Report → ℕ → NodeFields → Fate → Type 0) → (Report → List Fate → List ℕ → Type 0) → F → F → Report → Option (List ℕ) → Option (List ℕ) → ℕ → ℕ → Bool → Option (List ℕ) → Type 0
-PutsNoted only short P Is before after report old new i j good manifest = PutsBy report.volume (PutsWith only (own_name short report) (P report) (Is report) report.nodes old new i j good manifest) (PutsNone before after report.volume old new i j good × (manifest ≡ None))
+abbrev pub PutsNoted : {F : Type 0} → List (List ℕ) → Bool → (Report → ℕ → NodeFields → Fate → Type 0) → (Report → List Fate → List ℕ → Type 0) → F → F → Report → Stream → Stream → Bool → Option (List ℕ) → Type 0
+PutsNoted only short P Is before after report old new good manifest = PutsBy report.volume (PutsWith only (own_name short report) (P report) (Is report) report.nodes old new good manifest) (PutsNone before after report.volume old new good × (manifest ≡ None))
 
 -- ---- the manifest is put
 
@@ -79,24 +80,24 @@ pub record IsPutLast {F : Type 0} (holds : F → List ℕ → Option (Option (Li
   pub elsewhere : (q : List ℕ) → q ≢ place → (¬ IsOwn place q) → holds after q ≡ holds mid q
 
 -- the manifest of the files as they are then, and this holds of it
-pub record PutsListed (only : List (List ℕ)) (own : NodeFields → Option (List ℕ)) (P : ℕ → NodeFields → Fate → Type 0) (Is : List Fate → List ℕ → Type 0) (Put : List ℕ → Type 0) (nodes : List NodeFields) (old new : Option (List ℕ)) (i j : ℕ) (good : Bool) : Type 0 where
-  pub puts : PutsChosen only own P nodes old new i j good
+pub record PutsListed (only : List (List ℕ)) (own : NodeFields → Option (List ℕ)) (P : ℕ → NodeFields → Fate → Type 0) (Is : List Fate → List ℕ → Type 0) (Put : List ℕ → Type 0) (nodes : List NodeFields) (old new : Stream) (good : Bool) : Type 0 where
+  pub puts : PutsChosen only own P nodes old new good
   pub text : List ℕ
   pub is_text : Is puts.fates text
   pub put : Put text
 
 -- At some moment all is made and told as without a manifest; then it is put. Of a volume that does not open, none is.
-abbrev pub ListsOf : {F : Type 0} → List (List ℕ) → Bool → (F → Report → ℕ → NodeFields → Fate → Type 0) → (F → Report → List Fate → List ℕ → Type 0) → (F → List ℕ → Type 0) → F → F → F → Report → Option (List ℕ) → Option (List ℕ) → ℕ → ℕ → Bool → Type 0
-ListsOf only short P Is Put before mid after report old new i j good =
-    PutsBy report.volume (PutsListed only (own_name short report) (P mid report) (Is mid report) (Put mid) report.nodes old new i j good) (PutsNone before mid report.volume old new i j good × (after ≡ mid))
+abbrev pub ListsOf : {F : Type 0} → List (List ℕ) → Bool → (F → Report → ℕ → NodeFields → Fate → Type 0) → (F → Report → List Fate → List ℕ → Type 0) → (F → List ℕ → Type 0) → F → F → F → Report → Stream → Stream → Bool → Type 0
+ListsOf only short P Is Put before mid after report old new good =
+    PutsBy report.volume (PutsListed only (own_name short report) (P mid report) (Is mid report) (Put mid) report.nodes old new good) (PutsNone before mid report.volume old new good × (after ≡ mid))
 
 -- the same of the report of a table by the rules of a profile; and until the manifest is put no path changes but those of nodes that are asked for
 pub record ListsChosen {F : Type 0} (only : List (List ℕ)) (short : Bool) (P : F → Table → Report → ℕ → NodeFields → Fate → Type 0) (Is : F → Report → List Fate → List ℕ → Type 0) (Put : F → List ℕ → Type 0) (holds : F → List ℕ → Option (Option (List ℕ))) (folder : List ℕ)
-    (before after : F) (profile : Profile) (last : ℕ) (old new : Option (List ℕ)) (i j : ℕ) (good : Bool) (table : Table) : Type 0 where
+    (before after : F) (profile : Profile) (last : ℕ) (old new : Stream) (good : Bool) (table : Table) : Type 0 where
   pub mid : F
   pub report : Report
   pub is_report : IsReportBy profile (state_of table) last report
-  pub puts : ListsOf only short (λ f. P f table) Is Put before mid after report old new i j good
+  pub puts : ListsOf only short (λ f. P f table) Is Put before mid after report old new good
   pub elsewhere : (q : List ℕ) → IsElsewhere only short report folder q → holds mid q ≡ holds before q
 
 -- ---- what is left as it was

@@ -2,7 +2,7 @@
 
 ghost use Rattle.std.specs.Prelude.{◌≡◌, ◌<◌, ◌≤◌, ℕ, List, Some, [], true, IfOk, IfErr, length};
 ghost use Rattle.std.specs.Io.KnownBytes.{WriteAppends};
-ghost use Rattle.udfs_files.specs.Disk.{Fails};
+ghost use Rattle.udfs_files.specs.Disk.{Fails, SinkFails};
 ghost use Rattle.udfs_extraction.specs.Digests.{HasTaken};
 ghost use Rattle.sha2.specs.Sha256.{sha256};
 ghost use Rattle.udfs_reading.specs.Device.{CountsFault};
@@ -17,7 +17,7 @@ use udfs_reading::{DeviceFault, Sink};
 struct Digesting<F: Files> {
     output: F::Output,
     hash: Sha256,
-    ghost taken: { ∥ (F.tells → HasTaken (F.Output.contents output) hash) ∥₁ },
+    ghost taken: { ∥ (F.tells → HasTaken (F.Output.stream output).contents hash) ∥₁ },
 }
 
 impl<F: Files> Digesting<F> {
@@ -25,8 +25,8 @@ impl<F: Files> Digesting<F> {
     fn take(&mut self, buf: &[u8]) -> Result<usize, DeviceFault>
         ensures bound { IfOk result (λ n. n ≤ length buf.now) }
         ensures some { IfOk result (λ n. 0 < length buf.now → 0 < n) }
-        ensures bytes { WriteAppends (F.Output.contents self.old.output) (F.Output.contents self.new.output) result buf.now }
-        ensures count { CountsFault (F.Output.faults self.old.output) (F.Output.faults self.new.output) result }
+        ensures bytes { WriteAppends (F.Output.stream self.old.output).contents (F.Output.stream self.new.output).contents result buf.now }
+        ensures count { CountsFault (F.Output.stream self.old.output).faults (F.Output.stream self.new.output).faults result }
         ensures place { F.Output.place self.new.output ≡ F.Output.place self.old.output }
     {
         match self.output.put(buf) {
@@ -40,9 +40,7 @@ impl<F: Files> Digesting<F> {
 }
 
 impl<F: Files> Sink for Digesting<F> {
-    ghost contents = { λ d. F.Output.contents d.output };
-
-    ghost faults = { λ d. F.Output.faults d.output };
+    ghost stream = { λ d. F.Output.stream d.output };
 
     fn write(&mut self, buf: &[u8]) -> Result<usize, DeviceFault> {
         self.take(buf)
@@ -68,11 +66,11 @@ pub struct Filled<F: Files> {
 
 /// Does a job on an output, and takes the digest.
 fn fill_and_digest<F: Files, J: Job>(output: F::Output, job: &J) -> Result<Filled<F>, J::Refusal>
-    requires empty { F.tells → F.Output.contents output ≡ Some [] }
+    requires empty { F.tells → (F.Output.stream output).contents ≡ Some [] }
     ensures place { IfOk result (λ full. F.Output.place full.output ≡ F.Output.place output) }
-    ensures wrote { IfOk result (λ full. J.wrote job.now (F.Output.contents output) (F.Output.contents full.output)) }
-    ensures digest { IfOk result (λ full. F.tells → (bytes : List ℕ) × (F.Output.contents full.output ≡ Some bytes) × (full.digest ≡ Some (sha256 bytes))) }
-    ensures cause { IfErr result (λ refusal. J.blames_sink job.now refusal → Fails F.Output.faults) }
+    ensures wrote { IfOk result (λ full. J.wrote job.now (F.Output.stream output).contents (F.Output.stream full.output).contents) }
+    ensures digest { IfOk result (λ full. F.tells → (bytes : List ℕ) × ((F.Output.stream full.output).contents ≡ Some bytes) × (full.digest ≡ Some (sha256 bytes))) }
+    ensures cause { IfErr result (λ refusal. J.blames_sink job.now refusal → SinkFails F.Output.stream) }
 {
     let begun: Digesting<F> = Digesting {
         output,
@@ -97,12 +95,12 @@ pub fn fill_noting<F: Files, J: Job>(
     job: &J,
     digest: bool,
 ) -> Result<Filled<F>, J::Refusal>
-    requires empty { F.tells → F.Output.contents output ≡ Some [] }
+    requires empty { F.tells → (F.Output.stream output).contents ≡ Some [] }
     ensures place { IfOk result (λ full. F.Output.place full.output ≡ F.Output.place output) }
-    ensures wrote { IfOk result (λ full. J.wrote job.now (F.Output.contents output) (F.Output.contents full.output)) }
+    ensures wrote { IfOk result (λ full. J.wrote job.now (F.Output.stream output).contents (F.Output.stream full.output).contents) }
     // The digest is that of the bytes that the output has.
-    ensures digest { IfOk result (λ full. digest ≡ true → F.tells → (bytes : List ℕ) × (F.Output.contents full.output ≡ Some bytes) × (full.digest ≡ Some (sha256 bytes))) }
-    ensures cause { IfErr result (λ refusal. J.blames_sink job.now refusal → Fails F.Output.faults) }
+    ensures digest { IfOk result (λ full. digest ≡ true → F.tells → (bytes : List ℕ) × ((F.Output.stream full.output).contents ≡ Some bytes) × (full.digest ≡ Some (sha256 bytes))) }
+    ensures cause { IfErr result (λ refusal. J.blames_sink job.now refusal → SinkFails F.Output.stream) }
 {
     if digest {
         return match fill_and_digest(output, job) {

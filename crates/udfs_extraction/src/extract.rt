@@ -1,9 +1,9 @@
 //! The command `extract`: readings in, the files of their volume out into a new folder.
 
 ghost use Rattle.std.specs.Prelude.{◌≡◌, ◌<◌, ◌⊎◌, ℕ, Bool, true, false, ◌&&◌, List, Some, IfOk, IfErr, length, drop, None, Option, map, option_map, if◌then◌else◌};
-ghost use Rattle.udfs_files.specs.Disk.{Goes, Fails};
+ghost use Rattle.udfs_files.specs.Disk.{Goes, Fails, SinkFails};
 ghost use Rattle.udfs_volume.specs.declared.profiles.Profile.{Profile};
-ghost use Rattle.udfs_salvage.specs.Reports.{report_now};
+ghost use Rattle.udfs_salvage.specs.Listings.{listing_now};
 ghost use Rattle.udfs_extraction.specs.Extracting.{ExtractsChosen, IsDone, IsElsewhere, IsIn, IsPut, Puts, Spares, Stay, all_good, is_good};
 ghost use Rattle.udfs_common.specs.Keeping.{OfPaths};
 ghost use Rattle.udfs_extraction.specs.Manifests.{IsManifest, PutsNoted};
@@ -15,17 +15,18 @@ use crate::fate_remarks::remark_on_fate;
 use crate::manifest::note;
 use crate::node_files::{node_at, put_chosen, put_folder};
 use crate::places::place_of;
+use crate::spare::Spare;
 use crate::telling::tell;
 use crate::times::{note_time, set_folder_times};
 use std::alloc::{AllocError, Global};
 use udfs_common::files::Files;
 use udfs_common::inputs::joined;
 use udfs_common::refusal::Refusal;
-use udfs_common::remarks::remark_on_report;
+use udfs_common::remarks::remark_on_listing;
 use udfs_common::sources::AnySource;
 use udfs_files::Stage;
 use udfs_reading::{Sink, Source};
-use udfs_salvage::{Fill, Report, Volume, salvage_by, write_volume};
+use udfs_salvage::{Fill, Listing, Volume, list_volume_by, write_volume_line};
 use udfs_volume::Profile;
 use udfs_words::input_path::InputPath;
 
@@ -90,7 +91,7 @@ pub fn still_good(good: bool, fate: Fate) -> bool
 /// Goes through the nodes behind the root, in order. Where the output fails, it goes on, and tells no more.
 fn put_nodes<F: Files, O: Sink>(
     alloc: Global,
-    report: &Report<'_>,
+    listing: &Listing<'_>,
     only: &[&str],
     fill: Fill,
     short: bool,
@@ -99,28 +100,29 @@ fn put_nodes<F: Files, O: Sink>(
     files: &mut F,
     out: &mut O,
 ) -> Result<Told, AllocError>
-    ensures put { (heard : Bool) × (fates : List Fate) × Puts (own_name short (report_now report.now)) (IsDone (map (λ word. word.now) only.now)
-        (IsPut F.tells (Fails F.faults ⊎ Fails F.Output.faults) report.now.table.now (report_now report.now) fill short folder.now (F.holds files.new) (F.moment files.new) (F.left_since files.new)))
-        report.now.nodes.items (O.contents out.old) (O.contents out.new) (O.faults out.old) (O.faults out.new) heard fates ×
-        IfOk result (λ told. (length fates ≡ length (drop 1 report.now.nodes.items)) × (told.heard ≡ heard) × (told.good ≡ all_good fates) ×
-        (digest ≡ true → F.tells → IsManifest (F.holds files.new) folder.now short (report_now report.now) fates told.manifest.items)) }
+    ensures put { (heard : Bool) × (fates : List Fate) × Puts (own_name short (listing_now listing.now)) (IsDone (map (λ word. word.now) only.now)
+        (IsPut F.tells (Fails F.faults ⊎ SinkFails F.Output.stream) listing.now.table.now (listing_now listing.now) fill short folder.now (F.holds files.new) (F.moment files.new) (F.left_since files.new)))
+        (listing_now listing.now).nodes (O.stream out.old) (O.stream out.new) heard fates ×
+        IfOk result (λ told. (length fates ≡ length (drop 1 (listing_now listing.now).nodes)) × (told.heard ≡ heard) × (told.good ≡ all_good fates) ×
+        (digest ≡ true → F.tells → IsManifest (F.holds files.new) folder.now short (listing_now listing.now) fates told.manifest.items)) }
     ensures stays { F.tells → Stay (F.holds files.old) (F.holds files.new) }
     ensures outside { (q : List ℕ) → (¬ IsIn folder.now q) → F.holds files.new q ≡ F.holds files.old q }
-    ensures elsewhere { (q : List ℕ) → IsElsewhere (map (λ word. word.now) only.now) short (report_now report.now) folder.now q → F.holds files.new q ≡ F.holds files.old q }
+    ensures elsewhere { (q : List ℕ) → IsElsewhere (map (λ word. word.now) only.now) short (listing_now listing.now) folder.now q → F.holds files.new q ≡ F.holds files.old q }
     ensures crash { F.tells → Goes F.moment F.may_leave F.left_since files.old files.new (Spares folder.now (F.holds files.old)) }
 {
+    let spare = Spare::new();
     let mut good = true;
     let mut heard = true;
     let mut manifest = Vec::new(alloc);
     let mut made = Vec::new(alloc);
     let mut way = Vec::new(alloc);
-    for index in 1..report.nodes.len() {
-        let target = place_of(alloc, report, index, short, &mut way)?;
+    for index in 1..listing.nodes.len() {
+        let target = place_of(alloc, listing, index, short, &mut way)?;
         let place = target.text.as_str();
         let done = put_chosen(
-            alloc, report, index, only, fill, digest, folder, place, files,
+            alloc, listing, index, only, fill, digest, folder, place, &spare, files,
         )?;
-        let node = node_at(report, index);
+        let node = node_at(listing, index);
         note(alloc, &mut manifest, done, place)?;
         good = still_good(good, done.fate);
         heard = tell(alloc, heard, done.fate, &node.path, &target.own, out)?;
@@ -129,7 +131,7 @@ fn put_nodes<F: Files, O: Sink>(
             alloc, node, index, only, done.fate, folder, place, &mut made, files,
         );
     }
-    set_folder_times(alloc, report, made.as_slice(), folder, files);
+    set_folder_times(alloc, listing, made.as_slice(), folder, files);
     Ok(Told {
         good,
         heard,
@@ -157,7 +159,7 @@ pub struct Made {
 /// volume. Where `digest` says so, the digests of the files are taken while they are written.
 pub fn put_report<F: Files, O: Sink>(
     alloc: Global,
-    report: &Report<'_>,
+    listing: &Listing<'_>,
     only: &[&str],
     fill: Fill,
     short: bool,
@@ -167,24 +169,24 @@ pub fn put_report<F: Files, O: Sink>(
     out: &mut O,
 ) -> Result<Made, Refusal>
     ensures put { IfOk result (λ made. PutsNoted (map (λ word. word.now) only.now) short
-        (λ told. IsPut F.tells (Fails F.faults ⊎ Fails F.Output.faults) report.now.table.now told fill short folder.now (F.holds files.new) (F.moment files.new) (F.left_since files.new))
+        (λ told. IsPut F.tells (Fails F.faults ⊎ SinkFails F.Output.stream) listing.now.table.now told fill short folder.now (F.holds files.new) (F.moment files.new) (F.left_since files.new))
         (λ told fates text. digest ≡ true → F.tells → IsManifest (F.holds files.new) folder.now short told fates text)
-        files.old files.new (report_now report.now) (O.contents out.old) (O.contents out.new) (O.faults out.old) (O.faults out.new) made.good (option_map (λ m. m.items) made.manifest)) }
+        files.old files.new (listing_now listing.now) (O.stream out.old) (O.stream out.new) made.good (option_map (λ m. m.items) made.manifest)) }
     ensures no_node { IfErr result (λ refusal. (i : ℕ) → refusal ≡ Refusal.NoNode i → files.new ≡ files.old) }
     ensures stays { F.tells → Stay (F.holds files.old) (F.holds files.new) }
     ensures outside { (q : List ℕ) → (¬ IsIn folder.now q) → F.holds files.new q ≡ F.holds files.old q }
-    ensures elsewhere { (q : List ℕ) → IsElsewhere (map (λ word. word.now) only.now) short (report_now report.now) folder.now q → F.holds files.new q ≡ F.holds files.old q }
+    ensures elsewhere { (q : List ℕ) → IsElsewhere (map (λ word. word.now) only.now) short (listing_now listing.now) folder.now q → F.holds files.new q ≡ F.holds files.old q }
     ensures crash { F.tells → Goes F.moment F.may_leave F.left_since files.old files.new (Spares folder.now (F.holds files.old)) }
 {
-    match &report.volume {
+    match &listing.volume {
         Volume::Open(_) => {
-            all_are_nodes(alloc, only, &report.nodes)?;
-            let whole = chosen_are_whole(alloc, only, &report.nodes)?;
+            all_are_nodes(alloc, only, &listing.nodes)?;
+            let whole = chosen_are_whole(alloc, only, &listing.nodes)?;
             if put_folder(folder, files) != Fate::Made {
                 return Err(Refusal::Folder);
             }
             let told = match put_nodes(
-                alloc, report, only, fill, short, digest, folder, files, out,
+                alloc, listing, only, fill, short, digest, folder, files, out,
             ) {
                 Ok(told) => told,
                 Err(AllocError) => return Err(Refusal::Memory(AllocError)),
@@ -198,8 +200,8 @@ pub fn put_report<F: Files, O: Sink>(
             })
         }
         _ => {
-            write_volume(report, out)?;
-            remark_on_report(alloc, report, files);
+            write_volume_line(&listing.volume, out)?;
+            remark_on_listing(alloc, listing, files);
             Ok(Made {
                 good: false,
                 manifest: None,
@@ -225,8 +227,8 @@ pub fn extract<F: Files, O: Sink>(
 ) -> Result<bool, Refusal>
     // At `Ok` each node behind the root that is asked for has its line, and each file that is told as written is there, whole, and each crash since then leaves it. No path changes but theirs.
     ensures chosen { IfOk result (λ good. OfPaths (λ path. F.holds files.old (F.real files.old path)) (⟦<AnySource<F::Input, F::Image> as Source>⟧.remaining) inputs.now
-        (ExtractsChosen (map (λ word. word.now) only.now) short (λ table told. IsPut F.tells (Fails F.faults ⊎ Fails F.Output.faults) table told fill short folder.now (F.holds files.new) (F.moment files.new) (F.left_since files.new))
-        F.holds folder.now files.old files.new profile last (O.contents out.old) (O.contents out.new) (O.faults out.old) (O.faults out.new) good)) }
+        (ExtractsChosen (map (λ word. word.now) only.now) short (λ table told. IsPut F.tells (Fails F.faults ⊎ SinkFails F.Output.stream) table told fill short folder.now (F.holds files.new) (F.moment files.new) (F.left_since files.new))
+        F.holds folder.now files.old files.new profile last (O.stream out.old) (O.stream out.new) good)) }
     // A path that is no node's is refused before anything is made.
     ensures no_node { IfErr result (λ refusal. (i : ℕ) → refusal ≡ Refusal.NoNode i → files.new ≡ files.old) }
     // Whatever the answer, no file that was there is changed, and nothing outside of the folder; nor by a crash at any moment.
@@ -236,8 +238,10 @@ pub fn extract<F: Files, O: Sink>(
 {
     let table = joined(alloc, inputs, files)?;
     files.begin(Stage::Walking);
-    let report = salvage_by(alloc, &table, last, profile)?;
+    let listing = list_volume_by(alloc, &table, last, profile)?;
     files.begin(Stage::Writing);
-    let made = put_report(alloc, &report, only, fill, short, false, folder, files, out)?;
+    let made = put_report(
+        alloc, &listing, only, fill, short, false, folder, files, out,
+    )?;
     Ok(made.good)
 }

@@ -1,8 +1,8 @@
 //! The command `extract --manifest`: the files of a volume out into a new folder, and then a manifest of them.
 
 ghost use Rattle.std.specs.Prelude.{◌≡◌, ◌≢◌, ◌⊎◌, ℕ, List, Some, IfOk, IfErr, OnOk, map};
-ghost use Rattle.udfs_files.specs.Disk.{Fails, Goes, IsOwn, Replaced};
-ghost use Rattle.udfs_salvage.specs.Reports.{report_now};
+ghost use Rattle.udfs_files.specs.Disk.{Fails, SinkFails, Goes, IsOwn, Replaced};
+ghost use Rattle.udfs_salvage.specs.Listings.{listing_now};
 ghost use Rattle.udfs_extraction.specs.Extracting.{IsElsewhere, IsPut};
 ghost use Rattle.udfs_common.specs.Keeping.{IsKept, OfPaths};
 ghost use Rattle.udfs_extraction.specs.Manifests.{IsManifest, IsPutLast, ListsChosen, ListsOf, SparesListed};
@@ -16,7 +16,7 @@ use udfs_common::refusal::Refusal;
 use udfs_common::sources::AnySource;
 use udfs_files::{Content, ReplaceError, Stage, replace};
 use udfs_reading::{Sink, Source, WriteFault, write_all};
-use udfs_salvage::{Fill, Report, salvage_by};
+use udfs_salvage::{Fill, Listing, list_volume_by};
 use udfs_volume::Profile;
 use udfs_words::input_path::InputPath;
 
@@ -59,7 +59,7 @@ fn put_manifest<F: Files>(
 /// puts none.
 pub fn list_report<F: Files, O: Sink>(
     alloc: Global,
-    report: &Report<'_>,
+    listing: &Listing<'_>,
     only: &[&str],
     fill: Fill,
     short: bool,
@@ -69,15 +69,15 @@ pub fn list_report<F: Files, O: Sink>(
     out: &mut O,
 ) -> Result<bool, Refusal>
     ensures listed { IfOk result (λ good. (mid : F) × ListsOf (map (λ word. word.now) only.now) short
-        (λ f told. IsPut F.tells (Fails F.faults ⊎ Fails F.Output.faults) report.now.table.now told fill short folder.now (F.holds f) (F.moment f) (F.left_since f))
+        (λ f told. IsPut F.tells (Fails F.faults ⊎ SinkFails F.Output.stream) listing.now.table.now told fill short folder.now (F.holds f) (F.moment f) (F.left_since f))
         (λ f told fates text. F.tells → IsManifest (F.holds f) folder.now short told fates text)
         (λ f text. F.tells → IsPutLast F.holds F.may_leave F.moment F.left_since place.now f files.new text)
-        files.old mid files.new (report_now report.now) (O.contents out.old) (O.contents out.new) (O.faults out.old) (O.faults out.new) good
-        × ((q : List ℕ) → IsElsewhere (map (λ word. word.now) only.now) short (report_now report.now) folder.now q → F.holds mid q ≡ F.holds files.old q)) }
+        files.old mid files.new (listing_now listing.now) (O.stream out.old) (O.stream out.new) good
+        × ((q : List ℕ) → IsElsewhere (map (λ word. word.now) only.now) short (listing_now listing.now) folder.now q → F.holds mid q ≡ F.holds files.old q)) }
     ensures no_node { IfErr result (λ refusal. (i : ℕ) → refusal ≡ Refusal.NoNode i → files.new ≡ files.old) }
     ensures spares { SparesListed F.tells F.holds F.may_leave F.moment F.left_since short folder.now place.now files.old files.new }
 {
-    let made = match put_report(alloc, report, only, fill, short, true, folder, files, out) {
+    let made = match put_report(alloc, listing, only, fill, short, true, folder, files, out) {
         Ok(made) => made,
         Err(refusal) => return Err(refusal),
     };
@@ -109,10 +109,10 @@ pub fn extract_listed<F: Files, O: Sink>(
     // path held then.
     ensures listed { IfOk result (λ good. OfPaths (λ path. F.holds files.old (F.real files.old path)) (⟦<AnySource<F::Input, F::Image> as Source>⟧.remaining) inputs.now
         (ListsChosen (map (λ word. word.now) only.now) short
-        (λ f table told. IsPut F.tells (Fails F.faults ⊎ Fails F.Output.faults) table told fill short folder.now (F.holds f) (F.moment f) (F.left_since f))
+        (λ f table told. IsPut F.tells (Fails F.faults ⊎ SinkFails F.Output.stream) table told fill short folder.now (F.holds f) (F.moment f) (F.left_since f))
         (λ f told fates text. F.tells → IsManifest (F.holds f) folder.now short told fates text)
         (λ f text. F.tells → IsPutLast F.holds F.may_leave F.moment F.left_since place.now f files.new text)
-        F.holds folder.now files.old files.new profile last (O.contents out.old) (O.contents out.new) (O.faults out.old) (O.faults out.new) good)) }
+        F.holds folder.now files.old files.new profile last (O.stream out.old) (O.stream out.new) good)) }
     // A path that is no node's is refused before anything is made.
     ensures no_node { IfErr result (λ refusal. (i : ℕ) → refusal ≡ Refusal.NoNode i → files.new ≡ files.old) }
     // Whatever the answer, no file that was there is changed, and nothing outside of the folder, but at the manifest's place; nor by a crash at any moment.
@@ -123,9 +123,11 @@ pub fn extract_listed<F: Files, O: Sink>(
         Err(refusal) => return Err(refusal),
     };
     files.begin(Stage::Walking);
-    let report = salvage_by(alloc, &table, last, profile)?;
+    let listing = list_volume_by(alloc, &table, last, profile)?;
     files.begin(Stage::Writing);
-    match list_report(alloc, &report, only, fill, short, folder, place, files, out) {
+    match list_report(
+        alloc, &listing, only, fill, short, folder, place, files, out,
+    ) {
         Ok(good) => Ok(good),
         Err(refusal) => Err(refusal),
     }

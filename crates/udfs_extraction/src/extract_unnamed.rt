@@ -1,8 +1,8 @@
 //! The command `extract --unnamed`: the files of a volume out into a new folder, and then its lost files into another.
 
 ghost use Rattle.std.specs.Prelude.{◌≡◌, ◌≢◌, ◌⊎◌, ◌&&◌, ℕ, List, Some, IfOk, IfErr, map};
-ghost use Rattle.udfs_files.specs.Disk.{Fails, Goes};
-ghost use Rattle.udfs_salvage.specs.Reports.{report_now};
+ghost use Rattle.udfs_files.specs.Disk.{Fails, SinkFails, Goes};
+ghost use Rattle.udfs_salvage.specs.Listings.{listing_now};
 ghost use Rattle.udfs_extraction.specs.Extracting.{ExtractsChosen, IsIn, IsPut, Spares, Stay};
 ghost use Rattle.udfs_common.specs.Keeping.{OfPaths};
 ghost use Rattle.udfs_extraction.specs.LostFiles.{AddsLost, IsLostPut, SparesLost, WritesLost};
@@ -19,7 +19,7 @@ use udfs_common::refusal::Refusal;
 use udfs_common::sources::AnySource;
 use udfs_files::Stage;
 use udfs_reading::{Sink, Source};
-use udfs_salvage::{Fill, salvage_by};
+use udfs_salvage::{Fill, list_unnamed, list_volume_by};
 use udfs_volume::Profile;
 use udfs_words::input_path::InputPath;
 
@@ -41,12 +41,12 @@ pub fn extract_with_lost<F: Files, O: Sink>(
     // At `Ok` all was made and told as without lost files, at some moment; and since then each lost file has its line, and each that is told as written is there, and each crash since then leaves it.
     ensures added { IfOk result (λ good. OfPaths (λ path. F.holds files.old (F.real files.old path)) (⟦<AnySource<F::Input, F::Image> as Source>⟧.remaining) inputs.now
         (AddsLost (λ (mid : F) (between : O) nodes_good. ExtractsChosen (map (λ word. word.now) only.now) short
-        (λ table told. IsPut F.tells (Fails F.faults ⊎ Fails F.Output.faults) table told fill short folder.now (F.holds mid) (F.moment mid) (F.left_since mid))
-        F.holds folder.now files.old mid profile last (O.contents out.old) (O.contents between) (O.faults out.old) (O.faults between) nodes_good)
+        (λ table told. IsPut F.tells (Fails F.faults ⊎ SinkFails F.Output.stream) table told fill short folder.now (F.holds mid) (F.moment mid) (F.left_since mid))
+        F.holds folder.now files.old mid profile last (O.stream out.old) (O.stream between) nodes_good)
         (λ (mid : F) (between : O) lost_good. WritesLost
-        (λ table told two. IsLostPut F.tells (Fails F.faults ⊎ Fails F.Output.faults) table told lost.now two (F.holds files.new) (F.moment files.new) (F.left_since files.new))
+        (λ table told two. IsLostPut F.tells (Fails F.faults ⊎ SinkFails F.Output.stream) table told lost.now two (F.holds files.new) (F.moment files.new) (F.left_since files.new))
         (SparesLost F.tells F.holds F.may_leave F.moment F.left_since lost.now mid files.new)
-        profile last (O.contents between) (O.contents out.new) (O.faults between) (O.faults out.new) lost_good)
+        profile last (O.stream between) (O.stream out.new) lost_good)
         good)) }
     // A path that is no node's is refused before anything is made.
     ensures no_node { IfErr result (λ refusal. (i : ℕ) → refusal ≡ Refusal.NoNode i → files.new ≡ files.old) }
@@ -59,13 +59,16 @@ pub fn extract_with_lost<F: Files, O: Sink>(
         Err(refusal) => return Err(refusal),
     };
     files.begin(Stage::Walking);
-    let report = salvage_by(alloc, &table, last, profile)?;
+    let listing = list_volume_by(alloc, &table, last, profile)?;
+    let entries = list_unnamed(alloc, &listing)?;
     files.begin(Stage::Writing);
-    let made = match put_report(alloc, &report, only, fill, short, false, folder, files, out) {
+    let made = match put_report(
+        alloc, &listing, only, fill, short, false, folder, files, out,
+    ) {
         Ok(made) => made,
         Err(refusal) => return Err(refusal),
     };
-    match put_lost(alloc, &report, lost, files, out) {
+    match put_lost(alloc, &listing, &entries, lost, files, out) {
         Ok(good) => Ok(is_all_good(made.good, good)),
         Err(refusal) => Err(refusal),
     }
@@ -90,14 +93,14 @@ pub fn extract_listed_with_lost<F: Files, O: Sink>(
     // At `Ok` all was made and told as without lost files, at some moment; and since then each lost file has its line, and each that is told as written is there, and each crash since then leaves it.
     ensures added { IfOk result (λ good. OfPaths (λ path. F.holds files.old (F.real files.old path)) (⟦<AnySource<F::Input, F::Image> as Source>⟧.remaining) inputs.now
         (AddsLost (λ (mid : F) (between : O) nodes_good. ListsChosen (map (λ word. word.now) only.now) short
-        (λ f table told. IsPut F.tells (Fails F.faults ⊎ Fails F.Output.faults) table told fill short folder.now (F.holds f) (F.moment f) (F.left_since f))
+        (λ f table told. IsPut F.tells (Fails F.faults ⊎ SinkFails F.Output.stream) table told fill short folder.now (F.holds f) (F.moment f) (F.left_since f))
         (λ f told fates text. F.tells → IsManifest (F.holds f) folder.now short told fates text)
         (λ f text. F.tells → IsPutLast F.holds F.may_leave F.moment F.left_since place.now f mid text)
-        F.holds folder.now files.old mid profile last (O.contents out.old) (O.contents between) (O.faults out.old) (O.faults between) nodes_good)
+        F.holds folder.now files.old mid profile last (O.stream out.old) (O.stream between) nodes_good)
         (λ (mid : F) (between : O) lost_good. WritesLost
-        (λ table told two. IsLostPut F.tells (Fails F.faults ⊎ Fails F.Output.faults) table told lost.now two (F.holds files.new) (F.moment files.new) (F.left_since files.new))
+        (λ table told two. IsLostPut F.tells (Fails F.faults ⊎ SinkFails F.Output.stream) table told lost.now two (F.holds files.new) (F.moment files.new) (F.left_since files.new))
         (SparesLost F.tells F.holds F.may_leave F.moment F.left_since lost.now mid files.new)
-        profile last (O.contents between) (O.contents out.new) (O.faults between) (O.faults out.new) lost_good)
+        profile last (O.stream between) (O.stream out.new) lost_good)
         good)) }
     // A path that is no node's is refused before anything is made.
     ensures no_node { IfErr result (λ refusal. (i : ℕ) → refusal ≡ Refusal.NoNode i → files.new ≡ files.old) }
@@ -109,13 +112,16 @@ pub fn extract_listed_with_lost<F: Files, O: Sink>(
         Err(refusal) => return Err(refusal),
     };
     files.begin(Stage::Walking);
-    let report = salvage_by(alloc, &table, last, profile)?;
+    let listing = list_volume_by(alloc, &table, last, profile)?;
+    let entries = list_unnamed(alloc, &listing)?;
     files.begin(Stage::Writing);
-    let made = match list_report(alloc, &report, only, fill, short, folder, place, files, out) {
+    let made = match list_report(
+        alloc, &listing, only, fill, short, folder, place, files, out,
+    ) {
         Ok(made) => made,
         Err(refusal) => return Err(refusal),
     };
-    match put_lost(alloc, &report, lost, files, out) {
+    match put_lost(alloc, &listing, &entries, lost, files, out) {
         Ok(good) => Ok(is_all_good(made, good)),
         Err(refusal) => Err(refusal),
     }

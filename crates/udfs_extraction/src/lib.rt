@@ -14,6 +14,7 @@ mod manifest_place;
 mod node_files;
 mod places;
 mod short_names;
+mod spare;
 mod telling;
 pub mod timed_words;
 pub mod times;

@@ -3,14 +3,16 @@
 ghost use Rattle.std.specs.Prelude.{◌≡◌, ◌≢◌, ◌<◌, ◌⊎◌, ◌++◌, ℕ, Bool, true, List, [], Some, IfOk, length, slice_get, None, map, string_bytes};
 ghost use Rattle.std.specs.Io.KnownBytes.{Appends};
 ghost use Rattle.udfs_file.specs.declared.cells.Cell.{Cell};
-ghost use Rattle.udfs_files.specs.Disk.{Same, SameBut, Goes, Fails};
+ghost use Rattle.udfs_files.specs.Disk.{Same, SameBut, Goes, Fails, SinkFails};
 ghost use Rattle.udfs_lattice.specs.Tables.{state_of};
 ghost use Rattle.udfs_volume.specs.declared.profiles.Profile.{Profile};
 ghost use Rattle.udfs_walk.specs.NodeFields.{NodeFields};
 ghost use Rattle.udfs_salvage.specs.declared.extraction.ExtractError.TheVariants as extract_error;
 ghost use Rattle.udfs_salvage.specs.Extraction.{HasCellsInBy, fill_byte, filled, is_offered};
+ghost use Rattle.udfs_salvage.specs.Found.{volume_now};
 ghost use Rattle.udfs_salvage.specs.NodeTexts.{names_text};
-ghost use Rattle.udfs_salvage.specs.Reports.{IsReportBy, report_now};
+ghost use Rattle.udfs_salvage.specs.Listings.{full_in, listing_now};
+ghost use Rattle.udfs_salvage.specs.Reports.{IsReportBy};
 ghost use Rattle.udfs_extraction.specs.Extracting.{IsDone, IsFateOf, IsIn, IsPut, Spares, Stay, deed, path_below};
 ghost use Rattle.udfs_common.specs.Keeping.{IsKept};
 ghost use Rattle.udfs_extraction.specs.Choosing.{is_chosen};
@@ -20,12 +22,13 @@ ghost use Rattle.udfs_extraction.specs.ShortNames.{placed};
 use crate::choosing::{is_above, is_chosen};
 use crate::digesting::{Filled, fill_noting};
 use crate::extract::{Deed, Done, Fate};
+use crate::spare::Spare;
 use std::alloc::{AllocError, Global};
 use udfs_common::files::Files;
 use udfs_file::Kind;
 use udfs_files::Job;
 use udfs_reading::{DeviceFault, Sink};
-use udfs_salvage::{ExtractError, Fill, Report, extract_by as write_bytes, is_offered};
+use udfs_salvage::{ExtractError, Fill, Listing, is_offered, write_node};
 use udfs_walk::{Node, Standing};
 
 /// What is done with a node: a directory that is no loop is made as a folder, and a file that is to be written becomes a
@@ -66,38 +69,51 @@ pub fn path_in(alloc: Global, folder: &str, place: &str) -> Result<String, Alloc
     Ok(path)
 }
 
-/// The node of this index.
-pub fn node_at<'a>(report: &'a Report<'_>, index: usize) -> &'a Node
-    requires { index < length report.now.nodes.items }
-    ensures { slice_get report.now.nodes.items index ≡ Some result.now }
+/// The node of this index, without what is missing of it.
+pub fn node_at<'a>(listing: &'a Listing<'_>, index: usize) -> &'a Node
+    requires { index < length listing.now.nodes.items }
+    ensures { slice_get (listing_now listing.now).nodes index ≡ Some (full_in (state_of listing.now.table.now) (volume_now listing.now.volume) result.now) }
 {
-    &report.nodes[index]
+    &listing.nodes[index]
 }
 
 /// The bytes of the node of this index, as far as they are known and as `fill` says.
 #[derive(Drop)]
 struct NodeBytes<'a, 'r> {
     alloc: Global,
-    report: &'a Report<'r>,
+    listing: &'a Listing<'r>,
     index: usize,
     fill: Fill,
+    spare: &'a Spare,
 }
 
 impl<'a, 'r> Job for NodeBytes<'a, 'r> {
     type Refusal = ExtractError;
 
-    ghost wrote = { λ job old new. (profile : Profile) (last : ℕ) (n : NodeFields) → (job.index < length job.report.now.nodes.items) →
-        IsReportBy profile (state_of job.report.now.table.now) last (report_now job.report.now) → slice_get job.report.now.nodes.items job.index ≡ Some n → is_offered n.standing n.size job.fill ≡ true →
-        (cs : List Cell) × HasCellsInBy profile (state_of job.report.now.table.now) last job.index cs × Appends old new (filled (fill_byte job.fill) cs) };
+    ghost wrote = { λ job old new. (profile : Profile) (last : ℕ) (n : NodeFields) → (job.index < length job.listing.now.nodes.items) →
+        IsReportBy profile (state_of job.listing.now.table.now) last (listing_now job.listing.now) → slice_get (listing_now job.listing.now).nodes job.index ≡ Some n → is_offered n.standing n.size job.fill ≡ true →
+        (cs : List Cell) × HasCellsInBy profile (state_of job.listing.now.table.now) last job.index cs × Appends old new (filled (fill_byte job.fill) cs) };
 
-    ghost blames_sink = { λ job refusal. (refusal ≢ extract_error.OutOfMemory) × (job.index < length job.report.now.nodes.items) × (profile : Profile) × (last : ℕ) × (n : NodeFields) ×
-        IsReportBy profile (state_of job.report.now.table.now) last (report_now job.report.now) × (slice_get job.report.now.nodes.items job.index ≡ Some n) × (is_offered n.standing n.size job.fill ≡ true) };
+    ghost blames_sink = { λ job refusal. (refusal ≢ extract_error.OutOfMemory) × (job.index < length job.listing.now.nodes.items) × (profile : Profile) × (last : ℕ) × (n : NodeFields) ×
+        IsReportBy profile (state_of job.listing.now.table.now) last (listing_now job.listing.now) × (slice_get (listing_now job.listing.now).nodes job.index ≡ Some n) × (is_offered n.standing n.size job.fill ≡ true) };
 
     fn write_to<W: Sink>(&self, sink: &mut W) -> Result<(), ExtractError> {
-        if self.index >= self.report.nodes.len() {
+        if self.index >= self.listing.nodes.len() {
             return Err(ExtractError::NotWhole);
         }
-        write_bytes(self.alloc, self.report, self.index, self.fill, sink)
+        let Ok(mut out) = self.spare.take(self.alloc) else {
+            return Err(ExtractError::OutOfMemory);
+        };
+        write_node(
+            self.alloc,
+            self.listing,
+            self.index,
+            self.fill,
+            &mut out,
+            sink,
+        )?;
+        self.spare.keep(out);
+        Ok(())
     }
 }
 
@@ -118,7 +134,7 @@ pub fn give_up<F: Files>(path: &str, files: &mut F) -> Fate
 pub fn finish_file<F: Files>(path: &str, output: F::Output, files: &mut F) -> Fate
     requires place { F.tells → F.Output.place output ≡ path.now }
     requires open { F.holds files.old path.now ≡ None }
-    ensures kept { result ≡ Fate.Written → F.tells → (bytes : List ℕ) → F.Output.contents output ≡ Some bytes → IsKept (F.holds files.new) (F.may_leave files.new) path.now bytes }
+    ensures kept { result ≡ Fate.Written → F.tells → (bytes : List ℕ) → (F.Output.stream output).contents ≡ Some bytes → IsKept (F.holds files.new) (F.may_leave files.new) path.now bytes }
     ensures gone { result ≡ Fate.Failed → F.tells → F.holds files.new path.now ≡ Some None }
     ensures fate { IsFateOf Deed.File result }
     ensures cause { result ≢ Fate.Written → Fails F.faults }
@@ -138,34 +154,36 @@ pub fn finish_file<F: Files>(path: &str, output: F::Output, files: &mut F) -> Fa
 /// Writes the node of this index to a file that was made for it, or removes the file. Where memory is refused, it is removed too.
 fn fill_file<F: Files>(
     alloc: Global,
-    report: &Report<'_>,
+    listing: &Listing<'_>,
     index: usize,
     fill: Fill,
     digest: bool,
     path: &str,
     output: F::Output,
+    spare: &Spare,
     files: &mut F,
 ) -> Result<Done, AllocError>
-    requires index { index < length report.now.nodes.items }
+    requires index { index < length listing.now.nodes.items }
     requires place { F.tells → F.Output.place output ≡ path.now }
-    requires empty { F.tells → F.Output.contents output ≡ Some [] }
+    requires empty { F.tells → (F.Output.stream output).contents ≡ Some [] }
     requires open { F.holds files.old path.now ≡ None }
     ensures written { IfOk result (λ done. done.fate ≡ Fate.Written → F.tells → (profile : Profile) (last : ℕ) (n : NodeFields) →
-        IsReportBy profile (state_of report.now.table.now) last (report_now report.now) → slice_get report.now.nodes.items index ≡ Some n → is_offered n.standing n.size fill ≡ true →
-        (cs : List Cell) × HasCellsInBy profile (state_of report.now.table.now) last index cs × IsKept (F.holds files.new) (F.may_leave files.new) path.now (filled (fill_byte fill) cs)) }
+        IsReportBy profile (state_of listing.now.table.now) last (listing_now listing.now) → slice_get (listing_now listing.now).nodes index ≡ Some n → is_offered n.standing n.size fill ≡ true →
+        (cs : List Cell) × HasCellsInBy profile (state_of listing.now.table.now) last index cs × IsKept (F.holds files.new) (F.may_leave files.new) path.now (filled (fill_byte fill) cs)) }
     ensures gone { IfOk result (λ done. done.fate ≡ Fate.Failed → F.tells → F.holds files.new path.now ≡ Some None) }
     ensures fate { IfOk result (λ done. IsFateOf Deed.File done.fate) }
     ensures cause { IfOk result (λ done. done.fate ≢ Fate.Written → (profile : Profile) (last : ℕ) (n : NodeFields) →
-        IsReportBy profile (state_of report.now.table.now) last (report_now report.now) → slice_get report.now.nodes.items index ≡ Some n → is_offered n.standing n.size fill ≡ true → Fails F.faults ⊎ Fails F.Output.faults) }
+        IsReportBy profile (state_of listing.now.table.now) last (listing_now listing.now) → slice_get (listing_now listing.now).nodes index ≡ Some n → is_offered n.standing n.size fill ≡ true → Fails F.faults ⊎ SinkFails F.Output.stream) }
     ensures digest { IfOk result (λ done. IsNoted digest F.tells (F.holds files.new) path.now done.fate done.digest) }
     ensures others { (q : List ℕ) → q ≢ path.now → F.holds files.new q ≡ F.holds files.old q }
     ensures crash { Goes F.moment F.may_leave F.left_since files.old files.new (SameBut path.now) }
 {
     let job = NodeBytes {
         alloc,
-        report,
+        listing,
         index,
         fill,
+        spare,
     };
     match fill_noting::<F, NodeBytes<'_, '_>>(output, &job, digest) {
         Ok(Filled { output, digest }) => {
@@ -184,21 +202,22 @@ fn fill_file<F: Files>(
 /// ran out, none is left, and what another file of this path holds is untouched.
 fn write_file<F: Files>(
     alloc: Global,
-    report: &Report<'_>,
+    listing: &Listing<'_>,
     index: usize,
     fill: Fill,
     digest: bool,
     path: &str,
+    spare: &Spare,
     files: &mut F,
 ) -> Result<Done, AllocError>
-    requires { index < length report.now.nodes.items }
+    requires { index < length listing.now.nodes.items }
     ensures written { IfOk result (λ done. done.fate ≡ Fate.Written → F.tells → (profile : Profile) (last : ℕ) (n : NodeFields) →
-        IsReportBy profile (state_of report.now.table.now) last (report_now report.now) → slice_get report.now.nodes.items index ≡ Some n → is_offered n.standing n.size fill ≡ true →
-        (cs : List Cell) × HasCellsInBy profile (state_of report.now.table.now) last index cs × IsKept (F.holds files.new) (F.may_leave files.new) path.now (filled (fill_byte fill) cs)) }
+        IsReportBy profile (state_of listing.now.table.now) last (listing_now listing.now) → slice_get (listing_now listing.now).nodes index ≡ Some n → is_offered n.standing n.size fill ≡ true →
+        (cs : List Cell) × HasCellsInBy profile (state_of listing.now.table.now) last index cs × IsKept (F.holds files.new) (F.may_leave files.new) path.now (filled (fill_byte fill) cs)) }
     ensures gone { IfOk result (λ done. done.fate ≡ Fate.Failed → F.tells → F.holds files.new path.now ≡ F.holds files.old path.now) }
     ensures fate { IfOk result (λ done. IsFateOf Deed.File done.fate) }
     ensures cause { IfOk result (λ done. done.fate ≢ Fate.Written → (profile : Profile) (last : ℕ) (n : NodeFields) →
-        IsReportBy profile (state_of report.now.table.now) last (report_now report.now) → slice_get report.now.nodes.items index ≡ Some n → is_offered n.standing n.size fill ≡ true → Fails F.faults ⊎ Fails F.Output.faults) }
+        IsReportBy profile (state_of listing.now.table.now) last (listing_now listing.now) → slice_get (listing_now listing.now).nodes index ≡ Some n → is_offered n.standing n.size fill ≡ true → Fails F.faults ⊎ SinkFails F.Output.stream) }
     ensures digest { IfOk result (λ done. IsNoted digest F.tells (F.holds files.new) path.now done.fate done.digest) }
     ensures others { (q : List ℕ) → q ≢ path.now → F.holds files.new q ≡ F.holds files.old q }
     ensures there { F.tells → F.holds files.old path.now ≢ Some None → F.holds files.new path.now ≡ F.holds files.old path.now }
@@ -208,7 +227,9 @@ fn write_file<F: Files>(
     let Ok(output) = files.make_new(path) else {
         return Ok(without_file(Fate::Failed));
     };
-    fill_file(alloc, report, index, fill, digest, path, output, files)
+    fill_file(
+        alloc, listing, index, fill, digest, path, output, spare, files,
+    )
 }
 
 /// Makes a folder, and brings its name to the disk.
@@ -231,28 +252,29 @@ pub fn put_folder<F: Files>(path: &str, files: &mut F) -> Fate
 /// Does at this path what is to be done with the node of this index.
 fn put_at<F: Files>(
     alloc: Global,
-    report: &Report<'_>,
+    listing: &Listing<'_>,
     index: usize,
     fill: Fill,
     digest: bool,
     path: &str,
+    spare: &Spare,
     files: &mut F,
 ) -> Result<Done, AllocError>
-    requires { index < length report.now.nodes.items }
-    ensures put { IfOk result (λ done. (n : NodeFields) (short : Bool) (folder : List ℕ) → slice_get report.now.nodes.items index ≡ Some n → path.now ≡ path_below folder (placed short (report_now report.now) index n) →
-        IsPut F.tells (Fails F.faults ⊎ Fails F.Output.faults) report.now.table.now (report_now report.now) fill short folder (F.holds files.new) (F.moment files.new) (F.left_since files.new) index n done.fate) }
+    requires { index < length listing.now.nodes.items }
+    ensures put { IfOk result (λ done. (n : NodeFields) (short : Bool) (folder : List ℕ) → slice_get (listing_now listing.now).nodes index ≡ Some n → path.now ≡ path_below folder (placed short (listing_now listing.now) index n) →
+        IsPut F.tells (Fails F.faults ⊎ SinkFails F.Output.stream) listing.now.table.now (listing_now listing.now) fill short folder (F.holds files.new) (F.moment files.new) (F.left_since files.new) index n done.fate) }
     ensures digest { IfOk result (λ done. IsNoted digest F.tells (F.holds files.new) path.now done.fate done.digest) }
     ensures stays { F.tells → Stay (F.holds files.old) (F.holds files.new) }
     ensures others { (q : List ℕ) → q ≢ path.now → F.holds files.new q ≡ F.holds files.old q }
     ensures crash { F.tells → (folder : List ℕ) → IsIn folder path.now → Goes F.moment F.may_leave F.left_since files.old files.new (Spares folder (F.holds files.old)) }
 {
-    match deed_for(node_at(report, index), fill) {
+    match deed_for(node_at(listing, index), fill) {
         Deed::Folder => {
             let fate = put_folder(path, files);
             Ok(Done { fate, digest: None })
         }
         Deed::File => {
-            let done = write_file(alloc, report, index, fill, digest, path, files)?;
+            let done = write_file(alloc, listing, index, fill, digest, path, spare, files)?;
             Ok(done)
         }
         Deed::Skip => Ok(Done {
@@ -265,18 +287,19 @@ fn put_at<F: Files>(
 /// Does what is to be done with the node of this index.
 fn put_node<F: Files>(
     alloc: Global,
-    report: &Report<'_>,
+    listing: &Listing<'_>,
     index: usize,
     fill: Fill,
     digest: bool,
     folder: &str,
     place: &str,
+    spare: &Spare,
     files: &mut F,
 ) -> Result<Done, AllocError>
-    requires index { index < length report.now.nodes.items }
+    requires index { index < length listing.now.nodes.items }
     requires names { (names : List (List ℕ)) × (place.now ≡ names_text names) }
-    ensures put { IfOk result (λ done. (n : NodeFields) (short : Bool) → slice_get report.now.nodes.items index ≡ Some n → place.now ≡ names_text (placed short (report_now report.now) index n) →
-        IsPut F.tells (Fails F.faults ⊎ Fails F.Output.faults) report.now.table.now (report_now report.now) fill short folder.now (F.holds files.new) (F.moment files.new) (F.left_since files.new) index n done.fate) }
+    ensures put { IfOk result (λ done. (n : NodeFields) (short : Bool) → slice_get (listing_now listing.now).nodes index ≡ Some n → place.now ≡ names_text (placed short (listing_now listing.now) index n) →
+        IsPut F.tells (Fails F.faults ⊎ SinkFails F.Output.stream) listing.now.table.now (listing_now listing.now) fill short folder.now (F.holds files.new) (F.moment files.new) (F.left_since files.new) index n done.fate) }
     ensures digest { IfOk result (λ done. IsNoted digest F.tells (F.holds files.new) (folder.now ++ place.now) done.fate done.digest) }
     ensures stays { F.tells → Stay (F.holds files.old) (F.holds files.new) }
     ensures outside { (q : List ℕ) → (¬ IsIn folder.now q) → F.holds files.new q ≡ F.holds files.old q }
@@ -284,24 +307,33 @@ fn put_node<F: Files>(
     ensures crash { F.tells → Goes F.moment F.may_leave F.left_since files.old files.new (Spares folder.now (F.holds files.old)) }
 {
     let path = path_in(alloc, folder, place)?;
-    let done = put_at(alloc, report, index, fill, digest, path.as_str(), files)?;
+    let done = put_at(
+        alloc,
+        listing,
+        index,
+        fill,
+        digest,
+        path.as_str(),
+        spare,
+        files,
+    )?;
     Ok(done)
 }
 
 /// Makes the folder of the node of this index, if it is one. Whether it could be made is seen by what is put into it.
 fn put_way<F: Files>(
     alloc: Global,
-    report: &Report<'_>,
+    listing: &Listing<'_>,
     index: usize,
     folder: &str,
     place: &str,
     files: &mut F,
 ) -> Result<(), AllocError>
-    requires { index < length report.now.nodes.items }
+    requires { index < length listing.now.nodes.items }
     ensures others { (q : List ℕ) → F.holds files.new q ≡ F.holds files.old q }
     ensures crash { Goes F.moment F.may_leave F.left_since files.old files.new Same }
 {
-    let node = node_at(report, index);
+    let node = node_at(listing, index);
     if deed_for(node, Fill::Refuse) == Deed::Folder {
         let path = path_in(alloc, folder, place)?;
         let _ = put_folder(path.as_str(), files);
@@ -312,34 +344,37 @@ fn put_way<F: Files>(
 /// Does what is to be done with the node of this index, if it is asked for. If not, it is passed over, but for the folder that leads to one that is.
 pub fn put_chosen<F: Files>(
     alloc: Global,
-    report: &Report<'_>,
+    listing: &Listing<'_>,
     index: usize,
     only: &[&str],
     fill: Fill,
     digest: bool,
     folder: &str,
     place: &str,
+    spare: &Spare,
     files: &mut F,
 ) -> Result<Done, AllocError>
-    requires index { index < length report.now.nodes.items }
+    requires index { index < length listing.now.nodes.items }
     requires names { (names : List (List ℕ)) × (place.now ≡ names_text names) }
-    ensures put { IfOk result (λ done. (n : NodeFields) (short : Bool) → slice_get report.now.nodes.items index ≡ Some n → place.now ≡ names_text (placed short (report_now report.now) index n) → IsDone (map (λ word. word.now) only.now)
-        (IsPut F.tells (Fails F.faults ⊎ Fails F.Output.faults) report.now.table.now (report_now report.now) fill short folder.now (F.holds files.new) (F.moment files.new) (F.left_since files.new)) index n done.fate) }
+    ensures put { IfOk result (λ done. (n : NodeFields) (short : Bool) → slice_get (listing_now listing.now).nodes index ≡ Some n → place.now ≡ names_text (placed short (listing_now listing.now) index n) → IsDone (map (λ word. word.now) only.now)
+        (IsPut F.tells (Fails F.faults ⊎ SinkFails F.Output.stream) listing.now.table.now (listing_now listing.now) fill short folder.now (F.holds files.new) (F.moment files.new) (F.left_since files.new)) index n done.fate) }
     ensures digest { IfOk result (λ done. IsNoted digest F.tells (F.holds files.new) (folder.now ++ place.now) done.fate done.digest) }
     ensures stays { F.tells → Stay (F.holds files.old) (F.holds files.new) }
     ensures outside { (q : List ℕ) → (¬ IsIn folder.now q) → F.holds files.new q ≡ F.holds files.old q }
-    ensures elsewhere { (q : List ℕ) → ((n : NodeFields) → slice_get report.now.nodes.items index ≡ Some n → is_chosen (map (λ word. word.now) only.now) n.path ≡ true → q ≢ folder.now ++ place.now) → F.holds files.new q ≡ F.holds files.old q }
+    ensures elsewhere { (q : List ℕ) → ((n : NodeFields) → slice_get (listing_now listing.now).nodes index ≡ Some n → is_chosen (map (λ word. word.now) only.now) n.path ≡ true → q ≢ folder.now ++ place.now) → F.holds files.new q ≡ F.holds files.old q }
     ensures crash { F.tells → Goes F.moment F.may_leave F.left_since files.old files.new (Spares folder.now (F.holds files.old)) }
 {
-    let node = node_at(report, index);
+    let node = node_at(listing, index);
     if is_chosen(alloc, only, &node.path)? {
-        return match put_node(alloc, report, index, fill, digest, folder, place, files) {
+        return match put_node(
+            alloc, listing, index, fill, digest, folder, place, spare, files,
+        ) {
             Ok(done) => Ok(done),
             Err(AllocError) => Err(AllocError),
         };
     }
     if is_above(alloc, only, &node.path)? {
-        put_way(alloc, report, index, folder, place, files)?;
+        put_way(alloc, listing, index, folder, place, files)?;
     }
     Ok(without_file(Fate::Passed))
 }

@@ -3,7 +3,7 @@
 ghost use Rattle.std.specs.Prelude.{◌≡◌, ◌<◌, ◌++◌, ℕ, suc, List, Some, IfOk, OnOk, length, slice_get, string_bytes, unwrap_or};
 ghost use Rattle.udfs_salvage.specs.Found.{volume_now};
 ghost use Rattle.udfs_salvage.specs.NodeTexts.{name_text, names_text};
-ghost use Rattle.udfs_salvage.specs.Reports.{report_now};
+ghost use Rattle.udfs_salvage.specs.Listings.{listing_now};
 ghost use Rattle.udfs_salvage.specs.Texts.{has_two};
 ghost use Rattle.udfs_walk.specs.NodeFields.{NodeFields};
 ghost use Rattle.udfs_extraction.specs.ShortNames.{IsWay, icb_above, own_name, parts, placed, shortened};
@@ -12,7 +12,7 @@ use crate::node_files::node_at;
 use crate::short_names::shortened;
 use std::alloc::{AllocError, Global};
 use udfs_osta::Name;
-use udfs_salvage::{Report, has_two_partitions, push_names};
+use udfs_salvage::{Listing, has_two_partitions, push_names};
 use udfs_tag::LongAd;
 
 /// Makes a list of so many numbers and one more, by zeros behind those that it has.
@@ -27,26 +27,26 @@ fn lengthen(way: &mut Vec<usize>, depth: usize) -> Result<(), AllocError>
 }
 
 /// Notes where a walk through the nodes of a report has come: for each length of a path, the last node that has it.
-fn enter(way: &mut Vec<usize>, report: &Report<'_>, index: usize) -> Result<(), AllocError>
-    requires { index < length report.now.nodes.items }
-    ensures { OnOk result ((k : ℕ) → suc k ≡ index → IsWay report.now.nodes.items k way.old.items → IsWay report.now.nodes.items index way.new.items) }
+fn enter(way: &mut Vec<usize>, listing: &Listing<'_>, index: usize) -> Result<(), AllocError>
+    requires { index < length listing.now.nodes.items }
+    ensures { OnOk result ((k : ℕ) → suc k ≡ index → IsWay (listing_now listing.now).nodes k way.old.items → IsWay (listing_now listing.now).nodes index way.new.items) }
 {
-    let depth = node_at(report, index).path.len();
+    let depth = node_at(listing, index).path.len();
     lengthen(way, depth)?;
     way[depth] = index;
     Ok(())
 }
 
 /// The information control block of the last node up to this index whose path has so many names.
-fn icb_at(report: &Report<'_>, way: &[usize], index: usize, depth: usize) -> LongAd
-    requires { index < length report.now.nodes.items }
-    ensures { (n : NodeFields) → slice_get report.now.nodes.items index ≡ Some n → IsWay report.now.nodes.items index way.now → result ≡ icb_above report.now.nodes.items index n depth }
+fn icb_at(listing: &Listing<'_>, way: &[usize], index: usize, depth: usize) -> LongAd
+    requires { index < length listing.now.nodes.items }
+    ensures { (n : NodeFields) → slice_get (listing_now listing.now).nodes index ≡ Some n → IsWay (listing_now listing.now).nodes index way.now → result ≡ icb_above (listing_now listing.now).nodes index n depth }
 {
     let above = if depth < way.len() { way[depth] } else { 0 };
-    if above < report.nodes.len() {
-        node_at(report, above).icb
+    if above < listing.nodes.len() {
+        node_at(listing, above).icb
     } else {
-        node_at(report, index).icb
+        node_at(listing, index).icb
     }
 }
 
@@ -71,20 +71,20 @@ fn push_part(
 fn push_parts(
     alloc: Global,
     text: &mut String,
-    report: &Report<'_>,
+    listing: &Listing<'_>,
     index: usize,
     way: &[usize],
 ) -> Result<(), AllocError>
-    requires { index < length report.now.nodes.items }
-    ensures text { OnOk result ((n : NodeFields) → slice_get report.now.nodes.items index ≡ Some n → IsWay report.now.nodes.items index way.now →
-        string_bytes text.new ≡ string_bytes text.old ++ names_text (parts (has_two (volume_now report.now.volume)) (icb_above report.now.nodes.items index n) 1 n.path)) }
+    requires { index < length listing.now.nodes.items }
+    ensures text { OnOk result ((n : NodeFields) → slice_get (listing_now listing.now).nodes index ≡ Some n → IsWay (listing_now listing.now).nodes index way.now →
+        string_bytes text.new ≡ string_bytes text.old ++ names_text (parts (has_two (volume_now listing.now.volume)) (icb_above (listing_now listing.now).nodes index n) 1 n.path)) }
     ensures names { OnOk result ((names : List (List ℕ)) × (string_bytes text.new ≡ string_bytes text.old ++ names_text names)) }
 {
-    let two = has_two_partitions(&report.volume);
-    let path = &node_at(report, index).path;
+    let two = has_two_partitions(&listing.volume);
+    let path = &node_at(listing, index).path;
     for depth in 0..path.len() {
         if let Some(name) = path.get(depth) {
-            let icb = icb_at(report, way, index, depth + 1);
+            let icb = icb_at(listing, way, index, depth + 1);
             push_part(alloc, text, two, icb, name)?;
         }
     }
@@ -103,20 +103,20 @@ pub struct Place {
 /// The place of the node of this index. With `short`, names that are too long are shortened by the nodes that they lead to.
 fn place_text(
     alloc: Global,
-    report: &Report<'_>,
+    listing: &Listing<'_>,
     index: usize,
     short: bool,
     way: &[usize],
 ) -> Result<String, AllocError>
-    requires { index < length report.now.nodes.items }
-    ensures text { IfOk result (λ text. (n : NodeFields) → slice_get report.now.nodes.items index ≡ Some n → IsWay report.now.nodes.items index way.now → string_bytes text ≡ names_text (placed short (report_now report.now) index n)) }
+    requires { index < length listing.now.nodes.items }
+    ensures text { IfOk result (λ text. (n : NodeFields) → slice_get (listing_now listing.now).nodes index ≡ Some n → IsWay (listing_now listing.now).nodes index way.now → string_bytes text ≡ names_text (placed short (listing_now listing.now) index n)) }
     ensures names { IfOk result (λ text. (names : List (List ℕ)) × (string_bytes text ≡ names_text names)) }
 {
     let mut text = String::new(alloc);
     if short {
-        push_parts(alloc, &mut text, report, index, way)?;
+        push_parts(alloc, &mut text, listing, index, way)?;
     } else {
-        push_names(&mut text, &node_at(report, index).path)?;
+        push_names(&mut text, &node_at(listing, index).path)?;
     }
     Ok(text)
 }
@@ -124,19 +124,19 @@ fn place_text(
 /// The short name of the node of this index, where short ones are asked for and its own is too long.
 fn own_name(
     alloc: Global,
-    report: &Report<'_>,
+    listing: &Listing<'_>,
     index: usize,
     short: bool,
 ) -> Result<Option<Name>, AllocError>
-    requires { index < length report.now.nodes.items }
-    ensures { IfOk result (λ own. (n : NodeFields) → slice_get report.now.nodes.items index ≡ Some n → own ≡ own_name short (report_now report.now) n) }
+    requires { index < length listing.now.nodes.items }
+    ensures { IfOk result (λ own. (n : NodeFields) → slice_get (listing_now listing.now).nodes index ≡ Some n → own ≡ own_name short (listing_now listing.now) n) }
 {
     if !short {
         return Ok(None);
     }
-    let node = node_at(report, index);
+    let node = node_at(listing, index);
     match node.path.last() {
-        Some(name) => shortened(alloc, has_two_partitions(&report.volume), node.icb, name),
+        Some(name) => shortened(alloc, has_two_partitions(&listing.volume), node.icb, name),
         None => Ok(None),
     }
 }
@@ -144,20 +144,20 @@ fn own_name(
 /// Where the node of this index is written. `way` has the way to the node before it, and then the way to this one.
 pub fn place_of(
     alloc: Global,
-    report: &Report<'_>,
+    listing: &Listing<'_>,
     index: usize,
     short: bool,
     way: &mut Vec<usize>,
 ) -> Result<Place, AllocError>
-    requires { index < length report.now.nodes.items }
-    ensures way { IfOk result (λ place. (k : ℕ) → suc k ≡ index → IsWay report.now.nodes.items k way.old.items → IsWay report.now.nodes.items index way.new.items) }
-    ensures text { IfOk result (λ place. (n : NodeFields) (k : ℕ) → slice_get report.now.nodes.items index ≡ Some n → suc k ≡ index → IsWay report.now.nodes.items k way.old.items →
-        string_bytes place.text ≡ names_text (placed short (report_now report.now) index n)) }
+    requires { index < length listing.now.nodes.items }
+    ensures way { IfOk result (λ place. (k : ℕ) → suc k ≡ index → IsWay (listing_now listing.now).nodes k way.old.items → IsWay (listing_now listing.now).nodes index way.new.items) }
+    ensures text { IfOk result (λ place. (n : NodeFields) (k : ℕ) → slice_get (listing_now listing.now).nodes index ≡ Some n → suc k ≡ index → IsWay (listing_now listing.now).nodes k way.old.items →
+        string_bytes place.text ≡ names_text (placed short (listing_now listing.now) index n)) }
     ensures names { IfOk result (λ place. (names : List (List ℕ)) × (string_bytes place.text ≡ names_text names)) }
-    ensures own { IfOk result (λ place. (n : NodeFields) → slice_get report.now.nodes.items index ≡ Some n → place.own ≡ own_name short (report_now report.now) n) }
+    ensures own { IfOk result (λ place. (n : NodeFields) → slice_get (listing_now listing.now).nodes index ≡ Some n → place.own ≡ own_name short (listing_now listing.now) n) }
 {
-    enter(way, report, index)?;
-    let text = place_text(alloc, report, index, short, way.as_slice())?;
-    let own = own_name(alloc, report, index, short)?;
+    enter(way, listing, index)?;
+    let text = place_text(alloc, listing, index, short, way.as_slice())?;
+    let own = own_name(alloc, listing, index, short)?;
     Ok(Place { text, own })
 }

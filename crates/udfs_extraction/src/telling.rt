@@ -48,7 +48,7 @@ pub fn tell<O: Sink>(
     own: &Option<Name>,
     out: &mut O,
 ) -> Result<bool, AllocError>
-    ensures lines { IfOk result (λ still. TellsOn heard still (O.contents out.old) (O.contents out.new) (O.faults out.old) (O.faults out.new) (fate_line fate names.now own.now)) }
+    ensures lines { IfOk result (λ still. TellsOn heard still (O.stream out.old) (O.stream out.new) (fate_line fate names.now own.now)) }
     ensures memory { OnErr result (out.new ≡ out.old) }
 {
     if !heard {

@@ -11,7 +11,7 @@ ghost use Rattle.udfs_extraction.specs.Manifests.{IsFreeManifest, IsManifest, Is
 ghost use Rattle.udfs_extraction.specs.Timing.{IsTold};
 ghost use Rattle.udfs_common.specs.declared.sources.AnySource.{AnySource};
 ghost use Rattle.udfs_words.specs.declared.input_path.InputPath.{InputPath};
-ghost use Rattle.udfs_files.specs.Disk.{Fails};
+ghost use Rattle.udfs_files.specs.Disk.{Fails, SinkFails};
 ghost use Rattle.udfs_salvage.specs.declared.extraction.Fill.{Fill};
 ghost use Rattle.udfs_volume.specs.declared.profiles.Profile.{Profile};
 
@@ -34,37 +34,37 @@ pub fn extract_timed<F: Files, O: Sink>(
     ensures extracted { IfOk result (λ all. (good : Bool) × IsTold (found_of words.now) good all × (has_lost (found_of words.now) ≡ false → has_manifest (found_of words.now) ≡ false → has_only (found_of words.now) ≡ false → (fill : Fill) × (short : Bool) × (last : ℕ) × (profile : Profile) × (inputs : List InputPath) × (map asked_for inputs ≡ asked_inputs (found_of words.now)) ×
         IsPicked (found_of words.now) (codes "fill") (Fill.Byte 0) Fill.Refuse fill × IsPicked (found_of words.now) (codes "short-names") true false short × IsLast (λ path. F.holds files.old (F.real files.old path)) inputs (found_of words.now) last × IsProfile (found_of words.now) profile ×
         OfPaths (λ path. F.holds files.old (F.real files.old path)) (⟦<AnySource<F::Input, F::Image> as Source>⟧.remaining) inputs
-        (ExtractsAll short (λ table told. IsPut F.tells (Fails F.faults ⊎ Fails F.Output.faults) table told fill short (folder_text (found_of words.now)) (F.holds files.new) (F.moment files.new) (F.left_since files.new))
-        files.old files.new profile last (O.contents out.old) (O.contents out.new) (O.faults out.old) (O.faults out.new) good))) }
+        (ExtractsAll short (λ table told. IsPut F.tells (Fails F.faults ⊎ SinkFails F.Output.stream) table told fill short (folder_text (found_of words.now)) (F.holds files.new) (F.moment files.new) (F.left_since files.new))
+        files.old files.new profile last (O.stream out.old) (O.stream out.new) good))) }
     // With `--only` or without: only what is asked for is made, told and judged.
     ensures chosen { IfOk result (λ all. (good : Bool) × IsTold (found_of words.now) good all × (has_lost (found_of words.now) ≡ false → has_manifest (found_of words.now) ≡ false → (fill : Fill) × (short : Bool) × (last : ℕ) × (profile : Profile) × (inputs : List InputPath) × (map asked_for inputs ≡ asked_inputs (found_of words.now)) ×
         IsPicked (found_of words.now) (codes "fill") (Fill.Byte 0) Fill.Refuse fill × IsPicked (found_of words.now) (codes "short-names") true false short × IsLast (λ path. F.holds files.old (F.real files.old path)) inputs (found_of words.now) last × IsProfile (found_of words.now) profile ×
         OfPaths (λ path. F.holds files.old (F.real files.old path)) (⟦<AnySource<F::Input, F::Image> as Source>⟧.remaining) inputs
-        (ExtractsChosen (only_texts (found_of words.now)) short (λ table told. IsPut F.tells (Fails F.faults ⊎ Fails F.Output.faults) table told fill short (folder_text (found_of words.now)) (F.holds files.new) (F.moment files.new) (F.left_since files.new))
-        F.holds (folder_text (found_of words.now)) files.old files.new profile last (O.contents out.old) (O.contents out.new) (O.faults out.old) (O.faults out.new) good))) }
+        (ExtractsChosen (only_texts (found_of words.now)) short (λ table told. IsPut F.tells (Fails F.faults ⊎ SinkFails F.Output.stream) table told fill short (folder_text (found_of words.now)) (F.holds files.new) (F.moment files.new) (F.left_since files.new))
+        F.holds (folder_text (found_of words.now)) files.old files.new profile last (O.stream out.old) (O.stream out.new) good))) }
     // With `--manifest` the same, and then the manifest is put.
     ensures listed { IfOk result (λ all. (good : Bool) × IsTold (found_of words.now) good all × (has_lost (found_of words.now) ≡ false → has_manifest (found_of words.now) ≡ true → ((fill : Fill) × (short : Bool) × (last : ℕ) × (profile : Profile) × (inputs : List InputPath) × (map asked_for inputs ≡ asked_inputs (found_of words.now)) ×
         IsPicked (found_of words.now) (codes "fill") (Fill.Byte 0) Fill.Refuse fill × IsPicked (found_of words.now) (codes "short-names") true false short × IsLast (λ path. F.holds files.old (F.real files.old path)) inputs (found_of words.now) last × IsProfile (found_of words.now) profile ×
         OfPaths (λ path. F.holds files.old (F.real files.old path)) (⟦<AnySource<F::Input, F::Image> as Source>⟧.remaining) inputs
         (ListsChosen (only_texts (found_of words.now)) short
-        (λ f table told. IsPut F.tells (Fails F.faults ⊎ Fails F.Output.faults) table told fill short (folder_text (found_of words.now)) (F.holds f) (F.moment f) (F.left_since f))
+        (λ f table told. IsPut F.tells (Fails F.faults ⊎ SinkFails F.Output.stream) table told fill short (folder_text (found_of words.now)) (F.holds f) (F.moment f) (F.left_since f))
         (λ f told fates text. F.tells → IsManifest (F.holds f) (folder_text (found_of words.now)) short told fates text)
         (λ f text. F.tells → IsPutLast F.holds F.may_leave F.moment F.left_since (F.real files.old (manifest_text (found_of words.now))) f files.new text)
-        F.holds (folder_text (found_of words.now)) files.old files.new profile last (O.contents out.old) (O.contents out.new) (O.faults out.old) (O.faults out.new) good)) ×
+        F.holds (folder_text (found_of words.now)) files.old files.new profile last (O.stream out.old) (O.stream out.new) good)) ×
         (F.tells → IsFreeManifest (F.holds files.old) (F.real files.old) (input_texts (found_of words.now)) (pair_texts (found_of words.now)) (folder_text (found_of words.now)) (manifest_text (found_of words.now))))) }
     // With `--unnamed` the same, and then the lost files are written.
     ensures added { IfOk result (λ all. (good : Bool) × IsTold (found_of words.now) good all × (has_lost (found_of words.now) ≡ true → has_manifest (found_of words.now) ≡ false → ExtractAsked (λ path. F.holds files.old (F.real files.old path)) (⟦<AnySource<F::Input, F::Image> as Source>⟧.remaining) (found_of words.now) (λ fill short last profile. AddsLost
-        (λ (mid : F) (between : O) nodes_good. ExtractsChosen (only_texts (found_of words.now)) short (λ table told. IsPut F.tells (Fails F.faults ⊎ Fails F.Output.faults) table told fill short (folder_text (found_of words.now)) (F.holds mid) (F.moment mid) (F.left_since mid))
-        F.holds (folder_text (found_of words.now)) files.old mid profile last (O.contents out.old) (O.contents between) (O.faults out.old) (O.faults between) nodes_good)
-        (λ (mid : F) (between : O) lost_good. WritesLost (λ table told two. IsLostPut F.tells (Fails F.faults ⊎ Fails F.Output.faults) table told (lost_text (found_of words.now)) two (F.holds files.new) (F.moment files.new) (F.left_since files.new))
-        (SparesLost F.tells F.holds F.may_leave F.moment F.left_since (lost_text (found_of words.now)) mid files.new) profile last (O.contents between) (O.contents out.new) (O.faults between) (O.faults out.new) lost_good) good))) }
+        (λ (mid : F) (between : O) nodes_good. ExtractsChosen (only_texts (found_of words.now)) short (λ table told. IsPut F.tells (Fails F.faults ⊎ SinkFails F.Output.stream) table told fill short (folder_text (found_of words.now)) (F.holds mid) (F.moment mid) (F.left_since mid))
+        F.holds (folder_text (found_of words.now)) files.old mid profile last (O.stream out.old) (O.stream between) nodes_good)
+        (λ (mid : F) (between : O) lost_good. WritesLost (λ table told two. IsLostPut F.tells (Fails F.faults ⊎ SinkFails F.Output.stream) table told (lost_text (found_of words.now)) two (F.holds files.new) (F.moment files.new) (F.left_since files.new))
+        (SparesLost F.tells F.holds F.may_leave F.moment F.left_since (lost_text (found_of words.now)) mid files.new) profile last (O.stream between) (O.stream out.new) lost_good) good))) }
     ensures listed_added { IfOk result (λ all. (good : Bool) × IsTold (found_of words.now) good all × (has_lost (found_of words.now) ≡ true → has_manifest (found_of words.now) ≡ true → ExtractAsked (λ path. F.holds files.old (F.real files.old path)) (⟦<AnySource<F::Input, F::Image> as Source>⟧.remaining) (found_of words.now) (λ fill short last profile. AddsLost
-        (λ (mid : F) (between : O) nodes_good. ListsChosen (only_texts (found_of words.now)) short (λ f table told. IsPut F.tells (Fails F.faults ⊎ Fails F.Output.faults) table told fill short (folder_text (found_of words.now)) (F.holds f) (F.moment f) (F.left_since f))
+        (λ (mid : F) (between : O) nodes_good. ListsChosen (only_texts (found_of words.now)) short (λ f table told. IsPut F.tells (Fails F.faults ⊎ SinkFails F.Output.stream) table told fill short (folder_text (found_of words.now)) (F.holds f) (F.moment f) (F.left_since f))
         (λ f told fates text. F.tells → IsManifest (F.holds f) (folder_text (found_of words.now)) short told fates text)
         (λ f text. F.tells → IsPutLast F.holds F.may_leave F.moment F.left_since (F.real files.old (manifest_text (found_of words.now))) f mid text)
-        F.holds (folder_text (found_of words.now)) files.old mid profile last (O.contents out.old) (O.contents between) (O.faults out.old) (O.faults between) nodes_good)
-        (λ (mid : F) (between : O) lost_good. WritesLost (λ table told two. IsLostPut F.tells (Fails F.faults ⊎ Fails F.Output.faults) table told (lost_text (found_of words.now)) two (F.holds files.new) (F.moment files.new) (F.left_since files.new))
-        (SparesLost F.tells F.holds F.may_leave F.moment F.left_since (lost_text (found_of words.now)) mid files.new) profile last (O.contents between) (O.contents out.new) (O.faults between) (O.faults out.new) lost_good) good))) }
+        F.holds (folder_text (found_of words.now)) files.old mid profile last (O.stream out.old) (O.stream between) nodes_good)
+        (λ (mid : F) (between : O) lost_good. WritesLost (λ table told two. IsLostPut F.tells (Fails F.faults ⊎ SinkFails F.Output.stream) table told (lost_text (found_of words.now)) two (F.holds files.new) (F.moment files.new) (F.left_since files.new))
+        (SparesLost F.tells F.holds F.may_leave F.moment F.left_since (lost_text (found_of words.now)) mid files.new) profile last (O.stream between) (O.stream out.new) lost_good) good))) }
     // Their folder may not be there yet, nor the manifest where something else is.
     ensures free { IfOk result (λ all. (has_lost (found_of words.now) ≡ true → F.tells → IsNewFolder (F.holds files.old) (F.real files.old) (lost_others (found_of words.now)) (lost_text (found_of words.now))) × (has_lost (found_of words.now) ≡ true → has_manifest (found_of words.now) ≡ true → F.tells → IsFreeManifest (F.holds files.old) (F.real files.old) (input_texts (found_of words.now)) (pair_texts (found_of words.now)) (folder_text (found_of words.now)) (manifest_text (found_of words.now)))) }
     // A path that is no node's is refused before anything is made.

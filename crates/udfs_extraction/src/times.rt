@@ -17,7 +17,7 @@ use udfs_common::shown::Said;
 use udfs_file::Kind;
 use udfs_osta::Stamp;
 use udfs_overview::push_shown_path;
-use udfs_salvage::Report;
+use udfs_salvage::Listing;
 use udfs_walk::{Node, Unnamed};
 use udfs_words::words::TIMES;
 
@@ -191,7 +191,7 @@ pub fn note_time<F: Files>(
 /// Sets the times of the folders that were made, from the last to the first, and at last that of the folder which stands for the root.
 pub fn set_folder_times<F: Files>(
     alloc: Global,
-    report: &Report<'_>,
+    listing: &Listing<'_>,
     made: &[MadeFolder],
     folder: &str,
     files: &F,
@@ -200,11 +200,11 @@ pub fn set_folder_times<F: Files>(
         return;
     }
     for made in made.iter().rev() {
-        if let Some(node) = report.nodes.get(made.index) {
+        if let Some(node) = listing.nodes.get(made.index) {
             set_node_time(alloc, node, folder, made.place.as_str(), files);
         }
     }
-    if let Some(root) = report.nodes.first() {
+    if let Some(root) = listing.nodes.first() {
         set_node_time(alloc, root, folder, "", files);
     }
 }

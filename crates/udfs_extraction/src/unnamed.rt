@@ -3,14 +3,15 @@
 ghost use Rattle.std.specs.Prelude.{◌≡◌, ◌≢◌, ◌<◌, ◌⊎◌, ◌++◌, ℕ, true, List, [], Some, None, IfOk, IfErr, OnOk, OnErr, length, slice_get, string_bytes};
 ghost use Rattle.std.specs.Io.KnownBytes.{Appends};
 ghost use Rattle.udfs_file.specs.declared.cells.Cell.{Cell};
-ghost use Rattle.udfs_files.specs.Disk.{Same, SameBut, Goes, Fails};
+ghost use Rattle.udfs_files.specs.Disk.{Same, SameBut, Goes, Fails, SinkFails};
 ghost use Rattle.udfs_lattice.specs.Tables.{state_of};
 ghost use Rattle.udfs_volume.specs.declared.profiles.Profile.{Profile};
 ghost use Rattle.udfs_walk.specs.declared.answers.Unnamed.{Unnamed};
 ghost use Rattle.udfs_salvage.specs.declared.extraction.ExtractError.TheVariants as extract_error;
 ghost use Rattle.udfs_salvage.specs.Extraction.{filled};
 ghost use Rattle.udfs_salvage.specs.Found.{volume_now};
-ghost use Rattle.udfs_salvage.specs.Reports.{IsReportBy, report_now};
+ghost use Rattle.udfs_salvage.specs.Listings.{AreUnnamed, listing_now};
+ghost use Rattle.udfs_salvage.specs.Reports.{IsReportBy};
 ghost use Rattle.udfs_salvage.specs.Texts.{has_two, line};
 ghost use Rattle.udfs_salvage.specs.UnnamedExtraction.{HasUnnamedCellsBy, is_lost_file};
 ghost use Rattle.udfs_extraction.specs.Extracting.{IsFateOf, TellsLines, TellsOn, all_good};
@@ -20,15 +21,14 @@ ghost use Rattle.udfs_extraction.specs.LostFiles.{EachLost, IsLostPut, PutsLost,
 use crate::extract::{Deed, Fate, still_good};
 use crate::node_files::{finish_file, give_up, put_folder};
 use crate::short_names::push_icb_number;
+use crate::spare::Spare;
 use crate::times::set_lost_time;
 use std::alloc::{AllocError, Global};
 use udfs_common::files::Files;
 use udfs_common::refusal::Refusal;
 use udfs_files::{Job, fill_by};
 use udfs_reading::{Sink, WriteFault, write_all};
-use udfs_salvage::{
-    ExtractError, Report, Volume, extract_unnamed_by, has_two_partitions, is_lost_file,
-};
+use udfs_salvage::{ExtractError, Listing, Volume, has_two_partitions, is_lost_file, write_lost};
 use udfs_walk::Unnamed;
 
 /// Appends the name of the file of an entry: its logical block, with the partition reference in front where there are two partitions.
@@ -72,7 +72,7 @@ fn tell_lost<O: Sink>(
     entry: &Unnamed,
     out: &mut O,
 ) -> Result<bool, AllocError>
-    ensures lines { IfOk result (λ still. TellsOn heard still (O.contents out.old) (O.contents out.new) (O.faults out.old) (O.faults out.new) (lost_line two fate entry.now)) }
+    ensures lines { IfOk result (λ still. TellsOn heard still (O.stream out.old) (O.stream out.new) (lost_line two fate entry.now)) }
     ensures memory { OnErr result (out.new ≡ out.old) }
 {
     if !heard {
@@ -90,66 +90,85 @@ fn tell_lost<O: Sink>(
 }
 
 /// The entry of this index.
-fn entry_at<'a>(report: &'a Report<'_>, index: usize) -> &'a Unnamed
-    requires { index < length report.now.unnamed.items }
-    ensures { slice_get report.now.unnamed.items index ≡ Some result.now }
+fn entry_at(entries: &[Unnamed], index: usize) -> &Unnamed
+    requires { index < length entries.now }
+    ensures { slice_get entries.now index ≡ Some result.now }
 {
-    &report.unnamed[index]
+    &entries[index]
 }
 
 /// The bytes of the lost file of this index.
 #[derive(Drop)]
 struct LostBytes<'a, 'r> {
     alloc: Global,
-    report: &'a Report<'r>,
+    listing: &'a Listing<'r>,
+    entries: &'a [Unnamed],
     index: usize,
+    spare: &'a Spare,
 }
 
 impl<'a, 'r> Job for LostBytes<'a, 'r> {
     type Refusal = ExtractError;
 
-    ghost wrote = { λ job old new. (profile : Profile) (last : ℕ) (u : Unnamed) → (job.index < length job.report.now.unnamed.items) →
-        IsReportBy profile (state_of job.report.now.table.now) last (report_now job.report.now) → slice_get job.report.now.unnamed.items job.index ≡ Some u → is_lost_file u ≡ true →
-        (cs : List Cell) × HasUnnamedCellsBy profile (state_of job.report.now.table.now) last u cs × Appends old new (filled 0 cs) };
+    ghost wrote = { λ job old new. (profile : Profile) (last : ℕ) (u : Unnamed) → (job.index < length job.entries.now) → AreUnnamed job.listing.now job.entries.now →
+        IsReportBy profile (state_of job.listing.now.table.now) last (listing_now job.listing.now) → slice_get (listing_now job.listing.now).unnamed job.index ≡ Some u → is_lost_file u ≡ true →
+        (cs : List Cell) × HasUnnamedCellsBy profile (state_of job.listing.now.table.now) last u cs × Appends old new (filled 0 cs) };
 
-    ghost blames_sink = { λ job refusal. (refusal ≢ extract_error.OutOfMemory) × (job.index < length job.report.now.unnamed.items) × (profile : Profile) × (last : ℕ) × (u : Unnamed) ×
-        IsReportBy profile (state_of job.report.now.table.now) last (report_now job.report.now) × (slice_get job.report.now.unnamed.items job.index ≡ Some u) × (is_lost_file u ≡ true) };
+    ghost blames_sink = { λ job refusal. (refusal ≢ extract_error.OutOfMemory) × (job.index < length job.entries.now) × AreUnnamed job.listing.now job.entries.now × (profile : Profile) × (last : ℕ) × (u : Unnamed) ×
+        IsReportBy profile (state_of job.listing.now.table.now) last (listing_now job.listing.now) × (slice_get (listing_now job.listing.now).unnamed job.index ≡ Some u) × (is_lost_file u ≡ true) };
 
     fn write_to<W: Sink>(&self, sink: &mut W) -> Result<(), ExtractError> {
-        if self.index >= self.report.unnamed.len() {
+        if self.index >= self.entries.len() {
             return Err(ExtractError::NotWhole);
         }
-        extract_unnamed_by(self.alloc, self.report, self.index, sink)
+        let Ok(mut out) = self.spare.take(self.alloc) else {
+            return Err(ExtractError::OutOfMemory);
+        };
+        write_lost(
+            self.alloc,
+            self.listing,
+            self.entries,
+            self.index,
+            &mut out,
+            sink,
+        )?;
+        self.spare.keep(out);
+        Ok(())
     }
 }
 
 /// Writes the lost file of this index to a file that was made for it, or removes the file. Where memory is refused, it is removed too.
 fn fill_lost<F: Files>(
     alloc: Global,
-    report: &Report<'_>,
+    listing: &Listing<'_>,
+    entries: &[Unnamed],
     index: usize,
     path: &str,
     output: F::Output,
+    spare: &Spare,
     files: &mut F,
 ) -> Result<Fate, AllocError>
-    requires index { index < length report.now.unnamed.items }
+    requires index { index < length entries.now }
+    requires entries { AreUnnamed listing.now entries.now }
     requires place { F.tells → F.Output.place output ≡ path.now }
-    requires empty { F.tells → F.Output.contents output ≡ Some [] }
+    requires empty { F.tells → (F.Output.stream output).contents ≡ Some [] }
     requires open { F.holds files.old path.now ≡ None }
     ensures written { IfOk result (λ fate. fate ≡ Fate.Written → F.tells → (profile : Profile) (last : ℕ) (u : Unnamed) →
-        IsReportBy profile (state_of report.now.table.now) last (report_now report.now) → slice_get report.now.unnamed.items index ≡ Some u → is_lost_file u ≡ true →
-        (cs : List Cell) × HasUnnamedCellsBy profile (state_of report.now.table.now) last u cs × IsKept (F.holds files.new) (F.may_leave files.new) path.now (filled 0 cs)) }
+        IsReportBy profile (state_of listing.now.table.now) last (listing_now listing.now) → slice_get (listing_now listing.now).unnamed index ≡ Some u → is_lost_file u ≡ true →
+        (cs : List Cell) × HasUnnamedCellsBy profile (state_of listing.now.table.now) last u cs × IsKept (F.holds files.new) (F.may_leave files.new) path.now (filled 0 cs)) }
     ensures gone { IfOk result (λ fate. fate ≡ Fate.Failed → F.tells → F.holds files.new path.now ≡ Some None) }
     ensures fate { IfOk result (λ fate. IsFateOf Deed.File fate) }
     ensures cause { IfOk result (λ fate. fate ≢ Fate.Written → (profile : Profile) (last : ℕ) (u : Unnamed) →
-        IsReportBy profile (state_of report.now.table.now) last (report_now report.now) → slice_get report.now.unnamed.items index ≡ Some u → is_lost_file u ≡ true → Fails F.faults ⊎ Fails F.Output.faults) }
+        IsReportBy profile (state_of listing.now.table.now) last (listing_now listing.now) → slice_get (listing_now listing.now).unnamed index ≡ Some u → is_lost_file u ≡ true → Fails F.faults ⊎ SinkFails F.Output.stream) }
     ensures others { (q : List ℕ) → q ≢ path.now → F.holds files.new q ≡ F.holds files.old q }
     ensures crash { Goes F.moment F.may_leave F.left_since files.old files.new (SameBut path.now) }
 {
     let job = LostBytes {
         alloc,
-        report,
+        listing,
+        entries,
         index,
+        spare,
     };
     match fill_by(output, &job) {
         Ok(output) => Ok(finish_file(path, output, files)),
@@ -163,21 +182,24 @@ fn fill_lost<F: Files>(
 
 /// Writes the lost file of this index to a new file, which is synced then, and its folder too. Where it could not be made or written, or memory ran out, none is left, and what
 /// another file of this path holds is untouched.
-fn write_lost<F: Files>(
+fn write_lost_file<F: Files>(
     alloc: Global,
-    report: &Report<'_>,
+    listing: &Listing<'_>,
+    entries: &[Unnamed],
     index: usize,
     path: &str,
+    spare: &Spare,
     files: &mut F,
 ) -> Result<Fate, AllocError>
-    requires { index < length report.now.unnamed.items }
+    requires index { index < length entries.now }
+    requires entries { AreUnnamed listing.now entries.now }
     ensures written { IfOk result (λ fate. fate ≡ Fate.Written → F.tells → (profile : Profile) (last : ℕ) (u : Unnamed) →
-        IsReportBy profile (state_of report.now.table.now) last (report_now report.now) → slice_get report.now.unnamed.items index ≡ Some u → is_lost_file u ≡ true →
-        (cs : List Cell) × HasUnnamedCellsBy profile (state_of report.now.table.now) last u cs × IsKept (F.holds files.new) (F.may_leave files.new) path.now (filled 0 cs)) }
+        IsReportBy profile (state_of listing.now.table.now) last (listing_now listing.now) → slice_get (listing_now listing.now).unnamed index ≡ Some u → is_lost_file u ≡ true →
+        (cs : List Cell) × HasUnnamedCellsBy profile (state_of listing.now.table.now) last u cs × IsKept (F.holds files.new) (F.may_leave files.new) path.now (filled 0 cs)) }
     ensures gone { IfOk result (λ fate. fate ≡ Fate.Failed → F.tells → F.holds files.new path.now ≡ F.holds files.old path.now) }
     ensures fate { IfOk result (λ fate. IsFateOf Deed.File fate) }
     ensures cause { IfOk result (λ fate. fate ≢ Fate.Written → (profile : Profile) (last : ℕ) (u : Unnamed) →
-        IsReportBy profile (state_of report.now.table.now) last (report_now report.now) → slice_get report.now.unnamed.items index ≡ Some u → is_lost_file u ≡ true → Fails F.faults ⊎ Fails F.Output.faults) }
+        IsReportBy profile (state_of listing.now.table.now) last (listing_now listing.now) → slice_get (listing_now listing.now).unnamed index ≡ Some u → is_lost_file u ≡ true → Fails F.faults ⊎ SinkFails F.Output.stream) }
     ensures others { (q : List ℕ) → q ≢ path.now → F.holds files.new q ≡ F.holds files.old q }
     ensures there { F.tells → F.holds files.old path.now ≢ Some None → F.holds files.new path.now ≡ F.holds files.old path.now }
     ensures stays { F.tells → F.holds files.old path.now ≢ Some None → Goes F.moment F.may_leave F.left_since files.old files.new Same }
@@ -186,29 +208,32 @@ fn write_lost<F: Files>(
     let Ok(output) = files.make_new(path) else {
         return Ok(Fate::Failed);
     };
-    fill_lost(alloc, report, index, path, output, files)
+    fill_lost(alloc, listing, entries, index, path, output, spare, files)
 }
 
 /// Writes the file of the entry of this index, if it is a lost file; else it is passed over.
 fn put_entry<F: Files>(
     alloc: Global,
-    report: &Report<'_>,
+    listing: &Listing<'_>,
+    entries: &[Unnamed],
     index: usize,
     two: bool,
     folder: &str,
+    spare: &Spare,
     files: &mut F,
 ) -> Result<Fate, AllocError>
-    requires { index < length report.now.unnamed.items }
-    ensures put { IfOk result (λ fate. (u : Unnamed) → slice_get report.now.unnamed.items index ≡ Some u →
-        IsLostPut F.tells (Fails F.faults ⊎ Fails F.Output.faults) report.now.table.now (report_now report.now) folder.now two (F.holds files.new) (F.moment files.new) (F.left_since files.new) u fate) }
+    requires index { index < length entries.now }
+    requires entries { AreUnnamed listing.now entries.now }
+    ensures put { IfOk result (λ fate. (u : Unnamed) → slice_get (listing_now listing.now).unnamed index ≡ Some u →
+        IsLostPut F.tells (Fails F.faults ⊎ SinkFails F.Output.stream) listing.now.table.now (listing_now listing.now) folder.now two (F.holds files.new) (F.moment files.new) (F.left_since files.new) u fate) }
     ensures spares { SparesLost F.tells F.holds F.may_leave F.moment F.left_since folder.now files.old files.new }
 {
-    let entry = entry_at(report, index);
+    let entry = entry_at(entries, index);
     if !is_lost_file(entry) {
         return Ok(Fate::Skipped);
     }
     let path = lost_path(alloc, folder, two, entry)?;
-    let fate = write_lost(alloc, report, index, path.as_str(), files)?;
+    let fate = write_lost_file(alloc, listing, entries, index, path.as_str(), spare, files)?;
     Ok(fate)
 }
 
@@ -224,22 +249,25 @@ struct ToldLost {
 /// Goes through the entries that no name leads to, in order. Where the output fails, it goes on, and tells no more.
 fn put_entries<F: Files, O: Sink>(
     alloc: Global,
-    report: &Report<'_>,
+    listing: &Listing<'_>,
+    entries: &[Unnamed],
     two: bool,
     folder: &str,
     files: &mut F,
     out: &mut O,
 ) -> Result<ToldLost, AllocError>
-    ensures put { IfOk result (λ told. (fates : List Fate) × EachLost (IsLostPut F.tells (Fails F.faults ⊎ Fails F.Output.faults) report.now.table.now (report_now report.now) folder.now two (F.holds files.new) (F.moment files.new) (F.left_since files.new)) report.now.unnamed.items fates ×
-        TellsLines told.heard (O.contents out.old) (O.contents out.new) (O.faults out.old) (O.faults out.new) (lost_lines two report.now.unnamed.items fates) ×
-        (length fates ≡ length report.now.unnamed.items) × (told.good ≡ all_good fates)) }
+    requires { AreUnnamed listing.now entries.now }
+    ensures put { IfOk result (λ told. (fates : List Fate) × EachLost (IsLostPut F.tells (Fails F.faults ⊎ SinkFails F.Output.stream) listing.now.table.now (listing_now listing.now) folder.now two (F.holds files.new) (F.moment files.new) (F.left_since files.new)) (listing_now listing.now).unnamed fates ×
+        TellsLines told.heard (O.stream out.old) (O.stream out.new) (lost_lines two (listing_now listing.now).unnamed fates) ×
+        (length fates ≡ length (listing_now listing.now).unnamed) × (told.good ≡ all_good fates)) }
     ensures spares { SparesLost F.tells F.holds F.may_leave F.moment F.left_since folder.now files.old files.new }
 {
+    let spare = Spare::new();
     let mut good = true;
     let mut heard = true;
-    for index in 0..report.unnamed.len() {
-        let fate = put_entry(alloc, report, index, two, folder, files)?;
-        let entry = entry_at(report, index);
+    for index in 0..entries.len() {
+        let fate = put_entry(alloc, listing, entries, index, two, folder, &spare, files)?;
+        let entry = entry_at(entries, index);
         good = still_good(good, fate);
         heard = tell_lost(alloc, heard, fate, two, entry, out)?;
         set_lost_time(alloc, two, entry, fate, folder, files);
@@ -261,21 +289,23 @@ fn make_if_open<F: Files>(volume: &Volume, folder: &str, files: &mut F) -> bool
 /// Makes a folder where the volume opens, and writes each lost file of the report to it, by the number of its block. It answers whether none failed.
 pub fn put_lost<F: Files, O: Sink>(
     alloc: Global,
-    report: &Report<'_>,
+    listing: &Listing<'_>,
+    entries: &[Unnamed],
     folder: &str,
     files: &mut F,
     out: &mut O,
 ) -> Result<bool, Refusal>
-    ensures put { IfOk result (λ good. PutsLost (IsLostPut F.tells (Fails F.faults ⊎ Fails F.Output.faults) report.now.table.now (report_now report.now) folder.now (has_two (volume_now report.now.volume)) (F.holds files.new) (F.moment files.new) (F.left_since files.new))
-        (has_two (volume_now report.now.volume)) report.now.unnamed.items (O.contents out.old) (O.contents out.new) (O.faults out.old) (O.faults out.new) good) }
+    requires { AreUnnamed listing.now entries.now }
+    ensures put { IfOk result (λ good. PutsLost (IsLostPut F.tells (Fails F.faults ⊎ SinkFails F.Output.stream) listing.now.table.now (listing_now listing.now) folder.now (has_two (volume_now listing.now.volume)) (F.holds files.new) (F.moment files.new) (F.left_since files.new))
+        (has_two (volume_now listing.now.volume)) (listing_now listing.now).unnamed (O.stream out.old) (O.stream out.new) good) }
     ensures spares { SparesLost F.tells F.holds F.may_leave F.moment F.left_since folder.now files.old files.new }
     ensures no_node { IfErr result (λ refusal. (i : ℕ) → refusal ≢ Refusal.NoNode i) }
 {
-    if !make_if_open(&report.volume, folder, files) {
+    if !make_if_open(&listing.volume, folder, files) {
         return Err(Refusal::LostFolder);
     }
-    let two = has_two_partitions(&report.volume);
-    let told = match put_entries(alloc, report, two, folder, files, out) {
+    let two = has_two_partitions(&listing.volume);
+    let told = match put_entries(alloc, listing, entries, two, folder, files, out) {
         Ok(told) => told,
         Err(AllocError) => return Err(Refusal::Memory(AllocError)),
     };

@@ -4,7 +4,9 @@
 --     Replaced path bytes             a file was put in the place of another, or not yet
 --     Goes .. old new step            from old to new, each moment leaves what old might have left, after this step
 --     Fails faults                    some call failed, which its count tells
+--     SinkFails stream                some write failed, which the count of what was written to tells
 use Rattle.std.specs.Prelude.{◌≡◌, ◌≢◌, ◌⊎◌, ℕ, ◌+◌, ◌%◌, ◌^◌, ◌≤◌, List, [], ◌∷◌, ◌++◌, Bool, Option, Some, None, codes, nat_eq, true, false, if◌then◌else◌}
+use Rattle.udfs_reading.specs.Device.{Stream}
 
 -- what is at each path after a crash: bytes, or nothing
 abbrev pub Disk : Type 0
@@ -55,6 +57,10 @@ pub record Goes {F : Type 0} (moment : F → ℕ) (may_leave : F → Disk → Ty
 -- some call failed: a count of faults went up by one, modulo 2 ^ 64
 abbrev pub Fails : {X : Type 0} → (X → ℕ) → Type 0
 Fails {X} faults = (before : X) × (after : X) × (faults after ≡ (faults before + 1) % 2 ^ 64)
+
+-- some write failed, which the count of what was written to tells
+abbrev pub SinkFails : {X : Type 0} → (X → Stream) → Type 0
+SinkFails stream = Fails (λ x. (stream x).faults)
 
 -- whether a path has a separator
 abbrev pub has_slash : List ℕ → Bool

@@ -26,8 +26,8 @@ pub trait Handle: Sink {
     fn put(&mut self, buf: &[u8]) -> Result<usize, DeviceFault>
         ensures bound { IfOk result (λ n. n ≤ length buf.now) }
         ensures some { IfOk result (λ n. 0 < length buf.now → 0 < n) }
-        ensures bytes { WriteAppends (Self.contents self.old) (Self.contents self.new) result buf.now }
-        ensures count { CountsFault (Self.faults self.old) (Self.faults self.new) result }
+        ensures bytes { WriteAppends (Self.stream self.old).contents (Self.stream self.new).contents result buf.now }
+        ensures count { CountsFault (Self.stream self.old).faults (Self.stream self.new).faults result }
         ensures place { place self.new ≡ place self.old };
 }
 
@@ -133,7 +133,7 @@ pub trait Files {
     /// `DeviceFault`, exactly where the count of faults goes up by one: also where something has the path. No path holds anything else then.
     fn make_new(&mut self, path: &str) -> Result<Self::Output, DeviceFault>
         ensures handle { IfOk result (λ output. tells → Self.Output.place output ≡ path.now) }
-        ensures empty { IfOk result (λ output. tells → Self.Output.contents output ≡ Some []) }
+        ensures empty { IfOk result (λ output. tells → (Self.Output.stream output).contents ≡ Some []) }
         ensures absent { OnOk result (tells → holds self.old path.now ≡ Some None) }
         ensures written { OnOk result (holds self.new path.now ≡ None) }
         ensures failed { OnErr result ((q : List ℕ) → holds self.new q ≡ holds self.old q) }
@@ -153,7 +153,7 @@ pub trait Files {
     /// `DeviceFault`, exactly where the count of faults goes up by one. No path holds anything else then.
     fn make(&mut self, path: &str) -> Result<Self::Output, DeviceFault>
         ensures handle { IfOk result (λ output. tells → Self.Output.place output ≡ path.now) }
-        ensures empty { IfOk result (λ output. tells → Self.Output.contents output ≡ Some []) }
+        ensures empty { IfOk result (λ output. tells → (Self.Output.stream output).contents ≡ Some []) }
         ensures written { OnOk result (holds self.new path.now ≡ None) }
         ensures failed { OnErr result ((q : List ℕ) → holds self.new q ≡ holds self.old q) }
         ensures others { (q : List ℕ) → q ≢ path.now → holds self.new q ≡ holds self.old q }
@@ -170,8 +170,8 @@ pub trait Files {
     fn sync(&mut self, path: &str, output: Self::Output) -> Result<(), DeviceFault>
         requires place { tells → Self.Output.place output ≡ path.now }
         requires open { holds self.old path.now ≡ None }
-        ensures holds { OnOk result ((bytes : List ℕ) → tells → Self.Output.contents output ≡ Some bytes → holds self.new path.now ≡ Some (Some bytes)) }
-        ensures durable { OnOk result ((bytes : List ℕ) (c : Option (List ℕ)) → tells → Self.Output.contents output ≡ Some bytes → kept self.new path.now c → c ≡ Some bytes) }
+        ensures holds { OnOk result ((bytes : List ℕ) → tells → (Self.Output.stream output).contents ≡ Some bytes → holds self.new path.now ≡ Some (Some bytes)) }
+        ensures durable { OnOk result ((bytes : List ℕ) (c : Option (List ℕ)) → tells → (Self.Output.stream output).contents ≡ Some bytes → kept self.new path.now c → c ≡ Some bytes) }
         ensures others { (q : List ℕ) → q ≢ path.now → holds self.new q ≡ holds self.old q }
         ensures kept { (q : List ℕ) (c : Option (List ℕ)) → q ≢ path.now → kept self.new q c → kept self.old q c }
         ensures real { real self.new ≡ real self.old }

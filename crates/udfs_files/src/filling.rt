@@ -2,7 +2,7 @@
 
 ghost use Rattle.std.specs.Prelude.{◌≡◌, ℕ, List, Option, IfOk, IfErr, OnOk, OnErr};
 ghost use Rattle.std.specs.Io.KnownBytes.{Appends};
-ghost use Rattle.udfs_files.specs.Disk.{Fails};
+ghost use Rattle.udfs_files.specs.Disk.{SinkFails};
 ghost use Rattle.udfs_reading.specs.Writing.{Writes};
 
 use crate::Handle;
@@ -20,7 +20,7 @@ pub trait Content {
     ///
     /// `WriteFault` exactly where the sink failed. Then a beginning of the bytes is out.
     fn write_to<W: Sink>(&self, sink: &mut W) -> Result<(), WriteFault>
-        ensures { Writes (W.contents sink.old) (W.contents sink.new) (W.faults sink.old) (W.faults sink.new) (bytes self.now) result };
+        ensures { Writes (W.stream sink.old) (W.stream sink.new) (bytes self.now) result };
 }
 
 /// The path of a handle.
@@ -43,9 +43,7 @@ struct Placed<K: Place, H: Handle> {
 }
 
 impl<K: Place, H: Handle> Sink for Placed<K, H> {
-    ghost contents = { λ p. H.contents p.handle };
-
-    ghost faults = { λ p. H.faults p.handle };
+    ghost stream = { λ p. H.stream p.handle };
 
     fn write(&mut self, buf: &[u8]) -> Result<usize, DeviceFault> {
         self.handle.put(buf)
@@ -56,8 +54,8 @@ impl<K: Place, H: Handle> Sink for Placed<K, H> {
 fn fill_at<K: Place, H: Handle + Drop, C: Content>(handle: H, content: &C) -> Result<H, WriteFault>
     requires { H.place handle ≡ K.path }
     ensures place { IfOk result (λ full. H.place full ≡ K.path) }
-    ensures written { IfOk result (λ full. Appends (H.contents handle) (H.contents full) (C.bytes content.now)) }
-    ensures cause { OnErr result (Fails H.faults) }
+    ensures written { IfOk result (λ full. Appends (H.stream handle).contents (H.stream full).contents (C.bytes content.now)) }
+    ensures cause { OnErr result (SinkFails H.stream) }
 {
     let mut placed: Placed<K, H> = Placed {
         handle,
@@ -75,8 +73,8 @@ fn fill_at<K: Place, H: Handle + Drop, C: Content>(handle: H, content: &C) -> Re
 /// `WriteFault` where the output failed, and it is closed.
 pub fn fill<H: Handle + Drop, C: Content>(handle: H, content: &C) -> Result<H, WriteFault>
     ensures place { IfOk result (λ full. H.place full ≡ H.place handle) }
-    ensures written { IfOk result (λ full. Appends (H.contents handle) (H.contents full) (C.bytes content.now)) }
-    ensures cause { OnErr result (Fails H.faults) }
+    ensures written { IfOk result (λ full. Appends (H.stream handle).contents (H.stream full).contents (C.bytes content.now)) }
+    ensures cause { OnErr result (SinkFails H.stream) }
 {
     fill_at::<Brand, H, C>(handle, content)
 }
@@ -98,16 +96,16 @@ pub trait Job {
     ///
     /// As the job says. Then the sink may have taken a part.
     fn write_to<W: Sink>(&self, sink: &mut W) -> Result<(), Self::Refusal>
-        ensures wrote { OnOk result (wrote self.now (W.contents sink.old) (W.contents sink.new)) }
-        ensures cause { IfErr result (λ refusal. blames_sink self.now refusal → Fails W.faults) };
+        ensures wrote { OnOk result (wrote self.now (W.stream sink.old).contents (W.stream sink.new).contents) }
+        ensures cause { IfErr result (λ refusal. blames_sink self.now refusal → SinkFails W.stream) };
 }
 
 /// Does a job on a handle of this path.
 fn do_at<K: Place, H: Handle + Drop, J: Job>(handle: H, job: &J) -> Result<H, J::Refusal>
     requires { H.place handle ≡ K.path }
     ensures place { IfOk result (λ full. H.place full ≡ K.path) }
-    ensures wrote { IfOk result (λ full. J.wrote job.now (H.contents handle) (H.contents full)) }
-    ensures cause { IfErr result (λ refusal. J.blames_sink job.now refusal → Fails H.faults) }
+    ensures wrote { IfOk result (λ full. J.wrote job.now (H.stream handle).contents (H.stream full).contents) }
+    ensures cause { IfErr result (λ refusal. J.blames_sink job.now refusal → SinkFails H.stream) }
 {
     let mut placed: Placed<K, H> = Placed {
         handle,
@@ -128,8 +126,8 @@ fn do_at<K: Place, H: Handle + Drop, J: Job>(handle: H, job: &J) -> Result<H, J:
 /// The job's refusal, and the output is closed.
 pub fn fill_by<H: Handle + Drop, J: Job>(handle: H, job: &J) -> Result<H, J::Refusal>
     ensures place { IfOk result (λ full. H.place full ≡ H.place handle) }
-    ensures wrote { IfOk result (λ full. J.wrote job.now (H.contents handle) (H.contents full)) }
-    ensures cause { IfErr result (λ refusal. J.blames_sink job.now refusal → Fails H.faults) }
+    ensures wrote { IfOk result (λ full. J.wrote job.now (H.stream handle).contents (H.stream full).contents) }
+    ensures cause { IfErr result (λ refusal. J.blames_sink job.now refusal → SinkFails H.stream) }
 {
     do_at::<Brand, H, J>(handle, job)
 }

@@ -124,9 +124,7 @@ impl<'a, W: Write + Seek + OpenFile, N: Watch> MachineFile<'a, W, N> {
 }
 
 impl<'a, W: Write + Seek + OpenFile, N: Watch> Sink for MachineFile<'a, W, N> {
-    ghost contents = { λ _. None };
-
-    ghost faults = { λ f. f.faults };
+    ghost stream = { λ f. record { contents = None; faults = f.faults } };
 
     fn write(&mut self, buf: &[u8]) -> Result<usize, DeviceFault> {
         let outcome = self.put_front(buf);

@@ -1,7 +1,7 @@
 //! One file in the place of another, whole or not at all.
 
 ghost use Rattle.std.specs.Prelude.{◌≡◌, ◌≢◌, ◌⊎◌, ◌<◌, ◌++◌, ℕ, List, Option, All, length, codes, string_bytes, vec_len, IfErr, IfOk, OnOk, OnErr, IsErrOf, Some, None};
-ghost use Rattle.udfs_files.specs.Disk.{Disk, SameBut, SameButOwn, IsOwn, Replaced, After, Goes, Fails};
+ghost use Rattle.udfs_files.specs.Disk.{Disk, SameBut, SameButOwn, IsOwn, Replaced, After, Goes, Fails, SinkFails};
 
 use crate::{Content, Files, fill};
 use std::alloc::{AllocError, Global};
@@ -61,7 +61,7 @@ fn write_new<F: Files, C: Content>(
     ensures absent { OnOk result (F.tells → F.holds files.old own.now ≡ Some None) }
     ensures ours { IsErrOf result ReplaceError.NotWritten → F.tells → F.holds files.old own.now ≡ Some None }
     ensures refused { IfErr result (λ e. (e ≡ ReplaceError.NotMade) ⊎ (e ≡ ReplaceError.NotWritten)) }
-    ensures cause { OnErr result (Fails F.faults ⊎ Fails F.Output.faults) }
+    ensures cause { OnErr result (Fails F.faults ⊎ SinkFails F.Output.stream) }
     ensures real { F.real files.new ≡ F.real files.old }
     ensures crash { Goes F.moment F.may_leave F.left_since files.old files.new (SameBut own.now) }
 {
@@ -112,7 +112,7 @@ fn replace_by<F: Files, C: Content>(
     ensures not_tried { IsErrOf result ReplaceError.NotMade → Goes F.moment F.may_leave F.left_since files.old files.new (SameButOwn path.now) }
     ensures not_kept { IsErrOf result ReplaceError.NotKept → F.tells → F.holds files.new path.now ≡ Some (Some (C.bytes content.now)) }
     ensures memory { IfErr result (λ e. e ≢ ReplaceError.OutOfMemory) }
-    ensures cause { OnErr result (Fails F.faults ⊎ Fails F.Output.faults) }
+    ensures cause { OnErr result (Fails F.faults ⊎ SinkFails F.Output.stream) }
     ensures real { F.real files.new ≡ F.real files.old }
 {
     match write_new(files, own, path, content) {
@@ -148,7 +148,7 @@ fn replace_by_one<F: Files, C: Content>(
     ensures refused { IfErr result (λ e. e ≢ ReplaceError.NotKept → F.holds files.new path.now ≡ F.holds files.old path.now) }
     ensures not_kept { IsErrOf result ReplaceError.NotKept → F.tells → F.holds files.new path.now ≡ Some (Some (C.bytes content.now)) }
     ensures memory { IfErr result (λ e. e ≢ ReplaceError.OutOfMemory) }
-    ensures cause { OnErr result (Fails F.faults ⊎ Fails F.Output.faults) }
+    ensures cause { OnErr result (Fails F.faults ⊎ SinkFails F.Output.stream) }
     ensures real { F.real files.new ≡ F.real files.old }
 {
     for name in names {
@@ -193,7 +193,7 @@ pub fn replace<F: Files, C: Content>(
     ensures not_kept { IsErrOf result ReplaceError.NotKept → F.tells → F.holds files.new path.now ≡ Some (Some (C.bytes content.now)) }
     ensures memory { IsErrOf result ReplaceError.OutOfMemory → files.new ≡ files.old }
     // It does not give up by itself.
-    ensures cause { IfErr result (λ e. e ≢ ReplaceError.OutOfMemory → Fails F.faults ⊎ Fails F.Output.faults) }
+    ensures cause { IfErr result (λ e. e ≢ ReplaceError.OutOfMemory → Fails F.faults ⊎ SinkFails F.Output.stream) }
     ensures real { F.real files.new ≡ F.real files.old }
 {
     let Ok(names) = own_names(alloc, path) else {

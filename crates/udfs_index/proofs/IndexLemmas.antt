@@ -13,8 +13,9 @@ use Rattle.udfs_lattice.specs.TableLaws.{state_of-empty, state_of-join_tables, s
 use Rattle.udfs_reading.specs.Places.{HasBlockAt}
 use Rattle.udfs_index.specs.declared.packet.Packet.{Packet}
 use Rattle.udfs_index.specs.Slots.{Slot, slot_at, AreSlotsSame, AreSlotsSet}
-use Rattle.udfs_index.specs.Places.{behind, bytes_at, state_by, IsInside}
-use Rattle.udfs_index.specs.Index.{contents_of, input_by, Took, IsAtPlace, IsPlaceOf}
+use Rattle.udfs_index.specs.Places.{behind, from_place, bytes_at, state_by, AreHeld, IsInside}
+use Rattle.udfs_index.specs.Copying.{AreAllTold}
+use Rattle.udfs_index.specs.Index.{contents_of, input_by, Took, IsFrontAt, IsAtPlace, IsPlaceOf}
 
 -- nothing was taken
 pub took_none : (packets : List Packet) → ((q : ℕ) → slot_at packets q ≡ Unknown) → Took [] packets empty_table
@@ -148,12 +149,13 @@ content_at {S} content (x ∷ inputs) (w ∷ wholes) zero s got told =
     subst (λ (y : Bor S). content y.now ≡ Some w) (same_ref x s got) (head_of (content x.now) (Some w) (contents_of content inputs) (map Some wholes) told)
 content_at {S} content (x ∷ inputs) (w ∷ wholes) (suc i) s got told = content_at content inputs wholes i s got (tail_of (content x.now) (Some w) (contents_of content inputs) (map Some wholes) told)
 
-pub looked : {S : Type 0} (content : S → Option (List ℕ)) (inputs : List (Bor S)) (place : ℕ) (s : Bor S) (there : List ℕ) → slice_get inputs (place / 2 ^ 44) ≡ Some s → length there ≡ 2048 → IfSome (content s.now) (λ all. there ≡ take (length there) (drop (place % 2 ^ 44) all))
-    → IsAtPlace (contents_of content inputs) place there
-looked {S} content inputs place s there got whole read wholes told =
-    let w = get_or wholes (place / 2 ^ 44) [] in
-    let here : there ≡ take (length there) (drop (place % 2 ^ 44) w) = subst (λ (o : Option (List ℕ)). IfSome o (λ all. there ≡ take (length there) (drop (place % 2 ^ 44) all))) (content_at content inputs wholes (place / 2 ^ 44) s got told) read in
-    ap (λ (k : ℕ). take k (drop (place % 2 ^ 44) w)) (sym whole) ∙ sym here
+-- what was read from a place on stands there
+pub read_at_place : {S : Type 0} (content : S → Option (List ℕ)) (inputs : List (Bor S)) (place : ℕ) (s : Bor S) (there : List ℕ) → slice_get inputs (place / 2 ^ 44) ≡ Some s → IfSome (content s.now) (λ all. there ≡ take (length there) (drop (place % 2 ^ 44) all)) → IsFrontAt (contents_of content inputs) place there
+read_at_place {S} content inputs place s there got read wholes told =
+    subst (λ (o : Option (List ℕ)). IfSome o (λ all. there ≡ take (length there) (drop (place % 2 ^ 44) all))) (content_at content inputs wholes (place / 2 ^ 44) s got told) read
+
+pub looked : (contents : List (Option (List ℕ))) (place : ℕ) (there : List ℕ) → length there ≡ 2048 → IsFrontAt contents place there → IsAtPlace contents place there
+looked contents place there whole read wholes told = ap (λ (k : ℕ). take k (from_place wholes place)) (sym whole) ∙ sym (read wholes told)
 
 joined_same : (x there bytes : List ℕ) → x ≡ there → bytes_eq there bytes ≡ true → join_of (Known x) (Known bytes) ≡ Known x
 joined_same x there bytes e h = ap (λ (r : Bool). cond r (Known x) Conflict) (ap (λ (y : List ℕ). bytes_eq y bytes) e ∙ h)
@@ -194,3 +196,17 @@ pub took_pushed : {S : Type 0} (content : S → Option (List ℕ)) (old new : Li
 took_pushed {S} content old new s {packets} {t} is h =
     subst (λ (l : List (Bor S)). Took (contents_of content l) packets t) (sym is)
     (subst (λ (l : List (Option (List ℕ))). Took l packets t) (sym (map-append (λ (i : Bor S). content i.now) old (s ∷ []))) (took_begun (content s.now) h))
+
+-- where all inputs of the kind tell their bytes, these do
+pub told_all : {S : Type 0} (content : S → Option (List ℕ)) (inputs : List (Bor S)) → AreAllTold content → (wholes : List (List ℕ)) × (contents_of content inputs ≡ map Some wholes)
+told_all {S} content [] told = ([], refl)
+told_all {S} content (x ∷ inputs) told =
+    let rest = told_all content inputs told in
+    let first = told x.now in
+    (first.0 ∷ rest.0, ap (λ (o : Option (List ℕ)). o ∷ contents_of content inputs) first.1 ∙ ap (λ (l : List (Option (List ℕ))). Some first.0 ∷ l) rest.1)
+
+-- an input that ends before does not hold so many bytes
+pub not_held : {S : Type 0} (content : S → Option (List ℕ)) (inputs : List (Bor S)) (wholes : List (List ℕ)) (place size : ℕ) (s : Bor S) → slice_get inputs (place / 2 ^ 44) ≡ Some s → contents_of content inputs ≡ map Some wholes → IfSome (content s.now) (λ all. length all < place % 2 ^ 44 + size) → AreHeld wholes place size → ⊥
+not_held {S} content inputs wholes place size s got told short held =
+    let less : length (get_or wholes (place / 2 ^ 44) []) < place % 2 ^ 44 + size = subst (λ (o : Option (List ℕ)). IfSome o (λ all. length all < place % 2 ^ 44 + size)) (content_at content inputs wholes (place / 2 ^ 44) s got told) short in
+    omega (arith, less, held)

@@ -1,3 +1,7 @@
 pub mod SlotLemmas
 pub mod CursorLemmas
 pub mod IndexLemmas
+pub mod RunLemmas
+pub mod CopyLemmas
+pub mod PackLemmas
+pub mod EntryLemmas

@@ -1,15 +1,15 @@
 -- What packets say after one of them has changed.
-use Rattle.std.proofs.Common.{◌≡◌, ◌≢◌, ℕ, zero, suc, ◌*◌, ◌/◌, ◌%◌, ◌^◌, ◌<◌, ◌==◌, Bool, true, false, cond, List, [], ◌∷◌, ◌++◌, length, Option, Some, slice_index_or, bit_and, bit_or, w32, refl, sym, ap, ◌∙◌, arith}
+use Rattle.std.proofs.Common.{◌≡◌, ◌≢◌, ℕ, zero, suc, ◌-◌, ◌*◌, ◌/◌, ◌%◌, ◌^◌, ◌<◌, ◌==◌, Bool, true, false, cond, List, [], ◌∷◌, ◌++◌, length, Option, Some, slice_index_or, bit_and, bit_or, w32, min, refl, sym, ap, ◌∙◌, arith}
 use Rattle.std.specs.Int.{bit_at, bit_not}
 use Rattle.std.specs.List.{slice_get}
 use Rattle.std.proofs.Math.ListN.{set}
 use Rattle.std.proofs.lemmas.Bool.{eqb-true, eqb-false}
 use Rattle.std.proofs.lemmas.Bool.Decides.{nat_tests}
 use Rattle.std.proofs.lemmas.List.{get_or-set_same, get_or-set_other}
-use Rattle.std.proofs.lemmas.Nat.Bits.{bit_at-zero, bit_at_set_other, bit_at_set_same, bit_at_clear_other, bit_at_clear_same}
+use Rattle.std.proofs.lemmas.Nat.Bits.{bit_at-zero, bit_at-lt, bit_at_and, bit_at_not, bit_at_set_other, bit_at_set_same, bit_at_clear_other, bit_at_clear_same}
 use Rattle.udfs_lattice.specs.declared.facts.Fact.TheVariants.{Unknown, Known, Conflict}
 use Rattle.udfs_index.specs.declared.packet.Packet.{Packet}
-use Rattle.udfs_index.specs.Slots.{Slot, slot_by, slot_in, slot_found, slot_at, IsSlotSet, AreSlotsSet, AreSlotsSame}
+use Rattle.udfs_index.specs.Slots.{Slot, slot_by, slot_in, is_placed, is_disputed, slot_found, slot_at, IsSlotSet, AreSlotsSet, AreSlotsSame}
 
 -- ---- one packet
 -- block i is put to a place
@@ -90,3 +90,25 @@ set_in ps n p new slot within was says q false is =
 -- the packet of block n has changed
 pub slots_set : (old ps : List Packet) (n : ℕ) (p new : Packet) (slot : Slot) → AreSlotsSame old ps → n / 32 < length ps → slice_get ps (n / 32) ≡ Some p → IsSlotSet p (n % 32) slot new → AreSlotsSet old n slot (set ps (n / 32) new)
 slots_set old ps n p new slot same within was says q = set_in ps n p new slot within was says q (q / 32 == n / 32) refl ∙ ap (cond (q == n) slot) (same q)
+
+-- ---- the masks of a packet
+-- the bit of a known block
+pub known_bit : (k c : Bool) (place : ℕ) → k ≡ is_placed (slot_by k c place)
+known_bit true c place = refl
+known_bit false true place = refl
+known_bit false false place = refl
+
+disputed_by : (x y : ℕ) (place : ℕ) → x < 2 → y < 2 → (min y (1 - x) == 1) ≡ is_disputed (slot_by (x == 1) (y == 1) place)
+disputed_by zero zero place h e = refl
+disputed_by zero (suc zero) place h e = refl
+disputed_by zero (suc (suc y)) place h e = absurd (omega (arith, e))
+disputed_by (suc zero) zero place h e = refl
+disputed_by (suc zero) (suc zero) place h e = refl
+disputed_by (suc zero) (suc (suc y)) place h e = absurd (omega (arith, e))
+disputed_by (suc (suc x)) y place h e = absurd (omega (arith, h))
+
+-- the bit of a block in conflict
+pub disputed_bit : (k c place i : ℕ) → k < 2 ^ 32 → i < 32 → (bit_at (bit_and c (bit_not w32 k)) i == 1) ≡ is_disputed (slot_by (bit_at k i == 1) (bit_at c i == 1) place)
+disputed_bit k c place i fits small =
+    ap (λ (x : ℕ). x == 1) (bit_at_and c (bit_not w32 k) i ∙ ap (min (bit_at c i)) (bit_at_not w32 k i fits small))
+    ∙ disputed_by (bit_at k i) (bit_at c i) place (bit_at-lt k i) (bit_at-lt c i)

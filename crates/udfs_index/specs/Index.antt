@@ -1,10 +1,10 @@
 -- What an index took of the inputs that it looks into.
-use Rattle.std.specs.Prelude.{◌≡◌, ℕ, ◌-◌, ◌+◌, ◌/◌, ◌%◌, ◌^◌, ◌<◌, List, length, map, Option, None, Some, get_or}
+use Rattle.std.specs.Prelude.{◌≡◌, ℕ, ◌-◌, ◌+◌, ◌/◌, ◌%◌, ◌^◌, ◌<◌, List, length, take, map, Option, None, Some, get_or}
 use Rattle.std.specs.Borrow.{Bor}
 use Rattle.udfs_lattice.specs.Tables.{Table}
 use Rattle.udfs_index.specs.declared.packet.Packet.{Packet}
 use Rattle.udfs_index.specs.Slots.{slot_at}
-use Rattle.udfs_index.specs.Places.{behind, bytes_at, IsInside, Says}
+use Rattle.udfs_index.specs.Places.{behind, from_place, bytes_at, IsInside, Says}
 
 -- what each input holds, where it tells that
 abbrev pub contents_of : {S : Type 0} → (S → Option (List ℕ)) → List (Bor S) → List (Option (List ℕ))
@@ -27,6 +27,10 @@ pub record IsPlaceOf (inputs : ℕ) (begun : Option ℕ) (at place : ℕ) : Type
   pub some : 0 < inputs
   pub input : place / 2 ^ 44 ≡ inputs - 1
   pub offset : place % 2 ^ 44 ≡ base + at
+
+-- where all inputs tell their bytes, these stand there, from the place on
+abbrev pub IsFrontAt : List (Option (List ℕ)) → ℕ → List ℕ → Type 0
+IsFrontAt contents place front = (wholes : List (List ℕ)) → contents ≡ map Some wholes → front ≡ take (length front) (from_place wholes place)
 
 -- where all inputs tell their bytes, these stand at the place
 abbrev pub IsAtPlace : List (Option (List ℕ)) → ℕ → List ℕ → Type 0

@@ -1,3 +1,5 @@
 pub mod Slots
 pub mod Places
 pub mod Index
+pub mod Runs
+pub mod Copying

@@ -1,5 +1,5 @@
 -- Where the bytes of a block stand, and what an index says of the inputs that it looks into.
-use Rattle.std.specs.Prelude.{◌≡◌, ℕ, ◌/◌, ◌%◌, ◌^◌, ◌<◌, List, [], take, drop, map, Option, Some, get_or}
+use Rattle.std.specs.Prelude.{◌≡◌, ℕ, ◌+◌, ◌/◌, ◌%◌, ◌^◌, ◌<◌, ◌≤◌, List, [], length, take, drop, map, Option, Some, get_or}
 use Rattle.std.specs.Option.{option_map}
 use Rattle.udfs_lattice.specs.declared.facts.Fact.TheVariants.{Unknown, Known, Conflict}
 use Rattle.udfs_lattice.specs.States.{State}
@@ -11,9 +11,23 @@ use Rattle.udfs_index.specs.Slots.{Slot, slot_at}
 abbrev pub behind : ℕ → Option (List ℕ) → Option (List ℕ)
 behind at content = option_map (drop at) content
 
--- the bytes of a block in these inputs: the place names the input, from 0, and how many of its bytes stand before
+-- what stands in these inputs from a place on: it names the input, from 0, and how many of its bytes stand before
+abbrev pub from_place : List (List ℕ) → ℕ → List ℕ
+from_place wholes place = drop (place % 2 ^ 44) (get_or wholes (place / 2 ^ 44) [])
+
+-- the bytes of a block at a place
 abbrev pub bytes_at : List (List ℕ) → ℕ → List ℕ
-bytes_at wholes place = take 2048 (drop (place % 2 ^ 44) (get_or wholes (place / 2 ^ 44) []))
+bytes_at wholes place = take 2048 (from_place wholes place)
+
+-- so many bytes stand in these inputs from the place on
+abbrev pub AreHeld : List (List ℕ) → ℕ → ℕ → Type 0
+AreHeld wholes place size = place % 2 ^ 44 + size ≤ length (get_or wholes (place / 2 ^ 44) [])
+
+-- all bytes of a known block stand there
+abbrev pub IsWholeAt : List (List ℕ) → Slot → Type 0
+IsWholeAt wholes Unknown = Unit {0}
+IsWholeAt wholes (Known place) = AreHeld wholes place 2048
+IsWholeAt wholes Conflict = Unit {0}
 
 -- what a slot says of the inputs
 abbrev pub state_by : List (List ℕ) → Slot → State

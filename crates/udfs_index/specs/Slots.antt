@@ -40,3 +40,17 @@ AreSlotsSet old n slot new = (q : ℕ) → slot_at new q ≡ cond (q == n) slot 
 -- the packets say what they said
 abbrev pub AreSlotsSame : List Packet → List Packet → Type 0
 AreSlotsSame old new = (q : ℕ) → slot_at new q ≡ slot_at old q
+
+-- ---- the masks of a packet
+
+-- whether the block is known
+abbrev pub is_placed : Slot → Bool
+is_placed Unknown = false
+is_placed (Known place) = true
+is_placed Conflict = false
+
+-- whether the block is in conflict
+abbrev pub is_disputed : Slot → Bool
+is_disputed Unknown = false
+is_disputed (Known place) = false
+is_disputed Conflict = true

@@ -2,20 +2,23 @@
 
 ghost use Rattle.std.specs.Prelude.{◌≡◌, ℕ, ◌^◌, ◌≤◌, ◌<◌, length, IfOk, IfSome, OnOk, OnErr};
 ghost use Rattle.udfs_lattice.specs.declared.facts.Fact.TheVariants.{Unknown, Known, Conflict};
-ghost use Rattle.udfs_lattice.specs.Tables.{Table, empty_table, join_tables, one_entry, one_record};
+ghost use Rattle.udfs_lattice.specs.Tables.{Table, IsTable, empty_table, join_tables, one_entry, one_record};
+ghost use Rattle.udfs_reading.specs.PacketFile.{table_bytes};
 ghost use Rattle.udfs_reading.specs.Places.{HasBlockAt};
+ghost use Rattle.udfs_reading.specs.TableFile.{table_bytes_v1};
+ghost use Rattle.udfs_index.specs.Copying.{AreAllTold, BlamesNone, Copies, CountsSink, NoneFails};
 ghost use Rattle.udfs_index.specs.Index.{Took, IsAtPlace, IsPlaceOf, contents_of, input_by};
 ghost use Rattle.udfs_index.specs.Slots.{slot_at};
 
 use crate::cursor::Cursor;
+use crate::fault::CopyFault;
+use crate::inputs::{BYTES, read_from};
 use crate::places::Places;
-use crate::stored::{Stored, fill};
+use crate::stored::Stored;
+use crate::{entries, packing};
 use std::alloc::{AllocError, Global};
 use udfs_lattice::Fact;
-use udfs_reading::{NotTaken, Taker};
-
-/// How many bytes an input has at most, so that a place of 64 bits names it and a byte of it.
-const BYTES: u64 = 17_592_186_044_416;
+use udfs_reading::{NotTaken, Sink, Taker};
 
 /// How many inputs there are at most.
 const INPUTS: usize = 1_048_576;
@@ -62,6 +65,38 @@ impl<'a, S: Stored> Index<'a, S> {
         self.places.slot(n)
     }
 
+    /// Writes the table file of what was taken in version 2, as [`write_table`](udfs_reading::write_table) does of a table. The
+    /// bytes of known blocks are read again where they stand. It takes no memory.
+    ///
+    /// # Errors
+    ///
+    /// `CopyFault::Sink` exactly where the sink failed. `CopyFault::Input` where an input could not be read, or ended before
+    /// the bytes that it had. Then a beginning of the file is out.
+    pub fn write_table<W: Sink>(&self, sink: &mut W) -> Result<(), CopyFault>
+        ensures bytes { (t : Table) → AreAllTold S.content → ⟦<Index<'a, S> as Taker<Cursor<'a, S>>>⟧.took self.now t →
+            Copies (W.stream sink.old) (W.stream sink.new) (table_bytes t) result }
+        ensures count { CountsSink (W.stream sink.old).faults (W.stream sink.new).faults result }
+        // An input is blamed only where calls on one may fail, or one does not tell its bytes.
+        ensures reads { (t : Table) → IsTable t → AreAllTold S.content → NoneFails S.fails → ⟦<Index<'a, S> as Taker<Cursor<'a, S>>>⟧.took self.now t → BlamesNone result }
+    {
+        packing::write_table(&self.inputs, &self.places.packets, sink)
+    }
+
+    /// Writes the table file of what was taken in version 1, as [`write_table_v1`](udfs_reading::write_table_v1) does of a table.
+    ///
+    /// # Errors
+    ///
+    /// As of [`write_table`](Self::write_table).
+    pub fn write_table_v1<W: Sink>(&self, sink: &mut W) -> Result<(), CopyFault>
+        ensures bytes { (t : Table) → IsTable t → AreAllTold S.content → ⟦<Index<'a, S> as Taker<Cursor<'a, S>>>⟧.took self.now t →
+            Copies (W.stream sink.old) (W.stream sink.new) (table_bytes_v1 t) result }
+        ensures count { CountsSink (W.stream sink.old).faults (W.stream sink.new).faults result }
+        // An input is blamed only where calls on one may fail, or one does not tell its bytes.
+        ensures reads { (t : Table) → IsTable t → AreAllTold S.content → NoneFails S.fails → ⟦<Index<'a, S> as Taker<Cursor<'a, S>>>⟧.took self.now t → BlamesNone result }
+    {
+        entries::write_table_v1(&self.inputs, &self.places.packets, sink)
+    }
+
     /// The place of what stands behind so many bytes of the input that is taken, if it has one.
     fn place_of(&self, at: u64) -> Option<u64>
         ensures { IfSome result (λ place. IsPlaceOf (length self.now.inputs.items) self.now.begun at place) }
@@ -98,11 +133,10 @@ impl<'a, S: Stored> Index<'a, S> {
     fn look(&self, place: u64) -> Option<[u8; 2048]>
         ensures { IfSome result (λ there. IsAtPlace (contents_of S.content self.now.inputs.items) place there) }
     {
-        let stored = self.inputs.get((place / BYTES) as usize)?;
         let mut there = [0; 2048];
-        match fill(*stored, place % BYTES, &mut there) {
-            Ok(true) => Some(there),
-            _ => None,
+        match read_from(&self.inputs, place, &mut there) {
+            Ok(()) => Some(there),
+            Err(_) => None,
         }
     }
 

@@ -2,13 +2,25 @@
 //! A table of blocks by index: it keeps no bytes, but where in which input the bytes of each known block stand.
 #![tactic(auto)]
 
+mod bytes;
+mod copying;
 mod cursor;
+mod entries;
+mod fault;
+mod file;
 mod index;
+mod inputs;
+pub mod laws;
 mod packet;
+mod packing;
 mod places;
+mod runs;
 mod stored;
 
+pub use bytes::StoredBytes;
 pub use cursor::Cursor;
+pub use fault::{CopyFault, Unread};
+pub use file::StoredFile;
 pub use index::Index;
 pub use stored::Stored;
 

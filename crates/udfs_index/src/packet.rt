@@ -3,7 +3,7 @@
 ghost use Rattle.std.specs.Prelude.{◌≡◌, ◌<◌, ◌==◌, ℕ};
 ghost use Rattle.std.specs.Int.{bit_at};
 ghost use Rattle.udfs_lattice.specs.declared.facts.Fact.TheVariants.{Known, Conflict};
-ghost use Rattle.udfs_index.specs.Slots.{IsSlotSet, slot_in};
+ghost use Rattle.udfs_index.specs.Slots.{IsSlotSet, slot_in, is_placed, is_disputed};
 
 use udfs_lattice::Fact;
 
@@ -43,6 +43,14 @@ impl Packet {
             return Fact::Conflict;
         }
         Fact::Unknown
+    }
+
+    /// The mask of the known blocks, and that of the blocks in conflict.
+    pub fn masks(&self) -> (u32, u32)
+        ensures known { (i : ℕ) → i < 32 → (bit_at result.0 i == 1) ≡ is_placed (slot_in self.now i) }
+        ensures conflict { (i : ℕ) → i < 32 → (bit_at result.1 i == 1) ≡ is_disputed (slot_in self.now i) }
+    {
+        (self.known, self.conflict & !self.known)
     }
 
     /// Block `i` is known, and its bytes stand there.

@@ -18,6 +18,16 @@ pub struct Places {
     pub packets: Vec<Packet>,
 }
 
+/// What packets say of block `n`.
+pub fn slot_of(packets: &[Packet], n: u32) -> Fact<u64>
+    ensures { result ≡ slot_at packets.now n }
+{
+    match packets.get((n / 32) as usize) {
+        Some(packet) => packet.slot(n % 32),
+        None => Fact::Unknown,
+    }
+}
+
 /// Adds packets of which nothing is known, up to this number.
 fn reach(packets: &mut Vec<Packet>, number: usize) -> Result<(), AllocError>
     requires { number < 131072 }
@@ -48,10 +58,7 @@ impl Places {
     pub fn slot(&self, n: u32) -> Fact<u64>
         ensures { result ≡ slot_at self.now.packets.items n }
     {
-        match self.packets.get((n / 32) as usize) {
-            Some(packet) => packet.slot(n % 32),
-            None => Fact::Unknown,
-        }
+        slot_of(&self.packets, n)
     }
 
     /// Block `n` is known, and its bytes stand there.

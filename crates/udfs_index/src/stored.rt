@@ -1,6 +1,6 @@
 //! An input that is read at any position.
 
-ghost use Rattle.std.specs.Prelude.{◌≡◌, ℕ, ◌+◌, ◌^◌, ◌≤◌, ◌<◌, List, Option, length, take, drop, true, IfOk, IfSome};
+ghost use Rattle.std.specs.Prelude.{◌≡◌, ℕ, ◌+◌, ◌^◌, ◌≤◌, ◌<◌, List, Option, length, take, drop, true, false, IfOk, IfSome, OnErr};
 
 use udfs_reading::DeviceFault;
 
@@ -9,13 +9,17 @@ pub trait Stored {
     /// Its bytes, where it tells them.
     ghost content: { Self → Option (List ℕ) };
 
+    /// A call on it may fail.
+    ghost fails: { Self → Type 0 };
+
     /// How many bytes it has.
     ///
     /// # Errors
     ///
     /// `DeviceFault` where the device failed.
     fn size(&self) -> Result<u64, DeviceFault>
-        ensures { IfSome (content self.now) (λ all. IfOk result (λ n. n ≡ length all)) };
+        ensures value { IfSome (content self.now) (λ all. IfOk result (λ n. n ≡ length all)) }
+        ensures fails { OnErr result (fails self.now) };
 
     /// Reads the bytes from position `at` on into the front of the buffer, and answers how many came. Into some room it
     /// answers 0 only at or after the end.
@@ -26,13 +30,16 @@ pub trait Stored {
     fn read_at(&self, at: u64, buf: &mut [u8]) -> Result<usize, DeviceFault>
         ensures bound { IfOk result (λ n. n ≤ length buf.new) }
         ensures value { IfSome (content self.now) (λ all. IfOk result (λ n. take n buf.new ≡ take n (drop at all))) }
-        ensures end { IfSome (content self.now) (λ all. IfOk result (λ n. n ≡ 0 → 0 < length buf.new → length all ≤ at)) };
+        ensures end { IfSome (content self.now) (λ all. IfOk result (λ n. n ≡ 0 → 0 < length buf.new → length all ≤ at)) }
+        ensures fails { OnErr result (fails self.now) };
 }
 
 /// Fills the buffer from position `at` on, and answers whether there were so many bytes.
 pub fn fill<S: Stored>(stored: &S, at: u64, buf: &mut [u8]) -> Result<bool, DeviceFault>
     requires { at + length buf.old < 2 ^ 64 }
-    ensures { IfOk result (λ whole. whole ≡ true → IfSome (S.content stored.now) (λ all. buf.new ≡ take (length buf.new) (drop at all))) }
+    ensures whole { IfOk result (λ whole. whole ≡ true → IfSome (S.content stored.now) (λ all. buf.new ≡ take (length buf.new) (drop at all))) }
+    ensures short { IfOk result (λ whole. whole ≡ false → IfSome (S.content stored.now) (λ all. length all < at + length buf.old)) }
+    ensures fails { OnErr result (S.fails stored.now) }
 {
     let mut filled = 0usize;
     while filled < buf.len() {

@@ -1,6 +1,10 @@
 //! An index of readings in memory.
 
-ghost use Rattle.std.specs.Prelude.{None};
+ghost use Rattle.std.specs.Prelude.{None, ⊤};
+
+mod copies;
+mod files;
+mod runs;
 
 use crate::cursor::Cursor;
 use crate::index::Index;
@@ -19,6 +23,8 @@ struct Held<'a> {
 
 impl<'a> Stored for Held<'a> {
     ghost content = { λ _. None };
+
+    ghost fails = { λ _. ⊤ };
 
     fn size(&self) -> Result<u64, DeviceFault> {
         Ok(self.bytes.len() as u64)
@@ -39,10 +45,10 @@ impl<'a> Stored for Held<'a> {
 }
 
 /// A reading in which all bytes of a block are the same.
-fn reading(alloc: Global, records: &[(u32, u8)]) -> Result<Vec<u8>, AllocError> {
+pub(super) fn reading(alloc: Global, records: &[(u32, u8)]) -> Result<Vec<u8>, AllocError> {
     let mut file = Vec::new(alloc);
     file.extend_from_slice(b"UDFREAD1\x00\x08\x00\x00")?;
-    file.extend_from_slice(&(records.len().min(9) as u32).to_le_bytes())?;
+    file.extend_from_slice(&(records.len().min(1000) as u32).to_le_bytes())?;
     for (block, byte) in records {
         file.extend_from_slice(&block.to_le_bytes())?;
         file.extend_from_slice(&[*byte; 2048])?;
@@ -51,7 +57,7 @@ fn reading(alloc: Global, records: &[(u32, u8)]) -> Result<Vec<u8>, AllocError> 
 }
 
 /// The index of two inputs, and why not all of them were taken.
-fn index_of<'a, S: Stored>(
+pub(super) fn index_of<'a, S: Stored>(
     alloc: Global,
     first: &'a S,
     second: &'a S,

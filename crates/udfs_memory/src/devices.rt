@@ -186,9 +186,7 @@ impl MemoryFile {
 }
 
 impl Sink for MemoryFile {
-    ghost contents = { λ f. Some f.bytes.items };
-
-    ghost faults = { λ f. f.faults };
+    ghost stream = { λ f. record { contents = Some f.bytes.items; faults = f.faults } };
 
     fn write(&mut self, buf: &[u8]) -> Result<usize, DeviceFault> {
         self.put(buf)

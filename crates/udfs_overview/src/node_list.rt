@@ -92,7 +92,7 @@ fn put_listed<W: Sink>(
     node: &Node,
     standing: &Standing,
 ) -> Result<(), RunError>
-    ensures { PassesOn (W.contents sink.old) (W.contents sink.new) (W.faults sink.old) (W.faults sink.new) (string_bytes text.old) (string_bytes text.new)
+    ensures { PassesOn (W.stream sink.old) (W.stream sink.new) (string_bytes text.old) (string_bytes text.new)
         (listed form (node_with node.now standing.now)) result }
 {
     push_listed(text, form, node, standing)?;
@@ -106,7 +106,7 @@ fn put_nodes<W: Sink>(
     form: ListForm,
     nodes: &[Node],
 ) -> Result<(), RunError>
-    ensures { PassesOn (W.contents sink.old) (W.contents sink.new) (W.faults sink.old) (W.faults sink.new) (string_bytes text.old) (string_bytes text.new)
+    ensures { PassesOn (W.stream sink.old) (W.stream sink.new) (string_bytes text.old) (string_bytes text.new)
         (flat_map (listed form) nodes.now) result }
 {
     for node in nodes {
@@ -124,7 +124,7 @@ fn put_full_node<W: Sink>(
     form: ListForm,
     node: &Node,
 ) -> Result<(), RunError>
-    ensures { PassesOn (W.contents sink.old) (W.contents sink.new) (W.faults sink.old) (W.faults sink.new) (string_bytes text.old) (string_bytes text.new)
+    ensures { PassesOn (W.stream sink.old) (W.stream sink.new) (string_bytes text.old) (string_bytes text.new)
         (listed form (full_node (view_now view.entry) node.now)) result }
 {
     let full = full_standing(alloc, view, node.icb, &node.standing)?;
@@ -140,7 +140,7 @@ fn put_full_nodes<W: Sink>(
     form: ListForm,
     nodes: &[Node],
 ) -> Result<(), RunError>
-    ensures { PassesOn (W.contents sink.old) (W.contents sink.new) (W.faults sink.old) (W.faults sink.new) (string_bytes text.old) (string_bytes text.new)
+    ensures { PassesOn (W.stream sink.old) (W.stream sink.new) (string_bytes text.old) (string_bytes text.new)
         (flat_map (listed form) (map (full_node (view_now view.entry)) nodes.now)) result }
 {
     for node in nodes {
@@ -166,7 +166,7 @@ fn put_all<W: Sink>(
     form: ListForm,
     nodes: &[Node],
 ) -> Result<(), RunError>
-    ensures { PassesOn (W.contents sink.old) (W.contents sink.new) (W.faults sink.old) (W.faults sink.new) (string_bytes text.old) (string_bytes text.new)
+    ensures { PassesOn (W.stream sink.old) (W.stream sink.new) (string_bytes text.old) (string_bytes text.new)
         (list_text form nodes.now) result }
 {
     put_nodes(text, sink, form, behind_root(nodes))
@@ -181,7 +181,7 @@ fn put_full_all<W: Sink>(
     form: ListForm,
     nodes: &[Node],
 ) -> Result<(), RunError>
-    ensures { PassesOn (W.contents sink.old) (W.contents sink.new) (W.faults sink.old) (W.faults sink.new) (string_bytes text.old) (string_bytes text.new)
+    ensures { PassesOn (W.stream sink.old) (W.stream sink.new) (string_bytes text.old) (string_bytes text.new)
         (list_text form (map (full_node (view_now view.entry)) nodes.now)) result }
 {
     put_full_nodes(alloc, text, sink, view, form, behind_root(nodes))
@@ -195,7 +195,7 @@ fn put_list<W: Sink>(
     survey: &Survey<'_>,
     form: ListForm,
 ) -> Result<(), RunError>
-    ensures { PassesOn (W.contents sink.old) (W.contents sink.new) (W.faults sink.old) (W.faults sink.new) (string_bytes text.old) (string_bytes text.new)
+    ensures { PassesOn (W.stream sink.old) (W.stream sink.new) (string_bytes text.old) (string_bytes text.new)
         (list_text form (survey_now survey.now).nodes) result }
 {
     match &survey.volume {
@@ -223,7 +223,7 @@ pub fn write_list<W: Sink>(
     form: ListForm,
     sink: &mut W,
 ) -> Result<(), RunError>
-    ensures { Prints (W.contents sink.old) (W.contents sink.new) (W.faults sink.old) (W.faults sink.new)
+    ensures { Prints (W.stream sink.old) (W.stream sink.new)
         (list_text form (survey_now survey.now).nodes) result }
 {
     let mut text = String::new(alloc);

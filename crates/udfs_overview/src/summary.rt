@@ -287,7 +287,7 @@ pub fn write_summary<W: Sink>(
     survey: &Survey<'_>,
     sink: &mut W,
 ) -> Result<(), RunError>
-    ensures { Prints (W.contents sink.old) (W.contents sink.new) (W.faults sink.old) (W.faults sink.new)
+    ensures { Prints (W.stream sink.old) (W.stream sink.new)
         (summary_text survey.now.profile survey.now.table.now survey.now.last (survey_now survey.now)) result }
 {
     let mut text = String::new(alloc);

@@ -134,7 +134,7 @@ pub fn push_page(alloc: Global, text: &mut String, survey: &Survey<'_>) -> Resul
 ///
 /// `Write` exactly where the sink failed, and then a beginning of the page is out; and `OutOfMemory` where memory is refused, and then nothing is.
 pub fn write_page<W: Sink>(alloc: Global, survey: &Survey<'_>, sink: &mut W) -> Result<(), RunError>
-    ensures { Prints (W.contents sink.old) (W.contents sink.new) (W.faults sink.old) (W.faults sink.new)
+    ensures { Prints (W.stream sink.old) (W.stream sink.new)
         (page_html survey.now.profile survey.now.table.now survey.now.last (survey_now survey.now)) result }
 {
     let mut text = String::new(alloc);

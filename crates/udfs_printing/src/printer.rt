@@ -45,7 +45,7 @@ impl Printer {
     /// sink first. Where the sink has failed, nothing more is handed to it.
     pub fn put_bytes<W: Sink>(&mut self, sink: &mut W, bytes: &[u8])
         requires { length bytes.now ≤ 2048 }
-        ensures { Puts (W.contents sink.old) (W.contents sink.new) (W.faults sink.old) (W.faults sink.new) self.old self.new bytes.now }
+        ensures { Puts (W.stream sink.old) (W.stream sink.new) self.old self.new bytes.now }
     {
         if self.failed {
             return;
@@ -58,14 +58,14 @@ impl Printer {
     /// Puts a text of at most 2048 bytes, as [`put_bytes`](Printer::put_bytes) does.
     pub fn put<W: Sink>(&mut self, sink: &mut W, text: &str)
         requires { length text.now ≤ 2048 }
-        ensures { Puts (W.contents sink.old) (W.contents sink.new) (W.faults sink.old) (W.faults sink.new) self.old self.new text.now }
+        ensures { Puts (W.stream sink.old) (W.stream sink.new) self.old self.new text.now }
     {
         self.put_bytes(sink, text.as_bytes());
     }
 
     /// Puts a number in decimal.
     pub fn put_number<W: Sink>(&mut self, sink: &mut W, number: u64)
-        ensures { Puts (W.contents sink.old) (W.contents sink.new) (W.faults sink.old) (W.faults sink.new) self.old self.new (decimal number) }
+        ensures { Puts (W.stream sink.old) (W.stream sink.new) self.old self.new (decimal number) }
     {
         let mut digits = Buffer::new();
         self.put(sink, digits.format(number));
@@ -78,7 +78,7 @@ impl Printer {
     /// `WriteFault` exactly where the sink failed, now or at a text that was put before. Then a beginning of all text
     /// is out, and nothing more is handed on.
     pub fn finish<W: Sink>(&mut self, sink: &mut W) -> Result<(), WriteFault>
-        ensures written { Finishes (W.contents sink.old) (W.contents sink.new) (W.faults sink.old) (W.faults sink.new) self.old result }
+        ensures written { Finishes (W.stream sink.old) (W.stream sink.new) self.old result }
         ensures empty { OnOk result (self.new ≡ Some []) }
         ensures kept { OnErr result (self.new ≡ None) }
     {

@@ -12,6 +12,7 @@ use Rattle.udfs_reading.proofs.PacketMasks.{mask_below, pow_double}
 use Rattle.udfs_reading.proofs.PacketStates.{states-next, states-none, length-states, states-append}
 use Rattle.udfs_reading.proofs.PacketTables.{packet_at, below_front}
 use Rattle.udfs_reading.proofs.WritingLemmas.{passed_then, failed_then, failed_more}
+use Rattle.udfs_reading.specs.Device.{Stream}
 
 -- ---- the masks
 
@@ -57,59 +58,59 @@ pub contents_none : (t : Table) (n : ℕ) → flat_map content (states_from t n 
 contents_none t n = ap (flat_map content) (states-none t n)
 
 -- the sink failed at one of the blocks
-pub blocks_fail : {a b c : Option (List ℕ)} {i j k : ℕ} {o q : List ℕ} (t : Table) (n p : ℕ) → p < 32 → Passed a b i j o q (flat_map content (states_from t n p)) → FailedPast b c j k q (content (state_of t (n + p))) → FailedPast a c i k o (flat_map content (states_from t n 32))
-blocks_fail {a} {b} {c} {i} {j} {k} {o} {q} t n p lt h f =
+pub blocks_fail : {a b c : Stream} {o q : List ℕ} (t : Table) (n p : ℕ) → p < 32 → Passed a b o q (flat_map content (states_from t n p)) → FailedPast b c q (content (state_of t (n + p))) → FailedPast a c o (flat_map content (states_from t n 32))
+blocks_fail {a} {b} {c} {o} {q} t n p lt h f =
     let z : (p + 1) + (32 - (p + 1)) ≡ 32 = omega arith in
     let later = states_from t (n + (p + 1)) (32 - (p + 1)) in
     let all : (flat_map content (states_from t n p) ++ content (state_of t (n + p))) ++ flat_map content later ≡ flat_map content (states_from t n 32) =
     ap (λ (l : List ℕ). l ++ flat_map content later) (sym (contents_next t n p)) ∙ sym (flat_map-append content (states_from t n (p + 1)) later)
     ∙ ap (flat_map content) (sym (states-append t n (p + 1) (32 - (p + 1))) ∙ ap (states_from t n) z) in
-    subst (FailedPast a c i k o) all (failed_more (flat_map content later) (failed_then h f))
+    subst (FailedPast a c o) all (failed_more (flat_map content later) (failed_then h f))
 
 -- ---- the packets
 
 packet-push : (qs : List Packet) (q : Packet) → flat_map packet_bytes (qs ++ q ∷ []) ≡ flat_map packet_bytes qs ++ packet_bytes q
 packet-push qs q = flat_map-append packet_bytes qs (q ∷ []) ∙ ap (λ (l : List ℕ). flat_map packet_bytes qs ++ l) (append-nil (packet_bytes q))
 
-pub packets_passed : {a b c : Option (List ℕ)} {i j k : ℕ} {o q r : List ℕ} (t : Table) (next p : ℕ) → packets_below t (p + 1) ≡ packets_below t next ++ packet_at t p ∷ [] → Passed a b i j o q (flat_map packet_bytes (packets_below t next)) → Passed b c j k q r (packet_bytes (packet_at t p))
-    → Passed a c i k o r (flat_map packet_bytes (packets_below t (p + 1)))
-packets_passed {a} {b} {c} {i} {j} {k} {o} {q} {r} t next p is h f =
-    subst (Passed a c i k o r) (sym (ap (flat_map packet_bytes) is ∙ packet-push (packets_below t next) (packet_at t p))) (passed_then h f)
+pub packets_passed : {a b c : Stream} {o q r : List ℕ} (t : Table) (next p : ℕ) → packets_below t (p + 1) ≡ packets_below t next ++ packet_at t p ∷ [] → Passed a b o q (flat_map packet_bytes (packets_below t next)) → Passed b c q r (packet_bytes (packet_at t p))
+    → Passed a c o r (flat_map packet_bytes (packets_below t (p + 1)))
+packets_passed {a} {b} {c} {o} {q} {r} t next p is h f =
+    subst (Passed a c o r) (sym (ap (flat_map packet_bytes) is ∙ packet-push (packets_below t next) (packet_at t p))) (passed_then h f)
 
 -- one more packet, counted
 pub packets_counted : (t : Table) (next p count : ℕ) → packets_below t (p + 1) ≡ packets_below t next ++ packet_at t p ∷ [] → count ≡ length (packets_below t next) → count + 1 ≡ length (packets_below t (p + 1))
 packets_counted t next p count is e = let all = ap length is in omega (arith, length-append (packets_below t next) (packet_at t p ∷ []))
 
 -- the sink failed at the header
-pub header_failed : {a b : Option (List ℕ)} {i j : ℕ} {o : List ℕ} (t : Table) (count : ℕ) → count ≡ length (packets_of t) → FailedPast a b i j o (header packet_magic count) → FailedPast a b i j o (packed_file (packets_of t))
+pub header_failed : {a b : Stream} {o : List ℕ} (t : Table) (count : ℕ) → count ≡ length (packets_of t) → FailedPast a b o (header packet_magic count) → FailedPast a b o (packed_file (packets_of t))
 unfolding packed_file
-header_failed {a} {b} {i} {j} {o} t count is h = failed_more (flat_map packet_bytes (packets_of t)) (subst (λ (n : ℕ). FailedPast a b i j o (header packet_magic n)) is h)
+header_failed {a} {b} {o} t count is h = failed_more (flat_map packet_bytes (packets_of t)) (subst (λ (n : ℕ). FailedPast a b o (header packet_magic n)) is h)
 
 -- all packets were taken
-pub packets_written : {a b c : Option (List ℕ)} {i j k : ℕ} {o q r : List ℕ} (t : Table) (count next : ℕ) → count ≡ length (packets_of t) → packets_of t ≡ packets_below t next → Passed a b i j o q (header packet_magic count) → Passed b c j k q r (flat_map packet_bytes (packets_below t next))
-    → Passed a c i k o r (packed_file (packets_of t))
+pub packets_written : {a b c : Stream} {o q r : List ℕ} (t : Table) (count next : ℕ) → count ≡ length (packets_of t) → packets_of t ≡ packets_below t next → Passed a b o q (header packet_magic count) → Passed b c q r (flat_map packet_bytes (packets_below t next))
+    → Passed a c o r (packed_file (packets_of t))
 unfolding packed_file
-packets_written {a} {b} {c} {i} {j} {k} {o} {q} {r} t count next is all h f =
-    passed_then (subst (λ (n : ℕ). Passed a b i j o q (header packet_magic n)) is h) (subst (λ (l : List Packet). Passed b c j k q r (flat_map packet_bytes l)) (sym all) f)
+packets_written {a} {b} {c} {o} {q} {r} t count next is all h f =
+    passed_then (subst (λ (n : ℕ). Passed a b o q (header packet_magic n)) is h) (subst (λ (l : List Packet). Passed b c q r (flat_map packet_bytes l)) (sym all) f)
 
 front_of : (t : Table) (next p : ℕ) → packets_below t (p + 1) ≡ packets_below t next ++ packet_at t p ∷ [] → (m : ℕ) → p + 1 ≤ m → (later : List Packet) × (packets_below t m ≡ (packets_below t next ++ packet_at t p ∷ []) ++ later)
 front_of t next p is m le = below_front t (p + 1) m le (packets_below t next ++ packet_at t p ∷ []) is
 
 -- the sink failed at a packet
-pub packets_failed : {a b c d : Option (List ℕ)} {i j k l : ℕ} {o q r : List ℕ} (t : Table) (count next p : ℕ) → p ≤ 131071 → count ≡ length (packets_of t) → packets_below t (p + 1) ≡ packets_below t next ++ packet_at t p ∷ []
-    → Passed a b i j o q (header packet_magic count) → Passed b c j k q r (flat_map packet_bytes (packets_below t next)) → FailedPast c d k l r (packet_bytes (packet_at t p)) → FailedPast a d i l o (packed_file (packets_of t))
+pub packets_failed : {a b c d : Stream} {o q r : List ℕ} (t : Table) (count next p : ℕ) → p ≤ 131071 → count ≡ length (packets_of t) → packets_below t (p + 1) ≡ packets_below t next ++ packet_at t p ∷ []
+    → Passed a b o q (header packet_magic count) → Passed b c q r (flat_map packet_bytes (packets_below t next)) → FailedPast c d r (packet_bytes (packet_at t p)) → FailedPast a d o (packed_file (packets_of t))
 unfolding packed_file packets_of
-packets_failed {a} {b} {c} {d} {i} {j} {k} {l} {o} {q} {r} t count next p there is step h f g =
+packets_failed {a} {b} {c} {d} {o} {q} {r} t count next p there is step h f g =
     let split = front_of t next p step 131072 (omega arith) in
     let done = packets_below t next in
     let all : (flat_map packet_bytes done ++ packet_bytes (packet_at t p)) ++ flat_map packet_bytes split.0 ≡ flat_map packet_bytes (packets_below t 131072) =
     ap (λ (x : List ℕ). x ++ flat_map packet_bytes split.0) (sym (packet-push done (packet_at t p))) ∙ sym (flat_map-append packet_bytes (done ++ packet_at t p ∷ []) split.0) ∙ ap (flat_map packet_bytes) (sym split.1) in
-    failed_then (subst (λ (n : ℕ). Passed a b i j o q (header packet_magic n)) is h) (subst (FailedPast b d j l q) all (failed_more (flat_map packet_bytes split.0) (failed_then f g)))
+    failed_then (subst (λ (n : ℕ). Passed a b o q (header packet_magic n)) is h) (subst (FailedPast b d q) all (failed_more (flat_map packet_bytes split.0) (failed_then f g)))
 
 -- ---- a number by its value
 
-pub passed_number : {a b : Option (List ℕ)} {i j : ℕ} {p q : List ℕ} (m n : ℕ) → m ≡ n → Passed a b i j p q (number m) → Passed a b i j p q (number n)
-passed_number {a} {b} {i} {j} {p} {q} m n e h = subst (λ (x : ℕ). Passed a b i j p q (number x)) e h
+pub passed_number : {a b : Stream} {p q : List ℕ} (m n : ℕ) → m ≡ n → Passed a b p q (number m) → Passed a b p q (number n)
+passed_number {a} {b} {p} {q} m n e h = subst (λ (x : ℕ). Passed a b p q (number x)) e h
 
-pub failed_number : {a b : Option (List ℕ)} {i j : ℕ} {p : List ℕ} (m n : ℕ) → m ≡ n → FailedPast a b i j p (number m) → FailedPast a b i j p (number n)
-failed_number {a} {b} {i} {j} {p} m n e h = subst (λ (x : ℕ). FailedPast a b i j p (number x)) e h
+pub failed_number : {a b : Stream} {p : List ℕ} (m n : ℕ) → m ≡ n → FailedPast a b p (number m) → FailedPast a b p (number n)
+failed_number {a} {b} {p} m n e h = subst (λ (x : ℕ). FailedPast a b p (number x)) e h

@@ -8,13 +8,13 @@ pub passed_none : PassedNone
 passed_none = writing.passed_none
 
 pub passed_then : PassedThen
-passed_then a b c i j k p q r x y h g = writing.passed_then h g
+passed_then a b c p q r x y h g = writing.passed_then h g
 
 pub failed_then : FailedThen
-failed_then a b c i j k p q x y h g = writing.failed_then h g
+failed_then a b c p q x y h g = writing.failed_then h g
 
 pub failed_more : FailedMore
-failed_more a b i j p x y h = writing.failed_more y h
+failed_more a b p x y h = writing.failed_more y h
 
 pub failed_last : FailedLast
-failed_last a b c i j k q x h g = writing.failed_last refl h g
+failed_last a b c q x h g = writing.failed_last refl h g

@@ -2,6 +2,11 @@
 use Rattle.std.specs.Prelude.{◌≡◌, ℕ, ◌+◌, ◌%◌, ◌^◌, List, Option, Result, Ok, Err}
 use Rattle.std.specs.Io.KnownBytes.{prepend_known}
 
+-- what a sink has: the bytes that it holds, where it tells them, and how many of its writes were faults, modulo 2 ^ 64
+pub record Stream : Type 0 where
+  pub contents : Option (List ℕ)
+  pub faults : ℕ
+
 -- the count after one more call: a fault adds one, modulo 2 ^ 64
 abbrev pub CountsFault : {X E : Type 0} → ℕ → ℕ → Result X E → Type 0
 CountsFault old new (Ok x) = new ≡ old

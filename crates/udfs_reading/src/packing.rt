@@ -59,7 +59,7 @@ fn write_content<W: Sink>(
     sink: &mut W,
     fact: Fact<&[u8; 2048]>,
 ) -> Result<(), WriteFault>
-    ensures { Passes (W.contents sink.old) (W.contents sink.new) (W.faults sink.old) (W.faults sink.new) out.old out.new (content (fact_now fact.entry)) result }
+    ensures { Passes (W.stream sink.old) (W.stream sink.new) out.old out.new (content (fact_now fact.entry)) result }
 {
     match fact {
         Fact::Known(bytes) => {
@@ -79,7 +79,7 @@ fn write_blocks<W: Sink>(
     first: u32,
 ) -> Result<(), WriteFault>
     requires { first ≤ 4194272 }
-    ensures { Passes (W.contents sink.old) (W.contents sink.new) (W.faults sink.old) (W.faults sink.new) out.old out.new (flat_map content (states_from table.now first 32)) result }
+    ensures { Passes (W.stream sink.old) (W.stream sink.new) out.old out.new (flat_map content (states_from table.now first 32)) result }
 {
     for place in 0..32 {
         write_content(out, sink, table.state(first + place))?;
@@ -95,7 +95,7 @@ fn write_packet<W: Sink>(
     packet: u32,
 ) -> Result<(), WriteFault>
     requires { packet ≤ 131071 }
-    ensures { Passes (W.contents sink.old) (W.contents sink.new) (W.faults sink.old) (W.faults sink.new) out.old out.new (packet_bytes (packet, states_from table.now (32 * packet) 32)) result }
+    ensures { Passes (W.stream sink.old) (W.stream sink.new) out.old out.new (packet_bytes (packet, states_from table.now (32 * packet) 32)) result }
 {
     let first = 32 * packet;
     let masks = masks_of(table, first);
@@ -127,7 +127,7 @@ fn write_packets<W: Sink>(
     sink: &mut W,
     table: &BlockTable,
 ) -> Result<(), WriteFault>
-    ensures { Passes (W.contents sink.old) (W.contents sink.new) (W.faults sink.old) (W.faults sink.new) out.old out.new (table_bytes table.now) result }
+    ensures { Passes (W.stream sink.old) (W.stream sink.new) out.old out.new (table_bytes table.now) result }
 {
     let count = count_packets(table);
     write_header(out, sink, b"UDFTABL2", count)?;
@@ -148,7 +148,7 @@ fn write_packets<W: Sink>(
 ///
 /// `WriteFault` exactly where the sink failed. Then a beginning of the file is out.
 pub fn write_table<W: Sink>(table: &BlockTable, sink: &mut W) -> Result<(), WriteFault>
-    ensures { Writes (W.contents sink.old) (W.contents sink.new) (W.faults sink.old) (W.faults sink.new) (table_bytes table.now) result }
+    ensures { Writes (W.stream sink.old) (W.stream sink.new) (table_bytes table.now) result }
 {
     let mut out = Outgoing::new();
     write_packets(&mut out, sink, table)?;

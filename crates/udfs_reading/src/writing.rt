@@ -26,7 +26,7 @@ pub struct WriteFault;
 ///
 /// `WriteFault` exactly where the sink failed. Then a beginning of the bytes is out.
 pub fn write_all<W: Sink>(sink: &mut W, bytes: &[u8]) -> Result<(), WriteFault>
-    ensures { Writes (W.contents sink.old) (W.contents sink.new) (W.faults sink.old) (W.faults sink.new) bytes.now result }
+    ensures { Writes (W.stream sink.old) (W.stream sink.new) bytes.now result }
 {
     let mut at = 0;
     while at < bytes.len() {
@@ -72,7 +72,7 @@ impl Outgoing {
     ///
     /// `WriteFault` exactly where the sink failed. Then a beginning of the bytes is out.
     pub fn flush<W: Sink>(&mut self, sink: &mut W) -> Result<(), WriteFault>
-        ensures written { Writes (W.contents sink.old) (W.contents sink.new) (W.faults sink.old) (W.faults sink.new) self.old result }
+        ensures written { Writes (W.stream sink.old) (W.stream sink.new) self.old result }
         ensures empty { OnOk result (self.new ≡ []) }
     {
         write_all(sink, &self.bytes[..self.len])?;
@@ -97,7 +97,7 @@ impl Outgoing {
     /// `WriteFault` exactly where the sink failed. Then a beginning of what is held is out, and these bytes are not taken.
     pub fn push<W: Sink>(&mut self, sink: &mut W, bytes: &[u8]) -> Result<(), WriteFault>
         requires { length bytes.now ≤ 2048 }
-        ensures { Passes (W.contents sink.old) (W.contents sink.new) (W.faults sink.old) (W.faults sink.new) self.old self.new bytes.now result }
+        ensures { Passes (W.stream sink.old) (W.stream sink.new) self.old self.new bytes.now result }
     {
         if bytes.len() > PIECE - self.len {
             self.flush(sink)?;
@@ -108,7 +108,7 @@ impl Outgoing {
 }
 
 pub fn write_number<W: Sink>(out: &mut Outgoing, sink: &mut W, n: u32) -> Result<(), WriteFault>
-    ensures { Passes (W.contents sink.old) (W.contents sink.new) (W.faults sink.old) (W.faults sink.new) out.old out.new (number n) result }
+    ensures { Passes (W.stream sink.old) (W.stream sink.new) out.old out.new (number n) result }
 {
     let mut bytes = [0; 4];
     LittleEndian::write_u32(&mut bytes, n);
@@ -121,7 +121,7 @@ fn write_state<W: Sink>(
     sink: &mut W,
     fact: Fact<&[u8; 2048]>,
 ) -> Result<(), WriteFault>
-    ensures { Passes (W.contents sink.old) (W.contents sink.new) (W.faults sink.old) (W.faults sink.new) out.old out.new (state_bytes (fact_now fact.entry)) result }
+    ensures { Passes (W.stream sink.old) (W.stream sink.new) out.old out.new (state_bytes (fact_now fact.entry)) result }
 {
     match fact {
         Fact::Unknown => Ok(()),
@@ -144,7 +144,7 @@ pub fn write_header<W: Sink>(
     magic: &[u8; 8],
     count: u32,
 ) -> Result<(), WriteFault>
-    ensures { Passes (W.contents sink.old) (W.contents sink.new) (W.faults sink.old) (W.faults sink.new) out.old out.new (header magic.now count) result }
+    ensures { Passes (W.stream sink.old) (W.stream sink.new) out.old out.new (header magic.now count) result }
 {
     out.push(sink, magic)?;
     write_number(out, sink, 2048)?;
@@ -158,7 +158,7 @@ fn write_entry<W: Sink>(
     block: u32,
     fact: Fact<&[u8; 2048]>,
 ) -> Result<(), WriteFault>
-    ensures { Passes (W.contents sink.old) (W.contents sink.new) (W.faults sink.old) (W.faults sink.new) out.old out.new (number block ++ state_bytes (fact_now fact.entry)) result }
+    ensures { Passes (W.stream sink.old) (W.stream sink.new) out.old out.new (number block ++ state_bytes (fact_now fact.entry)) result }
 {
     write_number(out, sink, block)?;
     write_state(out, sink, fact)?;
@@ -177,7 +177,7 @@ fn write_entries<W: Sink>(
     sink: &mut W,
     table: &BlockTable,
 ) -> Result<(), WriteFault>
-    ensures { Passes (W.contents sink.old) (W.contents sink.new) (W.faults sink.old) (W.faults sink.new) out.old out.new (table_bytes_v1 table.now) result }
+    ensures { Passes (W.stream sink.old) (W.stream sink.new) out.old out.new (table_bytes_v1 table.now) result }
 {
     let count = count_entries(table);
     write_header(out, sink, b"UDFTABL1", count)?;
@@ -194,7 +194,7 @@ fn write_entries<W: Sink>(
 ///
 /// `WriteFault` exactly where the sink failed. Then a beginning of the file is out.
 pub fn write_table_v1<W: Sink>(table: &BlockTable, sink: &mut W) -> Result<(), WriteFault>
-    ensures { Writes (W.contents sink.old) (W.contents sink.new) (W.faults sink.old) (W.faults sink.new) (table_bytes_v1 table.now) result }
+    ensures { Writes (W.stream sink.old) (W.stream sink.new) (table_bytes_v1 table.now) result }
 {
     let mut out = Outgoing::new();
     write_entries(&mut out, sink, table)?;

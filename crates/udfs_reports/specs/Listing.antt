@@ -10,14 +10,15 @@ use Rattle.udfs_reading.specs.Writing.{Wrote}
 use Rattle.udfs_volume.specs.declared.profiles.Profile.{Profile}
 use Rattle.udfs_salvage.specs.Reports.{Report, IsReportBy, all_whole}
 use Rattle.udfs_words.specs.Asking.{IsPicked}
+use Rattle.udfs_reading.specs.Device.{Stream}
 
 -- each of the three flags by its word
 abbrev pub IsListForm : Found → ListForm → Type 0
 IsListForm words form = IsPicked words (codes "torn") true false form.torn × IsPicked words (codes "null") true false form.null × IsPicked words (codes "paths") true false form.paths
 
 -- the lines of the nodes of the table's report by the rules of a profile were printed, and the answer is whether there are nodes and all are whole
-pub record PrintsList (profile : Profile) (form : ListForm) (last : ℕ) (old new : Option (List ℕ)) (i j : ℕ) (whole : Bool) (table : Table) : Type 0 where
+pub record PrintsList (profile : Profile) (form : ListForm) (last : ℕ) (old new : Stream) (whole : Bool) (table : Table) : Type 0 where
   pub report : Report
   pub is_report : IsReportBy profile (state_of table) last report
-  pub prints : Wrote old new i j (list_text form report.nodes)
+  pub prints : Wrote old new (list_text form report.nodes)
   pub says : whole ≡ all_whole report.nodes

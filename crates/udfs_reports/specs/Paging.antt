@@ -2,6 +2,7 @@
 --     page_path words       where the page is to be put: `-` is standard output
 --     PutsPage              the page of the table's report was put
 --     WritesPage            the same, as the words of the command ask for
+--     PageAsked             something holds of the page that the words ask for
 --     MayPageAsked          what a crash in the middle shows: what was there, or the page in its place
 --     IsFreePage            a page takes the place of no file but a page, and of none of the inputs
 --     ReplacesPage          the page replaces what is at its path, whole or not at all, and nothing else, whatever is answered
@@ -52,10 +53,13 @@ MayPage profile last path table d c = Same d c ⊎ IsPage profile last (λ bytes
 abbrev pub MayPageOf : {R : Type 0} → (List ℕ → Option (Option (List ℕ))) → (R → Option (List ℕ)) → List InputPath → Profile → ℕ → List ℕ → Disk → Disk → Type 0
 MayPageOf found remaining inputs profile last path d c = Same d c ⊎ OfPaths found remaining inputs (IsPage profile last (λ bytes. Replaced path bytes d c))
 
--- the same as the words ask for
+-- this holds of the page of what the words ask for
+abbrev pub PageAsked : {R : Type 0} → (List ℕ → Option (Option (List ℕ))) → (R → Option (List ℕ)) → Found → (List ℕ → Type 0) → Type 0
+PageAsked found remaining words Holds = (profile : Profile) × (last : ℕ) × (inputs : List InputPath) × IsProfile words profile × IsLast found inputs words last × (map asked_for inputs ≡ asked_streams words) × OfPaths found remaining inputs (IsPage profile last Holds)
+
+-- the disk is as it was, or that page is in the place of what was at its path
 abbrev pub MayPageAsked : {R : Type 0} → (List ℕ → Option (Option (List ℕ))) → (R → Option (List ℕ)) → (List ℕ → List ℕ) → Found → Disk → Disk → Type 0
-MayPageAsked found remaining real words d c = Same d c ⊎ ((profile : Profile) × (last : ℕ) × (inputs : List InputPath) × IsProfile words profile × IsLast found inputs words last × (map asked_for inputs ≡ asked_streams words) ×
-    OfPaths found remaining inputs (IsPage profile last (λ bytes. Replaced (real (page_path words)) bytes d c)))
+MayPageAsked found remaining real words d c = Same d c ⊎ PageAsked found remaining words (λ bytes. Replaced (real (page_path words)) bytes d c)
 
 -- `files` are the inputs that are files, and `parts` the images and mapfiles among the inputs
 pub record IsFreePage (holds : List ℕ → Option (Option (List ℕ))) (real : List ℕ → List ℕ) (in_place : List ℕ → Type 0) (files parts : List (List ℕ)) (out : List ℕ) : Type 0 where

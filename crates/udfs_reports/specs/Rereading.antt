@@ -3,6 +3,7 @@
 --     PrintsDomain        the mapfile was put, and their count and that of their runs were printed
 --     WritesDomain        the same, as the words of the command ask for
 --     MayDomain           what a crash in the middle shows: what was there, or the mapfile in its place
+--     DomainAsked         something holds of the mapfile that the words ask for
 --     MayDomainAsked      the same, as the words of the command ask for
 --     RereadSpares        what `reread` leaves as it was, whatever it answers
 use Rattle.std.specs.Prelude.{◌≡◌, ◌⊎◌, ℕ, ◌+◌, ◌++◌, ◌==◌, Bool, List, [], ◌∷◌, Option, codes, decimal, length, map, if◌then◌else◌, ◌≢◌, false}
@@ -18,12 +19,13 @@ use Rattle.udfs_salvage.specs.Texts.{line}
 use Rattle.udfs_words.specs.Asking.{IsLast, IsProfile, asked_for, asked_inputs, is_mapped, mapfile_text}
 use Rattle.udfs_common.specs.Keeping.{OfPaths}
 use Rattle.udfs_words.specs.declared.input_path.InputPath.{InputPath}
+use Rattle.udfs_reading.specs.Device.{Stream}
 
 -- the numbers of the table's report by the rules of a profile were printed, and the answer is whether there are nodes and all are whole
-pub record PrintsNumbers (profile : Profile) (last : ℕ) (old new : Option (List ℕ)) (i j : ℕ) (whole : Bool) (table : Table) : Type 0 where
+pub record PrintsNumbers (profile : Profile) (last : ℕ) (old new : Stream) (whole : Bool) (table : Table) : Type 0 where
   pub report : Report
   pub is_report : IsReportBy profile (state_of table) last report
-  pub prints : Wrote old new i j (number_lines report.reread)
+  pub prints : Wrote old new (number_lines report.reread)
   pub says : whole ≡ all_whole report.nodes
 
 -- how many of these blocks do not follow on the one before them, the first of which is block n
@@ -41,22 +43,22 @@ abbrev pub domain_line : List ℕ → List ℕ
 domain_line blocks = line (decimal (length blocks) ++ codes " blocks in " ++ decimal (runs_in blocks) ++ codes " runs")
 
 -- the mapfile in which the blocks of the table's report by the rules of a profile that are to be read again are wanted was put, and the answer is whether there are nodes and all are whole
-pub record PrintsDomain (profile : Profile) (last : ℕ) (Put : List ℕ → Type 0) (old new : Option (List ℕ)) (i j : ℕ) (whole : Bool) (table : Table) : Type 0 where
+pub record PrintsDomain (profile : Profile) (last : ℕ) (Put : List ℕ → Type 0) (old new : Stream) (whole : Bool) (table : Table) : Type 0 where
   pub report : Report
   pub is_report : IsReportBy profile (state_of table) last report
   pub put : Put (domain_text report.reread last)
-  pub prints : Wrote old new i j (domain_line report.reread)
+  pub prints : Wrote old new (domain_line report.reread)
   pub says : whole ≡ all_whole report.nodes
 
 -- of the inputs, the last block and the rules that the words ask for
-pub record WritesDomain {R : Type 0} (found : List ℕ → Option (Option (List ℕ))) (remaining : R → Option (List ℕ)) (words : Found) (Put : List ℕ → Type 0) (old new : Option (List ℕ)) (i j : ℕ) (whole : Bool) : Type 0 where
+pub record WritesDomain {R : Type 0} (found : List ℕ → Option (Option (List ℕ))) (remaining : R → Option (List ℕ)) (words : Found) (Put : List ℕ → Type 0) (old new : Stream) (whole : Bool) : Type 0 where
   pub last : ℕ
   pub profile : Profile
   pub inputs : List InputPath
   pub is_last : IsLast found inputs words last
   pub is_profile : IsProfile words profile
   pub asked : map asked_for inputs ≡ asked_inputs words
-  pub prints : OfPaths found remaining inputs (PrintsDomain profile last Put old new i j whole)
+  pub prints : OfPaths found remaining inputs (PrintsDomain profile last Put old new whole)
 
 -- this holds of the mapfile in which the blocks of the table's report that are to be read again are wanted
 abbrev pub IsDomain : Profile → ℕ → (List ℕ → Type 0) → Table → Type 0
@@ -70,10 +72,13 @@ MayDomain profile last path table d c = Same d c ⊎ IsDomain profile last (λ b
 abbrev pub MayDomainOf : {R : Type 0} → (List ℕ → Option (Option (List ℕ))) → (R → Option (List ℕ)) → List InputPath → Profile → ℕ → List ℕ → Disk → Disk → Type 0
 MayDomainOf found remaining inputs profile last path d c = Same d c ⊎ OfPaths found remaining inputs (IsDomain profile last (λ bytes. Replaced path bytes d c))
 
--- the mapfile of what the words ask for is in the place of what was at its path, or not yet
+-- this holds of the mapfile of what the words ask for
+abbrev pub DomainAsked : {R : Type 0} → (List ℕ → Option (Option (List ℕ))) → (R → Option (List ℕ)) → Found → (List ℕ → Type 0) → Type 0
+DomainAsked found remaining words Holds = (profile : Profile) × (last : ℕ) × (inputs : List InputPath) × IsProfile words profile × IsLast found inputs words last × (map asked_for inputs ≡ asked_inputs words) × OfPaths found remaining inputs (IsDomain profile last Holds)
+
+-- that mapfile is in the place of what was at its path, or not yet
 abbrev pub MayDomainAsked : {R : Type 0} → (List ℕ → Option (Option (List ℕ))) → (R → Option (List ℕ)) → (List ℕ → List ℕ) → Found → Disk → Disk → Type 0
-MayDomainAsked found remaining real words d c = Same d c ⊎ ((profile : Profile) × (last : ℕ) × (inputs : List InputPath) × IsProfile words profile × IsLast found inputs words last × (map asked_for inputs ≡ asked_inputs words) ×
-    OfPaths found remaining inputs (IsDomain profile last (λ bytes. Replaced (real (mapfile_text words)) bytes d c)))
+MayDomainAsked found remaining real words d c = Same d c ⊎ DomainAsked found remaining words (λ bytes. Replaced (real (mapfile_text words)) bytes d c)
 
 -- the numbers change no file; a mapfile that is written changes no other path, but those of new files that are to go in its place, and a crash at any moment leaves what this step
 -- makes of what it might have left before, unless it is a device or a pipe

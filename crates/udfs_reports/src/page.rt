@@ -1,9 +1,9 @@
 //! The command `page`: readings in, the page of their volume out.
 
-ghost use Rattle.std.specs.Prelude.{◌≡◌, ◌≢◌, ◌⊎◌, ℕ, List, true, IfOk, map};
-ghost use Rattle.udfs_files.specs.Disk.{After, Disk, IsOwn};
-ghost use Rattle.udfs_common.specs.Keeping.{IsKept, IsTaken, OfPaths};
-ghost use Rattle.udfs_reports.specs.Paging.{IsFreePage, MayPage, MayPageOf, PutsPage};
+ghost use Rattle.std.specs.Prelude.{◌≡◌, ◌≢◌, ◌⊎◌, ℕ, List, true, IfOk, OnErr, map};
+ghost use Rattle.udfs_files.specs.Disk.{After, Disk, Fails, SinkFails, IsOwn};
+ghost use Rattle.udfs_common.specs.Keeping.{IsKept, IsTaken, OfPaths, RefusedOut};
+ghost use Rattle.udfs_reports.specs.Paging.{IsFreePage, IsPage, MayPage, MayPageOf, PutsPage};
 ghost use Rattle.udfs_common.specs.declared.sources.AnySource.{AnySource};
 
 use std::alloc::{AllocError, Global};
@@ -80,11 +80,14 @@ fn page_of<F: Files>(
     path: &str,
     files: &mut F,
 ) -> Result<bool, Refusal>
-    ensures written { IfOk result (λ whole. PutsPage profile last (λ bytes. (F.tells → IsKept (F.holds files.new) (F.may_leave files.new) (F.real files.old path.now) bytes) ⊎ (F.in_place files.old path.now × IsTaken F.Output.contents bytes)) whole table.now) }
+    ensures written { IfOk result (λ whole. PutsPage profile last (λ bytes. (F.tells → IsKept (F.holds files.new) (F.may_leave files.new) (F.real files.old path.now) bytes) ⊎ (F.in_place files.old path.now × IsTaken F.Output.stream bytes)) whole table.now) }
     // A crash at any moment of the call leaves all as it was, or with the page in its place, whole.
     ensures any_moment { F.tells → (F.in_place files.old path.now → ⊥) → (c : Disk) → F.left_since files.new (F.moment files.old) c → After (F.may_leave files.old) (MayPage profile last (F.real files.old path.now) table.now) c }
     // No other path changes, but for those of new files that are to go in its place.
     ensures elsewhere { F.tells → (F.in_place files.old path.now → ⊥) → (q : List ℕ) → q ≢ F.real files.old path.now → (¬ IsOwn (F.real files.old path.now) q) → F.holds files.new q ≡ F.holds files.old q }
+    // A refusal leaves all as it was; or a call failed, and then the path holds what it held or the new file, whole.
+    ensures left { OnErr result (RefusedOut F.tells F.holds F.real F.in_place (F.shut files.old path.now ⊎ Fails F.faults ⊎ SinkFails F.Output.stream) path.now files.old files.new
+        (λ Put. IsPage profile last Put table.now)) }
 {
     files.begin(Stage::Walking);
     let survey = survey_volume_by(alloc, table, last, profile)?;
@@ -93,8 +96,10 @@ fn page_of<F: Files>(
     let page = PageText {
         text: text.as_str(),
     };
-    put_file(alloc, &page, path, files)?;
-    Ok(survey.all_whole())
+    match put_file(alloc, &page, path, files) {
+        Ok(()) => Ok(survey.all_whole()),
+        Err(refusal) => Err(refusal),
+    }
 }
 
 /// Joins the inputs, and puts the page of the volume by the rules of a profile, where `last` is its last block, at a path, whole or not at all. It answers whether there are files and
@@ -108,11 +113,14 @@ pub fn page<F: Files>(
     files: &mut F,
 ) -> Result<bool, Refusal>
     ensures written { IfOk result (λ whole. OfPaths (λ path. F.holds files.old (F.real files.old path)) (⟦<AnySource<F::Input, F::Image> as Source>⟧.remaining) inputs.now
-        (PutsPage profile last (λ bytes. (F.tells → IsKept (F.holds files.new) (F.may_leave files.new) (F.real files.old path.now) bytes) ⊎ (F.in_place files.old path.now × IsTaken F.Output.contents bytes)) whole)) }
+        (PutsPage profile last (λ bytes. (F.tells → IsKept (F.holds files.new) (F.may_leave files.new) (F.real files.old path.now) bytes) ⊎ (F.in_place files.old path.now × IsTaken F.Output.stream bytes)) whole)) }
     // A crash at any moment of the call leaves all as it was, or with the page in its place, whole.
     ensures any_moment { F.tells → (F.in_place files.old path.now → ⊥) → (c : Disk) → F.left_since files.new (F.moment files.old) c → After (F.may_leave files.old) (MayPageOf (λ path. F.holds files.old (F.real files.old path)) (⟦<AnySource<F::Input, F::Image> as Source>⟧.remaining) inputs.now profile last (F.real files.old path.now)) c }
     // No other path changes, but for those of new files that are to go in its place.
     ensures elsewhere { F.tells → (F.in_place files.old path.now → ⊥) → (q : List ℕ) → q ≢ F.real files.old path.now → (¬ IsOwn (F.real files.old path.now) q) → F.holds files.new q ≡ F.holds files.old q }
+    // A refusal leaves all as it was; or a call failed, and then the path holds what it held or the new file, whole.
+    ensures left { OnErr result (RefusedOut F.tells F.holds F.real F.in_place (F.shut files.old path.now ⊎ Fails F.faults ⊎ SinkFails F.Output.stream) path.now files.old files.new
+        (λ Put. OfPaths (λ path. F.holds files.old (F.real files.old path)) (⟦<AnySource<F::Input, F::Image> as Source>⟧.remaining) inputs.now (IsPage profile last Put))) }
 {
     let table = match joined(alloc, inputs, files) {
         Ok(table) => table,

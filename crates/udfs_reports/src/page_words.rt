@@ -1,11 +1,11 @@
 //! What the words after `page` ask for.
 
-ghost use Rattle.std.specs.Prelude.{◌≡◌, ◌≢◌, ◌⊎◌, ℕ, List, IfOk, OnOk, map};
+ghost use Rattle.std.specs.Prelude.{◌≡◌, ◌≢◌, ◌⊎◌, ℕ, List, IfOk, OnErr, OnOk, map};
 ghost use Rattle.clap.specs.Matches.{found_of};
-ghost use Rattle.udfs_files.specs.Disk.{After, Disk, IsOwn};
+ghost use Rattle.udfs_files.specs.Disk.{After, Disk, Fails, SinkFails, IsOwn};
 ghost use Rattle.udfs_words.specs.Asking.{input_texts, pair_texts};
-ghost use Rattle.udfs_common.specs.Keeping.{IsKept, IsTaken};
-ghost use Rattle.udfs_reports.specs.Paging.{IsFreePage, MayPageAsked, WritesPage, page_path};
+ghost use Rattle.udfs_common.specs.Keeping.{IsKept, IsTaken, RefusedOut};
+ghost use Rattle.udfs_reports.specs.Paging.{IsFreePage, MayPageAsked, PageAsked, WritesPage, page_path};
 ghost use Rattle.udfs_common.specs.declared.sources.AnySource.{AnySource};
 
 use crate::page::{look_at_page, page};
@@ -51,7 +51,7 @@ pub fn page_words<F: Files>(
     files: &mut F,
 ) -> Result<bool, Refusal>
     ensures written { IfOk result (λ whole. WritesPage (λ path. F.holds files.old (F.real files.old path)) (⟦<AnySource<F::Input, F::Image> as Source>⟧.remaining) (found_of words.now)
-        (λ bytes. (F.tells → IsKept (F.holds files.new) (F.may_leave files.new) (F.real files.old (page_path (found_of words.now))) bytes) ⊎ (F.in_place files.old (page_path (found_of words.now)) × IsTaken F.Output.contents bytes)) whole) }
+        (λ bytes. (F.tells → IsKept (F.holds files.new) (F.may_leave files.new) (F.real files.old (page_path (found_of words.now))) bytes) ⊎ (F.in_place files.old (page_path (found_of words.now)) × IsTaken F.Output.stream bytes)) whole) }
     // It takes the place of no file but a page, and never that of an input.
     ensures free { OnOk result (F.tells → IsFreePage (F.holds files.old) (F.real files.old) (F.in_place files.old) (input_texts (found_of words.now)) (pair_texts (found_of words.now)) (page_path (found_of words.now))) }
     // A crash at any moment of the call leaves all as it was, or with the page in its place, whole.
@@ -59,6 +59,9 @@ pub fn page_words<F: Files>(
         After (F.may_leave files.old) (MayPageAsked (λ path. F.holds files.old (F.real files.old path)) (⟦<AnySource<F::Input, F::Image> as Source>⟧.remaining) (F.real files.old) (found_of words.now)) c }
     // No other path changes, but for those of new files that are to go in its place.
     ensures elsewhere { F.tells → (F.in_place files.old (page_path (found_of words.now)) → ⊥) → (q : List ℕ) → q ≢ F.real files.old (page_path (found_of words.now)) → (¬ IsOwn (F.real files.old (page_path (found_of words.now))) q) → F.holds files.new q ≡ F.holds files.old q }
+    // A refusal leaves all as it was; or a call failed, and then the path holds what it held or the new file, whole.
+    ensures left { OnErr result (RefusedOut F.tells F.holds F.real F.in_place (F.shut files.old (page_path (found_of words.now)) ⊎ Fails F.faults ⊎ SinkFails F.Output.stream) (page_path (found_of words.now)) files.old files.new
+        (PageAsked (λ path. F.holds files.old (F.real files.old path)) (⟦<AnySource<F::Input, F::Image> as Source>⟧.remaining) (found_of words.now))) }
 {
     let inputs = asked_streams(alloc, words)?;
     let paths = inputs.as_slice();

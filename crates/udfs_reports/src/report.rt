@@ -27,7 +27,7 @@ fn write_as<O: Sink>(
     form: Form,
     out: &mut O,
 ) -> Result<(), RunError>
-    ensures { Prints (O.contents out.old) (O.contents out.new) (O.faults out.old) (O.faults out.new)
+    ensures { Prints (O.stream out.old) (O.stream out.new)
         (form_text form survey.now.profile survey.now.table.now survey.now.last (survey_now survey.now)) result }
 {
     match form {
@@ -49,7 +49,7 @@ pub fn report_as<F: Files, O: Sink>(
     out: &mut O,
 ) -> Result<bool, Refusal>
     ensures printed { IfOk result (λ whole. OfPaths (λ path. F.holds files.now (F.real files.now path)) (⟦<AnySource<F::Input, F::Image> as Source>⟧.remaining) inputs.now
-        (PrintsAs profile form last (O.contents out.old) (O.contents out.new) (O.faults out.old) (O.faults out.new) whole)) }
+        (PrintsAs profile form last (O.stream out.old) (O.stream out.new) whole)) }
 {
     let table = joined(alloc, inputs, files)?;
     files.begin(Stage::Walking);

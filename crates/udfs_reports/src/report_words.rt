@@ -35,7 +35,7 @@ pub fn report_words<F: Files, O: Sink>(
 ) -> Result<bool, Refusal>
     ensures printed { IfOk result (λ whole. (form : Form) × (last : ℕ) × (profile : Profile) × (inputs : List InputPath) × (map asked_for inputs ≡ asked_inputs (found_of words.now)) ×
         IsPicked (found_of words.now) (codes "json") Form.Json Form.Text form × IsLast (λ path. F.holds files.now (F.real files.now path)) inputs (found_of words.now) last × IsProfile (found_of words.now) profile ×
-        OfPaths (λ path. F.holds files.now (F.real files.now path)) (⟦<AnySource<F::Input, F::Image> as Source>⟧.remaining) inputs (PrintsAs profile form last (O.contents out.old) (O.contents out.new) (O.faults out.old) (O.faults out.new) whole)) }
+        OfPaths (λ path. F.holds files.now (F.real files.now path)) (⟦<AnySource<F::Input, F::Image> as Source>⟧.remaining) inputs (PrintsAs profile form last (O.stream out.old) (O.stream out.new) whole)) }
 {
     let inputs = asked_inputs(alloc, words)?;
     let paths = inputs.as_slice();
@@ -57,7 +57,7 @@ pub fn list_words<F: Files, O: Sink>(
 ) -> Result<bool, Refusal>
     ensures printed { IfOk result (λ whole. (form : ListForm) × (last : ℕ) × (profile : Profile) × (inputs : List InputPath) × (map asked_for inputs ≡ asked_streams (found_of words.now)) ×
         IsListForm (found_of words.now) form × IsLast (λ path. F.holds files.now (F.real files.now path)) inputs (found_of words.now) last × IsProfile (found_of words.now) profile × OfPaths (λ path. F.holds files.now (F.real files.now path)) (⟦<AnySource<F::Input, F::Image> as Source>⟧.remaining) inputs
-        (PrintsList profile form last (O.contents out.old) (O.contents out.new) (O.faults out.old) (O.faults out.new) whole)) }
+        (PrintsList profile form last (O.stream out.old) (O.stream out.new) whole)) }
 {
     let inputs = asked_streams(alloc, words)?;
     let paths = inputs.as_slice();
@@ -79,7 +79,7 @@ pub fn summary_words<F: Files, O: Sink>(
 ) -> Result<bool, Refusal>
     ensures printed { IfOk result (λ whole. (last : ℕ) × (profile : Profile) × (inputs : List InputPath) × (map asked_for inputs ≡ asked_streams (found_of words.now)) ×
         IsLast (λ path. F.holds files.now (F.real files.now path)) inputs (found_of words.now) last × IsProfile (found_of words.now) profile × OfPaths (λ path. F.holds files.now (F.real files.now path)) (⟦<AnySource<F::Input, F::Image> as Source>⟧.remaining) inputs
-        (PrintsSummary profile last (O.contents out.old) (O.contents out.new) (O.faults out.old) (O.faults out.new) whole)) }
+        (PrintsSummary profile last (O.stream out.old) (O.stream out.new) whole)) }
 {
     let inputs = asked_streams(alloc, words)?;
     let paths = inputs.as_slice();

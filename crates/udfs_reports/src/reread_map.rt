@@ -1,12 +1,12 @@
 //! The command `reread --mapfile`: readings in, the blocks to read again as a mapfile for GNU ddrescue.
 
-ghost use Rattle.std.specs.Prelude.{◌≡◌, ◌≢◌, ◌⊎◌, ◌≤◌, ℕ, List, IfOk, OnOk, length};
-ghost use Rattle.udfs_files.specs.Disk.{After, Disk, IsOwn, Replaced};
+ghost use Rattle.std.specs.Prelude.{◌≡◌, ◌≢◌, ◌⊎◌, ◌≤◌, ℕ, List, IfOk, OnErr, OnOk, length};
+ghost use Rattle.udfs_files.specs.Disk.{After, Disk, Fails, SinkFails, IsOwn, Replaced};
 ghost use Rattle.std.specs.List.Sorted.{IsNonDecreasing};
 ghost use Rattle.udfs_reading.specs.Writing.{Wrote};
 ghost use Rattle.udfs_rescue.specs.Writing.{domain_text};
-ghost use Rattle.udfs_common.specs.Keeping.{IsKept, IsTaken, OfPaths};
-ghost use Rattle.udfs_reports.specs.Rereading.{MayDomain, MayDomainOf, PrintsDomain, breaks, domain_line, runs_in};
+ghost use Rattle.udfs_common.specs.Keeping.{IsKept, IsTaken, OfPaths, RefusedOut};
+ghost use Rattle.udfs_reports.specs.Rereading.{IsDomain, MayDomain, MayDomainOf, PrintsDomain, breaks, domain_line, runs_in};
 ghost use Rattle.udfs_common.specs.declared.sources.AnySource.{AnySource};
 
 use std::alloc::Global;
@@ -69,7 +69,7 @@ fn count_runs(blocks: &[u32]) -> usize
 
 /// Prints how many blocks and runs there are.
 fn print_counts<O: Sink>(alloc: Global, blocks: &[u32], out: &mut O) -> Result<(), Refusal>
-    ensures { OnOk result (Wrote (O.contents out.old) (O.contents out.new) (O.faults out.old) (O.faults out.new) (domain_line blocks.now)) }
+    ensures { OnOk result (Wrote (O.stream out.old) (O.stream out.new) (domain_line blocks.now)) }
 {
     let mut text = String::new(alloc);
     let count = blocks.len();
@@ -81,7 +81,7 @@ fn print_counts<O: Sink>(alloc: Global, blocks: &[u32], out: &mut O) -> Result<(
     }
 }
 
-/// Puts the mapfile in which these blocks are wanted at a path, and prints how many they are.
+/// Prints how many blocks are wanted, and then puts their mapfile at a path: where it cannot be told, nothing is put.
 fn put_domain<F: Files, O: Sink>(
     alloc: Global,
     wanted: &[u32],
@@ -93,19 +93,22 @@ fn put_domain<F: Files, O: Sink>(
     requires rises { IsNonDecreasing wanted.now }
     requires in_range { last ≤ 4194303 }
     ensures written { OnOk result ((F.tells → IsKept (F.holds files.new) (F.may_leave files.new) (F.real files.old path.now) (domain_text wanted.now last))
-        ⊎ (F.in_place files.old path.now × IsTaken F.Output.contents (domain_text wanted.now last))) }
-    ensures printed { OnOk result (Wrote (O.contents out.old) (O.contents out.new) (O.faults out.old) (O.faults out.new) (domain_line wanted.now)) }
+        ⊎ (F.in_place files.old path.now × IsTaken F.Output.stream (domain_text wanted.now last))) }
+    ensures printed { OnOk result (Wrote (O.stream out.old) (O.stream out.new) (domain_line wanted.now)) }
     // A crash at any moment of the call leaves all as it was, or with the mapfile in its place, whole.
     ensures any_moment { F.tells → (F.in_place files.old path.now → ⊥) → (c : Disk) → F.left_since files.new (F.moment files.old) c → After (F.may_leave files.old) (Replaced (F.real files.old path.now) (domain_text wanted.now last)) c }
     // No other path changes, but for those of new files that are to go in its place.
     ensures elsewhere { F.tells → (F.in_place files.old path.now → ⊥) → (q : List ℕ) → q ≢ F.real files.old path.now → (¬ IsOwn (F.real files.old path.now) q) → F.holds files.new q ≡ F.holds files.old q }
+    // A refusal leaves all as it was; or a call failed, and then the path holds what it held or the new file, whole.
+    ensures left { OnErr result (RefusedOut F.tells F.holds F.real F.in_place (F.shut files.old path.now ⊎ Fails F.faults ⊎ SinkFails F.Output.stream) path.now files.old files.new
+        (λ Put. Put (domain_text wanted.now last))) }
 {
-    let domain = Domain { wanted, last };
-    match put_file(alloc, &domain, path, files) {
+    match print_counts(alloc, wanted, out) {
         Ok(()) => {}
         Err(refusal) => return Err(refusal),
     }
-    match print_counts(alloc, wanted, out) {
+    let domain = Domain { wanted, last };
+    match put_file(alloc, &domain, path, files) {
         Ok(()) => Ok(()),
         Err(refusal) => Err(refusal),
     }
@@ -122,22 +125,28 @@ fn map_of<F: Files, O: Sink>(
     files: &mut F,
     out: &mut O,
 ) -> Result<bool, Refusal>
-    ensures printed { IfOk result (λ whole. PrintsDomain profile last (λ bytes. (F.tells → IsKept (F.holds files.new) (F.may_leave files.new) (F.real files.old path.now) bytes) ⊎ (F.in_place files.old path.now × IsTaken F.Output.contents bytes))
-        (O.contents out.old) (O.contents out.new) (O.faults out.old) (O.faults out.new) whole table.now) }
+    ensures printed { IfOk result (λ whole. PrintsDomain profile last (λ bytes. (F.tells → IsKept (F.holds files.new) (F.may_leave files.new) (F.real files.old path.now) bytes) ⊎ (F.in_place files.old path.now × IsTaken F.Output.stream bytes))
+        (O.stream out.old) (O.stream out.new) whole table.now) }
     // A crash at any moment of the call leaves all as it was, or with the mapfile in its place, whole.
     ensures any_moment { F.tells → (F.in_place files.old path.now → ⊥) → (c : Disk) → F.left_since files.new (F.moment files.old) c → After (F.may_leave files.old) (MayDomain profile last (F.real files.old path.now) table.now) c }
     // No other path changes, but for those of new files that are to go in its place.
     ensures elsewhere { F.tells → (F.in_place files.old path.now → ⊥) → (q : List ℕ) → q ≢ F.real files.old path.now → (¬ IsOwn (F.real files.old path.now) q) → F.holds files.new q ≡ F.holds files.old q }
+    // A refusal leaves all as it was; or a call failed, and then the path holds what it held or the new file, whole.
+    ensures left { OnErr result (RefusedOut F.tells F.holds F.real F.in_place (F.shut files.old path.now ⊎ Fails F.faults ⊎ SinkFails F.Output.stream) path.now files.old files.new
+        (λ Put. IsDomain profile last Put table.now)) }
 {
     files.begin(Stage::Walking);
     let survey = survey_volume_by(alloc, table, last, profile)?;
-    put_domain(alloc, &survey.reread, last, path, files, out)?;
+    match put_domain(alloc, &survey.reread, last, path, files, out) {
+        Ok(()) => {}
+        Err(refusal) => return Err(refusal),
+    }
     remark_unopened(alloc, &survey, files);
     Ok(survey.all_whole())
 }
 
 /// Joins the inputs, puts the mapfile of the blocks of the volume, of which `last` is the last, that are worth reading again by the rules of a profile at a path, whole or not at all,
-/// and prints how many they are. It answers whether there are files and all of them are whole. All inputs are opened in order before one is read, and the
+/// and prints how many they are first. It answers whether there are files and all of them are whole. All inputs are opened in order before one is read, and the
 /// mapfile is begun only after that.
 pub fn reread_map<F: Files, O: Sink>(
     alloc: Global,
@@ -149,12 +158,15 @@ pub fn reread_map<F: Files, O: Sink>(
     out: &mut O,
 ) -> Result<bool, Refusal>
     ensures printed { IfOk result (λ whole. OfPaths (λ path. F.holds files.old (F.real files.old path)) (⟦<AnySource<F::Input, F::Image> as Source>⟧.remaining) inputs.now
-        (PrintsDomain profile last (λ bytes. (F.tells → IsKept (F.holds files.new) (F.may_leave files.new) (F.real files.old path.now) bytes) ⊎ (F.in_place files.old path.now × IsTaken F.Output.contents bytes))
-        (O.contents out.old) (O.contents out.new) (O.faults out.old) (O.faults out.new) whole)) }
+        (PrintsDomain profile last (λ bytes. (F.tells → IsKept (F.holds files.new) (F.may_leave files.new) (F.real files.old path.now) bytes) ⊎ (F.in_place files.old path.now × IsTaken F.Output.stream bytes))
+        (O.stream out.old) (O.stream out.new) whole)) }
     // A crash at any moment of the call leaves all as it was, or with the mapfile in its place, whole.
     ensures any_moment { F.tells → (F.in_place files.old path.now → ⊥) → (c : Disk) → F.left_since files.new (F.moment files.old) c → After (F.may_leave files.old) (MayDomainOf (λ path. F.holds files.old (F.real files.old path)) (⟦<AnySource<F::Input, F::Image> as Source>⟧.remaining) inputs.now profile last (F.real files.old path.now)) c }
     // No other path changes, but for those of new files that are to go in its place.
     ensures elsewhere { F.tells → (F.in_place files.old path.now → ⊥) → (q : List ℕ) → q ≢ F.real files.old path.now → (¬ IsOwn (F.real files.old path.now) q) → F.holds files.new q ≡ F.holds files.old q }
+    // A refusal leaves all as it was; or a call failed, and then the path holds what it held or the new file, whole.
+    ensures left { OnErr result (RefusedOut F.tells F.holds F.real F.in_place (F.shut files.old path.now ⊎ Fails F.faults ⊎ SinkFails F.Output.stream) path.now files.old files.new
+        (λ Put. OfPaths (λ path. F.holds files.old (F.real files.old path)) (⟦<AnySource<F::Input, F::Image> as Source>⟧.remaining) inputs.now (IsDomain profile last Put))) }
 {
     let table = match joined(alloc, inputs, files) {
         Ok(table) => table,

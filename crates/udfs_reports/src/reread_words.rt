@@ -1,15 +1,15 @@
 //! What the words after `reread` ask for.
 
-ghost use Rattle.std.specs.Prelude.{◌≡◌, ◌≢◌, ◌⊎◌, ℕ, List, true, false, IfOk, OnOk, map};
+ghost use Rattle.std.specs.Prelude.{◌≡◌, ◌≢◌, ◌⊎◌, ℕ, List, true, false, IfOk, OnErr, OnOk, map};
 ghost use Rattle.clap.specs.Matches.{found_of};
 ghost use Rattle.udfs_volume.specs.declared.profiles.Profile.{Profile};
-ghost use Rattle.udfs_files.specs.Disk.{After, Disk, IsOwn};
+ghost use Rattle.udfs_files.specs.Disk.{After, Disk, Fails, SinkFails, IsOwn};
 ghost use Rattle.udfs_words.specs.Asking.{IsLast, IsProfile, asked_for, asked_inputs, is_mapped, mapfile_text, pair_texts};
 ghost use Rattle.udfs_common.specs.Guarding.{IsFreeMap, IsSparedMap};
-ghost use Rattle.udfs_common.specs.Keeping.{IsKept, IsTaken, OfPaths};
+ghost use Rattle.udfs_common.specs.Keeping.{IsKept, IsTaken, OfPaths, RefusedOut};
 ghost use Rattle.udfs_common.specs.declared.sources.AnySource.{AnySource};
 ghost use Rattle.udfs_words.specs.declared.input_path.InputPath.{InputPath};
-ghost use Rattle.udfs_reports.specs.Rereading.{PrintsNumbers, WritesDomain, MayDomainAsked};
+ghost use Rattle.udfs_reports.specs.Rereading.{DomainAsked, PrintsNumbers, WritesDomain, MayDomainAsked};
 
 use crate::reread::reread;
 use crate::reread_map::reread_map;
@@ -48,8 +48,8 @@ fn reread_map_words<F: Files, O: Sink>(
     out: &mut O,
 ) -> Result<bool, Refusal>
     ensures written { IfOk result (λ whole. WritesDomain (λ path. F.holds files.old (F.real files.old path)) (⟦<AnySource<F::Input, F::Image> as Source>⟧.remaining) (found_of words.now)
-        (λ bytes. (F.tells → IsKept (F.holds files.new) (F.may_leave files.new) (F.real files.old (mapfile_text (found_of words.now))) bytes) ⊎ (F.in_place files.old (mapfile_text (found_of words.now)) × IsTaken F.Output.contents bytes))
-        (O.contents out.old) (O.contents out.new) (O.faults out.old) (O.faults out.new) whole) }
+        (λ bytes. (F.tells → IsKept (F.holds files.new) (F.may_leave files.new) (F.real files.old (mapfile_text (found_of words.now))) bytes) ⊎ (F.in_place files.old (mapfile_text (found_of words.now)) × IsTaken F.Output.stream bytes))
+        (O.stream out.old) (O.stream out.new) whole) }
     // It takes the place of no file but a mapfile of ddrescue's kind, and never that of an image or a mapfile of the inputs.
     ensures free { OnOk result (F.tells → IsFreeMap (F.holds files.old) (F.real files.old) (F.in_place files.old) (pair_texts (found_of words.now)) (mapfile_text (found_of words.now))) }
     // A crash at any moment of the call leaves all as it was, or with the mapfile in its place, whole.
@@ -57,6 +57,9 @@ fn reread_map_words<F: Files, O: Sink>(
         After (F.may_leave files.old) (MayDomainAsked (λ path. F.holds files.old (F.real files.old path)) (⟦<AnySource<F::Input, F::Image> as Source>⟧.remaining) (F.real files.old) (found_of words.now)) c }
     // No other path changes, but for those of new files that are to go in its place.
     ensures elsewhere { F.tells → (F.in_place files.old (mapfile_text (found_of words.now)) → ⊥) → (q : List ℕ) → q ≢ F.real files.old (mapfile_text (found_of words.now)) → (¬ IsOwn (F.real files.old (mapfile_text (found_of words.now))) q) → F.holds files.new q ≡ F.holds files.old q }
+    // A refusal leaves all as it was; or a call failed, and then the path holds what it held or the new file, whole.
+    ensures left { OnErr result (RefusedOut F.tells F.holds F.real F.in_place (F.shut files.old (mapfile_text (found_of words.now)) ⊎ Fails F.faults ⊎ SinkFails F.Output.stream) (mapfile_text (found_of words.now)) files.old files.new
+        (DomainAsked (λ path. F.holds files.old (F.real files.old path)) (⟦<AnySource<F::Input, F::Image> as Source>⟧.remaining) (found_of words.now))) }
 {
     let inputs = asked_inputs(alloc, words)?;
     let paths = inputs.as_slice();
@@ -91,7 +94,7 @@ fn reread_words<F: Files, O: Sink>(
 ) -> Result<bool, Refusal>
     ensures printed { IfOk result (λ whole. (last : ℕ) × (profile : Profile) × (inputs : List InputPath) × (map asked_for inputs ≡ asked_inputs (found_of words.now)) ×
         IsLast (λ path. F.holds files.now (F.real files.now path)) inputs (found_of words.now) last × IsProfile (found_of words.now) profile × OfPaths (λ path. F.holds files.now (F.real files.now path)) (⟦<AnySource<F::Input, F::Image> as Source>⟧.remaining) inputs
-        (PrintsNumbers profile last (O.contents out.old) (O.contents out.new) (O.faults out.old) (O.faults out.new) whole)) }
+        (PrintsNumbers profile last (O.stream out.old) (O.stream out.new) whole)) }
 {
     let inputs = asked_inputs(alloc, words)?;
     let paths = inputs.as_slice();
@@ -112,10 +115,10 @@ pub fn reread_as<F: Files, O: Sink>(
 ) -> Result<bool, Refusal>
     ensures printed { IfOk result (λ whole. is_mapped (found_of words.now) ≡ false → (last : ℕ) × (profile : Profile) × (inputs : List InputPath) × (map asked_for inputs ≡ asked_inputs (found_of words.now)) ×
         IsLast (λ path. F.holds files.old (F.real files.old path)) inputs (found_of words.now) last × IsProfile (found_of words.now) profile × OfPaths (λ path. F.holds files.old (F.real files.old path)) (⟦<AnySource<F::Input, F::Image> as Source>⟧.remaining) inputs
-        (PrintsNumbers profile last (O.contents out.old) (O.contents out.new) (O.faults out.old) (O.faults out.new) whole)) }
+        (PrintsNumbers profile last (O.stream out.old) (O.stream out.new) whole)) }
     ensures written { IfOk result (λ whole. is_mapped (found_of words.now) ≡ true → WritesDomain (λ path. F.holds files.old (F.real files.old path)) (⟦<AnySource<F::Input, F::Image> as Source>⟧.remaining) (found_of words.now)
-        (λ bytes. (F.tells → IsKept (F.holds files.new) (F.may_leave files.new) (F.real files.old (mapfile_text (found_of words.now))) bytes) ⊎ (F.in_place files.old (mapfile_text (found_of words.now)) × IsTaken F.Output.contents bytes))
-        (O.contents out.old) (O.contents out.new) (O.faults out.old) (O.faults out.new) whole ×
+        (λ bytes. (F.tells → IsKept (F.holds files.new) (F.may_leave files.new) (F.real files.old (mapfile_text (found_of words.now))) bytes) ⊎ (F.in_place files.old (mapfile_text (found_of words.now)) × IsTaken F.Output.stream bytes))
+        (O.stream out.old) (O.stream out.new) whole ×
         (F.tells → IsFreeMap (F.holds files.old) (F.real files.old) (F.in_place files.old) (pair_texts (found_of words.now)) (mapfile_text (found_of words.now)))) }
     ensures numbers { is_mapped (found_of words.now) ≡ false → files.new ≡ files.old }
     // A crash at any moment of the call leaves all as it was, or with the mapfile in its place, whole.
@@ -123,6 +126,9 @@ pub fn reread_as<F: Files, O: Sink>(
         After (F.may_leave files.old) (MayDomainAsked (λ path. F.holds files.old (F.real files.old path)) (⟦<AnySource<F::Input, F::Image> as Source>⟧.remaining) (F.real files.old) (found_of words.now)) c }
     // No other path changes, but for those of new files that are to go in its place.
     ensures elsewhere { F.tells → (F.in_place files.old (mapfile_text (found_of words.now)) → ⊥) → (q : List ℕ) → q ≢ F.real files.old (mapfile_text (found_of words.now)) → (¬ IsOwn (F.real files.old (mapfile_text (found_of words.now))) q) → F.holds files.new q ≡ F.holds files.old q }
+    // A refusal leaves all as it was; or a call failed, and then the path holds what it held or the new file, whole.
+    ensures left { OnErr result (RefusedOut F.tells F.holds F.real F.in_place (F.shut files.old (mapfile_text (found_of words.now)) ⊎ Fails F.faults ⊎ SinkFails F.Output.stream) (mapfile_text (found_of words.now)) files.old files.new
+        (DomainAsked (λ path. F.holds files.old (F.real files.old path)) (⟦<AnySource<F::Input, F::Image> as Source>⟧.remaining) (found_of words.now))) }
 {
     if words.contains_id(MAPFILE) {
         return match reread_map_words(alloc, words, files, out) {

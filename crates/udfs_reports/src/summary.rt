@@ -27,7 +27,7 @@ pub fn summary<F: Files, O: Sink>(
     out: &mut O,
 ) -> Result<bool, Refusal>
     ensures printed { IfOk result (λ whole. OfPaths (λ path. F.holds files.now (F.real files.now path)) (⟦<AnySource<F::Input, F::Image> as Source>⟧.remaining) inputs.now
-        (PrintsSummary profile last (O.contents out.old) (O.contents out.new) (O.faults out.old) (O.faults out.new) whole)) }
+        (PrintsSummary profile last (O.stream out.old) (O.stream out.new) whole)) }
 {
     let table = joined(alloc, inputs, files)?;
     let survey = survey_volume_by(alloc, &table, last, profile)?;

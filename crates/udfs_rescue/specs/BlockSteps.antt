@@ -7,6 +7,7 @@ use Rattle.udfs_rescue.specs.declared.run.RunStatus.{RunStatus}
 use Rattle.udfs_rescue.specs.declared.writing.Blocks.{Blocks}
 use Rattle.udfs_rescue.specs.declared.writing.Blocks.TheVariants.{Wanted, Of}
 use Rattle.udfs_rescue.specs.Writing.{wanted_status, table_status, joined_run, run_lines, made_by, mark_line, status_line}
+use Rattle.udfs_reading.specs.Device.{Stream}
 
 -- the status of a block in the map that is written
 abbrev pub status_in : Blocks → ℕ → RunStatus
@@ -24,7 +25,7 @@ BlocksRise (Wanted list) = IsNonDecreasing list.now
 BlocksRise (Of table) = Unit {0}
 
 -- the lines that are complete were taken, and the run behind them is `after`
-pub record TakesRun (old new : Option (List ℕ)) (i j : ℕ) (held still : List ℕ) (before after next : Run) : Type 0 where
+pub record TakesRun (old new : Stream) (held still : List ℕ) (before after next : Run) : Type 0 where
   pub done : List ℕ
-  pub passed : Passed old new i j held still done
+  pub passed : Passed old new held still done
   pub text : (rest : List Run) → run_lines (joined_run before (joined_run next rest)) ≡ done ++ run_lines (joined_run after rest)

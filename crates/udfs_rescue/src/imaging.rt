@@ -17,7 +17,7 @@ fn write_block<W: Sink>(
     sink: &mut W,
     fact: Fact<&[u8; 2048]>,
 ) -> Result<(), WriteFault>
-    ensures { Passes (W.contents sink.old) (W.contents sink.new) (W.faults sink.old) (W.faults sink.new) out.old out.new (bytes_of_state (fact_now fact.entry)) result }
+    ensures { Passes (W.stream sink.old) (W.stream sink.new) out.old out.new (bytes_of_state (fact_now fact.entry)) result }
 {
     match fact {
         Fact::Known(bytes) => out.push(sink, bytes),
@@ -33,7 +33,7 @@ fn write_blocks<W: Sink>(
     last: u32,
 ) -> Result<(), WriteFault>
     requires { last ≤ 4194303 }
-    ensures { Passes (W.contents sink.old) (W.contents sink.new) (W.faults sink.old) (W.faults sink.new) out.old out.new (image_bytes table.now last) result }
+    ensures { Passes (W.stream sink.old) (W.stream sink.new) out.old out.new (image_bytes table.now last) result }
 {
     for block in 0..last + 1 {
         write_block(out, sink, table.state(block))?;
@@ -49,7 +49,7 @@ fn write_blocks<W: Sink>(
 /// `WriteFault` exactly where the sink failed. Then a beginning of the image is out.
 pub fn write_image<W: Sink>(table: &BlockTable, last: u32, sink: &mut W) -> Result<(), WriteFault>
     requires { last ≤ 4194303 }
-    ensures { Writes (W.contents sink.old) (W.contents sink.new) (W.faults sink.old) (W.faults sink.new) (image_bytes table.now last) result }
+    ensures { Writes (W.stream sink.old) (W.stream sink.new) (image_bytes table.now last) result }
 {
     let mut out = Outgoing::new();
     write_blocks(&mut out, sink, table, last)?;

@@ -72,7 +72,7 @@ fn write_digits<W: Sink>(
     count: u32,
     n: u64,
 ) -> Result<(), WriteFault>
-    ensures { Passes (W.contents sink.old) (W.contents sink.new) (W.faults sink.old) (W.faults sink.new) out.old out.new (hex_digits count n) result }
+    ensures { Passes (W.stream sink.old) (W.stream sink.new) out.old out.new (hex_digits count n) result }
 {
     if count == 0 {
         return Ok(());
@@ -91,7 +91,7 @@ fn places(n: u64) -> u32
 
 /// A number as `0x%08X` prints it.
 fn write_position<W: Sink>(out: &mut Outgoing, sink: &mut W, n: u64) -> Result<(), WriteFault>
-    ensures { Passes (W.contents sink.old) (W.contents sink.new) (W.faults sink.old) (W.faults sink.new) out.old out.new (position_text n) result }
+    ensures { Passes (W.stream sink.old) (W.stream sink.new) out.old out.new (position_text n) result }
 {
     out.push(sink, b"0x")?;
     write_digits(out, sink, places(n), n)?;
@@ -100,7 +100,7 @@ fn write_position<W: Sink>(out: &mut Outgoing, sink: &mut W, n: u64) -> Result<(
 
 /// The line of a run.
 fn write_run<W: Sink>(out: &mut Outgoing, sink: &mut W, run: Run) -> Result<(), WriteFault>
-    ensures { Passes (W.contents sink.old) (W.contents sink.new) (W.faults sink.old) (W.faults sink.new) out.old out.new (run_line run) result }
+    ensures { Passes (W.stream sink.old) (W.stream sink.new) out.old out.new (run_line run) result }
 {
     write_position(out, sink, run.at)?;
     out.push(sink, b"  ")?;
@@ -119,9 +119,9 @@ fn take_block<W: Sink>(
     status: RunStatus,
 ) -> Result<(), WriteFault>
     requires { run.old.size ≤ 2048 * block }
-    ensures ok { OnOk result (TakesRun (W.contents sink.old) (W.contents sink.new) (W.faults sink.old) (W.faults sink.new) out.old out.new run.old run.new (record { at = 2048 * block; size = 2048; status = status })) }
+    ensures ok { OnOk result (TakesRun (W.stream sink.old) (W.stream sink.new) out.old out.new run.old run.new (record { at = 2048 * block; size = 2048; status = status })) }
     ensures size { OnOk result (run.new.size ≤ 2048 * (block + 1)) }
-    ensures err { IfErr result (λ _. (rest : List Run) → FailedPast (W.contents sink.old) (W.contents sink.new) (W.faults sink.old) (W.faults sink.new) out.old (run_lines (joined_run run.old (joined_run (record { at = 2048 * block; size = 2048; status = status }) rest)))) }
+    ensures err { IfErr result (λ _. (rest : List Run) → FailedPast (W.stream sink.old) (W.stream sink.new) out.old (run_lines (joined_run run.old (joined_run (record { at = 2048 * block; size = 2048; status = status }) rest)))) }
 {
     if status_byte(run.status) == status_byte(status) {
         run.size += 2048;
@@ -157,7 +157,7 @@ fn write_runs<W: Sink>(
 ) -> Result<(), WriteFault>
     requires rises { BlocksRise blocks }
     requires last { last ≤ 4194303 }
-    ensures { Passes (W.contents sink.old) (W.contents sink.new) (W.faults sink.old) (W.faults sink.new) out.old out.new (run_lines (runs_of_blocks (status_in blocks.entry) 0 (last + 1))) result }
+    ensures { Passes (W.stream sink.old) (W.stream sink.new) out.old out.new (run_lines (runs_of_blocks (status_in blocks.entry) 0 (last + 1))) result }
 {
     let mut run = Run {
         at: 0,
@@ -179,7 +179,7 @@ fn write_heading<W: Sink>(
     sink: &mut W,
     blocks: Blocks<'_>,
 ) -> Result<(), WriteFault>
-    ensures { Passes (W.contents sink.old) (W.contents sink.new) (W.faults sink.old) (W.faults sink.new) out.old out.new (heading_in blocks.entry) result }
+    ensures { Passes (W.stream sink.old) (W.stream sink.new) out.old out.new (heading_in blocks.entry) result }
 {
     match blocks {
         Blocks::Wanted(_) => out.push(
@@ -201,7 +201,7 @@ fn write_all_lines<W: Sink>(
 ) -> Result<(), WriteFault>
     requires rises { BlocksRise blocks }
     requires last { last ≤ 4194303 }
-    ensures { Passes (W.contents sink.old) (W.contents sink.new) (W.faults sink.old) (W.faults sink.new) out.old out.new (heading_in blocks.entry ++ run_lines (runs_of_blocks (status_in blocks.entry) 0 (last + 1))) result }
+    ensures { Passes (W.stream sink.old) (W.stream sink.new) out.old out.new (heading_in blocks.entry ++ run_lines (runs_of_blocks (status_in blocks.entry) 0 (last + 1))) result }
 {
     write_heading(out, sink, blocks)?;
     write_runs(out, sink, blocks, last)?;
@@ -211,7 +211,7 @@ fn write_all_lines<W: Sink>(
 fn write_map<W: Sink>(blocks: Blocks<'_>, last: u32, sink: &mut W) -> Result<(), WriteFault>
     requires rises { BlocksRise blocks }
     requires last { last ≤ 4194303 }
-    ensures { Writes (W.contents sink.old) (W.contents sink.new) (W.faults sink.old) (W.faults sink.new) (heading_in blocks.entry ++ run_lines (runs_of_blocks (status_in blocks.entry) 0 (last + 1))) result }
+    ensures { Writes (W.stream sink.old) (W.stream sink.new) (heading_in blocks.entry ++ run_lines (runs_of_blocks (status_in blocks.entry) 0 (last + 1))) result }
 {
     let mut out = Outgoing::new();
     write_all_lines(&mut out, sink, blocks, last)?;
@@ -229,7 +229,7 @@ fn write_map<W: Sink>(blocks: Blocks<'_>, last: u32, sink: &mut W) -> Result<(),
 pub fn write_domain<W: Sink>(wanted: &[u32], last: u32, sink: &mut W) -> Result<(), WriteFault>
     requires rises { IsNonDecreasing wanted.now }
     requires last { last ≤ 4194303 }
-    ensures { Writes (W.contents sink.old) (W.contents sink.new) (W.faults sink.old) (W.faults sink.new) (domain_text wanted.now last) result }
+    ensures { Writes (W.stream sink.old) (W.stream sink.new) (domain_text wanted.now last) result }
 {
     write_map(Blocks::Wanted(wanted), last, sink)
 }
@@ -246,7 +246,7 @@ pub fn write_image_map<W: Sink>(
     sink: &mut W,
 ) -> Result<(), WriteFault>
     requires { last ≤ 4194303 }
-    ensures { Writes (W.contents sink.old) (W.contents sink.new) (W.faults sink.old) (W.faults sink.new) (map_text (table_status table.now) last) result }
+    ensures { Writes (W.stream sink.old) (W.stream sink.new) (map_text (table_status table.now) last) result }
 {
     write_map(Blocks::Of(table), last, sink)
 }

@@ -20,6 +20,7 @@ use Rattle.udfs_salvage.specs.Extraction.{Extracts, HasCellsInBy, is_offered}
 use Rattle.udfs_salvage.specs.declared.extraction.Fill.{Fill}
 use Rattle.udfs_salvage.specs.declared.extraction.ExtractError.{ExtractError}
 use Rattle.udfs_salvage.specs.declared.extraction.ExtractError.TheVariants.{NotWhole, Write, OutOfMemory}
+use Rattle.udfs_reading.specs.Device.{Stream}
 
 -- what is to be written has a body
 offered_body : (s : Standing) (size : Option ℕ) (fill : Fill) → is_offered s size fill ≡ true → HasBody s size
@@ -52,11 +53,11 @@ none_some : {A : Type 0} (x : A) (o : Option A) → o ≡ None → o ≡ Some x 
 none_some x o e h = let z : ⊥ = cc in z
 
 -- bytes that were given are not refused
-pub not_refused : {X : Type 0} (a b : Option (List ℕ)) (i j : ℕ) (bytes : List ℕ) (r : Result X ExtractError) → Extracts a b i j bytes r → IsErrOf r NotWhole → ⊥
-not_refused a b i j bytes (Ok x) h e = absurd (let z : ⊥ = cc in z)
-not_refused a b i j bytes (Err NotWhole) h e = h
-not_refused a b i j bytes (Err Write) h e = absurd (let z : ⊥ = cc in z)
-not_refused a b i j bytes (Err OutOfMemory) h e = absurd (let z : ⊥ = cc in z)
+pub not_refused : {X : Type 0} (a b : Stream) (bytes : List ℕ) (r : Result X ExtractError) → Extracts a b bytes r → IsErrOf r NotWhole → ⊥
+not_refused a b bytes (Ok x) h e = absurd (let z : ⊥ = cc in z)
+not_refused a b bytes (Err NotWhole) h e = h
+not_refused a b bytes (Err Write) h e = absurd (let z : ⊥ = cc in z)
+not_refused a b bytes (Err OutOfMemory) h e = absurd (let z : ⊥ = cc in z)
 
 -- what holds where there is none
 pub if_none : {A P : Type 0} (Q : A → Type 0) (o : Option A) → o ≡ None → MatchOption o P Q → P

@@ -32,3 +32,4 @@ pub mod ShortTexts
 pub mod Putting
 pub mod PublicLaws
 pub mod UnnamedEntries
+pub mod ListedNodes

@@ -9,6 +9,7 @@ use Rattle.udfs_salvage.specs.Printing.{Stopped}
 use Rattle.udfs_salvage.specs.declared.errors.RunError.{RunError}
 use Rattle.udfs_salvage.proofs.Passing.{passed_none, passed_then}
 use Rattle.udfs_salvage.proofs.Printed.{stopped_more, stopped_then}
+use Rattle.udfs_reading.specs.Device.{Stream}
 
 append_texts : (i : ℕ) (xs ys : List NodeFields) → nodes_text i (xs ++ ys) ≡ nodes_text i xs ++ nodes_text (i + length xs) ys
 unfolding nodes_text
@@ -43,19 +44,19 @@ texts_at ns k d l =
     ∙ sym (append_first (take (k + 1) ns) (drop (k + 1) ns))
     ∙ ap (nodes_text 0) (take-append-drop (k + 1) ns)
 
-pub none_passed : (a : Option (List ℕ)) (i : ℕ) (p : List ℕ) (ns : List NodeFields) → Passed a a i i p p (nodes_text 0 (take 0 ns))
+pub none_passed : (a : Stream) (p : List ℕ) (ns : List NodeFields) → Passed a a p p (nodes_text 0 (take 0 ns))
 unfolding nodes_text
-none_passed a i p ns = passed_none a i p
+none_passed a p ns = passed_none a p
 
-pub passed_node : {a b c : Option (List ℕ)} {i j k : ℕ} {p q r : List ℕ} (ns : List NodeFields) (n : ℕ) (x : NodeFields) → n < length ns → x ≡ get_or ns n x
-    → Passed a b i j p q (nodes_text 0 (take n ns)) → Passed b c j k q r (node_text n x) → Passed a c i k p r (nodes_text 0 (take (n + 1) ns))
-passed_node {a = a} {b = b} {c = c} {i = i} {j = j} {k = k} {p = p} {q = q} {r = r} ns n x l is h g =
-    subst (Passed a c i k p r) (more_texts ns n x l) (passed_then h (subst (λ z. Passed b c j k q r (node_text n z)) is g))
+pub passed_node : {a b c : Stream} {p q r : List ℕ} (ns : List NodeFields) (n : ℕ) (x : NodeFields) → n < length ns → x ≡ get_or ns n x
+    → Passed a b p q (nodes_text 0 (take n ns)) → Passed b c q r (node_text n x) → Passed a c p r (nodes_text 0 (take (n + 1) ns))
+passed_node {a = a} {b = b} {c = c} {p = p} {q = q} {r = r} ns n x l is h g =
+    subst (Passed a c p r) (more_texts ns n x l) (passed_then h (subst (λ z. Passed b c q r (node_text n z)) is g))
 
-pub stopped_node : {a b c : Option (List ℕ)} {i j k : ℕ} {p q : List ℕ} {e : RunError} (ns : List NodeFields) (n : ℕ) (x : NodeFields) → n < length ns → x ≡ get_or ns n x
-    → Passed a b i j p q (nodes_text 0 (take n ns)) → Stopped b c j k (q ++ node_text n x) e → Stopped a c i k (p ++ nodes_text 0 ns) e
-stopped_node {a = a} {b = b} {c = c} {i = i} {j = j} {k = k} {p = p} {q = q} {e = e} ns n x l is h g =
+pub stopped_node : {a b c : Stream} {p q : List ℕ} {e : RunError} (ns : List NodeFields) (n : ℕ) (x : NodeFields) → n < length ns → x ≡ get_or ns n x
+    → Passed a b p q (nodes_text 0 (take n ns)) → Stopped b c (q ++ node_text n x) e → Stopped a c (p ++ nodes_text 0 ns) e
+stopped_node {a = a} {b = b} {c = c} {p = p} {q = q} {e = e} ns n x l is h g =
     let rest = nodes_text (length (take (n + 1) ns)) (drop (n + 1) ns) in
-    subst (λ (t : List ℕ). Stopped a c i k (p ++ t) e) (texts_at ns n x l)
-    (stopped_then (node_text n (get_or ns n x) ++ rest) h (subst (λ (t : List ℕ). Stopped b c j k t e) (append_assoc q (node_text n (get_or ns n x)) rest)
-    (stopped_more rest (subst (λ z. Stopped b c j k (q ++ node_text n z) e) is g))))
+    subst (λ (t : List ℕ). Stopped a c (p ++ t) e) (texts_at ns n x l)
+    (stopped_then (node_text n (get_or ns n x) ++ rest) h (subst (λ (t : List ℕ). Stopped b c t e) (append_assoc q (node_text n (get_or ns n x)) rest)
+    (stopped_more rest (subst (λ z. Stopped b c (q ++ node_text n z) e) is g))))

@@ -1,5 +1,5 @@
 -- Bytes that are taken to be written piece by piece.
---     Taken old new i j held still all rest     of all these bytes the rest is left
+--     Taken old new held still all rest     of all these bytes the rest is left
 use Rattle.std.proofs.Common.{◌≡◌, sym, ◌∙◌, ap, subst, ℕ, ◌+◌, ◌-◌, ◌≤◌, List, [], ◌++◌, length, drop, take, append_assoc, append-nil, arith, replicate, slice_range, Option}
 use Rattle.std.proofs.lemmas.List.{drop-drop, drop-take, drop_all, replicate-append-replicate, take-append-drop}
 use Rattle.std.proofs.lemmas.Slice.{between_is}
@@ -10,18 +10,19 @@ use Rattle.udfs_reading.specs.Writing.{Passed, FailedPast}
 use Rattle.udfs_salvage.specs.Extraction.{filled}
 use Rattle.udfs_salvage.proofs.Passing.{passed_none, passed_then, failed_then, failed_more}
 use Rattle.udfs_salvage.proofs.BodyBytes.{filled_append}
+use Rattle.udfs_reading.specs.Device.{Stream}
 
-pub record Taken (old new : Option (List ℕ)) (i j : ℕ) (held still all rest : List ℕ) : Type 0 where
+pub record Taken (old new : Stream) (held still all rest : List ℕ) : Type 0 where
   pub done : List ℕ
   pub split : all ≡ done ++ rest
-  pub passed : Passed old new i j held still done
+  pub passed : Passed old new held still done
 
-pub taken_none : (a : Option (List ℕ)) (i : ℕ) (p all rest : List ℕ) → rest ≡ all → Taken a a i i p p all rest
-taken_none a i p all rest e = record { done = []; split = sym e; passed = passed_none a i p }
+pub taken_none : (a : Stream) (p all rest : List ℕ) → rest ≡ all → Taken a a p p all rest
+taken_none a p all rest e = record { done = []; split = sym e; passed = passed_none a p }
 
 -- a piece more
-pub taken_more : {a b c : Option (List ℕ)} {i j k : ℕ} {p q r all rest : List ℕ} (x y : List ℕ) → rest ≡ x ++ y
-    → Taken a b i j p q all rest → Passed b c j k q r x → Taken a c i k p r all y
+pub taken_more : {a b c : Stream} {p q r all rest : List ℕ} (x y : List ℕ) → rest ≡ x ++ y
+    → Taken a b p q all rest → Passed b c q r x → Taken a c p r all y
 taken_more x y e h g = record {
   done = h.done ++ x;
   split = h.split ∙ ap (λ (l : List ℕ). h.done ++ l) e ∙ sym (append_assoc h.done x y);
@@ -29,16 +30,16 @@ taken_more x y e h g = record {
 }
 
 -- nothing is left
-pub taken_all : {a b : Option (List ℕ)} {i j : ℕ} {p q all rest : List ℕ} → rest ≡ [] → Taken a b i j p q all rest → Passed a b i j p q all
-taken_all {a} {b} {i} {j} {p} {q} {all} {rest} e h =
+pub taken_all : {a b : Stream} {p q all rest : List ℕ} → rest ≡ [] → Taken a b p q all rest → Passed a b p q all
+taken_all {a} {b} {p} {q} {all} {rest} e h =
     let s : all ≡ h.done = h.split ∙ ap (λ (l : List ℕ). h.done ++ l) e ∙ append-nil h.done in
-    subst (Passed a b i j p q) (sym s) h.passed
+    subst (Passed a b p q) (sym s) h.passed
 
 -- the sink failed at a piece
-pub taken_fails : {a b c : Option (List ℕ)} {i j k : ℕ} {p q all rest : List ℕ} (x y : List ℕ) → rest ≡ x ++ y
-    → Taken a b i j p q all rest → FailedPast b c j k q x → FailedPast a c i k p all
-taken_fails {a} {c = c} {i = i} {k = k} {p = p} x y e h g =
-    subst (FailedPast a c i k p) (sym (h.split ∙ ap (λ (l : List ℕ). h.done ++ l) e)) (failed_then h.passed (failed_more y g))
+pub taken_fails : {a b c : Stream} {p q all rest : List ℕ} (x y : List ℕ) → rest ≡ x ++ y
+    → Taken a b p q all rest → FailedPast b c q x → FailedPast a c p all
+taken_fails {a} {c = c} {p = p} x y e h g =
+    subst (FailedPast a c p) (sym (h.split ∙ ap (λ (l : List ℕ). h.done ++ l) e)) (failed_then h.passed (failed_more y g))
 
 -- ---- what is left
 

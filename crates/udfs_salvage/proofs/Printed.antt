@@ -10,20 +10,21 @@ use Rattle.udfs_reading.specs.Writing.{Passed}
 use Rattle.udfs_salvage.specs.Printing.{CountsBy, Stopped, PassesOn, Prints}
 use Rattle.udfs_salvage.specs.declared.errors.RunError.{RunError}
 use Rattle.udfs_salvage.proofs.Passing.{passed_then}
+use Rattle.udfs_reading.specs.Device.{Stream}
 
 -- it stopped in a later text
-pub stopped_then : {a b c : Option (List ℕ)} {i j k : ℕ} {p q x : List ℕ} (y : List ℕ) {e : RunError} → Passed a b i j p q x → Stopped b c j k (q ++ y) e → Stopped a c i k (p ++ (x ++ y)) e
-stopped_then {a} {b} {c} {i} {j} {k} {p} {q} {x} y {e} h g =
+pub stopped_then : {a b c : Stream} {p q x : List ℕ} (y : List ℕ) {e : RunError} → Passed a b p q x → Stopped b c (q ++ y) e → Stopped a c (p ++ (x ++ y)) e
+stopped_then {a} {b} {c} {p} {q} {x} y {e} h g =
     record {
       out = h.out ++ g.out;
       rest = g.rest;
-      given = Appends-trans a b c h.out g.out h.given g.given;
+      given = Appends-trans a.contents b.contents c.contents h.out g.out h.given g.given;
       whole = sym (append_assoc p x y) ∙ ap (λ (l : List ℕ). l ++ y) h.whole ∙ append_assoc h.out q y ∙ ap (λ (l : List ℕ). h.out ++ l) g.whole ∙ sym (append_assoc h.out g.out g.rest);
-      count = subst (λ (n : ℕ). CountsBy n k e) h.kept g.count;
+      count = subst (λ (n : ℕ). CountsBy n c.faults e) h.kept g.count;
     }
 
 -- and more was to come
-pub stopped_more : {a b : Option (List ℕ)} {i j : ℕ} {x : List ℕ} {e : RunError} (y : List ℕ) → Stopped a b i j x e → Stopped a b i j (x ++ y) e
+pub stopped_more : {a b : Stream} {x : List ℕ} {e : RunError} (y : List ℕ) → Stopped a b x e → Stopped a b (x ++ y) e
 stopped_more {x = x} y h =
     record {
       out = h.out;
@@ -52,77 +53,77 @@ pieces_at f xs i d l =
     ∙ ap (flat_map f) (take-append-drop (i + 1) xs)
 
 -- one more piece was passed on
-pub passed_piece : {A : Type 0} {a b c : Option (List ℕ)} {i j k : ℕ} {p q r : List ℕ} (f : A → List ℕ) (xs : List A) (n : ℕ) (d : A) → n < length xs
-    → Passed a b i j p q (flat_map f (take n xs)) → Passed b c j k q r (f (get_or xs n d)) → Passed a c i k p r (flat_map f (take (n + 1) xs))
-passed_piece {a = a} {c = c} {i = i} {k = k} {p = p} {r = r} f xs n d l h g = subst (Passed a c i k p r) (pieces_more f xs n d l) (passed_then h g)
+pub passed_piece : {A : Type 0} {a b c : Stream} {p q r : List ℕ} (f : A → List ℕ) (xs : List A) (n : ℕ) (d : A) → n < length xs
+    → Passed a b p q (flat_map f (take n xs)) → Passed b c q r (f (get_or xs n d)) → Passed a c p r (flat_map f (take (n + 1) xs))
+passed_piece {a = a} {c = c} {p = p} {r = r} f xs n d l h g = subst (Passed a c p r) (pieces_more f xs n d l) (passed_then h g)
 
 -- it stopped in a piece
-pub stopped_piece : {A : Type 0} {a b c : Option (List ℕ)} {i j k : ℕ} {p q : List ℕ} {e : RunError} (f : A → List ℕ) (xs : List A) (n : ℕ) (d : A) → n < length xs
-    → Passed a b i j p q (flat_map f (take n xs)) → Stopped b c j k (q ++ f (get_or xs n d)) e → Stopped a c i k (p ++ flat_map f xs) e
-stopped_piece {a = a} {b = b} {c = c} {i = i} {j = j} {k = k} {p = p} {q = q} {e = e} f xs n d l h g =
-    subst (λ (t : List ℕ). Stopped a c i k (p ++ t) e) (pieces_at f xs n d l)
-    (stopped_then (f (get_or xs n d) ++ flat_map f (drop (n + 1) xs)) h (subst (λ (t : List ℕ). Stopped b c j k t e) (append_assoc q (f (get_or xs n d)) (flat_map f (drop (n + 1) xs))) (stopped_more (flat_map f (drop (n + 1) xs)) g)))
+pub stopped_piece : {A : Type 0} {a b c : Stream} {p q : List ℕ} {e : RunError} (f : A → List ℕ) (xs : List A) (n : ℕ) (d : A) → n < length xs
+    → Passed a b p q (flat_map f (take n xs)) → Stopped b c (q ++ f (get_or xs n d)) e → Stopped a c (p ++ flat_map f xs) e
+stopped_piece {a = a} {b = b} {c = c} {p = p} {q = q} {e = e} f xs n d l h g =
+    subst (λ (t : List ℕ). Stopped a c (p ++ t) e) (pieces_at f xs n d l)
+    (stopped_then (f (get_or xs n d) ++ flat_map f (drop (n + 1) xs)) h (subst (λ (t : List ℕ). Stopped b c t e) (append_assoc q (f (get_or xs n d)) (flat_map f (drop (n + 1) xs))) (stopped_more (flat_map f (drop (n + 1) xs)) g)))
 
 -- the same of a piece that has a name
-pub passed_item : {A : Type 0} {a b c : Option (List ℕ)} {i j k : ℕ} {p q r : List ℕ} (f : A → List ℕ) (xs : List A) (n : ℕ) (x : A) → n < length xs → x ≡ get_or xs n x
-    → Passed a b i j p q (flat_map f (take n xs)) → Passed b c j k q r (f x) → Passed a c i k p r (flat_map f (take (n + 1) xs))
-passed_item {b = b} {c = c} {j = j} {k = k} {q = q} {r = r} f xs n x l is h g = passed_piece f xs n x l h (subst (λ z. Passed b c j k q r (f z)) is g)
+pub passed_item : {A : Type 0} {a b c : Stream} {p q r : List ℕ} (f : A → List ℕ) (xs : List A) (n : ℕ) (x : A) → n < length xs → x ≡ get_or xs n x
+    → Passed a b p q (flat_map f (take n xs)) → Passed b c q r (f x) → Passed a c p r (flat_map f (take (n + 1) xs))
+passed_item {b = b} {c = c} {q = q} {r = r} f xs n x l is h g = passed_piece f xs n x l h (subst (λ z. Passed b c q r (f z)) is g)
 
-pub stopped_item : {A : Type 0} {a b c : Option (List ℕ)} {i j k : ℕ} {p q : List ℕ} {e : RunError} (f : A → List ℕ) (xs : List A) (n : ℕ) (x : A) → n < length xs → x ≡ get_or xs n x
-    → Passed a b i j p q (flat_map f (take n xs)) → Stopped b c j k (q ++ f x) e → Stopped a c i k (p ++ flat_map f xs) e
-stopped_item {b = b} {c = c} {j = j} {k = k} {q = q} {e = e} f xs n x l is h g = stopped_piece f xs n x l h (subst (λ z. Stopped b c j k (q ++ f z) e) is g)
+pub stopped_item : {A : Type 0} {a b c : Stream} {p q : List ℕ} {e : RunError} (f : A → List ℕ) (xs : List A) (n : ℕ) (x : A) → n < length xs → x ≡ get_or xs n x
+    → Passed a b p q (flat_map f (take n xs)) → Stopped b c (q ++ f x) e → Stopped a c (p ++ flat_map f xs) e
+stopped_item {b = b} {c = c} {q = q} {e = e} f xs n x l is h g = stopped_piece f xs n x l h (subst (λ z. Stopped b c (q ++ f z) e) is g)
 
 -- ---- a report
 
 -- one text behind another, whether or not it was passed on whole
-pub passes_then : {X : Type 0} {a b : Option (List ℕ)} {i j : ℕ} {p q x : List ℕ} (c : Option (List ℕ)) (k : ℕ) (s y : List ℕ) (r : Result X RunError)
-    → Passed a b i j p q x → PassesOn b c j k q s y r → PassesOn a c i k p s (x ++ y) r
-passes_then c k s y (Ok u) h g = passed_then h g
-passes_then c k s y (Err e) h g = stopped_then y h g
+pub passes_then : {X : Type 0} {a b : Stream} {p q x : List ℕ} (c : Stream) (s y : List ℕ) (r : Result X RunError)
+    → Passed a b p q x → PassesOn b c q s y r → PassesOn a c p s (x ++ y) r
+passes_then c s y (Ok u) h g = passed_then h g
+passes_then c s y (Err e) h g = stopped_then y h g
 
 -- it stopped before more
-pub stopped_before : {a b : Option (List ℕ)} {i j : ℕ} {e : RunError} (p x y : List ℕ) → Stopped a b i j (p ++ x) e → Stopped a b i j (p ++ (x ++ y)) e
-stopped_before {a = a} {b = b} {i = i} {j = j} {e = e} p x y h = subst (λ (t : List ℕ). Stopped a b i j t e) (append_assoc p x y) (stopped_more y h)
+pub stopped_before : {a b : Stream} {e : RunError} (p x y : List ℕ) → Stopped a b (p ++ x) e → Stopped a b (p ++ (x ++ y)) e
+stopped_before {a = a} {b = b} {e = e} p x y h = subst (λ (t : List ℕ). Stopped a b t e) (append_assoc p x y) (stopped_more y h)
 
 -- what is held at the end is printed
-pub prints_then : {X : Type 0} {a b : Option (List ℕ)} {i j : ℕ} {p q x : List ℕ} (c : Option (List ℕ)) (k : ℕ) (r : Result X RunError) → p ≡ []
-    → Passed a b i j p q x → Prints b c j k q r → Prints a c i k x r
-prints_then {a = a} {b = b} {q = q} {x = x} c k (Ok u) none h g =
+pub prints_then : {X : Type 0} {a b : Stream} {p q x : List ℕ} (c : Stream) (r : Result X RunError) → p ≡ []
+    → Passed a b p q x → Prints b c q r → Prints a c x r
+prints_then {a = a} {b = b} {q = q} {x = x} c (Ok u) none h g =
     let whole : x ≡ h.out ++ q = sym (ap (λ (l : List ℕ). l ++ x) none) ∙ h.whole in
-    record { given = subst (Appends a c) (sym whole) (Appends-trans a b c h.out q h.given g.given); kept = g.kept ∙ h.kept }
-prints_then {a = a} {b = b} {q = q} {x = x} c k (Err e) none h g =
+    record { given = subst (Appends a.contents c.contents) (sym whole) (Appends-trans a.contents b.contents c.contents h.out q h.given g.given); kept = g.kept ∙ h.kept }
+prints_then {a = a} {b = b} {q = q} {x = x} c (Err e) none h g =
     record {
       out = h.out ++ g.out;
       rest = g.rest;
-      given = Appends-trans a b c h.out g.out h.given g.given;
+      given = Appends-trans a.contents b.contents c.contents h.out g.out h.given g.given;
       whole = sym (ap (λ (l : List ℕ). l ++ x) none) ∙ h.whole ∙ ap (λ (l : List ℕ). h.out ++ l) g.whole ∙ sym (append_assoc h.out g.out g.rest);
-      count = subst (λ (n : ℕ). CountsBy n k e) h.kept g.count;
+      count = subst (λ (n : ℕ). CountsBy n c.faults e) h.kept g.count;
     }
 
 -- and an error before that leaves the same out
-pub stopped_first : {a b : Option (List ℕ)} {i j : ℕ} {e : RunError} (p x : List ℕ) → p ≡ [] → Stopped a b i j (p ++ x) e → Stopped a b i j x e
-stopped_first {a = a} {b = b} {i = i} {j = j} {e = e} p x none h = subst (λ (t : List ℕ). Stopped a b i j (t ++ x) e) none h
+pub stopped_first : {a b : Stream} {e : RunError} (p x : List ℕ) → p ≡ [] → Stopped a b (p ++ x) e → Stopped a b x e
+stopped_first {a = a} {b = b} {e = e} p x none h = subst (λ (t : List ℕ). Stopped a b (t ++ x) e) none h
 
 -- ---- two and three texts that make one
 
 -- it stopped in the first
-pub stopped_first_of : {a b : Option (List ℕ)} {i j : ℕ} {e : RunError} (p x rest whole : List ℕ) → x ++ rest ≡ whole → Stopped a b i j (p ++ x) e → Stopped a b i j (p ++ whole) e
-stopped_first_of {a = a} {b = b} {i = i} {j = j} {e = e} p x rest whole is h = subst (λ (t : List ℕ). Stopped a b i j (p ++ t) e) is (stopped_before p x rest h)
+pub stopped_first_of : {a b : Stream} {e : RunError} (p x rest whole : List ℕ) → x ++ rest ≡ whole → Stopped a b (p ++ x) e → Stopped a b (p ++ whole) e
+stopped_first_of {a = a} {b = b} {e = e} p x rest whole is h = subst (λ (t : List ℕ). Stopped a b (p ++ t) e) is (stopped_before p x rest h)
 
 -- it stopped in the second
-pub stopped_second_of : {a b c : Option (List ℕ)} {i j k : ℕ} {p q : List ℕ} {e : RunError} (x y rest whole : List ℕ) → x ++ (y ++ rest) ≡ whole → Passed a b i j p q x → Stopped b c j k (q ++ y) e → Stopped a c i k (p ++ whole) e
-stopped_second_of {a = a} {c = c} {i = i} {k = k} {p = p} {q = q} {e = e} x y rest whole is h g =
-    subst (λ (t : List ℕ). Stopped a c i k (p ++ t) e) is (stopped_then (y ++ rest) h (stopped_before q y rest g))
+pub stopped_second_of : {a b c : Stream} {p q : List ℕ} {e : RunError} (x y rest whole : List ℕ) → x ++ (y ++ rest) ≡ whole → Passed a b p q x → Stopped b c (q ++ y) e → Stopped a c (p ++ whole) e
+stopped_second_of {a = a} {c = c} {p = p} {q = q} {e = e} x y rest whole is h g =
+    subst (λ (t : List ℕ). Stopped a c (p ++ t) e) is (stopped_then (y ++ rest) h (stopped_before q y rest g))
 
 -- the last of two
-pub passes_two : {X : Type 0} {a b : Option (List ℕ)} {i j : ℕ} {p q : List ℕ} (c : Option (List ℕ)) (k : ℕ) (s x y whole : List ℕ) (r : Result X RunError) → x ++ y ≡ whole → Passed a b i j p q x → PassesOn b c j k q s y r → PassesOn a c i k p s whole r
-passes_two {a = a} {i = i} {p = p} c k s x y whole r is h g = subst (λ (t : List ℕ). PassesOn a c i k p s t r) is (passes_then c k s y r h g)
+pub passes_two : {X : Type 0} {a b : Stream} {p q : List ℕ} (c : Stream) (s x y whole : List ℕ) (r : Result X RunError) → x ++ y ≡ whole → Passed a b p q x → PassesOn b c q s y r → PassesOn a c p s whole r
+passes_two {a = a} {p = p} c s x y whole r is h g = subst (λ (t : List ℕ). PassesOn a c p s t r) is (passes_then c s y r h g)
 
 -- the last of three
-pub passes_three : {X : Type 0} {a b c : Option (List ℕ)} {i j k : ℕ} {p q s : List ℕ} (d : Option (List ℕ)) (l : ℕ) (u x y z whole : List ℕ) (r : Result X RunError) → x ++ (y ++ z) ≡ whole
-    → Passed a b i j p q x → Passed b c j k q s y → PassesOn c d k l s u z r → PassesOn a d i l p u whole r
-passes_three d l u x y z whole r is h g f = passes_two d l u x (y ++ z) whole r is h (passes_then d l u z r g f)
+pub passes_three : {X : Type 0} {a b c : Stream} {p q s : List ℕ} (d : Stream) (u x y z whole : List ℕ) (r : Result X RunError) → x ++ (y ++ z) ≡ whole
+    → Passed a b p q x → Passed b c q s y → PassesOn c d s u z r → PassesOn a d p u whole r
+passes_three d u x y z whole r is h g f = passes_two d u x (y ++ z) whole r is h (passes_then d u z r g f)
 
 -- the same text in other words
-pub passes_same : {X : Type 0} (a b : Option (List ℕ)) (i j : ℕ) (p q x y : List ℕ) (r : Result X RunError) → x ≡ y → PassesOn a b i j p q x r → PassesOn a b i j p q y r
-passes_same a b i j p q x y r is h = subst (λ (t : List ℕ). PassesOn a b i j p q t r) is h
+pub passes_same : {X : Type 0} (a b : Stream) (p q x y : List ℕ) (r : Result X RunError) → x ≡ y → PassesOn a b p q x r → PassesOn a b p q y r
+passes_same a b p q x y r is h = subst (λ (t : List ℕ). PassesOn a b p q t r) is h

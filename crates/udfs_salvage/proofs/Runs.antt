@@ -20,10 +20,11 @@ use Rattle.udfs_salvage.specs.declared.errors.RunError.{RunError}
 use Rattle.udfs_salvage.specs.declared.errors.RunError.TheVariants.{Reading, Salvage, Write, OutOfMemory}
 use Rattle.udfs_salvage.specs.declared.errors.SalvageError.{SalvageError}
 use Rattle.udfs_salvage.specs.declared.errors.SalvageError.TheVariants as errors
+use Rattle.udfs_reading.specs.Device.{Stream}
 
 -- nothing was printed yet
-pub nothing_out : (P : Profile) (old : Option (List ℕ)) (i : ℕ) (last : ℕ) (table : Table) → PrintsNothing old old i i ⊎ PrintsOfBy P last old old i i (Err OutOfMemory) table
-nothing_out P old i last table = inl (record { given = Appends-nil old; kept = refl })
+pub nothing_out : (P : Profile) (old : Stream) (last : ℕ) (table : Table) → PrintsNothing old old ⊎ PrintsOfBy P last old old (Err OutOfMemory) table
+nothing_out P old last table = inl (record { given = Appends-nil old.contents; kept = refl })
 
 abbrev IsNamed : InputError → ℕ → ReadingFault → ℕ → Type 0
 IsNamed e input fault number = IsOfFile e.error.fault → (e.input ≡ input) × (e.error.fault ≡ fault) × (e.error.number ≡ number)
@@ -88,29 +89,29 @@ not_reported P table last r errors.TooManyPaths is q = not_too_many P (state_of 
 not_reported P table last r errors.OutOfMemory is q = q
 
 -- what refuses a table is told, and no lawful volume agrees with it; or memory was wanted, and nothing is out
-refused_as : (P : Profile) (table : Table) (last : ℕ) (old : Option (List ℕ)) (i : ℕ) {X : Type 0} (r : Result X SalvageError) (e : SalvageError) → r ≡ Err e → (r ≡ Err errors.LastRange → IsOutOfRange last)
+refused_as : (P : Profile) (table : Table) (last : ℕ) (old : Stream) {X : Type 0} (r : Result X SalvageError) (e : SalvageError) → r ≡ Err e → (r ≡ Err errors.LastRange → IsOutOfRange last)
     → ((n : ℕ) → r ≡ Err (errors.PastEnd n) → (¬ IsOutOfRange last) × IsPastEnd (state_of table) last n)
     → (r ≡ Err errors.TooManyPaths → (¬ IsOutOfRange last) × IsNothingPast (state_of table) last × HasTooManyPathsBy P (state_of table) last)
-    → IsOfNoLawfulBy P (state_of table) last e → AnswersForBy P last old old i i (Err (salvage_run_error e)) table
-refused_as P table last old i r errors.LastRange is range past many none = (range is, none)
-refused_as P table last old i r (errors.PastEnd n) is range past many none = (past n is, none)
-refused_as P table last old i r errors.TooManyPaths is range past many none = (many is, none)
-refused_as P table last old i r errors.OutOfMemory is range past many none = nothing_out P old i last table
+    → IsOfNoLawfulBy P (state_of table) last e → AnswersForBy P last old old (Err (salvage_run_error e)) table
+refused_as P table last old r errors.LastRange is range past many none = (range is, none)
+refused_as P table last old r (errors.PastEnd n) is range past many none = (past n is, none)
+refused_as P table last old r errors.TooManyPaths is range past many none = (many is, none)
+refused_as P table last old r errors.OutOfMemory is range past many none = nothing_out P old last table
 
-pub refused_by : (P : Profile) (table : Table) (last : ℕ) (old : Option (List ℕ)) (i : ℕ) {X : Type 0} (r : Result X SalvageError) (e : SalvageError) (x : RunError) → x ≡ salvage_run_error e → r ≡ Err e
+pub refused_by : (P : Profile) (table : Table) (last : ℕ) (old : Stream) {X : Type 0} (r : Result X SalvageError) (e : SalvageError) (x : RunError) → x ≡ salvage_run_error e → r ≡ Err e
     → (r ≡ Err errors.LastRange → IsOutOfRange last) → ((n : ℕ) → r ≡ Err (errors.PastEnd n) → (¬ IsOutOfRange last) × IsPastEnd (state_of table) last n)
     → (r ≡ Err errors.TooManyPaths → (¬ IsOutOfRange last) × IsNothingPast (state_of table) last × HasTooManyPathsBy P (state_of table) last)
-    → IsOfNoLawfulBy P (state_of table) last e → AnswersForBy P last old old i i (Err x) table
-refused_by P table last old i r e x same is range past many none = subst (λ z. AnswersForBy P last old old i i (Err z) table) (sym same) (refused_as P table last old i r e is range past many none)
+    → IsOfNoLawfulBy P (state_of table) last e → AnswersForBy P last old old (Err x) table
+refused_by P table last old r e x same is range past many none = subst (λ z. AnswersForBy P last old old (Err z) table) (sym same) (refused_as P table last old r e is range past many none)
 
 -- of a table that has no report, nothing but the reason is told
-pub refuses : (P : Profile) (last : ℕ) (old new : Option (List ℕ)) (i j : ℕ) (result : Result Bool RunError) (table : Table) (why : SalvageError) → AnswersForBy P last old new i j result table
+pub refuses : (P : Profile) (last : ℕ) (old new : Stream) (result : Result Bool RunError) (table : Table) (why : SalvageError) → AnswersForBy P last old new result table
     → IsRefusedForBy P table last why → MatchResult result (λ _. ⊥) (RefusesWith why)
-refuses P last old new i j (Ok x) table why h q = not_reported P table last h.report why h.headline.report_is q
-refuses P last old new i j (Err (Reading e)) table why h q = tt
-refuses P last old new i j (Err (Salvage e)) table why h q = one_reason P table last e why h.0 q
-refuses P last old new i j (Err Write) table why h q = not_reported P table last h.report why h.headline.report_is q
-refuses P last old new i j (Err OutOfMemory) table why h q = tt
+refuses P last old new (Ok x) table why h q = not_reported P table last h.report why h.headline.report_is q
+refuses P last old new (Err (Reading e)) table why h q = tt
+refuses P last old new (Err (Salvage e)) table why h q = one_reason P table last e why h.0 q
+refuses P last old new (Err Write) table why h q = not_reported P table last h.report why h.headline.report_is q
+refuses P last old new (Err OutOfMemory) table why h q = tt
 
 -- ---- counts of faults, where no input was to blame
 

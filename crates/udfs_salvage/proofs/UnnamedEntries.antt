@@ -6,18 +6,17 @@ use Rattle.std.proofs.lemmas.Bool.{cases_Bool}
 use Rattle.std.proofs.lemmas.Option.{get_or_from_slice_get}
 use Rattle.udfs_lattice.specs.Volumes.{Blocks, Includes, ascending}
 use Rattle.udfs_lattice.proofs.PublicLaws.{ascending_includes}
-use Rattle.udfs_volume.specs.Answers.{Answer, found, holes, faulty}
+use Rattle.udfs_volume.specs.Answers.{found}
 use Rattle.udfs_volume.specs.declared.profiles.Profile.{Profile}
 use Rattle.udfs_space.specs.Places.{View, view}
 use Rattle.udfs_space.specs.Sparing.{Space}
 use Rattle.udfs_file.specs.Bodies.{Body, body, cells, faulty_body}
-use Rattle.udfs_file.specs.Entries.{EntryFields}
 use Rattle.udfs_file.specs.declared.cells.Cell.{Cell}
 use Rattle.udfs_file.specs.declared.faults.Kind.{Kind}
 use Rattle.udfs_file.specs.declared.faults.Kind.TheVariants as kind
 use Rattle.udfs_walk.specs.NodeBodies.{HasCells}
 use Rattle.udfs_walk.specs.NodeFields.{NodeFields}
-use Rattle.udfs_walk.specs.Standings.{body_standing, cells_standing, kind_standing, missing_blocks, runs_from, torn_or_whole}
+use Rattle.udfs_walk.specs.Standings.{body_standing, cells_standing, missing_blocks, runs_from, torn_or_whole}
 use Rattle.udfs_walk.specs.Targets.{Target, bad, unread, entry, target, Icb}
 use Rattle.udfs_walk.specs.UnnamedEntries.{address_of, entry_alone, icbs_in, names, unnamed, unnamed_at, unnamed_with}
 use Rattle.udfs_walk.specs.declared.answers.Unnamed.{Unnamed}

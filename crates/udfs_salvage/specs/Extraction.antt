@@ -20,6 +20,7 @@ use Rattle.udfs_salvage.specs.declared.extraction.Fill.{Fill}
 use Rattle.udfs_salvage.specs.declared.extraction.Fill.TheVariants.{Refuse, Byte}
 use Rattle.udfs_salvage.specs.declared.extraction.ExtractError.{ExtractError}
 use Rattle.udfs_salvage.specs.declared.extraction.ExtractError.TheVariants.{NotWhole, Write, OutOfMemory}
+use Rattle.udfs_reading.specs.Device.{Stream}
 
 -- a torn node may be filled where its size is known and a byte is given
 abbrev pub may_fill : Option ℕ → Fill → Bool
@@ -59,8 +60,8 @@ abbrev pub HasCellsIn : Blocks → ℕ → ℕ → List Cell → Type 0
 HasCellsIn = HasCellsInBy Strict
 
 -- all of the bytes were written; or a beginning of them, and then the sink failed; or nothing, for want of memory
-abbrev pub Extracts : {X : Type 0} → Option (List ℕ) → Option (List ℕ) → ℕ → ℕ → List ℕ → Result X ExtractError → Type 0
-Extracts old new i j bytes (Ok x) = Wrote old new i j bytes
-Extracts old new i j bytes (Err NotWhole) = ⊥
-Extracts old new i j bytes (Err Write) = Failed old new i j bytes
-Extracts old new i j bytes (Err OutOfMemory) = (new ≡ old) × (j ≡ i)
+abbrev pub Extracts : {X : Type 0} → Stream → Stream → List ℕ → Result X ExtractError → Type 0
+Extracts old new bytes (Ok x) = Wrote old new bytes
+Extracts old new bytes (Err NotWhole) = ⊥
+Extracts old new bytes (Err Write) = Failed old new bytes
+Extracts old new bytes (Err OutOfMemory) = new ≡ old

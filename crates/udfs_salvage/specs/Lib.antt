@@ -15,5 +15,6 @@ pub mod RereadTexts
 pub mod JsonNodes
 pub mod JsonReports
 pub mod Surveys
+pub mod Listings
 pub mod JsonPieces
 pub mod UnnamedExtraction

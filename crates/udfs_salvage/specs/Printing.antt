@@ -1,5 +1,5 @@
 -- What printing does to a sink that tells its bytes.
---     Prints old new i j text result      all of the text was written; or a beginning of it, and then came the error
+--     Prints old new text result      all of the text was written; or a beginning of it, and then came the error
 --     PassesOn                            the same of text that is held before it is written
 --     PutsMost                            the text was put, or a beginning of it before memory was refused
 use Rattle.std.specs.Prelude.{◌≡◌, ℕ, ◌+◌, ◌%◌, ◌^◌, List, ◌++◌, Option, Result, Ok, Err}
@@ -8,6 +8,7 @@ use Rattle.udfs_reading.specs.Writing.{Wrote, Passed}
 use Rattle.udfs_printing.specs.Puts.{Puts}
 use Rattle.udfs_salvage.specs.declared.errors.RunError.{RunError}
 use Rattle.udfs_salvage.specs.declared.errors.RunError.TheVariants.{Reading, Salvage, Write, OutOfMemory}
+use Rattle.udfs_reading.specs.Device.{Stream}
 
 -- the sink's count of faults, by the error: it moved exactly if the sink failed; and printing has no other error
 abbrev pub CountsBy : ℕ → ℕ → RunError → Type 0
@@ -17,31 +18,31 @@ CountsBy i j Write = j ≡ (i + 1) % 2 ^ 64
 CountsBy i j OutOfMemory = j ≡ i
 
 -- a beginning of the text was written, and then came the error
-pub record Stopped (old new : Option (List ℕ)) (i j : ℕ) (text : List ℕ) (e : RunError) : Type 0 where
+pub record Stopped (old new : Stream) (text : List ℕ) (e : RunError) : Type 0 where
   pub out : List ℕ
   pub rest : List ℕ
-  pub given : Appends old new out
+  pub given : Appends old.contents new.contents out
   pub whole : text ≡ out ++ rest
-  pub count : CountsBy i j e
+  pub count : CountsBy old.faults new.faults e
 
 -- the text is out, or a beginning of it and then the sink's fault or want of memory
-abbrev pub Prints : {X : Type 0} → Option (List ℕ) → Option (List ℕ) → ℕ → ℕ → List ℕ → Result X RunError → Type 0
-Prints old new i j text (Ok x) = Wrote old new i j text
-Prints old new i j text (Err e) = Stopped old new i j text e
+abbrev pub Prints : {X : Type 0} → Stream → Stream → List ℕ → Result X RunError → Type 0
+Prints old new text (Ok x) = Wrote old new text
+Prints old new text (Err e) = Stopped old new text e
 
 -- the text was taken behind what was held, of which a front was written
-abbrev pub PassesOn : {X : Type 0} → Option (List ℕ) → Option (List ℕ) → ℕ → ℕ → List ℕ → List ℕ → List ℕ → Result X RunError → Type 0
-PassesOn old new i j held still text (Ok x) = Passed old new i j held still text
-PassesOn old new i j held still text (Err e) = Stopped old new i j (held ++ text) e
+abbrev pub PassesOn : {X : Type 0} → Stream → Stream → List ℕ → List ℕ → List ℕ → Result X RunError → Type 0
+PassesOn old new held still text (Ok x) = Passed old new held still text
+PassesOn old new held still text (Err e) = Stopped old new (held ++ text) e
 
 -- a beginning of the text was put behind what was held
-pub record PutsFront (old new : Option (List ℕ)) (i j : ℕ) (held still : Option (List ℕ)) (text : List ℕ) : Type 0 where
+pub record PutsFront (old new : Stream) (held still : Option (List ℕ)) (text : List ℕ) : Type 0 where
   pub front : List ℕ
   pub rest : List ℕ
-  pub put : Puts old new i j held still front
+  pub put : Puts old new held still front
   pub whole : text ≡ front ++ rest
 
 -- the text was put behind what was held, or a beginning of it, and then memory was refused
-abbrev pub PutsMost : {X E : Type 0} → Option (List ℕ) → Option (List ℕ) → ℕ → ℕ → Option (List ℕ) → Option (List ℕ) → List ℕ → Result X E → Type 0
-PutsMost old new i j held still text (Ok x) = Puts old new i j held still text
-PutsMost old new i j held still text (Err e) = PutsFront old new i j held still text
+abbrev pub PutsMost : {X E : Type 0} → Stream → Stream → Option (List ℕ) → Option (List ℕ) → List ℕ → Result X E → Type 0
+PutsMost old new held still text (Ok x) = Puts old new held still text
+PutsMost old new held still text (Err e) = PutsFront old new held still text

@@ -22,6 +22,7 @@ use Rattle.udfs_salvage.specs.declared.errors.SalvageError.{SalvageError}
 use Rattle.udfs_salvage.specs.declared.errors.SalvageError.TheVariants as salvage
 use Rattle.udfs_salvage.specs.declared.errors.RunError.{RunError}
 use Rattle.udfs_salvage.specs.declared.errors.RunError.TheVariants.{Reading, Salvage, Write, OutOfMemory}
+use Rattle.udfs_reading.specs.Device.{Stream}
 
 -- why a table has no report: the first reason in order
 abbrev pub IsRefusedForBy : Profile → Table → ℕ → SalvageError → Type 0
@@ -44,32 +45,32 @@ SaysWhole (Ok whole) report = whole ≡ all_whole report.nodes
 SaysWhole (Err e) report = ⊤
 
 -- the text of the table's report was printed, or a beginning of it; and of that report all holds that is promised of reports
-pub record PrintsOfBy (profile : Profile) (last : ℕ) (old new : Option (List ℕ)) (i j : ℕ) (result : Result Bool RunError) (table : Table) : Type 0 where
+pub record PrintsOfBy (profile : Profile) (last : ℕ) (old new : Stream) (result : Result Bool RunError) (table : Table) : Type 0 where
   pub report : Report
   pub headline : HeadlineBy profile (state_of table) last report
-  pub prints : Prints old new i j (report_text_by profile table last report) result
+  pub prints : Prints old new (report_text_by profile table last report) result
   pub says : SaysWhole result report
 
 -- the same by the strict rules
-abbrev pub PrintsOf : ℕ → Option (List ℕ) → Option (List ℕ) → ℕ → ℕ → Result Bool RunError → Table → Type 0
+abbrev pub PrintsOf : ℕ → Stream → Stream → Result Bool RunError → Table → Type 0
 PrintsOf = PrintsOfBy Strict
 
 -- nothing was printed
-pub record PrintsNothing (old new : Option (List ℕ)) (i j : ℕ) : Type 0 where
-  pub given : Appends old new []
-  pub kept : j ≡ i
+pub record PrintsNothing (old new : Stream) : Type 0 where
+  pub given : Appends old.contents new.contents []
+  pub kept : new.faults ≡ old.faults
 
 -- what a run says of the table of its inputs: its report; or why there is none, and then nothing is out, and no lawful
 -- volume agrees with the table
-abbrev pub AnswersForBy : Profile → ℕ → Option (List ℕ) → Option (List ℕ) → ℕ → ℕ → Result Bool RunError → Table → Type 0
-AnswersForBy profile last old new i j (Ok x) table = PrintsOfBy profile last old new i j (Ok x) table
-AnswersForBy profile last old new i j (Err (Reading e)) table = ⊥
-AnswersForBy profile last old new i j (Err (Salvage e)) table = IsRefusedForBy profile table last e × AgreesWithNoneBy profile (state_of table) last
-AnswersForBy profile last old new i j (Err Write) table = PrintsOfBy profile last old new i j (Err Write) table
-AnswersForBy profile last old new i j (Err OutOfMemory) table = PrintsNothing old new i j ⊎ PrintsOfBy profile last old new i j (Err OutOfMemory) table
+abbrev pub AnswersForBy : Profile → ℕ → Stream → Stream → Result Bool RunError → Table → Type 0
+AnswersForBy profile last old new (Ok x) table = PrintsOfBy profile last old new (Ok x) table
+AnswersForBy profile last old new (Err (Reading e)) table = ⊥
+AnswersForBy profile last old new (Err (Salvage e)) table = IsRefusedForBy profile table last e × AgreesWithNoneBy profile (state_of table) last
+AnswersForBy profile last old new (Err Write) table = PrintsOfBy profile last old new (Err Write) table
+AnswersForBy profile last old new (Err OutOfMemory) table = PrintsNothing old new ⊎ PrintsOfBy profile last old new (Err OutOfMemory) table
 
 -- the same by the strict rules
-abbrev pub AnswersFor : ℕ → Option (List ℕ) → Option (List ℕ) → ℕ → ℕ → Result Bool RunError → Table → Type 0
+abbrev pub AnswersFor : ℕ → Stream → Stream → Result Bool RunError → Table → Type 0
 AnswersFor = AnswersForBy Strict
 
 -- the inputs were read, as far as the answer alone tells: want of memory may have come before

@@ -1,6 +1,6 @@
 //! The bytes of bodies are written, straight from the blocks of the table.
 
-ghost use Rattle.std.specs.Prelude.{◌≡◌, List, length, replicate};
+ghost use Rattle.std.specs.Prelude.{◌≡◌, List, [], OnOk, length, replicate};
 ghost use Rattle.udfs_space.specs.Views.{view_now};
 ghost use Rattle.udfs_file.specs.Portions.{IsPortion, portion_count};
 ghost use Rattle.udfs_file.specs.Stretches.{cells_of};
@@ -22,7 +22,7 @@ fn push_same<W: Sink>(
     byte: u8,
     count: u64,
 ) -> Result<(), WriteFault>
-    ensures { Passes (W.contents sink.old) (W.contents sink.new) (W.faults sink.old) (W.faults sink.new) out.old out.new (replicate count byte) result }
+    ensures { Passes (W.stream sink.old) (W.stream sink.new) out.old out.new (replicate count byte) result }
 {
     let piece = [byte; PIECE];
     let mut left = count;
@@ -36,7 +36,7 @@ fn push_same<W: Sink>(
 
 /// Writes bytes of the table.
 fn push_bytes<W: Sink>(out: &mut Outgoing, sink: &mut W, bytes: &[u8]) -> Result<(), WriteFault>
-    ensures { Passes (W.contents sink.old) (W.contents sink.new) (W.faults sink.old) (W.faults sink.new) out.old out.new bytes.now result }
+    ensures { Passes (W.stream sink.old) (W.stream sink.new) out.old out.new bytes.now result }
 {
     let mut at = 0;
     'pieces: while at < bytes.len() {
@@ -55,7 +55,7 @@ fn push_portion<W: Sink>(
     fill: u8,
 ) -> Result<(), WriteFault>
     ensures { (cs : List Cell) → IsPortion portion.entry cs → length cs ≡ portion_count portion.entry →
-        Passes (W.contents sink.old) (W.contents sink.new) (W.faults sink.old) (W.faults sink.new) out.old out.new (filled fill cs) result }
+        Passes (W.stream sink.old) (W.stream sink.new) out.old out.new (filled fill cs) result }
 {
     match portion {
         Portion::Bytes(bytes) => push_bytes(out, sink, bytes),
@@ -72,7 +72,7 @@ fn push_portions<W: Sink>(
     body: &Body,
     fill: u8,
 ) -> Result<(), WriteFault>
-    ensures { Passes (W.contents sink.old) (W.contents sink.new) (W.faults sink.old) (W.faults sink.new) out.old out.new
+    ensures { Passes (W.stream sink.old) (W.stream sink.new) out.old out.new
         (filled fill (cells_of (view_now view.entry) body.now)) result }
 {
     for portion in body.portions(view) {
@@ -81,18 +81,20 @@ fn push_portions<W: Sink>(
     Ok(())
 }
 
-/// Writes the bytes of a body, and the byte `fill` for each that is missing. It takes no memory.
+/// Writes the bytes of a body, and the byte `fill` for each that is missing, through a piece of outgoing bytes that holds none, nor does then. It takes no memory.
 pub(crate) fn write_body<W: Sink>(
+    out: &mut Outgoing,
+    sink: &mut W,
     view: View<'_>,
     body: &Body,
     fill: u8,
-    sink: &mut W,
 ) -> Result<(), WriteFault>
-    ensures { Writes (W.contents sink.old) (W.contents sink.new) (W.faults sink.old) (W.faults sink.new)
+    requires { out.old ≡ [] }
+    ensures written { Writes (W.stream sink.old) (W.stream sink.new)
         (filled fill (cells_of (view_now view.entry) body.now)) result }
+    ensures empty { OnOk result (out.new ≡ []) }
 {
-    let mut out = Outgoing::new();
-    push_portions(&mut out, sink, view, body, fill)?;
+    push_portions(out, sink, view, body, fill)?;
     out.flush(sink)?;
     Ok(())
 }

@@ -1,6 +1,6 @@
 //! The bytes of a node are written.
 
-ghost use Rattle.std.specs.Prelude.{◌≡◌, ◌<◌, ◌↔◌, ℕ, Bool, true, false, List, Some, length, slice_get, IsErrOf, IfErr};
+ghost use Rattle.std.specs.Prelude.{◌≡◌, ◌<◌, ◌↔◌, ℕ, Bool, true, false, List, [], Some, length, slice_get, IsErrOf, IfErr, OnOk};
 ghost use Rattle.udfs_lattice.specs.Tables.{state_of};
 ghost use Rattle.udfs_space.specs.Places.{view};
 ghost use Rattle.udfs_file.specs.declared.cells.Cell.{Cell};
@@ -20,7 +20,7 @@ use std::alloc::{AllocError, Global};
 use std::error::Error;
 use std::fmt;
 use udfs_lattice::BlockTable;
-use udfs_reading::{Sink, WriteFault};
+use udfs_reading::{Outgoing, Sink, WriteFault};
 use udfs_space::{Space, View};
 use udfs_tag::LongAd;
 use udfs_walk::{Node, Standing, body_at};
@@ -58,7 +58,7 @@ impl fmt::Display for ExtractError {
 impl Error for ExtractError {}
 
 /// The byte for those that are missing.
-fn fill_byte(fill: Fill) -> u8
+pub(crate) fn fill_byte(fill: Fill) -> u8
     ensures { result ≡ fill_byte fill }
 {
     match fill {
@@ -78,23 +78,26 @@ pub fn is_offered(node: &Node, fill: Fill) -> bool
     }
 }
 
-/// Writes the body of the entry at an address, where there is one.
+/// Writes the body of the entry at an address, where there is one, through a piece of outgoing bytes that holds none, nor does after it.
 pub(crate) fn write_at<W: Sink>(
     alloc: Global,
     table: &BlockTable,
     space: &Space,
     address: LongAd,
     fill: u8,
+    out: &mut Outgoing,
     sink: &mut W,
 ) -> Result<(), ExtractError>
+    requires { out.old ≡ [] }
     ensures cells { (cs : List Cell) → HasCells (view (state_of table.now) space.now) address cs →
-        Extracts (W.contents sink.old) (W.contents sink.new) (W.faults sink.old) (W.faults sink.new) (filled fill cs) result }
+        Extracts (W.stream sink.old) (W.stream sink.new) (filled fill cs) result }
     ensures not_whole { IsErrOf result ExtractError.NotWhole → sink.new ≡ sink.old }
     ensures memory { IsErrOf result ExtractError.OutOfMemory → sink.new ≡ sink.old }
     ensures wanted { IsErrOf result ExtractError.OutOfMemory → MayTakeMemory (view (state_of table.now) space.now) address }
+    ensures empty { OnOk result (out.new ≡ []) }
 {
     match body_at(alloc, table, space, address) {
-        Ok(Some(body)) => match write_body(View { table, space }, &body, fill, sink) {
+        Ok(Some(body)) => match write_body(out, sink, View { table, space }, &body, fill) {
             Ok(()) => Ok(()),
             Err(WriteFault) => Err(ExtractError::Write),
         },
@@ -131,23 +134,23 @@ pub fn extract_by<W: Sink>(
     ensures cells { (profile : Profile) (last : ℕ) (n : NodeFields) → IsReportBy profile (state_of report.now.table.now) last (report_now report.now) →
         slice_get report.now.nodes.items index ≡ Some n → is_offered n.standing n.size fill ≡ true →
         (cs : List Cell) × HasCellsInBy profile (state_of report.now.table.now) last index cs ×
-        Extracts (W.contents sink.old) (W.contents sink.new) (W.faults sink.old) (W.faults sink.new) (filled (fill_byte fill) cs) result }
+        Extracts (W.stream sink.old) (W.stream sink.new) (filled (fill_byte fill) cs) result }
     ensures not_whole { (profile : Profile) (last : ℕ) (n : NodeFields) → IsReportBy profile (state_of report.now.table.now) last (report_now report.now) →
         slice_get report.now.nodes.items index ≡ Some n → (IsErrOf result ExtractError.NotWhole ↔ (is_offered n.standing n.size fill ≡ false)) }
     // Of a whole node they are those of the volume's file at its path, for every lawful volume with which the table agrees.
     ensures tree { (profile : Profile) (last : ℕ) (n : NodeFields) → IsReportBy profile (state_of report.now.table.now) last (report_now report.now) →
         slice_get report.now.nodes.items index ≡ Some n → n.standing ≡ Standing.Whole →
         WritesFileBy profile (state_of report.now.table.now) last (report_now report.now) index n
-        (λ bytes. Extracts (W.contents sink.old) (W.contents sink.new) (W.faults sink.old) (W.faults sink.new) bytes result) }
+        (λ bytes. Extracts (W.stream sink.old) (W.stream sink.new) bytes result) }
     // Of any node that is written, a torn one too, they are that file's bytes outside the node's holes, and in them the byte that fills.
     ensures filled { (profile : Profile) (last : ℕ) (n : NodeFields) → IsReportBy profile (state_of report.now.table.now) last (report_now report.now) →
         slice_get report.now.nodes.items index ≡ Some n → is_offered n.standing n.size fill ≡ true →
         FillsFileBy profile (state_of report.now.table.now) last n (fill_byte fill)
-        (λ bytes. Extracts (W.contents sink.old) (W.contents sink.new) (W.faults sink.old) (W.faults sink.new) bytes result) }
+        (λ bytes. Extracts (W.stream sink.old) (W.stream sink.new) bytes result) }
     // Of a report that was put together otherwise, they are those that its volume and the node's own address give.
     ensures stated { (f : Found) (n : NodeFields) (cs : List Cell) → volume_now report.now.volume ≡ found f →
         slice_get report.now.nodes.items index ≡ Some n → is_offered n.standing n.size fill ≡ true → HasCells (view (state_of report.now.table.now) f.space) n.icb cs →
-        Extracts (W.contents sink.old) (W.contents sink.new) (W.faults sink.old) (W.faults sink.new) (filled (fill_byte fill) cs) result }
+        Extracts (W.stream sink.old) (W.stream sink.new) (filled (fill_byte fill) cs) result }
     ensures nothing { IsErrOf result ExtractError.NotWhole → sink.new ≡ sink.old }
     ensures memory { IsErrOf result ExtractError.OutOfMemory → sink.new ≡ sink.old }
     // Memory is wanted only where the body at the node's address is embedded or has a byte.
@@ -161,7 +164,16 @@ pub fn extract_by<W: Sink>(
     match &report.volume {
         Volume::Open(opened) => {
             let byte = fill_byte(fill);
-            write_at(alloc, report.table, &opened.space, node.icb, byte, sink)
+            let mut out = Outgoing::new();
+            write_at(
+                alloc,
+                report.table,
+                &opened.space,
+                node.icb,
+                byte,
+                &mut out,
+                sink,
+            )
         }
         _ => Err(ExtractError::NotWhole),
     }
@@ -195,23 +207,23 @@ pub fn extract<W: Sink>(
     ensures cells { (last : ℕ) (n : NodeFields) → IsReport (state_of report.now.table.now) last (report_now report.now) →
         slice_get report.now.nodes.items index ≡ Some n → is_offered n.standing n.size fill ≡ true →
         (cs : List Cell) × HasCellsIn (state_of report.now.table.now) last index cs ×
-        Extracts (W.contents sink.old) (W.contents sink.new) (W.faults sink.old) (W.faults sink.new) (filled (fill_byte fill) cs) result }
+        Extracts (W.stream sink.old) (W.stream sink.new) (filled (fill_byte fill) cs) result }
     ensures not_whole { (last : ℕ) (n : NodeFields) → IsReport (state_of report.now.table.now) last (report_now report.now) →
         slice_get report.now.nodes.items index ≡ Some n → (IsErrOf result ExtractError.NotWhole ↔ (is_offered n.standing n.size fill ≡ false)) }
     // Of a whole node they are those of the volume's file at its path, for every lawful volume with which the table agrees.
     ensures tree { (last : ℕ) (n : NodeFields) → IsReport (state_of report.now.table.now) last (report_now report.now) →
         slice_get report.now.nodes.items index ≡ Some n → n.standing ≡ Standing.Whole →
         WritesFile (state_of report.now.table.now) last (report_now report.now) index n
-        (λ bytes. Extracts (W.contents sink.old) (W.contents sink.new) (W.faults sink.old) (W.faults sink.new) bytes result) }
+        (λ bytes. Extracts (W.stream sink.old) (W.stream sink.new) bytes result) }
     // Of any node that is written, a torn one too, they are that file's bytes outside the node's holes, and in them the byte that fills.
     ensures filled { (last : ℕ) (n : NodeFields) → IsReport (state_of report.now.table.now) last (report_now report.now) →
         slice_get report.now.nodes.items index ≡ Some n → is_offered n.standing n.size fill ≡ true →
         FillsFile (state_of report.now.table.now) last n (fill_byte fill)
-        (λ bytes. Extracts (W.contents sink.old) (W.contents sink.new) (W.faults sink.old) (W.faults sink.new) bytes result) }
+        (λ bytes. Extracts (W.stream sink.old) (W.stream sink.new) bytes result) }
     // Of a report that was put together otherwise, they are those that its volume and the node's own address give.
     ensures stated { (f : Found) (n : NodeFields) (cs : List Cell) → volume_now report.now.volume ≡ found f →
         slice_get report.now.nodes.items index ≡ Some n → is_offered n.standing n.size fill ≡ true → HasCells (view (state_of report.now.table.now) f.space) n.icb cs →
-        Extracts (W.contents sink.old) (W.contents sink.new) (W.faults sink.old) (W.faults sink.new) (filled (fill_byte fill) cs) result }
+        Extracts (W.stream sink.old) (W.stream sink.new) (filled (fill_byte fill) cs) result }
     ensures nothing { IsErrOf result ExtractError.NotWhole → sink.new ≡ sink.old }
     ensures memory { IsErrOf result ExtractError.OutOfMemory → sink.new ≡ sink.old }
     // Memory is wanted only where the body at the node's address is embedded or has a byte.

@@ -28,7 +28,7 @@ pub(crate) fn put_words<W: Sink>(
     sink: &mut W,
     words: &str,
 ) -> Result<(), RunError>
-    ensures { PassesOn (W.contents sink.old) (W.contents sink.new) (W.faults sink.old) (W.faults sink.new) (string_bytes text.old) (string_bytes text.new) words.now result }
+    ensures { PassesOn (W.stream sink.old) (W.stream sink.new) (string_bytes text.old) (string_bytes text.new) words.now result }
 {
     text.push_str(words)?;
     pass_on(text, sink)
@@ -43,7 +43,7 @@ pub(crate) fn put_value<W: Sink>(
     value: &Value,
 ) -> Result<(), RunError>
     requires { has_float (view value.now) ≡ false }
-    ensures { PassesOn (W.contents sink.old) (W.contents sink.new) (W.faults sink.old) (W.faults sink.new) (string_bytes text.old) (string_bytes text.new) (front.now ++ compact_text (view value.now)) result }
+    ensures { PassesOn (W.stream sink.old) (W.stream sink.new) (string_bytes text.old) (string_bytes text.new) (front.now ++ compact_text (view value.now)) result }
 {
     push_value(alloc, text, front, value)?;
     pass_on(text, sink)
@@ -57,7 +57,7 @@ fn put_count<W: Sink>(
     front: &str,
     block: u32,
 ) -> Result<(), RunError>
-    ensures { PassesOn (W.contents sink.old) (W.contents sink.new) (W.faults sink.old) (W.faults sink.new) (string_bytes text.old) (string_bytes text.new) (front.now ++ compact_text (count block)) result }
+    ensures { PassesOn (W.stream sink.old) (W.stream sink.new) (string_bytes text.old) (string_bytes text.new) (front.now ++ compact_text (count block)) result }
 {
     push_count(alloc, text, front, u64::from(block))?;
     pass_on(text, sink)
@@ -70,7 +70,7 @@ fn put_more_counts<W: Sink>(
     sink: &mut W,
     blocks: &[u32],
 ) -> Result<(), RunError>
-    ensures { PassesOn (W.contents sink.old) (W.contents sink.new) (W.faults sink.old) (W.faults sink.new) (string_bytes text.old) (string_bytes text.new) (more_values count blocks.now) result }
+    ensures { PassesOn (W.stream sink.old) (W.stream sink.new) (string_bytes text.old) (string_bytes text.new) (more_values count blocks.now) result }
 {
     for block in blocks {
         put_count(alloc, text, sink, ",", *block)?;
@@ -85,7 +85,7 @@ fn put_counts<W: Sink>(
     sink: &mut W,
     blocks: &[u32],
 ) -> Result<(), RunError>
-    ensures { PassesOn (W.contents sink.old) (W.contents sink.new) (W.faults sink.old) (W.faults sink.new) (string_bytes text.old) (string_bytes text.new) (compact_text (list_data count blocks.now)) result }
+    ensures { PassesOn (W.stream sink.old) (W.stream sink.new) (string_bytes text.old) (string_bytes text.new) (compact_text (list_data count blocks.now)) result }
 {
     let Some((first, rest)) = blocks.split_first() else {
         return put_words(text, sink, "[]");
@@ -103,7 +103,7 @@ fn put_hole<W: Sink>(
     front: &str,
     hole: (u64, u64),
 ) -> Result<(), RunError>
-    ensures { PassesOn (W.contents sink.old) (W.contents sink.new) (W.faults sink.old) (W.faults sink.new) (string_bytes text.old) (string_bytes text.new) (front.now ++ compact_text (hole_data hole)) result }
+    ensures { PassesOn (W.stream sink.old) (W.stream sink.new) (string_bytes text.old) (string_bytes text.new) (front.now ++ compact_text (hole_data hole)) result }
 {
     let value = hole_value(alloc, hole)?;
     put_value(alloc, text, sink, front, &value)
@@ -116,7 +116,7 @@ fn put_more_holes<W: Sink>(
     sink: &mut W,
     holes: &[(u64, u64)],
 ) -> Result<(), RunError>
-    ensures { PassesOn (W.contents sink.old) (W.contents sink.new) (W.faults sink.old) (W.faults sink.new) (string_bytes text.old) (string_bytes text.new) (more_values hole_data holes.now) result }
+    ensures { PassesOn (W.stream sink.old) (W.stream sink.new) (string_bytes text.old) (string_bytes text.new) (more_values hole_data holes.now) result }
 {
     for hole in holes {
         put_hole(alloc, text, sink, ",", *hole)?;
@@ -131,7 +131,7 @@ fn put_holes<W: Sink>(
     sink: &mut W,
     holes: &[(u64, u64)],
 ) -> Result<(), RunError>
-    ensures { PassesOn (W.contents sink.old) (W.contents sink.new) (W.faults sink.old) (W.faults sink.new) (string_bytes text.old) (string_bytes text.new) (compact_text (list_data hole_data holes.now)) result }
+    ensures { PassesOn (W.stream sink.old) (W.stream sink.new) (string_bytes text.old) (string_bytes text.new) (compact_text (list_data hole_data holes.now)) result }
 {
     let Some((first, rest)) = holes.split_first() else {
         return put_words(text, sink, "[]");
@@ -150,7 +150,7 @@ fn put_reread<W: Sink>(
     front: &str,
     block: u32,
 ) -> Result<(), RunError>
-    ensures { PassesOn (W.contents sink.old) (W.contents sink.new) (W.faults sink.old) (W.faults sink.new) (string_bytes text.old) (string_bytes text.new) (front.now ++ compact_text (reread_data (state_of table.now) block)) result }
+    ensures { PassesOn (W.stream sink.old) (W.stream sink.new) (string_bytes text.old) (string_bytes text.new) (front.now ++ compact_text (reread_data (state_of table.now) block)) result }
 {
     let value = reread_value(alloc, table, block)?;
     put_value(alloc, text, sink, front, &value)
@@ -164,7 +164,7 @@ fn put_more_rereads<W: Sink>(
     table: &BlockTable,
     blocks: &[u32],
 ) -> Result<(), RunError>
-    ensures { PassesOn (W.contents sink.old) (W.contents sink.new) (W.faults sink.old) (W.faults sink.new) (string_bytes text.old) (string_bytes text.new) (more_values (reread_data (state_of table.now)) blocks.now) result }
+    ensures { PassesOn (W.stream sink.old) (W.stream sink.new) (string_bytes text.old) (string_bytes text.new) (more_values (reread_data (state_of table.now)) blocks.now) result }
 {
     for block in blocks {
         put_reread(alloc, text, sink, table, ",", *block)?;
@@ -180,7 +180,7 @@ pub(crate) fn put_rereads<W: Sink>(
     table: &BlockTable,
     blocks: &[u32],
 ) -> Result<(), RunError>
-    ensures { PassesOn (W.contents sink.old) (W.contents sink.new) (W.faults sink.old) (W.faults sink.new) (string_bytes text.old) (string_bytes text.new) (compact_text (list_data (reread_data (state_of table.now)) blocks.now)) result }
+    ensures { PassesOn (W.stream sink.old) (W.stream sink.new) (string_bytes text.old) (string_bytes text.new) (compact_text (list_data (reread_data (state_of table.now)) blocks.now)) result }
 {
     let Some((first, rest)) = blocks.split_first() else {
         return put_words(text, sink, "[]");
@@ -197,7 +197,7 @@ fn put_kind<W: Sink>(
     sink: &mut W,
     kind: Kind,
 ) -> Result<(), RunError>
-    ensures { PassesOn (W.contents sink.old) (W.contents sink.new) (W.faults sink.old) (W.faults sink.new) (string_bytes text.old) (string_bytes text.new) (kind_piece kind) result }
+    ensures { PassesOn (W.stream sink.old) (W.stream sink.new) (string_bytes text.old) (string_bytes text.new) (kind_piece kind) result }
 {
     push_kind(alloc, text, kind)?;
     pass_on(text, sink)
@@ -212,7 +212,7 @@ fn put_lists<W: Sink>(
     kind: Kind,
     missing: &[u32],
 ) -> Result<(), RunError>
-    ensures { PassesOn (W.contents sink.old) (W.contents sink.new) (W.faults sink.old) (W.faults sink.new) (string_bytes text.old) (string_bytes text.new)
+    ensures { PassesOn (W.stream sink.old) (W.stream sink.new) (string_bytes text.old) (string_bytes text.new)
         (compact_text (list_data hole_data holes.now) ++ (kind_piece kind ++ compact_text (list_data count missing.now))) result }
 {
     put_holes(alloc, text, sink, holes)?;
@@ -228,7 +228,7 @@ pub(crate) fn put_told<W: Sink>(
     standing: &Standing,
     kind: Kind,
 ) -> Result<(), RunError>
-    ensures { PassesOn (W.contents sink.old) (W.contents sink.new) (W.faults sink.old) (W.faults sink.new) (string_bytes text.old) (string_bytes text.new) (told_piece standing.now kind) result }
+    ensures { PassesOn (W.stream sink.old) (W.stream sink.new) (string_bytes text.old) (string_bytes text.new) (told_piece standing.now kind) result }
 {
     match standing {
         Standing::Torn(torn) => put_lists(alloc, text, sink, &torn.holes, kind, &torn.missing),

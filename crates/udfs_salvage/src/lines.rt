@@ -42,7 +42,7 @@ fn form_name(volume: &Volume) -> &'static str
 
 /// The line that begins a report.
 fn put_first<W: Sink>(out: &mut Printer, sink: &mut W, volume: &Volume, last: u32)
-    ensures { Puts (W.contents sink.old) (W.contents sink.new) (W.faults sink.old) (W.faults sink.new) out.old out.new (first_line (volume_now volume.now) last) }
+    ensures { Puts (W.stream sink.old) (W.stream sink.new) out.old out.new (first_line (volume_now volume.now) last) }
 {
     out.put(sink, form_name(volume));
     out.put(sink, " last ");
@@ -52,7 +52,7 @@ fn put_first<W: Sink>(out: &mut Printer, sink: &mut W, volume: &Volume, last: u3
 
 /// The line of the rules, where they are not the strict ones.
 fn put_profile<W: Sink>(out: &mut Printer, sink: &mut W, profile: Profile)
-    ensures { Puts (W.contents sink.old) (W.contents sink.new) (W.faults sink.old) (W.faults sink.new) out.old out.new (profile_lines profile) }
+    ensures { Puts (W.stream sink.old) (W.stream sink.new) out.old out.new (profile_lines profile) }
 {
     match profile {
         Profile::Strict => {}
@@ -62,7 +62,7 @@ fn put_profile<W: Sink>(out: &mut Printer, sink: &mut W, profile: Profile)
 
 /// The line of the table's counts.
 fn put_counts<W: Sink>(out: &mut Printer, sink: &mut W, table: &BlockTable)
-    ensures { Puts (W.contents sink.old) (W.contents sink.new) (W.faults sink.old) (W.faults sink.new) out.old out.new (count_line table.now) }
+    ensures { Puts (W.stream sink.old) (W.stream sink.new) out.old out.new (count_line table.now) }
 {
     put_count(out, sink, "known ", u64::from(table.known()));
     out.put(sink, " conflict ");
@@ -72,7 +72,7 @@ fn put_counts<W: Sink>(out: &mut Printer, sink: &mut W, table: &BlockTable)
 
 /// A partition's map, a space before it.
 fn put_map<W: Sink>(out: &mut Printer, sink: &mut W, kind: &PartitionMap)
-    ensures { Puts (W.contents sink.old) (W.contents sink.new) (W.faults sink.old) (W.faults sink.new) out.old out.new (partition_map_text (map_now kind.now)) }
+    ensures { Puts (W.stream sink.old) (W.stream sink.new) out.old out.new (partition_map_text (map_now kind.now)) }
 {
     match kind {
         PartitionMap::Type1 => out.put(sink, " type1"),
@@ -84,7 +84,7 @@ fn put_map<W: Sink>(out: &mut Printer, sink: &mut W, kind: &PartitionMap)
 
 /// Each partition's map.
 fn put_maps<W: Sink>(out: &mut Printer, sink: &mut W, partitions: &[Partition])
-    ensures { Puts (W.contents sink.old) (W.contents sink.new) (W.faults sink.old) (W.faults sink.new) out.old out.new (map_texts (map partition_now partitions.now)) }
+    ensures { Puts (W.stream sink.old) (W.stream sink.new) out.old out.new (map_texts (map partition_now partitions.now)) }
 {
     for partition in partitions {
         put_map(out, sink, &partition.kind);
@@ -93,14 +93,14 @@ fn put_maps<W: Sink>(out: &mut Printer, sink: &mut W, partitions: &[Partition])
 
 /// A block's number, a space before it.
 fn put_block<W: Sink>(out: &mut Printer, sink: &mut W, block: u32)
-    ensures { Puts (W.contents sink.old) (W.contents sink.new) (W.faults sink.old) (W.faults sink.new) out.old out.new (block_text block) }
+    ensures { Puts (W.stream sink.old) (W.stream sink.new) out.old out.new (block_text block) }
 {
     put_count(out, sink, " ", u64::from(block));
 }
 
 /// Each block's number, a space before it.
 fn put_blocks<W: Sink>(out: &mut Printer, sink: &mut W, blocks: &[u32])
-    ensures { Puts (W.contents sink.old) (W.contents sink.new) (W.faults sink.old) (W.faults sink.new) out.old out.new (block_texts blocks.now) }
+    ensures { Puts (W.stream sink.old) (W.stream sink.new) out.old out.new (block_texts blocks.now) }
 {
     for block in blocks {
         put_block(out, sink, *block);
@@ -109,7 +109,7 @@ fn put_blocks<W: Sink>(out: &mut Printer, sink: &mut W, blocks: &[u32])
 
 /// What the line of a volume that opens begins with.
 fn put_revision<W: Sink>(out: &mut Printer, sink: &mut W, revision: u16)
-    ensures { Puts (W.contents sink.old) (W.contents sink.new) (W.faults sink.old) (W.faults sink.new) out.old out.new (open_text revision) }
+    ensures { Puts (W.stream sink.old) (W.stream sink.new) out.old out.new (open_text revision) }
 {
     out.put(sink, "volume ok revision ");
     out.put(sink, revision_name(revision));
@@ -118,7 +118,7 @@ fn put_revision<W: Sink>(out: &mut Printer, sink: &mut W, revision: u16)
 
 /// The line of a volume that opens.
 fn put_open<W: Sink>(out: &mut Printer, sink: &mut W, opened: &OpenVolume)
-    ensures { Puts (W.contents sink.old) (W.contents sink.new) (W.faults sink.old) (W.faults sink.new) out.old out.new (volume_line (found (found_now opened.now))) }
+    ensures { Puts (W.stream sink.old) (W.stream sink.new) out.old out.new (volume_line (found (found_now opened.now))) }
 {
     put_revision(out, sink, opened.parts.revision);
     put_maps(out, sink, &opened.parts.partitions);
@@ -127,7 +127,7 @@ fn put_open<W: Sink>(out: &mut Printer, sink: &mut W, opened: &OpenVolume)
 
 /// The line of holes.
 fn put_holes<W: Sink>(out: &mut Printer, sink: &mut W, blocks: &[u32])
-    ensures { Puts (W.contents sink.old) (W.contents sink.new) (W.faults sink.old) (W.faults sink.new) out.old out.new (volume_line (holes blocks.now)) }
+    ensures { Puts (W.stream sink.old) (W.stream sink.new) out.old out.new (volume_line (holes blocks.now)) }
 {
     out.put(sink, "volume holes");
     put_blocks(out, sink, blocks);
@@ -136,7 +136,7 @@ fn put_holes<W: Sink>(out: &mut Printer, sink: &mut W, blocks: &[u32])
 
 /// The line of a fault.
 fn put_fault<W: Sink>(out: &mut Printer, sink: &mut W, fault: VolumeFault)
-    ensures { Puts (W.contents sink.old) (W.contents sink.new) (W.faults sink.old) (W.faults sink.new) out.old out.new (volume_line (faulty fault)) }
+    ensures { Puts (W.stream sink.old) (W.stream sink.new) out.old out.new (volume_line (faulty fault)) }
 {
     put_count(out, sink, "volume fault ", u64::from(fault_number(fault)));
     out.put(sink, " ");
@@ -146,7 +146,7 @@ fn put_fault<W: Sink>(out: &mut Printer, sink: &mut W, fault: VolumeFault)
 
 /// The line of the volume.
 pub(crate) fn put_volume<W: Sink>(out: &mut Printer, sink: &mut W, volume: &Volume)
-    ensures { Puts (W.contents sink.old) (W.contents sink.new) (W.faults sink.old) (W.faults sink.new) out.old out.new (volume_line (volume_now volume.now)) }
+    ensures { Puts (W.stream sink.old) (W.stream sink.new) out.old out.new (volume_line (volume_now volume.now)) }
 {
     match volume {
         Volume::Open(opened) => put_open(out, sink, opened),
@@ -157,7 +157,7 @@ pub(crate) fn put_volume<W: Sink>(out: &mut Printer, sink: &mut W, volume: &Volu
 
 /// The line of a label that is a name.
 fn put_label_name<W: Sink>(out: &mut Printer, sink: &mut W, name: &Name)
-    ensures { Puts (W.contents sink.old) (W.contents sink.new) (W.faults sink.old) (W.faults sink.new) out.old out.new (label_line (Label.Name name.now)) }
+    ensures { Puts (W.stream sink.old) (W.stream sink.new) out.old out.new (label_line (Label.Name name.now)) }
 {
     out.put(sink, "label name ");
     put_escaped(out, sink, name);
@@ -166,7 +166,7 @@ fn put_label_name<W: Sink>(out: &mut Printer, sink: &mut W, name: &Name)
 
 /// The line of a label.
 fn put_label<W: Sink>(out: &mut Printer, sink: &mut W, label: &Label)
-    ensures { Puts (W.contents sink.old) (W.contents sink.new) (W.faults sink.old) (W.faults sink.new) out.old out.new (label_line label.now) }
+    ensures { Puts (W.stream sink.old) (W.stream sink.new) out.old out.new (label_line label.now) }
 {
     match label {
         Label::Empty => out.put(sink, "label empty\n"),
@@ -177,7 +177,7 @@ fn put_label<W: Sink>(out: &mut Printer, sink: &mut W, label: &Label)
 
 /// The line of the label, where the volume opens.
 fn put_label_of<W: Sink>(out: &mut Printer, sink: &mut W, volume: &Volume)
-    ensures { Puts (W.contents sink.old) (W.contents sink.new) (W.faults sink.old) (W.faults sink.new) out.old out.new (label_lines (volume_now volume.now)) }
+    ensures { Puts (W.stream sink.old) (W.stream sink.new) out.old out.new (label_lines (volume_now volume.now)) }
 {
     match volume {
         Volume::Open(opened) => put_label(out, sink, &opened.parts.label),
@@ -194,7 +194,7 @@ pub(crate) fn put_head<W: Sink>(
     profile: Profile,
     volume: &Volume,
 )
-    ensures { Puts (W.contents sink.old) (W.contents sink.new) (W.faults sink.old) (W.faults sink.new) out.old out.new (head_text_by profile table.now last (volume_now volume.now)) }
+    ensures { Puts (W.stream sink.old) (W.stream sink.new) out.old out.new (head_text_by profile table.now last (volume_now volume.now)) }
 {
     put_first(out, sink, volume, last);
     put_profile(out, sink, profile);
@@ -216,7 +216,7 @@ fn state_name(table: &BlockTable, block: u32) -> &'static str
 
 /// The line of a block to read again.
 fn put_reread<W: Sink>(out: &mut Printer, sink: &mut W, table: &BlockTable, block: u32)
-    ensures { Puts (W.contents sink.old) (W.contents sink.new) (W.faults sink.old) (W.faults sink.new) out.old out.new (reread_line (state_of table.now) block) }
+    ensures { Puts (W.stream sink.old) (W.stream sink.new) out.old out.new (reread_line (state_of table.now) block) }
 {
     put_count(out, sink, "reread ", u64::from(block));
     out.put(sink, state_name(table, block));
@@ -230,7 +230,7 @@ pub(crate) fn put_rereads<W: Sink>(
     table: &BlockTable,
     blocks: &[u32],
 )
-    ensures { Puts (W.contents sink.old) (W.contents sink.new) (W.faults sink.old) (W.faults sink.new) out.old out.new (reread_lines (state_of table.now) blocks.now) }
+    ensures { Puts (W.stream sink.old) (W.stream sink.new) out.old out.new (reread_lines (state_of table.now) blocks.now) }
 {
     for block in blocks {
         put_reread(out, sink, table, *block);
@@ -239,7 +239,7 @@ pub(crate) fn put_rereads<W: Sink>(
 
 /// The last line.
 pub(crate) fn put_end<W: Sink>(out: &mut Printer, sink: &mut W)
-    ensures { Puts (W.contents sink.old) (W.contents sink.new) (W.faults sink.old) (W.faults sink.new) out.old out.new end_line }
+    ensures { Puts (W.stream sink.old) (W.stream sink.new) out.old out.new end_line }
 {
     out.put(sink, "end\n");
 }

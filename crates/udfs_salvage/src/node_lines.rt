@@ -14,7 +14,7 @@ use udfs_walk::{Node, Path, Standing, Unnamed};
 
 /// A standing, a space before it.
 fn put_standing<W: Sink>(out: &mut Printer, sink: &mut W, standing: &Standing)
-    ensures { Puts (W.contents sink.old) (W.contents sink.new) (W.faults sink.old) (W.faults sink.new) out.old out.new (standing_text standing.now) }
+    ensures { Puts (W.stream sink.old) (W.stream sink.new) out.old out.new (standing_text standing.now) }
 {
     out.put(sink, " ");
     put_word(out, sink, standing_word(standing));
@@ -22,7 +22,7 @@ fn put_standing<W: Sink>(out: &mut Printer, sink: &mut W, standing: &Standing)
 
 /// A kind, a space before it.
 fn put_kind<W: Sink>(out: &mut Printer, sink: &mut W, kind: Kind)
-    ensures { Puts (W.contents sink.old) (W.contents sink.new) (W.faults sink.old) (W.faults sink.new) out.old out.new (kind_text kind) }
+    ensures { Puts (W.stream sink.old) (W.stream sink.new) out.old out.new (kind_text kind) }
 {
     out.put(sink, " ");
     put_word(out, sink, kind_word(kind));
@@ -30,7 +30,7 @@ fn put_kind<W: Sink>(out: &mut Printer, sink: &mut W, kind: Kind)
 
 /// A size, a space before it.
 fn put_size<W: Sink>(out: &mut Printer, sink: &mut W, size: Option<u64>)
-    ensures { Puts (W.contents sink.old) (W.contents sink.new) (W.faults sink.old) (W.faults sink.new) out.old out.new (size_text size) }
+    ensures { Puts (W.stream sink.old) (W.stream sink.new) out.old out.new (size_text size) }
 {
     match size {
         None => out.put(sink, " -"),
@@ -40,7 +40,7 @@ fn put_size<W: Sink>(out: &mut Printer, sink: &mut W, size: Option<u64>)
 
 /// A time that is known, a space before it.
 fn put_known_time<W: Sink>(out: &mut Printer, sink: &mut W, stamp: Stamp)
-    ensures { Puts (W.contents sink.old) (W.contents sink.new) (W.faults sink.old) (W.faults sink.new) out.old out.new (stamp_column (Some stamp)) }
+    ensures { Puts (W.stream sink.old) (W.stream sink.new) out.old out.new (stamp_column (Some stamp)) }
 {
     out.put(sink, " ");
     put_stamp(out, sink, stamp);
@@ -48,7 +48,7 @@ fn put_known_time<W: Sink>(out: &mut Printer, sink: &mut W, stamp: Stamp)
 
 /// A time, a space before it.
 fn put_time<W: Sink>(out: &mut Printer, sink: &mut W, stamp: Option<Stamp>)
-    ensures { Puts (W.contents sink.old) (W.contents sink.new) (W.faults sink.old) (W.faults sink.new) out.old out.new (stamp_column stamp) }
+    ensures { Puts (W.stream sink.old) (W.stream sink.new) out.old out.new (stamp_column stamp) }
 {
     match stamp {
         None => out.put(sink, " -"),
@@ -65,7 +65,7 @@ fn put_told<W: Sink>(
     size: Option<u64>,
     stamp: Option<Stamp>,
 )
-    ensures { Puts (W.contents sink.old) (W.contents sink.new) (W.faults sink.old) (W.faults sink.new) out.old out.new (told_text standing.now kind size stamp) }
+    ensures { Puts (W.stream sink.old) (W.stream sink.new) out.old out.new (told_text standing.now kind size stamp) }
 {
     put_standing(out, sink, standing);
     put_kind(out, sink, kind);
@@ -75,7 +75,7 @@ fn put_told<W: Sink>(
 
 /// A name behind a `/`.
 fn put_name<W: Sink>(out: &mut Printer, sink: &mut W, name: &Name)
-    ensures { Puts (W.contents sink.old) (W.contents sink.new) (W.faults sink.old) (W.faults sink.new) out.old out.new (name_text name.now) }
+    ensures { Puts (W.stream sink.old) (W.stream sink.new) out.old out.new (name_text name.now) }
 {
     out.put(sink, "/");
     put_escaped(out, sink, name);
@@ -83,7 +83,7 @@ fn put_name<W: Sink>(out: &mut Printer, sink: &mut W, name: &Name)
 
 /// The names of a path.
 fn put_names<W: Sink>(out: &mut Printer, sink: &mut W, path: &Path)
-    ensures { Puts (W.contents sink.old) (W.contents sink.new) (W.faults sink.old) (W.faults sink.new) out.old out.new (names_text path.now) }
+    ensures { Puts (W.stream sink.old) (W.stream sink.new) out.old out.new (names_text path.now) }
 {
     for index in 0..path.len() {
         if let Some(name) = path.get(index) {
@@ -94,7 +94,7 @@ fn put_names<W: Sink>(out: &mut Printer, sink: &mut W, path: &Path)
 
 /// A path: the root has no name.
 fn put_path_name<W: Sink>(out: &mut Printer, sink: &mut W, path: &Path)
-    ensures { Puts (W.contents sink.old) (W.contents sink.new) (W.faults sink.old) (W.faults sink.new) out.old out.new (path_name path.now) }
+    ensures { Puts (W.stream sink.old) (W.stream sink.new) out.old out.new (path_name path.now) }
 {
     if path.is_empty() {
         return out.put(sink, "/");
@@ -104,7 +104,7 @@ fn put_path_name<W: Sink>(out: &mut Printer, sink: &mut W, path: &Path)
 
 /// A path, a space before it.
 fn put_path<W: Sink>(out: &mut Printer, sink: &mut W, path: &Path)
-    ensures { Puts (W.contents sink.old) (W.contents sink.new) (W.faults sink.old) (W.faults sink.new) out.old out.new (path_text path.now) }
+    ensures { Puts (W.stream sink.old) (W.stream sink.new) out.old out.new (path_text path.now) }
 {
     out.put(sink, " ");
     put_path_name(out, sink, path);
@@ -112,7 +112,7 @@ fn put_path<W: Sink>(out: &mut Printer, sink: &mut W, path: &Path)
 
 /// The line of a node.
 pub(crate) fn put_node_line<W: Sink>(out: &mut Printer, sink: &mut W, number: usize, node: &Node)
-    ensures { Puts (W.contents sink.old) (W.contents sink.new) (W.faults sink.old) (W.faults sink.new) out.old out.new (node_line number node.now) }
+    ensures { Puts (W.stream sink.old) (W.stream sink.new) out.old out.new (node_line number node.now) }
 {
     put_count(out, sink, "node ", number as u64);
     put_told(out, sink, &node.standing, node.kind, node.size, node.stamp);
@@ -122,7 +122,7 @@ pub(crate) fn put_node_line<W: Sink>(out: &mut Printer, sink: &mut W, number: us
 
 /// Where an entry stands, of a volume with two partitions.
 fn put_two_place<W: Sink>(out: &mut Printer, sink: &mut W, reference: u16, block: u32)
-    ensures { Puts (W.contents sink.old) (W.contents sink.new) (W.faults sink.old) (W.faults sink.new) out.old out.new (decimal reference ++ codes ":" ++ decimal block) }
+    ensures { Puts (W.stream sink.old) (W.stream sink.new) out.old out.new (decimal reference ++ codes ":" ++ decimal block) }
 {
     out.put_number(sink, u64::from(reference));
     out.put(sink, ":");
@@ -131,7 +131,7 @@ fn put_two_place<W: Sink>(out: &mut Printer, sink: &mut W, reference: u16, block
 
 /// Where an entry stands.
 fn put_place<W: Sink>(out: &mut Printer, sink: &mut W, two: bool, entry: &Unnamed)
-    ensures { Puts (W.contents sink.old) (W.contents sink.new) (W.faults sink.old) (W.faults sink.new) out.old out.new (place_text two entry.now) }
+    ensures { Puts (W.stream sink.old) (W.stream sink.new) out.old out.new (place_text two entry.now) }
 {
     if two {
         put_two_place(out, sink, entry.reference, entry.block);
@@ -142,7 +142,7 @@ fn put_place<W: Sink>(out: &mut Printer, sink: &mut W, two: bool, entry: &Unname
 
 /// The line of an entry that no name leads to.
 pub(crate) fn put_unnamed_line<W: Sink>(out: &mut Printer, sink: &mut W, two: bool, entry: &Unnamed)
-    ensures { Puts (W.contents sink.old) (W.contents sink.new) (W.faults sink.old) (W.faults sink.new) out.old out.new (unnamed_line two entry.now) }
+    ensures { Puts (W.stream sink.old) (W.stream sink.new) out.old out.new (unnamed_line two entry.now) }
 {
     out.put(sink, "unnamed ");
     put_place(out, sink, two, entry);
@@ -159,7 +159,7 @@ pub(crate) fn put_unnamed_line<W: Sink>(out: &mut Printer, sink: &mut W, two: bo
 
 /// The line of a missing block.
 pub(crate) fn put_missing<W: Sink>(out: &mut Printer, sink: &mut W, block: u32)
-    ensures { Puts (W.contents sink.old) (W.contents sink.new) (W.faults sink.old) (W.faults sink.new) out.old out.new (missing_line block) }
+    ensures { Puts (W.stream sink.old) (W.stream sink.new) out.old out.new (missing_line block) }
 {
     put_count(out, sink, "missing ", u64::from(block));
     out.put(sink, "\n");
@@ -167,7 +167,7 @@ pub(crate) fn put_missing<W: Sink>(out: &mut Printer, sink: &mut W, block: u32)
 
 /// The line of a run of missing bytes.
 pub(crate) fn put_hole<W: Sink>(out: &mut Printer, sink: &mut W, hole: (u64, u64))
-    ensures { Puts (W.contents sink.old) (W.contents sink.new) (W.faults sink.old) (W.faults sink.new) out.old out.new (hole_line hole) }
+    ensures { Puts (W.stream sink.old) (W.stream sink.new) out.old out.new (hole_line hole) }
 {
     let (offset, length) = hole;
     put_count(out, sink, "hole ", offset);

@@ -17,7 +17,7 @@ use udfs_walk::{Node, Standing, Unnamed, entry_address, full_standing};
 
 /// The lines of missing blocks.
 fn put_missings<W: Sink>(out: &mut Printer, sink: &mut W, blocks: &[u32])
-    ensures { Puts (W.contents sink.old) (W.contents sink.new) (W.faults sink.old) (W.faults sink.new) out.old out.new (missing_lines blocks.now) }
+    ensures { Puts (W.stream sink.old) (W.stream sink.new) out.old out.new (missing_lines blocks.now) }
 {
     for block in blocks {
         put_missing(out, sink, *block);
@@ -26,7 +26,7 @@ fn put_missings<W: Sink>(out: &mut Printer, sink: &mut W, blocks: &[u32])
 
 /// The lines of runs of missing bytes.
 fn put_holes<W: Sink>(out: &mut Printer, sink: &mut W, holes: &[(u64, u64)])
-    ensures { Puts (W.contents sink.old) (W.contents sink.new) (W.faults sink.old) (W.faults sink.new) out.old out.new (hole_lines holes.now) }
+    ensures { Puts (W.stream sink.old) (W.stream sink.new) out.old out.new (hole_lines holes.now) }
 {
     for hole in holes {
         put_hole(out, sink, *hole);
@@ -35,7 +35,7 @@ fn put_holes<W: Sink>(out: &mut Printer, sink: &mut W, holes: &[(u64, u64)])
 
 /// What is missing of a torn node.
 fn put_torn<W: Sink>(out: &mut Printer, sink: &mut W, missing: &[u32], holes: &[(u64, u64)])
-    ensures { Puts (W.contents sink.old) (W.contents sink.new) (W.faults sink.old) (W.faults sink.new) out.old out.new (missing_lines missing.now ++ hole_lines holes.now) }
+    ensures { Puts (W.stream sink.old) (W.stream sink.new) out.old out.new (missing_lines missing.now ++ hole_lines holes.now) }
 {
     put_missings(out, sink, missing);
     put_holes(out, sink, holes);
@@ -44,7 +44,7 @@ fn put_torn<W: Sink>(out: &mut Printer, sink: &mut W, missing: &[u32], holes: &[
 /// What is missing, where something is.
 #[tactic(auto, unfolding(crate::specs::NodeTexts::gap_lines))]
 fn put_gaps<W: Sink>(out: &mut Printer, sink: &mut W, standing: &Standing)
-    ensures { Puts (W.contents sink.old) (W.contents sink.new) (W.faults sink.old) (W.faults sink.new) out.old out.new (gap_lines standing.now) }
+    ensures { Puts (W.stream sink.old) (W.stream sink.new) out.old out.new (gap_lines standing.now) }
 {
     match standing {
         Standing::Torn(torn) => put_torn(out, sink, &torn.missing, &torn.holes),
@@ -54,7 +54,7 @@ fn put_gaps<W: Sink>(out: &mut Printer, sink: &mut W, standing: &Standing)
 
 /// The lines of a node.
 fn put_node<W: Sink>(out: &mut Printer, sink: &mut W, number: usize, node: &Node)
-    ensures { Puts (W.contents sink.old) (W.contents sink.new) (W.faults sink.old) (W.faults sink.new) out.old out.new (node_text number node.now) }
+    ensures { Puts (W.stream sink.old) (W.stream sink.new) out.old out.new (node_text number node.now) }
 {
     put_node_line(out, sink, number, node);
     put_gaps(out, sink, &node.standing);
@@ -62,7 +62,7 @@ fn put_node<W: Sink>(out: &mut Printer, sink: &mut W, number: usize, node: &Node
 
 /// The lines of all nodes.
 pub(crate) fn put_nodes<W: Sink>(out: &mut Printer, sink: &mut W, nodes: &[Node])
-    ensures { Puts (W.contents sink.old) (W.contents sink.new) (W.faults sink.old) (W.faults sink.new) out.old out.new (nodes_text 0 nodes.now) }
+    ensures { Puts (W.stream sink.old) (W.stream sink.new) out.old out.new (nodes_text 0 nodes.now) }
 {
     for (index, node) in nodes.iter().enumerate() {
         put_node(out, sink, index, node);
@@ -71,7 +71,7 @@ pub(crate) fn put_nodes<W: Sink>(out: &mut Printer, sink: &mut W, nodes: &[Node]
 
 /// The lines of an entry that no name leads to.
 fn put_unnamed<W: Sink>(out: &mut Printer, sink: &mut W, two: bool, entry: &Unnamed)
-    ensures { Puts (W.contents sink.old) (W.contents sink.new) (W.faults sink.old) (W.faults sink.new) out.old out.new (unnamed_text two entry.now) }
+    ensures { Puts (W.stream sink.old) (W.stream sink.new) out.old out.new (unnamed_text two entry.now) }
 {
     put_unnamed_line(out, sink, two, entry);
     put_gaps(out, sink, &entry.standing);
@@ -84,7 +84,7 @@ pub(crate) fn put_all_unnamed<W: Sink>(
     two: bool,
     entries: &[Unnamed],
 )
-    ensures { Puts (W.contents sink.old) (W.contents sink.new) (W.faults sink.old) (W.faults sink.new) out.old out.new (unnamed_texts two entries.now) }
+    ensures { Puts (W.stream sink.old) (W.stream sink.new) out.old out.new (unnamed_texts two entries.now) }
 {
     for entry in entries {
         put_unnamed(out, sink, two, entry);
@@ -100,7 +100,7 @@ fn put_full_gaps<W: Sink>(
     address: LongAd,
     standing: &Standing,
 ) -> Result<(), AllocError>
-    ensures { PutsMost (W.contents sink.old) (W.contents sink.new) (W.faults sink.old) (W.faults sink.new) out.old out.new (gap_lines (with_lists (lists_at (view_now view.entry) address) standing.now)) result }
+    ensures { PutsMost (W.stream sink.old) (W.stream sink.new) out.old out.new (gap_lines (with_lists (lists_at (view_now view.entry) address) standing.now)) result }
 {
     if out.has_failed() {
         return Ok(());
@@ -119,7 +119,7 @@ fn put_full_node<W: Sink>(
     number: usize,
     node: &Node,
 ) -> Result<(), AllocError>
-    ensures { PutsMost (W.contents sink.old) (W.contents sink.new) (W.faults sink.old) (W.faults sink.new) out.old out.new (node_text number (full_node (view_now view.entry) node.now)) result }
+    ensures { PutsMost (W.stream sink.old) (W.stream sink.new) out.old out.new (node_text number (full_node (view_now view.entry) node.now)) result }
 {
     put_node_line(out, sink, number, node);
     put_full_gaps(alloc, out, sink, view, node.icb, &node.standing)
@@ -133,7 +133,7 @@ pub(crate) fn put_full_nodes<W: Sink>(
     view: View<'_>,
     nodes: &[Node],
 ) -> Result<(), AllocError>
-    ensures { PutsMost (W.contents sink.old) (W.contents sink.new) (W.faults sink.old) (W.faults sink.new) out.old out.new (nodes_text 0 (map (full_node (view_now view.entry)) nodes.now)) result }
+    ensures { PutsMost (W.stream sink.old) (W.stream sink.new) out.old out.new (nodes_text 0 (map (full_node (view_now view.entry)) nodes.now)) result }
 {
     for (index, node) in nodes.iter().enumerate() {
         put_full_node(alloc, out, sink, view, index, node)?;
@@ -150,7 +150,7 @@ fn put_full_unnamed<W: Sink>(
     two: bool,
     entry: &Unnamed,
 ) -> Result<(), AllocError>
-    ensures { PutsMost (W.contents sink.old) (W.contents sink.new) (W.faults sink.old) (W.faults sink.new) out.old out.new (unnamed_text two (full_entry (view_now view.entry) entry.now)) result }
+    ensures { PutsMost (W.stream sink.old) (W.stream sink.new) out.old out.new (unnamed_text two (full_entry (view_now view.entry) entry.now)) result }
 {
     put_unnamed_line(out, sink, two, entry);
     let address = entry_address(entry.reference, entry.block);
@@ -166,7 +166,7 @@ pub(crate) fn put_full_entries<W: Sink>(
     two: bool,
     entries: &[Unnamed],
 ) -> Result<(), AllocError>
-    ensures { PutsMost (W.contents sink.old) (W.contents sink.new) (W.faults sink.old) (W.faults sink.new) out.old out.new (unnamed_texts two (map (full_entry (view_now view.entry)) entries.now)) result }
+    ensures { PutsMost (W.stream sink.old) (W.stream sink.new) out.old out.new (unnamed_texts two (map (full_entry (view_now view.entry)) entries.now)) result }
 {
     for entry in entries {
         put_full_unnamed(alloc, out, sink, view, two, entry)?;

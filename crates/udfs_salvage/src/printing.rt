@@ -14,6 +14,7 @@ use crate::errors::RunError;
 use crate::lines::{has_two, put_end, put_head, put_rereads, put_volume};
 use crate::node_printing::{put_all_unnamed, put_nodes};
 use crate::reports::Report;
+use crate::volumes::Volume;
 use udfs_printing::Printer;
 use udfs_reading::{Sink, WriteFault, write_all};
 
@@ -26,7 +27,7 @@ const PIECE: usize = 65_536;
 ///
 /// `Write` exactly where the sink failed. Then a beginning of the text is out.
 pub fn flush<W: Sink>(text: &mut String, sink: &mut W) -> Result<(), RunError>
-    ensures written { Prints (W.contents sink.old) (W.contents sink.new) (W.faults sink.old) (W.faults sink.new) (string_bytes text.old) result }
+    ensures written { Prints (W.stream sink.old) (W.stream sink.new) (string_bytes text.old) result }
     ensures empty { OnOk result (string_bytes text.new ≡ []) }
 {
     match write_all(sink, text.as_bytes()) {
@@ -44,7 +45,7 @@ pub fn flush<W: Sink>(text: &mut String, sink: &mut W) -> Result<(), RunError>
 ///
 /// `Write` exactly where the sink failed. Then a beginning of the text is out.
 pub fn pass_on<W: Sink>(text: &mut String, sink: &mut W) -> Result<(), RunError>
-    ensures passed { PassesOn (W.contents sink.old) (W.contents sink.new) (W.faults sink.old) (W.faults sink.new) (string_bytes text.old) (string_bytes text.new) [] result }
+    ensures passed { PassesOn (W.stream sink.old) (W.stream sink.new) (string_bytes text.old) (string_bytes text.new) [] result }
     ensures kept { length (string_bytes text.old) < 65536 → (text.new ≡ text.old) × (sink.new ≡ sink.old) }
     ensures handed { 65536 ≤ length (string_bytes text.old) → OnOk result (string_bytes text.new ≡ []) }
 {
@@ -56,7 +57,7 @@ pub fn pass_on<W: Sink>(text: &mut String, sink: &mut W) -> Result<(), RunError>
 
 /// All lines.
 fn put_report<W: Sink>(out: &mut Printer, sink: &mut W, report: &Report<'_>)
-    ensures { Puts (W.contents sink.old) (W.contents sink.new) (W.faults sink.old) (W.faults sink.new) out.old out.new
+    ensures { Puts (W.stream sink.old) (W.stream sink.new) out.old out.new
         (report_text_by report.now.profile report.now.table.now report.now.last (report_now report.now)) }
 {
     let profile = report.profile;
@@ -80,7 +81,7 @@ fn put_report<W: Sink>(out: &mut Printer, sink: &mut W, report: &Report<'_>)
 ///
 /// `Write` exactly where the sink failed, now or before. Then a beginning of all that was put is out.
 pub(crate) fn finish<W: Sink>(out: &mut Printer, sink: &mut W) -> Result<(), RunError>
-    ensures written { Finishes (W.contents sink.old) (W.contents sink.new) (W.faults sink.old) (W.faults sink.new) out.old result }
+    ensures written { Finishes (W.stream sink.old) (W.stream sink.new) out.old result }
     ensures fault { IfErr result (λ e. e ≡ RunError.Write) }
 {
     match out.finish(sink) {
@@ -95,12 +96,27 @@ pub(crate) fn finish<W: Sink>(out: &mut Printer, sink: &mut W) -> Result<(), Run
 ///
 /// `Write` exactly where the sink failed, and never another. Then a beginning of the text is out.
 pub fn write_report<W: Sink>(report: &Report<'_>, sink: &mut W) -> Result<(), RunError>
-    ensures text { Prints (W.contents sink.old) (W.contents sink.new) (W.faults sink.old) (W.faults sink.new)
+    ensures text { Prints (W.stream sink.old) (W.stream sink.new)
         (report_text_by report.now.profile report.now.table.now report.now.last (report_now report.now)) result }
     ensures fault { IfErr result (λ e. e ≡ RunError.Write) }
 {
     let mut out = Printer::new();
     put_report(&mut out, sink, report);
+    finish(&mut out, sink)
+}
+
+/// Writes the line of a volume in the text of a report, which tells whether the volume opens. It takes no memory.
+///
+/// # Errors
+///
+/// `Write` exactly where the sink failed, and never another. Then a beginning of the line is out.
+pub fn write_volume_line<W: Sink>(volume: &Volume, sink: &mut W) -> Result<(), RunError>
+    ensures text { Prints (W.stream sink.old) (W.stream sink.new)
+        (volume_line (volume_now volume.now)) result }
+    ensures fault { IfErr result (λ e. e ≡ RunError.Write) }
+{
+    let mut out = Printer::new();
+    put_volume(&mut out, sink, volume);
     finish(&mut out, sink)
 }
 
@@ -110,11 +126,9 @@ pub fn write_report<W: Sink>(report: &Report<'_>, sink: &mut W) -> Result<(), Ru
 ///
 /// `Write` exactly where the sink failed, and never another. Then a beginning of the line is out.
 pub fn write_volume<W: Sink>(report: &Report<'_>, sink: &mut W) -> Result<(), RunError>
-    ensures text { Prints (W.contents sink.old) (W.contents sink.new) (W.faults sink.old) (W.faults sink.new)
+    ensures text { Prints (W.stream sink.old) (W.stream sink.new)
         (volume_line (volume_now report.now.volume)) result }
     ensures fault { IfErr result (λ e. e ≡ RunError.Write) }
 {
-    let mut out = Printer::new();
-    put_volume(&mut out, sink, &report.volume);
-    finish(&mut out, sink)
+    write_volume_line(&report.volume, sink)
 }

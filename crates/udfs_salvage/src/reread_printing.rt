@@ -10,7 +10,7 @@ use udfs_reading::{Sink, WriteFault};
 
 /// The number of a block on a line of its own.
 fn put_number<W: Sink>(out: &mut Printer, sink: &mut W, block: u32)
-    ensures { Puts (W.contents sink.old) (W.contents sink.new) (W.faults sink.old) (W.faults sink.new) out.old out.new (number_line block) }
+    ensures { Puts (W.stream sink.old) (W.stream sink.new) out.old out.new (number_line block) }
 {
     out.put_number(sink, u64::from(block));
     out.put(sink, "\n");
@@ -18,7 +18,7 @@ fn put_number<W: Sink>(out: &mut Printer, sink: &mut W, block: u32)
 
 /// The lines of blocks.
 fn put_numbers<W: Sink>(out: &mut Printer, sink: &mut W, blocks: &[u32])
-    ensures { Puts (W.contents sink.old) (W.contents sink.new) (W.faults sink.old) (W.faults sink.new) out.old out.new (number_lines blocks.now) }
+    ensures { Puts (W.stream sink.old) (W.stream sink.new) out.old out.new (number_lines blocks.now) }
 {
     for block in blocks {
         put_number(out, sink, *block);
@@ -31,7 +31,7 @@ fn put_numbers<W: Sink>(out: &mut Printer, sink: &mut W, blocks: &[u32])
 ///
 /// `WriteFault` exactly where the sink failed. Then a beginning of the lines is out.
 pub fn write_numbers<W: Sink>(blocks: &[u32], sink: &mut W) -> Result<(), WriteFault>
-    ensures { Writes (W.contents sink.old) (W.contents sink.new) (W.faults sink.old) (W.faults sink.new) (number_lines blocks.now) result }
+    ensures { Writes (W.stream sink.old) (W.stream sink.new) (number_lines blocks.now) result }
 {
     let mut out = Printer::new();
     put_numbers(&mut out, sink, blocks);
@@ -44,7 +44,7 @@ pub fn write_numbers<W: Sink>(blocks: &[u32], sink: &mut W) -> Result<(), WriteF
 ///
 /// `WriteFault` exactly where the sink failed. Then a beginning of the lines is out.
 pub fn write_reread<W: Sink>(report: &Report<'_>, sink: &mut W) -> Result<(), WriteFault>
-    ensures { Writes (W.contents sink.old) (W.contents sink.new) (W.faults sink.old) (W.faults sink.new) (number_lines report.now.reread.items) result }
+    ensures { Writes (W.stream sink.old) (W.stream sink.new) (number_lines report.now.reread.items) result }
 {
     write_numbers(&report.reread, sink)
 }

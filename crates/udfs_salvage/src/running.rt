@@ -46,7 +46,7 @@ fn report_table<W: Sink>(
     profile: Profile,
     sink: &mut W,
 ) -> Result<bool, RunError>
-    ensures answers { AnswersForBy profile last (W.contents sink.old) (W.contents sink.new) (W.faults sink.old) (W.faults sink.new) result table.now }
+    ensures answers { AnswersForBy profile last (W.stream sink.old) (W.stream sink.new) result table.now }
     ensures untouched { EndsEarly result → sink.new ≡ sink.old }
 {
     match survey_volume_by(alloc, table, last, profile) {
@@ -78,9 +78,9 @@ pub fn report_run_by<R: Source, W: Sink>(
 ) -> Result<bool, RunError>
     // The report is that of the join of the inputs' tables.
     ensures answers { IfRead result (OfJoin R.remaining inputs.old
-        (AnswersForBy profile last (W.contents sink.old) (W.contents sink.new) (W.faults sink.old) (W.faults sink.new) result)) }
+        (AnswersForBy profile last (W.stream sink.old) (W.stream sink.new) result)) }
     ensures memory { result ≡ Err RunError.OutOfMemory → (sink.new ≡ sink.old) ⊎ OfJoin R.remaining inputs.old
-        (AnswersForBy profile last (W.contents sink.old) (W.contents sink.new) (W.faults sink.old) (W.faults sink.new) result) }
+        (AnswersForBy profile last (W.stream sink.old) (W.stream sink.new) result) }
     ensures untouched { EndsEarly result → sink.new ≡ sink.old }
     // Where the join of the inputs' tables has no report, nothing but the reason is told, unless an input or memory was to blame before.
     ensures refuses { (ts : List Table) (why : SalvageError) → AllTell R.remaining inputs.old ts → IsRefusedForBy profile (join_all ts) last why →
@@ -90,7 +90,7 @@ pub fn report_run_by<R: Source, W: Sink>(
     // It is the same however the records are ordered, repeated and split over readings and table files.
     ensures any_mixture { (rss : List (List Record)) (rs : List Record) → AllTell R.remaining inputs.old (map table_of rss) →
         SameRecords (all_records rss) rs → IfRead result
-        (AnswersForBy profile last (W.contents sink.old) (W.contents sink.new) (W.faults sink.old) (W.faults sink.new) result (table_of rs)) }
+        (AnswersForBy profile last (W.stream sink.old) (W.stream sink.new) result (table_of rs)) }
     // Inputs are judged before the last block. The first that is no good file is named, or a device or memory is blamed;
     // where all are good files, none is named.
     ensures first { (input : ℕ) (fault : ReadingFault) (number : ℕ) → IsFirstFaulty R.remaining inputs.old input fault number →
@@ -125,9 +125,9 @@ pub fn report_run<R: Source, W: Sink>(
 ) -> Result<bool, RunError>
     // The report is that of the join of the inputs' tables.
     ensures answers { IfRead result (OfJoin R.remaining inputs.old
-        (AnswersFor last (W.contents sink.old) (W.contents sink.new) (W.faults sink.old) (W.faults sink.new) result)) }
+        (AnswersFor last (W.stream sink.old) (W.stream sink.new) result)) }
     ensures memory { result ≡ Err RunError.OutOfMemory → (sink.new ≡ sink.old) ⊎ OfJoin R.remaining inputs.old
-        (AnswersFor last (W.contents sink.old) (W.contents sink.new) (W.faults sink.old) (W.faults sink.new) result) }
+        (AnswersFor last (W.stream sink.old) (W.stream sink.new) result) }
     ensures untouched { EndsEarly result → sink.new ≡ sink.old }
     // Where the join of the inputs' tables has no report, nothing but the reason is told, unless an input or memory was to blame before.
     ensures refuses { (ts : List Table) (why : SalvageError) → AllTell R.remaining inputs.old ts → IsRefusedFor (join_all ts) last why →
@@ -137,7 +137,7 @@ pub fn report_run<R: Source, W: Sink>(
     // It is the same however the records are ordered, repeated and split over readings and table files.
     ensures any_mixture { (rss : List (List Record)) (rs : List Record) → AllTell R.remaining inputs.old (map table_of rss) →
         SameRecords (all_records rss) rs → IfRead result
-        (AnswersFor last (W.contents sink.old) (W.contents sink.new) (W.faults sink.old) (W.faults sink.new) result (table_of rs)) }
+        (AnswersFor last (W.stream sink.old) (W.stream sink.new) result (table_of rs)) }
     // Inputs are judged before the last block. The first that is no good file is named, or a device or memory is blamed;
     // where all are good files, none is named.
     ensures first { (input : ℕ) (fault : ReadingFault) (number : ℕ) → IsFirstFaulty R.remaining inputs.old input fault number →

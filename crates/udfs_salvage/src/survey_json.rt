@@ -37,7 +37,7 @@ fn put_node_front<W: Sink>(
     front: &str,
     hidden: bool,
 ) -> Result<(), RunError>
-    ensures { PassesOn (W.contents sink.old) (W.contents sink.new) (W.faults sink.old) (W.faults sink.new) (string_bytes text.old) (string_bytes text.new) (front.now ++ node_front hidden) result }
+    ensures { PassesOn (W.stream sink.old) (W.stream sink.new) (string_bytes text.old) (string_bytes text.new) (front.now ++ node_front hidden) result }
 {
     text.push_str(front)?;
     push_node_front(text, hidden)?;
@@ -51,7 +51,7 @@ fn put_node_end<W: Sink>(
     sink: &mut W,
     node: &Node,
 ) -> Result<(), RunError>
-    ensures { PassesOn (W.contents sink.old) (W.contents sink.new) (W.faults sink.old) (W.faults sink.new) (string_bytes text.old) (string_bytes text.new) (node_end node.now) result }
+    ensures { PassesOn (W.stream sink.old) (W.stream sink.new) (string_bytes text.old) (string_bytes text.new) (node_end node.now) result }
 {
     push_node_end(alloc, text, node)?;
     pass_on(text, sink)
@@ -66,7 +66,7 @@ fn put_node<W: Sink>(
     front: &str,
     node: &Node,
 ) -> Result<(), RunError>
-    ensures { PassesOn (W.contents sink.old) (W.contents sink.new) (W.faults sink.old) (W.faults sink.new) (string_bytes text.old) (string_bytes text.new) (front.now ++ compact_text (node_data (full_node (view_now view.entry) node.now))) result }
+    ensures { PassesOn (W.stream sink.old) (W.stream sink.new) (string_bytes text.old) (string_bytes text.new) (front.now ++ compact_text (node_data (full_node (view_now view.entry) node.now))) result }
 {
     let full = full_standing(alloc, view, node.icb, &node.standing)?;
     put_node_front(text, sink, front, node.hidden)?;
@@ -82,7 +82,7 @@ fn put_more_nodes<W: Sink>(
     view: View<'_>,
     nodes: &[Node],
 ) -> Result<(), RunError>
-    ensures { PassesOn (W.contents sink.old) (W.contents sink.new) (W.faults sink.old) (W.faults sink.new) (string_bytes text.old) (string_bytes text.new) (more_values (λ n. node_data (full_node (view_now view.entry) n)) nodes.now) result }
+    ensures { PassesOn (W.stream sink.old) (W.stream sink.new) (string_bytes text.old) (string_bytes text.new) (more_values (λ n. node_data (full_node (view_now view.entry) n)) nodes.now) result }
 {
     for node in nodes {
         put_node(alloc, text, sink, view, ",", node)?;
@@ -98,7 +98,7 @@ fn put_nodes<W: Sink>(
     view: View<'_>,
     nodes: &[Node],
 ) -> Result<(), RunError>
-    ensures { PassesOn (W.contents sink.old) (W.contents sink.new) (W.faults sink.old) (W.faults sink.new) (string_bytes text.old) (string_bytes text.new) (compact_text (list_data (λ n. node_data (full_node (view_now view.entry) n)) nodes.now)) result }
+    ensures { PassesOn (W.stream sink.old) (W.stream sink.new) (string_bytes text.old) (string_bytes text.new) (compact_text (list_data (λ n. node_data (full_node (view_now view.entry) n)) nodes.now)) result }
 {
     let Some((first, rest)) = nodes.split_first() else {
         return put_words(text, sink, "[]");
@@ -116,7 +116,7 @@ fn put_entry_front<W: Sink>(
     front: &str,
     block: u32,
 ) -> Result<(), RunError>
-    ensures { PassesOn (W.contents sink.old) (W.contents sink.new) (W.faults sink.old) (W.faults sink.new) (string_bytes text.old) (string_bytes text.new) (front.now ++ entry_front block) result }
+    ensures { PassesOn (W.stream sink.old) (W.stream sink.new) (string_bytes text.old) (string_bytes text.new) (front.now ++ entry_front block) result }
 {
     text.push_str(front)?;
     push_entry_front(alloc, text, block)?;
@@ -131,7 +131,7 @@ fn put_entry_end<W: Sink>(
     two: bool,
     entry: &Unnamed,
 ) -> Result<(), RunError>
-    ensures { PassesOn (W.contents sink.old) (W.contents sink.new) (W.faults sink.old) (W.faults sink.new) (string_bytes text.old) (string_bytes text.new) (entry_end two entry.now) result }
+    ensures { PassesOn (W.stream sink.old) (W.stream sink.new) (string_bytes text.old) (string_bytes text.new) (entry_end two entry.now) result }
 {
     push_entry_end(alloc, text, two, entry)?;
     pass_on(text, sink)
@@ -147,7 +147,7 @@ fn put_entry<W: Sink>(
     front: &str,
     entry: &Unnamed,
 ) -> Result<(), RunError>
-    ensures { PassesOn (W.contents sink.old) (W.contents sink.new) (W.faults sink.old) (W.faults sink.new) (string_bytes text.old) (string_bytes text.new) (front.now ++ compact_text (unnamed_data two (full_entry (view_now view.entry) entry.now))) result }
+    ensures { PassesOn (W.stream sink.old) (W.stream sink.new) (string_bytes text.old) (string_bytes text.new) (front.now ++ compact_text (unnamed_data two (full_entry (view_now view.entry) entry.now))) result }
 {
     let address = entry_address(entry.reference, entry.block);
     let full = full_standing(alloc, view, address, &entry.standing)?;
@@ -165,7 +165,7 @@ fn put_more_entries<W: Sink>(
     two: bool,
     entries: &[Unnamed],
 ) -> Result<(), RunError>
-    ensures { PassesOn (W.contents sink.old) (W.contents sink.new) (W.faults sink.old) (W.faults sink.new) (string_bytes text.old) (string_bytes text.new) (more_values (λ u. unnamed_data two (full_entry (view_now view.entry) u)) entries.now) result }
+    ensures { PassesOn (W.stream sink.old) (W.stream sink.new) (string_bytes text.old) (string_bytes text.new) (more_values (λ u. unnamed_data two (full_entry (view_now view.entry) u)) entries.now) result }
 {
     for entry in entries {
         put_entry(alloc, text, sink, view, two, ",", entry)?;
@@ -182,7 +182,7 @@ fn put_entries<W: Sink>(
     two: bool,
     entries: &[Unnamed],
 ) -> Result<(), RunError>
-    ensures { PassesOn (W.contents sink.old) (W.contents sink.new) (W.faults sink.old) (W.faults sink.new) (string_bytes text.old) (string_bytes text.new) (compact_text (list_data (λ u. unnamed_data two (full_entry (view_now view.entry) u)) entries.now)) result }
+    ensures { PassesOn (W.stream sink.old) (W.stream sink.new) (string_bytes text.old) (string_bytes text.new) (compact_text (list_data (λ u. unnamed_data two (full_entry (view_now view.entry) u)) entries.now)) result }
 {
     let Some((first, rest)) = entries.split_first() else {
         return put_words(text, sink, "[]");
@@ -199,7 +199,7 @@ fn put_survey_nodes<W: Sink>(
     sink: &mut W,
     survey: &Survey<'_>,
 ) -> Result<(), RunError>
-    ensures { PassesOn (W.contents sink.old) (W.contents sink.new) (W.faults sink.old) (W.faults sink.new) (string_bytes text.old) (string_bytes text.new) (compact_text (list_data node_data (survey_now survey.now).nodes)) result }
+    ensures { PassesOn (W.stream sink.old) (W.stream sink.new) (string_bytes text.old) (string_bytes text.new) (compact_text (list_data node_data (survey_now survey.now).nodes)) result }
 {
     match &survey.volume {
         Volume::Open(opened) => {
@@ -223,7 +223,7 @@ fn put_survey_entries<W: Sink>(
     sink: &mut W,
     survey: &Survey<'_>,
 ) -> Result<(), RunError>
-    ensures { PassesOn (W.contents sink.old) (W.contents sink.new) (W.faults sink.old) (W.faults sink.new) (string_bytes text.old) (string_bytes text.new)
+    ensures { PassesOn (W.stream sink.old) (W.stream sink.new) (string_bytes text.old) (string_bytes text.new)
         (compact_text (list_data (unnamed_data (has_two (volume_now survey.now.volume))) (survey_now survey.now).unnamed)) result }
 {
     let two = has_two(&survey.volume);
@@ -249,7 +249,7 @@ fn put_front<W: Sink>(
     sink: &mut W,
     survey: &Survey<'_>,
 ) -> Result<(), RunError>
-    ensures { PassesOn (W.contents sink.old) (W.contents sink.new) (W.faults sink.old) (W.faults sink.new) (string_bytes text.old) (string_bytes text.new)
+    ensures { PassesOn (W.stream sink.old) (W.stream sink.new) (string_bytes text.old) (string_bytes text.new)
         (report_front survey.now.table.now survey.now.last (volume_now survey.now.volume)) result }
 {
     push_report_front(alloc, text, survey.table, survey.last, &survey.volume)?;
@@ -263,7 +263,7 @@ fn put_end<W: Sink>(
     sink: &mut W,
     volume: &Volume,
 ) -> Result<(), RunError>
-    ensures { PassesOn (W.contents sink.old) (W.contents sink.new) (W.faults sink.old) (W.faults sink.new) (string_bytes text.old) (string_bytes text.new) (report_end (volume_now volume.now)) result }
+    ensures { PassesOn (W.stream sink.old) (W.stream sink.new) (string_bytes text.old) (string_bytes text.new) (report_end (volume_now volume.now)) result }
 {
     push_report_end(alloc, text, volume)?;
     pass_on(text, sink)
@@ -276,7 +276,7 @@ fn put_last<W: Sink>(
     sink: &mut W,
     survey: &Survey<'_>,
 ) -> Result<(), RunError>
-    ensures { PassesOn (W.contents sink.old) (W.contents sink.new) (W.faults sink.old) (W.faults sink.new) (string_bytes text.old) (string_bytes text.new)
+    ensures { PassesOn (W.stream sink.old) (W.stream sink.new) (string_bytes text.old) (string_bytes text.new)
         (compact_text (list_data (unnamed_data (has_two (volume_now survey.now.volume))) (survey_now survey.now).unnamed)
         ++ (report_end (volume_now survey.now.volume) ++ codes "\n")) result }
 {
@@ -292,7 +292,7 @@ fn put_later<W: Sink>(
     sink: &mut W,
     survey: &Survey<'_>,
 ) -> Result<(), RunError>
-    ensures { PassesOn (W.contents sink.old) (W.contents sink.new) (W.faults sink.old) (W.faults sink.new) (string_bytes text.old) (string_bytes text.new)
+    ensures { PassesOn (W.stream sink.old) (W.stream sink.new) (string_bytes text.old) (string_bytes text.new)
         (compact_text (list_data (reread_data (state_of survey.now.table.now)) survey.now.reread.items)
         ++ (codes ",\"unnamed\":" ++ (compact_text (list_data (unnamed_data (has_two (volume_now survey.now.volume))) (survey_now survey.now).unnamed)
         ++ (report_end (volume_now survey.now.volume) ++ codes "\n")))) result }
@@ -309,7 +309,7 @@ fn put_lists_of<W: Sink>(
     sink: &mut W,
     survey: &Survey<'_>,
 ) -> Result<(), RunError>
-    ensures { PassesOn (W.contents sink.old) (W.contents sink.new) (W.faults sink.old) (W.faults sink.new) (string_bytes text.old) (string_bytes text.new)
+    ensures { PassesOn (W.stream sink.old) (W.stream sink.new) (string_bytes text.old) (string_bytes text.new)
         (compact_text (list_data node_data (survey_now survey.now).nodes)
         ++ (reread_words survey.now.profile ++ (compact_text (list_data (reread_data (state_of survey.now.table.now)) survey.now.reread.items)
         ++ (codes ",\"unnamed\":" ++ (compact_text (list_data (unnamed_data (has_two (volume_now survey.now.volume))) (survey_now survey.now).unnamed)
@@ -327,7 +327,7 @@ fn put_survey<W: Sink>(
     sink: &mut W,
     survey: &Survey<'_>,
 ) -> Result<(), RunError>
-    ensures { PassesOn (W.contents sink.old) (W.contents sink.new) (W.faults sink.old) (W.faults sink.new) (string_bytes text.old) (string_bytes text.new)
+    ensures { PassesOn (W.stream sink.old) (W.stream sink.new) (string_bytes text.old) (string_bytes text.new)
         (line (json_text_by survey.now.profile survey.now.table.now survey.now.last (survey_now survey.now))) result }
 {
     put_front(alloc, text, sink, survey)?;
@@ -341,7 +341,7 @@ fn put_survey<W: Sink>(
 ///
 /// `Write` exactly where the sink failed, and `OutOfMemory` where memory is refused. Then a beginning of the text is out.
 pub fn write_json<W: Sink>(alloc: Global, survey: &Survey<'_>, sink: &mut W) -> Result<(), RunError>
-    ensures { Prints (W.contents sink.old) (W.contents sink.new) (W.faults sink.old) (W.faults sink.new)
+    ensures { Prints (W.stream sink.old) (W.stream sink.new)
         (line (json_text_by survey.now.profile survey.now.table.now survey.now.last (survey_now survey.now))) result }
 {
     let mut text = String::new(alloc);

@@ -24,7 +24,7 @@ fn put_survey_nodes<W: Sink>(
     sink: &mut W,
     survey: &Survey<'_>,
 ) -> Result<(), AllocError>
-    ensures { PutsMost (W.contents sink.old) (W.contents sink.new) (W.faults sink.old) (W.faults sink.new) out.old out.new
+    ensures { PutsMost (W.stream sink.old) (W.stream sink.new) out.old out.new
         (nodes_text 0 (survey_now survey.now).nodes) result }
 {
     match &survey.volume {
@@ -49,7 +49,7 @@ fn put_survey_entries<W: Sink>(
     sink: &mut W,
     survey: &Survey<'_>,
 ) -> Result<(), AllocError>
-    ensures { PutsMost (W.contents sink.old) (W.contents sink.new) (W.faults sink.old) (W.faults sink.new) out.old out.new
+    ensures { PutsMost (W.stream sink.old) (W.stream sink.new) out.old out.new
         (unnamed_texts (has_two (volume_now survey.now.volume)) (survey_now survey.now).unnamed) result }
 {
     let two = has_two(&survey.volume);
@@ -75,7 +75,7 @@ fn put_survey<W: Sink>(
     sink: &mut W,
     survey: &Survey<'_>,
 ) -> Result<(), AllocError>
-    ensures { PutsMost (W.contents sink.old) (W.contents sink.new) (W.faults sink.old) (W.faults sink.new) out.old out.new
+    ensures { PutsMost (W.stream sink.old) (W.stream sink.new) out.old out.new
         (report_text_by survey.now.profile survey.now.table.now survey.now.last (survey_now survey.now)) result }
 {
     let profile = survey.profile;
@@ -104,7 +104,7 @@ pub fn write_survey<W: Sink>(
     survey: &Survey<'_>,
     sink: &mut W,
 ) -> Result<(), RunError>
-    ensures { Prints (W.contents sink.old) (W.contents sink.new) (W.faults sink.old) (W.faults sink.new)
+    ensures { Prints (W.stream sink.old) (W.stream sink.new)
         (report_text_by survey.now.profile survey.now.table.now survey.now.last (survey_now survey.now)) result }
 {
     let mut out = Printer::new();

@@ -55,7 +55,11 @@ impl<'a> Survey<'a> {
 }
 
 /// The nodes of a volume that opens.
-fn list(alloc: Global, table: &BlockTable, opened: &OpenVolume) -> Result<Vec<Node>, SalvageError>
+pub(crate) fn list(
+    alloc: Global,
+    table: &BlockTable,
+    opened: &OpenVolume,
+) -> Result<Vec<Node>, SalvageError>
     ensures nodes { IfOk result (λ listed. AreNodes (view (state_of table.now) opened.now.space) opened.now.root (map (full_node (view (state_of table.now) opened.now.space)) listed.items)) }
     ensures refused { IfErr result (IsWalkRefused (state_of table.now) (found_now opened.now)) }
 {

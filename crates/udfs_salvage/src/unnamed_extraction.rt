@@ -17,7 +17,7 @@ use crate::reports::{Report, is_whole};
 use crate::volumes::Volume;
 use std::alloc::Global;
 use udfs_file::Kind;
-use udfs_reading::Sink;
+use udfs_reading::{Outgoing, Sink};
 use udfs_walk::{Unnamed, entry_address};
 
 /// Whether an entry that no name leads to is a lost file: a file with data that is whole.
@@ -58,7 +58,7 @@ pub fn extract_unnamed_by<W: Sink>(
     ensures cells { (profile : Profile) (last : ℕ) (u : Unnamed) → IsReportBy profile (state_of report.now.table.now) last (report_now report.now) →
         slice_get report.now.unnamed.items index ≡ Some u → is_lost_file u ≡ true →
         (cs : List Cell) × HasUnnamedCellsBy profile (state_of report.now.table.now) last u cs ×
-        Extracts (W.contents sink.old) (W.contents sink.new) (W.faults sink.old) (W.faults sink.new) (filled 0 cs) result }
+        Extracts (W.stream sink.old) (W.stream sink.new) (filled 0 cs) result }
     ensures not_whole { (profile : Profile) (last : ℕ) (u : Unnamed) → IsReportBy profile (state_of report.now.table.now) last (report_now report.now) →
         slice_get report.now.unnamed.items index ≡ Some u → (IsErrOf result ExtractError.NotWhole ↔ (is_lost_file u ≡ false)) }
     ensures nothing { IsErrOf result ExtractError.NotWhole → sink.new ≡ sink.old }
@@ -71,7 +71,16 @@ pub fn extract_unnamed_by<W: Sink>(
     match &report.volume {
         Volume::Open(opened) => {
             let address = entry_address(entry.reference, entry.block);
-            write_at(alloc, report.table, &opened.space, address, 0, sink)
+            let mut out = Outgoing::new();
+            write_at(
+                alloc,
+                report.table,
+                &opened.space,
+                address,
+                0,
+                &mut out,
+                sink,
+            )
         }
         _ => Err(ExtractError::NotWhole),
     }

@@ -14,7 +14,7 @@ use udfs_reading::Sink;
 /// A number, and what stands before it.
 pub(crate) fn put_count<W: Sink>(out: &mut Printer, sink: &mut W, front: &str, number: u64)
     requires { length front.now ≤ 2048 }
-    ensures { Puts (W.contents sink.old) (W.contents sink.new) (W.faults sink.old) (W.faults sink.new) out.old out.new (front.now ++ decimal number) }
+    ensures { Puts (W.stream sink.old) (W.stream sink.new) out.old out.new (front.now ++ decimal number) }
 {
     out.put(sink, front);
     out.put_number(sink, number);
@@ -23,7 +23,7 @@ pub(crate) fn put_count<W: Sink>(out: &mut Printer, sink: &mut W, front: &str, n
 /// A word, and its number where it has one.
 pub(crate) fn put_word<W: Sink>(out: &mut Printer, sink: &mut W, word: Word)
     requires { length word.front.now ≤ 2048 }
-    ensures { Puts (W.contents sink.old) (W.contents sink.new) (W.faults sink.old) (W.faults sink.new) out.old out.new (word_text word.front.now word.number) }
+    ensures { Puts (W.stream sink.old) (W.stream sink.new) out.old out.new (word_text word.front.now word.number) }
 {
     match word.number {
         None => out.put(sink, word.front),
@@ -33,7 +33,7 @@ pub(crate) fn put_word<W: Sink>(out: &mut Printer, sink: &mut W, word: Word)
 
 /// A name in its escaped form, in pieces.
 pub(crate) fn put_escaped<W: Sink>(out: &mut Printer, sink: &mut W, name: &Name)
-    ensures { Puts (W.contents sink.old) (W.contents sink.new) (W.faults sink.old) (W.faults sink.new) out.old out.new (escaped name.now) }
+    ensures { Puts (W.stream sink.old) (W.stream sink.new) out.old out.new (escaped name.now) }
 {
     let mut left = name.escaped_bytes();
     let mut piece = [0; 64];
@@ -46,7 +46,7 @@ pub(crate) fn put_escaped<W: Sink>(out: &mut Printer, sink: &mut W, name: &Name)
 
 /// A time.
 pub(crate) fn put_stamp<W: Sink>(out: &mut Printer, sink: &mut W, stamp: Stamp)
-    ensures { Puts (W.contents sink.old) (W.contents sink.new) (W.faults sink.old) (W.faults sink.new) out.old out.new (stamp_text stamp) }
+    ensures { Puts (W.stream sink.old) (W.stream sink.new) out.old out.new (stamp_text stamp) }
 {
     let (time, ending) = stamp.texts();
     out.put(sink, time.as_str());

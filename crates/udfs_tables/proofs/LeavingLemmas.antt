@@ -1,10 +1,10 @@
 -- What `merge` and `forget` may leave by their arguments is what they may leave by their words.
-use Rattle.std.proofs.Common.{◌≡◌, ℕ, Bool, true, false, List, Option, codes, inl, inr, map, subst}
+use Rattle.std.proofs.Common.{◌≡◌, ◌⊎◌, ℕ, Bool, true, false, List, Option, codes, inl, inr, map, subst, ⊎_elim}
 use Rattle.clap.specs.declared.parser.matches.Found.{Found}
 use Rattle.udfs_files.specs.Disk.{Disk}
 use Rattle.udfs_words.specs.Asking.{IsPicked, asked_for, asked_inputs, asked_streams, list_texts, out_text}
 use Rattle.udfs_tables.specs.Forgetting.{IsForgottenJoin, MayForget}
-use Rattle.udfs_common.specs.Keeping.{MayReplace}
+use Rattle.udfs_common.specs.Keeping.{MayReplace, RefusedOut}
 use Rattle.udfs_tables.specs.Leaving.{MayForgetAsked, MayMerge}
 use Rattle.udfs_words.specs.declared.input_path.InputPath.{InputPath}
 use Rattle.udfs_words.specs.declared.forms.Version.{Version}
@@ -29,3 +29,14 @@ may_forget found remaining real words conflicts inputs lists d c picked asked sa
       join = subst (λ (l : List (List ℕ)). IsForgottenJoin found remaining inputs conflicts l put.0) same_lists put.1;
       put = put.2;
     })
+
+-- what a refusal leaves may be told of more
+pub left_wider : {F : Type 0} {tells Failed : Type 0} {holds : F → List ℕ → Option (Option (List ℕ))} {real : F → List ℕ → List ℕ} {in_place : F → List ℕ → Type 0} {out : List ℕ} {old new : F} (Puts Wider : (List ℕ → Type 0) → Type 0) →
+    ((Put : List ℕ → Type 0) → Puts Put → Wider Put) → RefusedOut tells holds real in_place Failed out old new Puts → RefusedOut tells holds real in_place Failed out old new Wider
+left_wider Puts Wider widen (inl same) = inl same
+left_wider Puts Wider widen (inr failed) = inr (record { failed = failed.failed; stands = λ t p. ⊎_elim (λ held. inl held) (λ put. inr (widen _ put)) (failed.stands t p); elsewhere = failed.elsewhere })
+
+-- and of the path that the words name
+pub left_at : {F : Type 0} {tells More : Type 0} {holds : F → List ℕ → Option (Option (List ℕ))} {real : F → List ℕ → List ℕ} {in_place : F → List ℕ → Type 0} {out path : List ℕ} {old new : F} {Puts : (List ℕ → Type 0) → Type 0} (shut : List ℕ → Type 0) →
+    out ≡ path → RefusedOut tells holds real in_place (shut out ⊎ More) out old new Puts → RefusedOut tells holds real in_place (shut path ⊎ More) path old new Puts
+left_at {tells = tells} {More = More} {holds = holds} {real = real} {in_place = in_place} {old = old} {new = new} {Puts = Puts} shut is left = subst (λ (p : List ℕ). RefusedOut tells holds real in_place (shut p ⊎ More) p old new Puts) is left

@@ -47,8 +47,10 @@ pub record WritesImage {R : Type 0} (found : List ℕ → Option (Option (List �
 abbrev pub MayImageAsked : {R : Type 0} → (List ℕ → Option (Option (List ℕ))) → (R → Option (List ℕ)) → (List ℕ → List ℕ) → Found → Disk → Disk → Type 0
 MayImageAsked found remaining real words d c = Same d c ⊎ WritesImage found remaining words (λ bytes text. BothReplaced (real (out_text words)) (real (mapfile_text words)) bytes text d c)
 
--- a crash at any moment leaves one of these steps after what it might have left before; and no other path changes, but those of new files
+-- a crash at any moment leaves one of these steps after what it might have left before, and so do the two paths hold it at the end; and no other path changes, but those of new files
 pub record ReplacesPair {F R : Type 0} (tells : Type 0) (holds : F → List ℕ → Option (Option (List ℕ))) (real : F → List ℕ → List ℕ) (may_leave : F → Disk → Type 0) (moment : F → ℕ) (left_since : F → ℕ → Disk → Type 0)
     (remaining : R → Option (List ℕ)) (words : Found) (old new : F) : Type 0 where
   pub any_moment : tells → (c : Disk) → left_since new (moment old) c → After (may_leave old) (MayImageAsked (λ path. holds old (real old path)) remaining (real old) words) c
+  pub stand : tells → ((q : List ℕ) → holds new q ≡ holds old q) ⊎ WritesImage (λ path. holds old (real old path)) remaining words
+      (λ bytes text. Stands (Some None) (Some (Some bytes)) (Some (Some text)) (holds old (real old (out_text words))) (holds old (real old (mapfile_text words))) (holds new (real old (out_text words))) (holds new (real old (mapfile_text words))))
   pub elsewhere : tells → (q : List ℕ) → q ≢ real old (out_text words) → q ≢ real old (mapfile_text words) → (¬ IsOwn (real old (out_text words)) q) → (¬ IsOwn (real old (mapfile_text words)) q) → holds new q ≡ holds old q

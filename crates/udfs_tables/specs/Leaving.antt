@@ -1,4 +1,5 @@
 -- What `merge` and `forget` may leave, by their words.
+--     PutsJoin          the table file of the inputs was put, as the words of `merge` ask for
 --     MayMerge          what a crash in the middle of `merge` shows: what was there, or the table file that the words ask for in the place of what was at the output's path
 --     MayForgetAsked    the same of `forget`
 --     ReplacesOut       a command replaces its output, whole or not at all, and nothing else, whatever it answers
@@ -15,13 +16,13 @@ use Rattle.udfs_words.specs.declared.input_path.InputPath.{InputPath}
 use Rattle.udfs_words.specs.declared.forms.Version.{Version}
 use Rattle.udfs_words.specs.declared.forms.Version.TheVariants.{One, Two}
 
--- the table file of the inputs that the words name, in their version, is in the place of what was at the output's path, or not yet
-abbrev pub PutsAsked : {R : Type 0} → (List ℕ → Option (Option (List ℕ))) → (R → Option (List ℕ)) → (List ℕ → List ℕ) → Found → Disk → Disk → Type 0
-PutsAsked found remaining real words d c = (version : Version) × (inputs : List InputPath) × (tables : List Table) × IsPicked words (codes "v1") One Two version × (map asked_for inputs ≡ asked_inputs words) ×
-    Joined found remaining inputs tables × Replaced (real (out_text words)) (table_file version (join_all tables)) d c
+-- of the inputs that the words name, in their version, the table file was put
+abbrev pub PutsJoin : {R : Type 0} → (List ℕ → Option (Option (List ℕ))) → (R → Option (List ℕ)) → Found → (List ℕ → Type 0) → Type 0
+PutsJoin found remaining words Put = (version : Version) × (inputs : List InputPath) × (tables : List Table) × IsPicked words (codes "v1") One Two version × (map asked_for inputs ≡ asked_inputs words) ×
+    Joined found remaining inputs tables × Put (table_file version (join_all tables))
 
 abbrev pub MayMerge : {R : Type 0} → (List ℕ → Option (Option (List ℕ))) → (R → Option (List ℕ)) → (List ℕ → List ℕ) → Found → Disk → Disk → Type 0
-MayMerge found remaining real words d c = Same d c ⊎ PutsAsked found remaining real words d c
+MayMerge found remaining real words d c = Same d c ⊎ PutsJoin found remaining words (λ bytes. Replaced (real (out_text words)) bytes d c)
 
 -- the same of `forget`
 abbrev pub MayForgetAsked : {R : Type 0} → (List ℕ → Option (Option (List ℕ))) → (R → Option (List ℕ)) → (List ℕ → List ℕ) → Found → Disk → Disk → Type 0

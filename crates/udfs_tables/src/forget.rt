@@ -1,12 +1,12 @@
 //! The command `forget`: readings in, one table file out, in which the named blocks are unknown again.
 
-ghost use Rattle.std.specs.Prelude.{◌≡◌, ◌≢◌, ◌⊎◌, ◌++◌, ℕ, List, IfOk, IfErr, OnOk, IsErrOf, map};
-ghost use Rattle.udfs_files.specs.Disk.{Disk, After, Fails, IsOwn};
+ghost use Rattle.std.specs.Prelude.{◌≡◌, ◌≢◌, ◌⊎◌, ◌++◌, ℕ, List, Some, IfOk, IfErr, OnErr, OnOk, IsErrOf, map};
+ghost use Rattle.udfs_files.specs.Disk.{Disk, After, Fails, SinkFails, IsOwn};
 ghost use Rattle.udfs_lattice.specs.Tables.{Table};
 ghost use Rattle.udfs_lattice.specs.Records.{join_all};
 ghost use Rattle.udfs_words.specs.Asking.{stream_path};
 ghost use Rattle.udfs_tables.specs.Forgetting.{HasList, Lists, Forgets, IsForgottenJoin, MayForget};
-ghost use Rattle.udfs_common.specs.Keeping.{Joined, IsKept, IsTaken};
+ghost use Rattle.udfs_common.specs.Keeping.{Joined, IsKept, IsTaken, RefusedOut};
 ghost use Rattle.udfs_common.specs.Spelling.{table_file};
 ghost use Rattle.udfs_words.specs.declared.forms.Version.{Version};
 ghost use Rattle.udfs_common.specs.declared.sources.AnySource.{AnySource};
@@ -129,17 +129,23 @@ pub fn forget<F: Files>(
     // as they were, and from now on each crash leaves it.
     ensures written { OnOk result ((table : Table) × IsForgottenJoin (λ path. F.holds files.old (F.real files.old path)) (⟦<AnySource<F::Input, F::Image> as Source>⟧.remaining) inputs.now conflicts (map (λ path. path.now) lists.now) table ×
         ((F.tells → IsKept (F.holds files.new) (F.may_leave files.new) (F.real files.old out.now) (table_file Version.Two table))
-        ⊎ (F.in_place files.old out.now × IsTaken F.Output.contents (table_file Version.Two table)))) }
+        ⊎ (F.in_place files.old out.now × IsTaken F.Output.stream (table_file Version.Two table)))) }
     // A crash at any moment of the call leaves all as it was, or with the output in its place, whole.
     ensures any_moment { F.tells → (F.in_place files.old out.now → ⊥) → (c : Disk) → F.left_since files.new (F.moment files.old) c →
         After (F.may_leave files.old) (MayForget (λ path. F.holds files.old (F.real files.old path)) (⟦<AnySource<F::Input, F::Image> as Source>⟧.remaining) inputs.now conflicts (map (λ path. path.now) lists.now) (F.real files.old out.now)) c }
     ensures untouched { IfErr result (λ refusal. refusal ≢ Refusal.Output → refusal ≢ Refusal.Unkept → files.new ≡ files.old) }
     // A refused output leaves what its path held.
     ensures refused { IsErrOf result Refusal.Output → F.tells → (F.in_place files.old out.now → ⊥) → F.holds files.new (F.real files.old out.now) ≡ F.holds files.old (F.real files.old out.now) }
+    // The table file is in its place where only the folder could not be synced.
+    ensures unkept { IsErrOf result Refusal.Unkept → F.tells → (table : Table) × IsForgottenJoin (λ path. F.holds files.old (F.real files.old path)) (⟦<AnySource<F::Input, F::Image> as Source>⟧.remaining) inputs.now conflicts (map (λ path. path.now) lists.now) table ×
+        (F.holds files.new (F.real files.old out.now) ≡ Some (Some (table_file Version.Two table))) }
     // No other path changes, but for those of new files that are to go in its place.
     ensures elsewhere { F.tells → (F.in_place files.old out.now → ⊥) → (q : List ℕ) → q ≢ F.real files.old out.now → (¬ IsOwn (F.real files.old out.now) q) → F.holds files.new q ≡ F.holds files.old q }
     // It is refused only for a fault.
-    ensures cause { IfErr result (λ refusal. (refusal ≡ Refusal.Output) ⊎ (refusal ≡ Refusal.Unkept) → F.shut files.old out.now ⊎ Fails F.faults ⊎ Fails F.Output.faults) }
+    ensures cause { IfErr result (λ refusal. (refusal ≡ Refusal.Output) ⊎ (refusal ≡ Refusal.Unkept) → F.shut files.old out.now ⊎ Fails F.faults ⊎ SinkFails F.Output.stream) }
+    // A refusal leaves all as it was; or a call failed, and then the path holds what it held or the new file, whole.
+    ensures left { OnErr result (RefusedOut F.tells F.holds F.real F.in_place (F.shut files.old out.now ⊎ Fails F.faults ⊎ SinkFails F.Output.stream) out.now files.old files.new
+        (λ Put. (table : Table) × IsForgottenJoin (λ path. F.holds files.old (F.real files.old path)) (⟦<AnySource<F::Input, F::Image> as Source>⟧.remaining) inputs.now conflicts (map (λ path. path.now) lists.now) table × Put (table_file Version.Two table))) }
     ensures told { IfErr result (λ refusal. refusal ≢ Refusal.Spared) }
 {
     let table = match forgotten(alloc, inputs, conflicts, lists, files) {

@@ -1,7 +1,7 @@
 //! The command `image`: readings in, the image of their disc and its mapfile out.
 
 ghost use Rattle.std.specs.Prelude.{◌≡◌, ◌≢◌, ◌⊎◌, ◌≤◌, ℕ, List, Option, IfOk, IfErr, OnOk, OnErr, IsErrOf, Some, None, MatchOption, string_bytes, alloc_error};
-ghost use Rattle.udfs_files.specs.Disk.{Disk, After, Fails, Goes, IsOwn, Same};
+ghost use Rattle.udfs_files.specs.Disk.{Disk, After, Fails, SinkFails, Goes, IsOwn, Same};
 ghost use Rattle.udfs_files.specs.declared.files.Kind.{Kind};
 ghost use Rattle.udfs_lattice.specs.Tables.{state_of};
 ghost use Rattle.udfs_rescue.specs.Images.{image_bytes};
@@ -115,7 +115,7 @@ fn put_at<F: Files>(
     ensures stand { F.tells → Stands (Some None) (Some (Some (image_bytes table.now last))) (Some (Some (map_text (table_status table.now) last))) (F.holds files.old (string_bytes places.now.image)) (F.holds files.old (string_bytes places.now.mapfile)) (F.holds files.new (string_bytes places.now.image)) (F.holds files.new (string_bytes places.now.mapfile)) }
     ensures elsewhere { (q : List ℕ) → q ≢ string_bytes places.now.image → q ≢ string_bytes places.now.mapfile → (¬ IsOwn (string_bytes places.now.image) q) → (¬ IsOwn (string_bytes places.now.mapfile) q) → F.holds files.new q ≡ F.holds files.old q }
     ensures told { IfErr result (λ refusal. refusal ≢ Refusal.Spared) }
-    ensures cause { IfErr result (λ refusal. (refusal ≡ Refusal.Output) ⊎ (refusal ≡ Refusal.Unkept) → Fails F.faults ⊎ Fails F.Output.faults) }
+    ensures cause { IfErr result (λ refusal. (refusal ≡ Refusal.Output) ⊎ (refusal ≡ Refusal.Unkept) → Fails F.faults ⊎ SinkFails F.Output.stream) }
     ensures crash { F.tells → Goes F.moment F.may_leave F.left_since files.old files.new (BothReplaced (string_bytes places.now.image) (string_bytes places.now.mapfile) (image_bytes table.now last) (map_text (table_status table.now) last)) }
 {
     let image = ImageOf { table, last };
@@ -148,7 +148,7 @@ fn put_table<F: Files>(
     ensures stand { F.tells → ((q : List ℕ) → F.holds files.new q ≡ F.holds files.old q) ⊎ HasImage last (λ bytes text. Stands (Some None) (Some (Some bytes)) (Some (Some text)) (F.holds files.old (F.real files.old outputs.entry.image.now)) (F.holds files.old (F.real files.old outputs.entry.mapfile.now)) (F.holds files.new (F.real files.old outputs.entry.image.now)) (F.holds files.new (F.real files.old outputs.entry.mapfile.now))) table.now }
     ensures elsewhere { F.tells → (q : List ℕ) → q ≢ F.real files.old outputs.entry.image.now → q ≢ F.real files.old outputs.entry.mapfile.now → (¬ IsOwn (F.real files.old outputs.entry.image.now) q) → (¬ IsOwn (F.real files.old outputs.entry.mapfile.now) q) → F.holds files.new q ≡ F.holds files.old q }
     ensures spared { IsErrOf result Refusal.Spared → files.new ≡ files.old }
-    ensures cause { IfErr result (λ refusal. (refusal ≡ Refusal.Output) ⊎ (refusal ≡ Refusal.Unkept) → F.shut files.old outputs.entry.image.now ⊎ F.shut files.old outputs.entry.mapfile.now ⊎ Fails F.faults ⊎ Fails F.Output.faults) }
+    ensures cause { IfErr result (λ refusal. (refusal ≡ Refusal.Output) ⊎ (refusal ≡ Refusal.Unkept) → F.shut files.old outputs.entry.image.now ⊎ F.shut files.old outputs.entry.mapfile.now ⊎ Fails F.faults ⊎ SinkFails F.Output.stream) }
 {
     match check_end(table, last) {
         Ok(()) => {}

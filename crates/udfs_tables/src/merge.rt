@@ -1,11 +1,11 @@
 //! The command `merge`: readings and table files in, one table file out.
 
-ghost use Rattle.std.specs.Prelude.{◌≡◌, ◌≢◌, ◌⊎◌, ◌<◌, ℕ, List, Some, IfOk, IfErr, OnOk, IsErrOf};
-ghost use Rattle.udfs_files.specs.Disk.{Disk, After, IsOwn, Fails};
+ghost use Rattle.std.specs.Prelude.{◌≡◌, ◌≢◌, ◌⊎◌, ◌<◌, ℕ, List, Some, IfOk, IfErr, OnErr, OnOk, IsErrOf};
+ghost use Rattle.udfs_files.specs.Disk.{Disk, After, IsOwn, Fails, SinkFails};
 ghost use Rattle.udfs_lattice.specs.Tables.{Table};
 ghost use Rattle.udfs_lattice.specs.Records.{join_all};
 ghost use Rattle.udfs_reading.specs.Writing.{Writes};
-ghost use Rattle.udfs_common.specs.Keeping.{Joined, IsKept, IsTaken, MayReplace, OfPaths};
+ghost use Rattle.udfs_common.specs.Keeping.{Joined, IsKept, IsTaken, MayReplace, OfPaths, RefusedOut};
 ghost use Rattle.udfs_common.specs.Spelling.{table_file};
 
 use crate::closing::remark_on_merge;
@@ -69,7 +69,7 @@ pub fn merge<F: Files>(
     // At `Ok` a file at the output's path holds the table file of the join of what the input paths held, and from now on each crash leaves it.
     ensures written { OnOk result ((tables : List Table) × Joined (λ path. F.holds files.old (F.real files.old path)) (⟦<AnySource<F::Input, F::Image> as Source>⟧.remaining) inputs.now tables ×
         ((F.tells → IsKept (F.holds files.new) (F.may_leave files.new) (F.real files.old out.now) (table_file version (join_all tables)))
-        ⊎ (F.in_place files.old out.now × IsTaken F.Output.contents (table_file version (join_all tables))))) }
+        ⊎ (F.in_place files.old out.now × IsTaken F.Output.stream (table_file version (join_all tables))))) }
     // A crash at any moment of the call leaves all as it was, or with the output in its place, whole.
     ensures any_moment { F.tells → (F.in_place files.old out.now → ⊥) → (c : Disk) → F.left_since files.new (F.moment files.old) c →
         After (F.may_leave files.old) (MayReplace (λ path. F.holds files.old (F.real files.old path)) (⟦<AnySource<F::Input, F::Image> as Source>⟧.remaining) inputs.now version (F.real files.old out.now)) c }
@@ -82,7 +82,10 @@ pub fn merge<F: Files>(
     // No other path changes, but for those of new files that are to go in its place.
     ensures elsewhere { F.tells → (F.in_place files.old out.now → ⊥) → (q : List ℕ) → q ≢ F.real files.old out.now → (¬ IsOwn (F.real files.old out.now) q) → F.holds files.new q ≡ F.holds files.old q }
     // It is refused only for a fault.
-    ensures cause { IfErr result (λ refusal. (refusal ≡ Refusal.Output) ⊎ (refusal ≡ Refusal.Unkept) → F.shut files.old out.now ⊎ Fails F.faults ⊎ Fails F.Output.faults) }
+    ensures cause { IfErr result (λ refusal. (refusal ≡ Refusal.Output) ⊎ (refusal ≡ Refusal.Unkept) → F.shut files.old out.now ⊎ Fails F.faults ⊎ SinkFails F.Output.stream) }
+    // A refusal leaves all as it was; or a call failed, and then the path holds what it held or the new file, whole.
+    ensures left { OnErr result (RefusedOut F.tells F.holds F.real F.in_place (F.shut files.old out.now ⊎ Fails F.faults ⊎ SinkFails F.Output.stream) out.now files.old files.new
+        (λ Put. (tables : List Table) × Joined (λ path. F.holds files.old (F.real files.old path)) (⟦<AnySource<F::Input, F::Image> as Source>⟧.remaining) inputs.now tables × Put (table_file version (join_all tables)))) }
     ensures told { IfErr result (λ refusal. refusal ≢ Refusal.Spared) }
 {
     let mut tally = match tallied(alloc, inputs, files) {
@@ -108,7 +111,7 @@ fn write_version<W: Sink>(
     version: Version,
     output: &mut W,
 ) -> Result<(), WriteFault>
-    ensures { Writes (W.contents output.old) (W.contents output.new) (W.faults output.old) (W.faults output.new) (table_file version table.now) result }
+    ensures { Writes (W.stream output.old) (W.stream output.new) (table_file version table.now) result }
 {
     match version {
         Version::One => write_table_v1(table, output),

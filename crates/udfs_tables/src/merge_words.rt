@@ -1,18 +1,13 @@
 //! What the words after `merge` ask for, and what is known of the output of `merge` and `forget`.
 
-ghost use Rattle.std.specs.Prelude.{◌≡◌, ◌≢◌, ◌⊎◌, ℕ, List, Bool, true, false, Some, IfOk, IfErr, IsErrOf, OnOk, codes, map};
+ghost use Rattle.std.specs.Prelude.{◌≡◌, ◌≢◌, ◌⊎◌, ℕ, List, Bool, true, false, Some, IfOk, IfErr, IsErrOf, OnErr, OnOk, codes};
 ghost use Rattle.clap.specs.Matches.{found_of};
-ghost use Rattle.udfs_lattice.specs.Tables.{Table};
-ghost use Rattle.udfs_lattice.specs.Records.{join_all};
-ghost use Rattle.udfs_files.specs.Disk.{After, Disk, Fails, IsOwn};
-ghost use Rattle.udfs_words.specs.Asking.{IsPicked, asked_for, asked_inputs, input_texts, out_text, pair_texts};
+ghost use Rattle.udfs_files.specs.Disk.{After, Disk, Fails, SinkFails, IsOwn};
+ghost use Rattle.udfs_words.specs.Asking.{IsPicked, input_texts, out_text, pair_texts};
 ghost use Rattle.udfs_common.specs.Guarding.{IsFree, IsSpared, SomeShut};
-ghost use Rattle.udfs_common.specs.Keeping.{IsKept, IsTaken, Joined};
+ghost use Rattle.udfs_common.specs.Keeping.{IsKept, IsTaken, RefusedOut};
 ghost use Rattle.udfs_common.specs.declared.sources.AnySource.{AnySource};
-ghost use Rattle.udfs_words.specs.declared.input_path.InputPath.{InputPath};
-ghost use Rattle.udfs_tables.specs.Leaving.{MayMerge};
-ghost use Rattle.udfs_common.specs.Spelling.{table_file};
-ghost use Rattle.udfs_words.specs.declared.forms.Version.{Version};
+ghost use Rattle.udfs_tables.specs.Leaving.{MayMerge, PutsJoin};
 
 use crate::merge::merge;
 use clap::ArgMatches;
@@ -49,10 +44,8 @@ pub fn merge_words<F: Files>(
     words: &ArgMatches<'_>,
     files: &mut F,
 ) -> Result<(), Refusal>
-    ensures written { OnOk result ((version : Version) × (inputs : List InputPath) × (tables : List Table) × IsPicked (found_of words.now) (codes "v1") Version.One Version.Two version ×
-        (map asked_for inputs ≡ asked_inputs (found_of words.now)) × Joined (λ path. F.holds files.old (F.real files.old path)) (⟦<AnySource<F::Input, F::Image> as Source>⟧.remaining) inputs tables ×
-        ((F.tells → IsKept (F.holds files.new) (F.may_leave files.new) (F.real files.old (out_text (found_of words.now))) (table_file version (join_all tables)))
-        ⊎ (F.in_place files.old (out_text (found_of words.now)) × IsTaken F.Output.contents (table_file version (join_all tables))))) }
+    ensures written { OnOk result (PutsJoin (λ path. F.holds files.old (F.real files.old path)) (⟦<AnySource<F::Input, F::Image> as Source>⟧.remaining) (found_of words.now)
+        (λ bytes. (F.tells → IsKept (F.holds files.new) (F.may_leave files.new) (F.real files.old (out_text (found_of words.now))) bytes) ⊎ (F.in_place files.old (out_text (found_of words.now)) × IsTaken F.Output.stream bytes))) }
     // A crash at any moment of the call leaves all as it was, or with the output in its place, whole.
     ensures any_moment { F.tells → (F.in_place files.old (out_text (found_of words.now)) → ⊥) → (c : Disk) → F.left_since files.new (F.moment files.old) c →
         After (F.may_leave files.old) (MayMerge (λ path. F.holds files.old (F.real files.old path)) (⟦<AnySource<F::Input, F::Image> as Source>⟧.remaining) (F.real files.old) (found_of words.now)) c }
@@ -60,9 +53,10 @@ pub fn merge_words<F: Files>(
     // A refused output leaves what its path held.
     ensures refused { IsErrOf result Refusal.Output → F.tells → (F.in_place files.old (out_text (found_of words.now)) → ⊥) → F.holds files.new (F.real files.old (out_text (found_of words.now))) ≡ F.holds files.old (F.real files.old (out_text (found_of words.now))) }
     // The table file is in its place where only the folder could not be synced.
-    ensures unkept { IsErrOf result Refusal.Unkept → F.tells → (version : Version) × (inputs : List InputPath) × (tables : List Table) × IsPicked (found_of words.now) (codes "v1") Version.One Version.Two version ×
-        (map asked_for inputs ≡ asked_inputs (found_of words.now)) × Joined (λ path. F.holds files.old (F.real files.old path)) (⟦<AnySource<F::Input, F::Image> as Source>⟧.remaining) inputs tables ×
-        (F.holds files.new (F.real files.old (out_text (found_of words.now))) ≡ Some (Some (table_file version (join_all tables)))) }
+    ensures unkept { IsErrOf result Refusal.Unkept → F.tells → PutsJoin (λ path. F.holds files.old (F.real files.old path)) (⟦<AnySource<F::Input, F::Image> as Source>⟧.remaining) (found_of words.now) (λ bytes. F.holds files.new (F.real files.old (out_text (found_of words.now))) ≡ Some (Some bytes)) }
+    // A refusal leaves all as it was; or a call failed, and then the path holds what it held or the new file, whole.
+    ensures left { OnErr result (RefusedOut F.tells F.holds F.real F.in_place (F.shut files.old (out_text (found_of words.now)) ⊎ Fails F.faults ⊎ SinkFails F.Output.stream) (out_text (found_of words.now)) files.old files.new
+        (PutsJoin (λ path. F.holds files.old (F.real files.old path)) (⟦<AnySource<F::Input, F::Image> as Source>⟧.remaining) (found_of words.now))) }
     // No other path changes, but for those of new files that are to go in its place.
     ensures elsewhere { F.tells → (F.in_place files.old (out_text (found_of words.now)) → ⊥) → (q : List ℕ) → q ≢ F.real files.old (out_text (found_of words.now)) → (¬ IsOwn (F.real files.old (out_text (found_of words.now))) q) → F.holds files.new q ≡ F.holds files.old q }
     // It takes the place of no pass that is no input, but by force, and never that of an image or a mapfile of the inputs.

@@ -1,7 +1,7 @@
 //! An image and its mapfile are put at two paths, so that at no moment a mapfile stands beside an image that lacks what it tells.
 
 ghost use Rattle.std.specs.Prelude.{◌≡◌, ◌≢◌, ◌⊎◌, ℕ, List, Option, Some, None, IfErr, OnOk, OnErr};
-ghost use Rattle.udfs_files.specs.Disk.{Disk, Fails, Goes, Gone, IsOwn, Replaced};
+ghost use Rattle.udfs_files.specs.Disk.{Disk, Fails, SinkFails, Goes, Gone, IsOwn, Replaced};
 ghost use Rattle.udfs_files.specs.declared.files.Kind.{Kind};
 ghost use Rattle.udfs_tables.specs.Imaging.{BothReplaced, Stands};
 ghost use Rattle.udfs_common.specs.Guarding.{IsApart};
@@ -65,7 +65,7 @@ fn put<F: Files, C: Content>(
     ensures either { F.tells → (F.holds files.new path.now ≡ F.holds files.old path.now) ⊎ (F.holds files.new path.now ≡ Some (Some (C.bytes content.now))) }
     ensures elsewhere { (q : List ℕ) → q ≢ path.now → (¬ IsOwn path.now q) → F.holds files.new q ≡ F.holds files.old q }
     ensures told { IfErr result (λ refusal. refusal ≢ Refusal.Spared) }
-    ensures cause { IfErr result (λ refusal. (refusal ≡ Refusal.Output) ⊎ (refusal ≡ Refusal.Unkept) → Fails F.faults ⊎ Fails F.Output.faults) }
+    ensures cause { IfErr result (λ refusal. (refusal ≡ Refusal.Output) ⊎ (refusal ≡ Refusal.Unkept) → Fails F.faults ⊎ SinkFails F.Output.stream) }
     ensures crash { F.tells → Goes F.moment F.may_leave F.left_since files.old files.new (Replaced path.now (C.bytes content.now)) }
 {
     match replace(alloc, files, path, content) {
@@ -94,7 +94,7 @@ fn put_image<F: Files, C: Content>(
     ensures stand { F.tells → (text : List ℕ) → Stands (Some None) (Some (Some (C.bytes blocks.now))) (Some (Some text)) (F.holds files.old image.now) (F.holds files.old mapfile.now) (F.holds files.new image.now) (F.holds files.new mapfile.now) }
     ensures elsewhere { (q : List ℕ) → q ≢ image.now → q ≢ mapfile.now → (¬ IsOwn image.now q) → F.holds files.new q ≡ F.holds files.old q }
     ensures told { IfErr result (λ refusal. refusal ≢ Refusal.Spared) }
-    ensures cause { IfErr result (λ refusal. (refusal ≡ Refusal.Output) ⊎ (refusal ≡ Refusal.Unkept) → Fails F.faults ⊎ Fails F.Output.faults) }
+    ensures cause { IfErr result (λ refusal. (refusal ≡ Refusal.Output) ⊎ (refusal ≡ Refusal.Unkept) → Fails F.faults ⊎ SinkFails F.Output.stream) }
     ensures crash { F.tells → (text : List ℕ) → Goes F.moment F.may_leave F.left_since files.old files.new (BothReplaced image.now mapfile.now (C.bytes blocks.now) text) }
 {
     match clear(files, mapfile, kind) {
@@ -126,7 +126,7 @@ pub fn put_both<F: Files, C: Content, D: Content>(
     ensures stand { F.tells → Stands (Some None) (Some (Some (C.bytes blocks.now))) (Some (Some (D.bytes runs.now))) (F.holds files.old image.now) (F.holds files.old mapfile.now) (F.holds files.new image.now) (F.holds files.new mapfile.now) }
     ensures elsewhere { (q : List ℕ) → q ≢ image.now → q ≢ mapfile.now → (¬ IsOwn image.now q) → (¬ IsOwn mapfile.now q) → F.holds files.new q ≡ F.holds files.old q }
     ensures told { IfErr result (λ refusal. refusal ≢ Refusal.Spared) }
-    ensures cause { IfErr result (λ refusal. (refusal ≡ Refusal.Output) ⊎ (refusal ≡ Refusal.Unkept) → Fails F.faults ⊎ Fails F.Output.faults) }
+    ensures cause { IfErr result (λ refusal. (refusal ≡ Refusal.Output) ⊎ (refusal ≡ Refusal.Unkept) → Fails F.faults ⊎ SinkFails F.Output.stream) }
     ensures crash { F.tells → Goes F.moment F.may_leave F.left_since files.old files.new (BothReplaced image.now mapfile.now (C.bytes blocks.now) (D.bytes runs.now)) }
 {
     match put_image(alloc, files, image, blocks, mapfile, kind) {

@@ -10,27 +10,32 @@
 --     is_mapped words, mapfile_text words         a mapfile is asked for, and its path
 --     folder_text words                           the path of the new folder
 --     IsKnownProfile words                        the rules that are named, if any are, are those of a profile
+--     IsUnknownProfile words name                 this name of rules is that of none
 --     IsProfile words profile                     the rules by their name, and the strict ones where none is
 --     has_only words, only_texts words            paths of nodes are asked for, and which; or else that of the root
 --     has_manifest words, manifest_text words     a manifest is asked for, and its path
 --     has_lost words, lost_text words             a folder for lost files is asked for, and its path
 --     IsOneEnd words                              the last block, or the size of a disc, and not both
+--     IsEndFault words fault                      what is wrong with how the end of the disc was told
 --     EndsMap end bytes                           these bytes are a mapfile whose runs end here
 --     MapsEndAt found end inputs                  all inputs are images whose mapfiles end here
---     IsToldLast words last                       the number of the last block, or of that with which a disc of the size ends; or 0, of which there is no report
+--     IsLastOfSize size last                      the block with which a disc of this size ends; or 0, of which there is no report, where there is none
+--     IsToldLast words last                       the number of the last block, or of that with which a disc of the size ends; or 0, where neither is a number
 --     IsLast found inputs words last              the same, or where neither is told the block with which all mapfiles end
-use Rattle.std.specs.Prelude.{◌≡◌, ◌≢◌, ◌⊎◌, ℕ, ◌+◌, ◌*◌, ◌%◌, ◌&&◌, ◌||◌, Bool, false, is_some, List, [], ◌∷◌, ◌++◌, All, Option, Some, None, IfSome, Ok, codes, map, option_map, unwrap_or, if◌then◌else◌, true}
+use Rattle.std.specs.Prelude.{◌≡◌, ◌≢◌, ◌⊎◌, ℕ, ◌+◌, ◌*◌, ◌%◌, ◌^◌, ◌<◌, ◌&&◌, ◌||◌, Bool, false, is_some, List, [], ◌∷◌, ◌++◌, All, Option, Some, None, IfSome, Ok, codes, map, option_map, unwrap_or, if◌then◌else◌, true}
 use Rattle.std.specs.Str.{bytes_eq}
 use Rattle.clap.specs.Matches.{matched_of, first_value, one_text, raw_values}
 use Rattle.clap.specs.declared.parser.matches.Found.{Found}
 use Rattle.udfs_volume.specs.declared.profiles.Profile.{Profile}
 use Rattle.udfs_volume.specs.declared.profiles.Profile.TheVariants.{Strict, Wide}
-use Rattle.std.specs.Str.Parse.{digits_value, without_leading_plus}
+use Rattle.std.specs.Str.Parse.{IsNumeral, digits_value, without_leading_plus}
 use Rattle.udfs_rescue.specs.declared.run.Run.{Run}
 use Rattle.udfs_rescue.specs.Lines.{outcome}
 use Rattle.udfs_rescue.specs.Runs.{end_of_runs}
 use Rattle.udfs_words.specs.declared.input_path.InputPath.{InputPath}
 use Rattle.udfs_words.specs.declared.input_path.InputPath.TheVariants as path
+use Rattle.udfs_words.specs.declared.last.EndFault.{EndFault}
+use Rattle.udfs_words.specs.declared.last.EndFault.TheVariants as fault
 
 -- clap reads a flag as `true` or `false`, and a flag that it does not know as nothing
 pub record IsPicked {A : Type 0} (words : Found) (flag : List ℕ) (given absent picked : A) : Type 0 where
@@ -114,6 +119,10 @@ folder_text words = unwrap_or (first_value words (codes "to")) []
 abbrev pub IsKnownProfile : Found → Type 0
 IsKnownProfile words = (name : List ℕ) → first_value words (codes "profile") ≡ Some name → (name ≡ codes "strict") ⊎ (name ≡ codes "wide")
 
+-- this is named, and it is no profile's
+abbrev pub IsUnknownProfile : Found → List ℕ → Type 0
+IsUnknownProfile words name = (first_value words (codes "profile") ≡ Some name) × (name ≢ codes "strict") × (name ≢ codes "wide")
+
 -- the rules by their name, and the strict ones where none is given
 pub record IsProfile (words : Found) (profile : Profile) : Type 0 where
   pub wide : first_value words (codes "profile") ≡ Some (codes "wide") → profile ≡ Wide
@@ -148,9 +157,19 @@ lost_text words = unwrap_or (first_value words (codes "unnamed")) []
 abbrev pub IsNumber : Found → List ℕ → ℕ → Type 0
 IsNumber words id number = (text : List ℕ) × (one_text words id ≡ Some text) × (digits_value 10 (without_leading_plus text) ≡ number)
 
+-- nothing was given as this that is a number of so many bits, in decimal
+abbrev pub IsNoNumber : Found → List ℕ → ℕ → Type 0
+IsNoNumber words id bits = (text : List ℕ) → one_text words id ≡ Some text → ¬ (IsNumeral 10 (without_leading_plus text) × (digits_value 10 (without_leading_plus text) < 2 ^ bits))
+
 -- a size that was given is that of whole blocks, and no last block was given beside it
 abbrev pub IsOneEnd : Found → Type 0
 IsOneEnd words = (size : ℕ) → IsNumber words (codes "size") size → (is_some (matched_of words (codes "last")) ≡ false) × (size ≢ 0) × (size % 2048 ≡ 0)
+
+-- a last block and a size were given; or a size alone that is that of no disc of whole blocks, and that is what is told
+abbrev pub IsEndFault : Found → EndFault → Type 0
+IsEndFault words fault.Both = (is_some (first_value words (codes "size")) ≡ true) × (is_some (matched_of words (codes "last")) ≡ true)
+IsEndFault words (fault.Size text) = (first_value words (codes "size") ≡ Some text.now) × (is_some (matched_of words (codes "last")) ≡ false) ×
+    (IsNoNumber words (codes "size") 64 ⊎ ((size : ℕ) × IsNumber words (codes "size") size × ((size ≡ 0) ⊎ (size % 2048 ≢ 0))))
 
 -- these bytes are a mapfile whose last run ends here
 abbrev pub EndsMap : ℕ → List ℕ → Type 0
@@ -165,17 +184,28 @@ EndsAt found end (path.Pair image map) = IfSome (found map.now) (λ held. IfSome
 abbrev pub MapsEndAt : (List ℕ → Option (Option (List ℕ))) → ℕ → List InputPath → Type 0
 MapsEndAt found end inputs = All (EndsAt found end) inputs
 
--- what was given as the last block, or the block with which a disc of the size that was given ends; of 0 there is no report
+-- a disc of this size is of no whole blocks, or of more than have numbers of 32 bits
+abbrev pub IsNoSize : ℕ → Type 0
+IsNoSize size = (size ≡ 0) ⊎ (size % 2048 ≢ 0) ⊎ (2048 * 2 ^ 32 < size)
+
+-- of 0 there is no report
+abbrev pub IsLastOfSize : ℕ → ℕ → Type 0
+IsLastOfSize size last = (size ≡ 2048 * (last + 1)) ⊎ ((last ≡ 0) × IsNoSize size)
+
+-- what was given as the last block; or else the block with which a disc of the size that was given ends; or 0 where neither is a number
 abbrev pub IsToldLast : Found → ℕ → Type 0
-IsToldLast words last = IsNumber words (codes "last") last ⊎ IsNumber words (codes "size") (2048 * (last + 1)) ⊎ (last ≡ 0)
+IsToldLast words last = IsNumber words (codes "last") last ⊎ (IsNoNumber words (codes "last") 32 × (((size : ℕ) × IsNumber words (codes "size") size × IsLastOfSize size last) ⊎ (IsNoNumber words (codes "size") 64 × (last ≡ 0))))
 
 -- neither was given; there are inputs, and all are images whose mapfiles end with this block
 pub record IsLastOfMaps (found : List ℕ → Option (Option (List ℕ))) (inputs : List InputPath) (words : Found) (last : ℕ) : Type 0 where
   pub no_last : is_some (matched_of words (codes "last")) ≡ false
   pub no_size : is_some (matched_of words (codes "size")) ≡ false
   pub some : inputs ≢ []
-  pub ends : MapsEndAt found (2048 * (last + 1)) inputs
+  pub size : ℕ
+  pub whole : (size ≢ 0) × (size % 2048 ≡ 0)
+  pub ends : MapsEndAt found size inputs
+  pub is_last : IsLastOfSize size last
 
 -- the last block, as the words tell it, or else as the mapfiles do
 abbrev pub IsLast : (List ℕ → Option (Option (List ℕ))) → List InputPath → Found → ℕ → Type 0
-IsLast found inputs words last = IsToldLast words last ⊎ IsLastOfMaps found inputs words last
+IsLast found inputs words last = ((is_some (matched_of words (codes "last")) || is_some (matched_of words (codes "size")) ≡ true) × IsToldLast words last) ⊎ IsLastOfMaps found inputs words last

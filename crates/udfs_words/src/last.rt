@@ -1,8 +1,8 @@
 //! The last block of the volume, by its number or by the size of the disc.
 
-ghost use Rattle.std.specs.Prelude.{◌≡◌, ◌≢◌, ◌⊎◌, ◌↔◌, ◌+◌, ◌*◌, ◌%◌, IsTrue, None};
+ghost use Rattle.std.specs.Prelude.{◌≡◌, ◌≢◌, ◌↔◌, ◌%◌, IsTrue, MatchOption};
 ghost use Rattle.clap.specs.Matches.{found_of};
-ghost use Rattle.udfs_words.specs.Asking.{IsOneEnd, IsToldLast};
+ghost use Rattle.udfs_words.specs.Asking.{IsEndFault, IsLastOfSize, IsOneEnd, IsToldLast};
 
 use crate::words::{LAST, SIZE};
 use clap::ArgMatches;
@@ -42,7 +42,7 @@ pub fn is_whole(size: u64) -> bool
 /// What is wrong with the words that say where the disc ends.
 #[tactic(auto, using(crate::proofs::AskingLemmas::no_number))]
 pub fn end_fault<'a>(words: &ArgMatches<'a>) -> Option<EndFault<'a>>
-    ensures { result ≡ None → IsOneEnd (found_of words.now) }
+    ensures { MatchOption result (IsOneEnd (found_of words.now)) (IsEndFault (found_of words.now)) }
 {
     let Some(size) = words.get_str(SIZE) else {
         return None;
@@ -58,7 +58,7 @@ pub fn end_fault<'a>(words: &ArgMatches<'a>) -> Option<EndFault<'a>>
 
 /// The block with which a disc of so many bytes ends; 0, of which there is no report, where there is none that a number of 32 bits names.
 pub fn last_of_size(size: u64) -> u32
-    ensures { (size ≡ 2048 * (result + 1)) ⊎ (result ≡ 0) }
+    ensures { IsLastOfSize size result }
 {
     if !is_whole(size) {
         return 0;

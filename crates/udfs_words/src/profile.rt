@@ -1,8 +1,8 @@
 //! The rules by which the volume is read, by their name among the words.
 
-ghost use Rattle.std.specs.Prelude.{◌≡◌, None};
+ghost use Rattle.std.specs.Prelude.{MatchOption};
 ghost use Rattle.clap.specs.Matches.{found_of};
-ghost use Rattle.udfs_words.specs.Asking.{IsKnownProfile, IsProfile};
+ghost use Rattle.udfs_words.specs.Asking.{IsKnownProfile, IsProfile, IsUnknownProfile};
 
 use crate::words::PROFILE;
 use clap::ArgMatches;
@@ -10,7 +10,7 @@ use udfs_volume::Profile;
 
 /// What is given as the name of rules, where it is that of none.
 pub fn unknown_profile<'a>(words: &ArgMatches<'a>) -> Option<&'a str>
-    ensures { result ≡ None → IsKnownProfile (found_of words.now) }
+    ensures { MatchOption result (IsKnownProfile (found_of words.now)) (λ name. IsUnknownProfile (found_of words.now) name.now) }
 {
     let Some(name) = words.get_str(PROFILE) else {
         return None;

@@ -233,9 +233,7 @@ impl<'a, S: Sink, C: Clock, W: Write + Copy> Cleared<'a, S, C, W> {
 }
 
 impl<'a, S: Sink, C: Clock, W: Write + Copy> Sink for Cleared<'a, S, C, W> {
-    ghost contents = { λ c. S.contents c.stream };
-
-    ghost faults = { λ c. S.faults c.stream };
+    ghost stream = { λ c. S.stream c.stream };
 
     fn write(&mut self, buf: &[u8]) -> Result<usize, DeviceFault> {
         self.screen.clear();

@@ -217,6 +217,38 @@ fn with_maps(alloc: Global, table: &BlockTable) -> Result<Memory, Fail> {
     Ok(memory)
 }
 
+/// Where the line cannot be printed, which has 19 bytes, the mapfile is not begun: what was there stays.
+#[test]
+fn a_line_that_cannot_be_printed_leaves_the_mapfile(rt: HostRuntime) -> Result<(), Fail> {
+    let alloc = rt.alloc();
+    let table = Disc::type1(alloc)?.known_but(alloc, &[278])?;
+    for good in 0..19usize {
+        let mut memory = with_maps(alloc, &table)?;
+        memory.terminal.good = good;
+        let ran = ran(
+            alloc,
+            &mut memory,
+            "reread --last 600 --mapfile old.map disc.tab",
+        )?;
+        assert_eq!(rt; ran.status, 2, "after {good}");
+        assert_eq!(rt;
+            ran.err.as_str(),
+            "udfsalvage: cannot write output\n",
+            "after {good}"
+        );
+        assert_eq!(rt; memory.calls(), 0, "after {good}");
+    }
+    let mut memory = with_maps(alloc, &table)?;
+    memory.terminal.good = 19;
+    let ran = ran(
+        alloc,
+        &mut memory,
+        "reread --last 600 --mapfile old.map disc.tab",
+    )?;
+    assert_eq!(rt; ran.status, 1);
+    Ok(())
+}
+
 /// What `reread` wrote counts for no pass: what it marks `+` was not read.
 #[test]
 fn blocks_to_read_again_are_no_pass(rt: HostRuntime) -> Result<(), Fail> {

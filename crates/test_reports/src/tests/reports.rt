@@ -3,6 +3,7 @@
 mod every_table;
 mod extraction;
 mod json;
+mod listings;
 mod profiles;
 mod text;
 mod unnamed;

@@ -196,9 +196,7 @@ struct Full {
 }
 
 impl Sink for Full {
-    ghost contents = { λ _. None };
-
-    ghost faults = { λ f. f.faults };
+    ghost stream = { λ f. record { contents = None; faults = f.faults } };
 
     fn write(&mut self, _buf: &[u8]) -> Result<usize, DeviceFault> {
         self.faults = self.faults.wrapping_add(1);

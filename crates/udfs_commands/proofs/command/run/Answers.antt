@@ -1,10 +1,10 @@
-use Rattle.std.proofs.Common.{◌≡◌, Bool, rules, List, ℕ, ap, inr, subst, sym, ◌∙◌, codes, map}
+use Rattle.std.proofs.Common.{◌≡◌, Bool, rules, List, ℕ, ap, inl, inr, ⊎_elim, subst, sym, ◌∙◌, codes, map}
 use Rattle.std.specs.String.{string_bytes}
 use Rattle.clap.specs.Matches.{found_of}
 use Rattle.clap.specs.Words.{App, HasMatchesOf, takes}
 use Rattle.udfs_words.specs.Grammar.{program_app}
 use Rattle.udfs_words.specs.Obeying.{IsAsked}
-use Rattle.udfs_commands.proofs.ObeyingLemmas.{asked, asks_by, done, done_whole, only_name}
+use Rattle.udfs_commands.proofs.ObeyingLemmas.{asked, asks_by, done, done_whole, no_fault, only_name, refused}
 use Rattle.udfs_commands.proofs.command.run.Goals as goal
 
 pub returns-in-Err-try_get_matches_from-clause-merge : goal.returns-in-Err-try_get_matches_from-clause-merge
@@ -294,7 +294,7 @@ returns-in-Some-obey-clause-one_end g c = λ taken some.
     let ask : IsAsked words c.in-Some.found.0.now found = asked c.in-Ok-try_get_matches_from.matches words c.in-Some.found.0.now found
     (subst (λ (a : App). HasMatchesOf a words c.in-Ok-try_get_matches_from.matches) (c.in-Ok.ensures ∙ ap program_app c.given_in.ensures) c.in-Ok-try_get_matches_from.ensures.matches)
     c.in-Some.ensures.name c.in-Some.ensures.rows in
-    (c.in-Some.found.0.now, found, ask, c.in_default.ensures (search rules))
+    (c.in-Some.found.0.now, found, ask, c.in_default.ensures)
 
 pub returns-in-Err-try_get_matches_from-clause-one_stream : goal.returns-in-Err-try_get_matches_from-clause-one_stream
 returns-in-Err-try_get_matches_from-clause-one_stream g c = λ taken some.
@@ -320,7 +320,7 @@ returns-in-Some-obey-clause-known_profile g c = λ taken some.
     let ask : IsAsked words c.in-Some.found.0.now found = asked c.in-Ok-try_get_matches_from.matches words c.in-Some.found.0.now found
     (subst (λ (a : App). HasMatchesOf a words c.in-Ok-try_get_matches_from.matches) (c.in-Ok.ensures ∙ ap program_app c.given_in.ensures) c.in-Ok-try_get_matches_from.ensures.matches)
     c.in-Some.ensures.name c.in-Some.ensures.rows in
-    (c.in-Some.found.0.now, found, ask, c.in_default-unknown_profile.ensures (search rules))
+    (c.in-Some.found.0.now, found, ask, c.in_default-unknown_profile.ensures)
 
 pub returns-in-Err-try_get_matches_from-clause-chosen : goal.returns-in-Err-try_get_matches_from-clause-chosen
 returns-in-Err-try_get_matches_from-clause-chosen g c = λ taken asks some.
@@ -439,3 +439,51 @@ returns-in-Some-obey-clause-free_lost g c = λ taken asks some.
     let named : IsAsked words (codes "extract") found = subst (λ (n : List ℕ). IsAsked words n found) is ask in
     let said = done c.in-Some-obey.outcome c.finish.result _ c.finish.ensures.done c.finish.ensures.refused some (c.in-Some-obey.ensures.free_lost is) in
     (said.0, said.1, found, named, said.2)
+
+pub returns-in-Some-obey-clause-merge_refused : goal.returns-in-Some-obey-clause-merge_refused
+returns-in-Some-obey-clause-merge_refused g c = λ asks two.
+    let words = map string_bytes c.args.words.now in
+    let found = found_of c.in-Some.found.1.now in
+    let ask : IsAsked words c.in-Some.found.0.now found = asked c.in-Ok-try_get_matches_from.matches words c.in-Some.found.0.now found
+    (subst (λ (a : App). HasMatchesOf a words c.in-Ok-try_get_matches_from.matches) (c.in-Ok.ensures ∙ ap program_app c.given_in.ensures) c.in-Ok-try_get_matches_from.ensures.matches)
+    c.in-Some.ensures.name c.in-Some.ensures.rows in
+    let is : c.in-Some.found.0.now ≡ codes "merge" = only_name words c.in-Some.found.0.now (codes "merge") found asks ask in
+    let named : IsAsked words (codes "merge") found = subst (λ (n : List ℕ). IsAsked words n found) is ask in
+    ⊎_elim (λ same. inl same) (λ failed. inr (found, named, failed)) (refused c.in-Some-obey.outcome c.finish.result _ c.finish.ensures.done two (c.in-Some-obey.ensures.merge_refused is))
+
+pub returns-in-Some-obey-clause-forget_refused : goal.returns-in-Some-obey-clause-forget_refused
+returns-in-Some-obey-clause-forget_refused g c = λ asks two.
+    let words = map string_bytes c.args.words.now in
+    let found = found_of c.in-Some.found.1.now in
+    let ask : IsAsked words c.in-Some.found.0.now found = asked c.in-Ok-try_get_matches_from.matches words c.in-Some.found.0.now found
+    (subst (λ (a : App). HasMatchesOf a words c.in-Ok-try_get_matches_from.matches) (c.in-Ok.ensures ∙ ap program_app c.given_in.ensures) c.in-Ok-try_get_matches_from.ensures.matches)
+    c.in-Some.ensures.name c.in-Some.ensures.rows in
+    let is : c.in-Some.found.0.now ≡ codes "forget" = only_name words c.in-Some.found.0.now (codes "forget") found asks ask in
+    let named : IsAsked words (codes "forget") found = subst (λ (n : List ℕ). IsAsked words n found) is ask in
+    ⊎_elim (λ same. inl same) (λ failed. inr (found, named, failed)) (refused c.in-Some-obey.outcome c.finish.result _ c.finish.ensures.done two (c.in-Some-obey.ensures.forget_refused is))
+
+pub returns-in-Some-obey-clause-page_refused : goal.returns-in-Some-obey-clause-page_refused
+returns-in-Some-obey-clause-page_refused g c = λ asks two.
+    let words = map string_bytes c.args.words.now in
+    let found = found_of c.in-Some.found.1.now in
+    let ask : IsAsked words c.in-Some.found.0.now found = asked c.in-Ok-try_get_matches_from.matches words c.in-Some.found.0.now found
+    (subst (λ (a : App). HasMatchesOf a words c.in-Ok-try_get_matches_from.matches) (c.in-Ok.ensures ∙ ap program_app c.given_in.ensures) c.in-Ok-try_get_matches_from.ensures.matches)
+    c.in-Some.ensures.name c.in-Some.ensures.rows in
+    let is : c.in-Some.found.0.now ≡ codes "page" = only_name words c.in-Some.found.0.now (codes "page") found asks ask in
+    let named : IsAsked words (codes "page") found = subst (λ (n : List ℕ). IsAsked words n found) is ask in
+    ⊎_elim (λ same. inl same) (λ failed. inr (found, named, failed)) (refused c.in-Some-obey.outcome c.finish.result _ c.finish.ensures.done two (c.in-Some-obey.ensures.page_refused is))
+
+pub returns-in-Some-obey-clause-reread_refused : goal.returns-in-Some-obey-clause-reread_refused
+returns-in-Some-obey-clause-reread_refused g c = λ asks two.
+    let words = map string_bytes c.args.words.now in
+    let found = found_of c.in-Some.found.1.now in
+    let ask : IsAsked words c.in-Some.found.0.now found = asked c.in-Ok-try_get_matches_from.matches words c.in-Some.found.0.now found
+    (subst (λ (a : App). HasMatchesOf a words c.in-Ok-try_get_matches_from.matches) (c.in-Ok.ensures ∙ ap program_app c.given_in.ensures) c.in-Ok-try_get_matches_from.ensures.matches)
+    c.in-Some.ensures.name c.in-Some.ensures.rows in
+    let is : c.in-Some.found.0.now ≡ codes "reread" = only_name words c.in-Some.found.0.now (codes "reread") found asks ask in
+    let named : IsAsked words (codes "reread") found = subst (λ (n : List ℕ). IsAsked words n found) is ask in
+    ⊎_elim (λ same. inl same) (λ failed. inr (found, named, failed)) (refused c.in-Some-obey.outcome c.finish.result _ c.finish.ensures.done two (c.in-Some-obey.ensures.reread_refused is))
+
+pub returns-in-Some-obey-clause-faulty : goal.returns-in-Some-obey-clause-faulty
+returns-in-Some-obey-clause-faulty g c = λ fault.
+    absurd (fault (no_fault _ (map string_bytes c.args.words.now) (c.in-Ok.ensures ∙ ap program_app c.given_in.ensures) c.in-Ok-try_get_matches_from.ensures.kinds))

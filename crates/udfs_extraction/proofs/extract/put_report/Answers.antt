@@ -1,8 +1,12 @@
-use Rattle.std.proofs.Common.{◌≡◌, ◌∙◌, Bor, List, map, rules, true, ℕ}
+use Rattle.std.proofs.Common.{◌≡◌, ◌∙◌, Bor, List, map, rules, sym, true, ℕ}
 use Rattle.std.specs.List.{list_all}
 use Rattle.udfs_walk.specs.NodeFields.{NodeFields}
+use Rattle.udfs_lattice.specs.Tables.{state_of}
+use Rattle.udfs_salvage.specs.Found.{volume_now}
 use Rattle.udfs_salvage.specs.Reports.{is_whole}
+use Rattle.udfs_salvage.specs.Listings.{listing_now}
 use Rattle.udfs_extraction.specs.Choosing.{chosen, is_node}
+use Rattle.udfs_extraction.proofs.ListedLemmas.{same_chosen, same_named}
 use Rattle.udfs_extraction.proofs.ManifestLemmas.{by_open, puts_with}
 use Rattle.udfs_extraction.proofs.PutNodes.{spares_all, spares_on}
 use Rattle.udfs_extraction.proofs.extract.put_report.Goals as goal
@@ -28,9 +32,14 @@ returns-else-not-told-clause-crash g c told =
 pub returns-else-not-told-clause-put : goal.returns-else-not-told-clause-put
 returns-else-not-told-clause-put g c =
     let put = c.in-Ok.ensures.put in
-    let nodes = c.args.report.now.nodes.items in
+    let l = c.args.listing.now in
+    let M = state_of l.table.now in
+    let a = volume_now l.volume in
+    let items = l.nodes.items in
     let only = map (λ (word : Bor (List ℕ)). word.now) c.args.only.now in
     let heard : put.0 ≡ true = search rules in
-    let named : list_all (is_node nodes) only ≡ true = search rules in
-    let whole : c.in_ok-whole-in-Open.whole ≡ list_all (λ (n : NodeFields). is_whole n.standing) (chosen only nodes) = search rules in
-    by_open _ _ c.in-Open.is _ _ (puts_with _ _ _ _ _ _ _ _ _ _ put.1 put.0 c.in-Ok.told.good c.in_ok-whole-in-Open.whole c.in-Ok.told.manifest.items named put.2 put.3.0 heard put.3.2 whole c.is_all_good.ensures put.3.3)
+    let named_items : list_all (is_node items) only ≡ true = search rules in
+    let named : list_all (is_node (listing_now l).nodes) only ≡ true = same_named M a items only ∙ named_items in
+    let whole_items : c.in_ok-whole-in-Open.whole ≡ list_all (λ (n : NodeFields). is_whole n.standing) (chosen only items) = search rules in
+    let whole : c.in_ok-whole-in-Open.whole ≡ list_all (λ (n : NodeFields). is_whole n.standing) (chosen only (listing_now l).nodes) = whole_items ∙ sym (same_chosen M a only items) in
+    by_open _ _ c.in-Open.is _ _ (puts_with _ _ _ _ _ _ _ _ put.1 put.0 c.in-Ok.told.good c.in_ok-whole-in-Open.whole c.in-Ok.told.manifest.items named put.2 put.3.0 heard put.3.2 whole c.is_all_good.ensures put.3.3)

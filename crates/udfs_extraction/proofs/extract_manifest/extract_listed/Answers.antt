@@ -1,12 +1,12 @@
-use Rattle.udfs_salvage.specs.Reports.{report_now}
+use Rattle.udfs_salvage.specs.Listings.{listing_now}
 use Rattle.udfs_extraction.proofs.ManifestLemmas.{lists_chosen, nothing_listed}
 use Rattle.udfs_extraction.proofs.extract_manifest.extract_listed.Goals as goal
 
 pub returns-in-Err-clause-spares : goal.returns-in-Err-clause-spares
 returns-in-Err-clause-spares g c = nothing_listed _ _ _ _ _ _ _ _ _
 
-pub returns-in_err-report-clause-spares : goal.returns-in_err-report-clause-spares
-returns-in_err-report-clause-spares g c = nothing_listed _ _ _ _ _ _ _ _ _
+pub returns-in_err-listing-clause-spares : goal.returns-in_err-listing-clause-spares
+returns-in_err-listing-clause-spares g c = nothing_listed _ _ _ _ _ _ _ _ _
 
 pub returns-in-Ok-list_report-clause-listed : goal.returns-in-Ok-list_report-clause-listed
 returns-in-Ok-list_report-clause-listed g c =
@@ -14,5 +14,5 @@ returns-in-Ok-list_report-clause-listed g c =
     let l = c.in-Ok-list_report.ensures.listed in (
       of.0,
       of.1,
-      lists_chosen _ _ _ _ _ _ _ _ _ _ _ _ _ _ _ _ _ _ _ l.0 (report_now c.in_ok-report.report) c.in_ok-report.ensures.of.0 of.2 c.in_ok-report.ensures.report l.1 l.2,
+      lists_chosen _ _ _ _ _ _ _ _ _ _ _ _ _ _ _ _ _ l.0 (listing_now c.in_ok-listing.listing) c.in_ok-listing.ensures.of.0 of.2 c.in_ok-listing.ensures.report l.1 l.2,
     )

@@ -14,7 +14,7 @@ returns-in-Err-clause-spares g c = record {
 pub returns-in-Ok-put_manifest-clause-listed : goal.returns-in-Ok-put_manifest-clause-listed
 returns-in-Ok-put_manifest-clause-listed g c = (
   c.put_report.new.files,
-  listed_by _ _ _ _ _ _ _ _ _ _ _ _ _ _ c.as_slice.result.now _ _ (λ fs t has told. has refl told) c.in-Ok.ensures.put (search rules)
+  listed_by _ _ _ _ _ _ _ _ _ _ _ _ c.as_slice.result.now _ _ (λ fs t has told. has refl told) c.in-Ok.ensures.put (search rules)
       (λ told. record { kept = c.in-Ok-put_manifest.ensures.kept told; crash = c.put_manifest.ensures.crash told; elsewhere = c.put_manifest.ensures.elsewhere }),
   c.put_report.ensures.elsewhere,
 )
@@ -22,6 +22,6 @@ returns-in-Ok-put_manifest-clause-listed g c = (
 pub returns-clause-listed : goal.returns-clause-listed
 returns-clause-listed g c = (
   c.put_report.new.files,
-  unlisted_by _ _ _ _ _ _ _ _ _ _ _ _ _ _ _ c.in-Ok.ensures.put (search rules) (λ n. (n, refl)),
+  unlisted_by _ _ _ _ _ _ _ _ _ _ _ _ _ c.in-Ok.ensures.put (search rules) (λ n. (n, refl)),
   c.put_report.ensures.elsewhere,
 )

@@ -1,4 +1,4 @@
-use Rattle.udfs_salvage.specs.Reports.{report_now}
+use Rattle.udfs_salvage.specs.Listings.{listing_now}
 use Rattle.udfs_extraction.proofs.LostLemmas.{lost_of, nothing_lost}
 use Rattle.udfs_extraction.proofs.ManifestLemmas.{lists_chosen, nothing_listed}
 use Rattle.udfs_extraction.proofs.extract_unnamed.extract_listed_with_lost.Goals as goal
@@ -6,8 +6,11 @@ use Rattle.udfs_extraction.proofs.extract_unnamed.extract_listed_with_lost.Goals
 pub returns-in-Err-clause-spares : goal.returns-in-Err-clause-spares
 returns-in-Err-clause-spares g c = (c.args.files.now, nothing_listed _ _ _ _ _ _ _ _ _, nothing_lost _ _ _ _ _ _ _)
 
-pub returns-in_err-report-clause-spares : goal.returns-in_err-report-clause-spares
-returns-in_err-report-clause-spares g c = (c.args.files.now, nothing_listed _ _ _ _ _ _ _ _ _, nothing_lost _ _ _ _ _ _ _)
+pub returns-in_err-listing-clause-spares : goal.returns-in_err-listing-clause-spares
+returns-in_err-listing-clause-spares g c = (c.args.files.now, nothing_listed _ _ _ _ _ _ _ _ _, nothing_lost _ _ _ _ _ _ _)
+
+pub returns-in_err-entries-clause-spares : goal.returns-in_err-entries-clause-spares
+returns-in_err-entries-clause-spares g c = (c.args.files.now, nothing_listed _ _ _ _ _ _ _ _ _, nothing_lost _ _ _ _ _ _ _)
 
 pub returns-in-Err-list_report-clause-spares : goal.returns-in-Err-list_report-clause-spares
 returns-in-Err-list_report-clause-spares g c = (c.list_report.new.files, c.list_report.ensures.spares, nothing_lost _ _ _ _ _ _ _)
@@ -21,7 +24,7 @@ returns-clause-spares g c = (c.list_report.new.files, c.list_report.ensures.spar
 pub returns-in-Ok-put_lost-clause-added : goal.returns-in-Ok-put_lost-clause-added
 returns-in-Ok-put_lost-clause-added g c =
     let of = c.in-Ok.ensures.by_path in
-    let told = report_now c.in_ok-report.report in
+    let told = listing_now c.in_ok-listing.listing in
     let l = c.in-Ok-list_report.ensures.listed in (
       of.0,
       of.1,
@@ -30,8 +33,8 @@ returns-in-Ok-put_lost-clause-added g c =
         between = c.list_report.new.out;
         nodes_good = c.in-Ok-list_report.made;
         lost_good = c.in-Ok-put_lost.good;
-        nodes = lists_chosen _ _ _ _ _ _ _ _ _ _ _ _ _ _ _ _ _ _ _ l.0 told c.in_ok-report.ensures.of.0 of.2 c.in_ok-report.ensures.report l.1 l.2;
-        lost = lost_of _ _ _ _ _ _ _ _ _ _ _ _ told c.in_ok-report.ensures.of.0 of.2 c.in_ok-report.ensures.report c.in-Ok-put_lost.ensures.put c.put_lost.ensures.spares;
+        nodes = lists_chosen _ _ _ _ _ _ _ _ _ _ _ _ _ _ _ _ _ l.0 told c.in_ok-listing.ensures.of.0 of.2 c.in_ok-listing.ensures.report l.1 l.2;
+        lost = lost_of _ _ _ _ _ _ _ _ _ _ told c.in_ok-listing.ensures.of.0 of.2 c.in_ok-listing.ensures.report c.in-Ok-put_lost.ensures.put c.put_lost.ensures.spares;
         says = c.is_all_good.ensures;
       },
     )

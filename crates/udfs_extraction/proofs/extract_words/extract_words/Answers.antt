@@ -36,5 +36,5 @@ returns-in-Ok-clause-extracted g c none =
       c.asked_short-short.ensures,
       c.in_ok-last.ensures.last,
       c.asked_profile-profile.ensures,
-      rw (← c.asked_folder-folder.ensures) (done.0, done.1, extracts_all _ _ _ _ _ _ _ _ _ _ _ _ _ _ done.2),
+      rw (← c.asked_folder-folder.ensures) (done.0, done.1, extracts_all _ _ _ _ _ _ _ _ _ _ _ _ done.2),
     )

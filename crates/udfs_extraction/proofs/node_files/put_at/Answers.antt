@@ -1,9 +1,13 @@
 use Rattle.std.proofs.Common.{◌≡◌, inl, refl, sym, ◌∙◌, ap, subst, true, false}
 use Rattle.udfs_walk.specs.NodeFields.{NodeFields}
+use Rattle.udfs_lattice.specs.Tables.{state_of}
+use Rattle.udfs_salvage.specs.Found.{volume_now}
+use Rattle.udfs_salvage.specs.Listings.{full_in}
 use Rattle.udfs_salvage.specs.Extraction.{is_offered, filled, fill_byte}
 use Rattle.udfs_extraction.specs.Extracting.{IsFateOf, IsSafe, deed, is_good}
 use Rattle.udfs_extraction.specs.declared.extract.Deed.TheVariants.{File, Folder, Skip}
 use Rattle.udfs_extraction.specs.declared.extract.Fate.TheVariants.{Written, Skipped}
+use Rattle.udfs_extraction.proofs.ListedLemmas.{same_deed}
 use Rattle.udfs_extraction.proofs.PutNodes.{offered, safe, spares_at, stay_by}
 use Rattle.udfs_extraction.proofs.node_files.put_at.Goals as goal
 
@@ -17,8 +21,10 @@ returns-in_err-done-in-File-clause-crash g c told folder is_in =
 
 pub returns-in-Folder-clause-put : goal.returns-in-Folder-clause-put
 returns-in-Folder-clause-put g c n short folder at path =
-    let same : c.node_at.result.now ≡ n = let e = sym c.node_at.ensures ∙ at in cc in
-    let made : deed n.kind n.standing n.size c.args.fill ≡ Folder = subst (λ (m : NodeFields). deed m.kind m.standing m.size c.args.fill ≡ Folder) same (sym c.deed_for.ensures ∙ c.in-Folder.is) in
+    let l = c.args.listing.now in
+    let m = c.node_at.result.now in
+    let same : full_in (state_of l.table.now) (volume_now l.volume) m ≡ n = let e = sym c.node_at.ensures ∙ at in cc in
+    let made : deed n.kind n.standing n.size c.args.fill ≡ Folder = subst (λ (m : NodeFields). deed m.kind m.standing m.size c.args.fill ≡ Folder) same (same_deed (state_of l.table.now) (volume_now l.volume) m.icb m.kind m.standing m.size c.args.fill ∙ sym c.deed_for.ensures ∙ c.in-Folder.is) in
     record {
       done = subst (λ d. IsFateOf d c.put_folder-fate.result) (sym made) c.put_folder-fate.ensures.fate;
       written = λ written told profile last reported. absurd (c.put_folder-fate.ensures.fate.0 written);
@@ -28,8 +34,10 @@ returns-in-Folder-clause-put g c n short folder at path =
 pub returns-in_ok-done-in-File-clause-put : goal.returns-in_ok-done-in-File-clause-put
 returns-in_ok-done-in-File-clause-put g c n short folder at path =
     let F = g.F.Files in
-    let same : c.node_at.result.now ≡ n = let e = sym c.node_at.ensures ∙ at in cc in
-    let made : deed n.kind n.standing n.size c.args.fill ≡ File = subst (λ (m : NodeFields). deed m.kind m.standing m.size c.args.fill ≡ File) same (sym c.deed_for.ensures ∙ c.in-File.is) in
+    let l = c.args.listing.now in
+    let m = c.node_at.result.now in
+    let same : full_in (state_of l.table.now) (volume_now l.volume) m ≡ n = let e = sym c.node_at.ensures ∙ at in cc in
+    let made : deed n.kind n.standing n.size c.args.fill ≡ File = subst (λ (m : NodeFields). deed m.kind m.standing m.size c.args.fill ≡ File) same (same_deed (state_of l.table.now) (volume_now l.volume) m.icb m.kind m.standing m.size c.args.fill ∙ sym c.deed_for.ensures ∙ c.in-File.is) in
     let is : is_offered n.standing n.size c.args.fill ≡ true = offered n.kind n.standing n.size c.args.fill made in
     record {
       done = subst (λ d. IsFateOf d c.in_ok-done-in-File.done.fate) (sym made) c.in_ok-done-in-File.ensures.fate;
@@ -53,8 +61,10 @@ returns-in_ok-done-in-File-clause-crash g c told folder is_in =
 
 pub returns-in-Skip-clause-put : goal.returns-in-Skip-clause-put
 returns-in-Skip-clause-put g c n short folder at path =
-    let same : c.node_at.result.now ≡ n = let e = sym c.node_at.ensures ∙ at in cc in
-    let made : deed n.kind n.standing n.size c.args.fill ≡ Skip = subst (λ (m : NodeFields). deed m.kind m.standing m.size c.args.fill ≡ Skip) same (sym c.deed_for.ensures ∙ c.in-Skip.is) in
+    let l = c.args.listing.now in
+    let m = c.node_at.result.now in
+    let same : full_in (state_of l.table.now) (volume_now l.volume) m ≡ n = let e = sym c.node_at.ensures ∙ at in cc in
+    let made : deed n.kind n.standing n.size c.args.fill ≡ Skip = subst (λ (m : NodeFields). deed m.kind m.standing m.size c.args.fill ≡ Skip) same (same_deed (state_of l.table.now) (volume_now l.volume) m.icb m.kind m.standing m.size c.args.fill ∙ sym c.deed_for.ensures ∙ c.in-Skip.is) in
     record {
       done = subst (λ d. IsFateOf d Skipped) (sym made) refl;
       written = λ written told profile last reported. let bad : Skipped ≡ Written = written in cc;

@@ -1,12 +1,16 @@
 use Rattle.std.proofs.Common.{◌≡◌, ◌∙◌, Bor, ℕ, List, true, false, ap, map, rules, subst, sym}
+use Rattle.udfs_lattice.specs.Tables.{state_of}
 use Rattle.udfs_walk.specs.NodeFields.{NodeFields}
+use Rattle.udfs_salvage.specs.Found.{volume_now}
+use Rattle.udfs_salvage.specs.Listings.{full_in}
 use Rattle.udfs_extraction.specs.Choosing.{is_chosen}
 use Rattle.udfs_extraction.proofs.node_files.put_chosen.Goals as goal
 
 pub returns-in-Ok-clause-put : goal.returns-in-Ok-clause-put
 returns-in-Ok-clause-put g c n short at placed_at =
     let only = map (λ (word : Bor (List ℕ)). word.now) c.args.only.now in
-    let same : c.node_at-node.result.now ≡ n = let e = sym c.node_at-node.ensures ∙ at in cc in
+    let l = c.args.listing.now in
+    let same : full_in (state_of l.table.now) (volume_now l.volume) c.node_at-node.result.now ≡ n = let e = sym c.node_at-node.ensures ∙ at in cc in
     let seen : c.node.inside.path ≡ c.node_at-node.result.now.path = search rules in
     let asked : is_chosen only n.path ≡ true = subst (λ (p : List (List ℕ)). is_chosen only p ≡ true) (seen ∙ ap (λ (m : NodeFields). m.path) same) (sym c.in_ok-is_chosen.ensures ∙ c.if-branch.true) in
     record {
@@ -16,14 +20,16 @@ returns-in-Ok-clause-put g c n short at placed_at =
 
 pub returns-in-Ok-clause-elsewhere : goal.returns-in-Ok-clause-elsewhere
 returns-in-Ok-clause-elsewhere g c q other =
+    let l = c.args.listing.now in
     let only = map (λ (word : Bor (List ℕ)). word.now) c.args.only.now in
     let seen : c.node.inside.path ≡ c.node_at-node.result.now.path = search rules in
     let asked : is_chosen only c.node_at-node.result.now.path ≡ true = subst (λ (p : List (List ℕ)). is_chosen only p ≡ true) seen (sym c.in_ok-is_chosen.ensures ∙ c.if-branch.true) in
-    c.put_node.ensures.elsewhere q (other c.node_at-node.result.now c.node_at-node.ensures asked)
+    c.put_node.ensures.elsewhere q (other (full_in (state_of l.table.now) (volume_now l.volume) c.node_at-node.result.now) c.node_at-node.ensures asked)
 
 pub returns-in-Err-clause-elsewhere : goal.returns-in-Err-clause-elsewhere
 returns-in-Err-clause-elsewhere g c q other =
+    let l = c.args.listing.now in
     let only = map (λ (word : Bor (List ℕ)). word.now) c.args.only.now in
     let seen : c.node.inside.path ≡ c.node_at-node.result.now.path = search rules in
     let asked : is_chosen only c.node_at-node.result.now.path ≡ true = subst (λ (p : List (List ℕ)). is_chosen only p ≡ true) seen (sym c.in_ok-is_chosen.ensures ∙ c.if-branch.true) in
-    c.put_node.ensures.elsewhere q (other c.node_at-node.result.now c.node_at-node.ensures asked)
+    c.put_node.ensures.elsewhere q (other (full_in (state_of l.table.now) (volume_now l.volume) c.node_at-node.result.now) c.node_at-node.ensures asked)

@@ -1,5 +1,4 @@
 use Rattle.std.proofs.Common.{◌≡◌, ◌++◌, ◌∙◌, ap, rules, subst}
-use Rattle.udfs_extraction.specs.Extracting.{IsIn}
 use Rattle.udfs_extraction.specs.Manifests.{IsNoted}
 use Rattle.udfs_extraction.proofs.node_files.put_node.Goals as goal
 

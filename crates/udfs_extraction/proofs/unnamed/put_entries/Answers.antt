@@ -1,10 +1,14 @@
-use Rattle.std.proofs.Common.{rules, ◌≡◌, ◌⊎◌, ◌+◌, ◌++◌, ◌∷◌, ◌≤◌, ℕ, List, [], Some, refl, sym, ◌∙◌, ap, subst, arith, length, length-append, slice_get, false, if◌then◌else◌}
-use Rattle.udfs_files.specs.Disk.{Fails}
+use Rattle.std.proofs.Common.{rules, ◌≡◌, ◌⊎◌, ◌++◌, ◌∷◌, List, [], Some, refl, sym, ◌∙◌, ap, subst, arith, length, length-append, slice_get, false, if◌then◌else◌}
+use Rattle.std.proofs.lemmas.List.{length-map}
+use Rattle.udfs_files.specs.Disk.{Fails, SinkFails}
 use Rattle.udfs_walk.specs.declared.answers.Unnamed.{Unnamed}
-use Rattle.udfs_salvage.specs.Reports.{report_now}
-use Rattle.udfs_extraction.specs.Extracting.{TellsLines, is_good}
+use Rattle.udfs_lattice.specs.Tables.{state_of}
+use Rattle.udfs_salvage.specs.Found.{volume_now}
+use Rattle.udfs_salvage.specs.Listings.{full_entry_in, listing_now}
+use Rattle.udfs_extraction.specs.Extracting.{TellsLines, TellsOn, is_good}
 use Rattle.udfs_extraction.specs.LostFiles.{IsLostPut, lost_line, lost_lines}
 use Rattle.udfs_extraction.specs.declared.extract.Fate.{Fate}
+use Rattle.udfs_extraction.proofs.ListedLemmas.{full_at, same_line}
 use Rattle.udfs_extraction.proofs.LostLemmas.{each_lost_map, each_lost_more, lost_lines_more, lost_on, lost_still, nothing_lost}
 use Rattle.udfs_extraction.proofs.PutNodes.{good_more, tells_on}
 use Rattle.udfs_extraction.proofs.unnamed.put_entries.Goals as goal
@@ -28,22 +32,36 @@ loop-index-preserved g c =
     let inv = c.loop-index.invariant in
     let fates = inv.put.0 in
     let fate = c.in_ok-fate.fate in
-    let u = c.entry_at-entry.result.now in
-    let us = c.args.report.now.unnamed.items in
+    let l = c.args.listing.now in
+    let M = state_of l.table.now in
+    let a = volume_now l.volume in
+    let w = c.entry_at-entry.result.now in
+    let u = full_entry_in M a w in
+    let us = (listing_now c.args.listing.now).unnamed in
     let two = c.args.two in
-    let P : Unnamed → Fate → Type 0 = IsLostPut F.tells (Fails F.faults ⊎ Fails g.F.Output.Sink.faults) c.args.report.now.table.now (report_now c.args.report.now) c.args.folder.now two (F.holds c.put_entry.new.files) (F.moment c.put_entry.new.files) (F.left_since c.put_entry.new.files) in
+    let P : Unnamed → Fate → Type 0 = IsLostPut F.tells (Fails F.faults ⊎ SinkFails g.F.Output.Sink.stream) c.args.listing.now.table.now (listing_now c.args.listing.now) c.args.folder.now two (F.holds c.put_entry.new.files) (F.moment c.put_entry.new.files) (F.left_since c.put_entry.new.files) in
     let count : length fates ≡ c.loop-index.index = inv.put.3 in
-    let at : slice_get us (length fates) ≡ Some u = subst (λ k. slice_get us k ≡ Some u) (sym count) c.entry_at-entry.ensures in
+    let there : slice_get us c.loop-index.index ≡ Some u = subst (λ (xs : List Unnamed). slice_get xs c.loop-index.index ≡ Some u) c.requires (full_at (full_entry_in M a) c.args.entries.now c.loop-index.index w c.entry_at-entry.ensures) in
+    let at : slice_get us (length fates) ≡ Some u = subst (λ k. slice_get us k ≡ Some u) (sym count) there in
     record {
       put = (
         fates ++ fate ∷ [],
         each_lost_more P us fates u fate at
-            (each_lost_map _ P (λ w f. lost_still F.tells F.holds F.may_leave F.moment F.left_since (Fails F.faults ⊎ Fails g.F.Output.Sink.faults) c.args.report.now.table.now (report_now c.args.report.now) c.args.folder.now two c.loop-index.files c.put_entry.new.files (g.met.F.Files.counts_now c.loop-index.files) c.put_entry.ensures.spares w f) us fates inv.put.1)
-            (c.in_ok-fate.ensures.put u c.entry_at-entry.ensures),
-        subst (λ t. TellsLines c.in_ok-heard.heard (S.contents c.args.out.now) (S.contents c.tell_lost.new.out) (S.faults c.args.out.now) (S.faults c.tell_lost.new.out) t) (sym (lost_lines_more two us fates u fate at))
-            (tells_on c.loop-index.heard c.in_ok-heard.heard (S.contents c.args.out.now) (S.contents c.loop-index.out) (S.contents c.tell_lost.new.out) (S.faults c.args.out.now) (S.faults c.loop-index.out) (S.faults c.tell_lost.new.out) (lost_lines two us fates) (lost_line two fate u) inv.put.2 c.in_ok-heard.ensures.lines),
+            (each_lost_map _ P (λ w f. lost_still F.tells F.holds F.may_leave F.moment F.left_since (Fails F.faults ⊎ SinkFails g.F.Output.Sink.stream) c.args.listing.now.table.now (listing_now c.args.listing.now) c.args.folder.now two c.loop-index.files c.put_entry.new.files (g.met.F.Files.counts_now c.loop-index.files) c.put_entry.ensures.spares w f) us fates inv.put.1)
+            (c.in_ok-fate.ensures.put u there),
+        subst (λ t. TellsLines c.in_ok-heard.heard (S.stream c.args.out.now) (S.stream c.tell_lost.new.out) t) (sym (lost_lines_more two us fates u fate at))
+            (tells_on c.loop-index.heard c.in_ok-heard.heard (S.stream c.args.out.now) (S.stream c.loop-index.out) (S.stream c.tell_lost.new.out) (lost_lines two us fates) (lost_line two fate u) inv.put.2
+            (subst (λ t. TellsOn c.loop-index.heard c.in_ok-heard.heard (S.stream c.loop-index.out) (S.stream c.tell_lost.new.out) t) (sym (same_line two fate M a w)) c.in_ok-heard.ensures.lines)),
         (let more = length-append fates (fate ∷ []) in omega (arith, count, more)),
         c.still_good-good.ensures ∙ ap (λ b. if is_good fate then b else false) inv.put.4 ∙ sym (good_more fates fate),
       );
       spares = lost_on _ _ _ _ _ c.args.folder.now _ _ _ inv.spares c.put_entry.ensures.spares;
     }
+
+pub returns-clause-put : goal.returns-clause-put
+returns-clause-put g c =
+    let l = c.args.listing.now in
+    let put = c.loop-index.invariant.put in
+    let all : length put.0 ≡ length c.args.entries.now = search rules in
+    let same : length c.args.entries.now ≡ length (listing_now l).unnamed = sym (length-map c.args.entries.now (full_entry_in (state_of l.table.now) (volume_now l.volume))) ∙ ap (λ (us : List Unnamed). length us) c.requires in
+    (put.0, put.1, put.2, all ∙ same, put.4)

@@ -1,7 +1,7 @@
 -- Each entry so far has its fate, and its line where the output still takes them; what was written stays.
 use Rattle.std.proofs.Common.{◌≡◌, ◌⊎◌, List, length}
-use Rattle.udfs_files.specs.Disk.{Fails}
-use Rattle.udfs_salvage.specs.Reports.{report_now}
+use Rattle.udfs_files.specs.Disk.{Fails, SinkFails}
+use Rattle.udfs_salvage.specs.Listings.{listing_now}
 use Rattle.udfs_extraction.specs.Extracting.{TellsLines, all_good}
 use Rattle.udfs_extraction.specs.LostFiles.{EachLost, IsLostPut, SparesLost, lost_lines}
 use Rattle.udfs_extraction.specs.declared.extract.Fate.{Fate}
@@ -12,7 +12,7 @@ invariant-loop-index g l =
     let F = g.F.Files in
     let S = g.O.Sink in
     record {
-      put : (fates : List Fate) × EachLost (IsLostPut F.tells (Fails F.faults ⊎ Fails g.F.Output.Sink.faults) l.report.table.now (report_now l.report) l.folder l.two (F.holds l.files) (F.moment l.files) (F.left_since l.files)) l.report.unnamed.items fates ×
-          TellsLines l.heard (S.contents l.initial.out) (S.contents l.out) (S.faults l.initial.out) (S.faults l.out) (lost_lines l.two l.report.unnamed.items fates) × (length fates ≡ l.index) × (l.good ≡ all_good fates);
+      put : (fates : List Fate) × EachLost (IsLostPut F.tells (Fails F.faults ⊎ SinkFails g.F.Output.Sink.stream) l.listing.table.now (listing_now l.listing) l.folder l.two (F.holds l.files) (F.moment l.files) (F.left_since l.files)) (listing_now l.listing).unnamed fates ×
+          TellsLines l.heard (S.stream l.initial.out) (S.stream l.out) (lost_lines l.two (listing_now l.listing).unnamed fates) × (length fates ≡ l.index) × (l.good ≡ all_good fates);
       spares : SparesLost F.tells F.holds F.may_leave F.moment F.left_since l.folder l.initial.files l.files;
     }

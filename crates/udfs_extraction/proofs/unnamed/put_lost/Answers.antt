@@ -21,4 +21,4 @@ pub returns-clause-put : goal.returns-clause-put
 returns-clause-put g c =
     let put = rw c.has_two_partitions-two.ensures at c.in-Ok.ensures.put in
     let heard : c.in-Ok.told.heard ≡ true = search rules in
-    puts_lost _ _ _ _ _ _ _ _ _ heard put
+    puts_lost _ _ _ _ _ _ _ heard put

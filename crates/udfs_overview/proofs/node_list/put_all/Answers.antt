@@ -9,5 +9,5 @@ pub returns : goal.returns
 unfolding list_text
 returns g c =
     let W = g.W.Sink in
-    subst (λ ns. PassesOn (W.contents c.args.sink.now) (W.contents c.put_nodes.new.sink) (W.faults c.args.sink.now) (W.faults c.put_nodes.new.sink) (string_bytes c.args.text.now) (string_bytes c.put_nodes.new.text)
+    subst (λ ns. PassesOn (W.stream c.args.sink.now) (W.stream c.put_nodes.new.sink) (string_bytes c.args.text.now) (string_bytes c.put_nodes.new.text)
     (flat_map (listed c.args.form) ns) c.put_nodes.result) c.behind_root.ensures c.put_nodes.ensures

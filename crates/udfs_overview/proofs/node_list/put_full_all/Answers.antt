@@ -13,5 +13,5 @@ unfolding list_text
 returns g c =
     let W = g.W.Sink in
     let f = full_node (view_now c.args.view) in
-    subst (λ ns. PassesOn (W.contents c.args.sink.now) (W.contents c.put_full_nodes.new.sink) (W.faults c.args.sink.now) (W.faults c.put_full_nodes.new.sink) (string_bytes c.args.text.now) (string_bytes c.put_full_nodes.new.text)
+    subst (λ ns. PassesOn (W.stream c.args.sink.now) (W.stream c.put_full_nodes.new.sink) (string_bytes c.args.text.now) (string_bytes c.put_full_nodes.new.text)
     (flat_map (listed c.args.form) ns) c.put_full_nodes.result) (ap (map f) c.behind_root.ensures ∙ behind_first f c.args.nodes.now) c.put_full_nodes.ensures

@@ -11,5 +11,5 @@ use Rattle.udfs_overview.proofs.node_list.put_full_nodes.Given as goal
 abbrev pub invariant-loop-node : goal.invariant-loop-node
 invariant-loop-node g l =
     let W = g.W.Sink in
-    Passed (W.contents l.fn.sink) (W.contents l.sink) (W.faults l.fn.sink) (W.faults l.sink) (string_bytes l.fn.text) (string_bytes l.text)
+    Passed (W.stream l.fn.sink) (W.stream l.sink) (string_bytes l.fn.text) (string_bytes l.text)
     (flat_map (listed l.form) (take l.node-index (map (full_node (view_now l.view)) l.nodes)))

@@ -6,7 +6,7 @@ use Rattle.udfs_reading.proofs.PacketWriting.{contents_none, contents_next, bloc
 use Rattle.udfs_reading.proofs.packing.write_blocks.Goals as goal
 
 pub loop-place-init : goal.loop-place-init
-loop-place-init g c = subst (Passed _ _ _ _ _ _) (sym (contents_none c.args.table.now c.args.first)) (passed_none _ _ _)
+loop-place-init g c = subst (Passed _ _ _ _) (sym (contents_none c.args.table.now c.args.first)) (passed_none _ _)
 
 pub returns-in_err-write_content : goal.returns-in_err-write_content
 returns-in_err-write_content g c =
@@ -15,4 +15,4 @@ returns-in_err-write_content g c =
 
 pub loop-place-preserved : goal.loop-place-preserved
 loop-place-preserved g c =
-    subst (Passed _ _ _ _ _ _) (sym (contents_next c.args.table.now c.args.first c.loop-place.place)) (passed_then c.loop-place.invariant (rw (sym c.state.ensures.state) c.in_ok-write_content.ensures))
+    subst (Passed _ _ _ _) (sym (contents_next c.args.table.now c.args.first c.loop-place.place)) (passed_then c.loop-place.invariant (rw (sym c.state.ensures.state) c.in_ok-write_content.ensures))

@@ -7,4 +7,4 @@ use Rattle.udfs_reading.proofs.packing.write_blocks.Given as goal
 abbrev pub invariant-loop-place : goal.invariant-loop-place
 invariant-loop-place g l =
     let W = g.W.Sink in
-    Passed (W.contents l.initial.sink) (W.contents l.sink) (W.faults l.initial.sink) (W.faults l.sink) l.initial.out l.out (flat_map content (states_from l.table l.first l.place))
+    Passed (W.stream l.initial.sink) (W.stream l.sink) l.initial.out l.out (flat_map content (states_from l.table l.first l.place))

@@ -18,7 +18,7 @@ pub loop-block-init : goal.loop-block-init
 loop-block-init g c =
     record {
       walk = walk_none c.args.table.now c.into_iter-block-iterator.result c.entries-block-items.ensures.table (c.into_iter-block-iterator.ensures.into_iter_gives ∙ c.entries-block-items.ensures.entries);
-      passed = rw (below_none c.args.table.now) (passed_none _ _ _);
+      passed = rw (below_none c.args.table.now) (passed_none _ _);
     }
 
 pub returns-in_err-write_packet : goal.returns-in_err-write_packet

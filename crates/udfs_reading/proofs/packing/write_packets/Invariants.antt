@@ -10,5 +10,5 @@ invariant-loop-block g l =
     let W = g.W.Sink in
     record {
       walk : Walk l.table l.block-iterator l.next;
-      passed : Passed (W.contents l.initial.sink) (W.contents l.sink) (W.faults l.initial.sink) (W.faults l.sink) l.initial.out l.out (flat_map packet_bytes (packets_below l.table l.next));
+      passed : Passed (W.stream l.initial.sink) (W.stream l.sink) l.initial.out l.out (flat_map packet_bytes (packets_below l.table l.next));
     }

@@ -14,7 +14,7 @@ returns-in_err-write_header g c =
 
 pub loop-block-init : goal.loop-block-init
 loop-block-init g c =
-    written_none (g.W.Sink.contents c.write_header.new.sink) (g.W.Sink.faults c.write_header.new.sink) c.write_header.new.out (entries_of c.args.table.now) c.into_iter-block-iterator.result
+    written_none (g.W.Sink.stream c.write_header.new.sink) c.write_header.new.out (entries_of c.args.table.now) c.into_iter-block-iterator.result
     (c.into_iter-block-iterator.ensures.into_iter_gives ∙ c.entries-block-items.ensures.entries)
 
 pub loop-block-preserved : goal.loop-block-preserved

@@ -6,4 +6,4 @@ use Rattle.udfs_reading.proofs.writing.write_entries.Given as goal
 abbrev pub invariant-loop-block : goal.invariant-loop-block
 invariant-loop-block g l =
     let W = g.W.Sink in
-    Written (W.contents l.initial.sink) (W.contents l.sink) (W.faults l.initial.sink) (W.faults l.sink) l.initial.out l.out (entries_of l.table) l.block-iterator
+    Written (W.stream l.initial.sink) (W.stream l.sink) l.initial.out l.out (entries_of l.table) l.block-iterator

@@ -1,6 +1,7 @@
-use Rattle.std.proofs.Common.{subst, rules}
+use Rattle.std.proofs.Common.{◌≡◌, map, subst, rules}
 use Rattle.clap.specs.Matches.{found_of}
-use Rattle.udfs_reports.proofs.PagingLemmas.{may_page}
+use Rattle.udfs_words.specs.Asking.{asked_for, asked_streams}
+use Rattle.udfs_reports.proofs.PagingLemmas.{left_at, left_wider, may_page}
 use Rattle.udfs_reports.proofs.page_words.page_words.Goals as goal
 
 pub returns-in-Ok-clause-written : goal.returns-in-Ok-clause-written
@@ -32,3 +33,10 @@ returns-clause-any_moment g c tells place disk since =
       may_page _ _ (g.F.Files.real c.args.files.now) (found_of c.args.words.now) c.asked_profile-profile.result c.in_ok-last.last c.as_slice-paths.result.now a.0 disk c.asked_profile-profile.ensures c.in_ok-last.ensures.last (search rules)
           (rw (← c.asked_page.ensures) a.2),
     )
+
+pub returns-clause-left : goal.returns-clause-left
+returns-clause-left g c =
+    let F = g.F.Files in
+    let asked : map asked_for c.as_slice-paths.result.now ≡ asked_streams (found_of c.args.words.now) = search rules in
+    left_at (F.shut c.args.files.now) c.asked_page.ensures
+    (left_wider _ _ (λ Put put. (c.asked_profile-profile.result, c.in_ok-last.last, c.as_slice-paths.result.now, c.asked_profile-profile.ensures, c.in_ok-last.ensures.last, asked, put)) c.in-Err-page.ensures.left)

@@ -1,5 +1,7 @@
-use Rattle.std.proofs.Common.{subst, rules}
+use Rattle.std.proofs.Common.{◌≡◌, map, subst, rules}
 use Rattle.clap.specs.Matches.{found_of}
+use Rattle.udfs_words.specs.Asking.{asked_for, asked_inputs}
+use Rattle.udfs_reports.proofs.PagingLemmas.{left_at, left_wider}
 use Rattle.udfs_reports.proofs.RereadingLemmas.{may_domain}
 use Rattle.udfs_reports.proofs.reread_words.reread_map_words.Goals as goal
 
@@ -32,3 +34,10 @@ returns-clause-any_moment g c tells place disk since =
       may_domain _ _ (g.F.Files.real c.args.files.now) (found_of c.args.words.now) c.asked_profile-profile.result c.in_ok-last.last c.as_slice-paths.result.now a.0 disk c.asked_profile-profile.ensures c.in_ok-last.ensures.last (search rules)
           (rw (← c.asked_mapfile.ensures) a.2),
     )
+
+pub returns-clause-left : goal.returns-clause-left
+returns-clause-left g c =
+    let F = g.F.Files in
+    let asked : map asked_for c.as_slice-paths.result.now ≡ asked_inputs (found_of c.args.words.now) = search rules in
+    left_at (F.shut c.args.files.now) c.asked_mapfile.ensures
+    (left_wider _ _ (λ Put put. (c.asked_profile-profile.result, c.in_ok-last.last, c.as_slice-paths.result.now, c.asked_profile-profile.ensures, c.in_ok-last.ensures.last, asked, put)) c.in-Err-reread_map.ensures.left)

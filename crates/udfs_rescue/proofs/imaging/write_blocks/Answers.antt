@@ -4,7 +4,7 @@ use Rattle.udfs_rescue.proofs.ImageText.{image_none, image_more, image_fails, im
 use Rattle.udfs_rescue.proofs.imaging.write_blocks.Goals as goal
 
 pub loop-block-init : goal.loop-block-init
-loop-block-init g c = image_none (g.W.Sink.contents c.args.sink.now) (g.W.Sink.faults c.args.sink.now) c.args.out.now c.args.table.now c.args.last
+loop-block-init g c = image_none (g.W.Sink.stream c.args.sink.now) c.args.out.now c.args.table.now c.args.last
 
 pub loop-block-preserved : goal.loop-block-preserved
 loop-block-preserved g c = image_more c.loop-block.invariant (omega (arith, c.loop-block-test.true)) (rw (sym c.state.ensures.state) c.in_ok-write_block.ensures)

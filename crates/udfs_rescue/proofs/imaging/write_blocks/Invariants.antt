@@ -5,4 +5,4 @@ use Rattle.udfs_rescue.proofs.imaging.write_blocks.Given as goal
 abbrev pub invariant-loop-block : goal.invariant-loop-block
 invariant-loop-block g l =
     let W = g.W.Sink in
-    ImageSoFar (W.contents l.initial.sink) (W.contents l.sink) (W.faults l.initial.sink) (W.faults l.sink) l.initial.out l.out l.table l.block l.last
+    ImageSoFar (W.stream l.initial.sink) (W.stream l.sink) l.initial.out l.out l.table l.block l.last

@@ -5,7 +5,7 @@ use Rattle.udfs_rescue.proofs.writing.take_block.Goals as goal
 
 pub returns-then-status_byte-clause-ok : goal.returns-then-status_byte-clause-ok
 returns-then-status_byte-clause-ok g c =
-    takes_same (g.W.Sink.contents c.args.sink.now) (g.W.Sink.faults c.args.sink.now) c.args.out.now c.args.run.now (record { at = 2048 * c.args.block; size = 2048; status = c.args.status })
+    takes_same (g.W.Sink.stream c.args.sink.now) c.args.out.now c.args.run.now (record { at = 2048 * c.args.block; size = 2048; status = c.args.status })
     (sym c.status_byte.ensures ∙ c.if-status_byte.true ∙ c.status_byte-2.ensures)
 
 pub returns-in_err-write_run-clause-err : goal.returns-in_err-write_run-clause-err

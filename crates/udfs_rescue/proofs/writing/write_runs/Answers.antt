@@ -5,7 +5,7 @@ use Rattle.udfs_rescue.proofs.MapText.{behind_first, behind_more, behind_fails, 
 use Rattle.udfs_rescue.proofs.writing.write_runs.Goals as goal
 
 pub loop-block-init : goal.loop-block-init
-loop-block-init g c = rw c.status.ensures (behind_first (g.W.Sink.contents c.args.sink.now) (g.W.Sink.faults c.args.sink.now) c.args.out.now (status_in c.args.blocks) c.args.last)
+loop-block-init g c = rw c.status.ensures (behind_first (g.W.Sink.stream c.args.sink.now) c.args.out.now (status_in c.args.blocks) c.args.last)
 
 pub returns-in_err-take_block : goal.returns-in_err-take_block
 returns-in_err-take_block g c =

@@ -7,7 +7,7 @@ use Rattle.std.proofs.Common.{◌+◌, ◌-◌}
 abbrev pub invariant-loop-block : goal.invariant-loop-block
 invariant-loop-block g l =
     let W = g.W.Sink in
-    Behind (W.contents l.initial.sink) (W.contents l.sink) (W.faults l.initial.sink) (W.faults l.sink) l.initial.out l.out l.run (status_in l.blocks) l.block l.last
+    Behind (W.stream l.initial.sink) (W.stream l.sink) l.initial.out l.out l.run (status_in l.blocks) l.block l.last
 
 abbrev pub decreases-loop-block : goal.decreases-loop-block
 decreases-loop-block g l = l.last + 1 - l.block

@@ -4,7 +4,7 @@ use Rattle.udfs_salvage.proofs.Pieces.{taken_none, taken_more, taken_all, taken_
 use Rattle.udfs_salvage.proofs.body_bytes.push_bytes.Goals as goal
 
 pub pieces-init : goal.pieces-init
-pieces-init g c = taken_none _ _ _ _ _ refl
+pieces-init g c = taken_none _ _ _ _ refl
 
 pub returns-in_err-push : goal.returns-in_err-push
 returns-in_err-push g c =

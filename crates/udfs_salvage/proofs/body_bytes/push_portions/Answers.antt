@@ -7,7 +7,7 @@ use Rattle.udfs_salvage.proofs.Pieces.{taken_none, taken_more, taken_all, taken_
 use Rattle.udfs_salvage.proofs.body_bytes.push_portions.Goals as goal
 
 pub loop-portion-init : goal.loop-portion-init
-loop-portion-init g c = taken_none _ _ _ _ _ (ap (filled c.args.fill) (c.into_iter-portion-iterator.ensures.into_iter_gives ∙ c.portions-portion-items.ensures))
+loop-portion-init g c = taken_none _ _ _ _ (ap (filled c.args.fill) (c.into_iter-portion-iterator.ensures.into_iter_gives ∙ c.portions-portion-items.ensures))
 
 pub returns-in_err-push_portion : goal.returns-in_err-push_portion
 returns-in_err-push_portion g c =

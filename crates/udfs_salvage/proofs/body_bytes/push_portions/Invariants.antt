@@ -8,5 +8,5 @@ use Rattle.udfs_salvage.proofs.body_bytes.push_portions.Given as goal
 abbrev pub invariant-loop-portion : goal.invariant-loop-portion
 invariant-loop-portion g l =
     let W = g.W.Sink in
-    Taken (W.contents l.fn.sink) (W.contents l.sink) (W.faults l.fn.sink) (W.faults l.sink) l.fn.out l.out
+    Taken (W.stream l.fn.sink) (W.stream l.sink) l.fn.out l.out
     (filled l.fill (cells_of (view_now l.view) l.body)) (filled l.fill l.portion-iterator)

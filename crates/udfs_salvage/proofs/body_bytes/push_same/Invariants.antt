@@ -6,7 +6,7 @@ use Rattle.udfs_salvage.proofs.body_bytes.push_same.Given as goal
 abbrev pub invariant-pieces : goal.invariant-pieces
 invariant-pieces g l =
     let W = g.W.Sink in
-    Taken (W.contents l.fn.sink) (W.contents l.sink) (W.faults l.fn.sink) (W.faults l.sink) l.fn.out l.out (replicate l.count l.byte) (replicate l.left l.byte)
+    Taken (W.stream l.fn.sink) (W.stream l.sink) l.fn.out l.out (replicate l.count l.byte) (replicate l.left l.byte)
 
 abbrev pub decreases-pieces : goal.decreases-pieces
 decreases-pieces g l = l.left

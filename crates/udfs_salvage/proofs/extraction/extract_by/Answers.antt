@@ -21,7 +21,7 @@ returns-in-Open-clause-cells g c = λ profile last n is at offered.
     let icb : c.node.inside.icb ≡ n.icb = ap (λ m. m.icb) (c.node.view_is ∙ same) in (
       k.0,
       k.1,
-      subst (λ x. Extracts (W.contents c.args.sink.now) (W.contents c.write_at.new.sink) (W.faults c.args.sink.now) (W.faults c.write_at.new.sink) (filled x k.0) c.write_at.result) c.fill_byte-byte.ensures
+      subst (λ x. Extracts (W.stream c.args.sink.now) (W.stream c.write_at.new.sink) (filled x k.0) c.write_at.result) c.fill_byte-byte.ensures
           (c.write_at.ensures.cells k.0 (subst (λ a. HasCells v a k.0) (sym icb) k.2)),
     )
 
@@ -33,7 +33,7 @@ returns-in-Open-clause-not_whole g c = λ profile last n is at.
     let offered : is_offered n.standing n.size c.args.fill ≡ true =
     ap (λ m. is_offered m.standing m.size c.args.fill) (sym same) ∙ sym c.is_offered.ensures ∙ c.if-not-is_offered.false in
     let written = returns-in-Open-clause-cells g c profile last n is at offered in
-    (λ e. absurd (not_refused (W.contents c.args.sink.now) (W.contents c.write_at.new.sink) (W.faults c.args.sink.now) (W.faults c.write_at.new.sink) (filled (fill_byte c.args.fill) written.0) c.write_at.result written.2 e), λ e. absurd (true_false (is_offered n.standing n.size c.args.fill) offered e))
+    (λ e. absurd (not_refused (W.stream c.args.sink.now) (W.stream c.write_at.new.sink) (filled (fill_byte c.args.fill) written.0) c.write_at.result written.2 e), λ e. absurd (true_false (is_offered n.standing n.size c.args.fill) offered e))
 
 pub returns-in-Open-clause-stated : goal.returns-in-Open-clause-stated
 returns-in-Open-clause-stated g c = λ f n cs opens at offered has.
@@ -43,7 +43,7 @@ returns-in-Open-clause-stated g c = λ f n cs opens at offered has.
     let same = same_node r.nodes.items c.args.index n c.index-node.result.now at c.index-node.ensures in
     let icb : c.node.inside.icb ≡ n.icb = ap (λ m. m.icb) (c.node.view_is ∙ same) in
     let opened : found_now c.in-Open.opened ≡ f = found_same _ _ (sym (ap volume_now c.in-Open.is) ∙ opens) in
-    subst (λ x. Extracts (W.contents c.args.sink.now) (W.contents c.write_at.new.sink) (W.faults c.args.sink.now) (W.faults c.write_at.new.sink) (filled x cs) c.write_at.result) c.fill_byte-byte.ensures
+    subst (λ x. Extracts (W.stream c.args.sink.now) (W.stream c.write_at.new.sink) (filled x cs) c.write_at.result) c.fill_byte-byte.ensures
     (c.write_at.ensures.cells cs (subst (λ a. HasCells (view b c.in-Open.opened.space) a cs) (sym icb) (subst (λ h. HasCells (view b h.space) n.icb cs) (sym opened) has)))
 
 pub returns-in-Open-clause-wanted : goal.returns-in-Open-clause-wanted
@@ -60,7 +60,7 @@ returns-in-Open-clause-tree g c = λ profile last n is at whole.
     let W = g.W.Sink in
     let r = c.args.report.now in
     writes_file profile (state_of r.table.now) last c.args.index (report_now r) (fill_byte c.args.fill)
-    (λ bytes. Extracts (W.contents c.args.sink.now) (W.contents c.write_at.new.sink) (W.faults c.args.sink.now) (W.faults c.write_at.new.sink) bytes c.write_at.result)
+    (λ bytes. Extracts (W.stream c.args.sink.now) (W.stream c.write_at.new.sink) bytes c.write_at.result)
     is n at whole (returns-in-Open-clause-cells g c profile last n is at (ap (λ s. is_offered s n.size c.args.fill) whole))
 
 pub returns-in-Open-clause-filled : goal.returns-in-Open-clause-filled
@@ -68,5 +68,5 @@ returns-in-Open-clause-filled g c = λ profile last n is at offered.
     let W = g.W.Sink in
     let r = c.args.report.now in
     fills_file profile (state_of r.table.now) last c.args.index (report_now r) (fill_byte c.args.fill) c.args.fill
-    (λ bytes. Extracts (W.contents c.args.sink.now) (W.contents c.write_at.new.sink) (W.faults c.args.sink.now) (W.faults c.write_at.new.sink) bytes c.write_at.result)
+    (λ bytes. Extracts (W.stream c.args.sink.now) (W.stream c.write_at.new.sink) bytes c.write_at.result)
     is n at offered (returns-in-Open-clause-cells g c profile last n is at offered)

@@ -20,4 +20,4 @@ returns-in_err-put_kind g c =
 pub returns : goal.returns
 returns g c =
     let W = g.W.Sink in
-    passes_three (W.contents c.put_counts.new.sink) (W.faults c.put_counts.new.sink) (string_bytes c.put_counts.new.text) (compact_text (list_data hole_data c.args.holes.now)) (kind_piece c.args.kind) (compact_text (list_data count c.args.missing.now)) _ c.put_counts.result refl c.in_ok-put_holes.ensures c.in_ok-put_kind.ensures c.put_counts.ensures
+    passes_three (W.stream c.put_counts.new.sink) (string_bytes c.put_counts.new.text) (compact_text (list_data hole_data c.args.holes.now)) (kind_piece c.args.kind) (compact_text (list_data count c.args.missing.now)) _ c.put_counts.result refl c.in_ok-put_holes.ensures c.in_ok-put_kind.ensures c.put_counts.ensures

@@ -9,5 +9,5 @@ use Rattle.udfs_salvage.proofs.json_printing.put_more_holes.Given as goal
 abbrev pub invariant-loop-hole : goal.invariant-loop-hole
 invariant-loop-hole g l =
     let W = g.W.Sink in
-    Passed (W.contents l.fn.sink) (W.contents l.sink) (W.faults l.fn.sink) (W.faults l.sink) (string_bytes l.fn.text) (string_bytes l.text)
+    Passed (W.stream l.fn.sink) (W.stream l.sink) (string_bytes l.fn.text) (string_bytes l.text)
     (more_values hole_data (take l.hole-index l.holes))

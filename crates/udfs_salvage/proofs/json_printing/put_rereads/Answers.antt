@@ -31,4 +31,4 @@ returns g c =
     let x = c.in-Some.first.now in
     let xs = c.in-Some.rest.now in
     let W = g.W.Sink in
-    rw c.in-Some.ensures.cases.0 (passes_three (W.contents c.put_words-2.new.sink) (W.faults c.put_words-2.new.sink) (string_bytes c.put_words-2.new.text) (91 ∷ compact_text (f x)) (more_values f xs) (93 ∷ []) _ c.put_words-2.result (list_text f x xs) c.in_ok-put_reread.ensures c.in_ok-put_more_rereads.ensures c.put_words-2.ensures)
+    rw c.in-Some.ensures.cases.0 (passes_three (W.stream c.put_words-2.new.sink) (string_bytes c.put_words-2.new.text) (91 ∷ compact_text (f x)) (more_values f xs) (93 ∷ []) _ c.put_words-2.result (list_text f x xs) c.in_ok-put_reread.ensures c.in_ok-put_more_rereads.ensures c.put_words-2.ensures)

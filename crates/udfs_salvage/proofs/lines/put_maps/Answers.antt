@@ -8,7 +8,7 @@ use Rattle.udfs_salvage.proofs.Putting.{puts_item}
 use Rattle.udfs_salvage.proofs.lines.put_maps.Goals as goal
 
 pub loop-partition-init : goal.loop-partition-init
-loop-partition-init g c = puts_none _ _ _
+loop-partition-init g c = puts_none _ _
 
 pub loop-partition-preserved : goal.loop-partition-preserved
 loop-partition-preserved g c =

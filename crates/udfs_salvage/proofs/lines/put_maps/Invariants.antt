@@ -8,5 +8,5 @@ use Rattle.udfs_salvage.proofs.lines.put_maps.Given as goal
 abbrev pub invariant-loop-partition : goal.invariant-loop-partition
 invariant-loop-partition g l =
     let W = g.W.Sink in
-    Puts (W.contents l.fn.sink) (W.contents l.sink) (W.faults l.fn.sink) (W.faults l.sink) l.fn.out l.out
+    Puts (W.stream l.fn.sink) (W.stream l.sink) l.fn.out l.out
     (map_texts (take l.partition-index (map partition_now l.partitions)))

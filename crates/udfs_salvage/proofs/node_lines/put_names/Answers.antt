@@ -7,7 +7,7 @@ use Rattle.udfs_salvage.proofs.node_lines.put_names.Goals.{in-Some, in_default}
 use Rattle.udfs_salvage.proofs.node_lines.put_names.Goals as goal
 
 pub loop-index-init : goal.loop-index-init
-loop-index-init g c = puts_none _ _ _
+loop-index-init g c = puts_none _ _
 
 pub loop-index-preserved : goal.loop-index-preserved
 loop-index-preserved g c =

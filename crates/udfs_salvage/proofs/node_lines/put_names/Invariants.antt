@@ -7,5 +7,5 @@ use Rattle.udfs_salvage.proofs.node_lines.put_names.Given as goal
 abbrev pub invariant-loop-index : goal.invariant-loop-index
 invariant-loop-index g l =
     let W = g.W.Sink in
-    Puts (W.contents l.fn.sink) (W.contents l.sink) (W.faults l.fn.sink) (W.faults l.sink) l.fn.out l.out
+    Puts (W.stream l.fn.sink) (W.stream l.sink) l.fn.out l.out
     (names_text (take l.index l.path))

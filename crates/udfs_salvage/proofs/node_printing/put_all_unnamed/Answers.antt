@@ -4,7 +4,7 @@ use Rattle.udfs_salvage.proofs.Putting.{puts_item}
 use Rattle.udfs_salvage.proofs.node_printing.put_all_unnamed.Goals as goal
 
 pub loop-entry-init : goal.loop-entry-init
-loop-entry-init g c = puts_none _ _ _
+loop-entry-init g c = puts_none _ _
 
 pub loop-entry-preserved : goal.loop-entry-preserved
 loop-entry-preserved g c =

@@ -9,7 +9,7 @@ use Rattle.udfs_salvage.proofs.Putting.{front_item, puts_item}
 use Rattle.udfs_salvage.proofs.node_printing.put_full_entries.Goals as goal
 
 pub loop-entry-init : goal.loop-entry-init
-loop-entry-init g c = puts_none _ _ _
+loop-entry-init g c = puts_none _ _
 
 pub returns-in_err-put_full_unnamed : goal.returns-in_err-put_full_unnamed
 returns-in_err-put_full_unnamed g c =

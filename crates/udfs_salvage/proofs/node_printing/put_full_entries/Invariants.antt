@@ -9,5 +9,5 @@ use Rattle.udfs_salvage.proofs.node_printing.put_full_entries.Given as goal
 abbrev pub invariant-loop-entry : goal.invariant-loop-entry
 invariant-loop-entry g l =
     let W = g.W.Sink in
-    Puts (W.contents l.fn.sink) (W.contents l.sink) (W.faults l.fn.sink) (W.faults l.sink) l.fn.out l.out
+    Puts (W.stream l.fn.sink) (W.stream l.sink) l.fn.out l.out
     (unnamed_texts l.two (take l.entry-index (map (full_entry (view_now l.view)) l.entries)))

@@ -13,6 +13,6 @@ returns g c =
     let W = g.W.Sink in
     let v = view_now c.args.view in
     rw (same_line v c.args.number c.args.node.now)
-    (most_then (W.contents c.put_full_gaps.new.sink) (W.faults c.put_full_gaps.new.sink) c.put_full_gaps.new.out (gap_lines (full_node v c.args.node.now).standing) c.put_full_gaps.result c.put_node_line.ensures
-    (subst (λ s. PutsMost (W.contents c.put_node_line.new.sink) (W.contents c.put_full_gaps.new.sink) (W.faults c.put_node_line.new.sink) (W.faults c.put_full_gaps.new.sink) c.put_node_line.new.out c.put_full_gaps.new.out (gap_lines s) c.put_full_gaps.result)
+    (most_then (W.stream c.put_full_gaps.new.sink) c.put_full_gaps.new.out (gap_lines (full_node v c.args.node.now).standing) c.put_full_gaps.result c.put_node_line.ensures
+    (subst (λ s. PutsMost (W.stream c.put_node_line.new.sink) (W.stream c.put_full_gaps.new.sink) c.put_node_line.new.out c.put_full_gaps.new.out (gap_lines s) c.put_full_gaps.result)
     (ap (λ (n : NodeFields). (full_node v n).standing) c.node.view_is) c.put_full_gaps.ensures))

@@ -7,7 +7,7 @@ use Rattle.udfs_salvage.proofs.Putting.{front_node, puts_no_node, puts_node}
 use Rattle.udfs_salvage.proofs.node_printing.put_full_nodes.Goals as goal
 
 pub loop-index-init : goal.loop-index-init
-loop-index-init g c = puts_no_node _ _ _ (map (full_node (view_now c.args.view)) c.args.nodes.now)
+loop-index-init g c = puts_no_node _ _ (map (full_node (view_now c.args.view)) c.args.nodes.now)
 
 pub returns-in_err-put_full_node : goal.returns-in_err-put_full_node
 returns-in_err-put_full_node g c =

@@ -12,6 +12,6 @@ returns g c =
     let W = g.W.Sink in
     let v = view_now c.args.view in
     rw (same_place v c.args.two c.args.entry.now)
-    (most_then (W.contents c.put_full_gaps.new.sink) (W.faults c.put_full_gaps.new.sink) c.put_full_gaps.new.out (gap_lines (full_entry v c.args.entry.now).standing) c.put_full_gaps.result c.put_unnamed_line.ensures
-    (subst (λ a. PutsMost (W.contents c.put_unnamed_line.new.sink) (W.contents c.put_full_gaps.new.sink) (W.faults c.put_unnamed_line.new.sink) (W.faults c.put_full_gaps.new.sink) c.put_unnamed_line.new.out c.put_full_gaps.new.out (gap_lines (with_lists (lists_at v a) c.args.entry.now.standing)) c.put_full_gaps.result)
+    (most_then (W.stream c.put_full_gaps.new.sink) c.put_full_gaps.new.out (gap_lines (full_entry v c.args.entry.now).standing) c.put_full_gaps.result c.put_unnamed_line.ensures
+    (subst (λ a. PutsMost (W.stream c.put_unnamed_line.new.sink) (W.stream c.put_full_gaps.new.sink) c.put_unnamed_line.new.out c.put_full_gaps.new.out (gap_lines (with_lists (lists_at v a) c.args.entry.now.standing)) c.put_full_gaps.result)
     c.entry_address-address.ensures c.put_full_gaps.ensures))

@@ -3,7 +3,7 @@ use Rattle.udfs_printing.proofs.PublicLaws.{puts_none, puts_piece}
 use Rattle.udfs_salvage.proofs.node_printing.put_holes.Goals as goal
 
 pub loop-hole-init : goal.loop-hole-init
-loop-hole-init g c = puts_none _ _ _
+loop-hole-init g c = puts_none _ _
 
 pub loop-hole-preserved : goal.loop-hole-preserved
 loop-hole-preserved g c =

@@ -7,5 +7,5 @@ use Rattle.udfs_salvage.proofs.node_printing.put_holes.Given as goal
 abbrev pub invariant-loop-hole : goal.invariant-loop-hole
 invariant-loop-hole g l =
     let W = g.W.Sink in
-    Puts (W.contents l.fn.sink) (W.contents l.sink) (W.faults l.fn.sink) (W.faults l.sink) l.fn.out l.out
+    Puts (W.stream l.fn.sink) (W.stream l.sink) l.fn.out l.out
     (hole_lines (take l.hole-index l.holes))

@@ -3,7 +3,7 @@ use Rattle.udfs_printing.proofs.PublicLaws.{puts_none, puts_piece}
 use Rattle.udfs_salvage.proofs.node_printing.put_missings.Goals as goal
 
 pub loop-block-init : goal.loop-block-init
-loop-block-init g c = puts_none _ _ _
+loop-block-init g c = puts_none _ _
 
 pub loop-block-preserved : goal.loop-block-preserved
 loop-block-preserved g c =

@@ -7,5 +7,5 @@ use Rattle.udfs_salvage.proofs.node_printing.put_missings.Given as goal
 abbrev pub invariant-loop-block : goal.invariant-loop-block
 invariant-loop-block g l =
     let W = g.W.Sink in
-    Puts (W.contents l.fn.sink) (W.contents l.sink) (W.faults l.fn.sink) (W.faults l.sink) l.fn.out l.out
+    Puts (W.stream l.fn.sink) (W.stream l.sink) l.fn.out l.out
     (missing_lines (take l.block-index l.blocks))

@@ -5,6 +5,6 @@ use Rattle.udfs_salvage.proofs.printing.write_report.Goals as goal
 pub returns : goal.returns
 returns g c =
     record {
-      text = prints_all _ _ _ _ c.finish.result c.finish.ensures.fault (rw (sym c.new-out.ensures) c.put_report.ensures) c.finish.ensures.written;
+      text = prints_all _ _ _ c.finish.result c.finish.ensures.fault (rw (sym c.new-out.ensures) c.put_report.ensures) c.finish.ensures.written;
       fault = c.finish.ensures.fault;
     }

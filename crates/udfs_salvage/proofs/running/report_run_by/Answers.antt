@@ -12,5 +12,5 @@ returns-in-Err-clause-first g c = λ input fault number h. named c.in-Err.error 
 pub returns-in-Ok-clause-refuses : goal.returns-in-Ok-clause-refuses
 returns-in-Ok-clause-refuses g c = λ ts why told q.
     let W = g.W.Sink in
-    refuses c.args.profile c.args.last (W.contents c.args.sink.now) (W.contents c.report_table.new.sink) (W.faults c.args.sink.now) (W.faults c.report_table.new.sink) c.report_table.result _ why
+    refuses c.args.profile c.args.last (W.stream c.args.sink.now) (W.stream c.report_table.new.sink) c.report_table.result _ why
     c.report_table.ensures.answers (subst (λ t. IsRefusedForBy c.args.profile t c.args.last why) (sym (c.in-Ok.ensures.good ts told)) q)

@@ -30,5 +30,5 @@ returns g c =
     let n = c.args.entry.now in
     let s = c.in_ok-full.full in
     let is = c.in_ok-full.ensures ∙ ap (λ a. with_lists (lists_at (view_now c.args.view) a) n.standing) c.entry_address-address.ensures in
-    passes_three (W.contents c.put_entry_end.new.sink) (W.faults c.put_entry_end.new.sink) (string_bytes c.put_entry_end.new.text) (c.args.front.now ++ entry_front n.block) (told_piece s n.kind) (entry_end c.args.two n) _ c.put_entry_end.result
+    passes_three (W.stream c.put_entry_end.new.sink) (string_bytes c.put_entry_end.new.text) (c.args.front.now ++ entry_front n.block) (told_piece s n.kind) (entry_end c.args.two n) _ c.put_entry_end.result
     (full_entry_pieces c.args.front.now (view_now c.args.view) c.args.two n s is) c.in_ok-put_entry_front.ensures c.in_ok-put_told.ensures c.put_entry_end.ensures

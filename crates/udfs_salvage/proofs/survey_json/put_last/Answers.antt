@@ -36,4 +36,4 @@ returns g c =
     let first = compact_text (list_data (unnamed_data (has_two (volume_now s.volume))) (survey_now s).unnamed) in
     let second = report_end (volume_now s.volume) in
     let third = codes "\n" in
-    (passes_three (W.contents c.put_words.new.sink) (W.faults c.put_words.new.sink) (string_bytes c.put_words.new.text) first second third _ c.put_words.result refl c.in_ok-put_survey_entries.ensures c.in_ok-put_end.ensures c.put_words.ensures)
+    (passes_three (W.stream c.put_words.new.sink) (string_bytes c.put_words.new.text) first second third _ c.put_words.result refl c.in_ok-put_survey_entries.ensures c.in_ok-put_end.ensures c.put_words.ensures)

@@ -38,4 +38,4 @@ returns g c =
     let first = compact_text (list_data (reread_data (state_of s.table.now)) c.deref.result.now) in
     let second = codes ",\"unnamed\":" in
     let third = compact_text (list_data (unnamed_data (has_two (volume_now s.volume))) (survey_now s).unnamed) ++ (report_end (volume_now s.volume) ++ codes "\n") in
-    rw (sym c.deref.ensures.value) (passes_three (W.contents c.put_last.new.sink) (W.faults c.put_last.new.sink) (string_bytes c.put_last.new.text) first second third _ c.put_last.result refl c.in_ok-put_rereads.ensures c.in_ok-put_words.ensures c.put_last.ensures)
+    rw (sym c.deref.ensures.value) (passes_three (W.stream c.put_last.new.sink) (string_bytes c.put_last.new.text) first second third _ c.put_last.result refl c.in_ok-put_rereads.ensures c.in_ok-put_words.ensures c.put_last.ensures)

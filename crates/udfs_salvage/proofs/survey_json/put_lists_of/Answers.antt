@@ -44,4 +44,4 @@ returns g c =
     let third = compact_text (list_data (reread_data (state_of s.table.now)) s.reread.items)
     ++ (codes ",\"unnamed\":" ++ (compact_text (list_data (unnamed_data (has_two (volume_now s.volume))) (survey_now s).unnamed)
     ++ (report_end (volume_now s.volume) ++ codes "\n"))) in
-    rw (sym c.reread_words.ensures) (passes_three (W.contents c.put_later.new.sink) (W.faults c.put_later.new.sink) (string_bytes c.put_later.new.text) first second third _ c.put_later.result refl c.in_ok-put_survey_nodes.ensures c.in_ok-put_words.ensures c.put_later.ensures)
+    rw (sym c.reread_words.ensures) (passes_three (W.stream c.put_later.new.sink) (string_bytes c.put_later.new.text) first second third _ c.put_later.result refl c.in_ok-put_survey_nodes.ensures c.in_ok-put_words.ensures c.put_later.ensures)

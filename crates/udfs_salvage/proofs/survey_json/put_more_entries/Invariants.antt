@@ -11,5 +11,5 @@ use Rattle.udfs_salvage.proofs.survey_json.put_more_entries.Given as goal
 abbrev pub invariant-loop-entry : goal.invariant-loop-entry
 invariant-loop-entry g l =
     let W = g.W.Sink in
-    Passed (W.contents l.fn.sink) (W.contents l.sink) (W.faults l.fn.sink) (W.faults l.sink) (string_bytes l.fn.text) (string_bytes l.text)
+    Passed (W.stream l.fn.sink) (W.stream l.sink) (string_bytes l.fn.text) (string_bytes l.text)
     (more_values (λ u. unnamed_data l.two (full_entry (view_now l.view) u)) (take l.entry-index l.entries))

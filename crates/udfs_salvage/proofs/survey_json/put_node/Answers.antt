@@ -37,5 +37,5 @@ returns g c =
     let s = c.in_ok-full.full in
     let pieces = full_node_pieces c.args.front.now v c.args.node.now n.hidden n.kind s (ap (λ (m : NodeFields). m.hidden) c.node.view_is) (ap (λ (m : NodeFields). m.kind) c.node.view_is)
     (c.in_ok-full.ensures ∙ ap (λ (m : NodeFields). (full_node v m).standing) c.node.view_is) in
-    passes_three (W.contents c.put_node_end.new.sink) (W.faults c.put_node_end.new.sink) (string_bytes c.put_node_end.new.text) (c.args.front.now ++ node_front n.hidden) (told_piece s n.kind) (node_end c.args.node.now) _ c.put_node_end.result
+    passes_three (W.stream c.put_node_end.new.sink) (string_bytes c.put_node_end.new.text) (c.args.front.now ++ node_front n.hidden) (told_piece s n.kind) (node_end c.args.node.now) _ c.put_node_end.result
     pieces c.in_ok-put_node_front.ensures c.in_ok-put_told.ensures c.put_node_end.ensures

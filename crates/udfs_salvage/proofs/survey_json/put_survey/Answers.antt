@@ -19,5 +19,5 @@ returns g c =
     let W = g.W.Sink in
     let s = c.args.survey.now in
     let front = report_front s.table.now s.last (volume_now s.volume) in
-    passes_two (W.contents c.put_lists_of.new.sink) (W.faults c.put_lists_of.new.sink) (string_bytes c.put_lists_of.new.text) front _ _ c.put_lists_of.result
+    passes_two (W.stream c.put_lists_of.new.sink) (string_bytes c.put_lists_of.new.text) front _ _ c.put_lists_of.result
     (report_pieces s.profile s.table.now s.last (survey_now s)) c.in_ok-put_front.ensures c.put_lists_of.ensures

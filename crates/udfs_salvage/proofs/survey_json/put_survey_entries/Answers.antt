@@ -19,7 +19,7 @@ returns-in-Open g c =
     let W = g.W.Sink in
     let s = c.args.survey.now in
     let opened : volume_now s.volume ≡ found (found_now c.in-Open.opened) = ap volume_now c.in-Open.is in
-    passes_same (W.contents c.args.sink.now) (W.contents c.put_entries.new.sink) (W.faults c.args.sink.now) (W.faults c.put_entries.new.sink) (string_bytes c.args.text.now) (string_bytes c.put_entries.new.text) _ _ c.put_entries.result
+    passes_same (W.stream c.args.sink.now) (W.stream c.put_entries.new.sink) (string_bytes c.args.text.now) (string_bytes c.put_entries.new.text) _ _ c.put_entries.result
     (survey_entries (state_of s.table.now) (volume_now s.volume) (found_now c.in-Open.opened) c.has_two-two.result c.deref.result.now opened
     ∙ ap (λ xs. compact_text (list_data (unnamed_data c.has_two-two.result) (full_entries (state_of s.table.now) (volume_now s.volume) xs))) c.deref.ensures.value
     ∙ ap (λ b. compact_text (list_data (unnamed_data b) (survey_now s).unnamed)) c.has_two-two.ensures) c.put_entries.ensures

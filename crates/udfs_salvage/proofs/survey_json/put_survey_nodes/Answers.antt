@@ -19,5 +19,5 @@ returns-in-Open g c =
     let W = g.W.Sink in
     let s = c.args.survey.now in
     let opened : volume_now s.volume ≡ found (found_now c.in-Open.opened) = ap volume_now c.in-Open.is in
-    passes_same (W.contents c.args.sink.now) (W.contents c.put_nodes.new.sink) (W.faults c.args.sink.now) (W.faults c.put_nodes.new.sink) (string_bytes c.args.text.now) (string_bytes c.put_nodes.new.text) _ _ c.put_nodes.result
+    passes_same (W.stream c.args.sink.now) (W.stream c.put_nodes.new.sink) (string_bytes c.args.text.now) (string_bytes c.put_nodes.new.text) _ _ c.put_nodes.result
     (survey_nodes (state_of s.table.now) (volume_now s.volume) (found_now c.in-Open.opened) c.deref.result.now opened ∙ ap (λ xs. compact_text (list_data node_data (full_nodes (state_of s.table.now) (volume_now s.volume) xs))) c.deref.ensures.value) c.put_nodes.ensures

@@ -15,4 +15,4 @@ returns-in_err-put_survey g c =
 pub returns : goal.returns
 returns g c =
     let W = g.W.Sink in
-    prints_then (W.contents c.flush.new.sink) (W.faults c.flush.new.sink) c.flush.result c.new-text.ensures.bytes c.in_ok-put_survey.ensures c.flush.ensures.written
+    prints_then (W.stream c.flush.new.sink) c.flush.result c.new-text.ensures.bytes c.in_ok-put_survey.ensures c.flush.ensures.written

@@ -6,4 +6,4 @@ use Rattle.udfs_salvage.proofs.survey_printing.write_survey.Goals as goal
 pub returns-in_err-finish : goal.returns-in_err-finish
 returns-in_err-finish g c =
     let p = err_from_is_err_and c.from_residual.result c.from_residual.ensures.1 in
-    rw (p.1, p.2) (stopped_most _ _ _ _ _ _ _ _ c.put_survey-told.result c.in_err-finish.field-0.0 c.in_err-finish.ensures.fault (rw (sym c.new-out.ensures) c.put_survey-told.ensures) c.in_err-finish.ensures.written)
+    rw (p.1, p.2) (stopped_most _ _ _ _ _ c.put_survey-told.result c.in_err-finish.field-0.0 c.in_err-finish.ensures.fault (rw (sym c.new-out.ensures) c.put_survey-told.ensures) c.in_err-finish.ensures.written)

@@ -31,4 +31,4 @@ returns-in-Open-clause-not_whole g c = λ profile last u is at.
     let same = same_entry r.unnamed.items c.args.index u c.index-entry.result.now at c.index-entry.ensures in
     let lost : is_lost_file u ≡ true = ap is_lost_file (sym same) ∙ sym c.is_lost_file.ensures ∙ c.if-not-is_lost_file.false in
     let written = returns-in-Open-clause-cells g c profile last u is at lost in
-    (λ e. absurd (not_refused (W.contents c.args.sink.now) (W.contents c.write_at.new.sink) (W.faults c.args.sink.now) (W.faults c.write_at.new.sink) (filled 0 written.0) c.write_at.result written.2 e), λ e. absurd (true_false (is_lost_file u) lost e))
+    (λ e. absurd (not_refused (W.stream c.args.sink.now) (W.stream c.write_at.new.sink) (filled 0 written.0) c.write_at.result written.2 e), λ e. absurd (true_false (is_lost_file u) lost e))

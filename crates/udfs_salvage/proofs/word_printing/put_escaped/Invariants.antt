@@ -8,7 +8,7 @@ abbrev pub invariant-loop-count : goal.invariant-loop-count
 invariant-loop-count g l =
     let W = g.W.Sink in
     record {
-      put : PutsUpTo (W.contents l.fn.sink) (W.contents l.sink) (W.faults l.fn.sink) (W.faults l.sink) l.fn.out l.out (escaped l.name) (take l.count l.piece ++ l.left);
+      put : PutsUpTo (W.stream l.fn.sink) (W.stream l.sink) l.fn.out l.out (escaped l.name) (take l.count l.piece ++ l.left);
       room : l.count ≤ 64;
       end : l.count ≡ 0 → take l.count l.piece ++ l.left ≡ [];
     }

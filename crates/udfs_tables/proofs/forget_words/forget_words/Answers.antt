@@ -1,11 +1,11 @@
-use Rattle.std.proofs.Common.{◌≡◌, ◌⊎◌, Bor, List, ℕ, map, subst, rules}
+use Rattle.std.proofs.Common.{◌≡◌, ◌⊎◌, Bor, List, Some, ℕ, codes, false, map, subst, rules, true}
 use Rattle.clap.specs.Matches.{found_of}
-use Rattle.udfs_words.specs.Asking.{list_texts}
+use Rattle.udfs_words.specs.Asking.{IsPicked, asked_for, asked_streams, list_texts}
 use Rattle.udfs_common.specs.Keeping.{IsKept, IsTaken}
 use Rattle.udfs_common.specs.Spelling.{table_file}
 use Rattle.udfs_words.specs.declared.forms.Version.TheVariants.{Two}
 use Rattle.udfs_tables.proofs.ForgettingLemmas.{of_lists}
-use Rattle.udfs_tables.proofs.LeavingLemmas.{may_forget}
+use Rattle.udfs_tables.proofs.LeavingLemmas.{left_at, left_wider, may_forget}
 use Rattle.udfs_tables.proofs.forget_words.forget_words.Goals as goal
 
 pub returns-in-Ok-forget-clause-written : goal.returns-in-Ok-forget-clause-written
@@ -21,7 +21,7 @@ returns-in-Ok-forget-clause-written g c =
       asked = search rules;
       join = of_lists _ _ _ _ _ _ _ lists w.1;
       put = subst (λ (p : List ℕ). (F.tells → IsKept (F.holds c.forget.new.files) (F.may_leave c.forget.new.files) (F.real c.args.files.now p) (table_file Two w.0))
-          ⊎ (F.in_place c.args.files.now p × IsTaken g.F.Output.Sink.contents (table_file Two w.0))) c.asked_out.ensures w.2;
+          ⊎ (F.in_place c.args.files.now p × IsTaken g.F.Output.Sink.stream (table_file Two w.0))) c.asked_out.ensures w.2;
     }
 
 pub returns-in-Ok-forget-clause-any_moment : goal.returns-in-Ok-forget-clause-any_moment
@@ -49,3 +49,35 @@ returns-clause-any_moment g c tells place disk since =
           lists
           (rw (← c.asked_out.ensures) a.2),
     )
+
+pub returns-clause-unkept : goal.returns-clause-unkept
+returns-clause-unkept g c is tells =
+    let F = g.F.Files in
+    let w = c.in-Err-forget.ensures.unkept is tells in
+    let lists : map (λ (path : Bor (List ℕ)). path.now) c.unwrap_or.result.now ≡ list_texts (found_of c.args.words.now) = search rules in
+    record {
+      conflicts = c.asked_conflicts.result;
+      inputs = c.as_slice-2.result.now;
+      table = w.0;
+      picked = record { with_flag = c.asked_conflicts.ensures.with_flag; without_flag = c.asked_conflicts.ensures.without_flag; unknown_flag = c.asked_conflicts.ensures.unknown_flag };
+      asked = search rules;
+      join = of_lists _ _ _ _ _ _ _ lists w.1;
+      put = subst (λ (p : List ℕ). F.holds c.forget.new.files (F.real c.args.files.now p) ≡ Some (Some (table_file Two w.0))) c.asked_out.ensures w.2;
+    }
+
+pub returns-clause-left : goal.returns-clause-left
+returns-clause-left g c =
+    let F = g.F.Files in
+    let lists : map (λ (path : Bor (List ℕ)). path.now) c.unwrap_or.result.now ≡ list_texts (found_of c.args.words.now) = search rules in
+    let picked : IsPicked (found_of c.args.words.now) (codes "conflicts") true false c.asked_conflicts.result = record { with_flag = c.asked_conflicts.ensures.with_flag; without_flag = c.asked_conflicts.ensures.without_flag; unknown_flag = c.asked_conflicts.ensures.unknown_flag } in
+    let asked : map asked_for c.as_slice-2.result.now ≡ asked_streams (found_of c.args.words.now) = search rules in
+    left_at (F.shut c.args.files.now) c.asked_out.ensures
+    (left_wider _ _ (λ Put put. record {
+      conflicts = c.asked_conflicts.result;
+      inputs = c.as_slice-2.result.now;
+      table = put.0;
+      picked = picked;
+      asked = asked;
+      join = of_lists _ _ _ _ _ _ _ lists put.1;
+      put = put.2;
+    }) c.in-Err-forget.ensures.left)

@@ -1,9 +1,11 @@
-use Rattle.std.proofs.Common.{◌≡◌, ◌⊎◌, List, Some, ℕ, subst, rules}
+use Rattle.std.proofs.Common.{◌≡◌, ◌⊎◌, List, Some, ℕ, codes, map, subst, rules}
 use Rattle.udfs_lattice.specs.Records.{join_all}
 use Rattle.udfs_common.specs.Keeping.{IsKept, IsTaken}
 use Rattle.udfs_common.specs.Spelling.{table_file}
 use Rattle.clap.specs.Matches.{found_of}
-use Rattle.udfs_tables.proofs.LeavingLemmas.{may_merge}
+use Rattle.udfs_words.specs.Asking.{IsPicked, asked_for, asked_inputs}
+use Rattle.udfs_words.specs.declared.forms.Version.TheVariants.{One, Two}
+use Rattle.udfs_tables.proofs.LeavingLemmas.{left_at, left_wider, may_merge}
 use Rattle.udfs_tables.proofs.merge_words.merge_words.Goals as goal
 
 pub returns-in-Ok-merge-clause-written : goal.returns-in-Ok-merge-clause-written
@@ -17,7 +19,7 @@ returns-in-Ok-merge-clause-written g c =
       search rules,
       w.1,
       subst (λ (p : List ℕ). (F.tells → IsKept (F.holds c.merge.new.files) (F.may_leave c.merge.new.files) (F.real c.args.files.now p) (table_file c.asked_version.result (join_all w.0)))
-          ⊎ (F.in_place c.args.files.now p × IsTaken g.F.Output.Sink.contents (table_file c.asked_version.result (join_all w.0)))) c.asked_out.ensures w.2,
+          ⊎ (F.in_place c.args.files.now p × IsTaken g.F.Output.Sink.stream (table_file c.asked_version.result (join_all w.0)))) c.asked_out.ensures w.2,
     )
 
 pub returns-in-Ok-merge-clause-any_moment : goal.returns-in-Ok-merge-clause-any_moment
@@ -54,3 +56,11 @@ returns-clause-unkept g c is tells =
       w.1,
       subst (λ (p : List ℕ). F.holds c.merge.new.files (F.real c.args.files.now p) ≡ Some (Some (table_file c.asked_version.result (join_all w.0)))) c.asked_out.ensures w.2,
     )
+
+pub returns-clause-left : goal.returns-clause-left
+returns-clause-left g c =
+    let F = g.F.Files in
+    let picked : IsPicked (found_of c.args.words.now) (codes "v1") One Two c.asked_version.result = record { with_flag = c.asked_version.ensures.with; without_flag = c.asked_version.ensures.without; unknown_flag = c.asked_version.ensures.unset } in
+    let asked : map asked_for c.as_slice-2.result.now ≡ asked_inputs (found_of c.args.words.now) = search rules in
+    left_at (F.shut c.args.files.now) c.asked_out.ensures
+    (left_wider _ _ (λ Put put. (c.asked_version.result, c.as_slice-2.result.now, put.0, picked, asked, put.1, put.2)) c.in-Err-merge.ensures.left)

@@ -1,0 +1,22 @@
+use Rattle.std.proofs.lemmas.Result.{err_from_is_err_and}
+use Rattle.udfs_reading.specs.Format.{number}
+use Rattle.udfs_reading.proofs.WritingLemmas.{passed_then, failed_then, failed_more}
+use Rattle.udfs_index.proofs.copying.put_header.Goals as goal
+
+pub returns-in_err-push : goal.returns-in_err-push
+returns-in_err-push g c =
+    let p = err_from_is_err_and c.from_residual.result c.from_residual.ensures.1 in
+    rw p.1 (failed_more (number c.args.count) (failed_more (number 2048) c.in_err-push.ensures))
+
+pub returns-in_err-put_number : goal.returns-in_err-put_number
+returns-in_err-put_number g c =
+    let p = err_from_is_err_and c.from_residual-in_err-put_number.result c.from_residual-in_err-put_number.ensures.1 in
+    rw p.1 (failed_more (number c.args.count) (failed_then c.in_ok-push.ensures c.in_err-put_number.ensures))
+
+pub returns-in_err-put_number-2 : goal.returns-in_err-put_number-2
+returns-in_err-put_number-2 g c =
+    let p = err_from_is_err_and c.from_residual-in_err-put_number-2.result c.from_residual-in_err-put_number-2.ensures.1 in
+    rw p.1 (failed_then (passed_then c.in_ok-push.ensures c.in_ok-put_number.ensures) c.in_err-put_number-2.ensures)
+
+pub returns : goal.returns
+returns g c = passed_then (passed_then c.in_ok-push.ensures c.in_ok-put_number.ensures) c.in_ok-put_number-2.ensures

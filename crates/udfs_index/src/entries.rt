@@ -1,0 +1,142 @@
+//! A table file of version 1 is written from an index, block by block.
+
+ghost use Rattle.std.specs.Prelude.{◌≡◌, ◌*◌, ◌+◌, ◌<◌, ◌≤◌, ◌++◌, ℕ, List, Some, map, length};
+ghost use Rattle.std.specs.List.{flat_map};
+ghost use Rattle.udfs_lattice.specs.declared.facts.Fact.TheVariants.{Unknown, Known, Conflict};
+ghost use Rattle.udfs_lattice.specs.Tables.{Table, IsTable, entries_of, state_of};
+ghost use Rattle.udfs_reading.specs.PacketReading.{entry_at};
+ghost use Rattle.udfs_reading.specs.TableFile.{entry_bytes, state_bytes, table_bytes_v1};
+ghost use Rattle.udfs_reading.specs.Writing.{Passes};
+ghost use Rattle.udfs_index.specs.Copying.{BlamesNone, CopiesPast, Copies, CountsSink, IsShown, NoneFails};
+ghost use Rattle.udfs_index.specs.Index.{contents_of};
+ghost use Rattle.udfs_index.specs.Places.{state_by, IsWholeAt};
+
+use crate::copying::{put_header, put_number};
+use crate::fault::CopyFault;
+use crate::inputs::read_from;
+use crate::packet::Packet;
+use crate::places::slot_of;
+use crate::stored::Stored;
+use udfs_lattice::Fact;
+use udfs_reading::{Outgoing, Sink, WriteFault};
+
+/// How many blocks there are at most.
+const BLOCKS: u32 = 4_194_304;
+
+/// The number of a block and the mark of its state, and its bytes.
+fn put_known<W: Sink>(
+    out: &mut Outgoing,
+    sink: &mut W,
+    block: u32,
+    bytes: &[u8; 2048],
+) -> Result<(), WriteFault>
+    ensures { Passes (W.stream sink.old) (W.stream sink.new) out.old out.new (entry_bytes (block, Known bytes.now)) result }
+{
+    put_number(out, sink, block)?;
+    out.push(sink, &[1])?;
+    out.push(sink, bytes)?;
+    Ok(())
+}
+
+/// The number of a block that is in conflict, and the mark of that.
+fn put_conflict<W: Sink>(out: &mut Outgoing, sink: &mut W, block: u32) -> Result<(), WriteFault>
+    ensures { Passes (W.stream sink.old) (W.stream sink.new) out.old out.new (entry_bytes (block, Conflict)) result }
+{
+    put_number(out, sink, block)?;
+    out.push(sink, &[2])?;
+    Ok(())
+}
+
+/// The entry of a block, if something is said of it.
+fn write_entry<S: Stored, W: Sink>(
+    inputs: &[&S],
+    slot: Fact<u64>,
+    block: u32,
+    out: &mut Outgoing,
+    sink: &mut W,
+) -> Result<(), CopyFault>
+    ensures bytes { (wholes : List (List ℕ)) → contents_of S.content inputs.now ≡ map Some wholes →
+        CopiesPast (W.stream sink.old) (W.stream sink.new) out.old out.new (flat_map entry_bytes (entry_at block (state_by wholes slot))) result }
+    ensures count { CountsSink (W.stream sink.old).faults (W.stream sink.new).faults result }
+    ensures reads { (wholes : List (List ℕ)) → contents_of S.content inputs.now ≡ map Some wholes → NoneFails S.fails → IsWholeAt wholes slot → BlamesNone result }
+{
+    match slot {
+        Fact::Unknown => Ok(()),
+        Fact::Known(place) => {
+            let mut bytes = [0; 2048];
+            if let Err(unread) = read_from(inputs, place, &mut bytes) {
+                return Err(CopyFault::Input(unread));
+            }
+            put_known(out, sink, block, &bytes)?;
+            Ok(())
+        }
+        Fact::Conflict => {
+            put_conflict(out, sink, block)?;
+            Ok(())
+        }
+    }
+}
+
+/// How many entries a block has of which this is said: one, or none where it is unknown.
+fn entries_in(slot: Fact<u64>) -> u32
+    ensures most { result ≤ 1 }
+    ensures count { (wholes : List (List ℕ)) (n : ℕ) → result ≡ length (entry_at n (state_by wholes slot)) }
+{
+    match slot {
+        Fact::Unknown => 0,
+        Fact::Known(_) => 1,
+        Fact::Conflict => 1,
+    }
+}
+
+/// Of how many blocks something is said.
+fn count_entries(packets: &[Packet]) -> u32
+    ensures { (wholes : List (List ℕ)) (t : Table) → IsTable t → IsShown wholes packets.now t → result ≡ length (entries_of t) }
+{
+    let mut count = 0;
+    for block in 0..BLOCKS {
+        count += entries_in(slot_of(packets, block));
+    }
+    count
+}
+
+/// The header and the entries.
+fn write_entries<S: Stored, W: Sink>(
+    inputs: &[&S],
+    packets: &[Packet],
+    out: &mut Outgoing,
+    sink: &mut W,
+) -> Result<(), CopyFault>
+    ensures bytes { (wholes : List (List ℕ)) (t : Table) → IsTable t → contents_of S.content inputs.now ≡ map Some wholes → IsShown wholes packets.now t →
+        CopiesPast (W.stream sink.old) (W.stream sink.new) out.old out.new (table_bytes_v1 t) result }
+    ensures count { CountsSink (W.stream sink.old).faults (W.stream sink.new).faults result }
+    ensures reads { (wholes : List (List ℕ)) (t : Table) → IsTable t → contents_of S.content inputs.now ≡ map Some wholes → NoneFails S.fails → IsShown wholes packets.now t → BlamesNone result }
+{
+    let count = count_entries(packets);
+    put_header(out, sink, b"UDFTABL1", count)?;
+    for block in 0..BLOCKS {
+        write_entry(inputs, slot_of(packets, block), block, out, sink)?;
+    }
+    Ok(())
+}
+
+/// Writes the table file of these packets in version 1.
+///
+/// # Errors
+///
+/// As of [`packing::write_table`](crate::packing::write_table).
+pub fn write_table_v1<S: Stored, W: Sink>(
+    inputs: &[&S],
+    packets: &[Packet],
+    sink: &mut W,
+) -> Result<(), CopyFault>
+    ensures bytes { (wholes : List (List ℕ)) (t : Table) → IsTable t → contents_of S.content inputs.now ≡ map Some wholes → IsShown wholes packets.now t →
+        Copies (W.stream sink.old) (W.stream sink.new) (table_bytes_v1 t) result }
+    ensures count { CountsSink (W.stream sink.old).faults (W.stream sink.new).faults result }
+    ensures reads { (wholes : List (List ℕ)) (t : Table) → IsTable t → contents_of S.content inputs.now ≡ map Some wholes → NoneFails S.fails → IsShown wholes packets.now t → BlamesNone result }
+{
+    let mut out = Outgoing::new();
+    write_entries(inputs, packets, &mut out, sink)?;
+    out.flush(sink)?;
+    Ok(())
+}

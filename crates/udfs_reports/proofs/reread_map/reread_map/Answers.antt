@@ -1,0 +1,10 @@
+use Rattle.std.proofs.Common.{subst}
+use Rattle.udfs_lattice.specs.Tables.{Table}
+use Rattle.udfs_reports.specs.Rereading.{IsDomain}
+use Rattle.udfs_reports.proofs.PagingLemmas.{left_wider}
+use Rattle.udfs_reports.proofs.reread_map.reread_map.Goals as goal
+
+pub returns-clause-left : goal.returns-clause-left
+returns-clause-left g c =
+    let t = c.in-Ok.ensures.by_path in
+    left_wider _ _ (λ Put put. (t.0, t.1, subst (λ (x : Table). IsDomain c.args.profile c.args.last Put x) t.2 put)) c.in-Err-map_of.ensures.left

@@ -1,0 +1,53 @@
+use Rattle.std.proofs.Common.{◌≡◌, ◌∙◌, sym, ap, subst, true}
+use Rattle.udfs_lattice.specs.Tables.{state_of}
+use Rattle.udfs_space.specs.Places.{view}
+use Rattle.udfs_walk.specs.NodeBodies.{HasCells}
+use Rattle.udfs_salvage.specs.Found.{found_now, volume_now}
+use Rattle.udfs_salvage.specs.Listings.{full_in, listing_now}
+use Rattle.udfs_salvage.specs.Extraction.{Extracts, fill_byte, filled, is_offered}
+use Rattle.udfs_salvage.proofs.Extracting.{report_cells, not_refused, true_false}
+use Rattle.udfs_salvage.proofs.ListedNodes.{same_full, same_offered}
+use Rattle.udfs_salvage.proofs.TreeBytes.{fills_file, writes_file}
+use Rattle.udfs_salvage.proofs.listed_extraction.write_node.Goals as goal
+
+pub returns-in-Open-clause-cells : goal.returns-in-Open-clause-cells
+returns-in-Open-clause-cells g c = λ profile last n is at offered.
+    let W = g.W.Sink in
+    let r = c.args.listing.now in
+    let b = state_of r.table.now in
+    let v = view b c.in-Open.opened.space in
+    let k = report_cells profile b last c.args.index (listing_now r) (found_now c.in-Open.opened) n c.args.fill is (ap volume_now c.in-Open.is) at offered in
+    let same = same_full (full_in b (volume_now r.volume)) r.nodes.items c.args.index n c.index-node.result.now at c.index-node.ensures in
+    let icb : c.node.inside.icb ≡ n.icb = ap (λ m. m.icb) c.node.view_is ∙ ap (λ m. m.icb) same in (
+      k.0,
+      k.1,
+      subst (λ x. Extracts (W.stream c.args.sink.now) (W.stream c.write_at.new.sink) (filled x k.0) c.write_at.result) c.fill_byte-byte.ensures
+          (c.write_at.ensures.cells k.0 (subst (λ a. HasCells v a k.0) (sym icb) k.2)),
+    )
+
+pub returns-in-Open-clause-not_whole : goal.returns-in-Open-clause-not_whole
+returns-in-Open-clause-not_whole g c = λ profile last n is at.
+    let W = g.W.Sink in
+    let r = c.args.listing.now in
+    let b = state_of r.table.now in
+    let same = same_full (full_in b (volume_now r.volume)) r.nodes.items c.args.index n c.index-node.result.now at c.index-node.ensures in
+    let offered : is_offered n.standing n.size c.args.fill ≡ true =
+    ap (λ m. is_offered m.standing m.size c.args.fill) (sym same) ∙ same_offered b (volume_now r.volume) c.index-node.result.now.icb c.index-node.result.now.standing c.index-node.result.now.size c.args.fill ∙ sym c.is_offered.ensures ∙ c.if-not-is_offered.false in
+    let written = returns-in-Open-clause-cells g c profile last n is at offered in
+    (λ e. absurd (not_refused (W.stream c.args.sink.now) (W.stream c.write_at.new.sink) (filled (fill_byte c.args.fill) written.0) c.write_at.result written.2 e), λ e. absurd (true_false (is_offered n.standing n.size c.args.fill) offered e))
+
+pub returns-in-Open-clause-tree : goal.returns-in-Open-clause-tree
+returns-in-Open-clause-tree g c = λ profile last n is at whole.
+    let W = g.W.Sink in
+    let r = c.args.listing.now in
+    writes_file profile (state_of r.table.now) last c.args.index (listing_now r) (fill_byte c.args.fill)
+    (λ bytes. Extracts (W.stream c.args.sink.now) (W.stream c.write_at.new.sink) bytes c.write_at.result)
+    is n at whole (returns-in-Open-clause-cells g c profile last n is at (ap (λ s. is_offered s n.size c.args.fill) whole))
+
+pub returns-in-Open-clause-filled : goal.returns-in-Open-clause-filled
+returns-in-Open-clause-filled g c = λ profile last n is at offered.
+    let W = g.W.Sink in
+    let r = c.args.listing.now in
+    fills_file profile (state_of r.table.now) last c.args.index (listing_now r) (fill_byte c.args.fill) c.args.fill
+    (λ bytes. Extracts (W.stream c.args.sink.now) (W.stream c.write_at.new.sink) bytes c.write_at.result)
+    is n at offered (returns-in-Open-clause-cells g c profile last n is at offered)

@@ -1,0 +1,122 @@
+//! The bytes of the nodes of a listing, and of its lost files, are written through one piece of outgoing bytes.
+
+ghost use Rattle.std.specs.Prelude.{◌≡◌, ◌<◌, ◌↔◌, ℕ, Bool, true, false, List, [], Some, length, slice_get, IsErrOf, OnOk};
+ghost use Rattle.udfs_lattice.specs.Tables.{state_of};
+ghost use Rattle.udfs_file.specs.declared.cells.Cell.{Cell};
+ghost use Rattle.udfs_volume.specs.declared.profiles.Profile.{Profile};
+ghost use Rattle.udfs_walk.specs.NodeFields.{NodeFields};
+ghost use Rattle.udfs_walk.specs.declared.answers.Unnamed.{Unnamed};
+ghost use Rattle.udfs_walk.specs.declared.standings.Standing.TheVariants.{Whole};
+ghost use Rattle.udfs_salvage.specs.Extraction.{Extracts, HasCellsInBy, fill_byte, filled, is_offered};
+ghost use Rattle.udfs_salvage.specs.Listings.{AreUnnamed, listing_now};
+ghost use Rattle.udfs_salvage.specs.Reports.{IsReportBy};
+ghost use Rattle.udfs_salvage.specs.TreeReports.{FillsFileBy, WritesFileBy};
+ghost use Rattle.udfs_salvage.specs.UnnamedExtraction.{HasUnnamedCellsBy, is_lost_file};
+
+use crate::extraction::{ExtractError, Fill, fill_byte, is_offered, write_at};
+use crate::listings::Listing;
+use crate::unnamed_extraction::is_lost_file;
+use crate::volumes::Volume;
+use std::alloc::Global;
+use udfs_reading::{Outgoing, Sink};
+use udfs_walk::{Unnamed, entry_address};
+
+/// Writes the bytes of the node at this index, counted from 0 and below the number of nodes, of a listing that [`list_volume_by`](crate::list_volume_by)
+/// answered, as [`extract_by`](crate::extract_by) writes those of a report's node, through a piece of outgoing bytes that holds none. After `Ok` it holds none, so that one piece serves for many nodes.
+///
+/// # Errors
+///
+/// As those of [`extract_by`](crate::extract_by). Then the piece may hold bytes that were not written.
+pub fn write_node<W: Sink>(
+    alloc: Global,
+    listing: &Listing<'_>,
+    index: usize,
+    fill: Fill,
+    out: &mut Outgoing,
+    sink: &mut W,
+) -> Result<(), ExtractError>
+    requires index { index < length listing.now.nodes.items }
+    requires empty { out.old ≡ [] }
+    // The bytes are those of the cells at the end of the route of this index.
+    ensures cells { (profile : Profile) (last : ℕ) (n : NodeFields) → IsReportBy profile (state_of listing.now.table.now) last (listing_now listing.now) →
+        slice_get (listing_now listing.now).nodes index ≡ Some n → is_offered n.standing n.size fill ≡ true →
+        (cs : List Cell) × HasCellsInBy profile (state_of listing.now.table.now) last index cs ×
+        Extracts (W.stream sink.old) (W.stream sink.new) (filled (fill_byte fill) cs) result }
+    ensures not_whole { (profile : Profile) (last : ℕ) (n : NodeFields) → IsReportBy profile (state_of listing.now.table.now) last (listing_now listing.now) →
+        slice_get (listing_now listing.now).nodes index ≡ Some n → (IsErrOf result ExtractError.NotWhole ↔ (is_offered n.standing n.size fill ≡ false)) }
+    // Of a whole node they are those of the volume's file at its path, for every lawful volume with which the table agrees.
+    ensures tree { (profile : Profile) (last : ℕ) (n : NodeFields) → IsReportBy profile (state_of listing.now.table.now) last (listing_now listing.now) →
+        slice_get (listing_now listing.now).nodes index ≡ Some n → n.standing ≡ Whole →
+        WritesFileBy profile (state_of listing.now.table.now) last (listing_now listing.now) index n
+        (λ bytes. Extracts (W.stream sink.old) (W.stream sink.new) bytes result) }
+    // Of any node that is written, a torn one too, they are that file's bytes outside the node's holes, and in them the byte that fills.
+    ensures filled { (profile : Profile) (last : ℕ) (n : NodeFields) → IsReportBy profile (state_of listing.now.table.now) last (listing_now listing.now) →
+        slice_get (listing_now listing.now).nodes index ≡ Some n → is_offered n.standing n.size fill ≡ true →
+        FillsFileBy profile (state_of listing.now.table.now) last n (fill_byte fill)
+        (λ bytes. Extracts (W.stream sink.old) (W.stream sink.new) bytes result) }
+    ensures nothing { IsErrOf result ExtractError.NotWhole → sink.new ≡ sink.old }
+    ensures memory { IsErrOf result ExtractError.OutOfMemory → sink.new ≡ sink.old }
+    ensures empty { OnOk result (out.new ≡ []) }
+{
+    let node = &listing.nodes[index];
+    if !is_offered(node, fill) {
+        return Err(ExtractError::NotWhole);
+    }
+    match &listing.volume {
+        Volume::Open(opened) => {
+            let byte = fill_byte(fill);
+            write_at(
+                alloc,
+                listing.table,
+                &opened.space,
+                node.icb,
+                byte,
+                out,
+                sink,
+            )
+        }
+        _ => Err(ExtractError::NotWhole),
+    }
+}
+
+/// Writes the bytes of the entry at this index, counted from 0 and below their number, of those that [`list_unnamed`](crate::list_unnamed) answered of a listing, as
+/// [`extract_unnamed_by`](crate::extract_unnamed_by) writes those of a report's entry, through a piece of outgoing bytes that holds none. After `Ok` it holds none.
+///
+/// # Errors
+///
+/// As those of [`extract_unnamed_by`](crate::extract_unnamed_by). Then the piece may hold bytes that were not written.
+pub fn write_lost<W: Sink>(
+    alloc: Global,
+    listing: &Listing<'_>,
+    entries: &[Unnamed],
+    index: usize,
+    out: &mut Outgoing,
+    sink: &mut W,
+) -> Result<(), ExtractError>
+    requires index { index < length entries.now }
+    requires empty { out.old ≡ [] }
+    // The bytes are those of the body of the entry of this index.
+    ensures cells { (profile : Profile) (last : ℕ) (u : Unnamed) → IsReportBy profile (state_of listing.now.table.now) last (listing_now listing.now) →
+        AreUnnamed listing.now entries.now →
+        slice_get (listing_now listing.now).unnamed index ≡ Some u → is_lost_file u ≡ true →
+        (cs : List Cell) × HasUnnamedCellsBy profile (state_of listing.now.table.now) last u cs ×
+        Extracts (W.stream sink.old) (W.stream sink.new) (filled 0 cs) result }
+    ensures not_whole { (profile : Profile) (last : ℕ) (u : Unnamed) → IsReportBy profile (state_of listing.now.table.now) last (listing_now listing.now) →
+        AreUnnamed listing.now entries.now →
+        slice_get (listing_now listing.now).unnamed index ≡ Some u → (IsErrOf result ExtractError.NotWhole ↔ (is_lost_file u ≡ false)) }
+    ensures nothing { IsErrOf result ExtractError.NotWhole → sink.new ≡ sink.old }
+    ensures memory { IsErrOf result ExtractError.OutOfMemory → sink.new ≡ sink.old }
+    ensures empty { OnOk result (out.new ≡ []) }
+{
+    let entry = &entries[index];
+    if !is_lost_file(entry) {
+        return Err(ExtractError::NotWhole);
+    }
+    match &listing.volume {
+        Volume::Open(opened) => {
+            let address = entry_address(entry.reference, entry.block);
+            write_at(alloc, listing.table, &opened.space, address, 0, out, sink)
+        }
+        _ => Err(ExtractError::NotWhole),
+    }
+}
