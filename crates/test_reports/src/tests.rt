@@ -1,4 +1,5 @@
 //! What is expected comes from the formats' description, byte by byte.
 
 mod overview;
+mod pages;
 mod reports;

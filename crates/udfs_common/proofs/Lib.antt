@@ -1,2 +1,3 @@
+pub mod BlamingLemmas
 pub mod KeepingLemmas
 pub mod PlacingLemmas

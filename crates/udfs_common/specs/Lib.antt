@@ -3,3 +3,4 @@ pub mod Spelling
 pub mod Keeping
 pub mod Guarding
 pub mod Sources
+pub mod Blaming

@@ -1,15 +1,19 @@
 //! Where a disc ends: by the words, or by the mapfiles of all inputs.
 
-ghost use Rattle.std.specs.Prelude.{◌≡◌, ◌≢◌, ◌%◌, true, [], IfOk, IfErr, IfSome};
+ghost use Rattle.std.specs.Prelude.{◌≡◌, ◌≢◌, ◌⊎◌, ◌%◌, true, [], IfOk, IfErr, IfSome};
 ghost use Rattle.clap.specs.Matches.{found_of};
+ghost use Rattle.udfs_common.specs.Blaming.{EndRefused, InputsRefused};
+ghost use Rattle.udfs_common.specs.declared.sources.AnySource.{AnySource};
 ghost use Rattle.udfs_words.specs.Asking.{EndsAt, EndsMap, IsLast, MapsEndAt};
 
 use crate::files::Files;
 use crate::inputs::joined;
 use crate::refusal::Refusal;
+use crate::sources::AnySource;
 use clap::ArgMatches;
 use std::alloc::{AllocError, Global};
 use udfs_files::Kind;
+use udfs_reading::Source;
 use udfs_rescue::{MapError, Mapfile};
 use udfs_words::input_path::InputPath;
 use udfs_words::last::{asked_last, is_whole, last_of_size};
@@ -93,15 +97,16 @@ fn size_by_maps<F: Files>(
 
 /// Why no last block is known: where there are images alone, what is wrong with them, and else that it has to be given.
 fn no_end<F: Files>(alloc: Global, inputs: &[InputPath<'_>], files: &F) -> Refusal
-    ensures { (result ≢ Refusal.Output) × (result ≢ Refusal.Unkept) × (result ≢ Refusal.Spared) }
+    ensures told { (result ≢ Refusal.Output) × (result ≢ Refusal.Unkept) × (result ≢ Refusal.Spared) }
+    ensures blamed { (result ≡ Refusal.NoLast) ⊎ InputsRefused (λ path. F.holds files.now (F.real files.now path)) (F.shut files.now) (⟦<AnySource<F::Input, F::Image> as Source>⟧.remaining) (⟦<AnySource<F::Input, F::Image> as Source>⟧.faults) inputs.now result }
 {
     if let [InputPath::File(_), ..] = inputs {
         return Refusal::NoLast;
     }
-    match joined(alloc, inputs, files) {
-        Ok(_) => Refusal::NoLast,
-        Err(refusal) => refusal,
+    if let Err(refusal) = joined(alloc, inputs, files) {
+        return refusal;
     }
+    Refusal::NoLast
 }
 
 /// The last block: the one among the words, or that of the size among them, or else the one with which the mapfiles of all inputs end.
@@ -118,6 +123,8 @@ pub fn asked_end<F: Files>(
 ) -> Result<u32, Refusal>
     ensures last { IfOk result (λ last. IsLast (λ path. F.holds files.now (F.real files.now path)) inputs.now (found_of words.now) last) }
     ensures told { IfErr result (λ refusal. (refusal ≢ Refusal.Output) × (refusal ≢ Refusal.Unkept) × (refusal ≢ Refusal.Spared)) }
+    // Only where the words tell no end of the disc: the last block has to be given, or the inputs are to blame.
+    ensures blamed { IfErr result (EndRefused (λ path. F.holds files.now (F.real files.now path)) (F.shut files.now) (⟦<AnySource<F::Input, F::Image> as Source>⟧.remaining) (⟦<AnySource<F::Input, F::Image> as Source>⟧.faults) inputs.now (found_of words.now)) }
 {
     if words.contains_id(LAST) || words.contains_id(SIZE) {
         return Ok(asked_last(words));

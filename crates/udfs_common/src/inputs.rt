@@ -1,7 +1,8 @@
 //! The table of the inputs.
 
-ghost use Rattle.std.specs.Prelude.{◌≡◌, ◌≢◌, IfOk, IfErr, OnOk};
+ghost use Rattle.std.specs.Prelude.{◌≡◌, ◌≢◌, ◌⊎◌, IfOk, IfErr, OnOk};
 ghost use Rattle.udfs_lattice.specs.Tables.{Table, join_tables};
+ghost use Rattle.udfs_common.specs.Blaming.{InputsRefused};
 ghost use Rattle.udfs_common.specs.Keeping.{OfPaths};
 ghost use Rattle.udfs_common.specs.declared.sources.AnySource.{AnySource};
 
@@ -22,6 +23,8 @@ pub fn take_all<F: Files, T: Taker<AnySource<F::Input, F::Image>>>(
 ) -> Result<(), Refusal>
     ensures by_path { OnOk result (OfPaths (λ path. F.holds files.now (F.real files.now path)) (⟦<AnySource<F::Input, F::Image> as Source>⟧.remaining) inputs.now (λ t. (s : Table) → T.took taker.old s → T.took taker.new (join_tables s t))) }
     ensures told { IfErr result (λ refusal. (refusal ≢ Refusal.Output) × (refusal ≢ Refusal.Unkept) × (refusal ≢ Refusal.Spared)) }
+    // The first input that cannot be opened is named, or else the first that cannot be read, and why.
+    ensures blamed { IfErr result (InputsRefused (λ path. F.holds files.now (F.real files.now path)) (F.shut files.now) (⟦<AnySource<F::Input, F::Image> as Source>⟧.remaining) (⟦<AnySource<F::Input, F::Image> as Source>⟧.faults) inputs.now) }
 {
     let mut sources = match open_all(alloc, inputs, files) {
         Ok(sources) => sources,
@@ -41,6 +44,8 @@ pub fn joined<F: Files>(
 ) -> Result<BlockTable, Refusal>
     ensures by_path { IfOk result (λ table. OfPaths (λ path. F.holds files.now (F.real files.now path)) (⟦<AnySource<F::Input, F::Image> as Source>⟧.remaining) inputs.now (λ t. table ≡ t)) }
     ensures told { IfErr result (λ refusal. (refusal ≢ Refusal.Output) × (refusal ≢ Refusal.Unkept) × (refusal ≢ Refusal.Spared)) }
+    // The first input that cannot be opened is named, or else the first that cannot be read, and why.
+    ensures blamed { IfErr result (InputsRefused (λ path. F.holds files.now (F.real files.now path)) (F.shut files.now) (⟦<AnySource<F::Input, F::Image> as Source>⟧.remaining) (⟦<AnySource<F::Input, F::Image> as Source>⟧.faults) inputs.now) }
 {
     let mut table = BlockTable::new(alloc);
     match take_all(alloc, inputs, &mut table, files) {
@@ -51,10 +56,11 @@ pub fn joined<F: Files>(
 
 /// What is said of an output that could not be looked at: the inputs are judged before it.
 pub fn unwritten<F: Files>(alloc: Global, inputs: &[InputPath<'_>], files: &F) -> Refusal
-    ensures { (result ≢ Refusal.Unkept) × (result ≢ Refusal.Spared) }
+    ensures told { (result ≢ Refusal.Unkept) × (result ≢ Refusal.Spared) }
+    ensures blamed { (result ≡ Refusal.Output) ⊎ InputsRefused (λ path. F.holds files.now (F.real files.now path)) (F.shut files.now) (⟦<AnySource<F::Input, F::Image> as Source>⟧.remaining) (⟦<AnySource<F::Input, F::Image> as Source>⟧.faults) inputs.now result }
 {
-    match joined(alloc, inputs, files) {
-        Ok(_) => Refusal::Output,
-        Err(refusal) => refusal,
+    if let Err(refusal) = joined(alloc, inputs, files) {
+        return refusal;
     }
+    Refusal::Output
 }

@@ -1,11 +1,12 @@
 //! Inputs of both kinds, files and images with their mapfiles, as one kind of source.
 
-ghost use Rattle.std.specs.Prelude.{◌≡◌, ◌≢◌, ◌≤◌, ◌<◌, ◌-◌, ℕ, List, IfOk, IfErr, OnOk, alloc_error, length, slice_get, vec_len};
+ghost use Rattle.std.specs.Prelude.{◌≡◌, ◌≢◌, ◌⊎◌, ◌≤◌, ◌<◌, ℕ, List, IfOk, IfErr, OnOk, OnErr, alloc_error, length, vec_len};
 ghost use Rattle.udfs_lattice.specs.Records.{join_all};
 ghost use Rattle.udfs_lattice.specs.Tables.{Table, join_tables};
 ghost use Rattle.udfs_reading.specs.Several.{TablesAre};
+ghost use Rattle.udfs_common.specs.Blaming.{AreJudged, BlamesSource, InputsRefused, IsJudged, MayBeShut, first_refused, refusal_by};
 ghost use Rattle.udfs_common.specs.Keeping.{Opens};
-ghost use Rattle.udfs_common.specs.Refusing.{refused_pair, refusal_for};
+ghost use Rattle.udfs_common.specs.Refusing.{refused_pair};
 ghost use Rattle.udfs_common.specs.Sources.{left_in, faults_in, IsPathOpened};
 
 use crate::files::Files;
@@ -51,7 +52,9 @@ fn open_file<F: Files>(
     files: &F,
 ) -> Result<AnySource<F::Input, F::Image>, Refusal>
     ensures opened { IfOk result (λ source. IsPathOpened (λ path. F.holds files.now (F.real files.now path)) (InputPath.File path.entry) (⟦<AnySource<F::Input, F::Image> as Source>⟧.remaining source)) }
+    ensures judged { IfOk result (λ source. IsJudged (λ path. F.holds files.now (F.real files.now path)) (InputPath.File path.entry) source) }
     ensures told { IfErr result (λ refusal. refusal ≡ Refusal.Open number) }
+    ensures shut { OnErr result (MayBeShut (F.shut files.now) (InputPath.File path.entry)) }
 {
     match files.open(path) {
         Ok(source) => Ok(AnySource::File(source)),
@@ -68,7 +71,9 @@ fn open_both<F: Files>(
     files: &F,
 ) -> Result<AnySource<F::Input, F::Image>, Refusal>
     ensures opened { IfOk result (λ source. IsPathOpened (λ path. F.holds files.now (F.real files.now path)) (InputPath.Pair image.entry map.entry) (⟦<AnySource<F::Input, F::Image> as Source>⟧.remaining source)) }
+    ensures judged { IfOk result (λ source. IsJudged (λ path. F.holds files.now (F.real files.now path)) (InputPath.Pair image.entry map.entry) source) }
     ensures told { IfErr result (λ refusal. refusal ≢ Refusal.Open number → refusal ≡ Refusal.Memory alloc_error) }
+    ensures why { IfErr result (λ refusal. (refusal ≡ Refusal.Memory alloc_error) ⊎ ((refusal ≡ Refusal.Open number) × MayBeShut (F.shut files.now) (InputPath.Pair image.entry map.entry))) }
 {
     let Ok(image) = files.open_image(image) else {
         return Err(Refusal::Open(number));
@@ -91,14 +96,19 @@ fn open_one<F: Files>(
     files: &F,
 ) -> Result<AnySource<F::Input, F::Image>, Refusal>
     ensures opened { IfOk result (λ source. IsPathOpened (λ path. F.holds files.now (F.real files.now path)) path.entry (⟦<AnySource<F::Input, F::Image> as Source>⟧.remaining source)) }
+    ensures judged { IfOk result (λ source. IsJudged (λ path. F.holds files.now (F.real files.now path)) path.entry source) }
     ensures told { IfErr result (λ refusal. refusal ≢ Refusal.Open number → refusal ≡ Refusal.Memory alloc_error) }
+    ensures why { IfErr result (λ refusal. (refusal ≡ Refusal.Memory alloc_error) ⊎ ((refusal ≡ Refusal.Open number) × MayBeShut (F.shut files.now) path.entry)) }
 {
     match path {
         InputPath::File(path) => match open_file(path, number, files) {
             Ok(source) => Ok(source),
             Err(refusal) => Err(refusal),
         },
-        InputPath::Pair(image, map) => open_both(alloc, image, map, number, files),
+        InputPath::Pair(image, map) => match open_both(alloc, image, map, number, files) {
+            Ok(source) => Ok(source),
+            Err(refusal) => Err(refusal),
+        },
     }
 }
 
@@ -112,6 +122,8 @@ pub fn open_all<F: Files>(
     ensures opened { IfOk result (λ sources. Opens (λ path. F.holds files.now (F.real files.now path)) (⟦<AnySource<F::Input, F::Image> as Source>⟧.remaining) paths.now sources.items) }
     ensures told { IfErr result (λ refusal. (refusal ≢ Refusal.Output) × (refusal ≢ Refusal.Unkept) × (refusal ≢ Refusal.Spared)) }
     ensures named { IfErr result (λ refusal. (input : ℕ) → refusal ≡ Refusal.Open input → (0 < input) × (input ≤ length paths.now)) }
+    ensures judged { IfOk result (λ sources. AreJudged (λ path. F.holds files.now (F.real files.now path)) paths.now sources.items) }
+    ensures blamed { IfErr result (InputsRefused (λ path. F.holds files.now (F.real files.now path)) (F.shut files.now) (⟦<AnySource<F::Input, F::Image> as Source>⟧.remaining) (⟦<AnySource<F::Input, F::Image> as Source>⟧.faults) paths.now) }
 {
     files.begin(Stage::Reading);
     let mut sources = Vec::new(alloc);
@@ -140,13 +152,25 @@ fn refused_pair(input: usize, fault: PairFault) -> Refusal
     }
 }
 
+/// The number of the first pair that was refused when it was opened, counted from 1, and why. No source behind it is read.
+fn first_refused<R: Source, I: Image>(sources: &[AnySource<R, I>]) -> Option<(usize, PairFault)>
+    ensures { result ≡ first_refused 1 sources.now }
+{
+    for (index, source) in sources.iter().enumerate() {
+        if let AnySource::Refused(fault, _) = source {
+            return Some((index + 1, *fault));
+        }
+    }
+    None
+}
+
 /// Why the inputs were not joined: a pair that was refused has its own reason.
-pub fn refusal_for<R: Source, I: Image>(sources: &[AnySource<R, I>], error: InputError) -> Refusal
-    ensures value { result ≡ refusal_for (slice_get sources.now (error.input - 1)) error }
+fn refusal_by(refused: Option<(usize, PairFault)>, error: InputError) -> Refusal
+    ensures value { result ≡ refusal_by refused error }
     ensures told { (result ≢ Refusal.Output) × (result ≢ Refusal.Unkept) × (result ≢ Refusal.Spared) }
 {
-    match sources.get(error.input.saturating_sub(1)) {
-        Some(AnySource::Refused(fault, _)) => refused_pair(error.input, *fault),
+    match refused {
+        Some((input, fault)) if input == error.input => refused_pair(error.input, fault),
         _ => Refusal::from(error),
     }
 }
@@ -158,9 +182,12 @@ pub fn take_sources<R: Source, I: Image, T: Taker<AnySource<R, I>>>(
 ) -> Result<(), Refusal>
     ensures table { OnOk result ((ts : List Table) × TablesAre (⟦<AnySource<R, I> as Source>⟧.remaining) sources.old ts × ((t : Table) → T.took taker.old t → T.took taker.new (join_tables t (join_all ts)))) }
     ensures told { IfErr result (λ refusal. (refusal ≢ Refusal.Output) × (refusal ≢ Refusal.Unkept) × (refusal ≢ Refusal.Spared)) }
+    // The first source that could not be read is named, and why.
+    ensures blamed { IfErr result (λ refusal. BlamesSource (⟦<AnySource<R, I> as Source>⟧.remaining) (⟦<AnySource<R, I> as Source>⟧.faults) sources.old sources.new refusal) }
 {
+    let refused = first_refused(sources);
     match take_inputs(&mut *sources, taker) {
         Ok(()) => Ok(()),
-        Err(error) => Err(refusal_for(sources, error)),
+        Err(error) => Err(refusal_by(refused, error)),
     }
 }

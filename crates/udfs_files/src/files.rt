@@ -1,14 +1,17 @@
 //! The files that a command reaches: what their paths hold, and what a crash may leave of them.
 
-ghost use Rattle.std.specs.Prelude.{◌≡◌, ◌≢◌, ℕ, ◌≤◌, ◌<◌, List, Option, length, IfOk, IfSome, OnOk, OnErr, Some, None, [], string_bytes};
+ghost use Rattle.std.specs.Prelude.{◌≡◌, ◌≢◌, ◌+◌, ◌%◌, ◌^◌, ℕ, ◌≤◌, ◌<◌, List, Option, length, IfOk, IfSome, OnOk, OnErr, Some, None, [], string_bytes};
 ghost use Rattle.std.specs.Io.KnownBytes.{WriteAppends};
 ghost use Rattle.udfs_files.specs.Disk.{Disk, Gone, Same, SameBut, Moved, Goes, folder_of};
+ghost use Rattle.udfs_files.specs.Telling.{ToldOrSilent};
 ghost use Rattle.udfs_files.specs.declared.files.Kind.{Kind};
+ghost use Rattle.udfs_index.specs.Copying.{AreAllTold};
 ghost use Rattle.udfs_reading.specs.Device.{CountsFault};
 
 use crate::watch::Stage;
 use std::alloc::{AllocError, Global};
 use std::io::Error;
+use udfs_index::Stored;
 use udfs_reading::{DeviceFault, Sink, Source};
 use udfs_rescue::Image as Positions;
 use udfs_times::{Times, Zone};
@@ -62,6 +65,9 @@ pub trait Files {
     /// An opened image, which is read at positions.
     type Image: Positions + Drop;
 
+    /// An opened regular file, which is read at positions as often as it is wanted.
+    type Stored: Stored + Drop;
+
     /// An output that was made.
     type Output: Handle + Drop;
 
@@ -92,7 +98,7 @@ pub trait Files {
     /// What a crash at some moment from that one on might have left, during a call or between two.
     ghost left_since: { Self → ℕ → Disk → Type 0 };
 
-    /// How many of the calls that change files failed, modulo 2 ^ 64.
+    /// How many of the calls that change files failed, and how often a file was given up because what was to be in it could not be read again, modulo 2 ^ 64.
     ghost faults: { Self → ℕ };
 
     /// Opens a file to be read from its beginning, which changes none. Links are followed.
@@ -113,6 +119,17 @@ pub trait Files {
     fn open_image(&self, path: &str) -> Result<Self::Image, DeviceFault>
         ensures bytes { IfOk result (λ image. IfSome (holds self.now (real self.now path.now)) (λ held. Self.Image.bytes image ≡ held)) }
         ensures there { OnOk result (holds self.now (real self.now path.now) ≢ Some None) }
+        ensures shut { OnErr result (shut self.now path.now) };
+
+    /// Opens a file to be read at positions as often as it is wanted, which changes none. Links are followed. Answers `None`, and opens nothing,
+    /// where what is there is no regular file, as a pipe, or its kind is not told: [`open`](Self::open) opens it, or says that it cannot be opened.
+    ///
+    /// # Errors
+    ///
+    /// `DeviceFault`, only of a path that may fail to open.
+    fn open_stored(&self, path: &str) -> Result<Option<Self::Stored>, DeviceFault>
+        ensures bytes { IfOk result (λ found. IfSome found (λ stored. IfSome (holds self.now (real self.now path.now)) (λ held. Self.Stored.content stored ≡ held))) }
+        ensures there { IfOk result (λ found. IfSome found (λ stored. holds self.now (real self.now path.now) ≢ Some None)) }
         ensures shut { OnErr result (shut self.now path.now) };
 
     /// Says where a path leads, every link followed, and what is there. A path that leads through a device is one.
@@ -256,6 +273,16 @@ pub trait Files {
         ensures count { CountsFault (faults self.old) (faults self.new) result }
         ensures crash { Goes moment may_leave left_since self.old self.new Same };
 
+    /// Counts a fault of none of these calls: a file that was begun was given up, because what was to be in it could not be read again. Nothing else changes.
+    fn count_fault(&mut self)
+        ensures count { faults self.new ≡ (faults self.old + 1) % 2 ^ 64 }
+        ensures holds { holds self.new ≡ holds self.old }
+        ensures kept { (q : List ℕ) (c : Option (List ℕ)) → kept self.new q c → kept self.old q c }
+        ensures real { real self.new ≡ real self.old }
+        ensures moment { moment self.new ≡ moment self.old }
+        ensures may_leave { (c : Disk) → may_leave self.new c → may_leave self.old c }
+        ensures left_since { (t : ℕ) (c : Disk) → left_since self.new t c → left_since self.old t c };
+
     /// Why the last of the calls that failed did so, where the system said it. It is for a person to read, and nothing is promised of it.
     fn reason(&self) -> Option<Error>;
 
@@ -273,6 +300,18 @@ pub trait Files {
 
     /// Tells who watches, or is to be told more, a line of text beside what is printed.
     fn remark(&self, text: &str);
+
+    /// Files that tell what they hold tell it of what is read at positions.
+    ghost stored_told: { tells → AreAllTold Self.Stored.content };
+
+    /// What is read at positions can be read from its front.
+    ghost stored_as_input: { (stored : Self.Stored) → (input : Self.Input) × (Self.Input.remaining input ≡ Self.Stored.content stored) };
+
+    /// What is read at positions is told, or no output tells what was written to it.
+    ghost told_or_silent: { ToldOrSilent Self.Stored.content Self.Output.stream };
+
+    /// An output of files that tell what they hold tells what was written to it.
+    ghost output_told: { tells → (output : Self.Output) → (bytes : List ℕ) × ((Self.Output.stream output).contents ≡ Some bytes) };
 
     /// A crash leaves something.
     ghost some_crash: { (files : Self) → (c : Disk) × may_leave files c };

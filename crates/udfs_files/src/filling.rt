@@ -1,6 +1,6 @@
 //! A content is written to an output by code that knows only sinks, and the output stays the same.
 
-ghost use Rattle.std.specs.Prelude.{◌≡◌, ℕ, List, Option, IfOk, IfErr, OnOk, OnErr};
+ghost use Rattle.std.specs.Prelude.{◌≡◌, ℕ, List, Option, IfOk, IfErr, OnOk, OnErr, ⊤};
 ghost use Rattle.std.specs.Io.KnownBytes.{Appends};
 ghost use Rattle.udfs_files.specs.Disk.{SinkFails};
 ghost use Rattle.udfs_reading.specs.Writing.{Writes};
@@ -48,35 +48,6 @@ impl<K: Place, H: Handle> Sink for Placed<K, H> {
     fn write(&mut self, buf: &[u8]) -> Result<usize, DeviceFault> {
         self.handle.put(buf)
     }
-}
-
-/// Writes a content to a handle of this path.
-fn fill_at<K: Place, H: Handle + Drop, C: Content>(handle: H, content: &C) -> Result<H, WriteFault>
-    requires { H.place handle ≡ K.path }
-    ensures place { IfOk result (λ full. H.place full ≡ K.path) }
-    ensures written { IfOk result (λ full. Appends (H.stream handle).contents (H.stream full).contents (C.bytes content.now)) }
-    ensures cause { OnErr result (SinkFails H.stream) }
-{
-    let mut placed: Placed<K, H> = Placed {
-        handle,
-        of: PhantomData,
-    };
-    content.write_to(&mut placed)?;
-    let Placed { handle, of: _ } = placed;
-    Ok(handle)
-}
-
-/// Writes a content behind what the output has, and answers the output, which has taken all of it.
-///
-/// # Errors
-///
-/// `WriteFault` where the output failed, and it is closed.
-pub fn fill<H: Handle + Drop, C: Content>(handle: H, content: &C) -> Result<H, WriteFault>
-    ensures place { IfOk result (λ full. H.place full ≡ H.place handle) }
-    ensures written { IfOk result (λ full. Appends (H.stream handle).contents (H.stream full).contents (C.bytes content.now)) }
-    ensures cause { OnErr result (SinkFails H.stream) }
-{
-    fill_at::<Brand, H, C>(handle, content)
 }
 
 /// What can be written to a sink, and may be refused for reasons of its own.
@@ -130,4 +101,35 @@ pub fn fill_by<H: Handle + Drop, J: Job>(handle: H, job: &J) -> Result<H, J::Ref
     ensures cause { IfErr result (λ refusal. J.blames_sink job.now refusal → SinkFails H.stream) }
 {
     do_at::<Brand, H, J>(handle, job)
+}
+
+/// A content as a job, which only its sink refuses.
+#[derive(Drop)]
+pub(crate) struct ContentJob<'a, C: Content> {
+    pub(crate) content: &'a C,
+}
+
+impl<'a, C: Content> Job for ContentJob<'a, C> {
+    type Refusal = WriteFault;
+
+    ghost wrote = { λ job old new. Appends old new (C.bytes job.content.now) };
+
+    ghost blames_sink = { λ _ _. ⊤ };
+
+    fn write_to<W: Sink>(&self, sink: &mut W) -> Result<(), WriteFault> {
+        self.content.write_to(sink)
+    }
+}
+
+/// Writes a content behind what the output has, and answers the output, which has taken all of it.
+///
+/// # Errors
+///
+/// `WriteFault` where the output failed, and it is closed.
+pub fn fill<H: Handle + Drop, C: Content>(handle: H, content: &C) -> Result<H, WriteFault>
+    ensures place { IfOk result (λ full. H.place full ≡ H.place handle) }
+    ensures written { IfOk result (λ full. Appends (H.stream handle).contents (H.stream full).contents (C.bytes content.now)) }
+    ensures cause { OnErr result (SinkFails H.stream) }
+{
+    fill_by(handle, &ContentJob { content })
 }

@@ -9,7 +9,8 @@ mod replacing;
 mod watch;
 
 pub use files::{Files, Handle, Kind, Target};
+pub(crate) use filling::ContentJob;
 pub use filling::{Content, Job, fill, fill_by};
 pub use machine::{Machine, MachineFile};
-pub use replacing::{ReplaceError, replace};
+pub use replacing::{JobError, ReplaceError, replace, replace_by_job};
 pub use watch::{Stage, Watch};

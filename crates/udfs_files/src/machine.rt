@@ -1,5 +1,6 @@
 //! The files of the machine. What they hold is not told: no contract can say what the system keeps.
 
+ghost use Rattle.std.proofs.Common.{inr, refl};
 ghost use Rattle.udfs_reading.specs.Device.{CountsFault};
 ghost use Rattle.std.specs.Prelude.{◌≡◌, ◌≤◌, List, ℕ, Option, None, [], length, ⊤};
 
@@ -9,8 +10,10 @@ use std::alloc::{AllocError, Global};
 use std::fs;
 use std::fs::{FileTimes, OpenFile, OpenOptions};
 use std::io::{Error, ErrorKind, Read, Seek, SeekFrom, Write};
+use std::os::unix::fs::FileExt;
 use std::rt::Env;
 use std::time::{Duration, SystemTime};
+use udfs_index::Stored;
 use udfs_reading::{DeviceFault, Sink, Source};
 use udfs_rescue::Image;
 use udfs_times::{Times, Zone};
@@ -42,6 +45,42 @@ impl<'a, S: Read, N: Watch> Source for MachineInput<'a, S, N> {
                 self.faults = self.faults.wrapping_add(1);
                 Err(DeviceFault)
             }
+        }
+    }
+}
+
+/// A regular file of the machine, read at positions. It stands nowhere, so it can be read from its front and looked into meanwhile.
+#[derive(Drop)]
+pub struct MachineStored<'a, S: FileExt + OpenFile, N: Watch> {
+    file: S,
+    number: usize,
+    watch: &'a N,
+}
+
+impl<'a, S: FileExt + OpenFile, N: Watch> Stored for MachineStored<'a, S, N> {
+    ghost content = { λ _. None };
+
+    ghost fails = { λ _. ⊤ };
+
+    fn size(&self) -> Result<u64, DeviceFault> {
+        match heeded(self.watch, self.file.metadata()) {
+            Some(about) => Ok(about.len()),
+            None => Err(DeviceFault),
+        }
+    }
+
+    fn changed(&self) -> Option<SystemTime> {
+        let about = heeded(self.watch, self.file.metadata())?;
+        heeded(self.watch, about.modified())
+    }
+
+    fn read_at(&self, at: u64, buf: &mut [u8]) -> Result<usize, DeviceFault> {
+        match heeded(self.watch, self.file.read_at(buf, at)) {
+            Some(count) if count <= buf.len() => {
+                self.watch.read(self.number, count);
+                Ok(count)
+            }
+            _ => Err(DeviceFault),
         }
     }
 }
@@ -338,10 +377,15 @@ impl<'a, R: std::rt::Files + Env + AllocGlobal, N: Watch> Machine<'a, R, N> {
     }
 }
 
-impl<'a, R: std::rt::Files + Env + AllocGlobal, N: Watch> Files for Machine<'a, R, N> {
+impl<'a, R: std::rt::Files + Env + AllocGlobal, N: Watch> Files for Machine<'a, R, N>
+where
+    R::File: FileExt,
+{
     type Input = MachineInput<'a, R::File, N>;
 
     type Image = MachineImage<'a, R::File, N>;
+
+    type Stored = MachineStored<'a, R::File, N>;
 
     type Output = MachineFile<'a, R::File, N>;
 
@@ -364,6 +408,14 @@ impl<'a, R: std::rt::Files + Env + AllocGlobal, N: Watch> Files for Machine<'a, 
     ghost left_since = { λ _ _ _. ⊤ };
 
     ghost faults = { λ m. m.faults };
+
+    ghost stored_told = { λ never. absurd never };
+
+    ghost stored_as_input = { λ s. (record { file = s.file; number = s.number; watch = s.watch; faults = 0 }, refl) };
+
+    ghost told_or_silent = { inr (λ _. refl) };
+
+    ghost output_told = { λ never. absurd never };
 
     ghost some_crash = { λ _. (λ _. None, tt) };
 
@@ -397,6 +449,21 @@ impl<'a, R: std::rt::Files + Env + AllocGlobal, N: Watch> Files for Machine<'a, 
                 at: Some(at),
                 faults: 0,
             }),
+            None => Err(DeviceFault),
+        }
+    }
+
+    fn open_stored(&self, path: &str) -> Result<Option<Self::Stored>, DeviceFault> {
+        let size = self.size_of(path);
+        if size.is_none() {
+            return Ok(None);
+        }
+        match heeded(self.watch, fs::open(self.rt, path)) {
+            Some(file) => Ok(Some(MachineStored {
+                file,
+                number: self.watch.opened(size),
+                watch: self.watch,
+            })),
             None => Err(DeviceFault),
         }
     }
@@ -490,6 +557,10 @@ impl<'a, R: std::rt::Files + Env + AllocGlobal, N: Watch> Files for Machine<'a, 
 
     fn make_folder(&mut self, path: &str) -> Result<(), DeviceFault> {
         self.heeded(fs::create_dir(self.rt, path))
+    }
+
+    fn count_fault(&mut self) {
+        self.faults = self.faults.wrapping_add(1);
     }
 
     fn reason(&self) -> Option<Error> {

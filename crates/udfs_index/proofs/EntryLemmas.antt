@@ -1,6 +1,7 @@
 -- The entries of a table, block by block.
-use Rattle.std.proofs.Common.{◌≡◌, ℕ, zero, suc, ◌+◌, ◌-◌, ◌<◌, ◌≤◌, List, [], ◌∷◌, ◌++◌, length, refl, sym, ap, subst, ◌∙◌, append_assoc, append-nil, arith, length-append, ⊎_elim}
-use Rattle.std.specs.List.{flat_map}
+use Rattle.std.proofs.Common.{◌≡◌, ℕ, zero, suc, ◌+◌, ◌-◌, ◌<◌, ◌≤◌, Bool, false, cond, List, [], ◌∷◌, ◌++◌, length, refl, sym, ap, subst, ◌∙◌, append_assoc, append-nil, arith, length-append, ⊎_elim}
+use Rattle.std.specs.List.{flat_map, count_by}
+use Rattle.std.proofs.lemmas.List.Sums.{sum_by-append, sum_by-cons}
 use Rattle.std.proofs.lemmas.Bool.{cases_lt}
 use Rattle.std.proofs.lemmas.List.Concat.{flat_map-append}
 use Rattle.udfs_lattice.specs.declared.facts.Fact.TheVariants.{Unknown, Known, Conflict}
@@ -12,6 +13,10 @@ use Rattle.udfs_lattice.proofs.PublicLaws.{rising_are_entries}
 use Rattle.udfs_reading.specs.PacketFile.{states_from}
 use Rattle.udfs_reading.specs.PacketReading.{entry_at, listed}
 use Rattle.udfs_reading.specs.TableFile.{entry_bytes, file_of, table_header}
+use Rattle.udfs_index.specs.declared.packet.Packet.{Packet}
+use Rattle.udfs_index.specs.Copying.{IsShown}
+use Rattle.udfs_index.specs.Places.{state_by}
+use Rattle.udfs_index.specs.Slots.{slot_at}
 use Rattle.udfs_reading.proofs.PacketStates.{states-next, states-none, length-states, held-states, states-tell, states-append, listed-append, rises-listed, state-past, states-listed}
 
 -- the entries of the blocks below n
@@ -63,6 +68,25 @@ all_entries t n e is =
     (cases_lt q n)) in
     sym (rising_are_entries es rises) ∙ ap entries_of same
 
+-- where nothing is said of the blocks from one on, there are no entries of them
+more_none : (t : Table) (n : ℕ) → state_of t n ≡ Unknown → entries_below t (n + 1) ≡ entries_below t n
+more_none t n none = entries-more t n ∙ ap (λ (s : State). entries_below t n ++ entry_at n s) none ∙ append-nil (entries_below t n)
+
+none_beyond : (t : Table) (n k : ℕ) → ((q : ℕ) → n ≤ q → state_of t q ≡ Unknown) → entries_below t (k + n) ≡ entries_below t n
+none_beyond t n zero none = let z : 0 + n ≡ n = omega arith in ap (entries_below t) z
+none_beyond t n (suc k) none =
+    let z : suc k + n ≡ (k + n) + 1 = omega arith in
+    ap (entries_below t) z ∙ more_none t (k + n) (none (k + n) (omega arith)) ∙ none_beyond t n k none
+
+pub said_entries : (wholes : List (List ℕ)) (packets : List Packet) (t : Table) (end : ℕ) → IsTable t → IsShown wholes packets t → end ≤ 4194304 → ((q : ℕ) → end ≤ q → q < 4194304 → slot_at packets q ≡ Unknown) → entries_below t end ≡ entries_of t
+said_entries wholes packets t end is shown most rest =
+    let z : (4194304 - end) + end ≡ 4194304 = omega (arith, most) in
+    sym (none_beyond t end (4194304 - end) (λ q low. ⊎_elim
+    (λ lt. shown q ∙ ap (state_by wholes) (rest q low lt))
+    (λ le. past_the_last q (state_of t q) le (is q))
+    (cases_lt q 4194304)))
+    ∙ all_entries t ((4194304 - end) + end) z is
+
 -- ---- their bytes
 
 pub spelled_more : (t : Table) (n : ℕ) → flat_map entry_bytes (entries_below t (n + 1)) ≡ flat_map entry_bytes (entries_below t n) ++ flat_map entry_bytes (entry_at n (state_of t n))
@@ -86,11 +110,11 @@ spelled_cut t n end lt =
     )
 
 -- the file of all entries
-pub spelled_whole : (t : Table) (count end : ℕ) → end ≡ 4194304 → IsTable t → count ≡ length (entries_of t) → table_header count ++ flat_map entry_bytes (entries_below t end) ≡ file_of (entries_of t)
+pub spelled_whole : (t : Table) (count end : ℕ) → entries_below t end ≡ entries_of t → count ≡ length (entries_of t) → table_header count ++ flat_map entry_bytes (entries_below t end) ≡ file_of (entries_of t)
 unfolding file_of
-spelled_whole t count end e is many =
+spelled_whole t count end all many =
     ap (λ (n : ℕ). table_header n ++ flat_map entry_bytes (entries_below t end)) many
-    ∙ ap (λ (l : List (ℕ × State)). table_header (length (entries_of t)) ++ flat_map entry_bytes l) (all_entries t end e is)
+    ∙ ap (λ (l : List (ℕ × State)). table_header (length (entries_of t)) ++ flat_map entry_bytes l) all
 
 -- ---- counted
 
@@ -103,6 +127,30 @@ counted_more t n count s is was =
 
 pub counted_step : (t : Table) (n count k : ℕ) (s : State) → state_of t n ≡ s → k ≡ length (entry_at n s) → count ≡ length (entries_below t n) → count + k ≡ length (entries_below t (n + 1))
 counted_step t n count k s is one was = ap (λ (x : ℕ). count + x) one ∙ counted_more t n count s is was
+
+-- ---- counted by their states
+
+-- how many of the entries of the blocks below n have such a state
+pub tallied_none : (test : State → Bool) (t : Table) → 0 ≡ count_by (λ (e : ℕ × State). test e.1) (entries_below t 0)
+tallied_none test t = sym (ap (count_by (λ (e : ℕ × State). test e.1)) (entries-none t))
+
+tallied_one : (test : State → Bool) (n : ℕ) (s : State) → test Unknown ≡ false → count_by (λ (e : ℕ × State). test e.1) (entry_at n s) ≡ cond (test s) 1 0
+tallied_one test n Unknown none = sym (ap (λ (b : Bool). cond b 1 0) none)
+tallied_one test n (Known bytes) none = let z : cond (test (Known bytes)) 1 0 + 0 ≡ cond (test (Known bytes)) 1 0 = omega arith in sum_by-cons (λ (e : ℕ × State). cond (test e.1) 1 0) (n, Known bytes) [] ∙ z
+tallied_one test n Conflict none = let z : cond (test Conflict) 1 0 + 0 ≡ cond (test Conflict) 1 0 = omega arith in sum_by-cons (λ (e : ℕ × State). cond (test e.1) 1 0) (n, Conflict) [] ∙ z
+
+pub tallied_more : (test : State → Bool) (t : Table) (n count : ℕ) (s : State) (b : Bool) → test Unknown ≡ false → state_of t n ≡ s → test s ≡ b → count ≡ count_by (λ (e : ℕ × State). test e.1) (entries_below t n) → count + cond b 1 0 ≡ count_by (λ (e : ℕ × State). test e.1) (entries_below t (n + 1))
+tallied_more test t n count s b none is so was =
+    let f : (ℕ × State) → ℕ = λ e. cond (test e.1) 1 0 in
+    ap (λ (k : ℕ). k + cond b 1 0) was
+    ∙ ap (λ (x : Bool). count_by (λ (e : ℕ × State). test e.1) (entries_below t n) + cond x 1 0) (sym so)
+    ∙ ap (λ (k : ℕ). count_by (λ (e : ℕ × State). test e.1) (entries_below t n) + k) (sym (tallied_one test n s none))
+    ∙ sym (sum_by-append f (entries_below t n) (entry_at n s))
+    ∙ ap (λ (x : State). count_by (λ (e : ℕ × State). test e.1) (entries_below t n ++ entry_at n x)) (sym is)
+    ∙ sym (ap (count_by (λ (e : ℕ × State). test e.1)) (entries-more t n))
+
+pub tallied_all : (test : State → Bool) (t : Table) (n : ℕ) → entries_below t n ≡ entries_of t → count_by (λ (e : ℕ × State). test e.1) (entries_below t n) ≡ count_by (λ (e : ℕ × State). test e.1) (entries_of t)
+tallied_all test t n all = ap (count_by (λ (e : ℕ × State). test e.1)) all
 
 -- ---- one entry
 

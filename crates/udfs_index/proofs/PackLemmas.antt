@@ -41,12 +41,12 @@ mask_in test wholes p (suc m) i k fits bits =
     ∙ ap (λ (b : ℕ). cond (k % 2 == 1) 1 0 + 2 * b) rest
     ∙ ap (λ (b : ℕ). b + 2 * (k / 2)) (low_bit (k % 2) (omega arith)) ∙ omega arith
 
-placed_state : (wholes : List (List ℕ)) (s : Slot) → is_placed s ≡ is_known (state_by wholes s)
+pub placed_state : (wholes : List (List ℕ)) (s : Slot) → is_placed s ≡ is_known (state_by wholes s)
 placed_state wholes Unknown = refl
 placed_state wholes (Known place) = refl
 placed_state wholes Conflict = refl
 
-disputed_state : (wholes : List (List ℕ)) (s : Slot) → is_disputed s ≡ is_conflict (state_by wholes s)
+pub disputed_state : (wholes : List (List ℕ)) (s : Slot) → is_disputed s ≡ is_conflict (state_by wholes s)
 disputed_state wholes Unknown = refl
 disputed_state wholes (Known place) = refl
 disputed_state wholes Conflict = refl

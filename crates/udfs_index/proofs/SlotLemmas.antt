@@ -25,19 +25,20 @@ put_slot k c ps i place j false is small within =
     ap (λ (x : ℕ). slot_by (x == 1) (bit_at c j == 1) (slice_index_or (set ps i place) j 0)) (bit_at_set_other w32 k i small j other)
     ∙ ap (slot_by (bit_at k j == 1) (bit_at c j == 1)) (get_or-set_other ps i j place 0 other)
 
--- block i is put into conflict
-pub dispute_slot : (k c : ℕ) (ps : List ℕ) (i j : ℕ) (b : Bool) → (j == i) ≡ b → i < 32 → j < 32
-    → slot_by (bit_at (bit_and k (bit_not w32 (1 * 2 ^ i % 2 ^ 32))) j == 1) (bit_at (bit_or c (1 * 2 ^ i % 2 ^ 32)) j == 1) (slice_index_or ps j 0) ≡ cond b Conflict (slot_by (bit_at k j == 1) (bit_at c j == 1) (slice_index_or ps j 0))
-dispute_slot k c ps i j true is small near =
+-- block i is put into conflict, and a place is kept for it
+pub dispute_slot : (k c : ℕ) (ps : List ℕ) (i by j : ℕ) (b : Bool) → (j == i) ≡ b → i < 32 → j < 32
+    → slot_by (bit_at (bit_and k (bit_not w32 (1 * 2 ^ i % 2 ^ 32))) j == 1) (bit_at (bit_or c (1 * 2 ^ i % 2 ^ 32)) j == 1) (slice_index_or (set ps i by) j 0) ≡ cond b Conflict (slot_by (bit_at k j == 1) (bit_at c j == 1) (slice_index_or ps j 0))
+dispute_slot k c ps i by j true is small near =
     let same : j ≡ i = eqb-true j i is in
     let clear : bit_at (bit_and k (bit_not w32 (1 * 2 ^ i % 2 ^ 32))) j ≡ 0 = ap (bit_at (bit_and k (bit_not w32 (1 * 2 ^ i % 2 ^ 32)))) same ∙ bit_at_clear_same w32 k i small in
     let bit : bit_at (bit_or c (1 * 2 ^ i % 2 ^ 32)) j ≡ 1 = ap (bit_at (bit_or c (1 * 2 ^ i % 2 ^ 32))) same ∙ bit_at_set_same w32 c i small in
-    ap (λ (x : ℕ). slot_by (x == 1) (bit_at (bit_or c (1 * 2 ^ i % 2 ^ 32)) j == 1) (slice_index_or ps j 0)) clear
-    ∙ ap (λ (x : ℕ). slot_by false (x == 1) (slice_index_or ps j 0)) bit
-dispute_slot k c ps i j false is small near =
+    ap (λ (x : ℕ). slot_by (x == 1) (bit_at (bit_or c (1 * 2 ^ i % 2 ^ 32)) j == 1) (slice_index_or (set ps i by) j 0)) clear
+    ∙ ap (λ (x : ℕ). slot_by false (x == 1) (slice_index_or (set ps i by) j 0)) bit
+dispute_slot k c ps i by j false is small near =
     let other : j ≢ i = eqb-false j i is in
-    ap (λ (x : ℕ). slot_by (x == 1) (bit_at (bit_or c (1 * 2 ^ i % 2 ^ 32)) j == 1) (slice_index_or ps j 0)) (bit_at_clear_other w32 k i small j near other)
-    ∙ ap (λ (x : ℕ). slot_by (bit_at k j == 1) (x == 1) (slice_index_or ps j 0)) (bit_at_set_other w32 c i small j other)
+    ap (λ (x : ℕ). slot_by (x == 1) (bit_at (bit_or c (1 * 2 ^ i % 2 ^ 32)) j == 1) (slice_index_or (set ps i by) j 0)) (bit_at_clear_other w32 k i small j near other)
+    ∙ ap (λ (x : ℕ). slot_by (bit_at k j == 1) (x == 1) (slice_index_or (set ps i by) j 0)) (bit_at_set_other w32 c i small j other)
+    ∙ ap (slot_by (bit_at k j == 1) (bit_at c j == 1)) (get_or-set_other ps i j by 0 other)
 
 -- ---- several packets
 -- of a new packet nothing is known

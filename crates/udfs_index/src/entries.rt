@@ -15,13 +15,10 @@ use crate::copying::{put_header, put_number};
 use crate::fault::CopyFault;
 use crate::inputs::read_from;
 use crate::packet::Packet;
-use crate::places::slot_of;
+use crate::places::{end_of, slot_of};
 use crate::stored::Stored;
 use udfs_lattice::Fact;
 use udfs_reading::{Outgoing, Sink, WriteFault};
-
-/// How many blocks there are at most.
-const BLOCKS: u32 = 4_194_304;
 
 /// The number of a block and the mark of its state, and its bytes.
 fn put_known<W: Sink>(
@@ -94,7 +91,8 @@ fn count_entries(packets: &[Packet]) -> u32
     ensures { (wholes : List (List ℕ)) (t : Table) → IsTable t → IsShown wholes packets.now t → result ≡ length (entries_of t) }
 {
     let mut count = 0;
-    for block in 0..BLOCKS {
+    let end = end_of(packets);
+    for block in 0..end {
         count += entries_in(slot_of(packets, block));
     }
     count
@@ -113,8 +111,9 @@ fn write_entries<S: Stored, W: Sink>(
     ensures reads { (wholes : List (List ℕ)) (t : Table) → IsTable t → contents_of S.content inputs.now ≡ map Some wholes → NoneFails S.fails → IsShown wholes packets.now t → BlamesNone result }
 {
     let count = count_entries(packets);
+    let end = end_of(packets);
     put_header(out, sink, b"UDFTABL1", count)?;
-    for block in 0..BLOCKS {
+    for block in 0..end {
         write_entry(inputs, slot_of(packets, block), block, out, sink)?;
     }
     Ok(())

@@ -5,6 +5,7 @@ ghost use Rattle.std.specs.Prelude.{None, ⊤};
 use crate::stored::Stored;
 use std::fs::OpenFile;
 use std::os::unix::fs::FileExt;
+use std::time::SystemTime;
 use udfs_reading::DeviceFault;
 
 /// A file of the machine as an input. It does not tell what it holds: no contract can say what the system keeps.
@@ -29,6 +30,13 @@ impl<F: FileExt + OpenFile> Stored for StoredFile<F> {
         match self.file.metadata() {
             Ok(about) => Ok(about.len()),
             Err(_) => Err(DeviceFault),
+        }
+    }
+
+    fn changed(&self) -> Option<SystemTime> {
+        match self.file.metadata() {
+            Ok(about) => about.modified().ok(),
+            Err(_) => None,
         }
     }
 

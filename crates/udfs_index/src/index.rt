@@ -2,7 +2,7 @@
 
 ghost use Rattle.std.specs.Prelude.{◌≡◌, ℕ, ◌^◌, ◌≤◌, ◌<◌, length, IfOk, IfSome, OnOk, OnErr};
 ghost use Rattle.udfs_lattice.specs.declared.facts.Fact.TheVariants.{Unknown, Known, Conflict};
-ghost use Rattle.udfs_lattice.specs.Tables.{Table, IsTable, empty_table, join_tables, one_entry, one_record};
+ghost use Rattle.udfs_lattice.specs.Tables.{Table, IsTable, conflict_count, empty_table, known_count, join_tables, one_entry, one_record};
 ghost use Rattle.udfs_reading.specs.PacketFile.{table_bytes};
 ghost use Rattle.udfs_reading.specs.Places.{HasBlockAt};
 ghost use Rattle.udfs_reading.specs.TableFile.{table_bytes_v1};
@@ -11,11 +11,12 @@ ghost use Rattle.udfs_index.specs.Index.{Took, IsAtPlace, IsPlaceOf, contents_of
 ghost use Rattle.udfs_index.specs.Slots.{slot_at};
 
 use crate::cursor::Cursor;
-use crate::fault::CopyFault;
+use crate::fault::{CopyFault, Unread};
 use crate::inputs::{BYTES, read_from};
-use crate::places::Places;
+use crate::places::{NOWHERE, Places, end_of};
+use crate::stamp::Stamp;
 use crate::stored::Stored;
-use crate::{entries, packing};
+use crate::{counting, entries, packing};
 use std::alloc::{AllocError, Global};
 use udfs_lattice::Fact;
 use udfs_reading::{NotTaken, Sink, Taker};
@@ -31,8 +32,10 @@ pub struct Index<'a, S: Stored> {
     inputs: Vec<&'a S>,
     /// Where the front of the input that is taken is, if it could be begun.
     begun: Option<u64>,
-    /// The input, from 0, that could not be looked into.
-    failed: Option<usize>,
+    /// What could not be looked into.
+    failed: Option<Unread>,
+    /// What is told of each input where it is begun.
+    stamps: Vec<Stamp>,
 }
 
 impl<'a, S: Stored> Index<'a, S> {
@@ -49,12 +52,61 @@ impl<'a, S: Stored> Index<'a, S> {
             inputs: Vec::new(alloc),
             begun: None,
             failed: None,
+            stamps: Vec::new(alloc),
         })
     }
 
-    /// The input, from 0, that could not be looked into, where that is why something was not taken.
-    pub fn failed(&self) -> Option<usize> {
+    /// What could not be looked into, where that is why something was not taken.
+    pub fn failed(&self) -> Option<Unread> {
         self.failed
+    }
+
+    /// The first input, from 0, that has another length or another time of its last change than when it was begun, or of which
+    /// this is no longer told.
+    pub fn changed(&self) -> Option<usize> {
+        for (number, (stored, stamp)) in self.inputs.iter().zip(self.stamps.iter()).enumerate() {
+            if !stamp.is_of(*stored) {
+                return Some(number);
+            }
+        }
+        None
+    }
+
+    /// The number of a block from which on nothing is said of any.
+    pub fn end(&self) -> u32 {
+        end_of(&self.places.packets)
+    }
+
+    /// How many blocks are known.
+    pub fn known(&self) -> u32
+        ensures { (t : Table) → IsTable t → AreAllTold S.content → ⟦<Index<'a, S> as Taker<Cursor<'a, S>>>⟧.took self.now t → result ≡ known_count t }
+    {
+        counting::count_known(&self.places.packets)
+    }
+
+    /// How many blocks are in conflict.
+    pub fn conflicts(&self) -> u32
+        ensures { (t : Table) → IsTable t → AreAllTold S.content → ⟦<Index<'a, S> as Taker<Cursor<'a, S>>>⟧.took self.now t → result ≡ conflict_count t }
+    {
+        counting::count_conflicts(&self.places.packets)
+    }
+
+    /// Whether these bytes of a block are those that brought it into conflict.
+    ///
+    /// # Errors
+    ///
+    /// `NotTaken` where those could not be read again.
+    pub fn is_disputed_by(&mut self, block: u32, bytes: &[u8; 2048]) -> Result<bool, NotTaken>
+        ensures same { (t : Table) → ⟦<Index<'a, S> as Taker<Cursor<'a, S>>>⟧.took self.old t → ⟦<Index<'a, S> as Taker<Cursor<'a, S>>>⟧.took self.new t }
+        ensures input { ⟦<Index<'a, S> as Taker<Cursor<'a, S>>>⟧.input self.new ≡ ⟦<Index<'a, S> as Taker<Cursor<'a, S>>>⟧.input self.old }
+    {
+        match self.look(self.places.disputed_by(block)) {
+            Ok(there) => Ok(there == *bytes),
+            Err(unread) => {
+                self.failed = Some(unread);
+                Err(NotTaken)
+            }
+        }
     }
 
     /// What is said of block `n`: its place is the number of its input, from 0, times 2 ^ 44, and how many bytes of that input
@@ -129,33 +181,47 @@ impl<'a, S: Stored> Index<'a, S> {
         }
     }
 
-    /// The bytes at a place, if they can be read.
-    fn look(&self, place: u64) -> Option<[u8; 2048]>
-        ensures { IfSome result (λ there. IsAtPlace (contents_of S.content self.now.inputs.items) place there) }
+    /// The bytes at a place.
+    ///
+    /// # Errors
+    ///
+    /// `Unread` where they could not be read.
+    fn look(&self, place: u64) -> Result<[u8; 2048], Unread>
+        ensures { IfOk result (λ there. IsAtPlace (contents_of S.content self.now.inputs.items) place there) }
     {
         let mut there = [0; 2048];
         match read_from(&self.inputs, place, &mut there) {
-            Ok(()) => Some(there),
-            Err(_) => None,
+            Ok(()) => Ok(there),
+            Err(unread) => Err(unread),
         }
     }
 
-    /// Compares the bytes of a known block with those at its place.
-    fn compare(&mut self, block: u32, bytes: &[u8; 2048], place: u64) -> Result<(), NotTaken>
+    /// Compares the bytes of a known block, which stand behind so many bytes of the input that is taken, with those at its place.
+    fn compare(
+        &mut self,
+        block: u32,
+        bytes: &[u8; 2048],
+        at: u64,
+        place: u64,
+    ) -> Result<(), NotTaken>
         requires block { block ≤ 4194303 }
         requires known { slot_at self.now.places.packets.items block ≡ Known place }
         ensures ok { OnOk result ((t : Table) → Took (contents_of S.content self.old.inputs.items) self.old.places.packets.items t → Took (contents_of S.content self.new.inputs.items) self.new.places.packets.items (join_tables t (one_record block bytes.now))) }
         ensures err { OnErr result ((t : Table) → Took (contents_of S.content self.old.inputs.items) self.old.places.packets.items t → Took (contents_of S.content self.new.inputs.items) self.new.places.packets.items t) }
         ensures input { input_by (contents_of S.content self.new.inputs.items) self.new.begun ≡ input_by (contents_of S.content self.old.inputs.items) self.old.begun }
     {
-        let Some(there) = self.look(place) else {
-            self.failed = Some((place / BYTES) as usize);
-            return Err(NotTaken);
+        let there = match self.look(place) {
+            Ok(there) => there,
+            Err(unread) => {
+                self.failed = Some(unread);
+                return Err(NotTaken);
+            }
         };
         if there == *bytes {
             return Ok(());
         }
-        match self.places.dispute(block) {
+        let by = self.place_of(at).unwrap_or(NOWHERE);
+        match self.places.dispute(block, by) {
             Ok(()) => Ok(()),
             Err(_) => Err(NotTaken),
         }
@@ -172,25 +238,32 @@ impl<'a, S: Stored> Taker<Cursor<'a, S>> for Index<'a, S> {
         self.begun = None;
         match stored.size() {
             Ok(size) if size < BYTES => {
-                if self.inputs.push(stored).is_ok() {
+                if self.stamps.push(Stamp::new(stored, size)).is_ok()
+                    && self.inputs.push(stored).is_ok()
+                {
                     self.begun = Some(at);
                 }
             }
             Ok(_) => {}
-            Err(_) => self.failed = Some(self.inputs.len()),
+            Err(_) => {
+                self.failed = Some(Unread {
+                    input: self.inputs.len(),
+                    at: 0,
+                });
+            }
         }
     }
 
     fn put(&mut self, block: u32, bytes: &[u8; 2048], at: u64) -> Result<(), NotTaken> {
         match self.places.slot(block) {
             Fact::Unknown => self.keep(block, bytes, at),
-            Fact::Known(place) => self.compare(block, bytes, place),
+            Fact::Known(place) => self.compare(block, bytes, at, place),
             Fact::Conflict => Ok(()),
         }
     }
 
     fn dispute(&mut self, block: u32) -> Result<(), NotTaken> {
-        match self.places.dispute(block) {
+        match self.places.dispute(block, NOWHERE) {
             Ok(()) => Ok(()),
             Err(_) => Err(NotTaken),
         }

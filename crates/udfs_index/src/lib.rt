@@ -4,6 +4,7 @@
 
 mod bytes;
 mod copying;
+mod counting;
 mod cursor;
 mod entries;
 mod fault;
@@ -14,7 +15,9 @@ pub mod laws;
 mod packet;
 mod packing;
 mod places;
+mod record;
 mod runs;
+mod stamp;
 mod stored;
 
 pub use bytes::StoredBytes;
@@ -22,7 +25,5 @@ pub use cursor::Cursor;
 pub use fault::{CopyFault, Unread};
 pub use file::StoredFile;
 pub use index::Index;
+pub use record::{END, record_at, record_count};
 pub use stored::Stored;
-
-#[cfg(test)]
-mod tests;

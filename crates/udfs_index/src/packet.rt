@@ -7,8 +7,8 @@ ghost use Rattle.udfs_index.specs.Slots.{IsSlotSet, slot_in, is_placed, is_dispu
 
 use udfs_lattice::Fact;
 
-/// What is said of 32 blocks: a mask of the known ones, a mask of those in conflict, of which a known one is none, and the
-/// place of each known one.
+/// What is said of 32 blocks: a mask of the known ones, a mask of those in conflict, of which a known one is none, the place
+/// of each known one, and for one in conflict that of the bytes that brought it there.
 #[derive(Clone, Copy)]
 pub struct Packet {
     known: u32,
@@ -53,6 +53,13 @@ impl Packet {
         (self.known, self.conflict & !self.known)
     }
 
+    /// Where the bytes stand that brought block `i` into conflict, if it is.
+    pub fn disputed_by(&self, i: u32) -> u64
+        requires { i < 32 }
+    {
+        self.places[i as usize]
+    }
+
     /// Block `i` is known, and its bytes stand there.
     pub fn put(&mut self, i: u32, place: u64)
         requires { i < 32 }
@@ -62,11 +69,12 @@ impl Packet {
         self.known |= 1 << i;
     }
 
-    /// Block `i` is in conflict.
-    pub fn dispute(&mut self, i: u32)
+    /// Block `i` is in conflict. The bytes that brought it there stand at `by`.
+    pub fn dispute(&mut self, i: u32, by: u64)
         requires { i < 32 }
         ensures { IsSlotSet self.old i Conflict self.new }
     {
+        self.places[i as usize] = by;
         self.known &= !(1 << i);
         self.conflict |= 1 << i;
     }

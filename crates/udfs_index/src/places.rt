@@ -11,6 +11,12 @@ use udfs_lattice::Fact;
 /// How many packets of 32 blocks there are at most.
 const PACKETS: usize = 131_072;
 
+/// How many blocks there are at most.
+const BLOCKS: u32 = 4_194_304;
+
+/// A place in no input.
+pub const NOWHERE: u64 = u64::MAX;
+
 /// What is said of each block. There is room for all packets from the beginning, 36 MB at most; the system gives as much of
 /// it as is written, up to the highest block.
 #[derive(Drop)]
@@ -25,6 +31,18 @@ pub fn slot_of(packets: &[Packet], n: u32) -> Fact<u64>
     match packets.get((n / 32) as usize) {
         Some(packet) => packet.slot(n % 32),
         None => Fact::Unknown,
+    }
+}
+
+/// The number of a block from which on nothing is said of any.
+pub fn end_of(packets: &[Packet]) -> u32
+    ensures most { result ≤ 4194304 }
+    ensures rest { (q : ℕ) → result ≤ q → q < 4194304 → slot_at packets.now q ≡ Unknown }
+{
+    if packets.len() < PACKETS {
+        packets.len() as u32 * 32
+    } else {
+        BLOCKS
     }
 }
 
@@ -77,19 +95,27 @@ impl Places {
         Ok(())
     }
 
-    /// Block `n` is in conflict.
+    /// Where the bytes stand that brought block `n` into conflict, if it is.
+    pub fn disputed_by(&self, n: u32) -> u64 {
+        match self.packets.get((n / 32) as usize) {
+            Some(packet) => packet.disputed_by(n % 32),
+            None => NOWHERE,
+        }
+    }
+
+    /// Block `n` is in conflict. The bytes that brought it there stand at `by`.
     ///
     /// # Errors
     ///
     /// As [`put`](Self::put).
-    pub fn dispute(&mut self, n: u32) -> Result<(), AllocError>
+    pub fn dispute(&mut self, n: u32, by: u64) -> Result<(), AllocError>
         requires { n ≤ 4194303 }
         ensures ok { OnOk result (AreSlotsSet self.old.packets.items n Conflict self.new.packets.items) }
         ensures err { OnErr result (AreSlotsSame self.old.packets.items self.new.packets.items) }
     {
         let number = (n / 32) as usize;
         reach(&mut self.packets, number)?;
-        self.packets[number].dispute(n % 32);
+        self.packets[number].dispute(n % 32, by);
         Ok(())
     }
 }

@@ -2,6 +2,7 @@
 
 ghost use Rattle.std.specs.Prelude.{◌≡◌, ℕ, ◌+◌, ◌^◌, ◌≤◌, ◌<◌, List, Option, length, take, drop, true, false, IfOk, IfSome, OnErr};
 
+use std::time::SystemTime;
 use udfs_reading::DeviceFault;
 
 /// What is read at positions, and does not change meanwhile: a file, or bytes in memory.
@@ -20,6 +21,11 @@ pub trait Stored {
     fn size(&self) -> Result<u64, DeviceFault>
         ensures value { IfSome (content self.now) (λ all. IfOk result (λ n. n ≡ length all)) }
         ensures fails { OnErr result (fails self.now) };
+
+    /// When its bytes were last changed, where that is told.
+    fn changed(&self) -> Option<SystemTime> {
+        None
+    }
 
     /// Reads the bytes from position `at` on into the front of the buffer, and answers how many came. Into some room it
     /// answers 0 only at or after the end.

@@ -13,3 +13,7 @@ pub only_now : (es : List Event) (c : Disk) → outcome_since es (length es) c �
 only_now [] c left = left
 only_now (e ∷ es) c (inl now) = now
 only_now (e ∷ es) c (inr before) = absurd (omega (arith, before.0))
+
+-- there are none at least
+pub least : (xs : List ℕ) → 0 ≤ length xs
+least xs = omega arith

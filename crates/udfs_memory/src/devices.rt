@@ -3,8 +3,10 @@
 ghost use Rattle.std.specs.Prelude.{◌≡◌, ◌≤◌, ◌<◌, ℕ, List, Option, length, Some, drop, [], MatchOption, ⊤};
 
 use std::alloc::Global;
+use std::cell::Cell;
 use std::io::Read;
 use udfs_files::Handle;
+use udfs_index::{Stored, StoredBytes};
 use udfs_reading::{DeviceFault, Sink, Source};
 use udfs_rescue::Image;
 
@@ -128,6 +130,49 @@ impl Image for MemoryImage {
         let count = rest.len().min(buf.len()).min(most);
         buf[..count].copy_from_slice(&rest[..count]);
         self.device.good = self.device.good.saturating_sub(count);
+        Ok(count)
+    }
+}
+
+/// An opened regular file, read at positions.
+#[derive(Drop)]
+pub struct MemoryStored {
+    bytes: Vec<u8>,
+    most: usize,
+    /// After how many more bytes its device fails.
+    good: Cell<usize>,
+}
+
+impl MemoryStored {
+    /// A file of these bytes on a device.
+    pub fn new(bytes: Vec<u8>, device: Device) -> MemoryStored
+        ensures { ⟦<MemoryStored as Stored>⟧.content result ≡ Some bytes.items }
+    {
+        MemoryStored {
+            bytes,
+            most: device.most,
+            good: Cell::new(device.good),
+        }
+    }
+}
+
+impl Stored for MemoryStored {
+    ghost content = { λ s. Some s.bytes.items };
+
+    ghost fails = { λ _. ⊤ };
+
+    fn size(&self) -> Result<u64, DeviceFault> {
+        Ok(self.bytes.len() as u64)
+    }
+
+    fn read_at(&self, at: u64, buf: &mut [u8]) -> Result<usize, DeviceFault> {
+        let most = self.most.min(self.good.get());
+        if most == 0 && !buf.is_empty() {
+            return Err(DeviceFault);
+        }
+        let room = buf.len().min(most);
+        let count = StoredBytes::new(self.bytes.as_slice()).read_at(at, &mut buf[..room])?;
+        self.good.set(self.good.get().saturating_sub(count));
         Ok(count)
     }
 }

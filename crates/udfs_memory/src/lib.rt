@@ -6,5 +6,5 @@ mod devices;
 mod memory;
 mod modified;
 
-pub use devices::{Device, MemoryFile, MemoryImage, MemoryInput, SOUND};
+pub use devices::{Device, MemoryFile, MemoryImage, MemoryInput, MemoryStored, SOUND};
 pub use memory::Memory;

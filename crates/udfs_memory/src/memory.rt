@@ -1,13 +1,15 @@
 //! Files in memory that can crash. What is kept is the log of the calls, and what the files hold is read from it.
 
+ghost use Rattle.std.proofs.Common.{refl};
 ghost use Rattle.std.specs.Prelude.{◌≡◌, ℕ, List, Option, length, true, Some, None, IfOk, OnOk, OnErr, IsErr, [], ◌∷◌, take, ◌≤◌, bytes_eq, ⊤};
 ghost use Rattle.udfs_memory.specs.Log.{held, may_be_kept, crash_outcome, outcome_since, search_result};
 ghost use Rattle.udfs_memory.specs.Survivors.{absent_kept as log_absent_kept, lost, lost_may_be, option_now, beside};
-ghost use Rattle.udfs_memory.specs.Laws.{counts_now as log_counts_now, only_now as log_only_now};
+ghost use Rattle.udfs_memory.specs.Laws.{counts_now as log_counts_now, least, only_now as log_only_now};
+ghost use Rattle.std.proofs.Common.{false, inl};
 ghost use Rattle.udfs_files.specs.Disk.{folder_of, has_slash};
 ghost use Rattle.udfs_reading.specs.Device.{CountsFault};
 
-use crate::devices::{Device, MemoryFile, MemoryImage, MemoryInput, SOUND};
+use crate::devices::{Device, MemoryFile, MemoryImage, MemoryInput, MemoryStored, SOUND};
 use crate::modified::ModifiedTimes;
 use std::alloc::{AllocError, Global};
 use std::cell::{Cell, RefCell};
@@ -335,6 +337,8 @@ impl Files for Memory {
 
     type Image = MemoryImage;
 
+    type Stored = MemoryStored;
+
     type Output = MemoryFile;
 
     ghost tells = { Unit {0} };
@@ -357,6 +361,14 @@ impl Files for Memory {
 
     ghost faults = { λ m. m.faults };
 
+    ghost stored_told = { λ _ s. (s.bytes.items, refl) };
+
+    ghost stored_as_input = { λ s. (record { bytes = s.bytes; at = 0; device = record { most = s.most; good = 0; takes_none = false }; faults = 0; within = least s.bytes.items }, refl) };
+
+    ghost told_or_silent = { inl (λ s. (s.bytes.items, refl)) };
+
+    ghost output_told = { λ _ f. (f.bytes.items, refl) };
+
     ghost some_crash = { λ m. (lost m.log.items, lost_may_be m.log.items) };
 
     ghost absent_kept = { λ m q c told absent kept. log_absent_kept m.log.items q c absent kept };
@@ -376,6 +388,17 @@ impl Files for Memory {
         match find(&self.log, path.as_bytes()) {
             Found::Bytes(bytes) => Ok(MemoryImage::new(self.copied(bytes)?, self.inputs)),
             Found::Open | Found::Absent => Err(DeviceFault),
+        }
+    }
+
+    /// Paths that begin with `dev/` are devices, and folders are no files: neither is read at positions.
+    fn open_stored(&self, path: &str) -> Result<Option<MemoryStored>, DeviceFault> {
+        if path.starts_with("dev/") || self.has_folder(path) {
+            return Ok(None);
+        }
+        match find(&self.log, path.as_bytes()) {
+            Found::Bytes(bytes) => Ok(Some(MemoryStored::new(self.copied(bytes)?, self.inputs))),
+            Found::Open | Found::Absent => Ok(None),
         }
     }
 
@@ -500,6 +523,10 @@ impl Files for Memory {
                 self.fail()
             }
         }
+    }
+
+    fn count_fault(&mut self) {
+        self.faults = self.faults.wrapping_add(1);
     }
 
     fn reason(&self) -> Option<Error> {

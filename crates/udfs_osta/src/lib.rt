@@ -26,6 +26,3 @@ pub use names::{Name, NameFault, units_make_names};
 pub use pieces::EscapedBytes;
 pub use stamps::{Stamp, days_tell_dates, local_text_shows_fields};
 pub use texts::OutOfMemory;
-
-#[cfg(test)]
-mod tests;

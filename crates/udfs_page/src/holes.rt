@@ -56,7 +56,7 @@ fn first_ranges(holes: &[(u64, u64)]) -> &[(u64, u64)]
 }
 
 /// The runs of lost bytes that are shown, and how many more there are.
-pub(crate) fn push_ranges(text: &mut String, holes: &[(u64, u64)]) -> Result<(), OutOfMemory>
+pub fn push_ranges(text: &mut String, holes: &[(u64, u64)]) -> Result<(), OutOfMemory>
     ensures { OnOk result (string_bytes text.new ≡ string_bytes text.old ++ ranges_html holes.now) }
 {
     push_all_ranges(text, first_ranges(holes))?;
@@ -64,7 +64,7 @@ pub(crate) fn push_ranges(text: &mut String, holes: &[(u64, u64)]) -> Result<(),
 }
 
 /// The ends of so many folders.
-pub(crate) fn push_closings(text: &mut String, count: usize) -> Result<(), OutOfMemory>
+pub fn push_closings(text: &mut String, count: usize) -> Result<(), OutOfMemory>
     ensures { OnOk result (string_bytes text.new ≡ string_bytes text.old ++ closings count) }
 {
     for _ in 0..count {

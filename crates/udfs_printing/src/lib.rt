@@ -9,6 +9,3 @@ pub mod laws;
 mod printer;
 
 pub use printer::Printer;
-
-#[cfg(test)]
-mod tests;

@@ -25,16 +25,3 @@ pub use inputs::{InputError, join_inputs, take_inputs};
 pub use packing::write_table;
 pub use taker::{NotTaken, Taker};
 pub use writing::{Outgoing, WriteFault, write_all, write_table_v1};
-
-#[cfg(test)]
-mod calls;
-#[cfg(test)]
-mod ordered;
-#[cfg(test)]
-mod packet_tests;
-#[cfg(test)]
-mod steps;
-#[cfg(test)]
-mod taking;
-#[cfg(test)]
-mod tests;

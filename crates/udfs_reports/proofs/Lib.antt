@@ -1,2 +1,3 @@
 pub mod PagingLemmas
 pub mod RereadingLemmas
+pub mod TellingLemmas

@@ -1,3 +1,4 @@
+pub mod Telling
 pub mod Rereading
 pub mod Listing
 pub mod Summarizing

@@ -1,5 +1,7 @@
 -- What a command prints of the blocks to read again, and the mapfile that it writes of them.
---     PrintsNumbers       their numbers were printed
+--     numbers_of          the lines of their numbers
+--     PrintsNumbers       these were printed
+--     IsRefusedDomain     the mapfile was not put, and why
 --     PrintsDomain        the mapfile was put, and their count and that of their runs were printed
 --     WritesDomain        the same, as the words of the command ask for
 --     MayDomain           what a crash in the middle shows: what was there, or the mapfile in its place
@@ -10,7 +12,7 @@ use Rattle.std.specs.Prelude.{◌≡◌, ◌⊎◌, ℕ, ◌+◌, ◌++◌, ◌=
 use Rattle.clap.specs.declared.parser.matches.Found.{Found}
 use Rattle.udfs_files.specs.Disk.{Disk, Same, Replaced, After, IsOwn}
 use Rattle.udfs_lattice.specs.Tables.{Table, state_of}
-use Rattle.udfs_reading.specs.Writing.{Wrote}
+use Rattle.udfs_reading.specs.Writing.{Failed, Wrote}
 use Rattle.udfs_volume.specs.declared.profiles.Profile.{Profile}
 use Rattle.udfs_rescue.specs.Writing.{domain_text}
 use Rattle.udfs_salvage.specs.Reports.{Report, IsReportBy, all_whole}
@@ -18,15 +20,19 @@ use Rattle.udfs_salvage.specs.RereadTexts.{number_lines}
 use Rattle.udfs_salvage.specs.Texts.{line}
 use Rattle.udfs_words.specs.Asking.{IsLast, IsProfile, asked_for, asked_inputs, is_mapped, mapfile_text}
 use Rattle.udfs_common.specs.Keeping.{OfPaths}
+use Rattle.udfs_common.specs.declared.refusal.Refusal.{Refusal}
+use Rattle.udfs_common.specs.declared.refusal.Refusal.TheVariants.{Output}
 use Rattle.udfs_words.specs.declared.input_path.InputPath.{InputPath}
 use Rattle.udfs_reading.specs.Device.{Stream}
+use Rattle.udfs_reports.specs.Telling.{IsUntold, IsUnput, Tells}
 
--- the numbers of the table's report by the rules of a profile were printed, and the answer is whether there are nodes and all are whole
-pub record PrintsNumbers (profile : Profile) (last : ℕ) (old new : Stream) (whole : Bool) (table : Table) : Type 0 where
-  pub report : Report
-  pub is_report : IsReportBy profile (state_of table) last report
-  pub prints : Wrote old new (number_lines report.reread)
-  pub says : whole ≡ all_whole report.nodes
+-- the lines of the numbers of a report's blocks to read again
+abbrev pub numbers_of : Profile → Table → ℕ → Report → List ℕ
+numbers_of profile table last report = number_lines report.reread
+
+-- those of the table's report by the rules of a profile were printed, and the answer is whether there are nodes and all are whole
+abbrev pub PrintsNumbers : Profile → ℕ → Stream → Stream → Bool → Table → Type 0
+PrintsNumbers profile last old new whole table = Tells numbers_of profile last old new whole table
 
 -- how many of these blocks do not follow on the one before them, the first of which is block n
 abbrev pub breaks : ℕ → List ℕ → ℕ
@@ -49,6 +55,11 @@ pub record PrintsDomain (profile : Profile) (last : ℕ) (Put : List ℕ → Typ
   pub put : Put (domain_text report.reread last)
   pub prints : Wrote old new (domain_line report.reread)
   pub says : whole ≡ all_whole report.nodes
+
+-- there was no report, and nothing was printed; or their count was not printed whole, or it was and the mapfile was not put
+abbrev pub IsRefusedDomain : Type 0 → Profile → ℕ → Stream → Stream → Refusal → Table → Type 0
+IsRefusedDomain Unmade profile last old new refusal table = ((new ≡ old) × IsUntold profile last refusal table) ⊎ ((report : Report) × IsReportBy profile (state_of table) last report ×
+    (((refusal ≡ Output) × Failed old new (domain_line report.reread)) ⊎ (Wrote old new (domain_line report.reread) × IsUnput Unmade refusal)))
 
 -- of the inputs, the last block and the rules that the words ask for
 pub record WritesDomain {R : Type 0} (found : List ℕ → Option (Option (List ℕ))) (remaining : R → Option (List ℕ)) (words : Found) (Put : List ℕ → Type 0) (old new : Stream) (whole : Bool) : Type 0 where

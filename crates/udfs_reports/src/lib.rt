@@ -11,3 +11,4 @@ mod reread;
 mod reread_map;
 pub mod reread_words;
 mod summary;
+mod telling;

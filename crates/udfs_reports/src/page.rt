@@ -1,11 +1,13 @@
 //! The command `page`: readings in, the page of their volume out.
 
-ghost use Rattle.std.specs.Prelude.{◌≡◌, ◌≢◌, ◌⊎◌, ℕ, List, true, IfOk, OnErr, map};
+ghost use Rattle.std.specs.Prelude.{◌≡◌, ◌≢◌, ◌⊎◌, ℕ, List, true, IfOk, IfErr, OnErr, map};
 ghost use Rattle.udfs_files.specs.Disk.{After, Disk, Fails, SinkFails, IsOwn};
 ghost use Rattle.udfs_common.specs.Keeping.{IsKept, IsTaken, OfPaths, RefusedOut};
-ghost use Rattle.udfs_reports.specs.Paging.{IsFreePage, IsPage, MayPage, MayPageOf, PutsPage};
+ghost use Rattle.udfs_reports.specs.Paging.{IsFreePage, IsPage, IsSparedPage, MayNotBeSeen, MayPage, MayPageOf, PutsPage};
+ghost use Rattle.udfs_reports.specs.Telling.{IsRefusedPut, OfPathsRefused};
 ghost use Rattle.udfs_common.specs.declared.sources.AnySource.{AnySource};
 
+use crate::telling::surveyed;
 use std::alloc::{AllocError, Global};
 use udfs_common::files::Files;
 use udfs_common::guard::{Outlook, is_among, is_kind};
@@ -17,7 +19,6 @@ use udfs_files::{Content, Kind, Stage};
 use udfs_lattice::BlockTable;
 use udfs_page::push_page;
 use udfs_reading::{DeviceFault, Sink, Source, WriteFault, write_all};
-use udfs_salvage::survey_volume_by;
 use udfs_volume::Profile;
 use udfs_words::input_path::InputPath;
 
@@ -47,6 +48,8 @@ pub fn look_at_page<F: Files>(
     files: &F,
 ) -> Result<Outlook, AllocError>
     ensures free { IfOk result (λ found. found ≡ Outlook.Free → F.tells → IsFreePage (F.holds files.now) (F.real files.now) (F.in_place files.now) (map (λ path. path.now) inputs.now) (map (λ path. path.now) parts.now) out.now) }
+    ensures spared { IfOk result (λ found. found ≡ Outlook.Spared → F.tells → IsSparedPage (F.holds files.now) (F.real files.now) (map (λ path. path.now) inputs.now) (map (λ path. path.now) parts.now) out.now) }
+    ensures unknown { IfOk result (λ found. found ≡ Outlook.Unknown → MayNotBeSeen (F.shut files.now) (Fails F.Input.faults) (map (λ path. path.now) inputs.now) (map (λ path. path.now) parts.now) out.now) }
 {
     let Ok(place) = files.resolve(alloc, out)? else {
         return Ok(Outlook::Unknown);
@@ -88,11 +91,17 @@ fn page_of<F: Files>(
     // A refusal leaves all as it was; or a call failed, and then the path holds what it held or the new file, whole.
     ensures left { OnErr result (RefusedOut F.tells F.holds F.real F.in_place (F.shut files.old path.now ⊎ Fails F.faults ⊎ SinkFails F.Output.stream) path.now files.old files.new
         (λ Put. IsPage profile last Put table.now)) }
+    ensures refused { IfErr result (λ refusal. IsRefusedPut (F.shut files.old path.now ⊎ Fails F.faults ⊎ SinkFails F.Output.stream) profile last refusal table.now) }
 {
     files.begin(Stage::Walking);
-    let survey = survey_volume_by(alloc, table, last, profile)?;
+    let survey = match surveyed(alloc, table, last, profile) {
+        Ok(survey) => survey,
+        Err(refusal) => return Err(refusal),
+    };
     let mut text = String::new(alloc);
-    push_page(alloc, &mut text, &survey)?;
+    if push_page(alloc, &mut text, &survey).is_err() {
+        return Err(Refusal::Memory(AllocError));
+    }
     let page = PageText {
         text: text.as_str(),
     };
@@ -121,6 +130,9 @@ pub fn page<F: Files>(
     // A refusal leaves all as it was; or a call failed, and then the path holds what it held or the new file, whole.
     ensures left { OnErr result (RefusedOut F.tells F.holds F.real F.in_place (F.shut files.old path.now ⊎ Fails F.faults ⊎ SinkFails F.Output.stream) path.now files.old files.new
         (λ Put. OfPaths (λ path. F.holds files.old (F.real files.old path)) (⟦<AnySource<F::Input, F::Image> as Source>⟧.remaining) inputs.now (IsPage profile last Put))) }
+    // The inputs were not joined, or their table has no report, or its page was not put.
+    ensures refused { IfErr result (OfPathsRefused (λ path. F.holds files.old (F.real files.old path)) (F.shut files.old) (⟦<AnySource<F::Input, F::Image> as Source>⟧.remaining) (⟦<AnySource<F::Input, F::Image> as Source>⟧.faults) inputs.now
+        (files.new ≡ files.old) (IsRefusedPut (F.shut files.old path.now ⊎ Fails F.faults ⊎ SinkFails F.Output.stream) profile last)) }
 {
     let table = match joined(alloc, inputs, files) {
         Ok(table) => table,

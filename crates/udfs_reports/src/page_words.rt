@@ -1,11 +1,12 @@
 //! What the words after `page` ask for.
 
-ghost use Rattle.std.specs.Prelude.{◌≡◌, ◌≢◌, ◌⊎◌, ℕ, List, IfOk, OnErr, OnOk, map};
+ghost use Rattle.std.specs.Prelude.{◌≡◌, ◌≢◌, ◌⊎◌, ℕ, List, IfOk, IfErr, OnErr, OnOk, alloc_error, map};
 ghost use Rattle.clap.specs.Matches.{found_of};
 ghost use Rattle.udfs_files.specs.Disk.{After, Disk, Fails, SinkFails, IsOwn};
-ghost use Rattle.udfs_words.specs.Asking.{input_texts, pair_texts};
+ghost use Rattle.udfs_words.specs.Asking.{asked_streams, input_texts, pair_texts};
 ghost use Rattle.udfs_common.specs.Keeping.{IsKept, IsTaken, RefusedOut};
-ghost use Rattle.udfs_reports.specs.Paging.{IsFreePage, MayPageAsked, PageAsked, WritesPage, page_path};
+ghost use Rattle.udfs_reports.specs.Paging.{IsFreePage, IsSparedPage, MayNotBeSeen, MayPageAsked, PageAsked, WritesPage, page_path};
+ghost use Rattle.udfs_reports.specs.Telling.{AskedRefused, IsRefusedPut};
 ghost use Rattle.udfs_common.specs.declared.sources.AnySource.{AnySource};
 
 use crate::page::{look_at_page, page};
@@ -37,6 +38,8 @@ fn asked_page_outlook<F: Files>(
     files: &F,
 ) -> Result<Outlook, AllocError>
     ensures free { IfOk result (λ found. found ≡ Outlook.Free → F.tells → IsFreePage (F.holds files.now) (F.real files.now) (F.in_place files.now) (input_texts (found_of words.now)) (pair_texts (found_of words.now)) (page_path (found_of words.now))) }
+    ensures spared { IfOk result (λ found. found ≡ Outlook.Spared → F.tells → IsSparedPage (F.holds files.now) (F.real files.now) (input_texts (found_of words.now)) (pair_texts (found_of words.now)) (page_path (found_of words.now))) }
+    ensures unknown { IfOk result (λ found. found ≡ Outlook.Unknown → MayNotBeSeen (F.shut files.now) (Fails F.Input.faults) (input_texts (found_of words.now)) (pair_texts (found_of words.now)) (page_path (found_of words.now))) }
 {
     let inputs = words.get_strs(INPUTS).unwrap_or(&[]);
     let parts = words.get_strs(PAIRS).unwrap_or(&[]);
@@ -62,8 +65,16 @@ pub fn page_words<F: Files>(
     // A refusal leaves all as it was; or a call failed, and then the path holds what it held or the new file, whole.
     ensures left { OnErr result (RefusedOut F.tells F.holds F.real F.in_place (F.shut files.old (page_path (found_of words.now)) ⊎ Fails F.faults ⊎ SinkFails F.Output.stream) (page_path (found_of words.now)) files.old files.new
         (PageAsked (λ path. F.holds files.old (F.real files.old path)) (⟦<AnySource<F::Input, F::Image> as Source>⟧.remaining) (found_of words.now))) }
+    // Why it is refused: what is there is spared or could not be looked at, or the last block or the inputs are to blame, or their table has no report, or its page was not put.
+    ensures refused { IfErr result (λ refusal. ((files.new ≡ files.old) × (refusal ≡ Refusal.Memory alloc_error)) ⊎ ((refusal ≡ Refusal.Spared) × (F.tells → IsSparedPage (F.holds files.old) (F.real files.old) (input_texts (found_of words.now)) (pair_texts (found_of words.now)) (page_path (found_of words.now)))) ⊎
+        ((refusal ≡ Refusal.Output) × MayNotBeSeen (F.shut files.old) (Fails F.Input.faults) (input_texts (found_of words.now)) (pair_texts (found_of words.now)) (page_path (found_of words.now))) ⊎
+        AskedRefused (λ path. F.holds files.old (F.real files.old path)) (F.shut files.old) (⟦<AnySource<F::Input, F::Image> as Source>⟧.remaining) (⟦<AnySource<F::Input, F::Image> as Source>⟧.faults) (found_of words.now) (asked_streams (found_of words.now)) (files.new ≡ files.old)
+        (IsRefusedPut (F.shut files.old (page_path (found_of words.now)) ⊎ Fails F.faults ⊎ SinkFails F.Output.stream)) refusal) }
 {
-    let inputs = asked_streams(alloc, words)?;
+    let inputs = match asked_streams(alloc, words) {
+        Ok(inputs) => inputs,
+        Err(AllocError) => return Err(Refusal::Memory(AllocError)),
+    };
     let paths = inputs.as_slice();
     match asked_page_outlook(alloc, words, files) {
         Ok(Outlook::Free) => {}
@@ -71,7 +82,10 @@ pub fn page_words<F: Files>(
         Ok(Outlook::Unknown) => return Err(unwritten(alloc, paths, files)),
         Err(AllocError) => return Err(Refusal::Memory(AllocError)),
     }
-    let last = asked_end(alloc, words, paths, files)?;
+    let last = match asked_end(alloc, words, paths, files) {
+        Ok(last) => last,
+        Err(refusal) => return Err(refusal),
+    };
     let profile = asked_profile(words);
     match page(alloc, paths, last, profile, asked_page(words), files) {
         Ok(whole) => Ok(whole),

@@ -1,24 +1,20 @@
-//! The command `report`: readings in, the report of their volume out.
+//! What `report` prints: the report of a volume, as text or as JSON.
 
-ghost use Rattle.std.specs.Prelude.{IfOk};
 ghost use Rattle.udfs_salvage.specs.Printing.{Prints};
 ghost use Rattle.udfs_salvage.specs.Surveys.{survey_now};
-ghost use Rattle.udfs_common.specs.Keeping.{OfPaths};
-ghost use Rattle.udfs_reports.specs.Reporting.{PrintsAs, form_text};
-ghost use Rattle.udfs_common.specs.declared.sources.AnySource.{AnySource};
+ghost use Rattle.udfs_reports.specs.Reporting.{form_text};
 
+use crate::telling::{Telling, surveyed};
 use std::alloc::Global;
 use udfs_common::files::Files;
-use udfs_common::inputs::joined;
 use udfs_common::refusal::Refusal;
 use udfs_common::remarks::remark_on;
-use udfs_common::sources::AnySource;
 use udfs_files::Stage;
-use udfs_reading::{Sink, Source};
-use udfs_salvage::{RunError, Survey, survey_volume_by, write_json, write_survey};
+use udfs_lattice::BlockTable;
+use udfs_reading::Sink;
+use udfs_salvage::{RunError, Survey, write_json, write_survey};
 use udfs_volume::Profile;
 use udfs_words::forms::Form;
-use udfs_words::input_path::InputPath;
 
 /// Prints the report that a survey stands for in this form, piece by piece: where memory is refused, a beginning of it may be out.
 fn write_as<O: Sink>(
@@ -36,29 +32,35 @@ fn write_as<O: Sink>(
     }
 }
 
-/// Joins the inputs, and prints the report by the rules of a profile, in this form, of the volume of which `last` is the last block. It answers whether
-/// there are files and all of them are whole. All inputs are opened in order before one is read. No more is held in memory than a survey of the volume, and
-/// what is missing of one node.
-pub fn report_as<F: Files, O: Sink>(
-    alloc: Global,
-    inputs: &[InputPath<'_>],
-    last: u32,
-    profile: Profile,
-    form: Form,
-    files: &F,
-    out: &mut O,
-) -> Result<bool, Refusal>
-    ensures printed { IfOk result (λ whole. OfPaths (λ path. F.holds files.now (F.real files.now path)) (⟦<AnySource<F::Input, F::Image> as Source>⟧.remaining) inputs.now
-        (PrintsAs profile form last (O.stream out.old) (O.stream out.new) whole)) }
-{
-    let table = joined(alloc, inputs, files)?;
-    files.begin(Stage::Walking);
-    let survey = survey_volume_by(alloc, &table, last, profile)?;
-    match write_as(alloc, &survey, form, out) {
-        Ok(()) => {
-            remark_on(alloc, &survey, files);
-            Ok(survey.all_whole())
+/// The report in this form.
+#[derive(Drop)]
+pub struct ReportAs {
+    pub form: Form,
+}
+
+impl Telling for ReportAs {
+    ghost text = { λ report. form_text report.form };
+
+    fn tell<F: Files, O: Sink>(
+        &self,
+        alloc: Global,
+        table: &BlockTable,
+        last: u32,
+        profile: Profile,
+        files: &F,
+        out: &mut O,
+    ) -> Result<bool, Refusal> {
+        files.begin(Stage::Walking);
+        let survey = match surveyed(alloc, table, last, profile) {
+            Ok(survey) => survey,
+            Err(refusal) => return Err(refusal),
+        };
+        match write_as(alloc, &survey, self.form, out) {
+            Ok(()) => {
+                remark_on(alloc, &survey, files);
+                Ok(survey.all_whole())
+            }
+            Err(error) => Err(Refusal::from(error)),
         }
-        Err(error) => Err(Refusal::from(error)),
     }
 }

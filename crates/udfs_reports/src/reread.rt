@@ -1,43 +1,74 @@
-//! The command `reread`: readings in, the numbers of the blocks to read again out.
+//! What `reread` prints: the numbers of the blocks to read again.
 
-ghost use Rattle.std.specs.Prelude.{IfOk};
-ghost use Rattle.udfs_common.specs.Keeping.{OfPaths};
-ghost use Rattle.udfs_reports.specs.Rereading.{PrintsNumbers};
-ghost use Rattle.udfs_common.specs.declared.sources.AnySource.{AnySource};
+ghost use Rattle.std.specs.Prelude.{◌≡◌, IfOk, IfErr};
+ghost use Rattle.udfs_lattice.specs.Tables.{state_of};
+ghost use Rattle.udfs_salvage.specs.Headline.{HeadlineBy};
+ghost use Rattle.udfs_salvage.specs.Listings.{listing_now};
+ghost use Rattle.udfs_salvage.specs.Reports.{IsReportBy};
+ghost use Rattle.udfs_reports.specs.Rereading.{numbers_of};
+ghost use Rattle.udfs_reports.specs.Telling.{IsUntold};
 
+use crate::telling::Telling;
 use std::alloc::Global;
 use udfs_common::files::Files;
-use udfs_common::inputs::joined;
 use udfs_common::refusal::Refusal;
-use udfs_common::remarks::remark_unopened;
-use udfs_common::sources::AnySource;
+use udfs_common::remarks::remark_on_listing;
 use udfs_files::Stage;
-use udfs_reading::{Sink, Source, WriteFault};
-use udfs_salvage::{survey_volume_by, write_numbers};
+use udfs_lattice::BlockTable;
+use udfs_reading::{Sink, WriteFault};
+use udfs_salvage::{Listing, list_volume_by, reread_blocks, write_numbers};
 use udfs_volume::Profile;
-use udfs_words::input_path::InputPath;
 
-/// Joins the inputs, and prints the numbers of the blocks of the volume, of which `last` is the last, that are worth
-/// reading again by the rules of a profile. It answers whether there are files and all of them are whole. All inputs are opened in order before one is read.
-pub fn reread<F: Files, O: Sink>(
+/// The listing of a table's volume by the rules of a profile, where `last` is its last block, or why the table has no report.
+fn listed<'a>(
     alloc: Global,
-    inputs: &[InputPath<'_>],
+    table: &'a BlockTable,
     last: u32,
     profile: Profile,
-    files: &F,
-    out: &mut O,
-) -> Result<bool, Refusal>
-    ensures printed { IfOk result (λ whole. OfPaths (λ path. F.holds files.now (F.real files.now path)) (⟦<AnySource<F::Input, F::Image> as Source>⟧.remaining) inputs.now
-        (PrintsNumbers profile last (O.stream out.old) (O.stream out.new) whole)) }
+) -> Result<Listing<'a>, Refusal>
+    ensures headline { IfOk result (λ listing. HeadlineBy profile (state_of table.now) last (listing_now listing)) }
+    ensures report { IfOk result (λ listing. IsReportBy profile (state_of table.now) last (listing_now listing)) }
+    ensures rules { IfOk result (λ listing. listing.profile ≡ profile) }
+    ensures of { IfOk result (λ listing. (listing.table.now ≡ table.now) × (listing.last ≡ last)) }
+    ensures refused { IfErr result (λ refusal. IsUntold profile last refusal table.now) }
 {
-    let table = joined(alloc, inputs, files)?;
-    files.begin(Stage::Walking);
-    let survey = survey_volume_by(alloc, &table, last, profile)?;
-    match write_numbers(&survey.reread, out) {
-        Ok(()) => {
-            remark_unopened(alloc, &survey, files);
-            Ok(survey.all_whole())
+    match list_volume_by(alloc, table, last, profile) {
+        Ok(listing) => Ok(listing),
+        Err(error) => Err(Refusal::from(error)),
+    }
+}
+
+/// The numbers of the blocks of a volume that are worth reading again.
+#[derive(Clone, Copy)]
+pub struct Numbers;
+
+impl Telling for Numbers {
+    ghost text = { λ _. numbers_of };
+
+    fn tell<F: Files, O: Sink>(
+        &self,
+        alloc: Global,
+        table: &BlockTable,
+        last: u32,
+        profile: Profile,
+        files: &F,
+        out: &mut O,
+    ) -> Result<bool, Refusal> {
+        files.begin(Stage::Walking);
+        let listing = match listed(alloc, table, last, profile) {
+            Ok(listing) => listing,
+            Err(refusal) => return Err(refusal),
+        };
+        let blocks = match reread_blocks(alloc, &listing) {
+            Ok(blocks) => blocks,
+            Err(error) => return Err(Refusal::from(error)),
+        };
+        match write_numbers(&blocks, out) {
+            Ok(()) => {
+                remark_on_listing(alloc, &listing, files);
+                Ok(listing.all_whole())
+            }
+            Err(WriteFault) => Err(Refusal::Output),
         }
-        Err(WriteFault) => Err(Refusal::Output),
     }
 }

@@ -1,15 +1,17 @@
 //! The command `reread --mapfile`: readings in, the blocks to read again as a mapfile for GNU ddrescue.
 
-ghost use Rattle.std.specs.Prelude.{◌≡◌, ◌≢◌, ◌⊎◌, ◌≤◌, ℕ, List, IfOk, OnErr, OnOk, length};
+ghost use Rattle.std.specs.Prelude.{◌≡◌, ◌≢◌, ◌⊎◌, ◌≤◌, ℕ, List, IfOk, IfErr, OnErr, OnOk, alloc_error, length, string_bytes};
 ghost use Rattle.udfs_files.specs.Disk.{After, Disk, Fails, SinkFails, IsOwn, Replaced};
 ghost use Rattle.std.specs.List.Sorted.{IsNonDecreasing};
-ghost use Rattle.udfs_reading.specs.Writing.{Wrote};
+ghost use Rattle.udfs_reading.specs.Writing.{Failed, Wrote};
 ghost use Rattle.udfs_rescue.specs.Writing.{domain_text};
 ghost use Rattle.udfs_common.specs.Keeping.{IsKept, IsTaken, OfPaths, RefusedOut};
-ghost use Rattle.udfs_reports.specs.Rereading.{IsDomain, MayDomain, MayDomainOf, PrintsDomain, breaks, domain_line, runs_in};
+ghost use Rattle.udfs_reports.specs.Rereading.{IsDomain, IsRefusedDomain, MayDomain, MayDomainOf, PrintsDomain, breaks, domain_line, runs_in};
+ghost use Rattle.udfs_reports.specs.Telling.{IsUnput, OfPathsRefused};
 ghost use Rattle.udfs_common.specs.declared.sources.AnySource.{AnySource};
 
-use std::alloc::Global;
+use crate::telling::surveyed;
+use std::alloc::{AllocError, Global};
 use udfs_common::files::Files;
 use udfs_common::inputs::joined;
 use udfs_common::putting::put_file;
@@ -20,7 +22,6 @@ use udfs_files::{Content, Stage};
 use udfs_lattice::BlockTable;
 use udfs_reading::{Sink, Source, WriteFault, write_all};
 use udfs_rescue::write_domain;
-use udfs_salvage::survey_volume_by;
 use udfs_volume::Profile;
 use udfs_words::input_path::InputPath;
 
@@ -67,14 +68,26 @@ fn count_runs(blocks: &[u32]) -> usize
     }
 }
 
-/// Prints how many blocks and runs there are.
-fn print_counts<O: Sink>(alloc: Global, blocks: &[u32], out: &mut O) -> Result<(), Refusal>
-    ensures { OnOk result (Wrote (O.stream out.old) (O.stream out.new) (domain_line blocks.now)) }
+/// The line that says how many blocks and runs there are.
+fn count_line(alloc: Global, blocks: &[u32]) -> Result<String, AllocError>
+    ensures { IfOk result (λ text. string_bytes text ≡ domain_line blocks.now) }
 {
     let mut text = String::new(alloc);
     let count = blocks.len();
     let runs = count_runs(blocks);
     write!(text, "{count} blocks in {runs} runs\n")?;
+    Ok(text)
+}
+
+/// Prints how many blocks and runs there are.
+fn print_counts<O: Sink>(alloc: Global, blocks: &[u32], out: &mut O) -> Result<(), Refusal>
+    ensures printed { OnOk result (Wrote (O.stream out.old) (O.stream out.new) (domain_line blocks.now)) }
+    ensures refused { IfErr result (λ refusal. ((O.stream out.new ≡ O.stream out.old) × (refusal ≡ Refusal.Memory alloc_error)) ⊎ ((refusal ≡ Refusal.Output) × Failed (O.stream out.old) (O.stream out.new) (domain_line blocks.now))) }
+{
+    let text = match count_line(alloc, blocks) {
+        Ok(text) => text,
+        Err(AllocError) => return Err(Refusal::Memory(AllocError)),
+    };
     match write_all(out, text.as_bytes()) {
         Ok(()) => Ok(()),
         Err(WriteFault) => Err(Refusal::Output),
@@ -102,6 +115,8 @@ fn put_domain<F: Files, O: Sink>(
     // A refusal leaves all as it was; or a call failed, and then the path holds what it held or the new file, whole.
     ensures left { OnErr result (RefusedOut F.tells F.holds F.real F.in_place (F.shut files.old path.now ⊎ Fails F.faults ⊎ SinkFails F.Output.stream) path.now files.old files.new
         (λ Put. Put (domain_text wanted.now last))) }
+    ensures refused { IfErr result (λ refusal. ((O.stream out.new ≡ O.stream out.old) × (refusal ≡ Refusal.Memory alloc_error)) ⊎ ((refusal ≡ Refusal.Output) × Failed (O.stream out.old) (O.stream out.new) (domain_line wanted.now)) ⊎
+        (Wrote (O.stream out.old) (O.stream out.new) (domain_line wanted.now) × IsUnput (F.shut files.old path.now ⊎ Fails F.faults ⊎ SinkFails F.Output.stream) refusal)) }
 {
     match print_counts(alloc, wanted, out) {
         Ok(()) => {}
@@ -134,9 +149,13 @@ fn map_of<F: Files, O: Sink>(
     // A refusal leaves all as it was; or a call failed, and then the path holds what it held or the new file, whole.
     ensures left { OnErr result (RefusedOut F.tells F.holds F.real F.in_place (F.shut files.old path.now ⊎ Fails F.faults ⊎ SinkFails F.Output.stream) path.now files.old files.new
         (λ Put. IsDomain profile last Put table.now)) }
+    ensures refused { IfErr result (λ refusal. IsRefusedDomain (F.shut files.old path.now ⊎ Fails F.faults ⊎ SinkFails F.Output.stream) profile last (O.stream out.old) (O.stream out.new) refusal table.now) }
 {
     files.begin(Stage::Walking);
-    let survey = survey_volume_by(alloc, table, last, profile)?;
+    let survey = match surveyed(alloc, table, last, profile) {
+        Ok(survey) => survey,
+        Err(refusal) => return Err(refusal),
+    };
     match put_domain(alloc, &survey.reread, last, path, files, out) {
         Ok(()) => {}
         Err(refusal) => return Err(refusal),
@@ -167,6 +186,9 @@ pub fn reread_map<F: Files, O: Sink>(
     // A refusal leaves all as it was; or a call failed, and then the path holds what it held or the new file, whole.
     ensures left { OnErr result (RefusedOut F.tells F.holds F.real F.in_place (F.shut files.old path.now ⊎ Fails F.faults ⊎ SinkFails F.Output.stream) path.now files.old files.new
         (λ Put. OfPaths (λ path. F.holds files.old (F.real files.old path)) (⟦<AnySource<F::Input, F::Image> as Source>⟧.remaining) inputs.now (IsDomain profile last Put))) }
+    // The inputs were not joined, or their table has no report, or the blocks were not told, or the mapfile was not put.
+    ensures refused { IfErr result (OfPathsRefused (λ path. F.holds files.old (F.real files.old path)) (F.shut files.old) (⟦<AnySource<F::Input, F::Image> as Source>⟧.remaining) (⟦<AnySource<F::Input, F::Image> as Source>⟧.faults) inputs.now
+        ((files.new ≡ files.old) × (O.stream out.new ≡ O.stream out.old)) (IsRefusedDomain (F.shut files.old path.now ⊎ Fails F.faults ⊎ SinkFails F.Output.stream) profile last (O.stream out.old) (O.stream out.new))) }
 {
     let table = match joined(alloc, inputs, files) {
         Ok(table) => table,

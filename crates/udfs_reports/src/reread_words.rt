@@ -1,18 +1,20 @@
 //! What the words after `reread` ask for.
 
-ghost use Rattle.std.specs.Prelude.{◌≡◌, ◌≢◌, ◌⊎◌, ℕ, List, true, false, IfOk, OnErr, OnOk, map};
+ghost use Rattle.std.specs.Prelude.{◌≡◌, ◌≢◌, ◌⊎◌, ℕ, List, true, false, IfOk, IfErr, OnErr, OnOk, alloc_error, map};
 ghost use Rattle.clap.specs.Matches.{found_of};
 ghost use Rattle.udfs_volume.specs.declared.profiles.Profile.{Profile};
 ghost use Rattle.udfs_files.specs.Disk.{After, Disk, Fails, SinkFails, IsOwn};
 ghost use Rattle.udfs_words.specs.Asking.{IsLast, IsProfile, asked_for, asked_inputs, is_mapped, mapfile_text, pair_texts};
-ghost use Rattle.udfs_common.specs.Guarding.{IsFreeMap, IsSparedMap};
+ghost use Rattle.udfs_common.specs.Guarding.{IsFreeMap, IsSparedMap, SomeShut};
 ghost use Rattle.udfs_common.specs.Keeping.{IsKept, IsTaken, OfPaths, RefusedOut};
 ghost use Rattle.udfs_common.specs.declared.sources.AnySource.{AnySource};
 ghost use Rattle.udfs_words.specs.declared.input_path.InputPath.{InputPath};
-ghost use Rattle.udfs_reports.specs.Rereading.{DomainAsked, PrintsNumbers, WritesDomain, MayDomainAsked};
+ghost use Rattle.udfs_reports.specs.Rereading.{DomainAsked, IsRefusedDomain, PrintsNumbers, WritesDomain, MayDomainAsked, numbers_of};
+ghost use Rattle.udfs_reports.specs.Telling.{AskedRefused, IsRefusedTelling};
 
-use crate::reread::reread;
+use crate::reread::Numbers;
 use crate::reread_map::reread_map;
+use crate::telling::tell_asked;
 use clap::ArgMatches;
 use std::alloc::{AllocError, Global};
 use udfs_common::ends::asked_end;
@@ -34,6 +36,7 @@ fn asked_map_outlook<F: Files>(
 ) -> Result<Outlook, AllocError>
     ensures free { IfOk result (λ found. found ≡ Outlook.Free → F.tells → IsFreeMap (F.holds files.now) (F.real files.now) (F.in_place files.now) (pair_texts (found_of words.now)) (mapfile_text (found_of words.now))) }
     ensures spared { IfOk result (λ found. found ≡ Outlook.Spared → F.tells → IsSparedMap (F.holds files.now) (F.real files.now) (pair_texts (found_of words.now)) (mapfile_text (found_of words.now))) }
+    ensures unknown { IfOk result (λ found. found ≡ Outlook.Unknown → F.shut files.now (mapfile_text (found_of words.now)) ⊎ SomeShut (F.shut files.now) (pair_texts (found_of words.now)) ⊎ Fails F.Input.faults) }
 {
     let parts = words.get_strs(PAIRS).unwrap_or(&[]);
     let found = look_at_map(alloc, parts, asked_mapfile(words), files)?;
@@ -60,8 +63,17 @@ fn reread_map_words<F: Files, O: Sink>(
     // A refusal leaves all as it was; or a call failed, and then the path holds what it held or the new file, whole.
     ensures left { OnErr result (RefusedOut F.tells F.holds F.real F.in_place (F.shut files.old (mapfile_text (found_of words.now)) ⊎ Fails F.faults ⊎ SinkFails F.Output.stream) (mapfile_text (found_of words.now)) files.old files.new
         (DomainAsked (λ path. F.holds files.old (F.real files.old path)) (⟦<AnySource<F::Input, F::Image> as Source>⟧.remaining) (found_of words.now))) }
+    // Why it is refused: what is there is spared or could not be looked at, or the last block or the inputs are to blame, or their table has no report, or the blocks were not
+    // told, or the mapfile was not put.
+    ensures refused { IfErr result (λ refusal. ((files.new ≡ files.old) × (O.stream out.new ≡ O.stream out.old) × (refusal ≡ Refusal.Memory alloc_error)) ⊎ ((refusal ≡ Refusal.Spared) × (F.tells → IsSparedMap (F.holds files.old) (F.real files.old) (pair_texts (found_of words.now)) (mapfile_text (found_of words.now)))) ⊎
+        ((refusal ≡ Refusal.Output) × (F.shut files.old (mapfile_text (found_of words.now)) ⊎ SomeShut (F.shut files.old) (pair_texts (found_of words.now)) ⊎ Fails F.Input.faults)) ⊎
+        AskedRefused (λ path. F.holds files.old (F.real files.old path)) (F.shut files.old) (⟦<AnySource<F::Input, F::Image> as Source>⟧.remaining) (⟦<AnySource<F::Input, F::Image> as Source>⟧.faults) (found_of words.now) (asked_inputs (found_of words.now)) ((files.new ≡ files.old) × (O.stream out.new ≡ O.stream out.old))
+        (λ profile last. IsRefusedDomain (F.shut files.old (mapfile_text (found_of words.now)) ⊎ Fails F.faults ⊎ SinkFails F.Output.stream) profile last (O.stream out.old) (O.stream out.new)) refusal) }
 {
-    let inputs = asked_inputs(alloc, words)?;
+    let inputs = match asked_inputs(alloc, words) {
+        Ok(inputs) => inputs,
+        Err(AllocError) => return Err(Refusal::Memory(AllocError)),
+    };
     let paths = inputs.as_slice();
     match asked_map_outlook(alloc, words, files) {
         Ok(Outlook::Free) => {}
@@ -69,7 +81,10 @@ fn reread_map_words<F: Files, O: Sink>(
         Ok(Outlook::Unknown) => return Err(unwritten(alloc, paths, files)),
         Err(AllocError) => return Err(Refusal::Memory(AllocError)),
     }
-    let last = asked_end(alloc, words, paths, files)?;
+    let last = match asked_end(alloc, words, paths, files) {
+        Ok(last) => last,
+        Err(refusal) => return Err(refusal),
+    };
     let profile = asked_profile(words);
     match reread_map(
         alloc,
@@ -95,12 +110,16 @@ fn reread_words<F: Files, O: Sink>(
     ensures printed { IfOk result (λ whole. (last : ℕ) × (profile : Profile) × (inputs : List InputPath) × (map asked_for inputs ≡ asked_inputs (found_of words.now)) ×
         IsLast (λ path. F.holds files.now (F.real files.now path)) inputs (found_of words.now) last × IsProfile (found_of words.now) profile × OfPaths (λ path. F.holds files.now (F.real files.now path)) (⟦<AnySource<F::Input, F::Image> as Source>⟧.remaining) inputs
         (PrintsNumbers profile last (O.stream out.old) (O.stream out.new) whole)) }
+    // Why it is refused, and what is out then: nothing, or a beginning.
+    ensures refused { IfErr result (λ refusal. ((O.stream out.new ≡ O.stream out.old) × (refusal ≡ Refusal.Memory alloc_error)) ⊎ AskedRefused (λ path. F.holds files.now (F.real files.now path)) (F.shut files.now) (⟦<AnySource<F::Input, F::Image> as Source>⟧.remaining) (⟦<AnySource<F::Input, F::Image> as Source>⟧.faults) (found_of words.now) (asked_inputs (found_of words.now))
+        (O.stream out.new ≡ O.stream out.old) (λ profile last. IsRefusedTelling numbers_of profile last (O.stream out.old) (O.stream out.new)) refusal) }
 {
-    let inputs = asked_inputs(alloc, words)?;
+    let inputs = match asked_inputs(alloc, words) {
+        Ok(inputs) => inputs,
+        Err(AllocError) => return Err(Refusal::Memory(AllocError)),
+    };
     let paths = inputs.as_slice();
-    let last = asked_end(alloc, words, paths, files)?;
-    let profile = asked_profile(words);
-    match reread(alloc, paths, last, profile, files, out) {
+    match tell_asked(alloc, words, paths, &Numbers, files, out) {
         Ok(whole) => Ok(whole),
         Err(refusal) => Err(refusal),
     }
@@ -129,6 +148,12 @@ pub fn reread_as<F: Files, O: Sink>(
     // A refusal leaves all as it was; or a call failed, and then the path holds what it held or the new file, whole.
     ensures left { OnErr result (RefusedOut F.tells F.holds F.real F.in_place (F.shut files.old (mapfile_text (found_of words.now)) ⊎ Fails F.faults ⊎ SinkFails F.Output.stream) (mapfile_text (found_of words.now)) files.old files.new
         (DomainAsked (λ path. F.holds files.old (F.real files.old path)) (⟦<AnySource<F::Input, F::Image> as Source>⟧.remaining) (found_of words.now))) }
+    ensures numbers_refused { IfErr result (λ refusal. is_mapped (found_of words.now) ≡ false → ((O.stream out.new ≡ O.stream out.old) × (refusal ≡ Refusal.Memory alloc_error)) ⊎ AskedRefused (λ path. F.holds files.old (F.real files.old path)) (F.shut files.old) (⟦<AnySource<F::Input, F::Image> as Source>⟧.remaining) (⟦<AnySource<F::Input, F::Image> as Source>⟧.faults) (found_of words.now) (asked_inputs (found_of words.now))
+        (O.stream out.new ≡ O.stream out.old) (λ profile last. IsRefusedTelling numbers_of profile last (O.stream out.old) (O.stream out.new)) refusal) }
+    ensures map_refused { IfErr result (λ refusal. is_mapped (found_of words.now) ≡ true → ((files.new ≡ files.old) × (O.stream out.new ≡ O.stream out.old) × (refusal ≡ Refusal.Memory alloc_error)) ⊎ ((refusal ≡ Refusal.Spared) × (F.tells → IsSparedMap (F.holds files.old) (F.real files.old) (pair_texts (found_of words.now)) (mapfile_text (found_of words.now)))) ⊎
+        ((refusal ≡ Refusal.Output) × (F.shut files.old (mapfile_text (found_of words.now)) ⊎ SomeShut (F.shut files.old) (pair_texts (found_of words.now)) ⊎ Fails F.Input.faults)) ⊎
+        AskedRefused (λ path. F.holds files.old (F.real files.old path)) (F.shut files.old) (⟦<AnySource<F::Input, F::Image> as Source>⟧.remaining) (⟦<AnySource<F::Input, F::Image> as Source>⟧.faults) (found_of words.now) (asked_inputs (found_of words.now)) ((files.new ≡ files.old) × (O.stream out.new ≡ O.stream out.old))
+        (λ profile last. IsRefusedDomain (F.shut files.old (mapfile_text (found_of words.now)) ⊎ Fails F.faults ⊎ SinkFails F.Output.stream) profile last (O.stream out.old) (O.stream out.new)) refusal) }
 {
     if words.contains_id(MAPFILE) {
         return match reread_map_words(alloc, words, files, out) {

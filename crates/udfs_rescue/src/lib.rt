@@ -33,6 +33,3 @@ pub use opening::{PairFault, open_pair};
 pub use pair::Pair;
 pub use run::{Run, RunStatus};
 pub use writing::{write_domain, write_image_map};
-
-#[cfg(test)]
-mod tests;

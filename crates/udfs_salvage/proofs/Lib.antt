@@ -33,3 +33,4 @@ pub mod Putting
 pub mod PublicLaws
 pub mod UnnamedEntries
 pub mod ListedNodes
+pub mod KeptLists

@@ -1,16 +1,18 @@
 -- Listings: what their nodes and entries are of the report's.
 use Rattle.std.proofs.Common.{◌≡◌, refl, ◌∙◌, ap, ℕ, zero, suc, List, [], ◌∷◌, get_or, map, Option, Some, None}
 use Rattle.std.specs.Prelude.{slice_get}
+use Rattle.std.specs.List.{list_all}
 use Rattle.udfs_tag.specs.declared.layouts.LongAd.{LongAd}
 use Rattle.udfs_lattice.specs.Volumes.{Blocks}
 use Rattle.udfs_volume.specs.Answers.{Answer, found, holes, faulty}
+use Rattle.udfs_walk.specs.NodeFields.{NodeFields}
 use Rattle.udfs_walk.specs.declared.standings.Standing.{Standing}
 use Rattle.udfs_walk.specs.declared.standings.Standing.TheVariants.{Whole, Torn, Loop, Fault}
 use Rattle.udfs_walk.specs.declared.answers.Unnamed.{Unnamed}
 use Rattle.udfs_salvage.specs.Found.{Found}
 use Rattle.udfs_salvage.specs.Extraction.{is_offered}
-use Rattle.udfs_salvage.specs.Listings.{full_entry_in, standing_in}
-use Rattle.udfs_salvage.specs.Reports.{is_whole}
+use Rattle.udfs_salvage.specs.Listings.{full_entry_in, full_in, standing_in}
+use Rattle.udfs_salvage.specs.Reports.{all_whole, is_whole}
 use Rattle.udfs_salvage.specs.UnnamedExtraction.{is_file, is_lost_file}
 use Rattle.udfs_salvage.specs.declared.extraction.Fill.{Fill}
 use Rattle.std.specs.Prelude.{nat_lt, ◌&&◌}
@@ -32,6 +34,15 @@ same_whole_in M (found f) at Loop = refl
 same_whole_in M (found f) at (Fault e) = refl
 same_whole_in M (holes listed) at s = refl
 same_whole_in M (faulty fault) at s = refl
+
+all_same : (M : Blocks) (a : Answer Found) (ns : List NodeFields) → list_all (λ n. is_whole n.standing) (map (full_in M a) ns) ≡ list_all (λ n. is_whole n.standing) ns
+all_same M a [] = refl
+all_same M a (n ∷ ns) = λ i. same_whole_in M a n.icb n.standing i && all_same M a ns i
+
+-- nor whether all are
+pub listed_whole : (M : Blocks) (a : Answer Found) (ns : List NodeFields) → all_whole (map (full_in M a) ns) ≡ all_whole ns
+listed_whole M a [] = refl
+listed_whole M a (n ∷ ns) = all_same M a (n ∷ ns)
 
 -- nor whether an entry is a lost file
 pub same_lost : (M : Blocks) (a : Answer Found) (u : Unnamed) → is_lost_file (full_entry_in M a u) ≡ is_lost_file u

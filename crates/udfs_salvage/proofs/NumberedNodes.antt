@@ -1,6 +1,5 @@
 -- The text of nodes, one behind the other with its number.
 use Rattle.std.proofs.Common.{◌≡◌, sym, ap, subst, ◌∙◌, ℕ, ◌+◌, ◌<◌, List, [], ◌∷◌, ◌++◌, length, take, drop, get_or, append_assoc, append-nil, take-append-drop, arith}
-use Rattle.std.specs.Prelude.{Option}
 use Rattle.std.proofs.lemmas.List.{take_more, length-take-le}
 use Rattle.udfs_reading.specs.Writing.{Passed}
 use Rattle.udfs_walk.specs.NodeFields.{NodeFields}

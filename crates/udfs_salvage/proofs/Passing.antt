@@ -1,5 +1,5 @@
 -- Bytes that are taken piece after piece, by the laws of udfs_reading.
-use Rattle.std.proofs.Common.{◌≡◌, subst, ℕ, List, [], ◌++◌, Option}
+use Rattle.std.proofs.Common.{◌≡◌, subst, ℕ, List, [], ◌++◌}
 use Rattle.udfs_reading.specs.Writing.{Failed, Passed, FailedPast}
 use Rattle.udfs_reading.proofs.PublicLaws as reading
 use Rattle.udfs_reading.specs.Device.{Stream}

@@ -18,3 +18,4 @@ pub mod Surveys
 pub mod Listings
 pub mod JsonPieces
 pub mod UnnamedExtraction
+pub mod KeptLists

@@ -7,10 +7,10 @@ ghost use Rattle.udfs_salvage.specs.Found.{found_now, volume_now};
 ghost use Rattle.udfs_salvage.specs.Headline.{HeadlineBy};
 ghost use Rattle.udfs_salvage.specs.Listings.{AreUnnamed, listing_now};
 ghost use Rattle.udfs_salvage.specs.TreeReports.{IsOfNoLawfulBy};
-ghost use Rattle.udfs_salvage.specs.Reports.{HasTooManyPathsBy, IsLookRefused, IsNothingPast, IsOutOfRange, IsPastEnd, IsReportBy, IsWalkRefused, MayWantMemoryBy, ReportsBy};
+ghost use Rattle.udfs_salvage.specs.Reports.{HasTooManyPathsBy, IsLookRefused, IsNothingPast, IsOutOfRange, IsPastEnd, IsReportBy, IsWalkRefused, MayWantMemoryBy, ReportsBy, all_whole};
 
 use crate::errors::SalvageError;
-use crate::reports::{FIRST_LAST, past_end};
+use crate::reports::{FIRST_LAST, all_whole, past_end};
 use crate::surveys::list;
 use crate::volumes::{OpenVolume, Volume, open};
 use std::alloc::Global;
@@ -18,7 +18,7 @@ use udfs_lattice::BlockTable;
 use udfs_lattice::table::LAST_BLOCK;
 use udfs_volume::{Profile, Seen};
 use udfs_walk::unnamed_entries::bare_unnamed;
-use udfs_walk::{Node, Unnamed};
+use udfs_walk::{Node, Unnamed, bare_reread};
 
 /// What a table tells of a volume and its nodes, as a [`Survey`](crate::Survey) has them. What a survey tells beyond them, the entries that no name leads to and the
 /// blocks to read again, is not looked for.
@@ -34,6 +34,15 @@ pub struct Listing<'a> {
     pub volume: Volume,
     /// The nodes, as a report has them; a torn one without its blocks and holes.
     pub nodes: Vec<Node>,
+}
+
+impl<'a> Listing<'a> {
+    /// Whether there are nodes, and all are whole.
+    pub fn all_whole(&self) -> bool
+        ensures { result ≡ all_whole (listing_now self.now).nodes }
+    {
+        all_whole(&self.nodes)
+    }
 }
 
 /// The listing of a volume that opens.
@@ -144,5 +153,28 @@ pub fn list_unnamed(alloc: Global, listing: &Listing<'_>) -> Result<Vec<Unnamed>
             Ok(entries)
         }
         _ => Ok(Vec::new(alloc)),
+    }
+}
+
+/// The blocks to read again of the volume of a listing, as a report has them: of one that opens those that are missing in torn nodes, and of one that does not open those that
+/// it lacks. The blocks of a torn body are found once, however many names lead to it.
+///
+/// # Errors
+///
+/// Memory was refused.
+pub fn reread_blocks(alloc: Global, listing: &Listing<'_>) -> Result<Vec<u32>, SalvageError>
+    ensures blocks { IfOk result (λ blocks. blocks.items ≡ (listing_now listing.now).reread) }
+    ensures refused { IfErr result (λ error. error ≡ SalvageError.OutOfMemory) }
+{
+    match &listing.volume {
+        Volume::Open(opened) => {
+            let blocks = bare_reread(alloc, listing.table, &opened.space, &listing.nodes)?;
+            Ok(blocks)
+        }
+        Volume::Holes(blocks) => {
+            let blocks = blocks.clone()?;
+            Ok(blocks)
+        }
+        Volume::Fault(_) => Ok(Vec::new(alloc)),
     }
 }

@@ -1,12 +1,14 @@
 //! Nodes are printed, and entries that no name leads to.
 
-ghost use Rattle.std.specs.Prelude.{◌++◌, map};
+ghost use Rattle.std.specs.Prelude.{◌++◌, IfOk, map};
 ghost use Rattle.udfs_space.specs.Views.{view_now};
 ghost use Rattle.udfs_walk.specs.Bare.{full_entry, full_node, lists_at, with_lists};
 ghost use Rattle.udfs_printing.specs.Puts.{Puts};
+ghost use Rattle.udfs_salvage.specs.KeptLists.{AreKeptLists};
 ghost use Rattle.udfs_salvage.specs.Printing.{PutsMost};
 ghost use Rattle.udfs_salvage.specs.NodeTexts.{gap_lines, hole_lines, missing_lines, node_text, nodes_text, unnamed_text, unnamed_texts};
 
+use crate::kept_lists::KeptLists;
 use crate::node_lines::{put_hole, put_missing, put_node_line, put_unnamed_line};
 use std::alloc::{AllocError, Global};
 use udfs_printing::Printer;
@@ -110,19 +112,45 @@ fn put_full_gaps<W: Sink>(
     Ok(())
 }
 
+/// What is missing of the body that stands at an address, where something is, which is found once for all names of the body if it is
+/// short. Where the sink has failed, it is not looked for.
+fn put_kept_gaps<W: Sink>(
+    alloc: Global,
+    out: &mut Printer,
+    sink: &mut W,
+    view: View<'_>,
+    kept: &mut KeptLists,
+    address: LongAd,
+    standing: &Standing,
+) -> Result<(), AllocError>
+    requires { AreKeptLists (view_now view) kept.old.lists }
+    ensures text { PutsMost (W.stream sink.old) (W.stream sink.new) out.old out.new (gap_lines (with_lists (lists_at (view_now view.entry) address) standing.now)) result }
+    ensures lists { IfOk result (λ done. AreKeptLists (view_now view.entry) kept.new.lists) }
+{
+    if out.has_failed() {
+        return Ok(());
+    }
+    let full = kept.full_standing(alloc, view, address, standing)?;
+    put_gaps(out, sink, &full);
+    Ok(())
+}
+
 /// The lines of a node without its blocks and holes, with those.
 fn put_full_node<W: Sink>(
     alloc: Global,
     out: &mut Printer,
     sink: &mut W,
     view: View<'_>,
+    kept: &mut KeptLists,
     number: usize,
     node: &Node,
 ) -> Result<(), AllocError>
-    ensures { PutsMost (W.stream sink.old) (W.stream sink.new) out.old out.new (node_text number (full_node (view_now view.entry) node.now)) result }
+    requires { AreKeptLists (view_now view) kept.old.lists }
+    ensures text { PutsMost (W.stream sink.old) (W.stream sink.new) out.old out.new (node_text number (full_node (view_now view.entry) node.now)) result }
+    ensures lists { IfOk result (λ done. AreKeptLists (view_now view.entry) kept.new.lists) }
 {
     put_node_line(out, sink, number, node);
-    put_full_gaps(alloc, out, sink, view, node.icb, &node.standing)
+    put_kept_gaps(alloc, out, sink, view, kept, node.icb, &node.standing)
 }
 
 /// The lines of all nodes, which are without their blocks and holes, with those.
@@ -135,8 +163,9 @@ pub(crate) fn put_full_nodes<W: Sink>(
 ) -> Result<(), AllocError>
     ensures { PutsMost (W.stream sink.old) (W.stream sink.new) out.old out.new (nodes_text 0 (map (full_node (view_now view.entry)) nodes.now)) result }
 {
+    let mut kept = KeptLists::new(alloc);
     for (index, node) in nodes.iter().enumerate() {
-        put_full_node(alloc, out, sink, view, index, node)?;
+        put_full_node(alloc, out, sink, view, &mut kept, index, node)?;
     }
     Ok(())
 }

@@ -1,6 +1,6 @@
 //! The JSON of the report that a survey stands for is written in pieces: what is missing of a node is found where it is written.
 
-ghost use Rattle.std.specs.Prelude.{◌++◌, codes};
+ghost use Rattle.std.specs.Prelude.{◌++◌, IfOk, codes};
 ghost use Rattle.std.specs.String.{string_bytes};
 ghost use Rattle.serde_json.specs.Written.{compact_text};
 ghost use Rattle.udfs_lattice.specs.Tables.{state_of};
@@ -11,6 +11,7 @@ ghost use Rattle.udfs_salvage.specs.Printing.{PassesOn, Prints};
 ghost use Rattle.udfs_salvage.specs.JsonNodes.{list_data, node_data, unnamed_data};
 ghost use Rattle.udfs_salvage.specs.JsonPieces.{entry_end, entry_front, more_values, node_end, node_front, report_end, report_front, reread_words};
 ghost use Rattle.udfs_salvage.specs.JsonReports.{json_text_by, reread_data};
+ghost use Rattle.udfs_salvage.specs.KeptLists.{AreKeptLists};
 ghost use Rattle.udfs_salvage.specs.Surveys.{survey_now};
 ghost use Rattle.udfs_salvage.specs.Texts.{has_two, line};
 
@@ -21,6 +22,7 @@ use crate::json_pieces::{
     push_report_front, reread_words,
 };
 use crate::json_printing::{put_rereads, put_told, put_value, put_words};
+use crate::kept_lists::KeptLists;
 use crate::lines::has_two;
 use crate::printing::{flush, pass_on};
 use crate::surveys::Survey;
@@ -63,12 +65,15 @@ fn put_node<W: Sink>(
     text: &mut String,
     sink: &mut W,
     view: View<'_>,
+    kept: &mut KeptLists,
     front: &str,
     node: &Node,
 ) -> Result<(), RunError>
-    ensures { PassesOn (W.stream sink.old) (W.stream sink.new) (string_bytes text.old) (string_bytes text.new) (front.now ++ compact_text (node_data (full_node (view_now view.entry) node.now))) result }
+    requires { AreKeptLists (view_now view) kept.old.lists }
+    ensures text { PassesOn (W.stream sink.old) (W.stream sink.new) (string_bytes text.old) (string_bytes text.new) (front.now ++ compact_text (node_data (full_node (view_now view.entry) node.now))) result }
+    ensures lists { IfOk result (λ done. AreKeptLists (view_now view.entry) kept.new.lists) }
 {
-    let full = full_standing(alloc, view, node.icb, &node.standing)?;
+    let full = kept.full_standing(alloc, view, node.icb, &node.standing)?;
     put_node_front(text, sink, front, node.hidden)?;
     put_told(alloc, text, sink, &full, node.kind)?;
     put_node_end(alloc, text, sink, node)
@@ -80,12 +85,14 @@ fn put_more_nodes<W: Sink>(
     text: &mut String,
     sink: &mut W,
     view: View<'_>,
+    kept: &mut KeptLists,
     nodes: &[Node],
 ) -> Result<(), RunError>
+    requires { AreKeptLists (view_now view) kept.old.lists }
     ensures { PassesOn (W.stream sink.old) (W.stream sink.new) (string_bytes text.old) (string_bytes text.new) (more_values (λ n. node_data (full_node (view_now view.entry) n)) nodes.now) result }
 {
     for node in nodes {
-        put_node(alloc, text, sink, view, ",", node)?;
+        put_node(alloc, text, sink, view, kept, ",", node)?;
     }
     Ok(())
 }
@@ -103,8 +110,9 @@ fn put_nodes<W: Sink>(
     let Some((first, rest)) = nodes.split_first() else {
         return put_words(text, sink, "[]");
     };
-    put_node(alloc, text, sink, view, "[", first)?;
-    put_more_nodes(alloc, text, sink, view, rest)?;
+    let mut kept = KeptLists::new(alloc);
+    put_node(alloc, text, sink, view, &mut kept, "[", first)?;
+    put_more_nodes(alloc, text, sink, view, &mut kept, rest)?;
     put_words(text, sink, "]")
 }
 

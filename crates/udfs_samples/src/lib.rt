@@ -15,6 +15,3 @@ pub use discs::{Bytes, Disc};
 
 /// The last block of each sample volume.
 pub const LAST: u32 = 600;
-
-#[cfg(test)]
-mod tests;

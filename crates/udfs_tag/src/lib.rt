@@ -16,6 +16,3 @@ mod tags;
 pub use checksum::crc;
 pub use layouts::{ExtentAd, LongAd, RegId, ShortAd};
 pub use tags::{Tag, TagFault};
-
-#[cfg(test)]
-mod tests;

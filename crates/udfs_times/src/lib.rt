@@ -12,6 +12,3 @@ mod zones;
 pub use keeping::Times;
 pub use moments::moment_in;
 pub use zones::Zone;
-
-#[cfg(test)]
-mod tests;

@@ -1,5 +1,5 @@
 -- What was let go of a node is found again at its address.
-use Rattle.std.proofs.Common.{◌≡◌, refl, sym, ◌∙◌, ap, subst, Bool, true, false, List, [], ◌∷◌, ◌++◌, length, map, cond, Option, Some, None}
+use Rattle.std.proofs.Common.{◌≡◌, refl, sym, ◌∙◌, ap, Bool, true, false, List, [], ◌∷◌, ◌++◌, length, map, cond, Option, Some, None}
 use Rattle.std.specs.Prelude.{filter_map, flat_map, ◌||◌}
 use Rattle.std.specs.List.{list_any, range_with_len}
 use Rattle.std.proofs.lemmas.List.{map-append}
@@ -88,9 +88,6 @@ pub full_first : (v : View) (old new : List NodeFields) (n : NodeFields) → old
 full_first v old new n z e = full_more v old new n e ∙ ap (λ x. map (full_node v) x ++ full_node v n ∷ []) z
 
 -- ---- entries that no name leads to
-some_is : {A : Type 0} (x y : A) → Some x ≡ Some y → x ≡ y
-some_is x y e = ap (λ o. elim o [ None ↦ x | Some z ↦ z ]) e
-
 pub lists_is : (v : View) (a : LongAd) (t : Target) → t ≡ target v a → target_lists v a t ≡ lists_at v a
 unfolding lists_at
 lists_is v a t e = ap (target_lists v a) e
@@ -99,10 +96,9 @@ pub lists_entry : (v : View) (a : LongAd) (e : EntryFields) → entry e ≡ targ
 unfolding lists_at
 lists_entry v a e t = ap (target_lists v a) (sym t)
 
-alone_again : (v : View) (icb : Icb) (t : Target) (u : Unnamed) → t ≡ target v (address_of icb) → Some u ≡ entry_alone v icb t → full_entry v (bare_entry u) ≡ u
-alone_again v icb (bad f) u t e = absurd (let z : ⊥ = cc in z)
-alone_again v icb (unread n) u t e = absurd (let z : ⊥ = cc in z)
-alone_again v icb (entry f) u t e = subst (λ x. full_entry v (bare_entry x) ≡ x) (sym (some_is u (unnamed_with v icb f) e)) with_entry
+-- an entry is told again with what is missing at its address
+pub entry_again : (v : View) (icb : Icb) (f : EntryFields) (u : Unnamed) → entry f ≡ target v (address_of icb) → u ≡ bare_entry (unnamed_with v icb f) → full_entry v u ≡ unnamed_with v icb f
+entry_again v icb f u t e = ap (full_entry v) e ∙ with_entry
   where
     lists : lists_at v (address_of icb) ≡ body_lists (body v icb.0 icb.1 f)
     lists = lists_entry v (address_of icb) f t
@@ -110,18 +106,9 @@ alone_again v icb (entry f) u t e = subst (λ x. full_entry v (bare_entry x) ≡
     with_entry : full_entry v (bare_entry (unnamed_with v icb f)) ≡ unnamed_with v icb f
     with_entry = λ i. record { reference = icb.0; block = icb.1; kind = f.kind; size = f.size; stamp = f.stamp; standing = body_again f.kind false (body v icb.0 icb.1 f) (lists_at v (address_of icb)) lists i }
 
-pub entry_again : (v : View) (nodes : List NodeFields) (icb : Icb) (u : Unnamed) → Some u ≡ unnamed_at v nodes icb → full_entry v (bare_entry u) ≡ u
-unfolding unnamed_at
-entry_again v nodes icb u e = go (list_any (names v icb) nodes) e
-  where
-    go : (b : Bool) → Some u ≡ cond b None (entry_alone v icb (target v (address_of icb))) → full_entry v (bare_entry u) ≡ u
-    go true h = absurd (let z : ⊥ = cc in z)
-    go false h = alone_again v icb (target v (address_of icb)) u refl h
-
-pub entries_more : (v : View) (nodes : List NodeFields) (icb : Icb) (old new : List Unnamed) (u : Unnamed) → new ≡ old ++ bare_entry u ∷ [] → Some u ≡ unnamed_at v nodes icb
-    → map (full_entry v) new ≡ map (full_entry v) old ++ u ∷ []
-entries_more v nodes icb old new u e h = ap (map (full_entry v)) e ∙ map-append (full_entry v) old (bare_entry u ∷ [])
-    ∙ ap (λ x. map (full_entry v) old ++ x ∷ []) (entry_again v nodes icb u h)
+-- one entry more
+pub entries_more : (v : View) (old new : List Unnamed) (u : Unnamed) → new ≡ old ++ u ∷ [] → map (full_entry v) new ≡ map (full_entry v) old ++ full_entry v u ∷ []
+entries_more v old new u e = ap (map (full_entry v)) e ∙ map-append (full_entry v) old (u ∷ [])
 
 -- what nodes name is told by their addresses
 named_same : (v : View) (icb : Icb) (ns : List NodeFields) → list_any (names v icb) (map (full_node v) ns) ≡ list_any (names v icb) ns

@@ -1,6 +1,10 @@
 -- Blocks that are gathered from nodes, some of them let go where they stand twice.
-use Rattle.std.proofs.Common.{◌≡◌, sym, ◌∙◌, ap, subst, inl, inr, ℕ, ◌+◌, ◌<◌, ◌≤◌, List, [], ◌∷◌, ◌++◌, length, map, take, get_or, ⊎_elim, Option, None, Some}
-use Rattle.std.specs.Prelude.{◌⊎◌, IfSome, flat_map}
+use Rattle.std.proofs.Common.{◌≡◌, refl, Bool, true, false, cond, arith, sym, ◌∙◌, ap, subst, inl, inr, ℕ, ◌+◌, ◌<◌, ◌≤◌, List, [], ◌∷◌, ◌++◌, length, map, take, get_or, ⊎_elim, Option, None, Some}
+use Rattle.std.specs.Prelude.{◌⊎◌, flat_map}
+use Rattle.std.specs.BTreeMap.{is_at}
+use Rattle.std.specs.BTreeSet.{BTreeSet, IsEmpty, Updates, contains}
+use Rattle.std.specs.List.{list_any}
+use Rattle.std.specs.Ordering.{is_eq, nat_cmp}
 use Rattle.udfs_tag.specs.declared.layouts.LongAd.{LongAd}
 use Rattle.std.proofs.lemmas.Grind.{flat_map-append}
 use Rattle.std.proofs.lemmas.List.{append-nil, take_more}
@@ -8,16 +12,22 @@ use Rattle.std.proofs.lemmas.List.Folds.{flat_map-map}
 use Rattle.udfs_lattice.specs.Volumes.{Includes, ascending}
 use Rattle.udfs_lattice.proofs.PublicLaws.{ascending_includes}
 use Rattle.udfs_volume.proofs.PublicLaws.{ascending_rises}
-use Rattle.udfs_space.specs.Places.{View}
-use Rattle.udfs_walk.specs.Bare.{full_node, lists_at, with_lists}
+use Rattle.udfs_space.specs.Places.{View, block_at}
+use Rattle.udfs_file.specs.Addresses.{address_fault}
+use Rattle.udfs_file.specs.Bodies.{body}
+use Rattle.udfs_file.specs.declared.faults.NodeFault.{NodeFault}
+use Rattle.udfs_walk.specs.Bare.{body_lists, full_node, lists_at, target_lists, with_lists}
 use Rattle.udfs_walk.specs.Gathering.{AreGathered, missing_at}
+use Rattle.udfs_walk.specs.NamedKeys.{key_of}
 use Rattle.udfs_walk.specs.NodeFields.{NodeFields}
+use Rattle.udfs_walk.specs.Targets.{Target, bad, unread, entry, target, target_at}
 use Rattle.udfs_walk.specs.Rereads.{missing_of, reread}
 use Rattle.udfs_walk.specs.TornFields.{TornFields}
 use Rattle.udfs_walk.specs.declared.standings.Standing.{Standing}
 use Rattle.udfs_walk.specs.declared.standings.Standing.TheVariants.{Whole, Torn, Loop, Fault}
 use Rattle.udfs_walk.proofs.BlockOrder.{either}
 use Rattle.udfs_walk.proofs.NamedLemmas.{take_whole}
+use Rattle.udfs_walk.proofs.MemoLemmas.{same_icb}
 use Rattle.udfs_walk.proofs.Rising.{rising_same}
 
 in_front : (xs ys : List ℕ) (n : ℕ) → Includes xs n → Includes (xs ++ ys) n
@@ -54,31 +64,69 @@ lacks_there lists (Torn torn) n i = i
 lacks_there lists Loop n i = absurd i
 lacks_there lists (Fault f) n i = absurd i
 
--- a node of which all was gathered just before
-pub gathered_before : (v : View) (node : NodeFields) (blocks : List ℕ) → AreGathered v (Some node.icb) blocks → ascending blocks ≡ ascending (blocks ++ missing_at v node)
-gathered_before v node blocks h = same_numbers blocks (blocks ++ missing_at v node)
+-- a node of which all was gathered before
+pub gathered_before : (v : View) (node : NodeFields) (icbs : BTreeSet ℕ) (blocks : List ℕ) → node.icb.block < 4294967296 → AreGathered v icbs blocks
+    → contains nat_cmp icbs (key_of node.icb.reference node.icb.block) ≡ true → ascending blocks ≡ ascending (blocks ++ missing_at v node)
+gathered_before v node icbs blocks l h c = same_numbers blocks (blocks ++ missing_at v node)
     (λ n i. in_front blocks (missing_at v node) n i)
-    (λ n i. ⊎_elim (λ j. j) (λ j. (ascending_includes blocks n).0 (h n (lacks_there (lists_at v node.icb) node.standing n j))) (either blocks (missing_at v node) n i))
+    (λ n i. ⊎_elim (λ j. j) (λ j. (ascending_includes blocks n).0 (h node.icb l c n (lacks_there (lists_at v node.icb) node.standing n j))) (either blocks (missing_at v node) n i))
 
 -- what was gathered stays so with more blocks
-pub gathered_still : (v : View) (last : Option LongAd) (old more : List ℕ) → AreGathered v last old → AreGathered v last (old ++ more)
-gathered_still v None old more h = tt
-gathered_still v (Some a) old more h = λ n i. (ascending_includes (old ++ more) n).1 (in_front old more n ((ascending_includes old n).0 (h n i)))
+pub gathered_still : (v : View) (icbs : BTreeSet ℕ) (old more : List ℕ) → AreGathered v icbs old → AreGathered v icbs (old ++ more)
+gathered_still v icbs old more h = λ a l c n i. (ascending_includes (old ++ more) n).1 (in_front old more n ((ascending_includes old n).0 (h a l c n i)))
+
+-- what is missing where an address has this fault, if any
+lists_by : (v : View) (a : LongAd) (f : Option NodeFault) → address_fault v a ≡ f → lists_at v a ≡ target_lists v a (target_at f a.block (block_at v a.reference a.block))
+unfolding lists_at target
+lists_by v a f e = ap (λ g. target_lists v a (target_at g a.block (block_at v a.reference a.block))) e
+
+same_lists : (v : View) (a d : LongAd) (t : Target) → a.reference ≡ d.reference → a.block ≡ d.block → target_lists v d t ≡ target_lists v a t
+same_lists v a d (bad f) r b = refl
+same_lists v a d (unread n) r b = refl
+same_lists v a d (entry e) r b = (λ i. body_lists (body v (sym r i) (sym b i) e))
+
+-- where something is missing at one address of an ICB, no more is missing at another
+same_missing : (v : View) (a d : LongAd) → a.reference ≡ d.reference → a.block ≡ d.block → 0 < length (lists_at v a).missing
+    → (n : ℕ) → Includes (lists_at v d).missing n → Includes (lists_at v a).missing n
+same_missing v a d r b h n i = go (address_fault v a) (address_fault v d) refl refl
+  where
+    go : (f g : Option NodeFault) → address_fault v a ≡ f → address_fault v d ≡ g → Includes (lists_at v a).missing n
+    go (Some f) g p q = absurd (let z : 0 < 0 = subst (λ (x : TornFields). 0 < length x.missing) (lists_by v a (Some f) p) h in let w : ⊥ = omega (arith, z) in w)
+    go None (Some g) p q = absurd (subst (λ (x : TornFields). Includes x.missing n) (lists_by v d (Some g) q) i)
+    go None None p q = subst (λ (x : TornFields). Includes x.missing n)
+        (lists_by v d None q ∙ same_lists v a d (target_at None d.block (block_at v d.reference d.block)) r b
+        ∙ (λ j. target_lists v a (target_at None (sym b j) (block_at v (sym r j) (sym b j)))) ∙ sym (lists_by v a None p)) i
 
 -- what is missing at an address was put behind the others
-pub gathered_now : (v : View) (a : LongAd) (old more : List ℕ) → more ≡ (lists_at v a).missing → AreGathered v (Some a) (old ++ more)
-gathered_now v a old more e n i = (ascending_includes (old ++ more) n).1 (in_back old more n (subst (λ z. Includes z n) (sym e) i))
+pub gathered_now : (v : View) (a : LongAd) (icbs more_icbs : BTreeSet ℕ) (old more : List ℕ) → a.block < 4294967296 → AreGathered v icbs old
+    → Updates nat_cmp icbs more_icbs (key_of a.reference a.block) true → more ≡ (lists_at v a).missing → 0 < length more → AreGathered v more_icbs (old ++ more)
+gathered_now v a icbs more_icbs old more l h u e z = λ d k c n i. go d k c n i (is_eq (nat_cmp (key_of a.reference a.block) (key_of d.reference d.block))) refl
+  where
+    go : (d : LongAd) → d.block < 4294967296 → contains nat_cmp more_icbs (key_of d.reference d.block) ≡ true → (n : ℕ) → Includes (lists_at v d).missing n
+        → (t : Bool) → is_eq (nat_cmp (key_of a.reference a.block) (key_of d.reference d.block)) ≡ t → Includes (ascending (old ++ more)) n
+    go d k c n i true q =
+        let icb = same_icb a.reference a.block d.reference d.block l k q in
+        let m : Includes (lists_at v a).missing n = same_missing v a d icb.0 icb.1 (subst (λ (x : List ℕ). 0 < length x) e z) n i in
+        (ascending_includes (old ++ more) n).1 (in_back old more n (subst (λ x. Includes x n) (sym e) m))
+    go d k c n i false q = gathered_still v icbs old more h d k
+        (sym (u.0 (key_of d.reference d.block) ∙ ap (λ t. cond t true (contains nat_cmp icbs (key_of d.reference d.block))) q) ∙ c) n i
 
--- what is torn lacks what is missing at its address
-pub torn_there : (lists torn : TornFields) (s : Standing) → Torn torn ≡ with_lists lists s → torn.missing ≡ lists.missing
-torn_there lists torn Whole e = absurd (let z : ⊥ = cc in z)
-torn_there lists torn (Torn t) e = ap missing_of e
-torn_there lists torn Loop e = absurd (let z : ⊥ = cc in z)
-torn_there lists torn (Fault f) e = absurd (let z : ⊥ = cc in z)
+-- where something is missing, it is what is missing at the address
+pub lacks_all : (lists : TornFields) (full standing : Standing) → full ≡ with_lists lists standing → 0 < length (missing_of full) → missing_of full ≡ lists.missing
+lacks_all lists full standing e h = ap missing_of e ∙ go standing (subst (λ (z : Standing). 0 < length (missing_of z)) e h)
+  where
+    go : (s : Standing) → 0 < length (missing_of (with_lists lists s)) → missing_of (with_lists lists s) ≡ lists.missing
+    go Whole z = absurd (let w : ⊥ = omega (arith, z) in w)
+    go (Torn torn) z = refl
+    go Loop z = absurd (let w : ⊥ = omega (arith, z) in w)
+    go (Fault f) z = absurd (let w : ⊥ = omega (arith, z) in w)
 
 -- the same blocks, some of them let go where they stand twice
-pub gathered_settled : (v : View) (last : Option LongAd) (old new : List ℕ) → ascending new ≡ ascending old → AreGathered v last old → AreGathered v last new
-gathered_settled v last old new e h = subst (λ (z : List ℕ). IfSome last (λ a. (n : ℕ) → Includes (lists_at v a).missing n → Includes z n)) (sym e) h
+pub gathered_settled : (v : View) (icbs : BTreeSet ℕ) (old new : List ℕ) → ascending new ≡ ascending old → AreGathered v icbs old → AreGathered v icbs new
+gathered_settled v icbs old new e h = λ a l c n i. subst (λ (z : List ℕ). Includes z n) (sym e) (h a l c n i)
+
+pub gathered_none : (v : View) (icbs : BTreeSet ℕ) (blocks : List ℕ) → IsEmpty icbs → AreGathered v icbs blocks
+gathered_none v icbs blocks e = λ a l c n i. absurd (let z : false ≡ true = sym (ap (list_any (is_at (nat_cmp (key_of a.reference a.block)))) e) ∙ c in let w : ⊥ = cc in w)
 
 -- the blocks of one node more
 pub node_more : (v : View) (nodes : List NodeFields) (i : ℕ) (d : NodeFields) (old mid new : List ℕ) → ascending old ≡ ascending (flat_map (missing_at v) (take i nodes)) → i < length nodes

@@ -15,3 +15,4 @@ pub mod BlockOrder
 pub mod BareNodes
 pub mod BareRereads
 pub mod MemoLemmas
+pub mod FirstGaps

@@ -34,6 +34,13 @@ standing_again (Torn torn) = refl
 standing_again Loop = refl
 standing_again (Fault f) = refl
 
+-- the blocks and the holes are not in the word
+pub word_bare : (s : Standing) → word_of (bare_standing s) ≡ word_of s
+word_bare Whole = refl
+word_bare (Torn torn) = refl
+word_bare Loop = refl
+word_bare (Fault f) = refl
+
 fault_deep : (b : Bool) (f : NodeFault) → standing_of (deep_word b (word.Fault f)) ≡ Fault f
 fault_deep true f = refl
 fault_deep false f = refl
@@ -79,7 +86,7 @@ none_listed (e ∷ es) h = absurd (let k : length (e ∷ es) ≤ 0 = ltb-false 0
 
 -- ---- what is kept
 -- two ICBs have one number only if they are one
-same_icb : (r b s c : ℕ) → b < 4294967296 → c < 4294967296 → is_eq (nat_cmp (key_of r b) (key_of s c)) ≡ true → (r ≡ s) × (b ≡ c)
+pub same_icb : (r b s c : ℕ) → b < 4294967296 → c < 4294967296 → is_eq (nat_cmp (key_of r b) (key_of s c)) ≡ true → (r ≡ s) × (b ≡ c)
 same_icb r b s c h l e =
     let k : key_of r b ≡ key_of s c = eqb-true (key_of r b) (key_of s c) (sym (eq_by_cmp-nat (key_of r b) (key_of s c)) ∙ e) in
     (omega (arith, k, h, l), omega (arith, k, h, l))

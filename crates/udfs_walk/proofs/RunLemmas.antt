@@ -11,7 +11,7 @@ use Rattle.udfs_walk.specs.Standings.{cells_standing, missing_blocks, runs_from,
 use Rattle.udfs_walk.specs.Gaps.{AreKnownCells, AreGapsOf, GapFields, IsPassed, Leaves, closed, runs_open}
 
 -- ---- blocks
-bytes_blocks : (cs rest : List Cell) → AreKnownCells cs → missing_blocks (cs ++ rest) ≡ missing_blocks rest
+pub bytes_blocks : (cs rest : List Cell) → AreKnownCells cs → missing_blocks (cs ++ rest) ≡ missing_blocks rest
 bytes_blocks [] rest h = refl
 bytes_blocks (Byte x b ∷ cs) rest h = bytes_blocks cs rest h.1
 bytes_blocks (Gap m ∷ cs) rest h = absurd h.0

@@ -5,7 +5,7 @@ ghost use Rattle.udfs_space.specs.Views.{view_now};
 ghost use Rattle.udfs_file.specs.Bodies.{body};
 ghost use Rattle.udfs_file.specs.Entries.{entry_of};
 ghost use Rattle.udfs_file.specs.Stretches.{IsStanding};
-ghost use Rattle.udfs_walk.specs.Bare.{bare_standing, bare_entry, body_lists, full_entry, full_node, lists_at, lists_of, no_lists, with_lists};
+ghost use Rattle.udfs_walk.specs.Bare.{body_lists, full_entry, full_node, lists_at, lists_of, no_lists, with_lists};
 ghost use Rattle.udfs_walk.specs.UnnamedEntries.{address_of};
 
 use crate::answers::{Node, Unnamed};
@@ -34,40 +34,6 @@ fn one_block(alloc: Global, n: u32) -> Result<Torn, AllocError>
     let missing = vec![in alloc; n]?;
     let holes = Vec::new(alloc);
     Ok(Torn { missing, holes })
-}
-
-/// A standing without the blocks and the holes.
-fn bare(alloc: Global, standing: Standing) -> Standing
-    ensures { result ≡ bare_standing standing }
-{
-    match standing {
-        Standing::Whole => Standing::Whole,
-        Standing::Torn(_) => Standing::Torn(no_lists(alloc)),
-        Standing::Loop => Standing::Loop,
-        Standing::Fault(fault) => Standing::Fault(fault),
-    }
-}
-
-/// An entry without the blocks and the holes.
-pub(crate) fn bare_entry(alloc: Global, entry: Unnamed) -> Unnamed
-    ensures { result ≡ bare_entry entry }
-{
-    let Unnamed {
-        reference,
-        block,
-        kind,
-        size,
-        stamp,
-        standing,
-    } = entry;
-    Unnamed {
-        reference,
-        block,
-        kind,
-        size,
-        stamp,
-        standing: bare(alloc, standing),
-    }
 }
 
 /// What is missing, where something is.

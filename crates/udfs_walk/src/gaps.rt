@@ -5,9 +5,11 @@ ghost use Rattle.udfs_space.specs.Views.{view_now};
 ghost use Rattle.udfs_file.specs.Stretches.{cells_of};
 ghost use Rattle.udfs_file.specs.Portions.{AreUnread, IsPortion, portion_count};
 ghost use Rattle.udfs_file.specs.declared.cells.Cell.{Cell};
+ghost use Rattle.udfs_walk.specs.Bare.{bare_standing};
 ghost use Rattle.udfs_walk.specs.Gaps.{AreKnownCells, IsPassed, Leaves, closed};
 ghost use Rattle.udfs_walk.specs.Standings.{cells_standing};
 
+use crate::bare::no_lists;
 use crate::block_runs::{BlockRun, ascending};
 use crate::standings::{Standing, Torn};
 use std::alloc::{AllocError, Global};
@@ -140,4 +142,17 @@ pub(crate) fn cells_standing(
     }
     let standing = gaps.standing(alloc)?;
     Ok(standing)
+}
+
+/// Whether all cells of a body are known, without what is missing. It does not go on behind the first cell that is
+/// missing, and takes no memory.
+pub(crate) fn bare_cells_standing(alloc: Global, view: View<'_>, body: &Body) -> Standing
+    ensures { result ≡ bare_standing (cells_standing (cells_of (view_now view.entry) body.now)) }
+{
+    for portion in body.portions(view) {
+        if let Portion::Missing(_) = portion {
+            return Standing::Torn(no_lists(alloc));
+        }
+    }
+    Standing::Whole
 }

@@ -1,6 +1,6 @@
 //! What has to be read again.
 
-ghost use Rattle.std.specs.Prelude.{◌≡◌, ◌++◌, IfOk, Some, map, true};
+ghost use Rattle.std.specs.Prelude.{◌≡◌, ◌++◌, IfOk, length, map, nat_lt};
 ghost use Rattle.udfs_lattice.specs.Tables.{state_of};
 ghost use Rattle.udfs_lattice.specs.Volumes.{ascending};
 ghost use Rattle.udfs_space.specs.Places.{view};
@@ -13,11 +13,12 @@ use crate::answers::Node;
 use crate::ascending::sort_once;
 use crate::bare::full_standing;
 use crate::standings::Standing;
+use crate::targets::key;
 use std::alloc::{AllocError, Global};
+use std::collections::BTreeSet;
 use udfs_lattice::BlockTable;
 use udfs_osta::OutOfMemory;
 use udfs_space::{Space, View};
-use udfs_tag::LongAd;
 
 /// Puts the blocks that are missing in a node behind the others.
 fn push_missing(blocks: &mut Vec<u32>, standing: &Standing) -> Result<(), AllocError>
@@ -63,42 +64,43 @@ fn settle(blocks: &mut Vec<u32>, most: usize) -> usize
     blocks.len().saturating_mul(2).max(MOST_GATHERED)
 }
 
-/// Whether the address before is this one.
-fn is_again(last: Option<LongAd>, address: LongAd) -> bool
-    ensures { result ≡ true → last ≡ Some address }
+/// Whether blocks are missing.
+fn lacks_blocks(standing: &Standing) -> bool
+    ensures { result ≡ nat_lt 0 (length (missing_of standing.now)) }
 {
-    match last {
-        Some(before) => before == address,
-        None => false,
+    match standing {
+        Standing::Torn(torn) => torn.missing.len() > 0,
+        _ => false,
     }
 }
 
-/// Puts the blocks that are missing in a node behind the others, unless those at its address were put there just before, and
-/// returns the address of which they were.
+/// Puts the blocks that are missing in a node behind the others, unless those at its ICB were put there already, and keeps
+/// the number of an ICB at which some are missing.
 fn gather(
     alloc: Global,
     view: View<'_>,
     node: &Node,
-    last: Option<LongAd>,
+    gathered: &mut BTreeSet<u64>,
     blocks: &mut Vec<u32>,
-) -> Result<Option<LongAd>, AllocError>
-    requires { AreGathered (view_now view) last blocks.old.items }
-    ensures more { IfOk result (λ next. ascending blocks.new.items ≡ ascending (blocks.old.items ++ missing_at (view_now view.entry) node.now)) }
-    ensures gathered { IfOk result (λ next. AreGathered (view_now view.entry) next blocks.new.items) }
+) -> Result<(), AllocError>
+    requires { AreGathered (view_now view) gathered.old blocks.old.items }
+    ensures more { IfOk result (λ done. ascending blocks.new.items ≡ ascending (blocks.old.items ++ missing_at (view_now view.entry) node.now)) }
+    ensures gathered { IfOk result (λ done. AreGathered (view_now view.entry) gathered.new blocks.new.items) }
 {
-    if is_again(last, node.icb) {
-        return Ok(last);
+    let key = key(node.icb.reference, node.icb.block);
+    if gathered.contains(&key) {
+        return Ok(());
     }
     let standing = full_standing(alloc, view, node.icb, &node.standing)?;
     push_missing(blocks, &standing)?;
-    match standing {
-        Standing::Torn(_) => Ok(Some(node.icb)),
-        _ => Ok(last),
+    if lacks_blocks(&standing) {
+        gathered.insert(key)?;
     }
+    Ok(())
 }
 
 /// The blocks that are missing in torn nodes, ascending and each once, as [`reread`] lists them, of nodes without their
-/// blocks and holes. The lists of one node alone are held at a time, and those of names of one file that follow one another are found once.
+/// blocks and holes. The lists of one node alone are held at a time, and those of all names of one file are found once.
 ///
 /// # Errors
 ///
@@ -114,9 +116,9 @@ pub fn bare_reread(
     let view = View { table, space };
     let mut blocks = Vec::new(alloc);
     let mut most = MOST_GATHERED;
-    let mut last = None;
+    let mut gathered = BTreeSet::new(alloc);
     for node in nodes {
-        last = gather(alloc, view, node, last, &mut blocks)?;
+        gather(alloc, view, node, &mut gathered, &mut blocks)?;
         most = settle(&mut blocks, most);
     }
     sort_once(&mut blocks);

@@ -1,18 +1,19 @@
 //! What the body of an entry tells: how whole the entry is, and what it lists as a directory.
 
-ghost use Rattle.std.specs.Prelude.{◌≤◌, ◌≡◌, ◌<◌, ◌^◌, IfErr, IfOk, List, false, length, nat_lt};
+ghost use Rattle.std.specs.Prelude.{◌≤◌, ◌≡◌, IfErr, IfOk, List, false, length, nat_lt};
 ghost use Rattle.udfs_space.specs.Views.{view_now};
 ghost use Rattle.udfs_file.specs.Stretches.{IsStanding, cells_of};
 ghost use Rattle.udfs_file.specs.Entries.{entry_of};
 ghost use Rattle.udfs_file.specs.Bodies.{body, cells};
 ghost use Rattle.udfs_file.specs.Fronts.{IsEndOf, directory, directory_entries, fault_in};
 ghost use Rattle.udfs_file.specs.declared.cells.Cell.{Cell};
+ghost use Rattle.udfs_walk.specs.Bare.{bare_standing};
 ghost use Rattle.udfs_walk.specs.Standings.{body_standing, kind_standing, standing_or_fault};
 ghost use Rattle.udfs_walk.specs.Routes.{kind_entries};
 ghost use Rattle.udfs_walk.specs.Visits.{AreRefused};
 
 use crate::answers::NodesError;
-use crate::gaps::cells_standing;
+use crate::gaps::bare_cells_standing;
 use crate::standings::Standing;
 use std::alloc::{AllocError, Global};
 use udfs_file::directories::{DirEnd, DirFront};
@@ -23,7 +24,7 @@ use udfs_tag::LongAd;
 /// What the body of an entry tells, wherever in the tree the entry stands.
 #[derive(Drop)]
 pub(crate) struct Told {
-    /// How whole the entry is, where it is no loop and fewer than 64 names lead to it.
+    /// How whole the entry is, where it is no loop and fewer than 64 names lead to it, without the blocks and the holes.
     pub(crate) standing: Standing,
     /// Whether it lists entries, as a directory.
     pub(crate) lists: bool,
@@ -45,18 +46,17 @@ fn ended(end: DirEnd, standing: Standing) -> Told
 }
 
 /// What a body tells of an entry of this kind.
-fn kind_told(alloc: Global, view: View<'_>, kind: Kind, body: &Body) -> Result<Told, AllocError>
-    requires { length (cells_of (view_now view) body.now) < 2 ^ 64 }
-    ensures standing { IfOk result (λ told. told.standing ≡ kind_standing kind false (cells_of (view_now view.entry) body.now)) }
-    ensures lists { IfOk result (λ told. told.lists ≡ nat_lt 0 (length (kind_entries kind (cells (cells_of (view_now view.entry) body.now))))) }
+fn kind_told(alloc: Global, view: View<'_>, kind: Kind, body: &Body) -> Told
+    ensures standing { result.standing ≡ bare_standing (kind_standing kind false (cells_of (view_now view.entry) body.now)) }
+    ensures lists { result.lists ≡ nat_lt 0 (length (kind_entries kind (cells (cells_of (view_now view.entry) body.now)))) }
 {
-    let standing = cells_standing(alloc, view, body)?;
+    let standing = bare_cells_standing(alloc, view, body);
     match kind {
-        Kind::Directory => Ok(ended(Dir::end(view.table, view.space, body), standing)),
-        _ => Ok(Told {
+        Kind::Directory => ended(Dir::end(view.table, view.space, body), standing),
+        _ => Told {
             standing,
             lists: false,
-        }),
+        },
     }
 }
 
@@ -68,8 +68,8 @@ pub(crate) fn body_told(
     address: LongAd,
 ) -> Result<Told, AllocError>
     requires { IsStanding (view_now view) address.reference address.block entry.now }
-    ensures standing { IfOk result (λ told. told.standing ≡ body_standing (entry_of entry.now).kind false
-        (body (view_now view.entry) address.reference address.block (entry_of entry.now))) }
+    ensures standing { IfOk result (λ told. told.standing ≡ bare_standing (body_standing (entry_of entry.now).kind false
+        (body (view_now view.entry) address.reference address.block (entry_of entry.now)))) }
     ensures lists { IfOk result (λ told. told.lists ≡ nat_lt 0 (length (kind_entries (entry_of entry.now).kind
         (body (view_now view.entry) address.reference address.block (entry_of entry.now))))) }
 {
@@ -86,12 +86,7 @@ pub(crate) fn body_told(
             standing: Standing::Fault(fault),
             lists: false,
         }),
-        Ok(body) => {
-            // The body has as many cells as this number of 64 bits says.
-            let _size = entry.size();
-            let told = kind_told(alloc, view, entry.kind(), &body)?;
-            Ok(told)
-        }
+        Ok(body) => Ok(kind_told(alloc, view, entry.kind(), &body)),
     }
 }
 

@@ -1,6 +1,6 @@
 //! Entries that no name leads to.
 
-ghost use Rattle.std.specs.Prelude.{true, ◌≡◌, ◌++◌, ◌<◌, IfOk, IsSorted, List, nat_eq, filter_map, length, map};
+ghost use Rattle.std.specs.Prelude.{true, ◌≡◌, ◌++◌, ◌<◌, IfOk, IsSorted, List, nat_eq, filter_map, length, map, option_map};
 ghost use Rattle.std.specs.List.{list_any};
 ghost use Rattle.std.specs.Ordering.{nat_cmp};
 ghost use Rattle.udfs_lattice.specs.Tables.{state_of};
@@ -13,7 +13,7 @@ ghost use Rattle.udfs_walk.specs.NodeFields.{NodeFields};
 ghost use Rattle.udfs_walk.specs.NamedKeys.{AreNamed};
 
 use crate::answers::{Node, Unnamed};
-use crate::bare::{bare_entry, entry_address, full_entries};
+use crate::bare::{entry_address, full_entries};
 use crate::targets::{Target, key, target_at};
 use crate::told::body_told;
 use std::alloc::{AllocError, Global};
@@ -71,8 +71,8 @@ fn place_from(keys: &[u64], at: usize, key: u64) -> usize {
     at
 }
 
-/// The entry at a logical block, if one stands there and no name leads to it. Its number may stand among the keys at
-/// this place: then the block is not read, and else the number is looked up once an entry is found.
+/// The entry at a logical block, if one stands there and no name leads to it, without the blocks and the holes. Its number may
+/// stand among the keys at this place: then the block is not read, and else the number is looked up once an entry is found.
 fn unnamed_at(
     alloc: Global,
     view: View<'_>,
@@ -83,7 +83,7 @@ fn unnamed_at(
 ) -> Result<Option<Unnamed>, AllocError>
     requires { IsSorted nat_cmp keys.now }
     ensures { IfOk result (λ found. (nodes : List NodeFields) → AreNamed (view_now view.entry) nodes keys.now
-        → found ≡ unnamed_at (view_now view.entry) nodes (reference, block)) }
+        → option_map (full_entry (view_now view.entry)) found ≡ unnamed_at (view_now view.entry) nodes (reference, block)) }
 {
     let key = key(reference, block);
     if is_at(keys, at, key) {
@@ -127,7 +127,7 @@ fn push_unnamed(
     for block in 0..view.space.length(reference) {
         at = place_from(keys, at, key(reference, block));
         match unnamed_at(alloc, view, keys, at, reference, block)? {
-            Some(entry) => found.push(bare_entry(alloc, entry))?,
+            Some(entry) => found.push(entry)?,
             None => {}
         }
     }

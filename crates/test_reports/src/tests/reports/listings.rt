@@ -4,8 +4,8 @@ use super::extraction::{A, runs};
 use std::test::Fail;
 use udfs_reading::{Outgoing, Writer};
 use udfs_salvage::{
-    ExtractError, Fill, SalvageError, Volume, list_unnamed, list_volume_by, write_lost, write_node,
-    write_volume_line,
+    ExtractError, Fill, SalvageError, Volume, list_unnamed, list_volume_by, reread_blocks,
+    write_lost, write_node, write_volume_line,
 };
 use udfs_samples::{Disc, LAST};
 use udfs_volume::Profile;
@@ -20,6 +20,8 @@ fn nodes_one_after_another(rt: HostRuntime) -> Result<(), Fail> {
     assert!(rt; listing.profile == Profile::Strict);
     assert_eq!(rt; listing.nodes.len(), 3);
     assert!(rt; list_unnamed(alloc, &listing)?.is_empty());
+    assert!(rt; reread_blocks(alloc, &listing)?.is_empty());
+    assert!(rt; listing.all_whole());
     let mut out = Outgoing::new();
     let mut file = Writer::new(Vec::new(alloc));
     write_node(alloc, &listing, 1, Fill::Refuse, &mut out, &mut file)?;
@@ -40,6 +42,11 @@ fn a_torn_node_is_filled_only_where_asked(rt: HostRuntime) -> Result<(), Fail> {
     assert!(rt;
         matches!(&listing.nodes[1].standing, Standing::Torn(torn) if torn.missing.is_empty())
     );
+    assert_eq!(rt;
+        reread_blocks(alloc, &listing)?.as_slice(),
+        [278].as_slice()
+    );
+    assert!(rt; !listing.all_whole());
     let mut out = Outgoing::new();
     let mut none = Writer::new(Vec::new(alloc));
     let refused = write_node(alloc, &listing, 1, Fill::Refuse, &mut out, &mut none);
@@ -80,6 +87,11 @@ fn a_volume_that_does_not_open(rt: HostRuntime) -> Result<(), Fail> {
     assert!(rt; matches!(&listing.volume, Volume::Holes(_)));
     assert!(rt; listing.nodes.is_empty());
     assert!(rt; list_unnamed(alloc, &listing)?.is_empty());
+    assert_eq!(rt;
+        reread_blocks(alloc, &listing)?.as_slice(),
+        [256, 344, 600].as_slice()
+    );
+    assert!(rt; !listing.all_whole());
     let mut line = Writer::new(Vec::new(alloc));
     write_volume_line(&listing.volume, &mut line)?;
     assert_eq!(rt;

@@ -1,5 +1,6 @@
 use Rattle.std.proofs.Common.{◌≡◌, ◌++◌, ◌∷◌, [], length, rules}
-use Rattle.udfs_common.proofs.KeepingLemmas.{opens_more, at_place}
+use Rattle.udfs_common.proofs.BlamingLemmas.{shut_at}
+use Rattle.udfs_common.proofs.KeepingLemmas.{at_place, judged_more, opens_more}
 use Rattle.udfs_common.proofs.sources.open_all.Goals as goal
 
 pub loop-index-preserved : goal.loop-index-preserved
@@ -9,4 +10,8 @@ loop-index-preserved g c =
     record {
       each = search rules;
       opened = rw (grown) (opens_more _ _ c.args.paths.now c.loop-index.sources.items _ c.in-Ok.source c.loop-index.invariant.opened c.in-Ok.ensures.opened (rw (many) (at_place c.args.paths.now c.loop-index.index _ (search rules))));
+      judged = rw (grown) (judged_more _ c.args.paths.now c.loop-index.sources.items _ c.in-Ok.source c.loop-index.invariant.judged c.in-Ok.ensures.judged (rw (many) (at_place c.args.paths.now c.loop-index.index _ (search rules))));
     }
+
+pub returns-in-Err-clause-blamed : goal.returns-in-Err-clause-blamed
+returns-in-Err-clause-blamed g c = shut_at _ _ _ _ c.args.paths.now c.loop-index.index _ c.in-Err.refusal (at_place c.args.paths.now c.loop-index.index _ (search rules)) c.in-Err.ensures.why

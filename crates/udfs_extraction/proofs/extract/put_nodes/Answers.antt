@@ -193,3 +193,6 @@ returns-clause-put g c =
     let few = each_few _ 1 (drop 1 nodes) fates put.1.each in
     let behind = all_behind nodes (length fates) all in
     (c.loop-index.heard, fates, put.1, (omega (arith, few, behind), refl, put.3, put.4))
+
+pub returns-in_err-heard-clause-stays : goal.returns-in_err-heard-clause-stays
+returns-in_err-heard-clause-stays g c told q bytes is = c.put_chosen.ensures.stays told q bytes (c.loop-index.invariant.stays told q bytes is)

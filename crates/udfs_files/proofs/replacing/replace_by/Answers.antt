@@ -1,17 +1,21 @@
-use Rattle.std.proofs.Common.{refl, sym, ◌∙◌, ⊎_elim}
+use Rattle.std.proofs.Common.{refl, ℕ, List}
 use Rattle.udfs_files.proofs.Going.{agree, not_made, not_tried, not_written, written, then_removed, then_named}
 use Rattle.udfs_files.proofs.replacing.replace_by.Goals as goal
 
-pub returns-in-Err-NotMade-clause-any_moment : goal.returns-in-Err-NotMade-clause-any_moment
-returns-in-Err-NotMade-clause-any_moment g c tells =
+pub returns-in-Err-Files-NotMade-clause-any_moment : goal.returns-in-Err-Files-NotMade-clause-any_moment
+returns-in-Err-Files-NotMade-clause-any_moment g c tells =
     not_made c.args.own.now c.args.path.now _ c.requires.own c.requires.apart _ _ _ c.args.files.now c.write_new.new.files c.write_new.ensures.crash
 
-pub returns-in-Err-NotMade-clause-not_tried : goal.returns-in-Err-NotMade-clause-not_tried
-returns-in-Err-NotMade-clause-not_tried g c is =
-    not_tried c.args.own.now c.args.path.now (g.C.Content.bytes c.args.content.now) c.requires.own c.requires.apart _ _ _ c.args.files.now c.write_new.new.files c.write_new.ensures.crash
+pub returns-in-Err-Files-NotMade-clause-not_tried : goal.returns-in-Err-Files-NotMade-clause-not_tried
+returns-in-Err-Files-NotMade-clause-not_tried g c is =
+    not_tried c.args.own.now c.args.path.now (λ (x : List ℕ). ⊥) c.requires.own c.requires.apart _ _ _ c.args.files.now c.write_new.new.files c.write_new.ensures.crash
 
 pub returns-in-Err-clause-any_moment : goal.returns-in-Err-clause-any_moment
 returns-in-Err-clause-any_moment g c tells =
+    not_written c.args.own.now c.args.path.now _ c.requires.own c.requires.apart _ _ _ c.args.files.now c.write_new.new.files c.give_up-in-Err.new.files c.write_new.ensures.crash c.give_up-in-Err.ensures.crash
+
+pub returns-in-Err-Refused-clause-any_moment : goal.returns-in-Err-Refused-clause-any_moment
+returns-in-Err-Refused-clause-any_moment g c tells =
     not_written c.args.own.now c.args.path.now _ c.requires.own c.requires.apart _ _ _ c.args.files.now c.write_new.new.files c.give_up.new.files c.write_new.ensures.crash c.give_up.ensures.crash
 
 pub returns-in-Err-rename-clause-any_moment : goal.returns-in-Err-rename-clause-any_moment

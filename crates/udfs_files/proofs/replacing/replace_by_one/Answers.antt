@@ -12,7 +12,7 @@ replace_by-requires-clause-apart g c = own_apart c.args.path.now c.as_str.result
 
 pub returns-in-Ok-clause-any_moment : goal.returns-in-Ok-clause-any_moment
 returns-in-Ok-clause-any_moment g c tells =
-    tried_then_replaced c.args.path.now _ _ _ _ c.args.files.now c.loop-name.files c.replace_by.new.files c.loop-name.invariant.goes (c.replace_by.ensures.any_moment tells)
+    tried_then_replaced _ _ _ c.args.path.now _ c.args.files.now c.loop-name.files c.replace_by.new.files c.loop-name.invariant.goes (c.replace_by.ensures.any_moment tells)
 
 pub returns-in-Ok-clause-elsewhere : goal.returns-in-Ok-clause-elsewhere
 returns-in-Ok-clause-elsewhere g c q not_path far =
@@ -20,11 +20,11 @@ returns-in-Ok-clause-elsewhere g c q not_path far =
 
 pub returns-in-Err-clause-any_moment : goal.returns-in-Err-clause-any_moment
 returns-in-Err-clause-any_moment g c tells =
-    tried_then_replaced c.args.path.now _ _ _ _ c.args.files.now c.loop-name.files c.replace_by.new.files c.loop-name.invariant.goes (c.replace_by.ensures.any_moment tells)
+    tried_then_replaced _ _ _ c.args.path.now _ c.args.files.now c.loop-name.files c.replace_by.new.files c.loop-name.invariant.goes (c.replace_by.ensures.any_moment tells)
 
 pub returns-in-Err-clause-elsewhere : goal.returns-in-Err-clause-elsewhere
 returns-in-Err-clause-elsewhere g c q not_path far =
     c.replace_by.ensures.others q (λ e. far (subst (IsOwn c.args.path.now) (sym e) (subst (IsOwn c.args.path.now) (ap string_bytes (sym c.name-item.is) ∙ sym c.as_str.ensures.value) (c.requires.own c.loop-name.name-index c.name-item.result c.loop-name-test.true)))) not_path ∙ c.loop-name.invariant.holds q
 
 pub returns-clause-any_moment : goal.returns-clause-any_moment
-returns-clause-any_moment g c tells = only_tried c.args.path.now _ _ _ _ c.args.files.now c.loop-name.files c.loop-name.invariant.goes
+returns-clause-any_moment g c tells = only_tried _ _ _ c.args.path.now _ c.args.files.now c.loop-name.files c.loop-name.invariant.goes

@@ -1,6 +1,6 @@
 use Rattle.std.proofs.Common.{◌≡◌, length, arith, sym, ap, ◌∙◌}
 use Rattle.udfs_index.specs.Places.{state_by}
-use Rattle.udfs_index.proofs.EntryLemmas.{counted_none, counted_step, all_entries}
+use Rattle.udfs_index.proofs.EntryLemmas.{counted_none, counted_step, entries_below, said_entries}
 use Rattle.udfs_index.specs.Slots.{Slot}
 use Rattle.udfs_index.proofs.entries.count_entries.Goals as goal
 
@@ -20,5 +20,5 @@ pub returns : goal.returns
 returns c wholes t is shown =
     let end = c.loop-block-test.false in
     let high = c.loop-block.auto.block-end in
-    let last : c.loop-block.block ≡ 4194304 = omega arith in
-    c.loop-block.invariant.counted wholes t shown ∙ ap length (all_entries t c.loop-block.block last is)
+    let last : c.loop-block.block ≡ c.end_of-end.result = omega arith in
+    c.loop-block.invariant.counted wholes t shown ∙ ap length (ap (entries_below t) last ∙ said_entries wholes c.args.packets.now t c.end_of-end.result is shown c.end_of-end.ensures.most c.end_of-end.ensures.rest)

@@ -1,27 +1,27 @@
-use Rattle.std.proofs.Common.{◌≡◌, map, subst, rules}
+use Rattle.std.proofs.Common.{◌≡◌, ⊎_elim, inl, inr, map, refl, subst, rules}
 use Rattle.clap.specs.Matches.{found_of}
 use Rattle.udfs_words.specs.Asking.{asked_for, asked_streams}
 use Rattle.udfs_reports.proofs.PagingLemmas.{left_at, left_wider, may_page}
 use Rattle.udfs_reports.proofs.page_words.page_words.Goals as goal
 
-pub returns-in-Ok-clause-written : goal.returns-in-Ok-clause-written
-returns-in-Ok-clause-written g c =
+pub returns-in-Ok-page-clause-written : goal.returns-in-Ok-page-clause-written
+returns-in-Ok-page-clause-written g c =
     record {
-      last = c.in_ok-last.last;
+      last = c.in-Ok-asked_end.last;
       profile = c.asked_profile-profile.result;
       inputs = c.as_slice-paths.result.now;
-      is_last = c.in_ok-last.ensures.last;
+      is_last = c.in-Ok-asked_end.ensures.last;
       is_profile = c.asked_profile-profile.ensures;
       asked = search rules;
-      puts = rw (← c.asked_page.ensures) c.in-Ok.ensures.written;
+      puts = rw (← c.asked_page.ensures) c.in-Ok-page.ensures.written;
     }
 
-pub returns-in-Ok-clause-any_moment : goal.returns-in-Ok-clause-any_moment
-returns-in-Ok-clause-any_moment g c tells place disk since =
-    let a = c.in-Ok.ensures.any_moment tells (λ at. place (subst (g.F.Files.in_place c.args.files.now) c.asked_page.ensures at)) disk since in (
+pub returns-in-Ok-page-clause-any_moment : goal.returns-in-Ok-page-clause-any_moment
+returns-in-Ok-page-clause-any_moment g c tells place disk since =
+    let a = c.in-Ok-page.ensures.any_moment tells (λ at. place (subst (g.F.Files.in_place c.args.files.now) c.asked_page.ensures at)) disk since in (
       a.0,
       a.1,
-      may_page _ _ (g.F.Files.real c.args.files.now) (found_of c.args.words.now) c.asked_profile-profile.result c.in_ok-last.last c.as_slice-paths.result.now a.0 disk c.asked_profile-profile.ensures c.in_ok-last.ensures.last (search rules)
+      may_page _ _ (g.F.Files.real c.args.files.now) (found_of c.args.words.now) c.asked_profile-profile.result c.in-Ok-asked_end.last c.as_slice-paths.result.now a.0 disk c.asked_profile-profile.ensures c.in-Ok-asked_end.ensures.last (search rules)
           (rw (← c.asked_page.ensures) a.2),
     )
 
@@ -30,7 +30,7 @@ returns-clause-any_moment g c tells place disk since =
     let a = c.in-Err-page.ensures.any_moment tells (λ at. place (subst (g.F.Files.in_place c.args.files.now) c.asked_page.ensures at)) disk since in (
       a.0,
       a.1,
-      may_page _ _ (g.F.Files.real c.args.files.now) (found_of c.args.words.now) c.asked_profile-profile.result c.in_ok-last.last c.as_slice-paths.result.now a.0 disk c.asked_profile-profile.ensures c.in_ok-last.ensures.last (search rules)
+      may_page _ _ (g.F.Files.real c.args.files.now) (found_of c.args.words.now) c.asked_profile-profile.result c.in-Ok-asked_end.last c.as_slice-paths.result.now a.0 disk c.asked_profile-profile.ensures c.in-Ok-asked_end.ensures.last (search rules)
           (rw (← c.asked_page.ensures) a.2),
     )
 
@@ -39,4 +39,19 @@ returns-clause-left g c =
     let F = g.F.Files in
     let asked : map asked_for c.as_slice-paths.result.now ≡ asked_streams (found_of c.args.words.now) = search rules in
     left_at (F.shut c.args.files.now) c.asked_page.ensures
-    (left_wider _ _ (λ Put put. (c.asked_profile-profile.result, c.in_ok-last.last, c.as_slice-paths.result.now, c.asked_profile-profile.ensures, c.in_ok-last.ensures.last, asked, put)) c.in-Err-page.ensures.left)
+    (left_wider _ _ (λ Put put. (c.asked_profile-profile.result, c.in-Ok-asked_end.last, c.as_slice-paths.result.now, c.asked_profile-profile.ensures, c.in-Ok-asked_end.ensures.last, asked, put)) c.in-Err-page.ensures.left)
+
+pub returns-clause-refused : goal.returns-clause-refused
+returns-clause-refused g c =
+    let asked : map asked_for c.as_slice-paths.result.now ≡ asked_streams (found_of c.args.words.now) = search rules in
+    inr (inr (inr (c.as_slice-paths.result.now, asked, inr (inr (c.asked_profile-profile.result, c.in-Ok-asked_end.last, c.asked_profile-profile.ensures, c.in-Ok-asked_end.ensures.last, rw (← c.asked_page.ensures) c.in-Err-page.ensures.refused)))))
+
+pub returns-in-Err-asked_end-clause-refused : goal.returns-in-Err-asked_end-clause-refused
+returns-in-Err-asked_end-clause-refused g c = inr (inr (inr (c.as_slice-paths.result.now, search rules, inl (refl, c.in-Err-asked_end.ensures.blamed))))
+
+pub returns-in-Ok-Spared-clause-refused : goal.returns-in-Ok-Spared-clause-refused
+returns-in-Ok-Spared-clause-refused g c = inr (inl (refl, search rules))
+
+pub returns-in-Ok-Unknown-clause-refused : goal.returns-in-Ok-Unknown-clause-refused
+returns-in-Ok-Unknown-clause-refused g c =
+    ⊎_elim (λ out. inr (inr (inl (out, search rules)))) (λ h. inr (inr (inr (c.as_slice-paths.result.now, search rules, inr (inl (refl, h)))))) c.unwritten.ensures.blamed

@@ -8,11 +8,11 @@ use Rattle.udfs_salvage.proofs.FullTexts.{same_line}
 use Rattle.udfs_salvage.proofs.Putting.{most_then}
 use Rattle.udfs_salvage.proofs.node_printing.put_full_node.Goals as goal
 
-pub returns : goal.returns
-returns g c =
+pub returns-clause-text : goal.returns-clause-text
+returns-clause-text g c =
     let W = g.W.Sink in
     let v = view_now c.args.view in
     rw (same_line v c.args.number c.args.node.now)
-    (most_then (W.stream c.put_full_gaps.new.sink) c.put_full_gaps.new.out (gap_lines (full_node v c.args.node.now).standing) c.put_full_gaps.result c.put_node_line.ensures
-    (subst (λ s. PutsMost (W.stream c.put_node_line.new.sink) (W.stream c.put_full_gaps.new.sink) c.put_node_line.new.out c.put_full_gaps.new.out (gap_lines s) c.put_full_gaps.result)
-    (ap (λ (n : NodeFields). (full_node v n).standing) c.node.view_is) c.put_full_gaps.ensures))
+    (most_then (W.stream c.put_kept_gaps.new.sink) c.put_kept_gaps.new.out (gap_lines (full_node v c.args.node.now).standing) c.put_kept_gaps.result c.put_node_line.ensures
+    (subst (λ s. PutsMost (W.stream c.put_node_line.new.sink) (W.stream c.put_kept_gaps.new.sink) c.put_node_line.new.out c.put_kept_gaps.new.out (gap_lines s) c.put_kept_gaps.result)
+    (ap (λ (n : NodeFields). (full_node v n).standing) c.node.view_is) c.put_kept_gaps.ensures.text))

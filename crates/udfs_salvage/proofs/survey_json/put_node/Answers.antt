@@ -9,33 +9,33 @@ use Rattle.udfs_salvage.proofs.JsonPieces.{full_node_pieces}
 use Rattle.udfs_salvage.proofs.Printed.{passes_three, stopped_first_of, stopped_second_of}
 use Rattle.udfs_salvage.proofs.survey_json.put_node.Goals as goal
 
-pub returns-in_err-put_node_front : goal.returns-in_err-put_node_front
-returns-in_err-put_node_front g c =
+pub returns-in_err-put_node_front-clause-text : goal.returns-in_err-put_node_front-clause-text
+returns-in_err-put_node_front-clause-text g c =
     let p = err_from_is_err_and c.from_residual-in_err-put_node_front.result c.from_residual-in_err-put_node_front.ensures.1 in
     let n = c.node.inside in
     let v = view_now c.args.view in
     let s = c.in_ok-full.full in
     let pieces = full_node_pieces c.args.front.now v c.args.node.now n.hidden n.kind s (ap (λ (m : NodeFields). m.hidden) c.node.view_is) (ap (λ (m : NodeFields). m.kind) c.node.view_is)
-    (c.in_ok-full.ensures ∙ ap (λ (m : NodeFields). (full_node v m).standing) c.node.view_is) in
+    (c.in_ok-full.ensures.full ∙ ap (λ (m : NodeFields). (full_node v m).standing) c.node.view_is) in
     rw (p.1, p.2) (stopped_first_of _ (c.args.front.now ++ node_front n.hidden) (told_piece s n.kind ++ node_end c.args.node.now) _ pieces c.in_err-put_node_front.ensures)
 
-pub returns-in_err-put_told : goal.returns-in_err-put_told
-returns-in_err-put_told g c =
+pub returns-in_err-put_told-clause-text : goal.returns-in_err-put_told-clause-text
+returns-in_err-put_told-clause-text g c =
     let p = err_from_is_err_and c.from_residual-in_err-put_told.result c.from_residual-in_err-put_told.ensures.1 in
     let n = c.node.inside in
     let v = view_now c.args.view in
     let s = c.in_ok-full.full in
     let pieces = full_node_pieces c.args.front.now v c.args.node.now n.hidden n.kind s (ap (λ (m : NodeFields). m.hidden) c.node.view_is) (ap (λ (m : NodeFields). m.kind) c.node.view_is)
-    (c.in_ok-full.ensures ∙ ap (λ (m : NodeFields). (full_node v m).standing) c.node.view_is) in
+    (c.in_ok-full.ensures.full ∙ ap (λ (m : NodeFields). (full_node v m).standing) c.node.view_is) in
     rw (p.1, p.2) (stopped_second_of (c.args.front.now ++ node_front n.hidden) (told_piece s n.kind) (node_end c.args.node.now) _ pieces c.in_ok-put_node_front.ensures c.in_err-put_told.ensures)
 
-pub returns : goal.returns
-returns g c =
+pub returns-clause-text : goal.returns-clause-text
+returns-clause-text g c =
     let W = g.W.Sink in
     let n = c.node.inside in
     let v = view_now c.args.view in
     let s = c.in_ok-full.full in
     let pieces = full_node_pieces c.args.front.now v c.args.node.now n.hidden n.kind s (ap (λ (m : NodeFields). m.hidden) c.node.view_is) (ap (λ (m : NodeFields). m.kind) c.node.view_is)
-    (c.in_ok-full.ensures ∙ ap (λ (m : NodeFields). (full_node v m).standing) c.node.view_is) in
+    (c.in_ok-full.ensures.full ∙ ap (λ (m : NodeFields). (full_node v m).standing) c.node.view_is) in
     passes_three (W.stream c.put_node_end.new.sink) (string_bytes c.put_node_end.new.text) (c.args.front.now ++ node_front n.hidden) (told_piece s n.kind) (node_end c.args.node.now) _ c.put_node_end.result
     pieces c.in_ok-put_node_front.ensures c.in_ok-put_told.ensures c.put_node_end.ensures

@@ -17,7 +17,7 @@ returns-in_err-put_node g c =
     let f = λ (n : NodeFields). node_data (full_node (view_now c.args.view) n) in
     let x = c.in-Some.first.now in
     let xs = c.in-Some.rest.now in
-    rw (p.1, p.2, c.in-Some.ensures.cases.0) (stopped_first_of _ (91 ∷ compact_text (f x)) (more_values f xs ++ 93 ∷ []) _ (list_text f x xs) c.in_err-put_node.ensures)
+    rw (p.1, p.2, c.in-Some.ensures.cases.0) (stopped_first_of _ (91 ∷ compact_text (f x)) (more_values f xs ++ 93 ∷ []) _ (list_text f x xs) c.in_err-put_node.ensures.text)
 
 pub returns-in_err-put_more_nodes : goal.returns-in_err-put_more_nodes
 returns-in_err-put_more_nodes g c =
@@ -25,7 +25,7 @@ returns-in_err-put_more_nodes g c =
     let f = λ (n : NodeFields). node_data (full_node (view_now c.args.view) n) in
     let x = c.in-Some.first.now in
     let xs = c.in-Some.rest.now in
-    rw (p.1, p.2, c.in-Some.ensures.cases.0) (stopped_second_of (91 ∷ compact_text (f x)) (more_values f xs) (93 ∷ []) _ (list_text f x xs) c.in_ok-put_node.ensures c.in_err-put_more_nodes.ensures)
+    rw (p.1, p.2, c.in-Some.ensures.cases.0) (stopped_second_of (91 ∷ compact_text (f x)) (more_values f xs) (93 ∷ []) _ (list_text f x xs) c.in_ok-put_node.ensures.text c.in_err-put_more_nodes.ensures)
 
 pub returns : goal.returns
 returns g c =
@@ -33,4 +33,4 @@ returns g c =
     let x = c.in-Some.first.now in
     let xs = c.in-Some.rest.now in
     let W = g.W.Sink in
-    rw c.in-Some.ensures.cases.0 (passes_three (W.stream c.put_words-2.new.sink) (string_bytes c.put_words-2.new.text) (91 ∷ compact_text (f x)) (more_values f xs) (93 ∷ []) _ c.put_words-2.result (list_text f x xs) c.in_ok-put_node.ensures c.in_ok-put_more_nodes.ensures c.put_words-2.ensures)
+    rw c.in-Some.ensures.cases.0 (passes_three (W.stream c.put_words-2.new.sink) (string_bytes c.put_words-2.new.text) (91 ∷ compact_text (f x)) (more_values f xs) (93 ∷ []) _ c.put_words-2.result (list_text f x xs) c.in_ok-put_node.ensures.text c.in_ok-put_more_nodes.ensures c.put_words-2.ensures)

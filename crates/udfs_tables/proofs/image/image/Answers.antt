@@ -5,3 +5,8 @@ pub returns-clause-stand : goal.returns-clause-stand
 returns-clause-stand g c tells =
     let t = c.in-Ok.ensures.by_path in
     ⊎_elim (λ same. inl same) (λ has. inr (t.0, t.1, rw (← t.2) has)) (c.put_table.ensures.stand tells)
+
+pub returns-in-Ok-put_table-clause-stand : goal.returns-in-Ok-put_table-clause-stand
+returns-in-Ok-put_table-clause-stand g c tells =
+    let t = c.in-Ok.ensures.by_path in
+    ⊎_elim (λ same. inl same) (λ has. inr (t.0, t.1, rw (← t.2) has)) (c.put_table.ensures.stand tells)

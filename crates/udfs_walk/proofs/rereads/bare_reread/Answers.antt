@@ -11,8 +11,8 @@ pub loop-node-preserved : goal.loop-node-preserved
 loop-node-preserved c =
     let v = view (state_of c.args.table.now) c.args.space.now in record {
       blocks = node_more v c.args.nodes.now c.loop-node.node-index c.node-item.result c.loop-node.blocks.items c.gather.new.blocks.items c.settle-most.new.blocks.items
-          c.loop-node.invariant.blocks c.loop-node-test.true (c.in_ok-last.ensures.more ∙ ap (λ n. ascending (c.loop-node.blocks.items ++ missing_at v n)) c.node-item.is) c.settle-most.ensures;
-      gathered = gathered_settled v _ c.gather.new.blocks.items c.settle-most.new.blocks.items c.settle-most.ensures c.in_ok-last.ensures.gathered;
+          c.loop-node.invariant.blocks c.loop-node-test.true (c.in_ok-gather.ensures.more ∙ ap (λ n. ascending (c.loop-node.blocks.items ++ missing_at v n)) c.node-item.is) c.settle-most.ensures;
+      gathered = gathered_settled v _ c.gather.new.blocks.items c.settle-most.new.blocks.items c.settle-most.ensures c.in_ok-gather.ensures.gathered;
     }
 
 pub returns : goal.returns

@@ -10,5 +10,5 @@ use Rattle.udfs_walk.proofs.rereads.bare_reread.Given as goal
 abbrev pub invariant-loop-node : goal.invariant-loop-node
 invariant-loop-node l = record {
   blocks : ascending l.blocks.items ≡ ascending (flat_map (missing_at (view (state_of l.table) l.space)) (take l.node-index l.nodes));
-  gathered : AreGathered (view (state_of l.table) l.space) l.last l.blocks.items;
+  gathered : AreGathered (view (state_of l.table) l.space) l.gathered l.blocks.items;
 }

@@ -1,4 +1,5 @@
-use Rattle.std.proofs.Common.{◌∙◌, ◌++◌, ◌∷◌, [], map, sym, ap}
+use Rattle.std.proofs.Common.{◌∙◌, map, sym, ap}
+use Rattle.std.specs.Prelude.{option_map}
 use Rattle.udfs_space.specs.Views.{view_now}
 use Rattle.udfs_walk.specs.UnnamedEntries.{unnamed_at}
 use Rattle.udfs_walk.specs.Bare.{full_entry}
@@ -12,11 +13,10 @@ loop-block-preserved c = λ nodes a.
     let v = view_now c.args.view in
     let f = unnamed_at v nodes in
     elim c.match-branch-2.branch [
-      | in-Some+in_ok-push-in-Some w ↦ let is = sym w.in-Some.is ∙ c.in_ok-entry.ensures nodes a in
-          push_some f c.args.reference c.loop-block.block (map (full_entry v) c.args.found.now.items) (map (full_entry v) c.loop-block.found.items) (map (full_entry v) c.match-branch-2.found.items) w.in-Some.entry
+      | in-Some+in_ok-push-in-Some w ↦ let is = ap (option_map (full_entry v)) (sym w.in-Some.is) ∙ c.in_ok-entry.ensures nodes a in
+          push_some f c.args.reference c.loop-block.block (map (full_entry v) c.args.found.now.items) (map (full_entry v) c.loop-block.found.items) (map (full_entry v) c.match-branch-2.found.items) (full_entry v w.in-Some.entry)
           (c.loop-block.invariant nodes a) is
-          (entries_more v nodes (c.args.reference, c.loop-block.block) c.loop-block.found.items c.match-branch-2.found.items w.in-Some.entry
-          (ap (λ x. x.items) w.found-is ∙ w.in_ok-push-in-Some.ensures.items ∙ ap (λ x. c.loop-block.found.items ++ x ∷ []) w.bare_entry.ensures) is)
+          (entries_more v c.loop-block.found.items c.match-branch-2.found.items w.in-Some.entry (ap (λ x. x.items) w.found-is ∙ w.in_ok-push-in-Some.ensures.items))
       | in-None w ↦ ap (λ x. map (full_entry v) x.items) w.found-is ∙ push_none f c.args.reference c.loop-block.block (map (full_entry v) c.args.found.now.items) (map (full_entry v) c.loop-block.found.items)
-          (c.loop-block.invariant nodes a) (sym w.in-None.is ∙ c.in_ok-entry.ensures nodes a)
+          (c.loop-block.invariant nodes a) (ap (option_map (full_entry v)) (sym w.in-None.is) ∙ c.in_ok-entry.ensures nodes a)
     ]

@@ -2,8 +2,10 @@ use Rattle.std.proofs.Common.{◌∙◌, ap, refl, sym, true, false}
 use Rattle.udfs_space.specs.Views.{view_now}
 use Rattle.udfs_file.specs.Entries.{entry_of}
 use Rattle.udfs_file.specs.Bodies.{body}
+use Rattle.udfs_walk.specs.Bare.{bare_standing}
 use Rattle.udfs_walk.specs.Standings.{body_standing}
 use Rattle.udfs_walk.specs.Targets.{bad, target, unread}
+use Rattle.udfs_walk.proofs.BareNodes.{entry_again}
 use Rattle.udfs_walk.proofs.NamedLemmas.{no_entry, is_named, is_unnamed}
 use Rattle.udfs_walk.proofs.unnamed_entries.unnamed_at.Goals as goal
 
@@ -22,13 +24,13 @@ pub returns-in-Unread : goal.returns-in-Unread
 returns-in-Unread c = λ nodes a. no_entry (view_now c.args.view) nodes (c.args.reference, c.args.block) (unread c.in-Unread.field-0) (c.in-Unread.ensures.value ∙ ap (target (view_now c.args.view)) c.entry_address-address.ensures) refl
 
 pub returns-in_ok-told-in-Entry : goal.returns-in_ok-told-in-Entry
-returns-in_ok-told-in-Entry c = λ nodes a. is_unnamed (view_now c.args.view) nodes c.args.keys.now c.args.reference c.args.block c.key-key.result c.is_among.result
-    (entry_of c.in-Entry.entry) _ a c.key-key.ensures.block c.key-key.ensures.value c.is_among.ensures c.if-is_among.false (c.in-Entry.ensures.value ∙ ap (target (view_now c.args.view)) c.entry_address-address.ensures)
-    (λ i. record {
+returns-in_ok-told-in-Entry c = λ nodes a. let there = c.in-Entry.ensures.value ∙ ap (target (view_now c.args.view)) c.entry_address-address.ensures in is_unnamed (view_now c.args.view) nodes c.args.keys.now c.args.reference c.args.block c.key-key.result c.is_among.result
+    (entry_of c.in-Entry.entry) _ a c.key-key.ensures.block c.key-key.ensures.value c.is_among.ensures c.if-is_among.false there
+    (entry_again (view_now c.args.view) (c.args.reference, c.args.block) (entry_of c.in-Entry.entry) _ there (λ i. record {
       reference = c.args.reference;
       block = c.args.block;
       kind = c.kind.ensures i;
       size = c.size.ensures i;
       stamp = c.stamp.ensures i;
-      standing = (c.in_ok-told-in-Entry.ensures.standing ∙ ap (λ z. body_standing (entry_of c.in-Entry.entry).kind false (body (view_now c.args.view) z.reference z.block (entry_of c.in-Entry.entry))) c.entry_address-address.ensures) i;
-    })
+      standing = (c.in_ok-told-in-Entry.ensures.standing ∙ ap (λ z. bare_standing (body_standing (entry_of c.in-Entry.entry).kind false (body (view_now c.args.view) z.reference z.block (entry_of c.in-Entry.entry)))) c.entry_address-address.ensures) i;
+    }))

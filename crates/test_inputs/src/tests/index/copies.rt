@@ -1,0 +1,282 @@
+//! Table files that are written from an index.
+
+ghost use Rattle.std.specs.Prelude.{None, ⊤};
+
+use super::{index_of, reading};
+use std::alloc::{AllocError, Global};
+use std::cell::Cell;
+use std::test::Fail;
+use udfs_index::{CopyFault, Cursor, Index, Stored, StoredBytes, Unread};
+use udfs_reading::{
+    DeviceFault, Reader, Sink, WriteFault, Writer, join_inputs, take_inputs, write_table,
+    write_table_v1,
+};
+
+/// The table file of version 2 with packet 9 alone: block 300 is in conflict, and block 301 known. They are bits 12 and 13.
+pub(super) fn two_states(alloc: Global) -> Result<Vec<u8>, AllocError> {
+    let mut file = Vec::new(alloc);
+    file.extend_from_slice(
+        b"UDFTABL2\x00\x08\x00\x00\x01\x00\x00\x00\x09\x00\x00\x00\x00\x20\x00\x00\x00\x10\x00\x00",
+    )?;
+    file.extend_from_slice(&[0x63; 2048])?;
+    Ok(file)
+}
+
+/// The first of three inputs: block 5 once more, block 8 behind block 7, block 300.
+pub(super) fn first(alloc: Global) -> Result<Vec<u8>, AllocError> {
+    reading(
+        alloc,
+        &[(5, 0x61), (7, 0x62), (8, 0x65), (300, 0x66), (5, 0x61)],
+    )
+}
+
+/// The second of them: the last block, block 7 as it was, and other bytes of block 5.
+pub(super) fn second(alloc: Global) -> Result<Vec<u8>, AllocError> {
+    reading(alloc, &[(4_194_303, 0x64), (7, 0x62), (5, 0x63)])
+}
+
+/// All three in version 2: of packet 0 blocks 7 and 8 are known, and 5 is in conflict; packet 9 as it stood; of packet 131,071
+/// block 31 is known.
+fn packed(alloc: Global) -> Result<Vec<u8>, AllocError> {
+    let mut file = Vec::new(alloc);
+    file.extend_from_slice(b"UDFTABL2\x00\x08\x00\x00\x03\x00\x00\x00")?;
+    file.extend_from_slice(b"\x00\x00\x00\x00\x80\x01\x00\x00\x20\x00\x00\x00")?;
+    file.extend_from_slice(&[0x62; 2048])?;
+    file.extend_from_slice(&[0x65; 2048])?;
+    file.extend_from_slice(b"\x09\x00\x00\x00\x00\x20\x00\x00\x00\x10\x00\x00")?;
+    file.extend_from_slice(&[0x63; 2048])?;
+    file.extend_from_slice(b"\xff\xff\x01\x00\x00\x00\x00\x80\x00\x00\x00\x00")?;
+    file.extend_from_slice(&[0x64; 2048])?;
+    Ok(file)
+}
+
+/// All three in version 1.
+fn listed(alloc: Global) -> Result<Vec<u8>, AllocError> {
+    let mut file = Vec::new(alloc);
+    file.extend_from_slice(b"UDFTABL1\x00\x08\x00\x00\x06\x00\x00\x00")?;
+    file.extend_from_slice(b"\x05\x00\x00\x00\x02")?;
+    file.extend_from_slice(b"\x07\x00\x00\x00\x01")?;
+    file.extend_from_slice(&[0x62; 2048])?;
+    file.extend_from_slice(b"\x08\x00\x00\x00\x01")?;
+    file.extend_from_slice(&[0x65; 2048])?;
+    file.extend_from_slice(b"\x2c\x01\x00\x00\x02")?;
+    file.extend_from_slice(b"\x2d\x01\x00\x00\x01")?;
+    file.extend_from_slice(&[0x63; 2048])?;
+    file.extend_from_slice(b"\xff\xff\x3f\x00\x01")?;
+    file.extend_from_slice(&[0x64; 2048])?;
+    Ok(file)
+}
+
+/// The index of three inputs, if all of them were taken.
+fn index_of_three<'a, S: Stored>(
+    alloc: Global,
+    first: &'a S,
+    second: &'a S,
+    third: &'a S,
+) -> Result<(Index<'a, S>, bool), AllocError> {
+    let mut index = Index::new(alloc)?;
+    let mut sources = [Cursor::new(first), Cursor::new(second), Cursor::new(third)];
+    let is_taken = take_inputs(&mut sources, &mut index).is_ok();
+    Ok((index, is_taken))
+}
+
+#[test]
+fn both_versions_are_those_of_the_table(rt: HostRuntime) -> Result<(), Fail> {
+    let alloc = rt.alloc();
+    let (one, two, three) = (first(alloc)?, second(alloc)?, two_states(alloc)?);
+    let a = StoredBytes::new(one.as_slice());
+    let b = StoredBytes::new(two.as_slice());
+    let c = StoredBytes::new(three.as_slice());
+    let (index, is_taken) = index_of_three(alloc, &a, &b, &c)?;
+    assert!(rt; is_taken);
+    let mut out = Writer::new(Vec::new(alloc));
+    assert_eq!(rt; index.write_table(&mut out), Ok(()));
+    assert_eq!(rt; out.into_inner().as_slice(), packed(alloc)?.as_slice());
+    let mut out = Writer::new(Vec::new(alloc));
+    assert_eq!(rt; index.write_table_v1(&mut out), Ok(()));
+    assert_eq!(rt; out.into_inner().as_slice(), listed(alloc)?.as_slice());
+    Ok(())
+}
+
+#[test]
+fn a_table_of_the_same_inputs_is_written_alike(rt: HostRuntime) -> Result<(), Fail> {
+    let alloc = rt.alloc();
+    let (one, two, three) = (first(alloc)?, second(alloc)?, two_states(alloc)?);
+    let mut sources = [
+        Reader::new(one.as_slice()),
+        Reader::new(two.as_slice()),
+        Reader::new(three.as_slice()),
+    ];
+    let Ok(table) = join_inputs(alloc, &mut sources) else {
+        assert!(rt; false);
+        return Ok(());
+    };
+    let mut out = Writer::new(Vec::new(alloc));
+    assert!(rt; write_table(&table, &mut out).is_ok());
+    assert_eq!(rt; out.into_inner().as_slice(), packed(alloc)?.as_slice());
+    let mut out = Writer::new(Vec::new(alloc));
+    assert!(rt; write_table_v1(&table, &mut out).is_ok());
+    assert_eq!(rt; out.into_inner().as_slice(), listed(alloc)?.as_slice());
+    Ok(())
+}
+
+#[test]
+fn nothing_is_written_of_no_input(rt: HostRuntime) -> Result<(), Fail> {
+    let alloc = rt.alloc();
+    let index: Index<'_, StoredBytes<'_>> = Index::new(alloc)?;
+    let mut out = Writer::new(Vec::new(alloc));
+    assert_eq!(rt; index.write_table(&mut out), Ok(()));
+    assert_eq!(rt;
+        out.into_inner().as_slice(),
+        b"UDFTABL2\x00\x08\x00\x00\x00\x00\x00\x00".as_slice()
+    );
+    let mut out = Writer::new(Vec::new(alloc));
+    assert_eq!(rt; index.write_table_v1(&mut out), Ok(()));
+    assert_eq!(rt;
+        out.into_inner().as_slice(),
+        b"UDFTABL1\x00\x08\x00\x00\x00\x00\x00\x00".as_slice()
+    );
+    Ok(())
+}
+
+/// Bytes in memory of which so many reads succeed, and which end where it is said.
+#[derive(Drop)]
+pub(super) struct Shaky<'a> {
+    pub(super) bytes: &'a [u8],
+    pub(super) reads: Cell<u64>,
+    pub(super) end: Cell<u64>,
+}
+
+impl<'a> Shaky<'a> {
+    /// All of the bytes, however often they are read.
+    pub(super) fn new(bytes: &'a [u8]) -> Shaky<'a> {
+        Shaky {
+            bytes,
+            reads: Cell::new(1_000_000),
+            end: Cell::new(bytes.len() as u64),
+        }
+    }
+}
+
+impl<'a> Stored for Shaky<'a> {
+    ghost content = { λ _. None };
+
+    ghost fails = { λ _. ⊤ };
+
+    fn size(&self) -> Result<u64, DeviceFault> {
+        Ok(self.bytes.len() as u64)
+    }
+
+    fn read_at(&self, at: u64, buf: &mut [u8]) -> Result<usize, DeviceFault> {
+        let Some(left) = self.reads.get().checked_sub(1) else {
+            return Err(DeviceFault);
+        };
+        self.reads.set(left);
+        let room = self.end.get().saturating_sub(at).min(buf.len() as u64);
+        let most = room as usize;
+        StoredBytes::new(self.bytes).read_at(at, &mut buf[..most])
+    }
+}
+
+#[test]
+fn an_input_that_cannot_be_read_again_is_named(rt: HostRuntime) -> Result<(), Fail> {
+    let alloc = rt.alloc();
+    let (one, two) = (first(alloc)?, second(alloc)?);
+    let a = Shaky::new(one.as_slice());
+    let b = Shaky::new(two.as_slice());
+    let (index, error) = index_of(alloc, &a, &b)?;
+    assert!(rt; error.is_none());
+    // Blocks 7 and 8 and block 300 are read of the first input, the last block of the second one.
+    for (reads, input, at) in [(0, 0, 2072), (1, 0, 6176), (2, 1, 20)] {
+        a.reads.set(reads);
+        b.reads.set(0);
+        let mut out = Writer::new(Vec::new(alloc));
+        assert_eq!(rt;
+            index.write_table(&mut out),
+            Err(CopyFault::Input(Unread { input, at }))
+        );
+    }
+    a.reads.set(3);
+    b.reads.set(0);
+    let mut out = Writer::new(Vec::new(alloc));
+    assert_eq!(rt;
+        index.write_table_v1(&mut out),
+        Err(CopyFault::Input(Unread { input: 1, at: 20 }))
+    );
+    a.reads.set(2);
+    b.reads.set(1);
+    let mut out = Writer::new(Vec::new(alloc));
+    assert_eq!(rt; index.write_table(&mut out), Ok(()));
+    Ok(())
+}
+
+#[test]
+fn an_input_that_ends_early_is_named(rt: HostRuntime) -> Result<(), Fail> {
+    let alloc = rt.alloc();
+    let (one, two) = (first(alloc)?, second(alloc)?);
+    let a = Shaky::new(one.as_slice());
+    let b = Shaky::new(two.as_slice());
+    let (index, error) = index_of(alloc, &a, &b)?;
+    assert!(rt; error.is_none());
+    // The last block stands at the front of the second input, behind its header and the block's number.
+    b.end.set(20 + 2047);
+    let mut out = Writer::new(Vec::new(alloc));
+    assert_eq!(rt;
+        index.write_table(&mut out),
+        Err(CopyFault::Input(Unread { input: 1, at: 20 }))
+    );
+    let mut out = Writer::new(Vec::new(alloc));
+    assert_eq!(rt;
+        index.write_table_v1(&mut out),
+        Err(CopyFault::Input(Unread { input: 1, at: 20 }))
+    );
+    b.end.set(20 + 2048);
+    let mut out = Writer::new(Vec::new(alloc));
+    assert_eq!(rt; index.write_table(&mut out), Ok(()));
+    Ok(())
+}
+
+/// A sink that takes so many bytes.
+#[derive(Drop)]
+struct Full {
+    room: usize,
+    faults: u64,
+}
+
+impl Sink for Full {
+    ghost stream = { λ f. record { contents = None; faults = f.faults } };
+
+    fn write(&mut self, buf: &[u8]) -> Result<usize, DeviceFault> {
+        if self.room == 0 {
+            self.faults = self.faults.wrapping_add(1);
+            return Err(DeviceFault);
+        }
+        let count = self.room.min(buf.len());
+        self.room -= count;
+        Ok(count)
+    }
+}
+
+#[test]
+fn a_sink_that_fails_is_no_inputs_fault(rt: HostRuntime) -> Result<(), Fail> {
+    let alloc = rt.alloc();
+    let one = first(alloc)?;
+    let stored = StoredBytes::new(one.as_slice());
+    let (index, error) = index_of(alloc, &stored, &stored)?;
+    assert!(rt; error.is_none());
+    for room in [1, 16, 27, 2076] {
+        let mut out = Full { room, faults: 0 };
+        assert_eq!(rt;
+            index.write_table(&mut out),
+            Err(CopyFault::Sink(WriteFault))
+        );
+        assert_eq!(rt; out.faults, 1);
+        let mut out = Full { room, faults: 0 };
+        assert_eq!(rt;
+            index.write_table_v1(&mut out),
+            Err(CopyFault::Sink(WriteFault))
+        );
+        assert_eq!(rt; out.faults, 1);
+    }
+    Ok(())
+}

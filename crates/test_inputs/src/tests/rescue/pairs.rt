@@ -1,0 +1,195 @@
+//! An image with its map is read as the reading of its known blocks.
+
+ghost use Rattle.std.specs.Prelude.{ℕ, List, Option, None};
+
+use std::alloc::Global;
+use std::test::Fail;
+use udfs_lattice::Fact;
+use udfs_reading::{DeviceFault, Reader, ReadingError, ReadingFault, Source, read_input};
+use udfs_rescue::{Image, KnownBlocks, Mapfile, Pair};
+
+/// An image in memory, which gives few bytes at once, and can not be read from a position on.
+#[derive(Drop)]
+struct Narrow<'a> {
+    all: &'a [u8],
+    most: usize,
+    bad: u64,
+    faults: u64,
+}
+
+impl<'a> Image for Narrow<'a> {
+    ghost bytes = { λ _. None };
+
+    ghost faults = { λ n. n.faults };
+
+    fn size(&mut self) -> Result<u64, DeviceFault> {
+        Ok(self.all.len() as u64)
+    }
+
+    fn read_at(&mut self, at: u64, buf: &mut [u8]) -> Result<usize, DeviceFault> {
+        if at >= self.bad {
+            self.faults = self.faults.wrapping_add(1);
+            return Err(DeviceFault);
+        }
+        let size = self.all.len() as u64;
+        if at >= size {
+            return Ok(0);
+        }
+        let rest = &self.all[at as usize..];
+        let count = rest.len().min(buf.len()).min(self.most);
+        buf[..count].copy_from_slice(&rest[..count]);
+        Ok(count)
+    }
+}
+
+/// An image of so many blocks, of which each byte is the number of its block, modulo 251.
+fn image_of(alloc: Global, blocks: u32) -> Result<Vec<u8>, Fail> {
+    let mut all = Vec::new(alloc);
+    for n in 0..blocks {
+        all.extend_from_slice(&[(n % 251) as u8; 2048])?;
+    }
+    Ok(all)
+}
+
+fn known_of(alloc: Global, map: &[u8]) -> Result<KnownBlocks, Fail> {
+    let map = Mapfile::read(alloc, &mut Reader::new(map))?;
+    let known = KnownBlocks::of_map(alloc, &map)?;
+    Ok(known)
+}
+
+fn pair_of<'a>(
+    alloc: Global,
+    all: &'a [u8],
+    most: usize,
+    bad: u64,
+    map: &[u8],
+) -> Result<Pair<Narrow<'a>>, Fail> {
+    let image = Narrow {
+        all,
+        most,
+        bad,
+        faults: 0,
+    };
+    let pair = Pair::new(alloc, image, known_of(alloc, map)?)?;
+    Ok(pair)
+}
+
+#[test]
+fn a_pair_is_the_reading_of_its_known_blocks(rt: HostRuntime) -> Result<(), Fail> {
+    let alloc = rt.alloc();
+    let all = image_of(alloc, 400)?;
+    // Blocks 1, 2 and 150 to 399 are known: a piece has 128 blocks.
+    let map = b"0 +\n0 2048 -\n2048 4096 +\n6144 301056 ?\n307200 512000 +\n";
+    for most in [1000, 1_000_000] {
+        let mut pair = pair_of(alloc, all.as_slice(), most, u64::MAX, map)?;
+        let table = read_input(alloc, &mut pair)?;
+        assert_eq!(rt; table.known(), 252);
+        for n in [1u32, 2, 150, 277, 278, 279, 399] {
+            assert!(rt;
+                matches!(table.state(n), Fact::Known(b) if b[0] == (n % 251) as u8 && b[2047] == (n % 251) as u8)
+            );
+        }
+        for n in [0u32, 3, 149, 400] {
+            assert!(rt; matches!(table.state(n), Fact::Unknown));
+        }
+    }
+    Ok(())
+}
+
+/// The bytes are those of the reading file, and come in pieces of any size.
+#[test]
+fn the_bytes_of_a_pair(rt: HostRuntime) -> Result<(), Fail> {
+    let alloc = rt.alloc();
+    let all = image_of(alloc, 3)?;
+    let mut pair = pair_of(
+        alloc,
+        all.as_slice(),
+        5000,
+        u64::MAX,
+        b"0 +\n0 2048 -\n2048 4096 +\n",
+    )?;
+    let mut due = Vec::new(alloc);
+    due.extend_from_slice(b"UDFREAD1\x00\x08\x00\x00\x02\x00\x00\x00\x01\x00\x00\x00")?;
+    due.extend_from_slice(&[1; 2048])?;
+    due.extend_from_slice(b"\x02\x00\x00\x00")?;
+    due.extend_from_slice(&[2; 2048])?;
+    let mut got = Vec::new(alloc);
+    let mut piece = [0u8; 7];
+    for _ in 0..1000 {
+        let Ok(count) = pair.read(&mut piece) else {
+            break;
+        };
+        got.extend_from_slice(&piece[..count])?;
+        if count == 0 {
+            break;
+        }
+    }
+    assert!(rt; got == due);
+    Ok(())
+}
+
+#[test]
+fn an_empty_map_is_an_empty_reading(rt: HostRuntime) -> Result<(), Fail> {
+    let alloc = rt.alloc();
+    let mut pair = pair_of(alloc, &[], 1, u64::MAX, b"")?;
+    let table = read_input(alloc, &mut pair)?;
+    assert_eq!(rt; table.known(), 0);
+    Ok(())
+}
+
+#[test]
+fn an_image_that_ends_early(rt: HostRuntime) -> Result<(), Fail> {
+    let alloc = rt.alloc();
+    let map = b"0 +\n0 2048 +\n2048 2048 ?\n4096 4096 +\n";
+    let known = known_of(alloc, map)?;
+    for (size, block) in [
+        (0u64, Some(0u64)),
+        (2047, Some(0)),
+        (2048, Some(2)),
+        (6143, Some(2)),
+        (6144, Some(3)),
+        (8191, Some(3)),
+        (8192, None),
+        (u64::MAX, None),
+    ] {
+        assert_eq!(rt; known.first_outside(size), block);
+    }
+    // Where that is not asked before, it is a fault of the device at the block.
+    let all = image_of(alloc, 3)?;
+    let mut pair = pair_of(alloc, all.as_slice(), 5000, u64::MAX, map)?;
+    let refused = read_input(alloc, &mut pair);
+    assert!(rt;
+        matches!(
+            refused,
+            Err(ReadingError {
+                fault: ReadingFault::Io,
+                number: 2
+            })
+        )
+    );
+    Ok(())
+}
+
+#[test]
+fn a_device_fails(rt: HostRuntime) -> Result<(), Fail> {
+    let alloc = rt.alloc();
+    let all = image_of(alloc, 3)?;
+    let mut pair = pair_of(
+        alloc,
+        all.as_slice(),
+        2048,
+        2048,
+        b"0 +\n0 2048 +\n2048 2048 ?\n4096 2048 +\n",
+    )?;
+    let refused = read_input(alloc, &mut pair);
+    assert!(rt;
+        matches!(
+            refused,
+            Err(ReadingError {
+                fault: ReadingFault::Io,
+                number: 2
+            })
+        )
+    );
+    Ok(())
+}

@@ -1,0 +1,4 @@
+//! The table of blocks.
+
+mod packets;
+mod whole;

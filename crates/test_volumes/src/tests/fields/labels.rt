@@ -1,0 +1,35 @@
+//! Labels.
+
+use std::test::Fail;
+use udfs_osta::Label;
+
+/// What a label says: nothing, a name by its escaped form, or that it is invalid.
+fn label_text(rt: &HostRuntime, front: &[u8], used: u8) -> Result<String, Fail> {
+    let mut bytes = [0; 128];
+    for (place, byte) in bytes.iter_mut().zip(front) {
+        *place = *byte;
+    }
+    bytes[127] = used;
+    let mut text = String::new(rt.alloc());
+    match Label::read(rt.alloc(), &bytes)? {
+        Label::Empty => {}
+        Label::Name(name) => name.write_escaped(&mut text)?,
+        Label::Invalid => text.push_str("(invalid)")?,
+    }
+    Ok(text)
+}
+
+#[test]
+fn labels(rt: HostRuntime) -> Result<(), Fail> {
+    assert_eq!(rt; label_text(&rt, b"\x08TAPE", 0)?.as_str(), "");
+    assert_eq!(rt; label_text(&rt, b"\x08TAPE", 5)?.as_str(), "TAPE");
+    assert_eq!(rt; label_text(&rt, b"\x08TAPE", 3)?.as_str(), "TA");
+    assert_eq!(rt; label_text(&rt, b"\x08.", 2)?.as_str(), "\\u002E");
+    assert_eq!(rt; label_text(&rt, b"\x10\x00T", 3)?.as_str(), "T");
+    assert_eq!(rt; label_text(&rt, &[8; 127], 127)?.len(), 6 * 126);
+    assert_eq!(rt; label_text(&rt, b"\x08TAPE", 128)?.as_str(), "(invalid)");
+    assert_eq!(rt; label_text(&rt, b"\x08TAPE", 1)?.as_str(), "(invalid)");
+    assert_eq!(rt; label_text(&rt, b"\x09TAPE", 5)?.as_str(), "(invalid)");
+    assert_eq!(rt; label_text(&rt, b"\x10\x00T", 2)?.as_str(), "(invalid)");
+    Ok(())
+}

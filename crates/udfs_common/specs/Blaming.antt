@@ -1,0 +1,102 @@
+-- Why the inputs of some paths were not joined, and which of them is to blame.
+--     IsShut shut paths refusal         one of the paths may fail to open, and it is named
+--     AreJudged found paths sources     each source that was refused when it was opened is an image whose mapfile gives no reading of it, for this reason
+--     BlamesSource                      one of these sources could not be read, and what is said of it
+--     BlamesInput                       the same of the sources of some paths
+--     InputsRefused                     the inputs of some paths were not joined: for want of memory, or because one of them is shut, or could not be read
+--     EndRefused                        no last block is known: the words tell none, and it has to be given, or the inputs are to blame
+--     first_refused, refusal_by         how it is found which reason a pair has
+use Rattle.std.specs.Prelude.{◌≡◌, ◌⊎◌, ⊤, ℕ, ◌+◌, ◌-◌, List, [], ◌∷◌, Option, Some, None, IfSome, length, slice_get, alloc_error, nat_eq, if◌then◌else◌, false, is_some, codes}
+use Rattle.clap.specs.Matches.{matched_of}
+use Rattle.clap.specs.declared.parser.matches.Found.{Found}
+use Rattle.udfs_reading.specs.Several.{InputFails}
+use Rattle.udfs_reading.specs.declared.inputs.InputError.{InputError}
+use Rattle.udfs_rescue.specs.Opening.{PairFails}
+use Rattle.udfs_rescue.specs.declared.opening.PairFault.{PairFault}
+use Rattle.udfs_common.specs.Keeping.{Opens}
+use Rattle.udfs_common.specs.Refusing.{refusal_for, refusal_of, refused_pair}
+use Rattle.udfs_common.specs.declared.refusal.Refusal.{Refusal}
+use Rattle.udfs_common.specs.declared.refusal.Refusal.TheVariants.{Memory, NoLast, Open}
+use Rattle.udfs_common.specs.declared.sources.AnySource.{AnySource}
+use Rattle.udfs_common.specs.declared.sources.AnySource.TheVariants.{File, Paired, Refused}
+use Rattle.udfs_words.specs.declared.input_path.InputPath.{InputPath}
+use Rattle.udfs_words.specs.declared.input_path.InputPath.TheVariants as path
+
+-- the path of a file, or one of those of an image and its mapfile, may fail to open
+abbrev pub MayBeShut : (List ℕ → Type 0) → InputPath → Type 0
+MayBeShut shut (path.File p) = shut p.now
+MayBeShut shut (path.Pair image map) = shut image.now ⊎ shut map.now
+
+-- the input at this place may fail to open, and it is named, counted from 1
+pub record IsShut (shut : List ℕ → Type 0) (paths : List InputPath) (refusal : Refusal) : Type 0 where
+  pub place : ℕ
+  pub path : InputPath
+  pub stands : slice_get paths place ≡ Some path
+  pub may : MayBeShut shut path
+  pub named : refusal ≡ Open (place + 1)
+
+-- why an image with its mapfile has no reading, where what both paths lead to is told
+pub record IsRefusedPair (found : List ℕ → Option (Option (List ℕ))) (image map : List ℕ) (fault : PairFault) : Type 0 where
+  pub image_has : Option (List ℕ)
+  pub map_has : Option (List ℕ)
+  pub image_found : IfSome (found image) (λ held. image_has ≡ held)
+  pub map_found : IfSome (found map) (λ held. map_has ≡ held)
+  pub fails : PairFails image_has map_has fault
+
+-- a file is refused by no mapfile
+abbrev pub IsPathRefused : (List ℕ → Option (Option (List ℕ))) → InputPath → PairFault → Type 0
+IsPathRefused found (path.File p) fault = ⊥
+IsPathRefused found (path.Pair image map) fault = IsRefusedPair found image.now map.now fault
+
+-- by the source's kind
+abbrev pub IsJudgedBy : {R I : Type 0} → (List ℕ → Option (Option (List ℕ))) → InputPath → AnySource R I → Type 0
+IsJudgedBy found path (File source) = ⊤
+IsJudgedBy found path (Paired source) = ⊤
+IsJudgedBy found path (Refused fault count) = IsPathRefused found path fault
+
+-- a source that was refused when it was opened was refused for what its path leads to
+pub record IsJudged {R I : Type 0} (found : List ℕ → Option (Option (List ℕ))) (path : InputPath) (source : AnySource R I) : Type 0 where
+  pub by : IsJudgedBy found path source
+
+-- the source at each place by the path at that place
+abbrev pub AreJudged : {R I : Type 0} → (List ℕ → Option (Option (List ℕ))) → List InputPath → List (AnySource R I) → Type 0
+AreJudged {R} {I} found paths sources = (k : ℕ) (path : InputPath) (source : AnySource R I) → slice_get paths k ≡ Some path → slice_get sources k ≡ Some source → IsJudged found path source
+
+-- one of these sources could not be read: those before it have tables; a pair that was refused has its own reason
+pub record BlamesSource {R I : Type 0} (remaining : AnySource R I → Option (List ℕ)) (faults : AnySource R I → ℕ) (before after : List (AnySource R I)) (refusal : Refusal) : Type 0 where
+  pub error : InputError
+  pub fails : InputFails remaining faults before after error
+  pub told : refusal ≡ refusal_for (slice_get before (error.input - 1)) error
+
+-- the same of the sources that the paths lead to
+pub record BlamesInput {R I : Type 0} (found : List ℕ → Option (Option (List ℕ))) (remaining : AnySource R I → Option (List ℕ)) (faults : AnySource R I → ℕ) (paths : List InputPath) (refusal : Refusal) : Type 0 where
+  pub sources : List (AnySource R I)
+  pub after : List (AnySource R I)
+  pub each : length sources ≡ length paths
+  pub opened : Opens found remaining paths sources
+  pub judged : AreJudged found paths sources
+  pub blames : BlamesSource remaining faults sources after refusal
+
+-- why the inputs of these paths were not joined
+pub record InputsRefused {R I : Type 0} (found : List ℕ → Option (Option (List ℕ))) (shut : List ℕ → Type 0) (remaining : AnySource R I → Option (List ℕ)) (faults : AnySource R I → ℕ) (paths : List InputPath) (refusal : Refusal) : Type 0 where
+  pub why : (refusal ≡ Memory alloc_error) ⊎ IsShut shut paths refusal ⊎ BlamesInput found remaining faults paths refusal
+
+-- neither a last block nor the size of a disc was given
+abbrev pub HasNoEnd : Found → Type 0
+HasNoEnd words = (is_some (matched_of words (codes "last")) ≡ false) × (is_some (matched_of words (codes "size")) ≡ false)
+
+-- why no last block is known
+abbrev pub EndRefused : {R I : Type 0} → (List ℕ → Option (Option (List ℕ))) → (List ℕ → Type 0) → (AnySource R I → Option (List ℕ)) → (AnySource R I → ℕ) → List InputPath → Found → Refusal → Type 0
+EndRefused found shut remaining faults paths words refusal = HasNoEnd words × ((refusal ≡ NoLast) ⊎ InputsRefused found shut remaining faults paths refusal)
+
+-- the first of these sources that was refused when it was opened, the first of all being this one, and why
+abbrev pub first_refused : {R I : Type 0} → ℕ → List (AnySource R I) → Option (ℕ × PairFault)
+first_refused n [] = None
+first_refused n (Refused fault count ∷ sources) = Some (n, fault)
+first_refused n (File source ∷ sources) = first_refused (n + 1) sources
+first_refused n (Paired source ∷ sources) = first_refused (n + 1) sources
+
+-- what is said of an input's error, where that is the first one that was refused
+abbrev pub refusal_by : Option (ℕ × PairFault) → InputError → Refusal
+refusal_by None error = refusal_of error
+refusal_by (Some refused) error = if nat_eq refused.0 error.input then refused_pair error.input refused.1 else refusal_of error

@@ -1,0 +1,69 @@
+//! The record of an input to which bytes at a position belong.
+
+ghost use Rattle.std.specs.Prelude.{None, ⊤};
+
+use crate::cursor::Cursor;
+use crate::stored::{Stored, fill};
+use byteorder::{ByteOrder, LittleEndian};
+use udfs_reading::{NotTaken, Source, Taker, take_inputs};
+
+/// The position of nothing that an input has: what is told of it is told of the input's end.
+pub const END: u64 = u64::MAX;
+
+/// How many bytes stand before the first record of an input.
+const HEADER: u64 = 16;
+
+/// Takes nothing, and stops at the content that stands at this position.
+#[derive(Drop)]
+struct Seeker {
+    at: u64,
+}
+
+impl<R: Source> Taker<R> for Seeker {
+    ghost took = { λ _ _. ⊤ };
+
+    ghost input = { λ _. None };
+
+    fn begin(&mut self, _source: &mut R) {
+        let _ = self;
+    }
+
+    fn put(&mut self, _block: u32, _bytes: &[u8; 2048], at: u64) -> Result<(), NotTaken> {
+        if at >= self.at {
+            return Err(NotTaken);
+        }
+        Ok(())
+    }
+
+    fn dispute(&mut self, _block: u32) -> Result<(), NotTaken> {
+        let _ = self;
+        Ok(())
+    }
+}
+
+/// The number, from 1, of the record of an input whose content stands at a position or is the first behind it; or that of the
+/// record before it that cannot be read, as the input is read again from its front; 0 in the header, and at [`END`] the count of
+/// the input's records.
+pub fn record_at<S: Stored>(stored: &S, at: u64) -> u32 {
+    if at < HEADER {
+        return 0;
+    }
+    if at == END {
+        return record_count(stored);
+    }
+    let mut seeker = Seeker { at };
+    match take_inputs(&mut [Cursor::new(stored)], &mut seeker) {
+        Ok(()) => record_count(stored),
+        Err(error) => error.error.number,
+    }
+}
+
+/// How many records an input says that it has, which stands behind its magic and the length of a block; 0 where that cannot be
+/// read.
+pub fn record_count<S: Stored>(stored: &S) -> u32 {
+    let mut bytes = [0; 4];
+    match fill(stored, 12, &mut bytes) {
+        Ok(true) => LittleEndian::read_u32(&bytes),
+        _ => 0,
+    }
+}

@@ -1,0 +1,13 @@
+use Rattle.std.proofs.Common.{inr, rules}
+use Rattle.udfs_salvage.specs.Surveys.{survey_now}
+use Rattle.udfs_reports.proofs.list.NodeLinesTelling.tell.Goals as goal
+
+pub returns-clause-refused : goal.returns-clause-refused
+returns-clause-refused g c =
+    inr (record {
+      report = survey_now c.in-Ok.survey;
+      is_report = c.in-Ok.ensures.report;
+      error = c.in-Err-write_list.error;
+      stopped = c.in-Err-write_list.ensures;
+      told = search rules;
+    })

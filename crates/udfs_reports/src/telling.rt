@@ -1,0 +1,126 @@
+//! What the commands that only print have in common: readings in, a text of the report of their volume out.
+
+ghost use Rattle.std.specs.Prelude.{◌≡◌, ℕ, List, IfOk, IfErr};
+ghost use Rattle.clap.specs.Matches.{found_of};
+ghost use Rattle.udfs_lattice.specs.Tables.{Table, state_of};
+ghost use Rattle.udfs_volume.specs.Seen.{IsRising};
+ghost use Rattle.udfs_volume.specs.declared.profiles.Profile.{Profile};
+ghost use Rattle.udfs_words.specs.Asking.{IsLast, IsProfile};
+ghost use Rattle.udfs_salvage.specs.Headline.{HeadlineBy};
+ghost use Rattle.udfs_salvage.specs.Reports.{IsReportBy, Report};
+ghost use Rattle.udfs_salvage.specs.Surveys.{survey_now};
+ghost use Rattle.udfs_common.specs.Keeping.{OfPaths};
+ghost use Rattle.udfs_common.specs.declared.sources.AnySource.{AnySource};
+ghost use Rattle.udfs_reports.specs.Telling.{EndOrPathsRefused, IsRefusedTelling, IsUntold, OfPathsRefused, Tells};
+
+use clap::ArgMatches;
+use std::alloc::Global;
+use udfs_common::ends::asked_end;
+use udfs_common::files::Files;
+use udfs_common::inputs::joined;
+use udfs_common::refusal::Refusal;
+use udfs_common::sources::AnySource;
+use udfs_lattice::BlockTable;
+use udfs_reading::{Sink, Source};
+use udfs_salvage::{Survey, survey_volume_by};
+use udfs_volume::Profile;
+use udfs_words::input_path::InputPath;
+use udfs_words::profile::asked_profile;
+
+/// What is printed of the report of a volume.
+pub trait Telling {
+    /// The text of a table's report by the rules of a profile, where this is the last block.
+    ghost text: { Self → Profile → Table → ℕ → Report → List ℕ };
+
+    /// Prints the text of a table's report by the rules of a profile, where `last` is the last block of the volume, and answers whether there are files
+    /// and all of them are whole.
+    ///
+    /// # Errors
+    ///
+    /// Where the table has no report, why; nothing is printed then. `Output` exactly where the sink failed, and `Memory` where memory is refused: then a
+    /// beginning of the text may be out.
+    fn tell<F: Files, O: Sink>(
+        &self,
+        alloc: Global,
+        table: &BlockTable,
+        last: u32,
+        profile: Profile,
+        files: &F,
+        out: &mut O,
+    ) -> Result<bool, Refusal>
+        ensures printed { IfOk result (λ whole. Tells (text self.now) profile last (O.stream out.old) (O.stream out.new) whole table.now) }
+        ensures refused { IfErr result (λ refusal. IsRefusedTelling (text self.now) profile last (O.stream out.old) (O.stream out.new) refusal table.now) };
+}
+
+/// The survey of a table's volume by the rules of a profile, where `last` is its last block, or why the table has no report.
+pub fn surveyed<'a>(
+    alloc: Global,
+    table: &'a BlockTable,
+    last: u32,
+    profile: Profile,
+) -> Result<Survey<'a>, Refusal>
+    ensures headline { IfOk result (λ survey. HeadlineBy profile (state_of table.now) last (survey_now survey)) }
+    ensures report { IfOk result (λ survey. IsReportBy profile (state_of table.now) last (survey_now survey)) }
+    ensures rising { IfOk result (λ survey. IsRising survey.reread.items) }
+    ensures rules { IfOk result (λ survey. survey.profile ≡ profile) }
+    ensures of { IfOk result (λ survey. (survey.table.now ≡ table.now) × (survey.last ≡ last)) }
+    ensures refused { IfErr result (λ refusal. IsUntold profile last refusal table.now) }
+{
+    match survey_volume_by(alloc, table, last, profile) {
+        Ok(survey) => Ok(survey),
+        Err(error) => Err(Refusal::from(error)),
+    }
+}
+
+/// Joins the inputs, and prints what is told of their volume by the rules of a profile, where `last` is its last block. It answers whether there are files
+/// and all of them are whole. All inputs are opened in order before one is read. No more is held in memory than a survey of the volume, and what is missing of
+/// one node.
+pub fn tell<F: Files, O: Sink, T: Telling>(
+    alloc: Global,
+    inputs: &[InputPath<'_>],
+    last: u32,
+    profile: Profile,
+    telling: &T,
+    files: &F,
+    out: &mut O,
+) -> Result<bool, Refusal>
+    ensures printed { IfOk result (λ whole. OfPaths (λ path. F.holds files.now (F.real files.now path)) (⟦<AnySource<F::Input, F::Image> as Source>⟧.remaining) inputs.now
+        (Tells (T.text telling.now) profile last (O.stream out.old) (O.stream out.new) whole)) }
+    // The inputs were not joined, or their table has no report, and nothing was printed; or a beginning was, and then the sink failed or memory was refused.
+    ensures refused { IfErr result (OfPathsRefused (λ path. F.holds files.now (F.real files.now path)) (F.shut files.now) (⟦<AnySource<F::Input, F::Image> as Source>⟧.remaining) (⟦<AnySource<F::Input, F::Image> as Source>⟧.faults) inputs.now
+        (O.stream out.new ≡ O.stream out.old) (IsRefusedTelling (T.text telling.now) profile last (O.stream out.old) (O.stream out.new))) }
+{
+    let table = match joined(alloc, inputs, files) {
+        Ok(table) => table,
+        Err(refusal) => return Err(refusal),
+    };
+    match telling.tell(alloc, &table, last, profile, files, out) {
+        Ok(whole) => Ok(whole),
+        Err(refusal) => Err(refusal),
+    }
+}
+
+/// Tells of the volume of these inputs, of the last block that the words ask for, and by their rules.
+pub fn tell_asked<F: Files, O: Sink, T: Telling>(
+    alloc: Global,
+    words: &ArgMatches<'_>,
+    inputs: &[InputPath<'_>],
+    telling: &T,
+    files: &F,
+    out: &mut O,
+) -> Result<bool, Refusal>
+    ensures printed { IfOk result (λ whole. (last : ℕ) × (profile : Profile) × IsLast (λ path. F.holds files.now (F.real files.now path)) inputs.now (found_of words.now) last × IsProfile (found_of words.now) profile ×
+        OfPaths (λ path. F.holds files.now (F.real files.now path)) (⟦<AnySource<F::Input, F::Image> as Source>⟧.remaining) inputs.now (Tells (T.text telling.now) profile last (O.stream out.old) (O.stream out.new) whole)) }
+    ensures refused { IfErr result (EndOrPathsRefused (λ path. F.holds files.now (F.real files.now path)) (F.shut files.now) (⟦<AnySource<F::Input, F::Image> as Source>⟧.remaining) (⟦<AnySource<F::Input, F::Image> as Source>⟧.faults) (found_of words.now) inputs.now
+        (O.stream out.new ≡ O.stream out.old) (λ profile last. IsRefusedTelling (T.text telling.now) profile last (O.stream out.old) (O.stream out.new))) }
+{
+    let last = match asked_end(alloc, words, inputs, files) {
+        Ok(last) => last,
+        Err(refusal) => return Err(refusal),
+    };
+    let profile = asked_profile(words);
+    match tell(alloc, inputs, last, profile, telling, files, out) {
+        Ok(whole) => Ok(whole),
+        Err(refusal) => Err(refusal),
+    }
+}

@@ -1,7 +1,0 @@
-//! Worked rows.
-
-mod images;
-mod lists;
-mod maps;
-mod pairs;
-mod texts;

@@ -1,0 +1,132 @@
+//! What is missing of torn bodies, kept where it is short, so that it is found once for many names of one body.
+
+ghost use Rattle.std.specs.Prelude.{◌≡◌, ◌<◌, IfOk, IfSome};
+ghost use Rattle.std.specs.BTreeMap.{IsEmpty};
+ghost use Rattle.udfs_space.specs.Views.{view_now};
+ghost use Rattle.udfs_walk.specs.Bare.{lists_at, with_lists};
+ghost use Rattle.udfs_walk.specs.NamedKeys.{key_of};
+ghost use Rattle.udfs_walk.specs.TornFields.{TornFields};
+ghost use Rattle.udfs_walk.specs.declared.standings.Standing.TheVariants as walk_standing;
+ghost use Rattle.udfs_salvage.specs.KeptLists.{AreKeptLists};
+
+use std::alloc::{AllocError, Global};
+use std::collections::BTreeMap;
+use udfs_file::file_sets::address_fault;
+use udfs_space::View;
+use udfs_tag::LongAd;
+use udfs_walk::{Standing, Torn, full_standing};
+
+/// So many bytes all lists together may take that are kept.
+const MOST_KEPT: usize = 16_000_000;
+
+/// So many bytes what is kept of a body takes beside its lists.
+const BESIDE: usize = 128;
+
+/// An information control block as one number.
+fn key(address: LongAd) -> u64
+    ensures value { result ≡ key_of address.reference address.block }
+    ensures block { address.block < 4294967296 }
+{
+    u64::from(address.reference) * 4294967296 + u64::from(address.block)
+}
+
+/// The same lists once more.
+fn copied(torn: &Torn) -> Result<Torn, AllocError>
+    ensures { IfOk result (λ copy. copy ≡ torn.now) }
+{
+    let missing = torn.missing.clone()?;
+    let holes = torn.holes.clone()?;
+    Ok(Torn { missing, holes })
+}
+
+/// How many bytes lists take that are kept.
+fn size_of(torn: &Torn) -> usize {
+    let missing = torn.missing.len().saturating_mul(4);
+    let holes = torn.holes.len().saturating_mul(16);
+    missing.saturating_add(holes).saturating_add(BESIDE)
+}
+
+/// What is missing of torn bodies, by the numbers of their information control blocks, as much as there is room for.
+#[derive(Drop)]
+pub(crate) struct KeptLists {
+    /// The lists.
+    lists: BTreeMap<u64, Torn>,
+    /// So many bytes more may be kept.
+    room: usize,
+}
+
+impl KeptLists {
+    /// Nothing is kept.
+    pub(crate) fn new(alloc: Global) -> KeptLists
+        ensures { IsEmpty result.lists }
+    {
+        KeptLists {
+            lists: BTreeMap::new(alloc),
+            room: MOST_KEPT,
+        }
+    }
+
+    /// A standing with the blocks and the holes of the body that stands at an address, if it is torn and they are kept.
+    fn again(
+        &self,
+        view: View<'_>,
+        address: LongAd,
+        standing: &Standing,
+    ) -> Result<Option<Standing>, AllocError>
+        requires { AreKeptLists (view_now view) self.now.lists }
+        ensures { IfOk result (λ again. IfSome again (λ full. full ≡ with_lists (lists_at (view_now view.entry) address) standing.now)) }
+    {
+        let Standing::Torn(_) = standing else {
+            return Ok(None);
+        };
+        if address_fault(view.space, address).is_some() {
+            return Ok(None);
+        }
+        match self.lists.get(&key(address)) {
+            None => Ok(None),
+            Some(torn) => {
+                let torn = copied(torn)?;
+                Ok(Some(Standing::Torn(torn)))
+            }
+        }
+    }
+
+    /// Keeps the blocks and the holes of the body that stands at an address, if there is room.
+    fn keep(&mut self, view: View<'_>, address: LongAd, full: &Standing) -> Result<(), AllocError>
+        requires lists { AreKeptLists (view_now view) self.old.lists }
+        requires full { (torn : TornFields) → full.now ≡ walk_standing.Torn torn → torn ≡ lists_at (view_now view) address }
+        ensures { IfOk result (λ done. AreKeptLists (view_now view.entry) self.new.lists) }
+    {
+        let Standing::Torn(torn) = full else {
+            return Ok(());
+        };
+        let size = size_of(torn);
+        if address_fault(view.space, address).is_some() || size > self.room {
+            return Ok(());
+        }
+        self.room -= size;
+        self.lists.insert(key(address), copied(torn)?)?;
+        Ok(())
+    }
+
+    /// A standing with the blocks and the holes of the body that stands at an address, where it is torn. They are found
+    /// anew only where they are not kept.
+    pub(crate) fn full_standing(
+        &mut self,
+        alloc: Global,
+        view: View<'_>,
+        address: LongAd,
+        standing: &Standing,
+    ) -> Result<Standing, AllocError>
+        requires { AreKeptLists (view_now view) self.old.lists }
+        ensures full { IfOk result (λ full. full ≡ with_lists (lists_at (view_now view.entry) address) standing.now) }
+        ensures lists { IfOk result (λ full. AreKeptLists (view_now view.entry) self.new.lists) }
+    {
+        if let Some(again) = self.again(view, address, standing)? {
+            return Ok(again);
+        }
+        let full = full_standing(alloc, view, address, standing)?;
+        self.keep(view, address, &full)?;
+        Ok(full)
+    }
+}
