@@ -5,3 +5,31 @@ mod printing;
 mod readings;
 mod rescue;
 mod tables;
+
+use std::fmt::{Debug, Display};
+use std::process::Abort;
+
+/// What is told is this text.
+pub fn assert_text(rt: &impl Abort, told: String, expected: &str) {
+    assert_eq!(rt; told.as_str(), expected);
+}
+
+/// What is found is what was expected.
+pub fn assert_same<T: PartialEq + Debug + Drop>(rt: &impl Abort, found: T, expected: T) {
+    assert_eq!(rt; found, expected);
+}
+
+/// What is found in this case is what was expected.
+pub fn assert_same_in<T: PartialEq + Debug + Drop, C: Display + Drop>(
+    rt: &impl Abort,
+    found: T,
+    expected: T,
+    case: C,
+) {
+    assert_eq!(rt; found, expected, "{case}");
+}
+
+/// It is so in this case.
+pub fn assert_case<C: Display + Drop>(rt: &impl Abort, is_so: bool, case: C) {
+    assert!(rt; is_so, "{case}");
+}

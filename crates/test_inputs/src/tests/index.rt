@@ -7,6 +7,7 @@ mod files;
 mod records;
 mod runs;
 
+use crate::tests::assert_same;
 use std::alloc::{AllocError, Global};
 use std::test::Fail;
 use udfs_index::{Cursor, Index, Stored, Unread};
@@ -89,8 +90,8 @@ fn two_passes_are_taken_by_index(rt: HostRuntime) -> Result<(), Fail> {
     // The second one, behind its header and the number of a block.
     assert!(rt; matches!(index.slot(4_194_303), Fact::Known(17_592_186_044_436)));
     assert!(rt; index.failed().is_none());
-    assert_eq!(rt; index.known(), 2);
-    assert_eq!(rt; index.conflicts(), 1);
+    assert_same(&rt, index.known(), 2);
+    assert_same(&rt, index.conflicts(), 1);
     assert!(rt; index.changed().is_none());
     Ok(())
 }
@@ -111,10 +112,10 @@ fn an_input_that_cannot_be_looked_into_is_named(rt: HostRuntime) -> Result<(), F
     match error {
         None => assert!(rt; false),
         Some(e) => {
-            assert_eq!(rt; e.input, 2);
-            assert_eq!(rt; e.error.fault, ReadingFault::OutOfMemory);
+            assert_same(&rt, e.input, 2);
+            assert_same(&rt, e.error.fault, ReadingFault::OutOfMemory);
         }
     }
-    assert_eq!(rt; index.failed(), Some(Unread { input: 0, at: 20 }));
+    assert_same(&rt, index.failed(), Some(Unread { input: 0, at: 20 }));
     Ok(())
 }

@@ -1,5 +1,6 @@
 //! Worked rows: what the arcs of small and of large discs show, and text in HTML.
 
+use crate::tests::{assert_case, assert_same};
 use std::test::Fail;
 use udfs_lattice::{BlockTable, Fact};
 use udfs_page::{Mark, arcs, push_closings, push_html, push_ranges};
@@ -28,29 +29,31 @@ fn five_blocks_in_five_arcs(rt: HostRuntime) -> Result<(), Fail> {
 #[test]
 fn two_blocks_in_each_of_2000_arcs(rt: HostRuntime) -> Result<(), Fail> {
     let mut table = BlockTable::new(rt.alloc());
-    for block in [0u32, 1, 2, 6, 3998, 3999] {
+    static CASES: [u32; 6] = [0, 1, 2, 6, 3998, 3999];
+    for &block in &CASES {
         table.put(block, &[1; 2048])?;
     }
     table.add(7, Fact::Conflict)?;
     let marks = arcs(rt.alloc(), &table, 3999, &[5])?;
     assert_eq!(rt; marks.len(), 2000);
-    for (arc, mark) in [
-        (0usize, Mark::Known),
+    static ARCS: [(usize, Mark); 7] = [
+        (0, Mark::Known),
         (1, Mark::NotKnown),
         (2, Mark::Needed),
         (3, Mark::InConflict),
         (4, Mark::NotKnown),
         (1998, Mark::NotKnown),
         (1999, Mark::Known),
-    ] {
-        assert!(rt; marks.get(arc) == Some(&mark), "{arc}");
+    ];
+    for &(arc, mark) in &ARCS {
+        assert_case(&rt, marks.get(arc) == Some(&mark), arc);
     }
     Ok(())
 }
 
 #[test]
 fn five_characters_are_references(rt: HostRuntime) -> Result<(), Fail> {
-    for (shown, html) in [
+    static CASES: [(&str, &str); 4] = [
         ("", ""),
         (
             "<a href=\"x\">&'b</a>",
@@ -61,10 +64,11 @@ fn five_characters_are_references(rt: HostRuntime) -> Result<(), Fail> {
             "M\u{fc}ller \u{65e5}\u{672c}",
         ),
         ("&amp;", "&amp;amp;"),
-    ] {
+    ];
+    for &(shown, html) in &CASES {
         let mut text = String::new(rt.alloc());
         push_html(&mut text, shown)?;
-        assert_eq!(rt; text.as_str(), html);
+        assert_same(&rt, text.as_str(), html);
     }
     Ok(())
 }
@@ -77,25 +81,28 @@ fn no_more_than_fifty_runs_of_lost_bytes(rt: HostRuntime) -> Result<(), Fail> {
     for place in 0..50u64 {
         holes.push((2 * place, 1))?;
     }
-    for (more, end) in [
-        (0u64, " 96&ndash;96 98&ndash;98"),
+    static CASES: [(u64, &str); 3] = [
+        (0, " 96&ndash;96 98&ndash;98"),
         (1, " 98&ndash;98 and 1 more"),
         (2, " 98&ndash;98 and 2 more"),
-    ] {
+    ];
+    for &(more, end) in &CASES {
         let mut text = String::new(alloc);
         push_ranges(&mut text, &holes)?;
-        assert!(rt;
+        assert_case(
+            &rt,
             text.as_str().starts_with(" 0&ndash;0 2&ndash;2 "),
-            "{more}"
+            more,
         );
-        assert!(rt; text.as_str().ends_with(end), "{more}");
+        assert_case(&rt, text.as_str().ends_with(end), more);
         holes.push((200 + more, 1))?;
     }
     let mut text = String::new(alloc);
     push_ranges(&mut text, &[(4096, 2048), (u64::MAX, u64::MAX)])?;
-    assert_eq!(rt;
+    assert_same(
+        &rt,
         text.as_str(),
-        " 4096&ndash;6143 18446744073709551615&ndash;36893488147419103229"
+        " 4096&ndash;6143 18446744073709551615&ndash;36893488147419103229",
     );
     push_closings(&mut text, 2)?;
     assert!(rt; text.as_str().ends_with("229</details>\n</details>\n"));

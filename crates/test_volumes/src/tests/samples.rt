@@ -1,5 +1,6 @@
 //! The samples' bytes, where a slip would make another volume.
 
+use crate::tests::{assert_same, assert_same_in};
 use std::alloc::Global;
 use std::test::Fail;
 use udfs_samples::Disc;
@@ -77,7 +78,7 @@ fn byte(disc: &Disc, n: u32, at: usize) -> Option<u8> {
 fn contents(rt: HostRuntime) -> Result<(), Fail> {
     let alloc = rt.alloc();
     let type1 = Disc::type1(alloc)?;
-    for (n, at, want) in [
+    static BYTES: [(u32, usize, u8); 11] = [
         (272, 404, 1),
         (273, 180, 2),
         (274, 79, 0x41),
@@ -89,20 +90,21 @@ fn contents(rt: HostRuntime) -> Result<(), Fail> {
         (277, 0, 0x61),
         (278, 1, 0x62),
         (279, 2047, 0x63),
-    ] {
+    ];
+    for &(n, at, want) in &BYTES {
         assert_eq!(rt; byte(&type1, n, at), Some(want), "{n}: {at}");
     }
     let continued = Disc::continued(alloc)?;
-    assert_eq!(rt; byte(&continued, 278, 28), Some(7));
-    assert_eq!(rt; byte(&continued, 278, 2047), Some(0));
+    assert_same(&rt, byte(&continued, 278, 28), Some(7));
+    assert_same(&rt, byte(&continued, 278, 2047), Some(0));
     let sparable = Disc::sparable(alloc)?;
-    assert_eq!(rt; byte(&sparable, 272, 404), Some(0xff));
-    assert_eq!(rt; byte(&sparable, 407, 2047), Some(0x63));
-    assert_eq!(rt; byte(&sparable, 48, 492), Some(0xc8));
+    assert_same(&rt, byte(&sparable, 272, 404), Some(0xff));
+    assert_same(&rt, byte(&sparable, 407, 2047), Some(0x63));
+    assert_same(&rt, byte(&sparable, 48, 492), Some(0xc8));
     let two_maps = Disc::two_maps(alloc)?;
-    assert_eq!(rt; byte(&two_maps, 276, 0), Some(0));
-    assert_eq!(rt; byte(&two_maps, 520, 176), Some(0x48));
-    assert_eq!(rt; byte(&two_maps, 48, 484), Some(1));
+    assert_same(&rt, byte(&two_maps, 276, 0), Some(0));
+    assert_same(&rt, byte(&two_maps, 520, 176), Some(0x48));
+    assert_same(&rt, byte(&two_maps, 48, 484), Some(1));
     Ok(())
 }
 
@@ -111,9 +113,9 @@ fn contents(rt: HostRuntime) -> Result<(), Fail> {
 fn tables(rt: HostRuntime) -> Result<(), Fail> {
     let alloc = rt.alloc();
     let disc = Disc::type1(alloc)?;
-    assert_eq!(rt; disc.known_but(alloc, &[])?.known(), 601);
-    assert_eq!(rt; disc.known_but(alloc, &[0, 600])?.known(), 599);
-    assert_eq!(rt; disc.known_at(alloc, &[256, 5])?.known(), 2);
+    assert_same(&rt, disc.known_but(alloc, &[])?.known(), 601);
+    assert_same(&rt, disc.known_but(alloc, &[0, 600])?.known(), 599);
+    assert_same(&rt, disc.known_at(alloc, &[256, 5])?.known(), 2);
     Ok(())
 }
 
@@ -127,7 +129,7 @@ fn directories(rt: HostRuntime) -> Result<(), Fail> {
     disc.write_directory(272, 1, &[(b"\x08A", 3), (b"\x08B", 4)])?;
     for i in 0..80usize {
         let there = i.wrapping_add(40);
-        assert_eq!(rt; byte(&disc, 274, i), byte(&sample, 274, there), "{i}");
+        assert_same_in(&rt, byte(&disc, 274, i), byte(&sample, 274, there), i);
     }
     for i in 0..200usize {
         let size = i == 56 || i == 176;
@@ -136,15 +138,15 @@ fn directories(rt: HostRuntime) -> Result<(), Fail> {
         } else {
             byte(&sample, 273, i)
         };
-        assert_eq!(rt; byte(&disc, 273, i), want, "{i}");
+        assert_same_in(&rt, byte(&disc, 273, i), want, i);
     }
     let names = [(b"\x08A".as_slice(), 3); 52];
     disc.write_directory(272, 1, &names)?;
-    assert_eq!(rt; byte(&disc, 273, 56), Some(0x20));
-    assert_eq!(rt; byte(&disc, 273, 57), Some(8));
-    assert_eq!(rt; byte(&disc, 274, 2040), Some(1));
-    assert_eq!(rt; byte(&disc, 275, 4), Some(2));
-    assert_eq!(rt; byte(&disc, 275, 30), Some(8));
-    assert_eq!(rt; byte(&disc, 275, 31), Some(0x41));
+    assert_same(&rt, byte(&disc, 273, 56), Some(0x20));
+    assert_same(&rt, byte(&disc, 273, 57), Some(8));
+    assert_same(&rt, byte(&disc, 274, 2040), Some(1));
+    assert_same(&rt, byte(&disc, 275, 4), Some(2));
+    assert_same(&rt, byte(&disc, 275, 30), Some(8));
+    assert_same(&rt, byte(&disc, 275, 31), Some(0x41));
     Ok(())
 }

@@ -3,10 +3,13 @@
 ghost use Rattle.std.specs.Prelude.{None, ⊤};
 
 use super::{index_of, reading};
+use crate::tests::assert_same;
 use std::alloc::{AllocError, Global};
 use std::cell::Cell;
+use std::process::Abort;
 use std::test::Fail;
 use udfs_index::{CopyFault, Cursor, Index, Stored, StoredBytes, Unread};
+use udfs_lattice::BlockTable;
 use udfs_reading::{
     DeviceFault, Reader, Sink, WriteFault, Writer, join_inputs, take_inputs, write_table,
     write_table_v1,
@@ -80,6 +83,22 @@ fn index_of_three<'a, S: Stored>(
     Ok((index, is_taken))
 }
 
+/// The index's table files of version 2 and of version 1 are these.
+fn assert_files<S: Stored>(
+    rt: &impl Abort,
+    alloc: Global,
+    index: &Index<'_, S>,
+    second: &[u8],
+    first: &[u8],
+) {
+    let mut out = Writer::new(Vec::new(alloc));
+    assert_same(rt, index.write_table(&mut out), Ok(()));
+    assert_same(rt, out.into_inner().as_slice(), second);
+    let mut out = Writer::new(Vec::new(alloc));
+    assert_same(rt, index.write_table_v1(&mut out), Ok(()));
+    assert_same(rt, out.into_inner().as_slice(), first);
+}
+
 #[test]
 fn both_versions_are_those_of_the_table(rt: HostRuntime) -> Result<(), Fail> {
     let alloc = rt.alloc();
@@ -89,13 +108,24 @@ fn both_versions_are_those_of_the_table(rt: HostRuntime) -> Result<(), Fail> {
     let c = StoredBytes::new(three.as_slice());
     let (index, is_taken) = index_of_three(alloc, &a, &b, &c)?;
     assert!(rt; is_taken);
-    let mut out = Writer::new(Vec::new(alloc));
-    assert_eq!(rt; index.write_table(&mut out), Ok(()));
-    assert_eq!(rt; out.into_inner().as_slice(), packed(alloc)?.as_slice());
-    let mut out = Writer::new(Vec::new(alloc));
-    assert_eq!(rt; index.write_table_v1(&mut out), Ok(()));
-    assert_eq!(rt; out.into_inner().as_slice(), listed(alloc)?.as_slice());
+    assert_files(&rt, alloc, &index, &packed(alloc)?, &listed(alloc)?);
     Ok(())
+}
+
+/// The table's files of version 2 and of version 1 are these.
+fn assert_table_files(
+    rt: &impl Abort,
+    alloc: Global,
+    table: &BlockTable,
+    second: &[u8],
+    first: &[u8],
+) {
+    let mut out = Writer::new(Vec::new(alloc));
+    assert!(rt; write_table(table, &mut out).is_ok());
+    assert_same(rt, out.into_inner().as_slice(), second);
+    let mut out = Writer::new(Vec::new(alloc));
+    assert!(rt; write_table_v1(table, &mut out).is_ok());
+    assert_same(rt, out.into_inner().as_slice(), first);
 }
 
 #[test]
@@ -111,12 +141,7 @@ fn a_table_of_the_same_inputs_is_written_alike(rt: HostRuntime) -> Result<(), Fa
         assert!(rt; false);
         return Ok(());
     };
-    let mut out = Writer::new(Vec::new(alloc));
-    assert!(rt; write_table(&table, &mut out).is_ok());
-    assert_eq!(rt; out.into_inner().as_slice(), packed(alloc)?.as_slice());
-    let mut out = Writer::new(Vec::new(alloc));
-    assert!(rt; write_table_v1(&table, &mut out).is_ok());
-    assert_eq!(rt; out.into_inner().as_slice(), listed(alloc)?.as_slice());
+    assert_table_files(&rt, alloc, &table, &packed(alloc)?, &listed(alloc)?);
     Ok(())
 }
 
@@ -124,17 +149,12 @@ fn a_table_of_the_same_inputs_is_written_alike(rt: HostRuntime) -> Result<(), Fa
 fn nothing_is_written_of_no_input(rt: HostRuntime) -> Result<(), Fail> {
     let alloc = rt.alloc();
     let index: Index<'_, StoredBytes<'_>> = Index::new(alloc)?;
-    let mut out = Writer::new(Vec::new(alloc));
-    assert_eq!(rt; index.write_table(&mut out), Ok(()));
-    assert_eq!(rt;
-        out.into_inner().as_slice(),
-        b"UDFTABL2\x00\x08\x00\x00\x00\x00\x00\x00".as_slice()
-    );
-    let mut out = Writer::new(Vec::new(alloc));
-    assert_eq!(rt; index.write_table_v1(&mut out), Ok(()));
-    assert_eq!(rt;
-        out.into_inner().as_slice(),
-        b"UDFTABL1\x00\x08\x00\x00\x00\x00\x00\x00".as_slice()
+    assert_files(
+        &rt,
+        alloc,
+        &index,
+        b"UDFTABL2\x00\x08\x00\x00\x00\x00\x00\x00",
+        b"UDFTABL1\x00\x08\x00\x00\x00\x00\x00\x00",
     );
     Ok(())
 }
@@ -178,6 +198,33 @@ impl<'a> Stored for Shaky<'a> {
     }
 }
 
+/// How the writing of a table file of version 2 ends.
+fn assert_copy<S: Stored>(
+    rt: &impl Abort,
+    alloc: Global,
+    index: &Index<'_, S>,
+    outcome: Result<(), CopyFault>,
+) {
+    let mut out = Writer::new(Vec::new(alloc));
+    assert_same(rt, index.write_table(&mut out), outcome);
+}
+
+/// How the writing of a table file of version 1 ends.
+fn assert_copy_v1<S: Stored>(
+    rt: &impl Abort,
+    alloc: Global,
+    index: &Index<'_, S>,
+    outcome: Result<(), CopyFault>,
+) {
+    let mut out = Writer::new(Vec::new(alloc));
+    assert_same(rt, index.write_table_v1(&mut out), outcome);
+}
+
+/// A block of which these bytes of this input cannot be read again.
+fn unread(input: usize, at: u64) -> Result<(), CopyFault> {
+    Err(CopyFault::Input(Unread { input, at }))
+}
+
 #[test]
 fn an_input_that_cannot_be_read_again_is_named(rt: HostRuntime) -> Result<(), Fail> {
     let alloc = rt.alloc();
@@ -187,26 +234,18 @@ fn an_input_that_cannot_be_read_again_is_named(rt: HostRuntime) -> Result<(), Fa
     let (index, error) = index_of(alloc, &a, &b)?;
     assert!(rt; error.is_none());
     // Blocks 7 and 8 and block 300 are read of the first input, the last block of the second one.
-    for (reads, input, at) in [(0, 0, 2072), (1, 0, 6176), (2, 1, 20)] {
-        a.reads.set(reads);
-        b.reads.set(0);
-        let mut out = Writer::new(Vec::new(alloc));
-        assert_eq!(rt;
-            index.write_table(&mut out),
-            Err(CopyFault::Input(Unread { input, at }))
-        );
-    }
-    a.reads.set(3);
     b.reads.set(0);
-    let mut out = Writer::new(Vec::new(alloc));
-    assert_eq!(rt;
-        index.write_table_v1(&mut out),
-        Err(CopyFault::Input(Unread { input: 1, at: 20 }))
-    );
+    a.reads.set(0);
+    assert_copy(&rt, alloc, &index, unread(0, 2072));
+    a.reads.set(1);
+    assert_copy(&rt, alloc, &index, unread(0, 6176));
+    a.reads.set(2);
+    assert_copy(&rt, alloc, &index, unread(1, 20));
+    a.reads.set(3);
+    assert_copy_v1(&rt, alloc, &index, unread(1, 20));
     a.reads.set(2);
     b.reads.set(1);
-    let mut out = Writer::new(Vec::new(alloc));
-    assert_eq!(rt; index.write_table(&mut out), Ok(()));
+    assert_copy(&rt, alloc, &index, Ok(()));
     Ok(())
 }
 
@@ -220,19 +259,10 @@ fn an_input_that_ends_early_is_named(rt: HostRuntime) -> Result<(), Fail> {
     assert!(rt; error.is_none());
     // The last block stands at the front of the second input, behind its header and the block's number.
     b.end.set(20 + 2047);
-    let mut out = Writer::new(Vec::new(alloc));
-    assert_eq!(rt;
-        index.write_table(&mut out),
-        Err(CopyFault::Input(Unread { input: 1, at: 20 }))
-    );
-    let mut out = Writer::new(Vec::new(alloc));
-    assert_eq!(rt;
-        index.write_table_v1(&mut out),
-        Err(CopyFault::Input(Unread { input: 1, at: 20 }))
-    );
+    assert_copy(&rt, alloc, &index, unread(1, 20));
+    assert_copy_v1(&rt, alloc, &index, unread(1, 20));
     b.end.set(20 + 2048);
-    let mut out = Writer::new(Vec::new(alloc));
-    assert_eq!(rt; index.write_table(&mut out), Ok(()));
+    assert_copy(&rt, alloc, &index, Ok(()));
     Ok(())
 }
 
@@ -257,6 +287,24 @@ impl Sink for Full {
     }
 }
 
+/// A sink with so much room is at fault once in either version.
+fn assert_full<S: Stored>(rt: &impl Abort, index: &Index<'_, S>, room: usize) {
+    let mut out = Full { room, faults: 0 };
+    assert_same(
+        rt,
+        index.write_table(&mut out),
+        Err(CopyFault::Sink(WriteFault)),
+    );
+    assert_eq!(rt; out.faults, 1, "{room}");
+    let mut out = Full { room, faults: 0 };
+    assert_same(
+        rt,
+        index.write_table_v1(&mut out),
+        Err(CopyFault::Sink(WriteFault)),
+    );
+    assert_eq!(rt; out.faults, 1, "{room}");
+}
+
 #[test]
 fn a_sink_that_fails_is_no_inputs_fault(rt: HostRuntime) -> Result<(), Fail> {
     let alloc = rt.alloc();
@@ -265,18 +313,7 @@ fn a_sink_that_fails_is_no_inputs_fault(rt: HostRuntime) -> Result<(), Fail> {
     let (index, error) = index_of(alloc, &stored, &stored)?;
     assert!(rt; error.is_none());
     for room in [1, 16, 27, 2076] {
-        let mut out = Full { room, faults: 0 };
-        assert_eq!(rt;
-            index.write_table(&mut out),
-            Err(CopyFault::Sink(WriteFault))
-        );
-        assert_eq!(rt; out.faults, 1);
-        let mut out = Full { room, faults: 0 };
-        assert_eq!(rt;
-            index.write_table_v1(&mut out),
-            Err(CopyFault::Sink(WriteFault))
-        );
-        assert_eq!(rt; out.faults, 1);
+        assert_full(&rt, &index, room);
     }
     Ok(())
 }

@@ -1,5 +1,6 @@
 //! A file of the machine as an input.
 
+use crate::tests::assert_same;
 use std::fs;
 use std::test::Fail;
 use udfs_index::{Stored, StoredFile};
@@ -14,12 +15,16 @@ fn a_file_of_the_machine_is_read_at_positions(rt: HostRuntime) -> Result<(), Fai
     let mut letters = [0; 3];
     for _ in 0..2 {
         letters = [0; 3];
-        assert_eq!(rt; stored.read_at(1, &mut letters), Ok(3));
-        assert_eq!(rt; letters, *b"ELF");
+        assert_same(&rt, stored.read_at(1, &mut letters), Ok(3));
+        assert_same(&rt, letters, *b"ELF");
     }
     let size = stored.size().unwrap_or(0);
     assert!(rt; size > 4);
-    assert_eq!(rt; stored.read_at(size, &mut letters), Ok(0));
-    assert_eq!(rt; stored.read_at(size.saturating_sub(1), &mut letters), Ok(1));
+    assert_same(&rt, stored.read_at(size, &mut letters), Ok(0));
+    assert_same(
+        &rt,
+        stored.read_at(size.saturating_sub(1), &mut letters),
+        Ok(1),
+    );
     Ok(())
 }

@@ -4,6 +4,7 @@ ghost use Rattle.std.specs.Prelude.{None, ⊤};
 
 use super::copies::{Shaky, first, second, two_states};
 use super::{index_of, reading};
+use crate::tests::assert_same;
 use std::cell::Cell;
 use std::test::Fail;
 use std::time::{Duration, SystemTime};
@@ -16,24 +17,25 @@ fn the_record_of_a_position_is_told(rt: HostRuntime) -> Result<(), Fail> {
     let one = first(alloc)?;
     let stored = StoredBytes::new(one.as_slice());
     // Behind the header of 16 bytes each record has 4 bytes of a number and 2048 of a block.
-    for (at, number) in [(20, 1), (2072, 2), (4124, 3), (6176, 4), (8228, 5)] {
-        assert_eq!(rt; record_at(&stored, at), number);
+    static RECORDS: [(u64, u32); 5] = [(20, 1), (2072, 2), (4124, 3), (6176, 4), (8228, 5)];
+    for &(at, number) in &RECORDS {
+        assert_same(&rt, record_at(&stored, at), number);
     }
     // There is no content behind the last one: the number is that of all records.
-    assert_eq!(rt; record_at(&stored, 8229), 5);
-    assert_eq!(rt; record_at(&stored, END), 5);
-    assert_eq!(rt; record_at(&stored, 0), 0);
-    assert_eq!(rt; record_count(&stored), 5);
+    assert_same(&rt, record_at(&stored, 8229), 5);
+    assert_same(&rt, record_at(&stored, END), 5);
+    assert_same(&rt, record_at(&stored, 0), 0);
+    assert_same(&rt, record_count(&stored), 5);
     // Of a table file of version 2 the records are its packets.
     let table = two_states(alloc)?;
     let stored = StoredBytes::new(table.as_slice());
-    assert_eq!(rt; record_count(&stored), 1);
-    assert_eq!(rt; record_at(&stored, 28), 1);
+    assert_same(&rt, record_count(&stored), 1);
+    assert_same(&rt, record_at(&stored, 28), 1);
     // Nothing of it can be read.
     let shaky = Shaky::new(one.as_slice());
     shaky.reads.set(0);
-    assert_eq!(rt; record_at(&shaky, 2072), 0);
-    assert_eq!(rt; record_count(&shaky), 0);
+    assert_same(&rt, record_at(&shaky, 2072), 0);
+    assert_same(&rt, record_count(&shaky), 0);
     Ok(())
 }
 
@@ -44,7 +46,7 @@ fn a_record_that_cannot_be_read_comes_before_the_position(rt: HostRuntime) -> Re
     let shaky = Shaky::new(one.as_slice());
     // It ends in the middle of record 2.
     shaky.end.set(2100);
-    assert_eq!(rt; record_at(&shaky, 8228), 2);
+    assert_same(&rt, record_at(&shaky, 8228), 2);
     Ok(())
 }
 
@@ -57,21 +59,21 @@ fn the_bytes_that_brought_a_conflict_are_known(rt: HostRuntime) -> Result<(), Fa
     let (mut index, error) = index_of(alloc, &a, &b)?;
     assert!(rt; error.is_none());
     // Block 5 has 0x61 in the first input, and 0x63 in the second one, which brought the conflict.
-    assert_eq!(rt; index.is_disputed_by(5, &[0x63; 2048]), Ok(true));
-    assert_eq!(rt; index.is_disputed_by(5, &[0x61; 2048]), Ok(false));
+    assert_same(&rt, index.is_disputed_by(5, &[0x63; 2048]), Ok(true));
+    assert_same(&rt, index.is_disputed_by(5, &[0x61; 2048]), Ok(false));
     assert!(rt; index.failed().is_none());
     b.reads.set(0);
     assert!(rt; index.is_disputed_by(5, &[0x63; 2048]).is_err());
     match index.failed() {
         // Behind the second input's header, two records and the number of the third.
         Some(unread) => {
-            assert_eq!(rt; unread.input, 1);
-            assert_eq!(rt; unread.at, 4124);
+            assert_same(&rt, unread.input, 1);
+            assert_same(&rt, unread.at, 4124);
         }
         None => assert!(rt; false),
     }
-    assert_eq!(rt; index.known(), 4);
-    assert_eq!(rt; index.conflicts(), 1);
+    assert_same(&rt, index.known(), 4);
+    assert_same(&rt, index.conflicts(), 1);
     Ok(())
 }
 
@@ -121,13 +123,13 @@ fn an_input_that_changed_is_named(rt: HostRuntime) -> Result<(), Fail> {
     assert!(rt; error.is_none());
     assert!(rt; index.changed().is_none());
     b.size.set(0);
-    assert_eq!(rt; index.changed(), Some(1));
+    assert_same(&rt, index.changed(), Some(1));
     a.changed.set(later);
-    assert_eq!(rt; index.changed(), Some(0));
+    assert_same(&rt, index.changed(), Some(0));
     a.changed.set(then);
     b.size.set(two.len() as u64);
     assert!(rt; index.changed().is_none());
     b.changed.set(later);
-    assert_eq!(rt; index.changed(), Some(1));
+    assert_same(&rt, index.changed(), Some(1));
     Ok(())
 }

@@ -2,6 +2,7 @@
 
 use super::copies::Shaky;
 use super::{index_of, reading};
+use crate::tests::assert_same;
 use std::alloc::Global;
 use std::test::Fail;
 use udfs_reading::{Reader, Writer, join_inputs, write_table, write_table_v1};
@@ -47,7 +48,7 @@ fn a_packet_of_blocks_in_order_is_read_at_once(rt: HostRuntime) -> Result<(), Fa
     for input in [file.as_slice(), first.as_slice(), second.as_slice()] {
         let (written, reads) = copied(alloc, input)?;
         assert!(rt; written == second);
-        assert_eq!(rt; reads, 2);
+        assert_same(&rt, reads, 2);
     }
     Ok(())
 }
@@ -58,11 +59,11 @@ fn blocks_in_disorder_are_read_one_by_one(rt: HostRuntime) -> Result<(), Fail> {
     let file = reading(alloc, &[(3, 0x61), (2, 0x62), (9, 0x63), (4, 0x64)])?;
     let (written, reads) = copied(alloc, file.as_slice())?;
     // Block 4 stands at no distance behind block 3 that a format has, and block 9 before block 4.
-    assert_eq!(rt; reads, 4);
+    assert_same(&rt, reads, 4);
     assert_eq!(rt; written.len(), 28 + 4 * 2048);
     for (i, byte) in [0x62, 0x61, 0x64, 0x63].iter().enumerate() {
-        assert_eq!(rt; written[28 + 2048 * i], *byte);
-        assert_eq!(rt; written[28 + 2048 * i + 2047], *byte);
+        assert_same(&rt, written[28 + 2048 * i], *byte);
+        assert_same(&rt, written[28 + 2048 * i + 2047], *byte);
     }
     Ok(())
 }

@@ -2,6 +2,7 @@
 
 use super::ordered::{BLOCKS, Pair};
 use super::steps::STEPS;
+use crate::tests::{assert_case, assert_same};
 use std::alloc::{AllocError, Global};
 use std::collections::BTreeMap;
 use std::io;
@@ -29,13 +30,13 @@ fn file_of_v1(alloc: Global, map: &BTreeMap<u32, Fact<[u8; 2048]>>) -> Result<Ve
 }
 
 /// The numbers of the packets of the row's blocks, of which each is the first or the last of a packet.
-const PACKETS: [u32; 3] = [0, 1, 131_071];
+static PACKETS: [u32; 3] = [0, 1, 131_071];
 
 /// The table file of version 2 of the map, as the format spells it.
 fn file_of_v2(alloc: Global, map: &BTreeMap<u32, Fact<[u8; 2048]>>) -> Result<Vec<u8>, AllocError> {
     let mut packets = Vec::new(alloc);
     let mut count = 0u8;
-    for p in PACKETS {
+    for &p in &PACKETS {
         let mut known = 0u32;
         let mut conflict = 0u32;
         let mut blocks = Vec::new(alloc);
@@ -119,16 +120,10 @@ fn ten_thousand_calls_agree_with_the_ordered_map(rt: HostRuntime) -> Result<(), 
                 Call::Join => first.join(&second)?,
                 Call::Put(n, byte) => first.put(n, &[byte; 2048])?,
             }
-            assert!(rt; first.agrees(), "call {calls}");
+            assert_case(&rt, first.agrees(), calls);
             let (one, two) = files(alloc, &first.table)?;
-            assert!(rt;
-                one == file_of_v1(alloc, &first.map.blocks)?,
-                "call {calls}"
-            );
-            assert!(rt;
-                two == file_of_v2(alloc, &first.map.blocks)?,
-                "call {calls}"
-            );
+            assert_case(&rt, one == file_of_v1(alloc, &first.map.blocks)?, calls);
+            assert_case(&rt, two == file_of_v2(alloc, &first.map.blocks)?, calls);
             most_known = most_known.max(first.table.known());
             most_conflicts = most_conflicts.max(first.table.conflicts());
             calls = calls.wrapping_add(1);
@@ -137,9 +132,9 @@ fn ten_thousand_calls_agree_with_the_ordered_map(rt: HostRuntime) -> Result<(), 
             }
         }
     }
-    assert_eq!(rt; calls, 10_000);
+    assert_same(&rt, calls, 10_000);
     // The row comes to tables in which all blocks are known, and to such in which all are in conflict.
-    assert_eq!(rt; most_known, 6);
-    assert_eq!(rt; most_conflicts, 6);
+    assert_same(&rt, most_known, 6);
+    assert_same(&rt, most_conflicts, 6);
     Ok(())
 }

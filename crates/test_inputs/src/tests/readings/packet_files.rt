@@ -1,8 +1,13 @@
 //! Table files of version 2 as the rules spell them, cut and damaged, and beside those of version 1.
 
-use super::whole::{DISPUTED, Narrow, Pieces, fault_of, join_of, push_number, reading};
+use super::whole::{
+    DISPUTED, Narrow, Pieces, assert_answer, assert_input, assert_known, assert_table_file,
+    fault_of, join_of, push_number, reading,
+};
+use crate::tests::assert_same;
 use std::alloc::{AllocError, Global};
 use std::io;
+use std::process::Abort;
 use std::test::Fail;
 use udfs_lattice::{BlockTable, Fact};
 use udfs_reading::{
@@ -23,6 +28,18 @@ fn written(alloc: Global, table: &BlockTable) -> Result<Vec<u8>, Fail> {
         return Err(Fail::from(io::Error::from(io::ErrorKind::Other)));
     }
     Ok(out.into_inner())
+}
+
+/// This is the table's file.
+fn assert_written(
+    rt: &impl Abort,
+    alloc: Global,
+    table: &BlockTable,
+    expected: &[u8],
+) -> Result<(), Fail> {
+    let file = written(alloc, table)?;
+    assert!(rt; file.as_slice() == expected);
+    Ok(())
 }
 
 /// The file of packet 9 with blocks 300 and 301 known, each filled with its byte: bits 12 and 13.
@@ -59,30 +76,46 @@ fn a_dispute_is_a_packet_of_twelve_bytes(rt: HostRuntime) -> Result<(), Fail> {
     let first = reading(alloc, &[(300, 0x61)])?;
     let second = reading(alloc, &[(300, 0x62)])?;
     let table = join_of(alloc, &[&first, &second, &first])?;
-    assert_eq!(rt; written(alloc, &table)?.as_slice(), DISPUTED_V2.as_slice());
+    assert_written(&rt, alloc, &table, DISPUTED_V2)?;
     let again = read_table(alloc, &mut Reader::new(DISPUTED_V2.as_slice()))?;
-    assert_eq!(rt; again.conflicts(), 1);
+    assert_same(&rt, again.conflicts(), 1);
     assert!(rt; matches!(again.state(300), Fact::Conflict));
+    Ok(())
+}
+
+/// The file of the known pair is read from a device that gives at most so many bytes a call.
+fn assert_pair_in_pieces(
+    rt: &impl Abort,
+    alloc: Global,
+    bytes: &[u8],
+    most: usize,
+) -> Result<(), Fail> {
+    let mut source = Reader::new(Pieces {
+        rest: bytes,
+        most,
+        good: 9000,
+    });
+    let again = read_input(alloc, &mut source)?;
+    assert_eq!(rt; again.known(), 2, "{most}");
+    assert_known(rt, &again, &[(300, 0x61), (301, 0x62)]);
     Ok(())
 }
 
 #[test]
 fn known_blocks_stand_in_the_order_of_their_bits(rt: HostRuntime) -> Result<(), Fail> {
     let alloc = rt.alloc();
-    let expected = known_pair(alloc)?;
     let passes = reading(alloc, &[(301, 0x62), (300, 0x61)])?;
     let table = read_reading(alloc, &mut Reader::new(passes.as_slice()))?;
-    assert!(rt; written(alloc, &table)? == expected);
+    let expected = known_pair(alloc)?;
+    assert_written(&rt, alloc, &table, &expected)
+}
+
+#[test]
+fn known_blocks_are_read_in_any_pieces(rt: HostRuntime) -> Result<(), Fail> {
+    let alloc = rt.alloc();
+    let file = known_pair(alloc)?;
     for most in [1usize, 7, 4000, 9000] {
-        let mut source = Reader::new(Pieces {
-            rest: &expected,
-            most,
-            good: 9000,
-        });
-        let again = read_input(alloc, &mut source)?;
-        assert_eq!(rt; again.known(), 2);
-        assert!(rt; matches!(again.state(300), Fact::Known(b) if b[0] == 0x61 && b[2047] == 0x61));
-        assert!(rt; matches!(again.state(301), Fact::Known(b) if b[0] == 0x62 && b[2047] == 0x62));
+        assert_pair_in_pieces(&rt, alloc, &file, most)?;
     }
     Ok(())
 }
@@ -90,14 +123,10 @@ fn known_blocks_stand_in_the_order_of_their_bits(rt: HostRuntime) -> Result<(), 
 #[test]
 fn the_empty_table_has_no_packet(rt: HostRuntime) -> Result<(), Fail> {
     let alloc = rt.alloc();
-    let empty = BlockTable::new(alloc);
-    let file = written(alloc, &empty)?;
-    assert_eq!(rt;
-        file.as_slice(),
-        b"UDFTABL2\x00\x08\x00\x00\x00\x00\x00\x00".as_slice()
-    );
+    let file = b"UDFTABL2\x00\x08\x00\x00\x00\x00\x00\x00";
+    assert_written(&rt, alloc, &BlockTable::new(alloc), file)?;
     let again = read_table(alloc, &mut Reader::new(file.as_slice()))?;
-    assert_eq!(rt; (again.known(), again.conflicts()), (0, 0));
+    assert_same(&rt, (again.known(), again.conflicts()), (0, 0));
     Ok(())
 }
 
@@ -105,16 +134,14 @@ fn the_empty_table_has_no_packet(rt: HostRuntime) -> Result<(), Fail> {
 fn the_first_and_the_last_block_have_their_bits(rt: HostRuntime) -> Result<(), Fail> {
     let alloc = rt.alloc();
     let table = read_table(alloc, &mut Reader::new(TWO_PACKETS.as_slice()))?;
-    assert_eq!(rt; table.conflicts(), 2);
+    assert_same(&rt, table.conflicts(), 2);
     assert!(rt; matches!(table.state(0), Fact::Conflict));
     assert!(rt; matches!(table.state(4_194_303), Fact::Conflict));
-    assert_eq!(rt; written(alloc, &table)?.as_slice(), TWO_PACKETS.as_slice());
-    Ok(())
+    assert_written(&rt, alloc, &table, TWO_PACKETS)
 }
 
 #[test]
-fn a_file_of_packets_is_cut_at_each_length(rt: HostRuntime) -> Result<(), Fail> {
-    let alloc = rt.alloc();
+fn a_file_of_packets_is_cut_at_each_length(rt: HostRuntime) {
     for len in 0..TWO_PACKETS.len() {
         let number = if len < 16 {
             0
@@ -123,28 +150,20 @@ fn a_file_of_packets_is_cut_at_each_length(rt: HostRuntime) -> Result<(), Fail> 
         } else {
             2
         };
-        let cut = fault_of(read_table(alloc, &mut Reader::new(&TWO_PACKETS[..len])));
-        assert_eq!(rt;
-            cut,
-            Some((ReadingFault::Truncated, number)),
-            "cut at {len}"
-        );
-        let cut = fault_of(read_input(alloc, &mut Reader::new(&TWO_PACKETS[..len])));
-        assert_eq!(rt;
-            cut,
-            Some((ReadingFault::Truncated, number)),
-            "cut at {len}"
-        );
+        let cut = Some((ReadingFault::Truncated, number));
+        assert_table_file(&rt, rt.alloc(), &TWO_PACKETS[..len], cut);
+        assert_input(&rt, rt.alloc(), &TWO_PACKETS[..len], cut);
     }
+}
+
+#[test]
+fn a_file_of_known_blocks_is_cut_at_each_length(rt: HostRuntime) -> Result<(), Fail> {
+    let alloc = rt.alloc();
     let known = known_pair(alloc)?;
     for len in 0..known.len() {
         let number = if len < 16 { 0 } else { 1 };
-        let cut = fault_of(read_table(alloc, &mut Reader::new(&known[..len])));
-        assert_eq!(rt;
-            cut,
-            Some((ReadingFault::Truncated, number)),
-            "cut at {len}"
-        );
+        let cut = Some((ReadingFault::Truncated, number));
+        assert_table_file(&rt, alloc, &known[..len], cut);
     }
     Ok(())
 }
@@ -161,49 +180,69 @@ fn a_device_fails_after_each_byte_of_packets(rt: HostRuntime) -> Result<(), Fail
             good,
         });
         let failed = fault_of(read_table(alloc, &mut failing));
-        assert_eq!(rt; failed, Some((ReadingFault::Io, number)), "fails at {good}");
+        assert_answer(&rt, good, failed, Some((ReadingFault::Io, number)));
     }
     Ok(())
 }
 
 #[test]
 fn names_the_faults_of_packets(rt: HostRuntime) -> Result<(), Fail> {
-    let alloc = rt.alloc();
-    for (number, known, conflict, fault) in [
-        (131_072u32, 0u32, 1u32, ReadingFault::BlockNumber),
+    static CASES: [(u32, u32, u32, ReadingFault); 4] = [
+        (131_072, 0, 1, ReadingFault::BlockNumber),
         (0, 1, 1, ReadingFault::State),
         (0, 0, 0, ReadingFault::State),
         (9, 0x8000_0000, 0xc000_0000, ReadingFault::State),
-    ] {
+    ];
+    let alloc = rt.alloc();
+    for &(number, known, conflict, fault) in &CASES {
         let file = one_packet(alloc, number, known, conflict, &[0; 2048])?;
-        let found = fault_of(read_table(alloc, &mut Reader::new(file.as_slice())));
-        assert_eq!(rt; found, Some((fault, 1)));
-        let found = fault_of(read_input(alloc, &mut Reader::new(file.as_slice())));
-        assert_eq!(rt; found, Some((fault, 1)));
+        assert_table_file(&rt, alloc, &file, Some((fault, 1)));
+        assert_input(&rt, alloc, &file, Some((fault, 1)));
     }
     let more = one_packet(alloc, 131_071, 0, 1, &[0])?;
-    assert_eq!(rt;
-        fault_of(read_table(alloc, &mut Reader::new(more.as_slice()))),
-        Some((ReadingFault::Trailing, 1))
-    );
-    for second in [0u32, 9, 131_072] {
-        let mut file = Vec::new(alloc);
-        file.extend_from_slice(
-            b"UDFTABL2\x00\x08\x00\x00\x02\x00\x00\x00\x09\x00\x00\x00\x00\x00\x00\x00\x00\x10\x00\x00",
-        )?;
-        push_number(&mut file, second)?;
-        let fault = if second > 131_071 {
-            ReadingFault::BlockNumber
-        } else {
-            ReadingFault::Order
-        };
-        let found = fault_of(read_table(alloc, &mut Reader::new(file.as_slice())));
-        assert_eq!(rt; found, Some((fault, 2)));
-    }
-    assert_eq!(rt;
-        fault_of(read_reading(alloc, &mut Reader::new(DISPUTED_V2.as_slice()))),
-        Some((ReadingFault::Magic, 0))
-    );
+    assert_table_file(&rt, alloc, &more, Some((ReadingFault::Trailing, 1)));
+    Ok(())
+}
+
+/// A second packet of this number, behind packet 9, is refused with this fault.
+fn assert_second_packet(
+    rt: &impl Abort,
+    alloc: Global,
+    number: u32,
+    fault: ReadingFault,
+) -> Result<(), Fail> {
+    let mut file = Vec::new(alloc);
+    file.extend_from_slice(
+        b"UDFTABL2\x00\x08\x00\x00\x02\x00\x00\x00\x09\x00\x00\x00\x00\x00\x00\x00\x00\x10\x00\x00",
+    )?;
+    push_number(&mut file, number)?;
+    assert_table_file(rt, alloc, &file, Some((fault, 2)));
+    Ok(())
+}
+
+#[test]
+fn names_the_faults_of_a_second_packet(rt: HostRuntime) -> Result<(), Fail> {
+    let alloc = rt.alloc();
+    assert_second_packet(&rt, alloc, 0, ReadingFault::Order)?;
+    assert_second_packet(&rt, alloc, 9, ReadingFault::Order)?;
+    assert_second_packet(&rt, alloc, 131_072, ReadingFault::BlockNumber)
+}
+
+#[test]
+fn a_file_of_packets_is_no_reading(rt: HostRuntime) {
+    let found = fault_of(read_reading(rt.alloc(), &mut Reader::new(DISPUTED_V2.as_slice())));
+    assert_answer(&rt, 28, found, Some((ReadingFault::Magic, 0)));
+}
+
+/// The files together are a table with so many known blocks and conflicts.
+fn assert_counts(
+    rt: &impl Abort,
+    alloc: Global,
+    files: &[&[u8]],
+    counts: (u32, u32),
+) -> Result<(), Fail> {
+    let table = join_of(alloc, files)?;
+    assert_same(rt, (table.known(), table.conflicts()), counts);
     Ok(())
 }
 
@@ -211,49 +250,83 @@ fn names_the_faults_of_packets(rt: HostRuntime) -> Result<(), Fail> {
 fn three_kinds_of_input_are_joined(rt: HostRuntime) -> Result<(), Fail> {
     let alloc = rt.alloc();
     let pass = reading(alloc, &[(301, 0x62)])?;
-    let other = reading(alloc, &[(301, 0x63)])?;
     let known = known_pair(alloc)?;
-    let table = join_of(alloc, &[&pass, DISPUTED, &known])?;
-    assert_eq!(rt; (table.known(), table.conflicts()), (1, 1));
-    let expected = written(alloc, &table)?;
+    assert_counts(&rt, alloc, &[&pass, DISPUTED, &known], (1, 1))?;
+    let other = reading(alloc, &[(301, 0x63)])?;
+    assert_counts(&rt, alloc, &[&known, &other, DISPUTED_V2], (0, 2))
+}
+
+/// The order of the three kinds, and which of them tells of a block, decides nothing.
+#[test]
+fn three_kinds_of_input_are_joined_in_any_order(rt: HostRuntime) -> Result<(), Fail> {
+    let alloc = rt.alloc();
+    let pass = reading(alloc, &[(301, 0x62)])?;
+    let known = known_pair(alloc)?;
+    let expected = written(alloc, &join_of(alloc, &[&pass, DISPUTED, &known])?)?;
     for files in [
         [known.as_slice(), DISPUTED, pass.as_slice()],
         [DISPUTED, known.as_slice(), DISPUTED_V2],
         [DISPUTED_V2, pass.as_slice(), known.as_slice()],
     ] {
-        assert!(rt; written(alloc, &join_of(alloc, &files)?)? == expected);
+        assert_written(&rt, alloc, &join_of(alloc, &files)?, &expected)?;
     }
-    let both = join_of(alloc, &[&known, &other, DISPUTED_V2])?;
-    assert_eq!(rt; (both.known(), both.conflicts()), (0, 2));
     Ok(())
+}
+
+/// The file says these records, and its table is written as this file of version 2.
+fn assert_read_back(
+    rt: &impl Abort,
+    alloc: Global,
+    file: &[u8],
+    records: &[(u32, u8)],
+    second: &[u8],
+) -> Result<(), Fail> {
+    let again = read_table(alloc, &mut Reader::new(file))?;
+    assert_known(rt, &again, records);
+    assert_written(rt, alloc, &again, second)
+}
+
+/// Three hundred records, five blocks apart.
+fn apart(alloc: Global) -> Result<Vec<(u32, u8)>, AllocError> {
+    let mut records = Vec::new(alloc);
+    for n in 0..300u32 {
+        records.push((5 * n, (n % 251) as u8))?;
+    }
+    Ok(records)
 }
 
 /// A table of several pieces: either version of it reads back, and gives the same files again.
 #[test]
 fn both_versions_read_back(rt: HostRuntime) -> Result<(), Fail> {
     let alloc = rt.alloc();
-    let mut records = Vec::new(alloc);
-    for n in 0..300u32 {
-        records.push((5 * n, (n % 251) as u8))?;
-    }
+    let records = apart(alloc)?;
     let bytes = reading(alloc, records.as_slice())?;
     let table = read_input(alloc, &mut Reader::new(bytes.as_slice()))?;
     let second = written(alloc, &table)?;
     // Blocks 0 to 1495 stand in the packets 0 to 46.
-    assert_eq!(rt; second.len(), 16 + 47 * 12 + 300 * 2048);
+    assert_same(&rt, second.len(), 16 + 47 * 12 + 300 * 2048);
     let mut out = Writer::new(Vec::new(alloc));
     assert!(rt; write_table_v1(&table, &mut out).is_ok());
     let first = out.into_inner();
-    for file in [first.as_slice(), second.as_slice()] {
-        let again = read_table(alloc, &mut Reader::new(file))?;
-        for (block, byte) in records.as_slice() {
-            assert!(rt;
-                matches!(again.state(*block), Fact::Known(b) if b[0] == *byte && b[2047] == *byte)
-            );
-        }
-        assert!(rt; written(alloc, &again)? == second);
-    }
-    Ok(())
+    assert_read_back(&rt, alloc, &first, &records, &second)?;
+    assert_read_back(&rt, alloc, &second, &records, &second)
+}
+
+/// A sink that fails after so many bytes has taken exactly these of the whole file.
+fn assert_taken(rt: &impl Abort, alloc: Global, table: &BlockTable, whole: &[u8], good: usize) {
+    let mut out = Writer::new(Narrow {
+        taken: Vec::new(alloc),
+        most: 1000,
+        good,
+    });
+    let outcome = write_table(table, &mut out);
+    assert_eq!(rt; outcome.is_ok(), good == whole.len(), "fails at {good}");
+    let Narrow { taken, .. } = out.into_inner();
+    assert_eq!(rt;
+        Some(taken.as_slice()),
+        whole.get(..good),
+        "fails at {good}"
+    );
 }
 
 #[test]
@@ -262,14 +335,7 @@ fn a_sink_fails_after_each_byte_of_packets(rt: HostRuntime) -> Result<(), Fail> 
     let whole = known_pair(alloc)?;
     let table = read_table(alloc, &mut Reader::new(whole.as_slice()))?;
     for good in 0..=whole.len() {
-        let mut out = Writer::new(Narrow {
-            taken: Vec::new(alloc),
-            most: 1000,
-            good,
-        });
-        let outcome = write_table(&table, &mut out);
-        assert_eq!(rt; outcome.is_ok(), good == whole.len(), "fails at {good}");
-        assert_eq!(rt; out.into_inner().taken.as_slice(), &whole[..good]);
+        assert_taken(&rt, alloc, &table, &whole, good);
     }
     Ok(())
 }

@@ -3,6 +3,7 @@
 ghost use Rattle.std.specs.Prelude.{◌≡◌, None};
 
 use super::whole::{DISPUTED, reading};
+use crate::tests::assert_same;
 use std::alloc::AllocError;
 use std::test::Fail;
 use udfs_lattice::{BlockTable, Fact};
@@ -86,7 +87,8 @@ fn a_taker_is_told_all_in_order(rt: HostRuntime) -> Result<(), Fail> {
         told: Vec::new(alloc),
     };
     assert!(rt; take_inputs(&mut inputs, &mut log).is_ok());
-    assert_eq!(rt;
+    assert_same(
+        &rt,
         log.told.as_slice(),
         [
             Told::Begins,
@@ -99,10 +101,10 @@ fn a_taker_is_told_all_in_order(rt: HostRuntime) -> Result<(), Fail> {
             Told::Conflict(300),
             Told::Bytes(301, 0x63, 28),
         ]
-        .as_slice()
+        .as_slice(),
     );
-    assert_eq!(rt; log.table.known(), 1);
-    assert_eq!(rt; log.table.conflicts(), 2);
+    assert_same(&rt, log.table.known(), 1);
+    assert_same(&rt, log.table.conflicts(), 2);
     Ok(())
 }
 
@@ -119,7 +121,7 @@ fn a_table_takes_inputs_over_what_it_has(rt: HostRuntime) -> Result<(), Fail> {
         Reader::new(second.as_slice()),
     ];
     assert!(rt; take_inputs(&mut inputs, &mut table).is_ok());
-    assert_eq!(rt; table.known(), 2);
+    assert_same(&rt, table.known(), 2);
     assert!(rt; matches!(table.state(5), Fact::Conflict));
     assert!(rt; matches!(table.state(7), Fact::Known(_)));
     assert!(rt; matches!(table.state(9), Fact::Known(_)));
@@ -130,8 +132,8 @@ fn a_table_takes_inputs_over_what_it_has(rt: HostRuntime) -> Result<(), Fail> {
     match take_inputs(&mut faulty, &mut table) {
         Ok(()) => assert!(rt; false),
         Err(e) => {
-            assert_eq!(rt; e.input, 2);
-            assert_eq!(rt; e.error.fault, ReadingFault::Truncated);
+            assert_same(&rt, e.input, 2);
+            assert_same(&rt, e.error.fault, ReadingFault::Truncated);
         }
     }
     Ok(())

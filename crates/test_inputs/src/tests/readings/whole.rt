@@ -3,6 +3,7 @@
 use std::alloc::{AllocError, Global};
 use std::io;
 use std::io::{Read, Write};
+use std::process::Abort;
 use std::test::Fail;
 use udfs_lattice::{BlockTable, Fact};
 use udfs_reading::{
@@ -104,20 +105,78 @@ fn joined(alloc: Global, files: &[&[u8]]) -> Result<Vec<u8>, Fail> {
     written(alloc, &join_of(alloc, files)?)
 }
 
+/// The inputs together are the table of which this is the file.
+fn assert_joined(
+    rt: &impl Abort,
+    alloc: Global,
+    files: &[&[u8]],
+    expected: &[u8],
+) -> Result<(), Fail> {
+    let file = joined(alloc, files)?;
+    assert!(rt; file.as_slice() == expected, "{} files", files.len());
+    Ok(())
+}
+
+/// A fault at a record, if there is one.
+pub type Answer = Option<(ReadingFault, u32)>;
+
+/// So many bytes got this answer, and are to get that one.
+pub fn assert_answer(rt: &impl Abort, len: usize, found: Answer, answer: Answer) {
+    assert_eq!(rt; found, answer, "{len} bytes");
+}
+
+/// As a reading the bytes get this answer.
+fn assert_reading(rt: &impl Abort, alloc: Global, bytes: &[u8], answer: Answer) {
+    let found = fault_of(read_reading(alloc, &mut Reader::new(bytes)));
+    assert_answer(rt, bytes.len(), found, answer);
+}
+
+/// As a table file the bytes get this answer.
+pub fn assert_table_file(rt: &impl Abort, alloc: Global, bytes: &[u8], answer: Answer) {
+    let found = fault_of(read_table(alloc, &mut Reader::new(bytes)));
+    assert_answer(rt, bytes.len(), found, answer);
+}
+
+/// As an input of any kind the bytes get this answer.
+pub fn assert_input(rt: &impl Abort, alloc: Global, bytes: &[u8], answer: Answer) {
+    let found = fault_of(read_input(alloc, &mut Reader::new(bytes)));
+    assert_answer(rt, bytes.len(), found, answer);
+}
+
+/// The reading of blocks 300 and 301.
+fn pair(alloc: Global) -> Result<Vec<u8>, AllocError> {
+    reading(alloc, &[(300, 0x61), (301, 0x62)])
+}
+
+/// The pair is read from a device that gives at most so many bytes a call.
+fn assert_pair_in_pieces(
+    rt: &impl Abort,
+    alloc: Global,
+    bytes: &[u8],
+    most: usize,
+) -> Result<(), Fail> {
+    let mut source = Reader::new(Pieces {
+        rest: bytes,
+        most,
+        good: 9000,
+    });
+    let table = read_reading(alloc, &mut source)?;
+    assert_eq!(rt; table.known(), 2, "{most}");
+    assert!(rt;
+        matches!(table.state(301), Fact::Known(b) if b[2047] == 0x62),
+        "{most}"
+    );
+    Ok(())
+}
+
 #[test]
 fn reads_in_any_pieces(rt: HostRuntime) -> Result<(), Fail> {
     let alloc = rt.alloc();
-    let bytes = reading(alloc, &[(300, 0x61), (301, 0x62)])?;
+    let bytes = pair(alloc)?;
     assert_eq!(rt; bytes.len(), 4120);
-    for most in [1usize, 3, 4000, 5000] {
-        let mut source = Reader::new(Pieces {
-            rest: &bytes,
-            most,
-            good: 9000,
-        });
-        let table = read_reading(alloc, &mut source)?;
-        assert_eq!(rt; table.known(), 2);
-        assert!(rt; matches!(table.state(301), Fact::Known(b) if b[2047] == 0x62));
+    static CASES: [usize; 4] = [1, 3, 4000, 5000];
+    for &most in &CASES {
+        assert_pair_in_pieces(&rt, alloc, &bytes, most)?;
     }
     Ok(())
 }
@@ -136,14 +195,10 @@ fn record_at(len: usize) -> u32 {
 #[test]
 fn a_reading_is_cut_at_each_length(rt: HostRuntime) -> Result<(), Fail> {
     let alloc = rt.alloc();
-    let bytes = reading(alloc, &[(300, 0x61), (301, 0x62)])?;
+    let bytes = pair(alloc)?;
     for len in 0..bytes.len() {
-        let cut = fault_of(read_input(alloc, &mut Reader::new(&bytes[..len])));
-        assert_eq!(rt;
-            cut,
-            Some((ReadingFault::Truncated, record_at(len))),
-            "cut at {len}"
-        );
+        let cut = Some((ReadingFault::Truncated, record_at(len)));
+        assert_input(&rt, alloc, &bytes[..len], cut);
     }
     Ok(())
 }
@@ -151,7 +206,7 @@ fn a_reading_is_cut_at_each_length(rt: HostRuntime) -> Result<(), Fail> {
 #[test]
 fn a_device_fails_after_each_byte(rt: HostRuntime) -> Result<(), Fail> {
     let alloc = rt.alloc();
-    let bytes = reading(alloc, &[(300, 0x61), (301, 0x62)])?;
+    let bytes = pair(alloc)?;
     for good in 0..=bytes.len() {
         let mut failing = Reader::new(Pieces {
             rest: &bytes,
@@ -159,17 +214,13 @@ fn a_device_fails_after_each_byte(rt: HostRuntime) -> Result<(), Fail> {
             good,
         });
         let failed = fault_of(read_reading(alloc, &mut failing));
-        assert_eq!(rt;
-            failed,
-            Some((ReadingFault::Io, record_at(good))),
-            "fails at {good}"
-        );
+        assert_answer(&rt, good, failed, Some((ReadingFault::Io, record_at(good))));
     }
     Ok(())
 }
 
 #[test]
-fn a_fault_is_told_before_the_device_is_asked_again(rt: HostRuntime) -> Result<(), Fail> {
+fn a_faulty_number_is_told_before_the_device_is_asked_again(rt: HostRuntime) -> Result<(), Fail> {
     let alloc = rt.alloc();
     let high = reading(alloc, &[(4_194_304, 0)])?;
     let mut failing = Reader::new(Pieces {
@@ -178,73 +229,87 @@ fn a_fault_is_told_before_the_device_is_asked_again(rt: HostRuntime) -> Result<(
         good: 20,
     });
     let found = fault_of(read_reading(alloc, &mut failing));
-    assert_eq!(rt; found, Some((ReadingFault::BlockNumber, 1)));
-    let mut other = Reader::new(Pieces {
+    assert_answer(&rt, 20, found, Some((ReadingFault::BlockNumber, 1)));
+    Ok(())
+}
+
+#[test]
+fn a_faulty_magic_is_told_before_the_device_is_asked_again(rt: HostRuntime) {
+    let mut failing = Reader::new(Pieces {
         rest: b"UDFREAD2\x00",
         most: 5000,
         good: 8,
     });
-    let found = fault_of(read_input(alloc, &mut other));
-    assert_eq!(rt; found, Some((ReadingFault::Magic, 0)));
-    Ok(())
+    let found = fault_of(read_input(rt.alloc(), &mut failing));
+    assert_answer(&rt, 8, found, Some((ReadingFault::Magic, 0)));
 }
 
 #[test]
 fn names_the_faults_of_a_reading(rt: HostRuntime) -> Result<(), Fail> {
     let alloc = rt.alloc();
-    let mut longer = reading(alloc, &[(300, 0x61), (301, 0x62)])?;
+    let mut longer = pair(alloc)?;
     longer.push(0)?;
-    assert_eq!(rt;
-        fault_of(read_reading(alloc, &mut Reader::new(longer.as_slice()))),
-        Some((ReadingFault::Trailing, 2))
-    );
+    assert_reading(&rt, alloc, &longer, Some((ReadingFault::Trailing, 2)));
     let high = reading(alloc, &[(4_194_304, 0)])?;
-    assert_eq!(rt;
-        fault_of(read_reading(alloc, &mut Reader::new(high.as_slice()))),
-        Some((ReadingFault::BlockNumber, 1))
-    );
+    assert_reading(&rt, alloc, &high, Some((ReadingFault::BlockNumber, 1)));
     let last = reading(alloc, &[(4_194_303, 7)])?;
-    assert_eq!(rt;
-        fault_of(read_reading(alloc, &mut Reader::new(last.as_slice()))),
-        None
-    );
+    assert_reading(&rt, alloc, &last, None);
     let size = b"UDFREAD1\x00\x04\x00\x00\x00\x00\x00\x00";
-    assert_eq!(rt;
-        fault_of(read_reading(alloc, &mut Reader::new(size.as_slice()))),
-        Some((ReadingFault::BlockSize, 0))
-    );
-    assert_eq!(rt;
-        fault_of(read_reading(alloc, &mut Reader::new(DISPUTED.as_slice()))),
-        Some((ReadingFault::Magic, 0))
-    );
+    assert_reading(&rt, alloc, size, Some((ReadingFault::BlockSize, 0)));
+    assert_reading(&rt, alloc, DISPUTED, Some((ReadingFault::Magic, 0)));
     Ok(())
+}
+
+/// The table file of blocks 300 and 301.
+fn pair_table(alloc: Global) -> Result<Vec<u8>, AllocError> {
+    let mut file = Vec::new(alloc);
+    file.extend_from_slice(b"UDFTABL1\x00\x08\x00\x00\x02\x00\x00\x00\x2c\x01\x00\x00\x01")?;
+    file.extend_from_slice(&[0x61; 2048])?;
+    file.extend_from_slice(b"\x2d\x01\x00\x00\x01")?;
+    file.extend_from_slice(&[0x62; 2048])?;
+    Ok(file)
 }
 
 #[test]
 fn joins_in_any_order(rt: HostRuntime) -> Result<(), Fail> {
     let alloc = rt.alloc();
+    let expected = pair_table(alloc)?;
+    assert_eq!(rt; expected.len(), 4122);
     let a = reading(alloc, &[(300, 0x61)])?;
     let b = reading(alloc, &[(301, 0x62)])?;
+    assert_joined(&rt, alloc, &[&a, &b], &expected)?;
+    assert_joined(&rt, alloc, &[&b, &a], &expected)?;
+    assert_joined(&rt, alloc, &[&a, &b, &a], &expected)
+}
+
+#[test]
+fn joins_the_records_of_one_file(rt: HostRuntime) -> Result<(), Fail> {
+    let alloc = rt.alloc();
+    let expected = pair_table(alloc)?;
     let both = reading(alloc, &[(301, 0x62), (300, 0x61), (301, 0x62)])?;
-    let mut expected = Vec::new(alloc);
-    expected.extend_from_slice(b"UDFTABL1\x00\x08\x00\x00\x02\x00\x00\x00\x2c\x01\x00\x00\x01")?;
-    expected.extend_from_slice(&[0x61; 2048])?;
-    expected.extend_from_slice(b"\x2d\x01\x00\x00\x01")?;
-    expected.extend_from_slice(&[0x62; 2048])?;
-    assert_eq!(rt; expected.len(), 4122);
-    assert!(rt; joined(alloc, &[&a, &b])? == expected);
-    assert!(rt; joined(alloc, &[&b, &a])? == expected);
-    assert!(rt; joined(alloc, &[&a, &b, &a])? == expected);
-    assert!(rt; joined(alloc, &[&both])? == expected);
-    let earlier = joined(alloc, &[&a])?;
-    assert!(rt; joined(alloc, &[&b, &earlier])? == expected);
-    assert!(rt; joined(alloc, &[&expected])? == expected);
+    assert_joined(&rt, alloc, &[&both], &expected)
+}
+
+#[test]
+fn joins_what_was_joined_earlier(rt: HostRuntime) -> Result<(), Fail> {
+    let alloc = rt.alloc();
+    let expected = pair_table(alloc)?;
+    assert_joined(&rt, alloc, &[&expected], &expected)?;
+    let earlier = joined(alloc, &[&reading(alloc, &[(300, 0x61)])?])?;
+    let b = reading(alloc, &[(301, 0x62)])?;
+    assert_joined(&rt, alloc, &[&b, &earlier], &expected)
+}
+
+#[test]
+fn joins_no_record(rt: HostRuntime) -> Result<(), Fail> {
+    let alloc = rt.alloc();
     let empty = reading(alloc, &[])?;
-    assert_eq!(rt;
-        joined(alloc, &[&empty])?.as_slice(),
-        b"UDFTABL1\x00\x08\x00\x00\x00\x00\x00\x00".as_slice()
-    );
-    Ok(())
+    assert_joined(
+        &rt,
+        alloc,
+        &[&empty],
+        b"UDFTABL1\x00\x08\x00\x00\x00\x00\x00\x00",
+    )
 }
 
 #[test]
@@ -252,115 +317,157 @@ fn a_dispute_stays(rt: HostRuntime) -> Result<(), Fail> {
     let alloc = rt.alloc();
     let first = reading(alloc, &[(300, 0x61)])?;
     let second = reading(alloc, &[(300, 0x62)])?;
-    assert_eq!(rt;
-        joined(alloc, &[&first, &second, &first])?.as_slice(),
-        DISPUTED.as_slice()
-    );
-    assert_eq!(rt;
-        joined(alloc, &[DISPUTED, &first])?.as_slice(),
-        DISPUTED.as_slice()
-    );
-    assert_eq!(rt;
-        joined(alloc, &[&first, DISPUTED])?.as_slice(),
-        DISPUTED.as_slice()
-    );
-    Ok(())
+    assert_joined(&rt, alloc, &[&first, &second, &first], DISPUTED)?;
+    assert_joined(&rt, alloc, &[DISPUTED, &first], DISPUTED)?;
+    assert_joined(&rt, alloc, &[&first, DISPUTED], DISPUTED)
+}
+
+/// The first fault that joining the inputs meets, and the input that has it.
+fn join_fault(alloc: Global, files: &[&[u8]]) -> Result<Option<InputError>, Fail> {
+    let mut inputs = Vec::new(alloc);
+    for file in files {
+        inputs.push(Reader::new(*file))?;
+    }
+    Ok(join_inputs(alloc, inputs.as_mut_slice()).err())
 }
 
 #[test]
 fn names_the_first_faulty_input(rt: HostRuntime) -> Result<(), Fail> {
     let alloc = rt.alloc();
     let good = reading(alloc, &[(300, 0x61)])?;
-    let mut inputs = vec![in alloc;
-        Reader::new(good.as_slice()),
-        Reader::new(good.get(..17).unwrap_or(&[])),
-        Reader::new(b"UDFTABLX".as_slice()),
-    ]?;
+    let found = join_fault(alloc, &[&good, good.get(..17).unwrap_or(&[]), b"UDFTABLX"])?;
     let error = ReadingError {
         fault: ReadingFault::Truncated,
         number: 1,
     };
-    match join_inputs(alloc, inputs.as_mut_slice()) {
-        Ok(_) => assert!(rt; false),
-        Err(e) => assert_eq!(rt; e, InputError { input: 2, error }),
-    }
+    assert_eq!(rt; found, Some(InputError { input: 2, error }));
     Ok(())
 }
 
 #[test]
-fn a_table_file_is_cut_at_each_length(rt: HostRuntime) -> Result<(), Fail> {
-    let alloc = rt.alloc();
-    let table = read_table(alloc, &mut Reader::new(DISPUTED.as_slice()))?;
+fn a_table_file_is_read(rt: HostRuntime) -> Result<(), Fail> {
+    let table = read_table(rt.alloc(), &mut Reader::new(DISPUTED.as_slice()))?;
     assert_eq!(rt; table.conflicts(), 1);
     assert!(rt; matches!(table.state(300), Fact::Conflict));
-    for len in 0..DISPUTED.len() {
-        let number = if len < 16 { 0 } else { 1 };
-        let cut = fault_of(read_table(alloc, &mut Reader::new(&DISPUTED[..len])));
-        assert_eq!(rt;
-            cut,
-            Some((ReadingFault::Truncated, number)),
-            "cut at {len}"
-        );
-    }
     Ok(())
 }
 
 #[test]
-fn names_the_faults_of_a_table_file(rt: HostRuntime) -> Result<(), Fail> {
-    let alloc = rt.alloc();
-    for (number, state, fault) in [
-        (b"\x05\x00\x00\x00", 2u8, ReadingFault::Order),
+fn a_table_file_is_cut_at_each_length(rt: HostRuntime) {
+    for len in 0..DISPUTED.len() {
+        let number = if len < 16 { 0 } else { 1 };
+        let cut = Some((ReadingFault::Truncated, number));
+        assert_table_file(&rt, rt.alloc(), &DISPUTED[..len], cut);
+    }
+}
+
+/// A second entry like this, behind one of block 5 in conflict, is refused with this fault.
+fn assert_second_entry(
+    rt: &impl Abort,
+    alloc: Global,
+    number: &[u8; 4],
+    state: u8,
+    fault: ReadingFault,
+) -> Result<(), Fail> {
+    let mut bytes = Vec::new(alloc);
+    bytes.extend_from_slice(b"UDFTABL1\x00\x08\x00\x00\x02\x00\x00\x00\x05\x00\x00\x00\x02")?;
+    bytes.extend_from_slice(number)?;
+    bytes.push(state)?;
+    assert_table_file(rt, alloc, &bytes, Some((fault, 2)));
+    assert_input(rt, alloc, &bytes, Some((fault, 2)));
+    Ok(())
+}
+
+#[test]
+fn names_the_faults_of_a_second_entry(rt: HostRuntime) -> Result<(), Fail> {
+    static ENTRIES: [(&[u8; 4], u8, ReadingFault); 5] = [
+        (b"\x05\x00\x00\x00", 2, ReadingFault::Order),
         (b"\x04\x00\x00\x00", 2, ReadingFault::Order),
         (b"\x00\x00\x40\x00", 2, ReadingFault::BlockNumber),
         (b"\x06\x00\x00\x00", 3, ReadingFault::State),
         (b"\x06\x00\x00\x00", 0, ReadingFault::State),
-    ] {
-        let mut bytes = Vec::new(alloc);
-        bytes.extend_from_slice(b"UDFTABL1\x00\x08\x00\x00\x02\x00\x00\x00\x05\x00\x00\x00\x02")?;
-        bytes.extend_from_slice(number)?;
-        bytes.push(state)?;
-        let found = fault_of(read_table(alloc, &mut Reader::new(bytes.as_slice())));
-        assert_eq!(rt; found, Some((fault, 2)));
-        let found = fault_of(read_input(alloc, &mut Reader::new(bytes.as_slice())));
-        assert_eq!(rt; found, Some((fault, 2)));
+    ];
+    for &(number, state, fault) in &ENTRIES {
+        assert_second_entry(&rt, rt.alloc(), number, state, fault)?;
     }
-    let first = b"UDFTABL1\x00\x08\x00\x00\x01\x00\x00\x00\x05\x00\x00\x00\x03";
-    assert_eq!(rt;
-        fault_of(read_table(alloc, &mut Reader::new(first.as_slice()))),
-        Some((ReadingFault::State, 1))
-    );
-    let more = b"UDFTABL1\x00\x08\x00\x00\x01\x00\x00\x00\x05\x00\x00\x00\x02\x02";
-    assert_eq!(rt;
-        fault_of(read_table(alloc, &mut Reader::new(more.as_slice()))),
-        Some((ReadingFault::Trailing, 1))
-    );
-    assert_eq!(rt;
-        fault_of(read_input(alloc, &mut Reader::new(b"UDFTABLX".as_slice()))),
-        Some((ReadingFault::Magic, 0))
-    );
     Ok(())
+}
+
+#[test]
+fn names_the_faults_of_a_table_file(rt: HostRuntime) {
+    let alloc = rt.alloc();
+    let first = b"UDFTABL1\x00\x08\x00\x00\x01\x00\x00\x00\x05\x00\x00\x00\x03";
+    assert_table_file(&rt, alloc, first, Some((ReadingFault::State, 1)));
+    let more = b"UDFTABL1\x00\x08\x00\x00\x01\x00\x00\x00\x05\x00\x00\x00\x02\x02";
+    assert_table_file(&rt, alloc, more, Some((ReadingFault::Trailing, 1)));
+    assert_input(&rt, alloc, b"UDFTABLX", Some((ReadingFault::Magic, 0)));
+}
+
+/// The blocks of these records are known, each with the byte that fills it.
+pub fn assert_known(rt: &impl Abort, table: &BlockTable, records: &[(u32, u8)]) {
+    for (block, byte) in records {
+        assert!(rt;
+            matches!(table.state(*block), Fact::Known(b) if b[0] == *byte && b[2047] == *byte),
+            "{block}"
+        );
+    }
+}
+
+/// The file has this length, says these records, and what is read from it is written alike.
+fn assert_read_back(
+    rt: &impl Abort,
+    alloc: Global,
+    file: &[u8],
+    records: &[(u32, u8)],
+) -> Result<(), Fail> {
+    let again = read_table(alloc, &mut Reader::new(file))?;
+    assert_known(rt, &again, records);
+    let second = written(alloc, &again)?;
+    assert!(rt; second.as_slice() == file);
+    Ok(())
+}
+
+/// Three hundred records of falling numbers.
+fn falling(alloc: Global) -> Result<Vec<(u32, u8)>, AllocError> {
+    let mut records = Vec::new(alloc);
+    for n in 0..300u32 {
+        records.push((1000 - n, (n % 251) as u8))?;
+    }
+    Ok(records)
+}
+
+/// The table of these records, which are as many as are known, as a file.
+fn file_of(rt: &impl Abort, alloc: Global, records: &[(u32, u8)]) -> Result<Vec<u8>, Fail> {
+    let bytes = reading(alloc, records)?;
+    let table = read_input(alloc, &mut Reader::new(bytes.as_slice()))?;
+    assert_eq!(rt; table.known(), 300);
+    written(alloc, &table)
 }
 
 #[test]
 fn files_longer_than_a_window_read_back(rt: HostRuntime) -> Result<(), Fail> {
     let alloc = rt.alloc();
-    let mut records = Vec::new(alloc);
-    for n in 0..300u32 {
-        records.push((1000 - n, (n % 251) as u8))?;
-    }
-    let bytes = reading(alloc, records.as_slice())?;
-    let table = read_input(alloc, &mut Reader::new(bytes.as_slice()))?;
-    assert_eq!(rt; table.known(), 300);
-    let file = written(alloc, &table)?;
+    let records = falling(alloc)?;
+    let file = file_of(&rt, alloc, &records)?;
     assert_eq!(rt; file.len(), 16 + 300 * 2053);
-    let again = read_table(alloc, &mut Reader::new(file.as_slice()))?;
-    for (block, byte) in records.as_slice() {
-        assert!(rt;
-            matches!(again.state(*block), Fact::Known(b) if b[0] == *byte && b[2047] == *byte)
-        );
-    }
-    assert!(rt; written(alloc, &again)? == file);
-    Ok(())
+    assert_read_back(&rt, alloc, &file, &records)
+}
+
+/// A sink that fails after so many bytes has taken exactly these of the disputed block's file.
+fn assert_taken(rt: &impl Abort, alloc: Global, table: &BlockTable, good: usize) {
+    let mut out = Writer::new(Narrow {
+        taken: Vec::new(alloc),
+        most: 7,
+        good,
+    });
+    let outcome = write_table_v1(table, &mut out);
+    assert_eq!(rt; outcome.is_ok(), good == DISPUTED.len(), "fails at {good}");
+    let Narrow { taken, .. } = out.into_inner();
+    assert_eq!(rt;
+        Some(taken.as_slice()),
+        DISPUTED.get(..good),
+        "fails at {good}"
+    );
 }
 
 #[test]
@@ -368,16 +475,17 @@ fn a_sink_fails_after_each_byte(rt: HostRuntime) -> Result<(), Fail> {
     let alloc = rt.alloc();
     let table = read_table(alloc, &mut Reader::new(DISPUTED.as_slice()))?;
     for good in 0..=DISPUTED.len() {
-        let mut out = Writer::new(Narrow {
-            taken: Vec::new(alloc),
-            most: 7,
-            good,
-        });
-        let outcome = write_table_v1(&table, &mut out);
-        assert_eq!(rt; outcome.is_ok(), good == DISPUTED.len(), "fails at {good}");
-        assert_eq!(rt; out.into_inner().taken.as_slice(), &DISPUTED[..good]);
+        assert_taken(&rt, alloc, &table, good);
     }
     Ok(())
+}
+
+/// The table knows two blocks, and both versions of its file can be written.
+fn assert_two_known(rt: &impl Abort, table: &BlockTable) {
+    assert_eq!(rt; table.known(), 2);
+    let mut out = Writer::new(io::sink());
+    assert!(rt; write_table_v1(table, &mut out).is_ok());
+    assert!(rt; write_table(table, &mut out).is_ok());
 }
 
 /// With any one allocation refused (`rt try --test --fail-alloc N`) the answer is the table, or want of memory.
@@ -392,12 +500,7 @@ fn want_of_memory_is_named(rt: HostRuntime) -> Result<(), Fail> {
     };
     let mut inputs = [Reader::new(a.as_slice()), Reader::new(b.as_slice())];
     match join_inputs(alloc, &mut inputs) {
-        Ok(table) => {
-            assert_eq!(rt; table.known(), 2);
-            let mut out = Writer::new(io::sink());
-            assert!(rt; write_table_v1(&table, &mut out).is_ok());
-            assert!(rt; write_table(&table, &mut out).is_ok());
-        }
+        Ok(table) => assert_two_known(&rt, &table),
         Err(e) => assert_eq!(rt; e.error.fault, ReadingFault::OutOfMemory),
     }
     Ok(())
@@ -405,15 +508,12 @@ fn want_of_memory_is_named(rt: HostRuntime) -> Result<(), Fail> {
 
 /// A fault of the header is told whatever memory there is.
 #[test]
-fn a_header_fault_needs_no_memory(rt: HostRuntime) -> Result<(), Fail> {
-    let alloc = rt.alloc();
+fn a_header_fault_needs_no_memory(rt: HostRuntime) {
     for bytes in [
         b"UDFREAD1\x00\x04\x00\x00".as_slice(),
         b"UDFTABL1\x00\x04\x00\x00".as_slice(),
         b"UDFTABL2\x00\x04\x00\x00".as_slice(),
     ] {
-        let found = fault_of(read_input(alloc, &mut Reader::new(bytes)));
-        assert_eq!(rt; found, Some((ReadingFault::BlockSize, 0)));
+        assert_input(&rt, rt.alloc(), bytes, Some((ReadingFault::BlockSize, 0)));
     }
-    Ok(())
 }

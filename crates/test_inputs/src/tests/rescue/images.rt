@@ -1,5 +1,6 @@
 //! The image of a table.
 
+use crate::tests::assert_case;
 use std::test::Fail;
 use udfs_lattice::{BlockTable, Fact};
 use udfs_reading::Writer;
@@ -17,7 +18,8 @@ fn ends(image: &[u8], block: usize) -> (u8, u8) {
 #[test]
 fn an_image_of_all_states(rt: HostRuntime) -> Result<(), Fail> {
     let mut table = BlockTable::new(rt.alloc());
-    for (n, byte) in [(1u32, 1u8), (2, 2), (4, 4), (299, 43), (300, 44)] {
+    static CASES: [(u32, u8); 5] = [(1, 1), (2, 2), (4, 4), (299, 43), (300, 44)];
+    for &(n, byte) in &CASES {
         table.put(n, &[byte; 2048])?;
     }
     table.add(2, Fact::Conflict)?;
@@ -26,8 +28,8 @@ fn an_image_of_all_states(rt: HostRuntime) -> Result<(), Fail> {
     assert!(rt; write_image(&table, 299, &mut sink).is_ok());
     let image = sink.into_inner();
     assert!(rt; image.len() == 614_400);
-    for (block, byte) in [
-        (0usize, 0u8),
+    static ENDS: [(usize, u8); 8] = [
+        (0, 0),
         (1, 1),
         (2, 0),
         (3, 0),
@@ -35,8 +37,9 @@ fn an_image_of_all_states(rt: HostRuntime) -> Result<(), Fail> {
         (5, 0),
         (298, 0),
         (299, 43),
-    ] {
-        assert!(rt; ends(&image, block) == (byte, byte), "{block}");
+    ];
+    for &(block, byte) in &ENDS {
+        assert_case(&rt, ends(&image, block) == (byte, byte), block);
     }
     Ok(())
 }

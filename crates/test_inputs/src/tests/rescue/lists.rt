@@ -1,5 +1,6 @@
 //! Lists of blocks.
 
+use crate::tests::{assert_case, assert_same};
 use std::test::Fail;
 use udfs_reading::Reader;
 use udfs_rescue::{BlockList, ListError};
@@ -20,7 +21,7 @@ fn is_fault(rt: HostRuntime, text: &[u8], line: u64) -> bool {
 
 #[test]
 fn lists(rt: HostRuntime) -> Result<(), Fail> {
-    let rows: [(&[u8], &[u32]); 7] = [
+    static ROWS: [(&[u8], &[u32]); 7] = [
         (b"", &[]),
         (b"7\n", &[7]),
         (b"7", &[7]),
@@ -29,7 +30,7 @@ fn lists(rt: HostRuntime) -> Result<(), Fail> {
         (b"4194303\n", &[4_194_303]),
         (b"000000000000000000000000000000012\n", &[12]),
     ];
-    for (text, numbers) in rows {
+    for &(text, numbers) in &ROWS {
         assert!(rt; is_list(rt, text, numbers));
     }
     Ok(())
@@ -37,7 +38,7 @@ fn lists(rt: HostRuntime) -> Result<(), Fail> {
 
 #[test]
 fn faults(rt: HostRuntime) -> Result<(), Fail> {
-    let rows: [(&[u8], u64); 16] = [
+    static ROWS: [(&[u8], u64); 16] = [
         (b"\n", 1),
         (b"7\n\n8\n", 2),
         (b"7\n\r\n", 2),
@@ -55,8 +56,8 @@ fn faults(rt: HostRuntime) -> Result<(), Fail> {
         (b"1\n18446744073709551616\n", 2),
         (b"1\n2\n3\n# four", 4),
     ];
-    for (text, line) in rows {
-        assert!(rt; is_fault(rt, text, line), "{line}");
+    for &(text, line) in &ROWS {
+        assert_case(&rt, is_fault(rt, text, line), line);
     }
     Ok(())
 }
@@ -64,6 +65,6 @@ fn faults(rt: HostRuntime) -> Result<(), Fail> {
 #[test]
 fn words(rt: HostRuntime) -> Result<(), Fail> {
     let line = ListError::Line(3).to_string(rt.alloc())?;
-    assert_eq!(rt; line.as_str(), "list line 3: not a block number");
+    assert_same(&rt, line.as_str(), "list line 3: not a block number");
     Ok(())
 }

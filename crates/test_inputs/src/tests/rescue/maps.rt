@@ -1,5 +1,6 @@
 //! What GNU ddrescue 1.27 takes and refuses, and what is read here.
 
+use crate::tests::{assert_case, assert_same};
 use std::test::Fail;
 use udfs_reading::{Reader, ReadingError, ReadingFault};
 use udfs_rescue::{BlockRange, KnownBlocks, LineFault, MapError, MapFault, Mapfile};
@@ -52,88 +53,124 @@ fn is_too_high(rt: HostRuntime, text: &[u8], number: u32) -> bool {
 
 #[test]
 fn whole_maps(rt: HostRuntime) -> Result<(), Fail> {
-    assert!(rt; is_range(rt, b"0x0 +\n0x0 0x800 +\n", 0, 1), "plain");
-    assert!(rt; is_range(rt, b"# c\n\n0 + 1\n0 04000 +", 0, 1), "octal");
-    assert!(rt; is_range(rt, b"0 +\r\n  0\t2048 + # c\r\n", 0, 1), "CR LF");
-    assert!(rt;
+    assert_case(&rt, is_range(rt, b"0x0 +\n0x0 0x800 +\n", 0, 1), "plain");
+    assert_case(&rt, is_range(rt, b"# c\n\n0 + 1\n0 04000 +", 0, 1), "octal");
+    assert_case(
+        &rt,
+        is_range(rt, b"0 +\r\n  0\t2048 + # c\r\n", 0, 1),
+        "CR LF",
+    );
+    assert_case(
+        &rt,
         is_range(rt, b"0X0 +\n0X0 0X800 +\n0x800 0x800 -\n", 0, 1),
-        "upper case"
+        "upper case",
     );
-    assert!(rt;
+    assert_case(
+        &rt,
         is_range(rt, b"0 +\n0 1000 +\n1000 1048 +\n2048 512 -\n", 0, 1),
-        "joined"
+        "joined",
     );
-    assert!(rt; is_range(rt, b"0 +\n1 4096 +\n", 1, 2), "rounded inward");
-    assert!(rt; is_range(rt, b"0 +\n0x800 0x800 +\n", 1, 2), "not from 0");
-    assert!(rt;
+    assert_case(
+        &rt,
+        is_range(rt, b"0 +\n1 4096 +\n", 1, 2),
+        "rounded inward",
+    );
+    assert_case(
+        &rt,
+        is_range(rt, b"0 +\n0x800 0x800 +\n", 1, 2),
+        "not from 0",
+    );
+    assert_case(
+        &rt,
         is_range(rt, b"0 +\n0 0 ?\n0 0x800 +\n", 0, 1),
-        "size 0 at 0"
+        "size 0 at 0",
     );
-    assert!(rt; is_none(rt, b""), "empty");
-    assert!(rt; is_none(rt, b"# c\n"), "a comment");
-    assert!(rt; is_none(rt, b"0 +\n"), "a status line");
-    assert!(rt; is_none(rt, b"0 +\n0 0 ?\n"), "an empty map");
-    assert!(rt;
+    assert_case(&rt, is_none(rt, b""), "empty");
+    assert_case(&rt, is_none(rt, b"# c\n"), "a comment");
+    assert_case(&rt, is_none(rt, b"0 +\n"), "a status line");
+    assert_case(&rt, is_none(rt, b"0 +\n0 0 ?\n"), "an empty map");
+    assert_case(
+        &rt,
         is_none(
             rt,
-            b"0 F 01\n0 2048 ?\n2048 2048 *\n4096 2048 /\n6144 2048 -\n"
+            b"0 F 01\n0 2048 ?\n2048 2048 *\n4096 2048 /\n6144 2048 -\n",
         ),
-        "no status is +"
+        "no status is +",
     );
     Ok(())
 }
 
 #[test]
 fn faults(rt: HostRuntime) -> Result<(), Fail> {
-    assert!(rt;
+    assert_case(
+        &rt,
         is_fault(rt, b"0 0x800 +\n", 1, MapFault::NotStatusLine),
-        "no status line"
+        "no status line",
     );
-    assert!(rt;
+    assert_case(
+        &rt,
         is_fault(rt, b"0 + 0\n", 1, MapFault::NotStatusLine),
-        "pass 0"
+        "pass 0",
     );
-    assert!(rt;
+    assert_case(
+        &rt,
         is_fault(rt, b"0 x\n", 1, MapFault::NotStatusLine),
-        "phase x"
+        "phase x",
     );
-    assert!(rt;
+    assert_case(
+        &rt,
         is_fault(rt, b"# c\n0x8000000000000000 +\n", 2, MapFault::TooLarge),
-        "2 ^ 63 in the status line"
+        "2 ^ 63 in the status line",
     );
-    assert!(rt; is_fault(rt, b"0 +\n0 08 +\n", 2, MapFault::NotRun), "08");
-    assert!(rt; is_fault(rt, b"0 +\n0 0x +\n", 2, MapFault::NotRun), "0x");
-    assert!(rt;
+    assert_case(
+        &rt,
+        is_fault(rt, b"0 +\n0 08 +\n", 2, MapFault::NotRun),
+        "08",
+    );
+    assert_case(
+        &rt,
+        is_fault(rt, b"0 +\n0 0x +\n", 2, MapFault::NotRun),
+        "0x",
+    );
+    assert_case(
+        &rt,
         is_fault(rt, b"0 +\n0 0x800+\n", 2, MapFault::NotRun),
-        "no blank"
+        "no blank",
     );
-    assert!(rt;
+    assert_case(
+        &rt,
         is_fault(rt, b"0 +\n0 2048 + x\n", 2, MapFault::NotRun),
-        "a fourth word"
+        "a fourth word",
     );
-    assert!(rt;
+    assert_case(
+        &rt,
         is_fault(rt, b"0 +\n0 2048#c +\n", 2, MapFault::NotRun),
-        "# in a word"
+        "# in a word",
     );
-    assert!(rt;
+    assert_case(
+        &rt,
         is_fault(rt, b"0 +\n0 0x8000000000000000 +\n", 2, MapFault::TooLarge),
-        "2 ^ 63"
+        "2 ^ 63",
     );
-    assert!(rt;
+    assert_case(
+        &rt,
         is_fault(rt, b"0 +\n1 0x7fffffffffffffff +\n", 2, MapFault::TooLarge),
-        "its end"
+        "its end",
     );
-    assert!(rt;
+    assert_case(
+        &rt,
         is_fault(rt, b"0 +\n\n0 1 +\n2 1 +\n", 4, MapFault::NotContiguous),
-        "a gap"
+        "a gap",
     );
-    assert!(rt;
+    assert_case(
+        &rt,
         is_fault(rt, b"0 +\n5 0 ?\n", 2, MapFault::SizeZero),
-        "size 0 at 5"
+        "size 0 at 5",
     );
-    assert!(rt;
+    assert_case(
+        &rt,
         is_fault(rt, b"0 +\n0 5 ?\n6 0 ?\n", 3, MapFault::NotContiguous),
-        "a gap comes before size 0"
+        "a gap comes before size 0",
     );
     Ok(())
 }
@@ -142,68 +179,75 @@ fn faults(rt: HostRuntime) -> Result<(), Fail> {
 #[test]
 fn marks(rt: HostRuntime) -> Result<(), Fail> {
     let not_pass = MapFault::NotPass;
-    assert!(rt;
+    assert_case(
+        &rt,
         is_fault(
             rt,
             b"# c\n# Blocks to read again, for ddrescue -m: not the mapfile of a pass\n0 + 1\n",
             2,
-            not_pass
+            not_pass,
         ),
-        "as it is written"
+        "as it is written",
     );
-    assert!(rt;
+    assert_case(
+        &rt,
         is_fault(
             rt,
             b"0 +\r\n0 2048 +\r\n# Blocks to read again, for ddrescue -m: not the mapfile of a pass\r\n",
             3,
-            not_pass
+            not_pass,
         ),
-        "CR LF, and behind the runs"
+        "CR LF, and behind the runs",
     );
-    assert!(rt;
+    assert_case(
+        &rt,
         is_fault(
             rt,
             b"# Blocks to read again, for ddrescue -m: not the mapfile of a pass",
             1,
-            not_pass
+            not_pass,
         ),
-        "without a line feed"
+        "without a line feed",
     );
-    assert!(rt;
+    assert_case(
+        &rt,
         is_fault(
             rt,
             b"0 x\n# Blocks to read again, for ddrescue -m: not the mapfile of a pass\n",
             1,
-            MapFault::NotStatusLine
+            MapFault::NotStatusLine,
         ),
-        "an earlier fault"
+        "an earlier fault",
     );
-    assert!(rt;
+    assert_case(
+        &rt,
         is_range(
             rt,
             b"# Blocks to read again, for ddrescue -m: not the mapfile of a pass.\n0 +\n0 2048 +\n",
             0,
-            1
+            1,
         ),
-        "a byte more"
+        "a byte more",
     );
-    assert!(rt;
+    assert_case(
+        &rt,
         is_range(
             rt,
             b"# Blocks to read again, for ddrescue -m: not the mapfile of a pas\n0 +\n0 2048 +\n",
             0,
-            1
+            1,
         ),
-        "a byte less"
+        "a byte less",
     );
-    assert!(rt;
+    assert_case(
+        &rt,
         is_range(
             rt,
             b" # Blocks to read again, for ddrescue -m: not the mapfile of a pass\n0 +\n0 2048 +\n",
             0,
-            1
+            1,
         ),
-        "a blank in front"
+        "a blank in front",
     );
     Ok(())
 }
@@ -227,8 +271,12 @@ fn long_lines(rt: HostRuntime) -> Result<(), Fail> {
         for _ in 0..300 {
             text.push(b'#')?;
         }
-        assert_eq!(rt; is_range(rt, text.as_slice(), 0, 1), !long);
-        assert_eq!(rt; is_fault(rt, text.as_slice(), 2, MapFault::NotRun), long);
+        assert_same(&rt, is_range(rt, text.as_slice(), 0, 1), !long);
+        assert_same(
+            &rt,
+            is_fault(rt, text.as_slice(), 2, MapFault::NotRun),
+            long,
+        );
     }
     Ok(())
 }
@@ -245,9 +293,10 @@ fn blocks_above_the_greatest_number(rt: HostRuntime) -> Result<(), Fail> {
             4
         )
     );
-    assert!(rt;
+    assert_case(
+        &rt,
         is_none(rt, b"0 +\n8589934592 2047 +\n"),
-        "a part of a block"
+        "a part of a block",
     );
     Ok(())
 }
@@ -256,14 +305,14 @@ fn blocks_above_the_greatest_number(rt: HostRuntime) -> Result<(), Fail> {
 fn what_a_map_tells(rt: HostRuntime) -> Result<(), Fail> {
     let alloc = rt.alloc();
     let map = read(rt, b"0 +\n0 2048 +\n2048 512 -\n")?;
-    assert_eq!(rt; map.end(), Some(2560));
+    assert_same(&rt, map.end(), Some(2560));
     assert_eq!(rt; map.runs().len(), 2);
     let none = read(rt, b"0 +\n")?;
-    assert_eq!(rt; none.end(), None);
+    assert_same(&rt, none.end(), None);
     let fault = match read(rt, b"0 +\n1 0 ?\n") {
         Ok(_) => String::new(alloc),
         Err(e) => e.to_string(alloc)?,
     };
-    assert_eq!(rt; fault.as_str(), "mapfile line 2: run of size 0");
+    assert_same(&rt, fault.as_str(), "mapfile line 2: run of size 0");
     Ok(())
 }

@@ -2,6 +2,7 @@
 
 ghost use Rattle.std.specs.Prelude.{ℕ, List, Option, None};
 
+use crate::tests::assert_same;
 use std::alloc::Global;
 use std::test::Fail;
 use udfs_lattice::Fact;
@@ -83,13 +84,15 @@ fn a_pair_is_the_reading_of_its_known_blocks(rt: HostRuntime) -> Result<(), Fail
     for most in [1000, 1_000_000] {
         let mut pair = pair_of(alloc, all.as_slice(), most, u64::MAX, map)?;
         let table = read_input(alloc, &mut pair)?;
-        assert_eq!(rt; table.known(), 252);
-        for n in [1u32, 2, 150, 277, 278, 279, 399] {
+        assert_same(&rt, table.known(), 252);
+        static CASES: [u32; 7] = [1, 2, 150, 277, 278, 279, 399];
+        for &n in &CASES {
             assert!(rt;
                 matches!(table.state(n), Fact::Known(b) if b[0] == (n % 251) as u8 && b[2047] == (n % 251) as u8)
             );
         }
-        for n in [0u32, 3, 149, 400] {
+        static UNKNOWN: [u32; 4] = [0, 3, 149, 400];
+        for &n in &UNKNOWN {
             assert!(rt; matches!(table.state(n), Fact::Unknown));
         }
     }
@@ -133,7 +136,7 @@ fn an_empty_map_is_an_empty_reading(rt: HostRuntime) -> Result<(), Fail> {
     let alloc = rt.alloc();
     let mut pair = pair_of(alloc, &[], 1, u64::MAX, b"")?;
     let table = read_input(alloc, &mut pair)?;
-    assert_eq!(rt; table.known(), 0);
+    assert_same(&rt, table.known(), 0);
     Ok(())
 }
 
@@ -142,8 +145,8 @@ fn an_image_that_ends_early(rt: HostRuntime) -> Result<(), Fail> {
     let alloc = rt.alloc();
     let map = b"0 +\n0 2048 +\n2048 2048 ?\n4096 4096 +\n";
     let known = known_of(alloc, map)?;
-    for (size, block) in [
-        (0u64, Some(0u64)),
+    static SIZES: [(u64, Option<u64>); 8] = [
+        (0, Some(0)),
         (2047, Some(0)),
         (2048, Some(2)),
         (6143, Some(2)),
@@ -151,8 +154,9 @@ fn an_image_that_ends_early(rt: HostRuntime) -> Result<(), Fail> {
         (8191, Some(3)),
         (8192, None),
         (u64::MAX, None),
-    ] {
-        assert_eq!(rt; known.first_outside(size), block);
+    ];
+    for &(size, block) in &SIZES {
+        assert_same(&rt, known.first_outside(size), block);
     }
     // Where that is not asked before, it is a fault of the device at the block.
     let all = image_of(alloc, 3)?;

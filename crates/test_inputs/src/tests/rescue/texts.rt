@@ -3,6 +3,7 @@
 ghost use Rattle.std.specs.Prelude.{ℕ, ◌≤◌, List, Option, None};
 ghost use Rattle.std.specs.List.Sorted.{IsNonDecreasing};
 
+use crate::tests::assert_text;
 use std::test::Fail;
 use udfs_lattice::{BlockTable, Fact};
 use udfs_reading::{DeviceFault, Reader, Sink, Writer};
@@ -171,9 +172,10 @@ fn a_domain_is_no_pass(rt: HostRuntime) -> Result<(), Fail> {
     match Mapfile::read(rt.alloc(), &mut Reader::new(text.as_slice())) {
         Err(MapError::Line(found)) => {
             assert!(rt; found.line == 2 && found.fault == MapFault::NotPass);
-            assert_eq!(rt;
-                found.to_string(rt.alloc())?.as_str(),
-                "mapfile line 2: blocks to read again, not a pass"
+            assert_text(
+                &rt,
+                found.to_string(rt.alloc())?,
+                "mapfile line 2: blocks to read again, not a pass",
             );
         }
         _ => assert!(rt; false),

@@ -1,5 +1,6 @@
 //! Whole tables.
 
+use crate::tests::{assert_case, assert_same, assert_same_in};
 use std::alloc::Global;
 use std::test::Fail;
 use udfs_lattice::table::LAST_BLOCK;
@@ -14,17 +15,17 @@ fn joins_two_passes(rt: HostRuntime) -> Result<(), Fail> {
     table.put(5, &[0x62; 2048])?;
     other.put(300, &[0x62; 2048])?;
     other.put(LAST_BLOCK, &[0x63; 2048])?;
-    assert_eq!(rt; table.put(LAST_BLOCK + 1, &[0; 2048]).is_err(), true);
+    assert_same(&rt, table.put(LAST_BLOCK + 1, &[0; 2048]).is_err(), true);
     table.join(&other)?;
     table.join(&other)?;
-    assert_eq!(rt; table.known(), 2);
-    assert_eq!(rt; table.conflicts(), 1);
+    assert_same(&rt, table.known(), 2);
+    assert_same(&rt, table.conflicts(), 1);
     let mut numbers = Vec::new(alloc);
     for (n, fact) in table.entries() {
         assert!(rt; fact == table.state(n));
         numbers.push(n)?;
     }
-    assert_eq!(rt; numbers.as_slice(), [5, 300, LAST_BLOCK].as_slice());
+    assert_same(&rt, numbers.as_slice(), [5, 300, LAST_BLOCK].as_slice());
     assert!(rt; matches!(table.state(300), Fact::Conflict));
     assert!(rt; matches!(table.state(6), Fact::Unknown));
     assert!(rt; matches!(table.state(5), Fact::Known(bytes) if bytes[2047] == 0x62));
@@ -36,7 +37,7 @@ fn unknown_blocks_to_the_end_of_a_packet(rt: HostRuntime) -> Result<(), Fail> {
     let mut table = BlockTable::new(rt.alloc());
     table.put(70, &[0x61; 2048])?;
     table.add(95, Fact::Conflict)?;
-    for (n, want) in [
+    static AHEAD: [(u32, u32); 11] = [
         (0, 32),
         (31, 1),
         (32, 32),
@@ -48,11 +49,12 @@ fn unknown_blocks_to_the_end_of_a_packet(rt: HostRuntime) -> Result<(), Fail> {
         (95, 0),
         (LAST_BLOCK, 1),
         (u32::MAX, 1),
-    ] {
-        assert_eq!(rt; table.unknown_ahead(n), want, "{n}");
+    ];
+    for &(n, want) in &AHEAD {
+        assert_same_in(&rt, table.unknown_ahead(n), want, n);
     }
     table.forget(70);
-    assert_eq!(rt; table.unknown_ahead(64), 31);
+    assert_same(&rt, table.unknown_ahead(64), 31);
     Ok(())
 }
 
@@ -90,19 +92,20 @@ fn a_refused_join_can_be_done_again(rt: HostRuntime) -> Result<(), Fail> {
         return Ok(());
     }
     for n in 0..24u32 {
-        assert!(rt;
+        assert_case(
+            &rt,
             is_between(old.state(n), table.state(n), whole.state(n)),
-            "{n}"
+            n,
         );
     }
     if first.is_err() {
         table.join(&other)?;
     }
     for n in 0..24u32 {
-        assert!(rt; table.state(n) == whole.state(n), "{n}");
+        assert_case(&rt, table.state(n) == whole.state(n), n);
     }
-    assert_eq!(rt; whole.conflicts(), 3);
-    assert_eq!(rt; whole.known(), 10);
+    assert_same(&rt, whole.conflicts(), 3);
+    assert_same(&rt, whole.known(), 10);
     Ok(())
 }
 
@@ -118,8 +121,8 @@ fn forgets_one_block(rt: HostRuntime) -> Result<(), Fail> {
     table.forget(61);
     table.forget(5000);
     table.forget(u32::MAX);
-    assert_eq!(rt; table.known(), 2);
-    assert_eq!(rt; table.conflicts(), 1);
+    assert_same(&rt, table.known(), 2);
+    assert_same(&rt, table.conflicts(), 1);
     assert!(rt; matches!(table.state(63), Fact::Unknown));
     assert!(rt; matches!(table.state(61), Fact::Unknown));
     assert!(rt; matches!(table.state(60), Fact::Conflict));
@@ -133,22 +136,24 @@ fn forgets_one_block(rt: HostRuntime) -> Result<(), Fail> {
 #[test]
 fn forgets_conflicts_and_lists(rt: HostRuntime) -> Result<(), Fail> {
     let mut table = BlockTable::new(rt.alloc());
-    for n in [0u32, 31, 32, LAST_BLOCK] {
+    static CASES: [u32; 4] = [0, 31, 32, LAST_BLOCK];
+    for &n in &CASES {
         table.put(n, &[0x61; 2048])?;
     }
-    for n in [1u32, 32, 5000, LAST_BLOCK] {
+    static DISPUTED: [u32; 4] = [1, 32, 5000, LAST_BLOCK];
+    for &n in &DISPUTED {
         table.add(n, Fact::Conflict)?;
     }
     table.forget_conflicts();
-    assert_eq!(rt; table.conflicts(), 0);
-    assert_eq!(rt; table.known(), 2);
+    assert_same(&rt, table.conflicts(), 0);
+    assert_same(&rt, table.known(), 2);
     assert!(rt; matches!(table.state(LAST_BLOCK), Fact::Unknown));
     table.put(33, &[0x62; 2048])?;
     table.put(LAST_BLOCK, &[0x62; 2048])?;
     table.forget_all(&[]);
-    assert_eq!(rt; table.known(), 4);
+    assert_same(&rt, table.known(), 4);
     table.forget_all(&[LAST_BLOCK, 0, 7, LAST_BLOCK + 1, 0]);
-    assert_eq!(rt; table.known(), 2);
+    assert_same(&rt, table.known(), 2);
     assert!(rt; matches!(table.state(31), Fact::Known(bytes) if bytes[0] == 0x61));
     assert!(rt; matches!(table.state(33), Fact::Known(bytes) if bytes[0] == 0x62));
     Ok(())
@@ -159,14 +164,14 @@ fn adds_states(rt: HostRuntime) -> Result<(), Fail> {
     let alloc = rt.alloc();
     let mut table = BlockTable::new(alloc);
     table.add(7, Fact::Unknown)?;
-    assert_eq!(rt; table.known(), 0);
+    assert_same(&rt, table.known(), 0);
     table.add(7, Fact::Known(&[0x61; 2048]))?;
-    assert_eq!(rt; table.known(), 1);
+    assert_same(&rt, table.known(), 1);
     table.add(7, Fact::Conflict)?;
     table.put(7, &[0x61; 2048])?;
     assert!(rt; matches!(table.state(7), Fact::Conflict));
     table.add(8, Fact::Conflict)?;
-    assert_eq!(rt; table.conflicts(), 2);
+    assert_same(&rt, table.conflicts(), 2);
     assert!(rt; table.add(LAST_BLOCK + 1, Fact::Conflict).is_err());
     Ok(())
 }
@@ -178,17 +183,20 @@ fn joined<J: Join + Drop>(mut first: J, second: &J) -> Result<J, TableError> {
 
 #[test]
 fn joins_facts(rt: HostRuntime) -> Result<(), Fail> {
-    assert_eq!(rt;
+    assert_same(
+        &rt,
         joined(Fact::Known([1, 2]), &Fact::Unknown)?,
-        Fact::Known([1, 2])
+        Fact::Known([1, 2]),
     );
-    assert_eq!(rt;
+    assert_same(
+        &rt,
         joined(Fact::Known([1, 2]), &Fact::Known([1, 3]))?,
-        Fact::Conflict
+        Fact::Conflict,
     );
-    assert_eq!(rt;
+    assert_same(
+        &rt,
         joined(Fact::Conflict, &Fact::Known([1, 3]))?,
-        Fact::Conflict
+        Fact::Conflict,
     );
     Ok(())
 }
@@ -196,8 +204,8 @@ fn joins_facts(rt: HostRuntime) -> Result<(), Fail> {
 #[test]
 fn names_its_errors(rt: HostRuntime) -> Result<(), Fail> {
     let number = TableError::BlockNumber.to_string(rt.alloc())?;
-    assert_eq!(rt; number.as_str(), "the block number is above 4194303");
+    assert_same(&rt, number.as_str(), "the block number is above 4194303");
     let memory = TableError::OutOfMemory.to_string(rt.alloc())?;
-    assert_eq!(rt; memory.as_str(), "out of memory");
+    assert_same(&rt, memory.as_str(), "out of memory");
     Ok(())
 }

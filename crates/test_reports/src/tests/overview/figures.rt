@@ -1,11 +1,12 @@
 //! Numbers, sizes and percentages.
 
+use crate::tests::assert_same;
 use std::test::Fail;
 use udfs_overview::{push_grouped, push_percent, push_size};
 
 #[test]
 fn numbers(rt: HostRuntime) -> Result<(), Fail> {
-    let cases: [(u128, &str); 9] = [
+    static CASES: [(u128, &str); 9] = [
         (0, "0"),
         (7, "7"),
         (999, "999"),
@@ -19,17 +20,17 @@ fn numbers(rt: HostRuntime) -> Result<(), Fail> {
             "340,282,366,920,938,463,463,374,607,431,768,211,455",
         ),
     ];
-    for (number, expected) in cases {
+    for &(number, expected) in &CASES {
         let mut text = String::new(rt.alloc());
         push_grouped(number, &mut text)?;
-        assert_eq!(rt; text.as_str(), expected);
+        assert_same(&rt, text.as_str(), expected);
     }
     Ok(())
 }
 
 #[test]
 fn sizes(rt: HostRuntime) -> Result<(), Fail> {
-    let cases: [(u128, &str); 18] = [
+    static CASES: [(u128, &str); 18] = [
         (0, "0 B"),
         (1, "1 B"),
         (999, "999 B"),
@@ -53,17 +54,17 @@ fn sizes(rt: HostRuntime) -> Result<(), Fail> {
         (65_536 * 18_446_744_073_709_551_615, "1.2 YB"),
         (u128::MAX, "340282366920938.5 YB"),
     ];
-    for (size, expected) in cases {
+    for &(size, expected) in &CASES {
         let mut text = String::new(rt.alloc());
         push_size(size, &mut text)?;
-        assert_eq!(rt; text.as_str(), expected);
+        assert_same(&rt, text.as_str(), expected);
     }
     Ok(())
 }
 
 #[test]
 fn percentages(rt: HostRuntime) -> Result<(), Fail> {
-    let cases: [(u128, u128, &str); 16] = [
+    static CASES: [(u128, u128, &str); 16] = [
         (41_000, 774_500, "5.3 %"),
         (8_200, 180_000, "4.6 %"),
         (0, 5, "0.0 %"),
@@ -87,10 +88,10 @@ fn percentages(rt: HostRuntime) -> Result<(), Fail> {
             "34028236692093846346337460743176821145500.0 %",
         ),
     ];
-    for (part, whole, expected) in cases {
+    for &(part, whole, expected) in &CASES {
         let mut text = String::new(rt.alloc());
         push_percent(part, whole, &mut text)?;
-        assert_eq!(rt; text.as_str(), expected);
+        assert_same(&rt, text.as_str(), expected);
     }
     Ok(())
 }

@@ -1,8 +1,10 @@
 //! The list of nodes, over sample volumes and a sink that fails.
 
+use crate::tests::{assert_case, assert_same_in, assert_text};
 use std::alloc::Global;
 use std::io;
 use std::io::Write;
+use std::process::Abort;
 use std::test::Fail;
 use udfs_lattice::BlockTable;
 use udfs_overview::{ListForm, write_list};
@@ -24,8 +26,15 @@ fn listed(alloc: Global, table: &BlockTable, form: ListForm) -> Result<String, F
     Ok(String::from_utf8(text.into_inner())?)
 }
 
+/// With all its blocks known, the disc's list is this.
+fn assert_listed(rt: &impl Abort, alloc: Global, disc: &Disc, expected: &str) -> Result<(), Fail> {
+    let table = disc.known_but(alloc, &[])?;
+    assert_text(rt, listed(alloc, &table, ALL)?, expected);
+    Ok(())
+}
+
 /// The blocks that are not known of the volume with one map, and its list.
-const UNREAD: [(&[u32], &str); 6] = [
+static UNREAD: [(&[u32], &str); 6] = [
     (
         &[],
         "whole\tfile\t0\t5000\t2001-07-04T09:30:00.000000Z\t/A\nwhole\tfile\t0\t2\t2001-07-04T09:30:00.000000Z\t/B\n",
@@ -52,9 +61,9 @@ const UNREAD: [(&[u32], &str); 6] = [
 #[test]
 fn lists(rt: HostRuntime) -> Result<(), Fail> {
     let alloc = rt.alloc();
-    for (unread, expected) in UNREAD {
+    for &(unread, expected) in &UNREAD {
         let table = Disc::type1(alloc)?.known_but(alloc, unread)?;
-        assert_eq!(rt; listed(alloc, &table, ALL)?.as_str(), expected);
+        assert_text(&rt, listed(alloc, &table, ALL)?, expected);
     }
     Ok(())
 }
@@ -76,37 +85,49 @@ fn forms(rt: HostRuntime) -> Result<(), Fail> {
     ];
     for (torn, null, paths, expected) in cases {
         let form = ListForm { torn, null, paths };
-        assert_eq!(rt; listed(alloc, &table, form)?.as_str(), expected);
+        assert_text(&rt, listed(alloc, &table, form)?, expected);
     }
     Ok(())
 }
 
-/// A loop, a fault, and a name that begins with a mark which turns the direction of text.
 #[test]
-fn loops_faults_and_names(rt: HostRuntime) -> Result<(), Fail> {
+fn a_loop(rt: HostRuntime) -> Result<(), Fail> {
     let alloc = rt.alloc();
     let mut disc = Disc::type1(alloc)?;
     disc.write(&[(274, 64, &[1])])?;
-    let table = disc.known_but(alloc, &[])?;
-    assert_eq!(rt;
-        listed(alloc, &table, ALL)?.as_str(),
-        "loop\tdirectory\t-\t120\t2001-07-04T09:30:00.000000Z\t/A\nwhole\tfile\t0\t2\t2001-07-04T09:30:00.000000Z\t/B\n"
-    );
+    assert_listed(
+        &rt,
+        alloc,
+        &disc,
+        "loop\tdirectory\t-\t120\t2001-07-04T09:30:00.000000Z\t/A\nwhole\tfile\t0\t2\t2001-07-04T09:30:00.000000Z\t/B\n",
+    )
+}
+
+#[test]
+fn a_fault(rt: HostRuntime) -> Result<(), Fail> {
+    let alloc = rt.alloc();
     let mut disc = Disc::two_maps(alloc)?;
     disc.write(&[(274, 108, &[2])])?;
-    let table = disc.known_but(alloc, &[])?;
-    assert_eq!(rt;
-        listed(alloc, &table, ALL)?.as_str(),
-        "whole\tfile\t0\t5000\t2001-07-04T09:30:00.000000Z\t/A\nfault 5\tunread\t-\t-\t-\t/B\n"
-    );
+    assert_listed(
+        &rt,
+        alloc,
+        &disc,
+        "whole\tfile\t0\t5000\t2001-07-04T09:30:00.000000Z\t/A\nfault 5\tunread\t-\t-\t-\t/B\n",
+    )
+}
+
+/// A name that begins with a mark which turns the direction of text.
+#[test]
+fn a_name_that_would_turn_the_text(rt: HostRuntime) -> Result<(), Fail> {
+    let alloc = rt.alloc();
     let mut disc = Disc::type1(alloc)?;
     disc.write_directory(272, 1, &[(b"\x10\x20\x2e\x00a", 3)])?;
-    let table = disc.known_but(alloc, &[])?;
-    assert_eq!(rt;
-        listed(alloc, &table, ALL)?.as_str(),
-        "whole\tfile\t0\t5000\t2001-07-04T09:30:00.000000Z\t/\\u202Ea\n"
-    );
-    Ok(())
+    assert_listed(
+        &rt,
+        alloc,
+        &disc,
+        "whole\tfile\t0\t5000\t2001-07-04T09:30:00.000000Z\t/\\u202Ea\n",
+    )
 }
 
 /// Takes so many bytes, one in each call, and then fails.
@@ -144,9 +165,9 @@ fn a_sink_that_fails_holds_a_beginning(rt: HostRuntime) -> Result<(), Fail> {
         let bytes = Vec::new(alloc);
         let mut sink = Writer::new(Narrow { bytes, good });
         let outcome = write_list(alloc, &survey, ALL, &mut sink);
-        assert!(rt; outcome == Err(RunError::Write), "after {good}");
+        assert_case(&rt, outcome == Err(RunError::Write), good);
         let begun = expected.as_bytes().get(..good).unwrap_or(&[]);
-        assert_eq!(rt; sink.into_inner().bytes.as_slice(), begun, "after {good}");
+        assert_same_in(&rt, sink.into_inner().bytes.as_slice(), begun, good);
     }
     Ok(())
 }

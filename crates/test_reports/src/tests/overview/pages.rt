@@ -1,6 +1,7 @@
 //! The page of sample volumes. What is expected is worked out by hand.
 
 use super::list::Narrow;
+use crate::tests::{assert_case, assert_same, assert_same_in};
 use std::alloc::Global;
 use std::test::Fail;
 use udfs_lattice::BlockTable;
@@ -34,7 +35,8 @@ fn each_file_stands_inside_its_folders(rt: HostRuntime) -> Result<(), Fail> {
     disc.write_directory(272, 22, &[(b"\x08y", 3)])?;
     disc.write_directory(272, 24, &[])?;
     let table = disc.known_but(alloc, &[278])?;
-    assert_eq!(rt;
+    assert_same(
+        &rt,
         tree_of(&page_of(alloc, &table)?),
         "<details open class=w><summary><bdi>/</bdi><small>folder</small></summary>
 <details class=w><summary><bdi>p</bdi><small>folder</small></summary>
@@ -50,7 +52,7 @@ fn each_file_stands_inside_its_folders(rt: HostRuntime) -> Result<(), Fail> {
 </details>
 </body>
 </html>
-"
+",
     );
     Ok(())
 }
@@ -65,13 +67,14 @@ fn no_name_means_anything_to_a_browser(rt: HostRuntime) -> Result<(), Fail> {
         disc.write(&[(block, 84, b"\x08</title>"), (block, 211, &[9])])?;
     }
     let page = page_of(alloc, &disc.known_but(alloc, &[278])?)?;
-    for piece in [
+    static CASES: [&str; 4] = [
         "<title>&lt;\\u002Ftitle&gt;</title>\n",
         "<div><bdi>&lt;\\u002Ftitle&gt;</bdi>   UDF 1.50, type 1   601 blocks, 1.2 MB</div>\n",
         "<tr><td><bdi>/&lt;b&gt;&amp;&quot;&#39;\\u202E</bdi><td>41.0 %<td>2.0 kB<td>5.0 kB\n",
         "<div class=t><bdi>&lt;b&gt;&amp;&quot;&#39;\\u202E</bdi><small>",
-    ] {
-        assert!(rt; page.contains(piece), "{piece}");
+    ];
+    for &piece in &CASES {
+        assert_case(&rt, page.contains(piece), piece);
     }
     Ok(())
 }
@@ -96,13 +99,14 @@ fn what_is_not_whole_is_told(rt: HostRuntime) -> Result<(), Fail> {
     disc.write_directory(272, 22, &[(b"\x08y", 3)])?;
     disc.fill(312, 0x5a)?;
     let page = page_of(alloc, &disc.known_but(alloc, &[275, 293, 295])?)?;
-    for piece in [
+    static CASES: [&str; 4] = [
         "<div>Folders    1 whole   2 torn: names may be missing in <bdi>/p</bdi> and 1 more</div>\n",
         "<div class=t><bdi>r</bdi><small>not yet known</small></div>\n",
         "<div class=f><bdi>t</bdi><small>folder, a loop: it stands inside itself</small></div>\n",
         "<div class=f><bdi>u</bdi><small>not yet known, fault 1</small></div>\n",
-    ] {
-        assert!(rt; page.contains(piece), "{piece}");
+    ];
+    for &piece in &CASES {
+        assert_case(&rt, page.contains(piece), piece);
     }
     Ok(())
 }
@@ -139,13 +143,13 @@ fn no_more_than_twenty_torn_files_in_the_table(rt: HostRuntime) -> Result<(), Fa
     let mut disc = Disc::type1(alloc)?;
     disc.write_directory(272, 1, &MANY)?;
     let page = page_of(alloc, &disc.known_but(alloc, &[278])?)?;
-    assert_eq!(rt; page.matches("<tr><td>").count(), 20);
+    assert_same(&rt, page.matches("<tr><td>").count(), 20);
     assert!(rt;
         page.contains(
             "<bdi>/t</bdi><td>41.0 %<td>2.0 kB<td>5.0 kB\n</table>\n<p>And 2 more, each in the list of all files.</p>\n"
         )
     );
-    assert_eq!(rt; page.matches("<div class=t>").count(), 22);
+    assert_same(&rt, page.matches("<div class=t>").count(), 22);
     Ok(())
 }
 
@@ -159,9 +163,9 @@ fn a_sink_that_fails_is_told(rt: HostRuntime) -> Result<(), Fail> {
         let bytes = Vec::new(alloc);
         let mut sink = Writer::new(Narrow { bytes, good });
         let outcome = write_page(alloc, &survey, &mut sink);
-        assert!(rt; outcome == Err(RunError::Write), "after {good}");
+        assert_case(&rt, outcome == Err(RunError::Write), good);
         let begun = whole.as_bytes().get(..good).unwrap_or(&[]);
-        assert_eq!(rt; sink.into_inner().bytes.as_slice(), begun, "after {good}");
+        assert_same_in(&rt, sink.into_inner().bytes.as_slice(), begun, good);
     }
     Ok(())
 }

@@ -1,12 +1,13 @@
 //! Names as a person is shown them.
 
+use crate::tests::assert_same;
 use std::test::Fail;
 use udfs_osta::Name;
 use udfs_overview::push_safe_name;
 
 #[test]
 fn names(rt: HostRuntime) -> Result<(), Fail> {
-    let cases: [(&[u8], &str); 11] = [
+    static CASES: [(&[u8], &str); 11] = [
         (b"\x08A file.txt", "A file.txt"),
         (b"\x08.", "\\u002E"),
         (b"\x08..", "\\u002E\\u002E"),
@@ -31,11 +32,11 @@ fn names(rt: HostRuntime) -> Result<(), Fail> {
         (b"\x10\xd8\x3d\xde\x00", "\u{1f600}"),
         (b"\x10\xd8\x00\x4e\x2d", "\\uD800\u{4e2d}"),
     ];
-    for (bytes, expected) in cases {
+    for &(bytes, expected) in &CASES {
         let name = Name::read(rt.alloc(), bytes)?;
         let mut text = String::new(rt.alloc());
         push_safe_name(&name, &mut text)?;
-        assert_eq!(rt; text.as_str(), expected);
+        assert_same(&rt, text.as_str(), expected);
     }
     Ok(())
 }

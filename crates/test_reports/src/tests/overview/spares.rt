@@ -2,6 +2,7 @@
 //! bytes.
 
 use super::whole_summary::summed_up;
+use crate::tests::{assert_case, assert_same, assert_text};
 use std::alloc::Global;
 use std::test::Fail;
 use udfs_lattice::BlockTable;
@@ -37,15 +38,16 @@ fn copies_that_agree(rt: HostRuntime) -> Result<(), Fail> {
 /// A byte of the tag, which has its own place in each copy, and the bytes behind it up to the last.
 #[test]
 fn from_byte_16_on(rt: HostRuntime) -> Result<(), Fail> {
-    let alloc = rt.alloc();
-    for (position, expected) in [
+    static POSITIONS: [(usize, bool); 5] = [
         (0, false),
         (15, false),
         (16, true),
         (60, true),
         (2047, true),
-    ] {
-        assert!(rt; told_with(alloc, position, &[7])? == expected, "{position}");
+    ];
+    let alloc = rt.alloc();
+    for &(position, expected) in &POSITIONS {
+        assert_case(&rt, told_with(alloc, position, &[7])? == expected, position);
     }
     Ok(())
 }
@@ -86,7 +88,7 @@ fn known_in_both(rt: HostRuntime) -> Result<(), Fail> {
     disc.write(&THREE)?;
     disc.write(&[(300, 17, b"*UDF Sparing Table"), (300, 48, &[1])])?;
     disc.write(&[(300, 56, &[0, 0, 0, 0, 0x90, 1, 0, 0])])?;
-    let cases: [(&[u32], bool); 6] = [
+    static CASES: [(&[u32], bool); 6] = [
         (&[], true),
         (&[101], true),
         (&[101, 201], false),
@@ -95,7 +97,7 @@ fn known_in_both(rt: HostRuntime) -> Result<(), Fail> {
         (&[200, 300], true),
         (&[100, 200, 101], true),
     ];
-    for (unread, expected) in cases {
+    for &(unread, expected) in &CASES {
         let table = disc.known_but(alloc, unread)?;
         assert!(rt; told(alloc, &table)? == expected, "{unread:?}");
     }
@@ -122,9 +124,10 @@ fn the_line_of_a_summary(rt: HostRuntime) -> Result<(), Fail> {
     let mut disc = Disc::sparable(alloc)?;
     disc.write(&[(200, 56, &[0x20])])?;
     let table = disc.known_but(alloc, &[])?;
-    assert_eq!(rt;
-        summed_up(alloc, &table)?.as_str(),
-        "TEST   UDF 1.50, sparable   601 blocks, 1.2 MB\nFiles      2 whole (5.0 kB)   0 torn (0 B of 0 B lost)   0 not yet known\nFolders    1 whole   0 torn\nSpares     sparing copies disagree: the volume is not lawful, and files in spared packets may be old\nDisc       601 known   0 not known, of which 0 are needed (0 runs)   0 in conflict\n"
+    assert_text(
+        &rt,
+        summed_up(alloc, &table)?,
+        "TEST   UDF 1.50, sparable   601 blocks, 1.2 MB\nFiles      2 whole (5.0 kB)   0 torn (0 B of 0 B lost)   0 not yet known\nFolders    1 whole   0 torn\nSpares     sparing copies disagree: the volume is not lawful, and files in spared packets may be old\nDisc       601 known   0 not known, of which 0 are needed (0 runs)   0 in conflict\n",
     );
     Ok(())
 }
@@ -133,11 +136,12 @@ fn the_line_of_a_summary(rt: HostRuntime) -> Result<(), Fail> {
 fn lines(rt: HostRuntime) -> Result<(), Fail> {
     let mut text = String::new(rt.alloc());
     push_spares(&mut text, false)?;
-    assert_eq!(rt; text.as_str(), "");
+    assert_same(&rt, text.as_str(), "");
     push_spares(&mut text, true)?;
-    assert_eq!(rt;
+    assert_same(
+        &rt,
         text.as_str(),
-        "Spares     sparing copies disagree: the volume is not lawful, and files in spared packets may be old\n"
+        "Spares     sparing copies disagree: the volume is not lawful, and files in spared packets may be old\n",
     );
     Ok(())
 }

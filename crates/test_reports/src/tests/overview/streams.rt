@@ -2,6 +2,7 @@
 //! directory's address stands at byte 152.
 
 use super::whole_summary::summed_up;
+use crate::tests::{assert_same, assert_text};
 use std::alloc::Global;
 use std::test::Fail;
 use udfs_overview::{count_streams, push_streams};
@@ -34,13 +35,13 @@ fn told(alloc: Global, disc: &Disc, unread: &[u32]) -> Result<usize, Fail> {
 fn a_file_whole_torn_or_without_a_name(rt: HostRuntime) -> Result<(), Fail> {
     let alloc = rt.alloc();
     let disc = with_streams(alloc, &ADDRESS)?;
-    assert_eq!(rt; told(alloc, &disc, &[])?, 1);
+    assert_same(&rt, told(alloc, &disc, &[])?, 1);
     // a block of the file, and the root's body, without which no name leads to it
-    assert_eq!(rt; told(alloc, &disc, &[278])?, 1);
-    assert_eq!(rt; told(alloc, &disc, &[274])?, 1);
+    assert_same(&rt, told(alloc, &disc, &[278])?, 1);
+    assert_same(&rt, told(alloc, &disc, &[274])?, 1);
     // its entry, and the file set, without which the volume does not open
-    assert_eq!(rt; told(alloc, &disc, &[275])?, 0);
-    assert_eq!(rt; told(alloc, &disc, &[272])?, 0);
+    assert_same(&rt, told(alloc, &disc, &[275])?, 0);
+    assert_same(&rt, told(alloc, &disc, &[272])?, 0);
     Ok(())
 }
 
@@ -49,23 +50,23 @@ fn each_name_counts(rt: HostRuntime) -> Result<(), Fail> {
     let alloc = rt.alloc();
     let mut disc = with_streams(alloc, &ADDRESS)?;
     disc.write_directory(272, 1, &[(b"\x08a", 3), (b"\x08b", 3), (b"\x08c", 4)])?;
-    assert_eq!(rt; told(alloc, &disc, &[])?, 2);
+    assert_same(&rt, told(alloc, &disc, &[])?, 2);
     Ok(())
 }
 
 /// An address of length 0, with and without bits of a type; one of one byte; and one whose length stands in its highest byte alone.
 #[test]
 fn the_length_decides(rt: HostRuntime) -> Result<(), Fail> {
-    let alloc = rt.alloc();
-    let cases: [(&[u8], usize); 4] = [
+    static CASES: [(&[u8], usize); 4] = [
         (&[0, 0, 0, 0, 9], 0),
         (&[0, 0, 0, 0x40, 9], 0),
         (&[1], 1),
         (&[0, 0, 0, 0x20], 1),
     ];
-    for (address, expected) in cases {
+    let alloc = rt.alloc();
+    for &(address, expected) in &CASES {
         let disc = with_streams(alloc, address)?;
-        assert_eq!(rt; told(alloc, &disc, &[])?, expected);
+        assert_same(&rt, told(alloc, &disc, &[])?, expected);
     }
     Ok(())
 }
@@ -76,7 +77,7 @@ fn other_entries(rt: HostRuntime) -> Result<(), Fail> {
     let alloc = rt.alloc();
     let mut disc = Disc::type1(alloc)?;
     disc.write_at(275, 152, &ADDRESS)?;
-    assert_eq!(rt; told(alloc, &disc, &[])?, 0);
+    assert_same(&rt, told(alloc, &disc, &[])?, 0);
     let mut disc = Disc::type1(alloc)?;
     disc.fill(273, 0)?;
     disc.write_tag(273, 0, 266, 1)?;
@@ -87,7 +88,7 @@ fn other_entries(rt: HostRuntime) -> Result<(), Fail> {
     let survey = survey_volume(alloc, &table, LAST)?;
     assert_eq!(rt; survey.nodes.len(), 3);
     assert!(rt; survey.all_whole());
-    assert_eq!(rt; count_streams(&survey), 0);
+    assert_same(&rt, count_streams(&survey), 0);
     Ok(())
 }
 
@@ -95,9 +96,10 @@ fn other_entries(rt: HostRuntime) -> Result<(), Fail> {
 fn the_line_of_a_summary(rt: HostRuntime) -> Result<(), Fail> {
     let alloc = rt.alloc();
     let table = with_streams(alloc, &ADDRESS)?.known_but(alloc, &[274])?;
-    assert_eq!(rt;
-        summed_up(alloc, &table)?.as_str(),
-        "TEST   UDF 1.50, type 1   601 blocks, 1.2 MB\nFiles      0 whole (0 B)   0 torn (0 B of 0 B lost)   0 not yet known\nFolders    0 whole   1 torn: names may be missing in /\nNo name    2 whole files with data, 0 empty\nStreams    1 file with named streams, which are not looked at\nDisc       600 known   1 not known, of which 1 are needed (1 runs)   0 in conflict\nNext       udfsalvage reread --last 600 --mapfile want.map ...\n"
+    assert_text(
+        &rt,
+        summed_up(alloc, &table)?,
+        "TEST   UDF 1.50, type 1   601 blocks, 1.2 MB\nFiles      0 whole (0 B)   0 torn (0 B of 0 B lost)   0 not yet known\nFolders    0 whole   1 torn: names may be missing in /\nNo name    2 whole files with data, 0 empty\nStreams    1 file with named streams, which are not looked at\nDisc       600 known   1 not known, of which 1 are needed (1 runs)   0 in conflict\nNext       udfsalvage reread --last 600 --mapfile want.map ...\n",
     );
     Ok(())
 }
@@ -122,7 +124,7 @@ fn lines(rt: HostRuntime) -> Result<(), Fail> {
     for (files, expected) in cases {
         let mut text = String::new(rt.alloc());
         push_streams(&mut text, files)?;
-        assert_eq!(rt; text.as_str(), expected);
+        assert_same(&rt, text.as_str(), expected);
     }
     Ok(())
 }

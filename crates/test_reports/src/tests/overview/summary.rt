@@ -1,5 +1,8 @@
 //! What is counted for the summary, over sample volumes, and its lines.
 
+use crate::tests::assert_same;
+use std::alloc::Global;
+use std::process::Abort;
 use std::test::Fail;
 use udfs_overview::{
     DiscTally, Tally, UnnamedTally, count_disc, count_nodes, count_unnamed, push_disc, push_files,
@@ -8,12 +11,60 @@ use udfs_overview::{
 use udfs_salvage::survey_volume;
 use udfs_samples::{Disc, LAST};
 
-/// The blocks that are not known of the volume with one map, and what is counted: whole and torn files with their bytes and
-/// what of these is lost, nodes that were not read, whole and torn folders; needed blocks and runs; files without a name.
+/// The blocks that are not known of the volume with one map, and what is counted: whole and torn files, nodes that were not
+/// read, whole and torn folders; the bytes of the files and what of these is lost; needed blocks and runs; files without a name.
+type Counts = (
+    &'static [u32],
+    [usize; 5],
+    [u128; 3],
+    [usize; 2],
+    [usize; 2],
+);
+
+/// Of the nodes this is counted.
+fn assert_nodes(rt: &impl Abort, tally: &Tally, nodes: [usize; 5], bytes: [u128; 3]) {
+    assert_same(
+        rt,
+        [
+            tally.whole_files,
+            tally.torn_files,
+            tally.unread,
+            tally.whole_folders,
+            tally.torn_folders,
+        ],
+        nodes,
+    );
+    assert_same(
+        rt,
+        [tally.whole_bytes, tally.torn_bytes, tally.lost_bytes],
+        bytes,
+    );
+    assert_same(rt, [tally.others, tally.faulty, tally.loops], [0, 0, 0]);
+}
+
+/// Of the disc this is counted, and no conflict.
+fn assert_disc(rt: &impl Abort, disc: &DiscTally, needed: [usize; 2], not_known: usize) {
+    assert_same(rt, [disc.needed, disc.runs], needed);
+    assert_same(rt, disc.not_known, not_known as u64);
+    assert!(rt; disc.not_known.checked_add(u64::from(disc.known)) == Some(601));
+    assert_same(rt, disc.conflicts, 0);
+}
+
+/// Where these blocks are not known, this is counted.
+fn assert_counts(rt: &impl Abort, alloc: Global, case: &Counts) -> Result<(), Fail> {
+    let (unread, nodes, bytes, needed, unnamed) = *case;
+    let table = Disc::type1(alloc)?.known_but(alloc, unread)?;
+    let survey = survey_volume(alloc, &table, LAST)?;
+    assert_nodes(rt, &count_nodes(alloc, &survey)?, nodes, bytes);
+    assert_disc(rt, &count_disc(&survey), needed, unread.len());
+    let entries = count_unnamed(&survey);
+    assert_same(rt, [entries.with_data, entries.empty], unnamed);
+    Ok(())
+}
+
 #[test]
 fn counts(rt: HostRuntime) -> Result<(), Fail> {
-    let alloc = rt.alloc();
-    let cases: [(&[u32], [usize; 5], [u128; 3], [usize; 2], [usize; 2]); 6] = [
+    static CASES: [Counts; 6] = [
         (&[], [2, 0, 0, 1, 0], [5002, 0, 0], [0, 0], [0, 0]),
         (&[278], [1, 1, 0, 1, 0], [2, 5000, 2048], [1, 1], [0, 0]),
         (
@@ -34,32 +85,8 @@ fn counts(rt: HostRuntime) -> Result<(), Fail> {
         // the root is torn, and no name leads to the files
         (&[274], [0, 0, 0, 0, 1], [0, 0, 0], [1, 1], [2, 0]),
     ];
-    for (unread, nodes, bytes, needed, unnamed) in cases {
-        let table = Disc::type1(alloc)?.known_but(alloc, unread)?;
-        let survey = survey_volume(alloc, &table, LAST)?;
-        let tally = count_nodes(alloc, &survey)?;
-        assert_eq!(rt;
-            [
-                tally.whole_files,
-                tally.torn_files,
-                tally.unread,
-                tally.whole_folders,
-                tally.torn_folders,
-            ],
-            nodes
-        );
-        assert_eq!(rt;
-            [tally.whole_bytes, tally.torn_bytes, tally.lost_bytes],
-            bytes
-        );
-        assert_eq!(rt; [tally.others, tally.faulty, tally.loops], [0, 0, 0]);
-        let disc = count_disc(&survey);
-        assert_eq!(rt; [disc.needed, disc.runs], needed);
-        assert_eq!(rt; disc.not_known, unread.len() as u64);
-        assert!(rt; disc.not_known.checked_add(u64::from(disc.known)) == Some(601));
-        assert_eq!(rt; disc.conflicts, 0);
-        let entries = count_unnamed(&survey);
-        assert_eq!(rt; [entries.with_data, entries.empty], unnamed);
+    for case in &CASES {
+        assert_counts(&rt, rt.alloc(), case)?;
     }
     Ok(())
 }
@@ -73,8 +100,8 @@ fn a_loop_is_counted(rt: HostRuntime) -> Result<(), Fail> {
     let table = disc.known_but(alloc, &[])?;
     let survey = survey_volume(alloc, &table, LAST)?;
     let tally = count_nodes(alloc, &survey)?;
-    assert_eq!(rt; [tally.others, tally.faulty, tally.loops], [0, 0, 1]);
-    assert_eq!(rt; [tally.whole_files, tally.whole_folders], [1, 1]);
+    assert_same(&rt, [tally.others, tally.faulty, tally.loops], [0, 0, 1]);
+    assert_same(&rt, [tally.whole_files, tally.whole_folders], [1, 1]);
     Ok(())
 }
 
@@ -85,8 +112,8 @@ fn a_block_in_conflict_is_counted(rt: HostRuntime) -> Result<(), Fail> {
     table.put(590, &[1; 2048])?;
     let survey = survey_volume(alloc, &table, LAST)?;
     let blocks = count_disc(&survey);
-    assert_eq!(rt; [blocks.known, blocks.conflicts], [600, 1]);
-    assert_eq!(rt; blocks.not_known, 0);
+    assert_same(&rt, [blocks.known, blocks.conflicts], [600, 1]);
+    assert_same(&rt, blocks.not_known, 0);
     Ok(())
 }
 
@@ -98,7 +125,7 @@ fn a_fault_is_counted(rt: HostRuntime) -> Result<(), Fail> {
     let table = disc.known_but(alloc, &[])?;
     let survey = survey_volume(alloc, &table, LAST)?;
     let tally = count_nodes(alloc, &survey)?;
-    assert_eq!(rt; [tally.others, tally.faulty, tally.loops], [0, 1, 0]);
+    assert_same(&rt, [tally.others, tally.faulty, tally.loops], [0, 1, 0]);
     Ok(())
 }
 
@@ -134,9 +161,10 @@ fn lines(rt: HostRuntime) -> Result<(), Fail> {
     push_others(&mut text, &tally)?;
     push_unnamed(&mut text, &unnamed)?;
     push_disc(&mut text, &disc)?;
-    assert_eq!(rt;
+    assert_same(
+        &rt,
         text.as_str(),
-        "Files      287 whole (888.8 kB)   15 torn (149.7 kB of 1.7 MB lost)   30 not yet known\nOther      7 links and devices   2 with faults   0 loops\nNo name    75 whole files with data, 159 empty\nDisc       4,639 known   481 not known, of which 108 are needed (43 runs)   0 in conflict\n"
+        "Files      287 whole (888.8 kB)   15 torn (149.7 kB of 1.7 MB lost)   30 not yet known\nOther      7 links and devices   2 with faults   0 loops\nNo name    75 whole files with data, 159 empty\nDisc       4,639 known   481 not known, of which 108 are needed (43 runs)   0 in conflict\n",
     );
     Ok(())
 }
@@ -174,9 +202,10 @@ fn lines_of_nothing(rt: HostRuntime) -> Result<(), Fail> {
     push_others(&mut text, &tally)?;
     push_unnamed(&mut text, &unnamed)?;
     push_disc(&mut text, &disc)?;
-    assert_eq!(rt;
+    assert_same(
+        &rt,
         text.as_str(),
-        "Files      0 whole (0 B)   0 torn (0 B of 0 B lost)   0 not yet known\nDisc       0 known   5,120 not known, of which 0 are needed (0 runs)   0 in conflict\n"
+        "Files      0 whole (0 B)   0 torn (0 B of 0 B lost)   0 not yet known\nDisc       0 known   5,120 not known, of which 0 are needed (0 runs)   0 in conflict\n",
     );
     Ok(())
 }

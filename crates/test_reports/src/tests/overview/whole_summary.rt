@@ -1,6 +1,7 @@
 //! The summary, over sample volumes and a sink that fails. The discs have 601 blocks, which are 1,230,848 bytes.
 
 use super::list::Narrow;
+use crate::tests::{assert_case, assert_same_in, assert_text};
 use std::alloc::Global;
 use std::test::Fail;
 use udfs_lattice::BlockTable;
@@ -17,7 +18,7 @@ pub(super) fn summed_up(alloc: Global, table: &BlockTable) -> Result<String, Fai
 }
 
 /// The blocks that are not known of the volume with one map, and its summary.
-const UNREAD: [(&[u32], &str); 6] = [
+static UNREAD: [(&[u32], &str); 6] = [
     (
         &[],
         "TEST   UDF 1.50, type 1   601 blocks, 1.2 MB\nFiles      2 whole (5.0 kB)   0 torn (0 B of 0 B lost)   0 not yet known\nFolders    1 whole   0 torn\nDisc       601 known   0 not known, of which 0 are needed (0 runs)   0 in conflict\n",
@@ -52,9 +53,9 @@ const UNREAD: [(&[u32], &str); 6] = [
 #[test]
 fn what_is_and_is_not_known(rt: HostRuntime) -> Result<(), Fail> {
     let alloc = rt.alloc();
-    for (unread, expected) in UNREAD {
+    for &(unread, expected) in &UNREAD {
         let table = Disc::type1(alloc)?.known_but(alloc, unread)?;
-        assert_eq!(rt; summed_up(alloc, &table)?.as_str(), expected);
+        assert_text(&rt, summed_up(alloc, &table)?, expected);
     }
     Ok(())
 }
@@ -63,13 +64,14 @@ fn what_is_and_is_not_known(rt: HostRuntime) -> Result<(), Fail> {
 fn a_fault_in_words(rt: HostRuntime) -> Result<(), Fail> {
     let alloc = rt.alloc();
     let table = Disc::blank(alloc).known_but(alloc, &[])?;
-    assert_eq!(rt;
-        summed_up(alloc, &table)?.as_str(),
+    assert_text(
+        &rt,
+        summed_up(alloc, &table)?,
         concat!(
             "does not open: there is no anchor\n",
             "Disc       601 known   0 not known, of which 0 are needed (0 runs)   0 in conflict\n",
             "Next       no block to read again helps: man udfsalvage says what this fault means\n",
-        )
+        ),
     );
     Ok(())
 }
@@ -89,9 +91,10 @@ fn a_map_that_is_not_read_is_named(rt: HostRuntime) -> Result<(), Fail> {
     for block in [32, 48] {
         disc.write(&[(block, 445, b"*UDF Virtual Partition\0")])?;
     }
-    assert_eq!(rt;
-        first_line(alloc, &disc)?.as_str(),
-        "does not open: a partition map is of a kind that is not read, such as that of write-once discs (VAT) or of metadata partitions"
+    assert_text(
+        &rt,
+        first_line(alloc, &disc)?,
+        "does not open: a partition map is of a kind that is not read, such as that of write-once discs (VAT) or of metadata partitions",
     );
     Ok(())
 }
@@ -99,20 +102,23 @@ fn a_map_that_is_not_read_is_named(rt: HostRuntime) -> Result<(), Fail> {
 #[test]
 fn kinds_of_maps_and_labels(rt: HostRuntime) -> Result<(), Fail> {
     let alloc = rt.alloc();
-    assert_eq!(rt;
-        first_line(alloc, &Disc::sparable(alloc)?)?.as_str(),
-        "TEST   UDF 1.50, sparable   601 blocks, 1.2 MB"
+    assert_text(
+        &rt,
+        first_line(alloc, &Disc::sparable(alloc)?)?,
+        "TEST   UDF 1.50, sparable   601 blocks, 1.2 MB",
     );
-    assert_eq!(rt;
-        first_line(alloc, &Disc::two_maps(alloc)?)?.as_str(),
-        "TEST   UDF 1.50, type 1, sparable   601 blocks, 1.2 MB"
+    assert_text(
+        &rt,
+        first_line(alloc, &Disc::two_maps(alloc)?)?,
+        "TEST   UDF 1.50, type 1, sparable   601 blocks, 1.2 MB",
     );
     let mut disc = Disc::type1(alloc)?;
     disc.write(&[(32, 84, &[0; 5]), (32, 211, &[0]), (32, 240, &[1, 2])])?;
     disc.write(&[(48, 84, &[0; 5]), (48, 211, &[0]), (48, 240, &[1, 2])])?;
-    assert_eq!(rt;
-        first_line(alloc, &disc)?.as_str(),
-        "(no label)   UDF 2.01, type 1   601 blocks, 1.2 MB"
+    assert_text(
+        &rt,
+        first_line(alloc, &disc)?,
+        "(no label)   UDF 2.01, type 1   601 blocks, 1.2 MB",
     );
     Ok(())
 }
@@ -135,9 +141,10 @@ fn torn_files_by_loss_and_by_path(rt: HostRuntime) -> Result<(), Fail> {
     disc.write(&[(292, 20, &[4]), (292, 27, &[5]), (292, 56, &[0xb8, 0x0b])])?;
     disc.write(&[(292, 172, &[8]), (292, 176, &[0xb8, 0x0b, 0, 0, 8])])?;
     let table = disc.known_but(alloc, &[278, 281])?;
-    assert_eq!(rt;
-        summed_up(alloc, &table)?.as_str(),
-        "TEST   UDF 1.50, type 1   601 blocks, 1.2 MB\nFiles      0 whole (0 B)   4 torn (7.1 kB of 18.0 kB lost)   0 not yet known\nFolders    1 whole   0 torn\nNo name    1 whole files with data, 0 empty\nDisc       599 known   2 not known, of which 2 are needed (2 runs)   0 in conflict\nTorn       41.0 %  /a      2.0 kB of 5.0 kB lost\n           41.0 %  /b      2.0 kB of 5.0 kB lost\n           41.0 %  /日本   2.0 kB of 5.0 kB lost\n           31.7 %  /c       952 B of 3.0 kB lost\nNext       udfsalvage reread --last 600 --mapfile want.map ...\n"
+    assert_text(
+        &rt,
+        summed_up(alloc, &table)?,
+        "TEST   UDF 1.50, type 1   601 blocks, 1.2 MB\nFiles      0 whole (0 B)   4 torn (7.1 kB of 18.0 kB lost)   0 not yet known\nFolders    1 whole   0 torn\nNo name    1 whole files with data, 0 empty\nDisc       599 known   2 not known, of which 2 are needed (2 runs)   0 in conflict\nTorn       41.0 %  /a      2.0 kB of 5.0 kB lost\n           41.0 %  /b      2.0 kB of 5.0 kB lost\n           41.0 %  /日本   2.0 kB of 5.0 kB lost\n           31.7 %  /c       952 B of 3.0 kB lost\nNext       udfsalvage reread --last 600 --mapfile want.map ...\n",
     );
     Ok(())
 }
@@ -178,13 +185,15 @@ fn no_more_than_twenty_torn_files(rt: HostRuntime) -> Result<(), Fail> {
     let mut lines = text.lines();
     let first = lines.find(|line| line.starts_with("Torn"));
     assert!(rt; first == Some("Torn       41.0 %  /a   2.0 kB of 5.0 kB lost"));
-    for name in ["b", "c", "d", "e", "f", "g", "h", "i", "j", "k"] {
+    static CASES: [&str; 10] = ["b", "c", "d", "e", "f", "g", "h", "i", "j", "k"];
+    for &name in &CASES {
         let line = format!(in alloc; "           41.0 %  /{name}   2.0 kB of 5.0 kB lost")?;
-        assert!(rt; lines.next() == Some(line.as_str()), "{name}");
+        assert_case(&rt, lines.next() == Some(line.as_str()), name);
     }
-    for name in ["l", "m", "n", "o", "p", "q", "r", "s", "t"] {
+    static OTHERS: [&str; 9] = ["l", "m", "n", "o", "p", "q", "r", "s", "t"];
+    for &name in &OTHERS {
         let line = format!(in alloc; "           41.0 %  /{name}   2.0 kB of 5.0 kB lost")?;
-        assert!(rt; lines.next() == Some(line.as_str()), "{name}");
+        assert_case(&rt, lines.next() == Some(line.as_str()), name);
     }
     assert!(rt; lines.next() == Some("           and 2 more"));
     Ok(())
@@ -230,9 +239,9 @@ fn a_sink_that_fails_holds_a_beginning(rt: HostRuntime) -> Result<(), Fail> {
         let bytes = Vec::new(alloc);
         let mut sink = Writer::new(Narrow { bytes, good });
         let outcome = write_summary(alloc, &survey, &mut sink);
-        assert!(rt; outcome == Err(RunError::Write), "after {good}");
+        assert_case(&rt, outcome == Err(RunError::Write), good);
         let begun = expected.as_bytes().get(..good).unwrap_or(&[]);
-        assert_eq!(rt; sink.into_inner().bytes.as_slice(), begun, "after {good}");
+        assert_same_in(&rt, sink.into_inner().bytes.as_slice(), begun, good);
     }
     Ok(())
 }

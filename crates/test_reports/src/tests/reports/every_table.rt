@@ -1,5 +1,6 @@
 //! All tables that know some of twelve blocks of a volume, and nothing else.
 
+use crate::tests::{assert_case, assert_same};
 use std::alloc::Global;
 use std::test::Fail;
 use udfs_lattice::{BlockTable, TableError};
@@ -9,7 +10,7 @@ use udfs_walk::{Node, Standing};
 
 /// An anchor, the main sequence, the file set, the root's entry and directory, the entries of `A` and of `B`, and the
 /// three blocks of `A`.
-const PLACES: [u32; 12] = [256, 32, 33, 34, 272, 273, 274, 275, 276, 277, 278, 279];
+static PLACES: [u32; 12] = [256, 32, 33, 34, 272, 273, 274, 275, 276, 277, 278, 279];
 
 /// A set of the twelve blocks: one bit a place, the lowest for the first.
 type Places = u32;
@@ -54,7 +55,7 @@ fn holds(places: Places, some: Places) -> bool {
 fn table_of(alloc: Global, disc: &Disc, places: Places) -> Result<BlockTable, TableError> {
     let mut table = BlockTable::new(alloc);
     let mut left = places;
-    for n in PLACES {
+    for &n in &PLACES {
         if left % 2 == 1 {
             disc.put(&mut table, n)?;
         }
@@ -67,7 +68,7 @@ fn table_of(alloc: Global, disc: &Disc, places: Places) -> Result<BlockTable, Ta
 fn places_in(blocks: &[u32]) -> Places {
     let mut places = 0;
     let mut bit = 1u32;
-    for n in PLACES {
+    for &n in &PLACES {
         if blocks.contains(&n) {
             places |= bit;
         }
@@ -122,17 +123,17 @@ fn whole_where_the_needed_is_known(rt: HostRuntime) -> Result<(), Fail> {
     let mut none = 0u32;
     for (places, told) in (0..=ALL).zip(told.iter()) {
         let root = holds(places, FOR_ROOT);
-        assert_eq!(rt; told.root, root);
-        assert_eq!(rt; told.a, root && holds(places, FOR_A));
-        assert_eq!(rt; told.b, root && holds(places, FOR_B));
-        assert_eq!(rt; told.none_listed, places == ALL);
+        assert_same(&rt, told.root, root);
+        assert_same(&rt, told.a, root && holds(places, FOR_A));
+        assert_same(&rt, told.b, root && holds(places, FOR_B));
+        assert_same(&rt, told.none_listed, places == ALL);
         roots = roots.wrapping_add(u32::from(told.root));
         files_a = files_a.wrapping_add(u32::from(told.a));
         files_b = files_b.wrapping_add(u32::from(told.b));
         none = none.wrapping_add(u32::from(told.none_listed));
     }
     assert_eq!(rt; told.len(), 4096);
-    assert_eq!(rt; (roots, files_b, files_a, none), (32, 16, 2, 1));
+    assert_same(&rt, (roots, files_b, files_a, none), (32, 16, 2, 1));
     Ok(())
 }
 
@@ -142,7 +143,7 @@ fn only_listed_blocks_help(rt: HostRuntime) -> Result<(), Fail> {
     let told = all_told(rt.alloc())?;
     for (places, old) in (0..=ALL).zip(told.iter()) {
         let mut bit = 1u32;
-        for _ in PLACES {
+        for &_ in &PLACES {
             let Some(new) = told.get((places | bit) as usize) else {
                 assert!(rt; false);
                 return Ok(());
@@ -154,7 +155,7 @@ fn only_listed_blocks_help(rt: HostRuntime) -> Result<(), Fail> {
             assert!(rt; false);
             return Ok(());
         };
-        assert!(rt; new.is_kept_in(old), "{places} and what is not listed");
+        assert_case(&rt, new.is_kept_in(old), places);
     }
     Ok(())
 }

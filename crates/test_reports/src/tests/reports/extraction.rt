@@ -1,8 +1,10 @@
 //! The bytes of nodes.
 
+use crate::tests::{assert_case, assert_same, assert_same_in};
 use std::alloc::Global;
 use std::io;
 use std::io::Write;
+use std::process::Abort;
 use std::test::Fail;
 use udfs_lattice::BlockTable;
 use udfs_reading::Writer;
@@ -59,6 +61,35 @@ fn extracted(
     Ok(Outcome { outcome, bytes })
 }
 
+/// The node at this index is extracted, and these are its bytes.
+fn assert_extracted(
+    rt: &impl Abort,
+    alloc: Global,
+    table: &BlockTable,
+    index: usize,
+    fill: Fill,
+    parts: &[(u8, usize)],
+) -> Result<(), Fail> {
+    let file = extracted(alloc, table, index, fill, usize::MAX)?;
+    assert!(rt; file.outcome == Ok(()), "{index}");
+    assert_same(rt, file.bytes.as_slice(), runs(alloc, parts)?.as_slice());
+    Ok(())
+}
+
+/// The node at this index is not extracted.
+fn assert_not_whole(
+    rt: &impl Abort,
+    alloc: Global,
+    table: &BlockTable,
+    index: usize,
+    fill: Fill,
+) -> Result<(), Fail> {
+    let node = extracted(alloc, table, index, fill, usize::MAX)?;
+    assert!(rt; node.outcome == Err(ExtractError::NotWhole), "{index}");
+    assert!(rt; node.bytes.is_empty(), "{index}");
+    Ok(())
+}
+
 /// Runs of equal bytes, one behind the other.
 pub fn runs(alloc: Global, parts: &[(u8, usize)]) -> Result<Vec<u8>, Fail> {
     let mut bytes = Vec::new(alloc);
@@ -73,6 +104,22 @@ pub fn runs(alloc: Global, parts: &[(u8, usize)]) -> Result<Vec<u8>, Fail> {
 /// The bytes of the file `A` of the sample volumes.
 pub const A: [(u8, usize); 3] = [(0x61, 2048), (0x62, 2048), (0x63, 904)];
 
+/// Each node of the table is extracted whole.
+fn assert_whole(
+    rt: &impl Abort,
+    alloc: Global,
+    table: &BlockTable,
+    fill: Fill,
+) -> Result<(), Fail> {
+    assert_extracted(rt, alloc, table, 1, fill, &A)?;
+    assert_extracted(rt, alloc, table, 2, fill, &[(b'H', 1), (b'i', 1)])?;
+    let root = extracted(alloc, table, 0, fill, usize::MAX)?;
+    assert!(rt; root.outcome == Ok(()));
+    assert_eq!(rt; root.bytes.len(), 120);
+    assert_same(rt, root.bytes.as_slice().get(..2), Some([1, 1].as_slice()));
+    Ok(())
+}
+
 #[test]
 fn whole_nodes_are_written(rt: HostRuntime) -> Result<(), Fail> {
     let alloc = rt.alloc();
@@ -82,18 +129,8 @@ fn whole_nodes_are_written(rt: HostRuntime) -> Result<(), Fail> {
         Disc::two_maps(alloc)?,
     ] {
         let table = disc.known_but(alloc, &[])?;
-        for fill in [Fill::Refuse, Fill::Byte(0xEE)] {
-            let file = extracted(alloc, &table, 1, fill, usize::MAX)?;
-            assert!(rt; file.outcome == Ok(()));
-            assert_eq!(rt; file.bytes.as_slice(), runs(alloc, &A)?.as_slice());
-            let embedded = extracted(alloc, &table, 2, fill, usize::MAX)?;
-            assert!(rt; embedded.outcome == Ok(()));
-            assert_eq!(rt; embedded.bytes.as_slice(), b"Hi".as_slice());
-            let root = extracted(alloc, &table, 0, fill, usize::MAX)?;
-            assert!(rt; root.outcome == Ok(()));
-            assert_eq!(rt; root.bytes.len(), 120);
-            assert_eq!(rt; root.bytes.as_slice().get(..2), Some([1, 1].as_slice()));
-        }
+        assert_whole(&rt, alloc, &table, Fill::Refuse)?;
+        assert_whole(&rt, alloc, &table, Fill::Byte(0xEE))?;
     }
     Ok(())
 }
@@ -106,38 +143,30 @@ fn torn_nodes_are_filled_only_where_asked(rt: HostRuntime) -> Result<(), Fail> {
     let mut disputed = disc.known_but(alloc, &[])?;
     disputed.put(278, &[0; 2048])?;
     for table in [disc.known_but(alloc, &[278])?, disputed] {
-        let refused = extracted(alloc, &table, 1, Fill::Refuse, usize::MAX)?;
-        assert!(rt; refused.outcome == Err(ExtractError::NotWhole));
-        assert!(rt; refused.bytes.is_empty());
+        assert_not_whole(&rt, alloc, &table, 1, Fill::Refuse)?;
         for byte in [0, 0xEE] {
-            let filled = extracted(alloc, &table, 1, Fill::Byte(byte), usize::MAX)?;
-            assert!(rt; filled.outcome == Ok(()));
-            let expected = runs(alloc, &[(0x61, 2048), (byte, 2048), (0x63, 904)])?;
-            assert_eq!(rt; filled.bytes.as_slice(), expected.as_slice());
+            let parts = [(0x61, 2048), (byte, 2048), (0x63, 904)];
+            assert_extracted(&rt, alloc, &table, 1, Fill::Byte(byte), &parts)?;
         }
     }
     Ok(())
 }
 
-/// Its entry is not read; it is a directory on its own path; its address is bad.
+/// It is a directory on its own path; its address is bad; its entry is not read.
 #[test]
 fn nodes_that_are_never_written(rt: HostRuntime) -> Result<(), Fail> {
+    static CASES: [(Bytes, u32); 3] = [
+        ((274, 64, &[1]), 400),
+        ((274, 68, &[1]), 400),
+        ((274, 0, &[1]), 275),
+    ];
     let alloc = rt.alloc();
-    let looped: Bytes = (274, 64, &[1]);
-    let bad: Bytes = (274, 68, &[1]);
-    for (change, unread) in [
-        (looped, [400u32].as_slice()),
-        (bad, [400u32].as_slice()),
-        ((274, 0, &[1]), [275].as_slice()),
-    ] {
+    for &(change, unread) in &CASES {
         let mut disc = Disc::type1(alloc)?;
         disc.write(&[change])?;
-        let table = disc.known_but(alloc, unread)?;
-        for fill in [Fill::Refuse, Fill::Byte(0)] {
-            let node = extracted(alloc, &table, 1, fill, usize::MAX)?;
-            assert!(rt; node.outcome == Err(ExtractError::NotWhole));
-            assert!(rt; node.bytes.is_empty());
-        }
+        let table = disc.known_but(alloc, &[unread])?;
+        assert_not_whole(&rt, alloc, &table, 1, Fill::Refuse)?;
+        assert_not_whole(&rt, alloc, &table, 1, Fill::Byte(0))?;
     }
     Ok(())
 }
@@ -155,16 +184,8 @@ fn two_files_of_one_path(rt: HostRuntime) -> Result<(), Fail> {
         (276, 176, &[0x88, 0x13, 0, 0, 8]),
     ])?;
     let table = disc.known_but(alloc, &[])?;
-    let first = extracted(alloc, &table, 1, Fill::Refuse, usize::MAX)?;
-    assert!(rt; first.outcome == Ok(()));
-    assert_eq!(rt; first.bytes.as_slice(), runs(alloc, &A)?.as_slice());
-    let second = extracted(alloc, &table, 2, Fill::Refuse, usize::MAX)?;
-    assert!(rt; second.outcome == Ok(()));
-    assert_eq!(rt;
-        second.bytes.as_slice(),
-        runs(alloc, &[(0, 5000)])?.as_slice()
-    );
-    Ok(())
+    assert_extracted(&rt, alloc, &table, 1, Fill::Refuse, &A)?;
+    assert_extracted(&rt, alloc, &table, 2, Fill::Refuse, &[(0, 5000)])
 }
 
 /// An extent that is allocated and not recorded has zeros, whatever stands in its blocks.
@@ -174,13 +195,7 @@ fn what_is_not_recorded_is_zero(rt: HostRuntime) -> Result<(), Fail> {
     let mut disc = Disc::type1(alloc)?;
     disc.write(&[(275, 179, &[0x40])])?;
     let table = disc.known_but(alloc, &[277, 278])?;
-    let file = extracted(alloc, &table, 1, Fill::Refuse, usize::MAX)?;
-    assert!(rt; file.outcome == Ok(()));
-    assert_eq!(rt;
-        file.bytes.as_slice(),
-        runs(alloc, &[(0, 5000)])?.as_slice()
-    );
-    Ok(())
+    assert_extracted(&rt, alloc, &table, 1, Fill::Refuse, &[(0, 5000)])
 }
 
 #[test]
@@ -195,9 +210,9 @@ fn a_sink_that_fails_holds_a_beginning(rt: HostRuntime) -> Result<(), Fail> {
         } else {
             Err(ExtractError::Write)
         };
-        assert!(rt; file.outcome == expected, "after {good}");
+        assert_case(&rt, file.outcome == expected, good);
         let begun = whole.as_slice().get(..good).unwrap_or(&[]);
-        assert_eq!(rt; file.bytes.as_slice(), begun, "after {good}");
+        assert_same_in(&rt, file.bytes.as_slice(), begun, good);
     }
     Ok(())
 }
@@ -214,9 +229,10 @@ fn a_size_of_64_bits_ends_with_the_sink(rt: HostRuntime) -> Result<(), Fail> {
     let table = disc.known_but(alloc, &[278])?;
     let file = extracted(alloc, &table, 1, Fill::Byte(0xEE), 4096)?;
     assert!(rt; file.outcome == Err(ExtractError::Write));
-    assert_eq!(rt;
+    assert_same(
+        &rt,
         file.bytes.as_slice(),
-        runs(alloc, &[(0xEE, 4096)])?.as_slice()
+        runs(alloc, &[(0xEE, 4096)])?.as_slice(),
     );
     Ok(())
 }

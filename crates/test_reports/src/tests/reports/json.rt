@@ -1,5 +1,6 @@
 //! Reports as JSON, and the blocks to read again by themselves.
 
+use crate::tests::{assert_case, assert_same};
 use std::alloc::Global;
 use std::test::Fail;
 use udfs_lattice::BlockTable;
@@ -17,7 +18,7 @@ fn the_json_of_nothing(rt: HostRuntime) -> Result<(), Fail> {
     let table = BlockTable::new(alloc);
     let report = salvage(alloc, &table, LAST)?;
     let text = report_json(alloc, &report)?;
-    assert_eq!(rt; text.as_str(), NOTHING);
+    assert_same(&rt, text.as_str(), NOTHING);
     Ok(())
 }
 
@@ -31,7 +32,7 @@ fn the_json_of_all(rt: HostRuntime) -> Result<(), Fail> {
     let table = Disc::type1(alloc)?.known_but(alloc, &[])?;
     let report = salvage(alloc, &table, LAST)?;
     let text = report_json(alloc, &report)?;
-    assert_eq!(rt; text.as_str(), ALL);
+    assert_same(&rt, text.as_str(), ALL);
     Ok(())
 }
 
@@ -43,7 +44,7 @@ fn the_json_of_a_torn_file(rt: HostRuntime) -> Result<(), Fail> {
     let text = report_json(alloc, &report)?;
     let part =
         "{\"hidden\":false,\"holes\":[[2048,2048]],\"kind\":\"file\",\"missing\":[278],\"modified\":\"2001-07-04T09:30:00.000000Z\",\"path\":\"/A\",\"size\":5000,\"standing\":\"torn\"}";
-    assert!(rt; text.as_str().contains(part), "{text}");
+    assert_case(&rt, text.as_str().contains(part), text.as_str());
     Ok(())
 }
 
@@ -61,16 +62,17 @@ fn the_json_of_surveys(rt: HostRuntime) -> Result<(), Fail> {
     let alloc = rt.alloc();
     let disc = Disc::type1(alloc)?;
     let nothing = written(alloc, &BlockTable::new(alloc))?;
-    assert_eq!(rt;
+    assert_same(
+        &rt,
         nothing.as_str(),
-        format!(in alloc; "{NOTHING}\n")?.as_str()
+        format!(in alloc; "{NOTHING}\n")?.as_str(),
     );
     let all = written(alloc, &disc.known_but(alloc, &[])?)?;
-    assert_eq!(rt; all.as_str(), format!(in alloc; "{ALL}\n")?.as_str());
+    assert_same(&rt, all.as_str(), format!(in alloc; "{ALL}\n")?.as_str());
     let torn = written(alloc, &disc.known_but(alloc, &[278, 279])?)?;
     let part =
         "{\"hidden\":false,\"holes\":[[2048,2952]],\"kind\":\"file\",\"missing\":[278,279],\"modified\":\"2001-07-04T09:30:00.000000Z\",\"path\":\"/A\",\"size\":5000,\"standing\":\"torn\"}";
-    assert!(rt; torn.as_str().contains(part), "{torn}");
+    assert_case(&rt, torn.as_str().contains(part), torn);
     Ok(())
 }
 
@@ -89,7 +91,7 @@ fn the_blocks_to_read_again(rt: HostRuntime) -> Result<(), Fail> {
     let alloc = rt.alloc();
     let disc = Disc::type1(alloc)?;
     let torn = numbers(alloc, &disc.known_but(alloc, &[279, 277])?)?;
-    assert_eq!(rt; torn.as_slice(), b"277\n279\n277\n279\n".as_slice());
+    assert_same(&rt, torn.as_slice(), b"277\n279\n277\n279\n".as_slice());
     let whole = numbers(alloc, &disc.known_but(alloc, &[])?)?;
     assert!(rt; whole.is_empty());
     Ok(())

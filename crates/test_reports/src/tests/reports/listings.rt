@@ -1,6 +1,7 @@
 //! Listings of the volume of type 1, and the bytes of their nodes and lost files, one after another through one piece.
 
 use super::extraction::{A, runs};
+use crate::tests::assert_same;
 use std::test::Fail;
 use udfs_reading::{Outgoing, Writer};
 use udfs_salvage::{
@@ -16,7 +17,7 @@ fn nodes_one_after_another(rt: HostRuntime) -> Result<(), Fail> {
     let alloc = rt.alloc();
     let table = Disc::type1(alloc)?.known_but(alloc, &[])?;
     let listing = list_volume_by(alloc, &table, LAST, Profile::Strict)?;
-    assert_eq!(rt; listing.last, LAST);
+    assert_same(&rt, listing.last, LAST);
     assert!(rt; listing.profile == Profile::Strict);
     assert_eq!(rt; listing.nodes.len(), 3);
     assert!(rt; list_unnamed(alloc, &listing)?.is_empty());
@@ -25,10 +26,14 @@ fn nodes_one_after_another(rt: HostRuntime) -> Result<(), Fail> {
     let mut out = Outgoing::new();
     let mut file = Writer::new(Vec::new(alloc));
     write_node(alloc, &listing, 1, Fill::Refuse, &mut out, &mut file)?;
-    assert_eq!(rt; file.into_inner().as_slice(), runs(alloc, &A)?.as_slice());
+    assert_same(
+        &rt,
+        file.into_inner().as_slice(),
+        runs(alloc, &A)?.as_slice(),
+    );
     let mut embedded = Writer::new(Vec::new(alloc));
     write_node(alloc, &listing, 2, Fill::Refuse, &mut out, &mut embedded)?;
-    assert_eq!(rt; embedded.into_inner().as_slice(), b"Hi".as_slice());
+    assert_same(&rt, embedded.into_inner().as_slice(), b"Hi".as_slice());
     Ok(())
 }
 
@@ -42,9 +47,10 @@ fn a_torn_node_is_filled_only_where_asked(rt: HostRuntime) -> Result<(), Fail> {
     assert!(rt;
         matches!(&listing.nodes[1].standing, Standing::Torn(torn) if torn.missing.is_empty())
     );
-    assert_eq!(rt;
+    assert_same(
+        &rt,
         reread_blocks(alloc, &listing)?.as_slice(),
-        [278].as_slice()
+        [278].as_slice(),
     );
     assert!(rt; !listing.all_whole());
     let mut out = Outgoing::new();
@@ -56,7 +62,7 @@ fn a_torn_node_is_filled_only_where_asked(rt: HostRuntime) -> Result<(), Fail> {
     let mut filled = Writer::new(Vec::new(alloc));
     write_node(alloc, &listing, 1, Fill::Byte(0xEE), &mut out, &mut filled)?;
     let expected = runs(alloc, &[(0x61, 2048), (0xEE, 2048), (0x63, 904)])?;
-    assert_eq!(rt; filled.into_inner().as_slice(), expected.as_slice());
+    assert_same(&rt, filled.into_inner().as_slice(), expected.as_slice());
     Ok(())
 }
 
@@ -72,10 +78,14 @@ fn lost_files_one_after_another(rt: HostRuntime) -> Result<(), Fail> {
     let mut out = Outgoing::new();
     let mut file = Writer::new(Vec::new(alloc));
     write_lost(alloc, &listing, &entries, 0, &mut out, &mut file)?;
-    assert_eq!(rt; file.into_inner().as_slice(), runs(alloc, &A)?.as_slice());
+    assert_same(
+        &rt,
+        file.into_inner().as_slice(),
+        runs(alloc, &A)?.as_slice(),
+    );
     let mut embedded = Writer::new(Vec::new(alloc));
     write_lost(alloc, &listing, &entries, 1, &mut out, &mut embedded)?;
-    assert_eq!(rt; embedded.into_inner().as_slice(), b"Hi".as_slice());
+    assert_same(&rt, embedded.into_inner().as_slice(), b"Hi".as_slice());
     Ok(())
 }
 
@@ -87,16 +97,18 @@ fn a_volume_that_does_not_open(rt: HostRuntime) -> Result<(), Fail> {
     assert!(rt; matches!(&listing.volume, Volume::Holes(_)));
     assert!(rt; listing.nodes.is_empty());
     assert!(rt; list_unnamed(alloc, &listing)?.is_empty());
-    assert_eq!(rt;
+    assert_same(
+        &rt,
         reread_blocks(alloc, &listing)?.as_slice(),
-        [256, 344, 600].as_slice()
+        [256, 344, 600].as_slice(),
     );
     assert!(rt; !listing.all_whole());
     let mut line = Writer::new(Vec::new(alloc));
     write_volume_line(&listing.volume, &mut line)?;
-    assert_eq!(rt;
+    assert_same(
+        &rt,
         line.into_inner().as_slice(),
-        b"volume holes 256 344 600\n".as_slice()
+        b"volume holes 256 344 600\n".as_slice(),
     );
     let whole = Disc::type1(alloc)?.known_but(alloc, &[])?;
     let refused = list_volume_by(alloc, &whole, 512, Profile::Strict);

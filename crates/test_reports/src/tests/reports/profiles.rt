@@ -1,6 +1,8 @@
 //! Reports by the strict rules and by the wide ones, of volumes whose revision of UDF or last extent is changed.
 
+use crate::tests::{assert_case, assert_same, assert_text};
 use std::alloc::Global;
+use std::process::Abort;
 use std::test::Fail;
 use udfs_lattice::BlockTable;
 use udfs_reading::{Reader, Writer};
@@ -35,7 +37,7 @@ fn survey_text_by(alloc: Global, table: &BlockTable, profile: Profile) -> Result
 }
 
 /// A revision's bytes, the lines that the report begins with by the strict rules, and those by the wide ones.
-const BEGINNINGS: [(&[u8], &str, &str); 5] = [
+static BEGINNINGS: [(&[u8], &str, &str); 5] = [
     (
         &[2, 1],
         "UDFREPORT1 last 600\nknown 601 conflict 0\nvolume fault 5 Domain\n",
@@ -66,18 +68,39 @@ const BEGINNINGS: [(&[u8], &str, &str); 5] = [
 #[test]
 fn the_rules_decide_what_opens(rt: HostRuntime) -> Result<(), Fail> {
     let alloc = rt.alloc();
-    for (bytes, strict, wide) in BEGINNINGS {
+    for &(bytes, strict, wide) in &BEGINNINGS {
         let table = of_revision(alloc, bytes)?;
-        let by_strict = text_by(alloc, &table, Profile::Strict)?;
-        assert!(rt; by_strict.as_str().starts_with(strict), "{by_strict}");
-        let by_wide = text_by(alloc, &table, Profile::Wide)?;
-        assert!(rt; by_wide.as_str().starts_with(wide), "{by_wide}");
-        for profile in [Profile::Strict, Profile::Wide] {
-            let text = text_by(alloc, &table, profile)?;
-            let of_survey = survey_text_by(alloc, &table, profile)?;
-            assert_eq!(rt; text.as_str(), of_survey.as_str());
-        }
+        assert_begins(&rt, alloc, &table, Profile::Strict, strict)?;
+        assert_begins(&rt, alloc, &table, Profile::Wide, wide)?;
     }
+    Ok(())
+}
+
+/// The text begins so by a profile, and the survey's is the same.
+fn assert_begins(
+    rt: &impl Abort,
+    alloc: Global,
+    table: &BlockTable,
+    profile: Profile,
+    begin: &str,
+) -> Result<(), Fail> {
+    let text = text_by(alloc, table, profile)?;
+    assert!(rt; text.as_str().starts_with(begin), "{text}");
+    let of_survey = survey_text_by(alloc, table, profile)?;
+    assert_same(rt, text.as_str(), of_survey.as_str());
+    Ok(())
+}
+
+/// The text has this part by a profile.
+fn assert_contains(
+    rt: &impl Abort,
+    alloc: Global,
+    table: &BlockTable,
+    profile: Profile,
+    part: &str,
+) -> Result<(), Fail> {
+    let text = text_by(alloc, table, profile)?;
+    assert!(rt; text.as_str().contains(part), "{text}");
     Ok(())
 }
 
@@ -86,17 +109,25 @@ fn the_rules_decide_what_opens(rt: HostRuntime) -> Result<(), Fail> {
 fn a_wide_report(rt: HostRuntime) -> Result<(), Fail> {
     let alloc = rt.alloc();
     let table = of_revision(alloc, &[0, 2])?;
-    let strict = salvage(alloc, &table, LAST)?;
-    assert!(rt; strict.profile == Profile::Strict);
-    assert!(rt; strict.nodes.is_empty());
     let wide = salvage_by(alloc, &table, LAST, Profile::Wide)?;
     assert!(rt; wide.profile == Profile::Wide);
-    assert_eq!(rt; wide.last, LAST);
+    assert_same(&rt, wide.last, LAST);
     assert_eq!(rt; wide.nodes.len(), 3);
     assert!(rt; wide.reread.is_empty());
     let mut bytes = Writer::new(Vec::new(alloc));
     extract_by(alloc, &wide, 1, Fill::Refuse, &mut bytes)?;
     assert_eq!(rt; bytes.into_inner().len(), 5000);
+    Ok(())
+}
+
+/// The strict report of the same volume, and last blocks that no profile takes.
+#[test]
+fn no_wide_report(rt: HostRuntime) -> Result<(), Fail> {
+    let alloc = rt.alloc();
+    let table = of_revision(alloc, &[0, 2])?;
+    let strict = salvage(alloc, &table, LAST)?;
+    assert!(rt; strict.profile == Profile::Strict);
+    assert!(rt; strict.nodes.is_empty());
     let refused = salvage_by(alloc, &table, 512, Profile::Wide);
     assert!(rt; matches!(refused, Err(SalvageError::LastRange)));
     let refused = survey_volume_by(alloc, &table, 599, Profile::Wide);
@@ -104,37 +135,40 @@ fn a_wide_report(rt: HostRuntime) -> Result<(), Fail> {
     Ok(())
 }
 
+/// The volume with a file of 5010 bytes whose one extent still has the length 5000.
+fn grown(alloc: Global) -> Result<Disc, Fail> {
+    let mut disc = Disc::type1(alloc)?;
+    disc.write(&[(275, 56, &[0x92, 0x13])])?;
+    Ok(disc)
+}
+
 /// A file of 5010 bytes whose one extent still has the length 5000: a fault by the strict rules, whole by the wide ones, and
 /// torn by these where its last block is not known.
 #[test]
 fn a_file_that_grew_inside_its_last_block(rt: HostRuntime) -> Result<(), Fail> {
     let alloc = rt.alloc();
-    let mut disc = Disc::type1(alloc)?;
-    disc.write(&[(275, 56, &[0x92, 0x13])])?;
+    let disc = grown(alloc)?;
     let table = disc.known_but(alloc, &[])?;
-    let strict = text_by(alloc, &table, Profile::Strict)?;
-    assert!(rt;
-        strict.as_str().contains("\nnode 1 fault-9 file 5010 "),
-        "{strict}"
-    );
-    let wide = text_by(alloc, &table, Profile::Wide)?;
-    assert!(rt;
-        wide.as_str().contains("\nnode 1 whole file 5010 "),
-        "{wide}"
-    );
+    let fault = "\nnode 1 fault-9 file 5010 ";
+    assert_contains(&rt, alloc, &table, Profile::Strict, fault)?;
+    let whole = "\nnode 1 whole file 5010 ";
+    assert_contains(&rt, alloc, &table, Profile::Wide, whole)?;
+    let torn = disc.known_but(alloc, &[279])?;
+    let part = " /A\nmissing 279\nhole 4096 914\n";
+    assert_contains(&rt, alloc, &torn, Profile::Wide, part)
+}
+
+#[test]
+fn the_bytes_of_a_file_that_grew(rt: HostRuntime) -> Result<(), Fail> {
+    let alloc = rt.alloc();
+    let table = grown(alloc)?.known_but(alloc, &[])?;
     let report = salvage_by(alloc, &table, LAST, Profile::Wide)?;
     assert_eq!(rt; report.nodes.len(), 3);
     let mut bytes = Writer::new(Vec::new(alloc));
     extract_by(alloc, &report, 1, Fill::Refuse, &mut bytes)?;
     let bytes = bytes.into_inner();
     assert_eq!(rt; bytes.len(), 5010);
-    assert_eq!(rt; bytes.get(5009).copied(), Some(0x63));
-    let torn = disc.known_but(alloc, &[279])?;
-    let part = text_by(alloc, &torn, Profile::Wide)?;
-    assert!(rt;
-        part.as_str().contains(" /A\nmissing 279\nhole 4096 914\n"),
-        "{part}"
-    );
+    assert_same(&rt, bytes.get(5009).copied(), Some(0x63));
     Ok(())
 }
 
@@ -152,7 +186,7 @@ fn a_wide_report_of_readings(rt: HostRuntime) -> Result<(), Fail> {
     let mut text = Writer::new(Vec::new(alloc));
     let whole = report_run_by(alloc, &mut inputs, LAST, Profile::Wide, &mut text)?;
     assert!(rt; !whole);
-    assert_eq!(rt; text.into_inner().as_slice(), NOTHING);
+    assert_same(&rt, text.into_inner().as_slice(), NOTHING);
     Ok(())
 }
 
@@ -165,18 +199,31 @@ fn a_wide_report_as_json(rt: HostRuntime) -> Result<(), Fail> {
     let alloc = rt.alloc();
     let table = BlockTable::new(alloc);
     let report = salvage_by(alloc, &table, LAST, Profile::Wide)?;
-    assert_eq!(rt; report_json(alloc, &report)?.as_str(), JSON);
+    assert_text(&rt, report_json(alloc, &report)?, JSON);
+    Ok(())
+}
+
+#[test]
+fn a_wide_survey_as_json(rt: HostRuntime) -> Result<(), Fail> {
+    let alloc = rt.alloc();
+    let table = BlockTable::new(alloc);
     let survey = survey_volume_by(alloc, &table, LAST, Profile::Wide)?;
     let mut text = Writer::new(Vec::new(alloc));
     write_json(alloc, &survey, &mut text)?;
     let line = format!(in alloc; "{JSON}\n")?;
-    assert_eq!(rt; text.into_inner().as_slice(), line.as_str().as_bytes());
+    assert_same(&rt, text.into_inner().as_slice(), line.as_str().as_bytes());
+    Ok(())
+}
+
+#[test]
+fn a_wide_report_of_a_volume_as_json(rt: HostRuntime) -> Result<(), Fail> {
+    let alloc = rt.alloc();
     let table = of_revision(alloc, &[2, 1])?;
     let report = salvage_by(alloc, &table, LAST, Profile::Wide)?;
     let text = report_json(alloc, &report)?;
     let part =
         "\"profile\":\"wide\",\"reread\":[],\"unnamed\":[],\"volume\":{\"map\":\"type1\",\"revision\":\"1.02\",\"state\":\"ok\"}}";
-    assert!(rt; text.as_str().ends_with(part), "{text}");
+    assert_case(&rt, text.as_str().ends_with(part), text.as_str());
     Ok(())
 }
 
@@ -188,7 +235,7 @@ fn names_of_revisions(rt: HostRuntime) -> Result<(), Fail> {
         (0x0200, "2.00"),
         (0x0201, "2.01"),
     ] {
-        assert_eq!(rt; revision_name(revision), name);
+        assert_same(&rt, revision_name(revision), name);
     }
     Ok(())
 }

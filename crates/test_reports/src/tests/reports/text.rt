@@ -1,5 +1,6 @@
 //! Reports that a sink or memory stops half way.
 
+use crate::tests::{assert_case, assert_same, assert_same_in};
 use std::alloc::Global;
 use std::io;
 use std::io::Write;
@@ -54,16 +55,17 @@ fn a_report_is_written_whole(rt: HostRuntime) -> Result<(), Fail> {
     let alloc = rt.alloc();
     let table = without_anchors(alloc)?;
     let report = salvage(alloc, &table, LAST)?;
-    assert_eq!(rt; report.last, LAST);
+    assert_same(&rt, report.last, LAST);
     assert!(rt; report.reread.as_slice() == [256, 344, 600].as_slice());
     let mut text = Writer::new(Vec::new(alloc));
     write_report(&report, &mut text)?;
-    assert_eq!(rt; text.into_inner().as_slice(), TEXT);
+    assert_same(&rt, text.into_inner().as_slice(), TEXT);
     let mut line = Writer::new(Vec::new(alloc));
     write_volume(&report, &mut line)?;
-    assert_eq!(rt;
+    assert_same(
+        &rt,
         line.into_inner().as_slice(),
-        b"volume holes 256 344 600\n".as_slice()
+        b"volume holes 256 344 600\n".as_slice(),
     );
     Ok(())
 }
@@ -74,20 +76,21 @@ fn a_survey_is_written_whole(rt: HostRuntime) -> Result<(), Fail> {
     let alloc = rt.alloc();
     let table = Disc::type1(alloc)?.known_but(alloc, &[278, 279])?;
     let survey = survey_volume(alloc, &table, LAST)?;
-    assert_eq!(rt; survey.reread.as_slice(), [278, 279].as_slice());
+    assert_same(&rt, survey.reread.as_slice(), [278, 279].as_slice());
     assert!(rt; !survey.all_whole());
     let mut text = Writer::new(Vec::new(alloc));
     write_survey(alloc, &survey, &mut text)?;
     let text = String::from_utf8(text.into_inner())?;
-    assert!(rt;
+    assert_case(
+        &rt,
         text.as_str()
             .contains(" /A\nmissing 278\nmissing 279\nhole 2048 2952\n"),
-        "{text}"
+        text.as_str(),
     );
     let report = salvage(alloc, &table, LAST)?;
     let mut other = Writer::new(Vec::new(alloc));
     write_report(&report, &mut other)?;
-    assert_eq!(rt; other.into_inner().as_slice(), text.as_str().as_bytes());
+    assert_same(&rt, other.into_inner().as_slice(), text.as_str().as_bytes());
     Ok(())
 }
 
@@ -110,9 +113,9 @@ fn a_sink_that_fails_holds_a_beginning(rt: HostRuntime) -> Result<(), Fail> {
         } else {
             Err(RunError::Write)
         };
-        assert!(rt; outcome == expected, "after {good}");
+        assert_case(&rt, outcome == expected, good);
         let begun = TEXT.get(..good).unwrap_or(&[]);
-        assert_eq!(rt; sink.into_inner().bytes.as_slice(), begun, "after {good}");
+        assert_same_in(&rt, sink.into_inner().bytes.as_slice(), begun, good);
     }
     Ok(())
 }
@@ -124,16 +127,17 @@ fn a_table_without_a_report(rt: HostRuntime) -> Result<(), Fail> {
     table.put(900, &[0; 2048])?;
     table.put(700, &[0; 2048])?;
     table.put(699, &[0; 2048])?;
-    for (last, error) in [
+    static FAULTS: [(u32, SalvageError); 6] = [
         (0, SalvageError::LastRange),
         (512, SalvageError::LastRange),
         (4_194_304, SalvageError::LastRange),
         (513, SalvageError::PastEnd(699)),
         (699, SalvageError::PastEnd(700)),
         (899, SalvageError::PastEnd(900)),
-    ] {
+    ];
+    for &(last, error) in &FAULTS {
         let outcome = salvage(alloc, &table, last);
-        assert!(rt; matches!(outcome, Err(found) if found == error), "{last}");
+        assert_case(&rt, matches!(outcome, Err(found) if found == error), last);
     }
     assert!(rt; salvage(alloc, &table, 900).is_ok());
     assert!(rt; salvage(alloc, &table, 4_194_303).is_ok());
@@ -161,7 +165,7 @@ fn want_of_memory_is_told(rt: HostRuntime) -> Result<(), Fail> {
     match outcome {
         Ok(whole) => {
             assert!(rt; !whole);
-            assert_eq!(rt; out.as_slice(), NOTHING);
+            assert_same(&rt, out.as_slice(), NOTHING);
         }
         Err(error) => {
             assert!(rt; error == RunError::OutOfMemory);

@@ -1,6 +1,7 @@
 //! The bytes of entries that no name leads to. Without block 274, the root's, those at the logical blocks 3 and 4 have none.
 
 use super::extraction::{A, Full, Outcome, runs};
+use crate::tests::{assert_case, assert_same, assert_same_in};
 use std::alloc::Global;
 use std::test::Fail;
 use udfs_lattice::BlockTable;
@@ -40,23 +41,23 @@ fn lost_files_are_written(rt: HostRuntime) -> Result<(), Fail> {
     let table = changed(alloc, &[], &[274])?;
     let file = extracted(alloc, &table, 0, usize::MAX)?;
     assert!(rt; file.outcome == Ok(()));
-    assert_eq!(rt; file.bytes.as_slice(), runs(alloc, &A)?.as_slice());
+    assert_same(&rt, file.bytes.as_slice(), runs(alloc, &A)?.as_slice());
     let embedded = extracted(alloc, &table, 1, usize::MAX)?;
     assert!(rt; embedded.outcome == Ok(()));
-    assert_eq!(rt; embedded.bytes.as_slice(), b"Hi".as_slice());
+    assert_same(&rt, embedded.bytes.as_slice(), b"Hi".as_slice());
     Ok(())
 }
 
 /// A torn file, a link in the place of a file, and an empty file.
 #[test]
 fn no_other_is_written(rt: HostRuntime) -> Result<(), Fail> {
-    let alloc = rt.alloc();
-    let cases: [(&[Bytes], &[u32], usize); 3] = [
+    static CASES: [(&[Bytes], &[u32], usize); 3] = [
         (&[], &[274, 278], 0),
         (&[(276, 27, &[12])], &[274], 1),
         (&[(276, 56, &[0]), (276, 172, &[0])], &[274], 1),
     ];
-    for (changes, unread, index) in cases {
+    let alloc = rt.alloc();
+    for &(changes, unread, index) in &CASES {
         let table = changed(alloc, changes, unread)?;
         let entry = extracted(alloc, &table, index, usize::MAX)?;
         assert!(rt; entry.outcome == Err(ExtractError::NotWhole), "{changes:?}");
@@ -82,9 +83,9 @@ fn a_sink_that_fails_holds_a_beginning(rt: HostRuntime) -> Result<(), Fail> {
         } else {
             Err(ExtractError::Write)
         };
-        assert!(rt; file.outcome == expected, "after {good}");
+        assert_case(&rt, file.outcome == expected, good);
         let begun = whole.as_slice().get(..good).unwrap_or(&[]);
-        assert_eq!(rt; file.bytes.as_slice(), begun, "after {good}");
+        assert_same_in(&rt, file.bytes.as_slice(), begun, good);
     }
     Ok(())
 }
@@ -99,7 +100,7 @@ fn volumes_with_two_partitions(rt: HostRuntime) -> Result<(), Fail> {
     ] {
         let table = disc.known_but(alloc, &[])?;
         let report = salvage(alloc, &table, LAST)?;
-        assert_eq!(rt; has_two_partitions(&report.volume), has_two);
+        assert_same(&rt, has_two_partitions(&report.volume), has_two);
     }
     let closed = changed(alloc, &[], &[33, 49])?;
     assert!(rt; !has_two_partitions(&salvage(alloc, &closed, LAST)?.volume));

@@ -1,5 +1,6 @@
 //! Labels.
 
+use crate::tests::assert_text;
 use std::test::Fail;
 use udfs_osta::Label;
 
@@ -21,15 +22,15 @@ fn label_text(rt: &HostRuntime, front: &[u8], used: u8) -> Result<String, Fail> 
 
 #[test]
 fn labels(rt: HostRuntime) -> Result<(), Fail> {
-    assert_eq!(rt; label_text(&rt, b"\x08TAPE", 0)?.as_str(), "");
-    assert_eq!(rt; label_text(&rt, b"\x08TAPE", 5)?.as_str(), "TAPE");
-    assert_eq!(rt; label_text(&rt, b"\x08TAPE", 3)?.as_str(), "TA");
-    assert_eq!(rt; label_text(&rt, b"\x08.", 2)?.as_str(), "\\u002E");
-    assert_eq!(rt; label_text(&rt, b"\x10\x00T", 3)?.as_str(), "T");
+    assert_text(&rt, label_text(&rt, b"\x08TAPE", 0)?, "");
+    assert_text(&rt, label_text(&rt, b"\x08TAPE", 5)?, "TAPE");
+    assert_text(&rt, label_text(&rt, b"\x08TAPE", 3)?, "TA");
+    assert_text(&rt, label_text(&rt, b"\x08.", 2)?, "\\u002E");
+    assert_text(&rt, label_text(&rt, b"\x10\x00T", 3)?, "T");
     assert_eq!(rt; label_text(&rt, &[8; 127], 127)?.len(), 6 * 126);
-    assert_eq!(rt; label_text(&rt, b"\x08TAPE", 128)?.as_str(), "(invalid)");
-    assert_eq!(rt; label_text(&rt, b"\x08TAPE", 1)?.as_str(), "(invalid)");
-    assert_eq!(rt; label_text(&rt, b"\x09TAPE", 5)?.as_str(), "(invalid)");
-    assert_eq!(rt; label_text(&rt, b"\x10\x00T", 2)?.as_str(), "(invalid)");
+    assert_text(&rt, label_text(&rt, b"\x08TAPE", 128)?, "(invalid)");
+    assert_text(&rt, label_text(&rt, b"\x08TAPE", 1)?, "(invalid)");
+    assert_text(&rt, label_text(&rt, b"\x09TAPE", 5)?, "(invalid)");
+    assert_text(&rt, label_text(&rt, b"\x10\x00T", 2)?, "(invalid)");
     Ok(())
 }

@@ -1,5 +1,6 @@
 //! Names, their faults and their escaped form.
 
+use crate::tests::{assert_same, assert_text};
 use std::test::Fail;
 use udfs_osta::{Name, NameFault, is_dots, paired_char, write_escape, write_escapes};
 
@@ -26,15 +27,15 @@ fn in_pieces(rt: &HostRuntime, bytes: &[u8]) -> Result<Vec<u8>, Fail> {
 /// Plain units, an escaped one, one in a pair and one of two bytes; and dots.
 #[test]
 fn pieces_make_the_escaped_form(rt: HostRuntime) -> Result<(), Fail> {
-    let cases: [(&[u8], &str); 4] = [
+    static CASES: [(&[u8], &str); 4] = [
         (b"\x08ab/c", "ab\\u002Fc"),
         (b"\x10\xd8\x3d\xde\x00\x00a", "\u{1f600}a"),
         (b"\x08\xe9", "\u{e9}"),
         (b"\x08..", "\\u002E\\u002E"),
     ];
-    for (bytes, expected) in cases {
+    for &(bytes, expected) in &CASES {
         let text = in_pieces(&rt, bytes)?;
-        assert_eq!(rt; text.as_slice(), expected.as_bytes());
+        assert_same(&rt, text.as_slice(), expected.as_bytes());
     }
     Ok(())
 }
@@ -48,7 +49,7 @@ fn fault_of(rt: &HostRuntime, bytes: &[u8]) -> Option<NameFault> {
 
 #[test]
 fn names_of_one_byte_a_unit(rt: HostRuntime) -> Result<(), Fail> {
-    let cases: [(&[u8], &str); 9] = [
+    static CASES: [(&[u8], &str); 9] = [
         (b"\x08A file.txt", "A file.txt"),
         (
             b"\x080123456789012345678901234567890123456789012345678901234567890123456789/abcabcabcabcabcabcabcabcabcabcabcabcabcabcabcabcabcabcabcabcabcabcabcabcabcabcabcabcabcabc",
@@ -62,15 +63,15 @@ fn names_of_one_byte_a_unit(rt: HostRuntime) -> Result<(), Fail> {
         (b"\x08\x00\x1f\x20\x7e\x7f", "\\u0000\\u001F ~\\u007F"),
         (b"\x08a\\b", "a\\u005Cb"),
     ];
-    for (bytes, text) in cases {
-        assert_eq!(rt; escaped(&rt, bytes)?.as_str(), text);
+    for &(bytes, text) in &CASES {
+        assert_text(&rt, escaped(&rt, bytes)?, text);
     }
     Ok(())
 }
 
 #[test]
 fn names_of_two_bytes_a_unit(rt: HostRuntime) -> Result<(), Fail> {
-    let cases: [(&[u8], &str); 10] = [
+    static CASES: [(&[u8], &str); 10] = [
         (b"\x10\x00A", "A"),
         (b"\x10\x00.\x00.", "\\u002E\\u002E"),
         (b"\x10\x00\xe9\x4e\x2d", "\u{e9}\u{4e2d}"),
@@ -85,8 +86,8 @@ fn names_of_two_bytes_a_unit(rt: HostRuntime) -> Result<(), Fail> {
         (b"\x10\xd8\x00\xd8\x00\xdc\x00", "\\uD800\u{10000}"),
         (b"\x10\xff\xff\xe0\x00\xd7\xff", "\u{ffff}\u{e000}\u{d7ff}"),
     ];
-    for (bytes, text) in cases {
-        assert_eq!(rt; escaped(&rt, bytes)?.as_str(), text);
+    for &(bytes, text) in &CASES {
+        assert_text(&rt, escaped(&rt, bytes)?, text);
     }
     Ok(())
 }
@@ -94,17 +95,17 @@ fn names_of_two_bytes_a_unit(rt: HostRuntime) -> Result<(), Fail> {
 #[test]
 fn units_of_names(rt: HostRuntime) -> Result<(), Fail> {
     let name = Name::read(rt.alloc(), b"\x08\xe9A")?;
-    assert_eq!(rt; name.units(), [0xe9, 0x41].as_slice());
+    assert_same(&rt, name.units(), [0xe9, 0x41].as_slice());
     let name = Name::read(rt.alloc(), b"\x10\xd8\x3d\xde\x00")?;
-    assert_eq!(rt; name.units(), [0xd83d, 0xde00].as_slice());
+    assert_same(&rt, name.units(), [0xd83d, 0xde00].as_slice());
     let copy = name.clone()?;
-    assert_eq!(rt; copy.units(), [0xd83d, 0xde00].as_slice());
+    assert_same(&rt, copy.units(), [0xd83d, 0xde00].as_slice());
     Ok(())
 }
 
 #[test]
 fn faults_of_names(rt: HostRuntime) -> Result<(), Fail> {
-    let cases: [(&[u8], Option<NameFault>); 8] = [
+    static CASES: [(&[u8], Option<NameFault>); 8] = [
         (b"", Some(NameFault::Empty)),
         (b"\x08", Some(NameFault::Empty)),
         (b"\x10", Some(NameFault::Empty)),
@@ -114,10 +115,10 @@ fn faults_of_names(rt: HostRuntime) -> Result<(), Fail> {
         (b"\x10\x00A\x00", Some(NameFault::Odd)),
         (b"\x08A", None),
     ];
-    for (bytes, fault) in cases {
-        assert_eq!(rt; fault_of(&rt, bytes), fault);
+    for &(bytes, fault) in &CASES {
+        assert_same(&rt, fault_of(&rt, bytes), fault);
     }
-    for (fault, number, text) in [
+    static TEXTS: [(NameFault, u8, &str); 4] = [
         (NameFault::Empty, 1, "the name has no unit"),
         (
             NameFault::Compression,
@@ -126,29 +127,30 @@ fn faults_of_names(rt: HostRuntime) -> Result<(), Fail> {
         ),
         (NameFault::Odd, 3, "the name ends inside a unit"),
         (NameFault::OutOfMemory, 4, "out of memory"),
-    ] {
-        assert_eq!(rt; fault as u8, number);
-        assert_eq!(rt; format!(in rt.alloc(); "{fault}")?.as_str(), text);
+    ];
+    for &(fault, number, text) in &TEXTS {
+        assert_same(&rt, fault as u8, number);
+        assert_text(&rt, format!(in rt.alloc(); "{fault}")?, text);
     }
     Ok(())
 }
 
 #[test]
 fn parts_of_names(rt: HostRuntime) -> Result<(), Fail> {
-    assert_eq!(rt; paired_char(&[0xd83d, 0xde00, 0x41]), Some('\u{1f600}'));
-    assert_eq!(rt; paired_char(&[0xde00, 0xd83d]), None);
-    assert_eq!(rt; paired_char(&[0xd83d]), None);
+    assert_same(&rt, paired_char(&[0xd83d, 0xde00, 0x41]), Some('\u{1f600}'));
+    assert_same(&rt, paired_char(&[0xde00, 0xd83d]), None);
+    assert_same(&rt, paired_char(&[0xd83d]), None);
     for (units, want) in [
         ([0x2e].as_slice(), true),
         (&[0x2e, 0x2e], true),
         (&[0x2e, 0x2e, 0x2e], false),
         (&[0x2e, 0x41], false),
     ] {
-        assert_eq!(rt; is_dots(units), want);
+        assert_same(&rt, is_dots(units), want);
     }
     let mut text = String::new(rt.alloc());
     write_escape(0x202e, &mut text)?;
     write_escapes(&[0x2e, 0xd83d], &mut text)?;
-    assert_eq!(rt; text.as_str(), "\\u202E\\u002E\\uD83D");
+    assert_same(&rt, text.as_str(), "\\u202E\\u002E\\uD83D");
     Ok(())
 }

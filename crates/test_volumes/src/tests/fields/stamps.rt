@@ -1,5 +1,6 @@
 //! Times.
 
+use crate::tests::{assert_same, assert_text};
 use std::test::Fail;
 use udfs_osta::{Name, Stamp};
 
@@ -11,7 +12,7 @@ fn printed(rt: &HostRuntime, stamp: Stamp) -> Result<String, Fail> {
 
 #[test]
 fn times(rt: HostRuntime) -> Result<(), Fail> {
-    let cases: [(&[u8; 12], &str); 14] = [
+    static CASES: [(&[u8; 12], &str); 14] = [
         (
             b"\x3c\x10\xd1\x07\x07\x04\x0a\x1e\0\0\0\0",
             "2001-07-04T09:30:00.000000Z",
@@ -54,36 +55,40 @@ fn times(rt: HostRuntime) -> Result<(), Fail> {
         (b"\x3c\0\xd1\x07\x07\x04\x0a\x1e\0\0\0\0", "invalid"),
         (b"\x3c\x10\xd1\x07\x07\x04\x0a\x1e\x3c\0\0\0", "invalid"),
     ];
-    for (bytes, text) in cases {
-        assert_eq!(rt; printed(&rt, Stamp::read(bytes))?.as_str(), text);
+    for &(bytes, text) in &CASES {
+        assert_text(&rt, printed(&rt, Stamp::read(bytes))?, text);
     }
     Ok(())
 }
 
 #[test]
 fn times_that_no_bytes_tell(rt: HostRuntime) -> Result<(), Fail> {
-    assert_eq!(rt;
-        printed(&rt, Stamp::Local(0))?.as_str(),
-        "1970-01-01T00:00:00.000000"
+    assert_text(
+        &rt,
+        printed(&rt, Stamp::Local(0))?,
+        "1970-01-01T00:00:00.000000",
     );
-    assert_eq!(rt;
-        printed(&rt, Stamp::Utc(-1))?.as_str(),
-        "1969-12-31T23:59:59.999999Z"
+    assert_text(
+        &rt,
+        printed(&rt, Stamp::Utc(-1))?,
+        "1969-12-31T23:59:59.999999Z",
     );
     let first = -62_167_219_200_000_000;
-    assert_eq!(rt;
-        printed(&rt, Stamp::Utc(first))?.as_str(),
-        "0000-01-01T00:00:00.000000Z"
+    assert_text(
+        &rt,
+        printed(&rt, Stamp::Utc(first))?,
+        "0000-01-01T00:00:00.000000Z",
     );
-    assert_eq!(rt; printed(&rt, Stamp::Utc(first - 1))?.as_str(), "invalid");
+    assert_text(&rt, printed(&rt, Stamp::Utc(first - 1))?, "invalid");
     let last = 253_402_207_200_999_999;
-    assert_eq!(rt;
-        printed(&rt, Stamp::Utc(last))?.as_str(),
-        "9999-12-30T22:00:00.999999Z"
+    assert_text(
+        &rt,
+        printed(&rt, Stamp::Utc(last))?,
+        "9999-12-30T22:00:00.999999Z",
     );
-    assert_eq!(rt; printed(&rt, Stamp::Utc(last + 1))?.as_str(), "invalid");
-    assert_eq!(rt; printed(&rt, Stamp::Local(i64::MAX))?.as_str(), "invalid");
-    assert_eq!(rt; printed(&rt, Stamp::Utc(i64::MIN))?.as_str(), "invalid");
+    assert_text(&rt, printed(&rt, Stamp::Utc(last + 1))?, "invalid");
+    assert_text(&rt, printed(&rt, Stamp::Local(i64::MAX))?, "invalid");
+    assert_text(&rt, printed(&rt, Stamp::Utc(i64::MIN))?, "invalid");
     Ok(())
 }
 
@@ -95,6 +100,6 @@ fn text_is_appended(rt: HostRuntime) -> Result<(), Fail> {
     Name::read(rt.alloc(), b"\x08a")?.write_escaped(&mut text)?;
     text.push_str(" ")?;
     Stamp::Local(1).write_text(&mut text)?;
-    assert_eq!(rt; text.as_str(), "/a 1970-01-01T00:00:00.000001");
+    assert_same(&rt, text.as_str(), "/a 1970-01-01T00:00:00.000001");
     Ok(())
 }

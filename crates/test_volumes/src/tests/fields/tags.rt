@@ -2,6 +2,7 @@
 
 ghost use Rattle.std.specs.Prelude.{◌≤◌, length};
 
+use crate::tests::assert_same;
 use std::process::Abort;
 use udfs_tag::{Tag, TagFault, crc};
 
@@ -13,10 +14,10 @@ const X: [u8; 19] = [
 
 #[test]
 fn crc_of_three_bytes(rt: HostRuntime) {
-    assert_eq!(rt; crc(&[0x70, 0x6a, 0x77]), 0x3299);
-    assert_eq!(rt; crc(&[]), 0);
+    assert_same(&rt, crc(&[0x70, 0x6a, 0x77]), 0x3299);
+    assert_same(&rt, crc(&[]), 0);
     // the check value of this polynomial with a start of 0
-    assert_eq!(rt; crc(b"123456789"), 0x31c3);
+    assert_same(&rt, crc(b"123456789"), 0x31c3);
 }
 
 #[test]
@@ -28,8 +29,8 @@ fn accepted_before_zeros(rt: HostRuntime) {
     block[10] = 0xf0;
     block[11] = 1;
     block[13] = 1;
-    assert_eq!(rt; Tag::check(&block, 256), Ok(Tag { identifier: 8 }));
-    assert_eq!(rt; Tag::check(&block, 257), Err(TagFault::Location));
+    assert_same(&rt, Tag::check(&block, 256), Ok(Tag { identifier: 8 }));
+    assert_same(&rt, Tag::check(&block, 257), Err(TagFault::Location));
     assert!(rt; Tag::is_valid(&block, 256, 8));
     assert!(rt; !Tag::is_valid(&block, 256, 7));
     assert!(rt; !Tag::is_valid(&block, 257, 8));
@@ -44,7 +45,7 @@ fn covered_bytes_past_the_end(rt: HostRuntime) {
     block[10] = 0xf1;
     block[11] = 7;
     block[13] = 1;
-    assert_eq!(rt; Tag::check(&block, 256), Err(TagFault::CrcLength));
+    assert_same(&rt, Tag::check(&block, 256), Err(TagFault::CrcLength));
 }
 
 /// The bytes get this answer, whole and in two pieces, wherever they are cut.

@@ -1,5 +1,6 @@
 //! The texts of faults.
 
+use crate::tests::assert_same;
 use std::test::Fail;
 use udfs_tag::TagFault;
 
@@ -19,7 +20,7 @@ fn fault_texts(rt: HostRuntime) -> Result<(), Fail> {
         (TagFault::Location, "the tag says that it stands elsewhere"),
     ] {
         let shown = format!(in rt.alloc(); "{fault}")?;
-        assert_eq!(rt; shown.as_str(), text);
+        assert_same(&rt, shown.as_str(), text);
     }
     Ok(())
 }

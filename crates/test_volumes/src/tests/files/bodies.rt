@@ -1,37 +1,75 @@
 //! Bodies.
 
 use super::told::{cells, portions, stretches};
+use crate::tests::assert_text;
+use std::alloc::Global;
+use std::process::Abort;
 use std::test::Fail;
 use udfs_samples::{Bytes, Disc};
+
+/// Where these blocks of a disc are not known, the file at logical block 3 has these cells.
+fn assert_cells(
+    rt: &impl Abort,
+    alloc: Global,
+    disc: &Disc,
+    unread: &[u32],
+    expected: &str,
+) -> Result<(), Fail> {
+    let table = disc.known_but(alloc, unread)?;
+    assert_text(rt, cells(alloc, &table, 0, 3)?, expected);
+    Ok(())
+}
+
+/// Where these blocks of a disc are not known, the file at logical block 3 has these stretches.
+fn assert_stretches(
+    rt: &impl Abort,
+    alloc: Global,
+    disc: &Disc,
+    unread: &[u32],
+    expected: &str,
+) -> Result<(), Fail> {
+    let table = disc.known_but(alloc, unread)?;
+    assert_text(rt, stretches(alloc, &table, 0, 3)?, expected);
+    Ok(())
+}
+
+/// Where these blocks of a disc are not known, the file at logical block 3 has these portions.
+fn assert_portions(
+    rt: &impl Abort,
+    alloc: Global,
+    disc: &Disc,
+    unread: &[u32],
+    expected: &str,
+) -> Result<(), Fail> {
+    let table = disc.known_but(alloc, unread)?;
+    assert_text(rt, portions(alloc, &table, 0, 3)?, expected);
+    Ok(())
+}
 
 #[test]
 fn whole_bodies(rt: HostRuntime) -> Result<(), Fail> {
     let alloc = rt.alloc();
+    let type1 = Disc::type1(alloc)?;
+    assert_cells(&rt, alloc, &type1, &[], "cells 61*2048 62*2048 63*904")?;
+    assert_stretches(&rt, alloc, &type1, &[], "body recorded 0:5+0 5000")?;
+    let both = Disc::two_maps(alloc)?;
+    assert_cells(&rt, alloc, &both, &[], "cells 61*2048 62*2048 63*904")?;
+    let sparable = Disc::sparable(alloc)?;
+    assert_cells(&rt, alloc, &sparable, &[], "cells 61*2048 62*2048 63*904")
+}
+
+#[test]
+fn whole_embedded_bodies(rt: HostRuntime) -> Result<(), Fail> {
+    let alloc = rt.alloc();
     let table = Disc::type1(alloc)?.known_but(alloc, &[])?;
-    assert_eq!(rt;
-        cells(alloc, &table, 0, 3)?.as_str(),
-        "cells 61*2048 62*2048 63*904"
-    );
-    assert_eq!(rt; cells(alloc, &table, 0, 4)?.as_str(), "cells 48*1 69*1");
-    assert_eq!(rt;
-        stretches(alloc, &table, 0, 3)?.as_str(),
-        "body recorded 0:5+0 5000"
-    );
-    assert_eq!(rt;
-        stretches(alloc, &table, 0, 4)?.as_str(),
-        "body recorded 0:4+176 2"
+    assert_text(&rt, cells(alloc, &table, 0, 4)?, "cells 48*1 69*1");
+    assert_text(
+        &rt,
+        stretches(alloc, &table, 0, 4)?,
+        "body recorded 0:4+176 2",
     );
     let both = Disc::two_maps(alloc)?.known_but(alloc, &[])?;
-    assert_eq!(rt;
-        cells(alloc, &both, 0, 3)?.as_str(),
-        "cells 61*2048 62*2048 63*904"
-    );
-    assert_eq!(rt; cells(alloc, &both, 1, 0)?.as_str(), "cells 48*1 69*1");
-    let sparable = Disc::sparable(alloc)?.known_but(alloc, &[])?;
-    assert_eq!(rt;
-        cells(alloc, &sparable, 0, 3)?.as_str(),
-        "cells 61*2048 62*2048 63*904"
-    );
+    assert_text(&rt, cells(alloc, &both, 1, 0)?, "cells 48*1 69*1");
     Ok(())
 }
 
@@ -39,21 +77,25 @@ fn whole_bodies(rt: HostRuntime) -> Result<(), Fail> {
 fn missing_blocks(rt: HostRuntime) -> Result<(), Fail> {
     let alloc = rt.alloc();
     let disc = Disc::type1(alloc)?;
-    let table = disc.known_but(alloc, &[278])?;
-    assert_eq!(rt;
-        cells(alloc, &table, 0, 3)?.as_str(),
-        "cells 61*2048 ?278*2048 63*904"
-    );
-    let mut disputed = disc.known_but(alloc, &[])?;
+    assert_cells(&rt, alloc, &disc, &[278], "cells 61*2048 ?278*2048 63*904")?;
+    assert_cells(
+        &rt,
+        alloc,
+        &disc,
+        &[277, 279],
+        "cells ?277*2048 62*2048 ?279*904",
+    )
+}
+
+#[test]
+fn a_disputed_block_is_missing(rt: HostRuntime) -> Result<(), Fail> {
+    let alloc = rt.alloc();
+    let mut disputed = Disc::type1(alloc)?.known_but(alloc, &[])?;
     disputed.put(278, &[0; 2048])?;
-    assert_eq!(rt;
-        cells(alloc, &disputed, 0, 3)?.as_str(),
-        "cells 61*2048 ?278*2048 63*904"
-    );
-    let ends = disc.known_but(alloc, &[277, 279])?;
-    assert_eq!(rt;
-        cells(alloc, &ends, 0, 3)?.as_str(),
-        "cells ?277*2048 62*2048 ?279*904"
+    assert_text(
+        &rt,
+        cells(alloc, &disputed, 0, 3)?,
+        "cells 61*2048 ?278*2048 63*904",
     );
     Ok(())
 }
@@ -61,78 +103,54 @@ fn missing_blocks(rt: HostRuntime) -> Result<(), Fail> {
 #[test]
 fn portions_of_a_body(rt: HostRuntime) -> Result<(), Fail> {
     let alloc = rt.alloc();
-    let mut disc = Disc::type1(alloc)?;
-    let whole = disc.known_but(alloc, &[])?;
-    assert_eq!(rt;
-        portions(alloc, &whole, 0, 3)?.as_str(),
-        "portions bytes 2048 bytes 2048 bytes 904"
-    );
-    let middle = disc.known_but(alloc, &[278])?;
-    assert_eq!(rt;
-        portions(alloc, &middle, 0, 3)?.as_str(),
-        "portions bytes 2048 missing 278 to 278 2048 bytes 904"
-    );
+    let disc = Disc::type1(alloc)?;
+    let whole = "portions bytes 2048 bytes 2048 bytes 904";
+    assert_portions(&rt, alloc, &disc, &[], whole)?;
+    let middle = "portions bytes 2048 missing 278 to 278 2048 bytes 904";
+    assert_portions(&rt, alloc, &disc, &[278], middle)?;
     // Blocks that follow one another are one run.
-    let two = disc.known_but(alloc, &[278, 279])?;
-    assert_eq!(rt;
-        portions(alloc, &two, 0, 3)?.as_str(),
-        "portions bytes 2048 missing 278 to 279 2952"
-    );
-    let all = disc.known_but(alloc, &[277, 278, 279])?;
-    assert_eq!(rt;
-        portions(alloc, &all, 0, 3)?.as_str(),
-        "portions missing 277 to 279 5000"
-    );
-    // An extent of 4096 bytes that is allocated and not recorded.
+    let two = "portions bytes 2048 missing 278 to 279 2952";
+    assert_portions(&rt, alloc, &disc, &[278, 279], two)?;
+    let all = "portions missing 277 to 279 5000";
+    assert_portions(&rt, alloc, &disc, &[277, 278, 279], all)
+}
+
+/// An extent of 4096 bytes that is allocated and not recorded.
+#[test]
+fn portions_of_an_unrecorded_extent(rt: HostRuntime) -> Result<(), Fail> {
+    let alloc = rt.alloc();
+    let mut disc = Disc::type1(alloc)?;
     disc.write(&[
         (275, 56, &[0, 0x10]),
         (275, 176, &[0, 0x10, 0, 0x40, 0, 0, 0, 0]),
     ])?;
-    let unrecorded = disc.known_but(alloc, &[])?;
-    assert_eq!(rt;
-        portions(alloc, &unrecorded, 0, 3)?.as_str(),
-        "portions zeros 4096"
-    );
-    let ahead = Disc::continued(alloc)?.known_but(alloc, &[278])?;
-    assert_eq!(rt;
-        portions(alloc, &ahead, 0, 3)?.as_str(),
-        "portions bytes 2048 missing 278 to 278 2048"
-    );
-    Ok(())
+    assert_portions(&rt, alloc, &disc, &[], "portions zeros 4096")
+}
+
+#[test]
+fn portions_of_a_continued_body(rt: HostRuntime) -> Result<(), Fail> {
+    let alloc = rt.alloc();
+    let disc = Disc::continued(alloc)?;
+    let expected = "portions bytes 2048 missing 278 to 278 2048";
+    assert_portions(&rt, alloc, &disc, &[278], expected)
 }
 
 #[test]
 fn continuations(rt: HostRuntime) -> Result<(), Fail> {
     let alloc = rt.alloc();
     let mut disc = Disc::continued(alloc)?;
-    let table = disc.known_but(alloc, &[])?;
-    assert_eq!(rt;
-        cells(alloc, &table, 0, 3)?.as_str(),
-        "cells 61*2048 63*2048"
-    );
-    let unread = disc.known_but(alloc, &[278])?;
-    assert_eq!(rt;
-        cells(alloc, &unread, 0, 3)?.as_str(),
-        "cells 61*2048 ?278*2048"
-    );
-    assert_eq!(rt;
-        stretches(alloc, &unread, 0, 3)?.as_str(),
-        "body recorded 0:5+0 2048 missing 278 2048"
-    );
+    assert_cells(&rt, alloc, &disc, &[], "cells 61*2048 63*2048")?;
+    assert_cells(&rt, alloc, &disc, &[278], "cells 61*2048 ?278*2048")?;
+    let missing = "body recorded 0:5+0 2048 missing 278 2048";
+    assert_stretches(&rt, alloc, &disc, &[278], missing)?;
     disc.write(&[(278, 24, &[0, 8, 0, 0xc0, 6, 0, 0, 0])])?;
-    let itself = disc.known_but(alloc, &[])?;
-    assert_eq!(rt; stretches(alloc, &itself, 0, 3)?.as_str(), "fault 8 Chain");
+    assert_stretches(&rt, alloc, &disc, &[], "fault 8 Chain")?;
     disc.write(&[(278, 0, &[3])])?;
-    let untagged = disc.known_but(alloc, &[])?;
-    assert_eq!(rt;
-        stretches(alloc, &untagged, 0, 3)?.as_str(),
-        "fault 8 Chain"
-    );
-    Ok(())
+    assert_stretches(&rt, alloc, &disc, &[], "fault 8 Chain")
 }
 
 /// The continued file: a change, and what is then said of it.
-const CONTINUED: [(Bytes, &str); 6] = [
+static CONTINUED: [(Bytes, &str); 6] = [
     ((278, 20, &[9]), "fault 8 Chain"),
     ((278, 20, &[0xe8, 7]), "cells 61*2048 63*2048"),
     ((278, 20, &[0xf0, 7]), "fault 8 Chain"),
@@ -144,17 +162,16 @@ const CONTINUED: [(Bytes, &str); 6] = [
 #[test]
 fn continuation_faults(rt: HostRuntime) -> Result<(), Fail> {
     let alloc = rt.alloc();
-    for (change, expected) in CONTINUED {
+    for &(change, expected) in &CONTINUED {
         let mut disc = Disc::continued(alloc)?;
         disc.write(&[change])?;
-        let table = disc.known_but(alloc, &[])?;
-        assert_eq!(rt; cells(alloc, &table, 0, 3)?.as_str(), expected);
+        assert_cells(&rt, alloc, &disc, &[], expected)?;
     }
     Ok(())
 }
 
 /// The file at logical block 3 with block 278 unread: two changes, and what is then said of it.
-const UNREAD: [(Bytes, Bytes, &str); 4] = [
+static UNREAD: [(Bytes, Bytes, &str); 4] = [
     // A file of length 0 whose only descriptor continues in the unread block.
     ((275, 56, &[0, 0]), (275, 176, &[0, 8, 0, 0xc0, 6]), "body"),
     // The block behind the information length is not needed.
@@ -178,17 +195,16 @@ const UNREAD: [(Bytes, Bytes, &str); 4] = [
 #[test]
 fn unneeded_blocks(rt: HostRuntime) -> Result<(), Fail> {
     let alloc = rt.alloc();
-    for (first, second, expected) in UNREAD {
+    for &(first, second, expected) in &UNREAD {
         let mut disc = Disc::type1(alloc)?;
         disc.write(&[first, second])?;
-        let table = disc.known_but(alloc, &[278])?;
-        assert_eq!(rt; stretches(alloc, &table, 0, 3)?.as_str(), expected);
+        assert_stretches(&rt, alloc, &disc, &[278], expected)?;
     }
     Ok(())
 }
 
 /// The file at logical block 3, all known: two changes, and what is then said of it.
-const FAULTS: [(Bytes, Bytes, &str); 9] = [
+static FAULTS: [(Bytes, Bytes, &str); 9] = [
     (
         (275, 56, &[0, 0x10]),
         (275, 176, &[0, 0x10, 0, 0, 0x2b, 1]),
@@ -240,15 +256,20 @@ const FAULTS: [(Bytes, Bytes, &str); 9] = [
 #[test]
 fn body_faults(rt: HostRuntime) -> Result<(), Fail> {
     let alloc = rt.alloc();
-    for (first, second, expected) in FAULTS {
+    for &(first, second, expected) in &FAULTS {
         let mut disc = Disc::type1(alloc)?;
         disc.write(&[first, second])?;
-        let table = disc.known_but(alloc, &[])?;
-        assert_eq!(rt; stretches(alloc, &table, 0, 3)?.as_str(), expected);
+        assert_stretches(&rt, alloc, &disc, &[], expected)?;
     }
+    Ok(())
+}
+
+#[test]
+fn short_embedded_body(rt: HostRuntime) -> Result<(), Fail> {
+    let alloc = rt.alloc();
     let mut disc = Disc::type1(alloc)?;
     disc.write(&[(276, 56, &[3])])?;
     let table = disc.known_but(alloc, &[])?;
-    assert_eq!(rt; stretches(alloc, &table, 0, 4)?.as_str(), "fault 7 Short");
+    assert_text(&rt, stretches(alloc, &table, 0, 4)?, "fault 7 Short");
     Ok(())
 }

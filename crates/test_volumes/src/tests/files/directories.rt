@@ -1,27 +1,48 @@
 //! Directories.
 
 use super::told::{end, front, steps, within};
+use crate::tests::assert_text;
 use std::alloc::{AllocError, Global};
+use std::process::Abort;
 use std::test::Fail;
 use udfs_file::Pieces;
+use udfs_lattice::BlockTable;
 use udfs_samples::{Bytes, Disc};
+
+/// Where these blocks of a disc are not known, the root lists this.
+fn assert_front(
+    rt: &impl Abort,
+    alloc: Global,
+    disc: &Disc,
+    unread: &[u32],
+    expected: &str,
+) -> Result<(), Fail> {
+    let table = disc.known_but(alloc, unread)?;
+    assert_text(rt, front(alloc, &table, 0, 1)?, expected);
+    Ok(())
+}
 
 #[test]
 fn fronts(rt: HostRuntime) -> Result<(), Fail> {
     let alloc = rt.alloc();
+    let disc = Disc::type1(alloc)?;
+    assert_front(&rt, alloc, &disc, &[], "front A 0:3 B 0:4")?;
+    assert_front(&rt, alloc, &disc, &[274], "front missing 274")?;
+    let both = Disc::two_maps(alloc)?;
+    assert_front(&rt, alloc, &both, &[], "front A 0:3 B 1:0")
+}
+
+/// A file of 2 bytes is no directory.
+#[test]
+fn front_of_a_file(rt: HostRuntime) -> Result<(), Fail> {
+    let alloc = rt.alloc();
     let table = Disc::type1(alloc)?.known_but(alloc, &[])?;
-    assert_eq!(rt; front(alloc, &table, 0, 1)?.as_str(), "front A 0:3 B 0:4");
-    let unread = Disc::type1(alloc)?.known_but(alloc, &[274])?;
-    assert_eq!(rt; front(alloc, &unread, 0, 1)?.as_str(), "front missing 274");
-    let both = Disc::two_maps(alloc)?.known_but(alloc, &[])?;
-    assert_eq!(rt; front(alloc, &both, 0, 1)?.as_str(), "front A 0:3 B 1:0");
-    // A file of 2 bytes is no directory.
-    assert_eq!(rt; front(alloc, &table, 0, 4)?.as_str(), "front fault 12 Cut");
+    assert_text(&rt, front(alloc, &table, 0, 4)?, "front fault 12 Cut");
     Ok(())
 }
 
 /// The directory's block: two changes, and what the root then lists.
-const CHANGES: [(Bytes, Bytes, &str); 9] = [
+static CHANGES: [(Bytes, Bytes, &str); 9] = [
     // Deleted, and with a name that is none.
     ((274, 58, &[4]), (274, 78, &[9]), "front B 0:4"),
     ((274, 58, &[0]), (274, 78, &[9]), "front fault 11 Name"),
@@ -49,11 +70,10 @@ const CHANGES: [(Bytes, Bytes, &str); 9] = [
 #[test]
 fn changed_directories(rt: HostRuntime) -> Result<(), Fail> {
     let alloc = rt.alloc();
-    for (first, second, expected) in CHANGES {
+    for &(first, second, expected) in &CHANGES {
         let mut disc = Disc::type1(alloc)?;
         disc.write(&[first, second])?;
-        let table = disc.known_but(alloc, &[])?;
-        assert_eq!(rt; front(alloc, &table, 0, 1)?.as_str(), expected);
+        assert_front(&rt, alloc, &disc, &[], expected)?;
     }
     Ok(())
 }
@@ -72,12 +92,31 @@ fn longest_identifier(rt: HostRuntime) -> Result<(), Fail> {
         (274, 36, &[0xd8, 7]),
         (274, 2046, b"\x08A"),
     ])?;
-    let table = disc.known_but(alloc, &[])?;
-    assert_eq!(rt; front(alloc, &table, 0, 1)?.as_str(), "front A 0:3");
+    assert_front(&rt, alloc, &disc, &[], "front A 0:3")?;
     disc.write(&[(273, 56, &[4, 8]), (273, 176, &[4, 8]), (274, 36, &[0xd9])])?;
-    let longer = disc.known_but(alloc, &[])?;
-    assert_eq!(rt; front(alloc, &longer, 0, 1)?.as_str(), "front fault 12 Cut");
-    Ok(())
+    assert_front(&rt, alloc, &disc, &[], "front fault 12 Cut")
+}
+
+/// So many parts behind a word, and then this.
+fn repeated(alloc: Global, word: &str, part: &str, last: &str) -> Result<String, AllocError> {
+    let mut text = String::from_str(alloc, word)?;
+    for _ in 0..51 {
+        text.push_str(part)?;
+    }
+    text.push_str(last)?;
+    Ok(text)
+}
+
+/// Where these blocks of a disc are not known, the root lists 51 times the first file, and then this.
+fn assert_long_front(
+    rt: &impl Abort,
+    alloc: Global,
+    disc: &Disc,
+    unread: &[u32],
+    last: &str,
+) -> Result<(), Fail> {
+    let expected = repeated(alloc, "front", " A 0:3", last)?;
+    assert_front(rt, alloc, disc, unread, expected.as_str())
 }
 
 /// The tag of an identifier in logical block 2, and that of one in logical block 3.
@@ -114,28 +153,21 @@ fn in_blocks(alloc: Global, last_tag: &[u8; 16], second: u32) -> Result<Disc, Al
 fn identifiers_in_two_blocks(rt: HostRuntime) -> Result<(), Fail> {
     let alloc = rt.alloc();
     let disc = two_blocks(alloc, &TAGS[0])?;
-    let mut expected = format!(in alloc; "front")?;
-    for _ in 0..51 {
-        expected.push_str(" A 0:3")?;
-    }
-    let table = disc.known_but(alloc, &[])?;
-    let whole = front(alloc, &table, 0, 1)?;
-    assert_eq!(rt;
-        whole.as_str(),
-        format!(in alloc; "{expected} B 0:4")?.as_str()
-    );
-    let unread = disc.known_but(alloc, &[275])?;
-    let stopped = front(alloc, &unread, 0, 1)?;
-    assert_eq!(rt;
-        stopped.as_str(),
-        format!(in alloc; "{expected} missing 275")?.as_str()
-    );
-    let elsewhere = two_blocks(alloc, &TAGS[1])?.known_but(alloc, &[])?;
-    let broken = front(alloc, &elsewhere, 0, 1)?;
-    assert_eq!(rt;
-        broken.as_str(),
-        format!(in alloc; "{expected} fault 10 IdentifierTag")?.as_str()
-    );
+    assert_long_front(&rt, alloc, &disc, &[], " B 0:4")?;
+    assert_long_front(&rt, alloc, &disc, &[275], " missing 275")?;
+    let elsewhere = two_blocks(alloc, &TAGS[1])?;
+    assert_long_front(&rt, alloc, &elsewhere, &[], " fault 10 IdentifierTag")
+}
+
+/// Where at most so many entries are asked for, the root's front is this.
+fn assert_within(
+    rt: &impl Abort,
+    alloc: Global,
+    table: &BlockTable,
+    most: usize,
+    expected: &str,
+) -> Result<(), Fail> {
+    assert_text(rt, within(alloc, table, 1, most)?, expected);
     Ok(())
 }
 
@@ -143,28 +175,37 @@ fn identifiers_in_two_blocks(rt: HostRuntime) -> Result<(), Fail> {
 #[test]
 fn fronts_within(rt: HostRuntime) -> Result<(), Fail> {
     let alloc = rt.alloc();
-    let mut expected = format!(in alloc; "front")?;
-    for _ in 0..51 {
-        expected.push_str(" A 0:3")?;
-    }
+    let table = two_blocks(alloc, &TAGS[0])?.known_but(alloc, &[])?;
+    let whole = repeated(alloc, "front", " A 0:3", " B 0:4")?;
+    assert_within(&rt, alloc, &table, 52, whole.as_str())?;
+    assert_within(&rt, alloc, &table, 51, "too many entries")?;
+    assert_within(&rt, alloc, &table, 0, "too many entries")
+}
+
+/// The same where the second block is not known, and where the first is not.
+#[test]
+fn torn_fronts_within(rt: HostRuntime) -> Result<(), Fail> {
+    let alloc = rt.alloc();
     let disc = two_blocks(alloc, &TAGS[0])?;
-    let table = disc.known_but(alloc, &[])?;
-    let whole = within(alloc, &table, 1, 52)?;
-    assert_eq!(rt;
-        whole.as_str(),
-        format!(in alloc; "{expected} B 0:4")?.as_str()
-    );
-    assert_eq!(rt; within(alloc, &table, 1, 51)?.as_str(), "too many entries");
-    assert_eq!(rt; within(alloc, &table, 1, 0)?.as_str(), "too many entries");
     let unread = disc.known_but(alloc, &[275])?;
-    let stopped = within(alloc, &unread, 1, 51)?;
-    assert_eq!(rt;
-        stopped.as_str(),
-        format!(in alloc; "{expected} missing 275")?.as_str()
-    );
-    assert_eq!(rt; within(alloc, &unread, 1, 50)?.as_str(), "too many entries");
+    let stopped = repeated(alloc, "front", " A 0:3", " missing 275")?;
+    assert_within(&rt, alloc, &unread, 51, stopped.as_str())?;
+    assert_within(&rt, alloc, &unread, 50, "too many entries")?;
     let first = disc.known_but(alloc, &[274])?;
-    assert_eq!(rt; within(alloc, &first, 1, 0)?.as_str(), "front missing 274");
+    assert_within(&rt, alloc, &first, 0, "front missing 274")
+}
+
+/// Where these blocks of a disc are not known, this says whether the directory lists anything, and how it ends.
+fn assert_end(
+    rt: &impl Abort,
+    alloc: Global,
+    disc: &Disc,
+    unread: &[u32],
+    b: u32,
+    expected: &str,
+) -> Result<(), Fail> {
+    let table = disc.known_but(alloc, unread)?;
+    assert_text(rt, end(alloc, &table, b)?, expected);
     Ok(())
 }
 
@@ -173,29 +214,24 @@ fn fronts_within(rt: HostRuntime) -> Result<(), Fail> {
 fn ends(rt: HostRuntime) -> Result<(), Fail> {
     let alloc = rt.alloc();
     let mut disc = Disc::type1(alloc)?;
-    let table = disc.known_but(alloc, &[])?;
-    assert_eq!(rt; end(alloc, &table, 1)?.as_str(), "some");
-    assert_eq!(rt; end(alloc, &table, 4)?.as_str(), "none fault 12 Cut");
-    let unread = disc.known_but(alloc, &[274])?;
-    assert_eq!(rt; end(alloc, &unread, 1)?.as_str(), "none missing 274");
+    assert_end(&rt, alloc, &disc, &[], 1, "some")?;
+    assert_end(&rt, alloc, &disc, &[], 4, "none fault 12 Cut")?;
+    assert_end(&rt, alloc, &disc, &[274], 1, "none missing 274")?;
     // The first entry is deleted, and then the second too.
     disc.write(&[(274, 58, &[4])])?;
-    assert_eq!(rt;
-        end(alloc, &disc.known_but(alloc, &[])?, 1)?.as_str(),
-        "some"
-    );
+    assert_end(&rt, alloc, &disc, &[], 1, "some")?;
     disc.write(&[(274, 98, &[4])])?;
-    assert_eq!(rt;
-        end(alloc, &disc.known_but(alloc, &[])?, 1)?.as_str(),
-        "none"
-    );
+    assert_end(&rt, alloc, &disc, &[], 1, "none")
+}
+
+/// The same where a directory of two blocks is not known to its end, and where it is wrong there.
+#[test]
+fn ends_of_two_blocks(rt: HostRuntime) -> Result<(), Fail> {
+    let alloc = rt.alloc();
     let two = two_blocks(alloc, &TAGS[0])?;
-    let stopped = two.known_but(alloc, &[275])?;
-    assert_eq!(rt; end(alloc, &stopped, 1)?.as_str(), "some missing 275");
-    let broken = two_blocks(alloc, &TAGS[1])?.known_but(alloc, &[])?;
-    let fault = "some fault 10 IdentifierTag";
-    assert_eq!(rt; end(alloc, &broken, 1)?.as_str(), fault);
-    Ok(())
+    assert_end(&rt, alloc, &two, &[275], 1, "some missing 275")?;
+    let broken = two_blocks(alloc, &TAGS[1])?;
+    assert_end(&rt, alloc, &broken, &[], 1, "some fault 10 IdentifierTag")
 }
 
 /// A directory of zeros that are not recorded ends at its first byte, however long it is.
@@ -207,12 +243,7 @@ fn unrecorded_directory(rt: HostRuntime) -> Result<(), Fail> {
         (273, 56, &[0, 0xf8, 0xff, 0x3f]),
         (273, 176, &[0, 0xf8, 0xff, 0x7f]),
     ])?;
-    let table = disc.known_but(alloc, &[])?;
-    assert_eq!(rt;
-        front(alloc, &table, 0, 1)?.as_str(),
-        "front fault 10 IdentifierTag"
-    );
-    Ok(())
+    assert_front(&rt, alloc, &disc, &[], "front fault 10 IdentifierTag")
 }
 
 /// Two extents: logical block 2, and 32 bytes of logical block 10, which is block 282.
@@ -228,23 +259,9 @@ fn identifiers_in_two_extents(rt: HostRuntime) -> Result<(), Fail> {
     let alloc = rt.alloc();
     let mut disc = in_blocks(alloc, &TAGS[0], 282)?;
     disc.write(&APART)?;
-    let mut expected = format!(in alloc; "front")?;
-    for _ in 0..51 {
-        expected.push_str(" A 0:3")?;
-    }
-    let whole = front(alloc, &disc.known_but(alloc, &[])?, 0, 1)?;
-    assert_eq!(rt;
-        whole.as_str(),
-        format!(in alloc; "{expected} B 0:4")?.as_str()
-    );
-    let stopped = front(alloc, &disc.known_but(alloc, &[282])?, 0, 1)?;
-    assert_eq!(rt;
-        stopped.as_str(),
-        format!(in alloc; "{expected} missing 282")?.as_str()
-    );
-    let first = front(alloc, &disc.known_but(alloc, &[274])?, 0, 1)?;
-    assert_eq!(rt; first.as_str(), "front missing 274");
-    Ok(())
+    assert_long_front(&rt, alloc, &disc, &[], " B 0:4")?;
+    assert_long_front(&rt, alloc, &disc, &[282], " missing 282")?;
+    assert_front(&rt, alloc, &disc, &[274], "front missing 274")
 }
 
 /// An identifier whose last 32 bytes are not recorded: they are zeros, and so is the location in its tag, though
@@ -252,18 +269,12 @@ fn identifiers_in_two_extents(rt: HostRuntime) -> Result<(), Fail> {
 #[test]
 fn identifier_ends_in_zeros(rt: HostRuntime) -> Result<(), Fail> {
     let alloc = rt.alloc();
-    let mut expected = format!(in alloc; "front")?;
-    for _ in 0..51 {
-        expected.push_str(" A 0:3")?;
-    }
-    expected.push_str(" fault 10 IdentifierTag")?;
     for checksum in [6u8, 4] {
         let mut disc = in_blocks(alloc, &TAGS[0], 282)?;
         disc.write(&APART)?;
         disc.write(&[(273, 187, &[0x40])])?;
         disc.write_at(274, 2044, &[checksum])?;
-        let told = front(alloc, &disc.known_but(alloc, &[])?, 0, 1)?;
-        assert_eq!(rt; told.as_str(), expected.as_str());
+        assert_long_front(&rt, alloc, &disc, &[], " fault 10 IdentifierTag")?;
     }
     Ok(())
 }
@@ -282,9 +293,23 @@ fn embedded_directory(rt: HostRuntime) -> Result<(), Fail> {
             (273, 212, &[0, 0, 8, 65]),
         ])?;
         disc.write_tag(273, 176, 257, location)?;
-        let table = disc.known_but(alloc, &[])?;
-        assert_eq!(rt; front(alloc, &table, 0, 1)?.as_str(), expected);
+        assert_front(&rt, alloc, &disc, &[], expected)?;
     }
+    Ok(())
+}
+
+/// Where these blocks of a disc are not known, so many steps through the root are 51 identifiers, and then this.
+fn assert_steps(
+    rt: &impl Abort,
+    alloc: Global,
+    disc: &Disc,
+    unread: &[u32],
+    count: usize,
+    last: &str,
+) -> Result<(), Fail> {
+    let table = disc.known_but(alloc, unread)?;
+    let expected = repeated(alloc, "steps", " 40+0", last)?;
+    assert_text(rt, steps(alloc, &table, 1, count)?, expected.as_str());
     Ok(())
 }
 
@@ -292,27 +317,10 @@ fn embedded_directory(rt: HostRuntime) -> Result<(), Fail> {
 #[test]
 fn steps_in_two_blocks(rt: HostRuntime) -> Result<(), Fail> {
     let alloc = rt.alloc();
-    let mut expected = format!(in alloc; "steps")?;
-    for _ in 0..51 {
-        expected.push_str(" 40+0")?;
-    }
     let disc = two_blocks(alloc, &TAGS[0])?;
-    let whole = steps(alloc, &disc.known_but(alloc, &[])?, 1, 54)?;
-    assert_eq!(rt;
-        whole.as_str(),
-        format!(in alloc; "{expected} 8+32 end end")?.as_str()
-    );
-    let stopped = steps(alloc, &disc.known_but(alloc, &[275])?, 1, 53)?;
-    assert_eq!(rt;
-        stopped.as_str(),
-        format!(in alloc; "{expected} stop 275 stop 275")?.as_str()
-    );
+    assert_steps(&rt, alloc, &disc, &[], 54, " 8+32 end end")?;
+    assert_steps(&rt, alloc, &disc, &[275], 53, " stop 275 stop 275")?;
     let elsewhere = two_blocks(alloc, &TAGS[1])?;
-    let broken = steps(alloc, &elsewhere.known_but(alloc, &[])?, 1, 53)?;
-    let fault = "fault 10 IdentifierTag";
-    assert_eq!(rt;
-        broken.as_str(),
-        format!(in alloc; "{expected} {fault} {fault}")?.as_str()
-    );
-    Ok(())
+    let faults = " fault 10 IdentifierTag fault 10 IdentifierTag";
+    assert_steps(&rt, alloc, &elsewhere, &[], 53, faults)
 }

@@ -1,32 +1,51 @@
 //! The file set and entries.
 
 use super::told::{entry, laid_out, root};
+use crate::tests::{assert_same, assert_text};
+use std::alloc::Global;
+use std::process::Abort;
 use std::test::Fail;
 use udfs_file::faults::NodeFault;
 use udfs_file::file_sets::address_fault;
 use udfs_samples::{Bytes, Disc};
 use udfs_tag::LongAd;
 
+/// Where these blocks of a disc are not known, its file set says this.
+fn assert_root(
+    rt: &impl Abort,
+    alloc: Global,
+    disc: &Disc,
+    unread: &[u32],
+    expected: &str,
+) -> Result<(), Fail> {
+    let table = disc.known_but(alloc, unread)?;
+    assert_text(rt, root(alloc, &table)?, expected);
+    Ok(())
+}
+
 #[test]
 fn file_sets(rt: HostRuntime) -> Result<(), Fail> {
     let alloc = rt.alloc();
     let mut disc = Disc::type1(alloc)?;
-    let whole = disc.known_but(alloc, &[])?;
-    assert_eq!(rt; root(alloc, &whole)?.as_str(), "root 0:1");
-    let unread = disc.known_but(alloc, &[272])?;
-    assert_eq!(rt; root(alloc, &unread)?.as_str(), "holes 272");
+    assert_root(&rt, alloc, &disc, &[], "root 0:1")?;
+    assert_root(&rt, alloc, &disc, &[272], "holes 272")?;
     disc.write(&[(272, 0, &[1])])?;
-    let changed = disc.known_but(alloc, &[])?;
-    assert_eq!(rt; root(alloc, &changed)?.as_str(), "fault 16 FileSet");
-    let sparable = Disc::sparable(alloc)?.known_at(alloc, &[256, 32, 33, 34, 200, 400])?;
-    assert_eq!(rt; root(alloc, &sparable)?.as_str(), "root 0:1");
-    let moved = Disc::sparable(alloc)?.known_at(alloc, &[256, 32, 33, 34, 200, 272])?;
-    assert_eq!(rt; root(alloc, &moved)?.as_str(), "holes 400");
+    assert_root(&rt, alloc, &disc, &[], "fault 16 FileSet")
+}
+
+#[test]
+fn a_spared_file_set(rt: HostRuntime) -> Result<(), Fail> {
+    let alloc = rt.alloc();
+    let disc = Disc::sparable(alloc)?;
+    let sparable = disc.known_at(alloc, &[256, 32, 33, 34, 200, 400])?;
+    assert_text(&rt, root(alloc, &sparable)?, "root 0:1");
+    let moved = disc.known_at(alloc, &[256, 32, 33, 34, 200, 272])?;
+    assert_text(&rt, root(alloc, &moved)?, "holes 400");
     Ok(())
 }
 
 /// The file set's address: a change, and what is then said.
-const ADDRESSES: [(Bytes, &str); 5] = [
+static ADDRESSES: [(Bytes, &str); 5] = [
     ((32, 251, &[0x40]), "fault 16 FileSet"),
     ((32, 249, &[0]), "fault 16 FileSet"),
     ((32, 252, &[0x2c, 1]), "fault 16 FileSet"),
@@ -37,11 +56,10 @@ const ADDRESSES: [(Bytes, &str); 5] = [
 #[test]
 fn file_set_addresses(rt: HostRuntime) -> Result<(), Fail> {
     let alloc = rt.alloc();
-    for (change, expected) in ADDRESSES {
+    for &(change, expected) in &ADDRESSES {
         let mut disc = Disc::type1(alloc)?;
         disc.write(&[change])?;
-        let table = disc.known_but(alloc, &[])?;
-        assert_eq!(rt; root(alloc, &table)?.as_str(), expected);
+        assert_root(&rt, alloc, &disc, &[], expected)?;
     }
     Ok(())
 }
@@ -51,29 +69,33 @@ fn kinds(rt: HostRuntime) -> Result<(), Fail> {
     let alloc = rt.alloc();
     let disc = Disc::type1(alloc)?;
     let table = disc.known_but(alloc, &[])?;
-    assert_eq!(rt;
-        entry(alloc, &table, 0, 1)?.as_str(),
-        "directory 120 2001-07-04T09:30:00.000000Z"
+    assert_text(
+        &rt,
+        entry(alloc, &table, 0, 1)?,
+        "directory 120 2001-07-04T09:30:00.000000Z",
     );
-    assert_eq!(rt;
-        entry(alloc, &table, 0, 3)?.as_str(),
-        "file 5000 2001-07-04T09:30:00.000000Z"
+    assert_text(
+        &rt,
+        entry(alloc, &table, 0, 3)?,
+        "file 5000 2001-07-04T09:30:00.000000Z",
     );
-    assert_eq!(rt;
-        entry(alloc, &table, 0, 4)?.as_str(),
-        "file 2 2001-07-04T09:30:00.000000Z"
+    assert_text(
+        &rt,
+        entry(alloc, &table, 0, 4)?,
+        "file 2 2001-07-04T09:30:00.000000Z",
     );
-    assert_eq!(rt; entry(alloc, &table, 0, 2)?.as_str(), "fault 1 Tag");
+    assert_text(&rt, entry(alloc, &table, 0, 2)?, "fault 1 Tag");
     let both = Disc::two_maps(alloc)?.known_but(alloc, &[])?;
-    assert_eq!(rt;
-        entry(alloc, &both, 1, 0)?.as_str(),
-        "file 2 2001-07-04T09:30:00.000000Z"
+    assert_text(
+        &rt,
+        entry(alloc, &both, 1, 0)?,
+        "file 2 2001-07-04T09:30:00.000000Z",
     );
     Ok(())
 }
 
 /// The entry at logical block 3: a change, and what is then said.
-const CHANGES: [(Bytes, &str); 13] = [
+static CHANGES: [(Bytes, &str); 13] = [
     ((275, 27, &[12]), "link 5000 2001-07-04T09:30:00.000000Z"),
     ((275, 27, &[9]), "other-9 5000 2001-07-04T09:30:00.000000Z"),
     ((275, 86, &[0, 0]), "file 5000 invalid"),
@@ -95,11 +117,11 @@ const CHANGES: [(Bytes, &str); 13] = [
 #[test]
 fn entry_faults(rt: HostRuntime) -> Result<(), Fail> {
     let alloc = rt.alloc();
-    for (change, expected) in CHANGES {
+    for &(change, expected) in &CHANGES {
         let mut disc = Disc::type1(alloc)?;
         disc.write(&[change])?;
         let table = disc.known_but(alloc, &[])?;
-        assert_eq!(rt; entry(alloc, &table, 0, 3)?.as_str(), expected);
+        assert_text(&rt, entry(alloc, &table, 0, 3)?, expected);
     }
     Ok(())
 }
@@ -119,9 +141,10 @@ fn extended_entry(rt: HostRuntime) -> Result<(), Fail> {
         (275, 212, &[8]),
     ])?;
     let table = disc.known_but(alloc, &[])?;
-    assert_eq!(rt;
-        entry(alloc, &table, 0, 3)?.as_str(),
-        "file 7 2001-07-04T09:30:00.000000Z"
+    assert_text(
+        &rt,
+        entry(alloc, &table, 0, 3)?,
+        "file 7 2001-07-04T09:30:00.000000Z",
     );
     Ok(())
 }
@@ -140,17 +163,25 @@ fn addresses(rt: HostRuntime) -> Result<(), Fail> {
         assert!(rt; false);
         return Ok(());
     };
-    assert_eq!(rt; address_fault(&space, good), None);
+    assert_same(&rt, address_fault(&space, good), None);
     let kind = LongAd { kind: 1, ..good };
-    assert_eq!(rt; address_fault(&space, kind), Some(NodeFault::Reference));
+    assert_same(&rt, address_fault(&space, kind), Some(NodeFault::Reference));
     let empty = LongAd { length: 0, ..good };
-    assert_eq!(rt; address_fault(&space, empty), Some(NodeFault::Reference));
+    assert_same(
+        &rt,
+        address_fault(&space, empty),
+        Some(NodeFault::Reference),
+    );
     let other = LongAd {
         reference: 1,
         ..good
     };
-    assert_eq!(rt; address_fault(&space, other), Some(NodeFault::Reference));
+    assert_same(
+        &rt,
+        address_fault(&space, other),
+        Some(NodeFault::Reference),
+    );
     let past = LongAd { block: 300, ..good };
-    assert_eq!(rt; address_fault(&space, past), Some(NodeFault::Range));
+    assert_same(&rt, address_fault(&space, past), Some(NodeFault::Range));
     Ok(())
 }

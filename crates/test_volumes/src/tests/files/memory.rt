@@ -1,6 +1,7 @@
 //! Want of memory: `rt try --test --fail-alloc N` refuses the allocation with this number in each test.
 
 use super::told::laid_out;
+use crate::tests::assert_same;
 use std::test::Fail;
 use udfs_file::bodies::Body;
 use udfs_file::directories::Dir;
@@ -32,14 +33,14 @@ fn want_of_memory_is_told(rt: HostRuntime) -> Result<(), Fail> {
     let body = match Body::read(alloc, &table, &space, &entry, 0, 1) {
         Ok(body) => body,
         Err(error) => {
-            assert_eq!(rt; error, WalkError::OutOfMemory);
+            assert_same(&rt, error, WalkError::OutOfMemory);
             return Ok(());
         }
     };
     if let Ok(front) = Dir::front(alloc, &table, &space, &body) {
-        assert_eq!(rt; front.entries.len(), 2);
-        assert_eq!(rt; front.missing, None);
-        assert_eq!(rt; front.fault, None);
+        assert_same(&rt, front.entries.len(), 2);
+        assert_same(&rt, front.missing, None);
+        assert_same(&rt, front.fault, None);
     }
     Ok(())
 }

@@ -1,13 +1,16 @@
 //! Bodies whose last extent ends inside a block that goes on: a file that grew there may still have the old length.
 
 use super::told::{cells_by, stretches, stretches_by};
+use crate::tests::{assert_text, assert_text_in};
+use std::alloc::Global;
+use std::process::Abort;
 use std::test::Fail;
 use udfs_samples::{Bytes, Disc};
 use udfs_volume::Profile;
 
 /// The file at logical block 3, all known: its information length, the length of its descriptors and these, and what
 /// is then said of it by the strict rules and by the wide ones.
-const ROWS: [(Bytes, Bytes, &str, &str); 19] = [
+static ROWS: [(Bytes, Bytes, &str, &str); 19] = [
     // 5010 bytes, an extent of 5000: the third block goes on.
     (
         (275, 56, &[0x92, 0x13]),
@@ -176,18 +179,43 @@ const ROWS: [(Bytes, Bytes, &str, &str); 19] = [
     ),
 ];
 
+/// With these changes the file at logical block 3 has these stretches by the strict rules and those by the wide ones.
+fn assert_by_both(
+    rt: &impl Abort,
+    alloc: Global,
+    changes: &[Bytes],
+    strict: &str,
+    wide: &str,
+) -> Result<(), Fail> {
+    let mut disc = Disc::type1(alloc)?;
+    disc.write(changes)?;
+    let table = disc.known_but(alloc, &[])?;
+    assert_text_in(rt, stretches(alloc, &table, 0, 3)?, strict, changes);
+    let by_wide = stretches_by(alloc, &table, 0, 3, Profile::Wide)?;
+    assert_text_in(rt, by_wide, wide, changes);
+    Ok(())
+}
+
 #[test]
 fn last_extents(rt: HostRuntime) -> Result<(), Fail> {
-    let alloc = rt.alloc();
-    for (size, descriptors, strict, wide) in ROWS {
-        let mut disc = Disc::type1(alloc)?;
-        disc.write(&[size, descriptors])?;
-        let table = disc.known_but(alloc, &[])?;
-        let by_default = stretches(alloc, &table, 0, 3)?;
-        let by_wide = stretches_by(alloc, &table, 0, 3, Profile::Wide)?;
-        assert_eq!(rt; by_default.as_str(), strict, "{:?}", descriptors.2);
-        assert_eq!(rt; by_wide.as_str(), wide, "{:?}", descriptors.2);
+    for &(size, descriptors, strict, wide) in &ROWS {
+        assert_by_both(&rt, rt.alloc(), &[size, descriptors], strict, wide)?;
     }
+    Ok(())
+}
+
+/// Where these blocks of a disc are not known, the file at a logical block has these cells by a profile.
+fn assert_cells(
+    rt: &impl Abort,
+    alloc: Global,
+    disc: &Disc,
+    unread: &[u32],
+    b: u32,
+    profile: Profile,
+    expected: &str,
+) -> Result<(), Fail> {
+    let table = disc.known_but(alloc, unread)?;
+    assert_text(rt, cells_by(alloc, &table, 0, b, profile)?, expected);
     Ok(())
 }
 
@@ -201,15 +229,11 @@ fn bytes_of_the_last_block(rt: HostRuntime) -> Result<(), Fail> {
         (275, 56, &[0x92, 0x13]),
         (275, 172, &[16, 0, 0, 0, 0x88, 0x13, 0, 0, 5, 0, 0, 0, 0, 0]),
     ])?;
-    let table = disc.known_but(alloc, &[])?;
-    let whole = cells_by(alloc, &table, 0, 3, Profile::Wide)?;
-    assert_eq!(rt; whole.as_str(), "cells 61*2048 62*2048 63*914");
-    let strict = cells_by(alloc, &table, 0, 3, Profile::Strict)?;
-    assert_eq!(rt; strict.as_str(), "fault 9 Odd");
-    let torn = disc.known_but(alloc, &[279])?;
-    let part = cells_by(alloc, &torn, 0, 3, Profile::Wide)?;
-    assert_eq!(rt; part.as_str(), "cells 61*2048 62*2048 ?279*914");
-    Ok(())
+    let whole = "cells 61*2048 62*2048 63*914";
+    assert_cells(&rt, alloc, &disc, &[], 3, Profile::Wide, whole)?;
+    assert_cells(&rt, alloc, &disc, &[], 3, Profile::Strict, "fault 9 Odd")?;
+    let part = "cells 61*2048 62*2048 ?279*914";
+    assert_cells(&rt, alloc, &disc, &[279], 3, Profile::Wide, part)
 }
 
 /// A file whose descriptors go on in another block: the last extent there, and the one before it.
@@ -219,24 +243,16 @@ fn continued_last_extents(rt: HostRuntime) -> Result<(), Fail> {
     let mut disc = Disc::continued(alloc)?;
     // 4000 bytes: 2048, and then an extent of 1000.
     disc.write(&[(275, 56, &[0xa0, 0x0f]), (278, 24, &[0xe8, 3, 0, 0])])?;
-    let table = disc.known_but(alloc, &[])?;
-    let strict = cells_by(alloc, &table, 0, 3, Profile::Strict)?;
-    assert_eq!(rt; strict.as_str(), "fault 9 Odd");
-    let wide = cells_by(alloc, &table, 0, 3, Profile::Wide)?;
-    assert_eq!(rt; wide.as_str(), "cells 61*2048 63*1952");
+    assert_cells(&rt, alloc, &disc, &[], 3, Profile::Strict, "fault 9 Odd")?;
+    let wide = "cells 61*2048 63*1952";
+    assert_cells(&rt, alloc, &disc, &[], 3, Profile::Wide, wide)?;
     // Whether the block of the descriptors is known makes no fault.
     let unread = disc.known_but(alloc, &[278])?;
     let missing = stretches_by(alloc, &unread, 0, 3, Profile::Wide)?;
-    assert_eq!(rt;
-        missing.as_str(),
-        "body recorded 0:5+0 2048 missing 278 1952"
-    );
+    assert_text(&rt, missing, "body recorded 0:5+0 2048 missing 278 1952");
     // An extent of 1000 bytes, and then the continuation.
     disc.write(&[(275, 176, &[0xe8, 3, 0, 0])])?;
-    let middle = disc.known_but(alloc, &[])?;
-    let odd = cells_by(alloc, &middle, 0, 3, Profile::Wide)?;
-    assert_eq!(rt; odd.as_str(), "fault 9 Odd");
-    Ok(())
+    assert_cells(&rt, alloc, &disc, &[], 3, Profile::Wide, "fault 9 Odd")
 }
 
 /// Bytes that stand in the entry have no last extent.
@@ -244,12 +260,7 @@ fn continued_last_extents(rt: HostRuntime) -> Result<(), Fail> {
 fn embedded_bytes(rt: HostRuntime) -> Result<(), Fail> {
     let alloc = rt.alloc();
     let mut disc = Disc::type1(alloc)?;
-    let table = disc.known_but(alloc, &[])?;
-    let whole = cells_by(alloc, &table, 0, 4, Profile::Wide)?;
-    assert_eq!(rt; whole.as_str(), "cells 48*1 69*1");
+    assert_cells(&rt, alloc, &disc, &[], 4, Profile::Wide, "cells 48*1 69*1")?;
     disc.write(&[(276, 56, &[3])])?;
-    let longer = disc.known_but(alloc, &[])?;
-    let short = cells_by(alloc, &longer, 0, 4, Profile::Wide)?;
-    assert_eq!(rt; short.as_str(), "fault 7 Short");
-    Ok(())
+    assert_cells(&rt, alloc, &disc, &[], 4, Profile::Wide, "fault 7 Short")
 }

@@ -1,6 +1,7 @@
 //! Want of memory: `rt try --test --fail-alloc N` refuses the allocation with this number in each test.
 
 use super::said::space_of;
+use crate::tests::assert_same;
 use std::test::Fail;
 use udfs_samples::{Disc, LAST};
 use udfs_volume::Seen;
@@ -16,7 +17,7 @@ fn want_of_memory_is_told(rt: HostRuntime) -> Result<(), Fail> {
         return Ok(());
     };
     match space_of(alloc, &table, LAST) {
-        Seen::Got(space) => assert_eq!(rt; space.maps(), 2),
+        Seen::Got(space) => assert_same(&rt, space.maps(), 2),
         Seen::OutOfMemory => {}
         Seen::Holes(_) | Seen::Fault(_) => assert!(rt; false),
     }
@@ -34,7 +35,7 @@ fn want_of_memory_for_holes_is_told(rt: HostRuntime) -> Result<(), Fail> {
         return Ok(());
     };
     match space_of(alloc, &table, LAST) {
-        Seen::Holes(blocks) => assert_eq!(rt; blocks.as_slice(), [100, 200].as_slice()),
+        Seen::Holes(blocks) => assert_same(&rt, blocks.as_slice(), [100, 200].as_slice()),
         Seen::OutOfMemory => {}
         Seen::Got(_) | Seen::Fault(_) => assert!(rt; false),
     }

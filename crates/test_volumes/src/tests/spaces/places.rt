@@ -1,11 +1,24 @@
 //! Places of logical blocks, and what is known there.
 
-use super::said::{said, space_of};
+use super::said::{assert_place, said, space_of};
+use crate::tests::{assert_case, assert_same, assert_text};
+use std::process::Abort;
 use std::test::Fail;
-use udfs_lattice::Fact;
+use udfs_lattice::{BlockTable, Fact};
 use udfs_samples::{Disc, LAST};
-use udfs_space::View;
+use udfs_space::{Space, View};
 use udfs_volume::Seen;
+
+/// What is known of a logical block of the one partition: its first byte.
+fn logical(rt: &impl Abort, space: &Space, table: &BlockTable, block: u32) -> Fact<u8> {
+    assert_eq!(rt; space.maps(), 1);
+    assert!(rt; block < space.length(0), "{block}");
+    match space.logical(table, 0, block) {
+        Fact::Unknown => Fact::Unknown,
+        Fact::Known(bytes) => Fact::Known(bytes[0]),
+        Fact::Conflict => Fact::Conflict,
+    }
+}
 
 /// One anchor, the main sequence, the second copy of the sparing table and the spared packet.
 #[test]
@@ -18,8 +31,8 @@ fn one_copy_is_enough(rt: HostRuntime) -> Result<(), Fail> {
         return Ok(());
     };
     assert_eq!(rt; space.maps(), 1);
-    assert_eq!(rt; space.length(0), 300);
-    for (block, want) in [
+    assert_same(&rt, space.length(0), 300);
+    static PLACES: [(u32, Option<u32>); 7] = [
         (0, Some(400)),
         (7, Some(407)),
         (31, Some(431)),
@@ -27,17 +40,16 @@ fn one_copy_is_enough(rt: HostRuntime) -> Result<(), Fail> {
         (299, Some(571)),
         (300, None),
         (u32::MAX, None),
-    ] {
-        assert_eq!(rt; space.place(0, block), want, "{block}");
-        assert_eq!(rt; space.place(1, block), None, "{block}");
+    ];
+    for &(block, want) in &PLACES {
+        assert_place(&rt, &space, 0, block, want);
+        assert_place(&rt, &space, 1, block, None);
     }
     for block in 0..8 {
-        assert!(rt;
-            matches!(space.logical(&table, 0, block), Fact::Known(_)),
-            "{block}"
-        );
+        let is_known = matches!(logical(&rt, &space, &table, block), Fact::Known(_));
+        assert_case(&rt, is_known, block);
     }
-    assert!(rt; matches!(space.logical(&table, 0, 8), Fact::Unknown));
+    assert_same(&rt, logical(&rt, &space, &table, 8), Fact::Unknown);
     Ok(())
 }
 
@@ -56,11 +68,29 @@ fn last_block_of_a_packet(rt: HostRuntime) -> Result<(), Fail> {
     let mut disc = Disc::sparable(alloc)?;
     far_away(&mut disc)?;
     let table = disc.known_at(alloc, &[256, 32, 33, 34, 100])?;
-    assert_eq!(rt; said(alloc, &table, 500_031)?.as_str(), "ok 1024");
-    assert_eq!(rt;
-        said(alloc, &table, 500_030)?.as_str(),
-        "fault 15 MappedRange"
-    );
+    assert_text(&rt, said(alloc, &table, 500_031)?, "ok 1024");
+    assert_text(&rt, said(alloc, &table, 500_030)?, "fault 15 MappedRange");
+    Ok(())
+}
+
+/// The packet behind the spared one and the one before it stay in their places.
+#[test]
+fn places_about_a_spared_packet(rt: HostRuntime) -> Result<(), Fail> {
+    let alloc = rt.alloc();
+    let mut disc = Disc::sparable(alloc)?;
+    far_away(&mut disc)?;
+    let table = disc.known_at(alloc, &[256, 32, 33, 34, 100])?;
+    let Seen::Got(space) = space_of(alloc, &table, 500_031) else {
+        assert!(rt; false);
+        return Ok(());
+    };
+    assert_eq!(rt; space.maps(), 1);
+    assert_same(&rt, space.length(0), 4096);
+    assert_place(&rt, &space, 0, 63, Some(1087));
+    assert_place(&rt, &space, 0, 64, Some(500_000));
+    assert_place(&rt, &space, 0, 70, Some(500_006));
+    assert_place(&rt, &space, 0, 95, Some(500_031));
+    assert_place(&rt, &space, 0, 96, Some(1120));
     Ok(())
 }
 
@@ -76,32 +106,28 @@ fn old_place_is_not_read(rt: HostRuntime) -> Result<(), Fail> {
         assert!(rt; false);
         return Ok(());
     };
-    assert_eq!(rt; space.maps(), 1);
-    assert_eq!(rt; space.length(0), 4096);
-    assert_eq!(rt; space.place(0, 63), Some(1087));
-    assert_eq!(rt; space.place(0, 64), Some(500_000));
-    assert_eq!(rt; space.place(0, 70), Some(500_006));
-    assert_eq!(rt; space.place(0, 95), Some(500_031));
-    assert_eq!(rt; space.place(0, 96), Some(1120));
-    assert!(rt; matches!(space.logical(&table, 0, 70), Fact::Unknown));
+    assert_same(&rt, logical(&rt, &space, &table, 70), Fact::Unknown);
     table.put(500_006, &[0xbb; 2048])?;
-    let Fact::Known(bytes) = space.logical(&table, 0, 70) else {
-        assert!(rt; false);
-        return Ok(());
-    };
-    assert_eq!(rt; bytes[0], 0xbb);
+    assert_same(&rt, logical(&rt, &space, &table, 70), Fact::Known(0xbb));
     Ok(())
 }
 
+/// So many blocks from a logical block on go past the partition's end, or do not.
+fn assert_past(rt: &impl Abort, space: &Space, run: (u16, u32, u32), want: bool) {
+    let (reference, block, count) = run;
+    let past = space.is_past(reference, block, count);
+    assert_eq!(rt; past, want, "{reference} {block} {count}");
+}
+
 #[test]
-fn runs_and_wide_numbers(rt: HostRuntime) -> Result<(), Fail> {
+fn runs_past_the_end(rt: HostRuntime) -> Result<(), Fail> {
     let alloc = rt.alloc();
     let table = Disc::sparable(alloc)?.known_but(alloc, &[401])?;
     let Seen::Got(space) = space_of(alloc, &table, LAST) else {
         assert!(rt; false);
         return Ok(());
     };
-    for (reference, block, count, want) in [
+    static RUNS: [(u16, u32, u32, bool); 9] = [
         (0, 0, 300, false),
         (0, 0, 301, true),
         (0, 1, 300, true),
@@ -111,19 +137,52 @@ fn runs_and_wide_numbers(rt: HostRuntime) -> Result<(), Fail> {
         (0, u32::MAX, u32::MAX, true),
         (1, 0, 0, false),
         (1, 0, 1, true),
-    ] {
-        let past = space.is_past(reference, block, count);
-        assert_eq!(rt; past, want, "{reference} {block} {count}");
+    ];
+    for &(reference, block, count, want) in &RUNS {
+        assert_past(&rt, &space, (reference, block, count), want);
     }
-    assert!(rt; matches!(space.block_at(&table, 0, 0), Some((400, Fact::Known(_)))));
-    assert!(rt; matches!(space.block_at(&table, 0, 1), Some((401, Fact::Unknown))));
-    assert!(rt; space.block_at(&table, 0, 300).is_none());
-    assert!(rt; space.block_at(&table, 0, 4_294_967_296).is_none());
-    assert!(rt; space.block_at(&table, 1, 0).is_none());
     Ok(())
 }
 
-/// Blocks that stand one behind the other, and which of them are unknown. The packet at 0 stands at 400.
+#[test]
+fn blocks_at_wide_numbers(rt: HostRuntime) -> Result<(), Fail> {
+    let alloc = rt.alloc();
+    let table = Disc::sparable(alloc)?.known_but(alloc, &[401])?;
+    let Seen::Got(space) = space_of(alloc, &table, LAST) else {
+        assert!(rt; false);
+        return Ok(());
+    };
+    assert_case(
+        &rt,
+        matches!(space.block_at(&table, 0, 0), Some((400, Fact::Known(_)))),
+        0,
+    );
+    assert_case(
+        &rt,
+        matches!(space.block_at(&table, 0, 1), Some((401, Fact::Unknown))),
+        1,
+    );
+    assert_case(&rt, space.block_at(&table, 0, 300).is_none(), 300);
+    assert_case(
+        &rt,
+        space.block_at(&table, 0, 4_294_967_296).is_none(),
+        4_294_967_296u64,
+    );
+    assert_case(&rt, space.block_at(&table, 1, 0).is_none(), 0);
+    Ok(())
+}
+
+/// So many blocks from a logical block on stand one behind the other.
+fn assert_beside(rt: &impl Abort, space: &Space, reference: u16, block: u32, want: u32) {
+    assert_eq!(rt; space.beside(reference, block), want, "{reference} {block}");
+}
+
+/// A logical block stands here, and so many from it on are unknown.
+fn assert_ahead(rt: &impl Abort, view: View, block: u64, want: Option<(u32, u32)>) {
+    assert_eq!(rt; view.unknown_ahead(0, block), want, "{block}");
+}
+
+/// Blocks that stand one behind the other. The packet at 0 stands at 400.
 #[test]
 fn blocks_one_behind_the_other(rt: HostRuntime) -> Result<(), Fail> {
     let alloc = rt.alloc();
@@ -132,7 +191,7 @@ fn blocks_one_behind_the_other(rt: HostRuntime) -> Result<(), Fail> {
         assert!(rt; false);
         return Ok(());
     };
-    for (reference, block, want) in [
+    static BESIDE: [(u16, u32, u32); 8] = [
         (0, 0, 32),
         (0, 31, 1),
         (0, 32, 32),
@@ -141,14 +200,27 @@ fn blocks_one_behind_the_other(rt: HostRuntime) -> Result<(), Fail> {
         (0, 300, 0),
         (0, u32::MAX, 0),
         (1, 0, 0),
-    ] {
-        assert_eq!(rt; space.beside(reference, block), want, "{reference} {block}");
+    ];
+    for &(reference, block, want) in &BESIDE {
+        assert_beside(&rt, &space, reference, block, want);
     }
+    Ok(())
+}
+
+/// Unknown blocks that stand one behind the other.
+#[test]
+fn unknown_blocks_ahead(rt: HostRuntime) -> Result<(), Fail> {
+    let alloc = rt.alloc();
+    let table = Disc::sparable(alloc)?.known_but(alloc, &[402, 403, 431, 560, 561, 562, 563])?;
+    let Seen::Got(space) = space_of(alloc, &table, LAST) else {
+        assert!(rt; false);
+        return Ok(());
+    };
     let view = View {
         table: &table,
         space: &space,
     };
-    for (block, want) in [
+    static AHEAD: [(u64, Option<(u32, u32)>); 7] = [
         (1, Some((401, 0))),
         (2, Some((402, 2))),
         (3, Some((403, 1))),
@@ -156,9 +228,10 @@ fn blocks_one_behind_the_other(rt: HostRuntime) -> Result<(), Fail> {
         (288, Some((560, 4))),
         (300, None),
         (4_294_967_298, None),
-    ] {
-        assert_eq!(rt; view.unknown_ahead(0, block), want, "{block}");
+    ];
+    for &(block, want) in &AHEAD {
+        assert_ahead(&rt, view, block, want);
     }
-    assert_eq!(rt; view.unknown_ahead(1, 2), None);
+    assert_same(&rt, view.unknown_ahead(1, 2), None);
     Ok(())
 }

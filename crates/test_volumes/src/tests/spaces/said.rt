@@ -3,6 +3,7 @@
 ghost use Rattle.std.specs.Prelude.{◌≤◌};
 
 use std::alloc::Global;
+use std::process::Abort;
 use std::test::Fail;
 use udfs_lattice::BlockTable;
 use udfs_samples::{Disc, LAST};
@@ -29,6 +30,11 @@ pub fn space_by(alloc: Global, table: &BlockTable, last: u32, profile: Profile) 
         Seen::Fault(fault) => Seen::Fault(fault),
         Seen::OutOfMemory => Seen::OutOfMemory,
     }
+}
+
+/// A logical block stands in this place.
+pub fn assert_place(rt: &impl Abort, space: &Space, reference: u16, block: u32, want: Option<u32>) {
+    assert_eq!(rt; space.place(reference, block), want, "{reference} {block}");
 }
 
 /// What is said of the disc with all blocks known.

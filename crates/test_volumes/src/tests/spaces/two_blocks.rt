@@ -1,6 +1,7 @@
 //! A sparing table of two blocks, whose blocks come from either copy.
 
 use super::said::said;
+use crate::tests::assert_text_in;
 use std::alloc::Global;
 use std::test::Fail;
 use udfs_samples::{Disc, LAST};
@@ -25,7 +26,7 @@ fn with_two_blocks(alloc: Global) -> Result<Disc, Fail> {
 fn each_block_from_its_first_known_copy(rt: HostRuntime) -> Result<(), Fail> {
     let alloc = rt.alloc();
     let disc = with_two_blocks(alloc)?;
-    for (unread, want) in [
+    static CASES: [([u32; 4], &str); 8] = [
         ([0, 0, 0, 0], "ok 400"),
         ([100, 0, 0, 0], "ok 400"),
         ([100, 201, 0, 0], "ok 400"),
@@ -34,10 +35,10 @@ fn each_block_from_its_first_known_copy(rt: HostRuntime) -> Result<(), Fail> {
         ([101, 201, 0, 0], "holes 101 201"),
         ([100, 200, 0, 0], "holes 100 200"),
         ([200, 101, 201, 100], "holes 100 101 200 201"),
-    ] {
+    ];
+    for &(unread, want) in &CASES {
         let table = disc.known_but(alloc, &unread)?;
-        let said = said(alloc, &table, LAST)?;
-        assert_eq!(rt; said.as_str(), want, "{unread:?}");
+        assert_text_in(&rt, said(alloc, &table, LAST)?, want, unread);
     }
     Ok(())
 }

@@ -1,6 +1,7 @@
 //! A volume with two maps, in either order.
 
-use super::said::{said, space_of};
+use super::said::{assert_place, said, space_of};
+use crate::tests::{assert_same, assert_text};
 use std::test::Fail;
 use udfs_samples::{Disc, LAST};
 use udfs_volume::Seen;
@@ -10,16 +11,16 @@ fn places_of_both(rt: HostRuntime) -> Result<(), Fail> {
     let alloc = rt.alloc();
     let disc = Disc::two_maps(alloc)?;
     let table = disc.known_at(alloc, &[256, 32, 33, 34, 35])?;
-    assert_eq!(rt; said(alloc, &table, LAST)?.as_str(), "holes 100 200");
+    assert_text(&rt, said(alloc, &table, LAST)?, "holes 100 200");
     let table = disc.known_at(alloc, &[256, 32, 33, 34, 35, 200])?;
     let Seen::Got(space) = space_of(alloc, &table, LAST) else {
         assert!(rt; false);
         return Ok(());
     };
     assert_eq!(rt; space.maps(), 2);
-    assert_eq!(rt; space.length(0), 100);
-    assert_eq!(rt; space.length(1), 100);
-    for (reference, block, want) in [
+    assert_same(&rt, space.length(0), 100);
+    assert_same(&rt, space.length(1), 100);
+    static PLACES: [(u16, u32, Option<u32>); 10] = [
         (0, 0, Some(272)),
         (0, 4, Some(276)),
         (0, 99, Some(371)),
@@ -30,8 +31,9 @@ fn places_of_both(rt: HostRuntime) -> Result<(), Fail> {
         (1, 99, Some(499)),
         (1, 100, None),
         (2, 0, None),
-    ] {
-        assert_eq!(rt; space.place(reference, block), want, "{reference} {block}");
+    ];
+    for &(reference, block, want) in &PLACES {
+        assert_place(&rt, &space, reference, block, want);
     }
     Ok(())
 }
@@ -50,10 +52,10 @@ fn sparable_first(rt: HostRuntime) -> Result<(), Fail> {
         assert!(rt; false);
         return Ok(());
     };
-    assert_eq!(rt; space.maps(), 2);
-    assert_eq!(rt; space.place(0, 0), Some(520));
-    assert_eq!(rt; space.place(0, 32), Some(432));
-    assert_eq!(rt; space.place(1, 0), Some(272));
-    assert_eq!(rt; space.place(1, 99), Some(371));
+    assert_same(&rt, space.maps(), 2);
+    assert_place(&rt, &space, 0, 0, Some(520));
+    assert_place(&rt, &space, 0, 32, Some(432));
+    assert_place(&rt, &space, 1, 0, Some(272));
+    assert_place(&rt, &space, 1, 99, Some(371));
     Ok(())
 }

@@ -1,5 +1,6 @@
 //! Want of memory: `rt try --test --fail-alloc N` refuses the allocation with this number in each test.
 
+use crate::tests::assert_same;
 use std::test::Fail;
 use udfs_samples::{Disc, LAST};
 use udfs_volume::layouts::layout;
@@ -16,7 +17,7 @@ fn want_of_memory_is_told(rt: HostRuntime) -> Result<(), Fail> {
         return Ok(());
     };
     match layout(alloc, &table, LAST) {
-        Seen::Got(parts) => assert_eq!(rt; parts.partitions.len(), 2),
+        Seen::Got(parts) => assert_same(&rt, parts.partitions.len(), 2),
         Seen::OutOfMemory => {}
         Seen::Holes(_) | Seen::Fault(_) => assert!(rt; false),
     }

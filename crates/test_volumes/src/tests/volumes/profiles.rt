@@ -1,13 +1,16 @@
 //! What the strict rules and the wide ones say of a volume with one sparable map.
 
 use super::said::{said, said_by};
+use crate::tests::{assert_same, assert_text_in};
+use std::alloc::Global;
+use std::process::Abort;
 use std::test::Fail;
 use udfs_samples::{Bytes, Disc};
 use udfs_volume::Profile;
 
 /// With all blocks known: a change of the revision or of the packets, what the layout is by the strict rules,
 /// and by the wide ones.
-const CHANGES: [(Bytes, &str, &str); 13] = [
+static CHANGES: [(Bytes, &str, &str); 13] = [
     (
         (32, 240, &[2, 1]),
         "fault 5 Domain",
@@ -55,19 +58,27 @@ const CHANGES: [(Bytes, &str, &str); 13] = [
     ((32, 480, &[0]), "fault 8 MapKind", "fault 8 MapKind"),
 ];
 
+/// With this change the layout says this by the strict rules, and that by the wide ones.
+fn assert_by_both(
+    rt: &impl Abort,
+    alloc: Global,
+    change: Bytes,
+    strict: &str,
+    wide: &str,
+) -> Result<(), Fail> {
+    let mut disc = Disc::sparable(alloc)?;
+    disc.write(&[change])?;
+    let table = disc.known_but(alloc, &[])?;
+    assert_text_in(rt, said(alloc, &table)?, strict, change);
+    assert_text_in(rt, said_by(alloc, &table, Profile::Strict)?, strict, change);
+    assert_text_in(rt, said_by(alloc, &table, Profile::Wide)?, wide, change);
+    Ok(())
+}
+
 #[test]
 fn both_rules(rt: HostRuntime) -> Result<(), Fail> {
-    let alloc = rt.alloc();
-    for ((n, at, bytes), strict, wide) in CHANGES {
-        let mut disc = Disc::sparable(alloc)?;
-        disc.write(&[(n, at, bytes)])?;
-        let table = disc.known_but(alloc, &[])?;
-        let by_default = said(alloc, &table)?;
-        let by_strict = said_by(alloc, &table, Profile::Strict)?;
-        let by_wide = said_by(alloc, &table, Profile::Wide)?;
-        assert_eq!(rt; by_default.as_str(), strict, "{n}: {at} is {bytes:?}");
-        assert_eq!(rt; by_strict.as_str(), strict, "{n}: {at} is {bytes:?}");
-        assert_eq!(rt; by_wide.as_str(), wide, "{n}: {at} is {bytes:?}");
+    for &(change, strict, wide) in &CHANGES {
+        assert_by_both(&rt, rt.alloc(), change, strict, wide)?;
     }
     Ok(())
 }
@@ -75,7 +86,7 @@ fn both_rules(rt: HostRuntime) -> Result<(), Fail> {
 /// The rules themselves, number by number.
 #[test]
 fn accepted_numbers(rt: HostRuntime) -> Result<(), Fail> {
-    for (revision, strict, wide) in [
+    static REVISIONS: [(u16, bool, bool); 8] = [
         (0x0102, false, true),
         (0x0150, true, true),
         (0x0200, false, true),
@@ -84,11 +95,12 @@ fn accepted_numbers(rt: HostRuntime) -> Result<(), Fail> {
         (0x0250, false, false),
         (0x0260, false, false),
         (0, false, false),
-    ] {
-        assert_eq!(rt; Profile::Strict.accepts_revision(revision), strict);
-        assert_eq!(rt; Profile::Wide.accepts_revision(revision), wide);
+    ];
+    for &(revision, strict, wide) in &REVISIONS {
+        assert_same(&rt, Profile::Strict.accepts_revision(revision), strict);
+        assert_same(&rt, Profile::Wide.accepts_revision(revision), wide);
     }
-    for (packet, strict, wide) in [
+    static PACKETS: [(u16, bool, bool); 10] = [
         (0, false, false),
         (1, false, true),
         (3, false, false),
@@ -99,9 +111,10 @@ fn accepted_numbers(rt: HostRuntime) -> Result<(), Fail> {
         (128, false, true),
         (256, false, false),
         (0x2000, false, false),
-    ] {
-        assert_eq!(rt; Profile::Strict.accepts_packet(packet), strict);
-        assert_eq!(rt; Profile::Wide.accepts_packet(packet), wide);
+    ];
+    for &(packet, strict, wide) in &PACKETS {
+        assert_same(&rt, Profile::Strict.accepts_packet(packet), strict);
+        assert_same(&rt, Profile::Wide.accepts_packet(packet), wide);
     }
     assert!(rt; !Profile::Strict.takes_tail());
     assert!(rt; Profile::Wide.takes_tail());

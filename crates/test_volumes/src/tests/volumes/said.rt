@@ -1,10 +1,12 @@
 //! What the layouts of sample volumes say, as texts.
 
+use crate::tests::assert_text_in;
 use std::alloc::{AllocError, Global};
+use std::process::Abort;
 use std::test::Fail;
 use udfs_lattice::BlockTable;
 use udfs_osta::Label;
-use udfs_samples::{Disc, LAST};
+use udfs_samples::{Bytes, Disc, LAST};
 use udfs_volume::layouts::{layout, layout_by};
 use udfs_volume::maps::PartitionMap;
 use udfs_volume::seen::Seen;
@@ -14,6 +16,19 @@ use udfs_volume::{Profile, VolumeParts};
 pub fn said_of(alloc: Global, disc: &Disc) -> Result<String, Fail> {
     let table = disc.known_but(alloc, &[])?;
     said(alloc, &table)
+}
+
+/// With this change the disc says this, with all blocks known.
+pub fn assert_changed(
+    rt: &impl Abort,
+    alloc: Global,
+    mut disc: Disc,
+    change: Bytes,
+    want: &str,
+) -> Result<(), Fail> {
+    disc.write(&[change])?;
+    assert_text_in(rt, said_of(alloc, &disc)?, want, change);
+    Ok(())
 }
 
 /// What the layout says: `ok`, the revision and the maps, or holes, or a fault with its number.

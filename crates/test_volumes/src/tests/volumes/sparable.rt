@@ -1,6 +1,7 @@
 //! A volume with one sparable map, and its changes.
 
-use super::said::{said, said_of};
+use super::said::{assert_changed, said};
+use crate::tests::{assert_same, assert_text};
 use std::test::Fail;
 use udfs_samples::{Bytes, Disc, LAST};
 use udfs_volume::layouts::layout;
@@ -8,7 +9,7 @@ use udfs_volume::maps::PartitionMap;
 use udfs_volume::seen::Seen;
 
 /// With all blocks known: a change, and what the layout then says.
-const CHANGES: [(Bytes, &str); 17] = [
+static CHANGES: [(Bytes, &str); 17] = [
     ((32, 480, &[0x20]), "ok revision 1.50 map sparable 32"),
     ((32, 480, &[0x10]), "ok revision 1.50 map sparable 16"),
     ((32, 480, &[8]), "fault 8 MapKind"),
@@ -31,11 +32,8 @@ const CHANGES: [(Bytes, &str); 17] = [
 #[test]
 fn changes(rt: HostRuntime) -> Result<(), Fail> {
     let alloc = rt.alloc();
-    for ((n, at, bytes), want) in CHANGES {
-        let mut disc = Disc::sparable(alloc)?;
-        disc.write(&[(n, at, bytes)])?;
-        let said = said_of(alloc, &disc)?;
-        assert_eq!(rt; said.as_str(), want, "{n}: {at} is {bytes:?}");
+    for &(change, want) in &CHANGES {
+        assert_changed(&rt, alloc, Disc::sparable(alloc)?, change, want)?;
     }
     Ok(())
 }
@@ -48,17 +46,17 @@ fn layout_of_one_sparable_map(rt: HostRuntime) -> Result<(), Fail> {
         assert!(rt; false);
         return Ok(());
     };
-    assert_eq!(rt; parts.partitions.len(), 1);
+    assert_same(&rt, parts.partitions.len(), 1);
     for partition in &parts.partitions {
-        assert_eq!(rt; partition.start, 272);
-        assert_eq!(rt; partition.length, 300);
+        assert_same(&rt, partition.start, 272);
+        assert_same(&rt, partition.length, 300);
         let PartitionMap::Sparable(map) = &partition.kind else {
             assert!(rt; false);
             return Ok(());
         };
-        assert_eq!(rt; map.packet, 32);
-        assert_eq!(rt; map.size, 2048);
-        assert_eq!(rt; map.tables.as_slice(), [100, 200].as_slice());
+        assert_same(&rt, map.packet, 32);
+        assert_same(&rt, map.size, 2048);
+        assert_same(&rt, map.tables.as_slice(), [100, 200].as_slice());
     }
     Ok(())
 }
@@ -68,9 +66,10 @@ fn layout_of_one_sparable_map(rt: HostRuntime) -> Result<(), Fail> {
 fn tables_are_not_read(rt: HostRuntime) -> Result<(), Fail> {
     let alloc = rt.alloc();
     let table = Disc::sparable(alloc)?.known_but(alloc, &[100, 200])?;
-    assert_eq!(rt;
-        said(alloc, &table)?.as_str(),
-        "ok revision 1.50 map sparable 32"
+    assert_text(
+        &rt,
+        said(alloc, &table)?,
+        "ok revision 1.50 map sparable 32",
     );
     Ok(())
 }

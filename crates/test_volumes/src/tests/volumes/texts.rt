@@ -1,11 +1,12 @@
 //! The texts of faults, as a report prints them.
 
+use crate::tests::{assert_same, assert_text};
 use std::test::Fail;
 use udfs_volume::faults::VolumeFault;
 
 #[test]
 fn fault_texts(rt: HostRuntime) -> Result<(), Fail> {
-    for (fault, number, text) in [
+    static TEXTS: [(VolumeFault, u8, &str); 16] = [
         (VolumeFault::NoAnchor, 1, "NoAnchor"),
         (VolumeFault::Extents, 2, "Extents"),
         (VolumeFault::Pointer, 3, "Pointer"),
@@ -22,9 +23,10 @@ fn fault_texts(rt: HostRuntime) -> Result<(), Fail> {
         (VolumeFault::SparingOrder, 14, "SparingOrder"),
         (VolumeFault::MappedRange, 15, "MappedRange"),
         (VolumeFault::FileSet, 16, "FileSet"),
-    ] {
-        assert_eq!(rt; fault as u8, number);
-        assert_eq!(rt; format!(in rt.alloc(); "{fault}")?.as_str(), text);
+    ];
+    for &(fault, number, text) in &TEXTS {
+        assert_same(&rt, fault as u8, number);
+        assert_text(&rt, format!(in rt.alloc(); "{fault}")?, text);
     }
     Ok(())
 }

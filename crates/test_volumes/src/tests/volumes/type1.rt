@@ -1,6 +1,7 @@
 //! A volume with one map of type 1, and its changes.
 
-use super::said::{label, said, said_of};
+use super::said::{assert_changed, label, said, said_of};
+use crate::tests::{assert_same, assert_text, assert_text_in};
 use std::test::Fail;
 use udfs_samples::{Bytes, Disc, LAST};
 use udfs_volume::layouts::layout;
@@ -8,7 +9,7 @@ use udfs_volume::maps::PartitionMap;
 use udfs_volume::seen::Seen;
 
 /// With all blocks known: a change, and what the layout then says.
-const CHANGES: [(Bytes, &str); 21] = [
+static CHANGES: [(Bytes, &str); 21] = [
     ((32, 240, &[0x50, 1]), "ok revision 1.50 map type1"),
     ((32, 240, &[1, 2]), "ok revision 2.01 map type1"),
     ((32, 240, &[2, 1]), "fault 5 Domain"),
@@ -38,11 +39,8 @@ const CHANGES: [(Bytes, &str); 21] = [
 #[test]
 fn changes(rt: HostRuntime) -> Result<(), Fail> {
     let alloc = rt.alloc();
-    for ((n, at, bytes), want) in CHANGES {
-        let mut disc = Disc::type1(alloc)?;
-        disc.write(&[(n, at, bytes)])?;
-        let said = said_of(alloc, &disc)?;
-        assert_eq!(rt; said.as_str(), want, "{n}: {at} is {bytes:?}");
+    for &(change, want) in &CHANGES {
+        assert_changed(&rt, alloc, Disc::type1(alloc)?, change, want)?;
     }
     Ok(())
 }
@@ -52,9 +50,9 @@ fn no_anchor(rt: HostRuntime) -> Result<(), Fail> {
     let alloc = rt.alloc();
     let mut disc = Disc::type1(alloc)?;
     disc.write(&[(256, 0, &[3]), (600, 12, &[0x57])])?;
-    assert_eq!(rt; said_of(alloc, &disc)?.as_str(), "fault 1 NoAnchor");
+    assert_text(&rt, said_of(alloc, &disc)?, "fault 1 NoAnchor");
     let table = disc.known_but(alloc, &[344])?;
-    assert_eq!(rt; said(alloc, &table)?.as_str(), "holes 344");
+    assert_text(&rt, said(alloc, &table)?, "holes 344");
     Ok(())
 }
 
@@ -66,17 +64,17 @@ fn half_of_each_copy_is_enough(rt: HostRuntime) -> Result<(), Fail> {
         assert!(rt; false);
         return Ok(());
     };
-    assert_eq!(rt; parts.last, 600);
-    assert_eq!(rt; parts.revision, 0x0150);
-    assert_eq!(rt; parts.file_set.kind, 0);
-    assert_eq!(rt; parts.file_set.length, 2048);
-    assert_eq!(rt; parts.file_set.block, 0);
-    assert_eq!(rt; parts.file_set.reference, 0);
-    assert_eq!(rt; parts.partitions.len(), 1);
+    assert_same(&rt, parts.last, 600);
+    assert_same(&rt, parts.revision, 0x0150);
+    assert_same(&rt, parts.file_set.kind, 0);
+    assert_same(&rt, parts.file_set.length, 2048);
+    assert_same(&rt, parts.file_set.block, 0);
+    assert_same(&rt, parts.file_set.reference, 0);
+    assert_same(&rt, parts.partitions.len(), 1);
     for partition in &parts.partitions {
         assert!(rt; matches!(partition.kind, PartitionMap::Type1));
-        assert_eq!(rt; partition.start, 272);
-        assert_eq!(rt; partition.length, 300);
+        assert_same(&rt, partition.start, 272);
+        assert_same(&rt, partition.length, 300);
     }
     Ok(())
 }
@@ -85,25 +83,25 @@ fn half_of_each_copy_is_enough(rt: HostRuntime) -> Result<(), Fail> {
 fn holes(rt: HostRuntime) -> Result<(), Fail> {
     let alloc = rt.alloc();
     let disc = Disc::type1(alloc)?;
-    let known: [(&[u32], &str); 5] = [
+    static KNOWN: [(&[u32], &str); 5] = [
         (&[], "holes 256 344 600"),
         (&[344], "holes 256 600"),
         (&[600], "holes 32 48"),
         (&[256, 32, 34], "holes 33 49"),
         (&[256, 32, 33, 34], "ok revision 1.50 map type1"),
     ];
-    for (places, want) in known {
+    for &(places, want) in &KNOWN {
         let table = disc.known_at(alloc, places)?;
-        assert_eq!(rt; said(alloc, &table)?.as_str(), want);
+        assert_text(&rt, said(alloc, &table)?, want);
     }
-    let unread: [(&[u32], &str); 3] = [
+    static UNREAD: [(&[u32], &str); 3] = [
         (&[33, 49], "holes 33 49"),
         (&[34, 50], "holes 34 50"),
         (&[256, 32, 33, 34], "ok revision 1.50 map type1"),
     ];
-    for (places, want) in unread {
+    for &(places, want) in &UNREAD {
         let table = disc.known_but(alloc, places)?;
-        assert_eq!(rt; said(alloc, &table)?.as_str(), want);
+        assert_text(&rt, said(alloc, &table)?, want);
     }
     Ok(())
 }
@@ -114,7 +112,7 @@ fn conflicts(rt: HostRuntime) -> Result<(), Fail> {
     let alloc = rt.alloc();
     let mut table = Disc::type1(alloc)?.known_but(alloc, &[49])?;
     table.put(33, &[0; 2048])?;
-    assert_eq!(rt; said(alloc, &table)?.as_str(), "holes 33 49");
+    assert_text(&rt, said(alloc, &table)?, "holes 33 49");
     Ok(())
 }
 
@@ -125,7 +123,7 @@ fn labels(rt: HostRuntime) -> Result<(), Fail> {
         let mut disc = Disc::type1(alloc)?;
         disc.write_at(32, 211, &[used])?;
         let table = disc.known_but(alloc, &[])?;
-        assert_eq!(rt; label(alloc, &table)?.as_str(), want);
+        assert_text(&rt, label(alloc, &table)?, want);
     }
     Ok(())
 }
@@ -134,22 +132,21 @@ fn labels(rt: HostRuntime) -> Result<(), Fail> {
 /// of equal ones the first. The one at 34 has one block too many.
 #[test]
 fn prevailing(rt: HostRuntime) -> Result<(), Fail> {
-    let alloc = rt.alloc();
-    let cases: [(&[u8], &[u8], &str); 4] = [
+    static CASES: [(&[u8], &[u8], &str); 4] = [
         (&[1], &[0, 0], "ok revision 1.50 map type1"),
         (&[2], &[0, 0], "ok revision 1.50 map type1"),
         (&[3], &[0, 0], "fault 11 PartitionRange"),
         (&[3], &[1, 0], "ok revision 1.50 map type1"),
     ];
-    for (sequence_number, number, want) in cases {
+    let alloc = rt.alloc();
+    for &(sequence_number, number, want) in &CASES {
         let mut disc = Disc::type1(alloc)?;
         disc.write_tag(34, 0, 5, 34)?;
         disc.write_at(34, 16, sequence_number)?;
         disc.write_at(34, 22, number)?;
         disc.write_at(34, 25, b"+NSR02")?;
         disc.write_at(34, 188, &[0x10, 1, 0, 0, 0x4a, 1])?;
-        let said = said_of(alloc, &disc)?;
-        assert_eq!(rt; said.as_str(), want, "{sequence_number:?} {number:?}");
+        assert_text_in(&rt, said_of(alloc, &disc)?, want, (sequence_number, number));
     }
     Ok(())
 }
@@ -161,13 +158,10 @@ fn a_descriptor_behind_a_hole_or_the_end(rt: HostRuntime) -> Result<(), Fail> {
     let mut disc = Disc::type1(alloc)?;
     disc.write_tag(35, 0, 5, 35)?;
     disc.write_at(35, 16, &[9])?;
-    assert_eq!(rt;
-        said_of(alloc, &disc)?.as_str(),
-        "ok revision 1.50 map type1"
-    );
+    assert_text(&rt, said_of(alloc, &disc)?, "ok revision 1.50 map type1");
     disc.write_tag(34, 0, 5, 34)?;
     disc.write_at(34, 16, &[9])?;
     let table = disc.known_but(alloc, &[33, 49])?;
-    assert_eq!(rt; said(alloc, &table)?.as_str(), "holes 33 49");
+    assert_text(&rt, said(alloc, &table)?, "holes 33 49");
     Ok(())
 }

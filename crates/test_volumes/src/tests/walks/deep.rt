@@ -1,6 +1,7 @@
 //! Long paths, and many.
 
 use super::told::nodes_of;
+use crate::tests::assert_same;
 use std::test::Fail;
 use udfs_file::NodeFault;
 use udfs_samples::Disc;
@@ -30,16 +31,17 @@ fn names_64_deep(rt: HostRuntime) -> Result<(), Fail> {
             assert!(rt; false);
             return Ok(());
         };
-        assert_eq!(rt; nodes.len(), 65);
+        assert_same(&rt, nodes.len(), 65);
         let Some(last) = nodes.last() else {
             return Ok(());
         };
-        assert_eq!(rt; last.path.len(), 64);
-        assert_eq!(rt;
+        assert_same(&rt, last.path.len(), 64);
+        assert_same(
+            &rt,
             matches!(&last.standing, Standing::Fault(NodeFault::Depth)),
-            is_deep
+            is_deep,
         );
-        assert_eq!(rt; matches!(&last.standing, Standing::Whole), !is_deep);
+        assert_same(&rt, matches!(&last.standing, Standing::Whole), !is_deep);
     }
     Ok(())
 }
@@ -80,18 +82,18 @@ fn count(rt: &HostRuntime, more: usize) -> Result<Option<usize>, Fail> {
 
 #[test]
 fn nodes_65535_are_told(rt: HostRuntime) -> Result<(), Fail> {
-    assert_eq!(rt; count(&rt, 0)?, Some(65535));
+    assert_same(&rt, count(&rt, 0)?, Some(65535));
     Ok(())
 }
 
 #[test]
 fn nodes_65536_are_told(rt: HostRuntime) -> Result<(), Fail> {
-    assert_eq!(rt; count(&rt, 1)?, Some(65536));
+    assert_same(&rt, count(&rt, 1)?, Some(65536));
     Ok(())
 }
 
 #[test]
 fn nodes_65537_are_too_many(rt: HostRuntime) -> Result<(), Fail> {
-    assert_eq!(rt; count(&rt, 2)?, None);
+    assert_same(&rt, count(&rt, 2)?, None);
     Ok(())
 }

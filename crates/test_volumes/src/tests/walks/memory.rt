@@ -1,6 +1,7 @@
 //! Want of memory: `rt try --test --fail-alloc N` refuses the allocation with this number in each test.
 
 use super::told::rooted;
+use crate::tests::assert_same;
 use std::test::Fail;
 use udfs_samples::Disc;
 use udfs_walk::answers::NodesError;
@@ -23,16 +24,16 @@ fn want_of_memory_is_told(rt: HostRuntime) -> Result<(), Fail> {
     let nodes = match nodes(alloc, &table, &space, root) {
         Ok(nodes) => nodes,
         Err(error) => {
-            assert_eq!(rt; error, NodesError::OutOfMemory);
+            assert_same(&rt, error, NodesError::OutOfMemory);
             return Ok(());
         }
     };
-    assert_eq!(rt; nodes.len(), 3);
+    assert_same(&rt, nodes.len(), 3);
     if let Ok(blocks) = reread(alloc, &nodes) {
-        assert_eq!(rt; blocks.as_slice(), [276, 278, 279].as_slice());
+        assert_same(&rt, blocks.as_slice(), [276, 278, 279].as_slice());
     }
     if let Ok(entries) = unnamed(alloc, &table, &space, &nodes) {
-        assert_eq!(rt; entries.len(), 0);
+        assert_same(&rt, entries.len(), 0);
     }
     Ok(())
 }

@@ -1,6 +1,7 @@
 //! Paths: their names in order, those of the directory first.
 
 use super::told::nodes_of;
+use crate::tests::assert_same;
 use std::test::Fail;
 use udfs_samples::Disc;
 use udfs_walk::answers::Node;
@@ -30,8 +31,8 @@ fn paths_of_a_volume(rt: HostRuntime) -> Result<(), Fail> {
     let (root, a, b) = (&nodes[0], &nodes[1], &nodes[2]);
     assert!(rt; root.path.is_empty() && !a.path.is_empty());
     assert!(rt; a.path.get(1).is_none());
-    assert_eq!(rt; ends(root), (0, [].as_slice(), [].as_slice()));
-    assert_eq!(rt; ends(a), (1, [65].as_slice(), [65].as_slice()));
-    assert_eq!(rt; ends(b), (1, [66].as_slice(), [66].as_slice()));
+    assert_same(&rt, ends(root), (0, [].as_slice(), [].as_slice()));
+    assert_same(&rt, ends(a), (1, [65].as_slice(), [65].as_slice()));
+    assert_same(&rt, ends(b), (1, [66].as_slice(), [66].as_slice()));
     Ok(())
 }

@@ -1,6 +1,7 @@
 //! The sample volumes, whole, in part and changed.
 
 use super::told::told;
+use crate::tests::assert_text;
 use std::test::Fail;
 use udfs_samples::{Bytes, Disc};
 
@@ -15,16 +16,16 @@ fn whole_volumes(rt: HostRuntime) -> Result<(), Fail> {
         alloc,
         &[600, 32, 49, 50, 272, 273, 274, 275, 276, 277, 278, 279],
     )?;
-    assert_eq!(rt; told(alloc, &half)?.as_str(), WHOLE);
+    assert_text(&rt, told(alloc, &half)?, WHOLE);
     let sparable = Disc::sparable(alloc)?.known_but(alloc, &[])?;
-    assert_eq!(rt; told(alloc, &sparable)?.as_str(), WHOLE);
+    assert_text(&rt, told(alloc, &sparable)?, WHOLE);
     let two = Disc::two_maps(alloc)?.known_but(alloc, &[])?;
-    assert_eq!(rt; told(alloc, &two)?.as_str(), WHOLE);
+    assert_text(&rt, told(alloc, &two)?, WHOLE);
     Ok(())
 }
 
 /// The blocks that are not known, and what is told then.
-const UNREAD: [(&[u32], &str); 4] = [
+static UNREAD: [(&[u32], &str); 4] = [
     (
         &[275, 277, 278, 279],
         "whole directory 120 2001-07-04T09:30:00.000000Z \ntorn missing 275 unread /A\nwhole file 2 2001-07-04T09:30:00.000000Z /B\nreread 275\n",
@@ -46,14 +47,15 @@ const UNREAD: [(&[u32], &str); 4] = [
 #[test]
 fn torn_volumes(rt: HostRuntime) -> Result<(), Fail> {
     let alloc = rt.alloc();
-    for (unread, expected) in UNREAD {
+    for &(unread, expected) in &UNREAD {
         let table = Disc::type1(alloc)?.known_but(alloc, unread)?;
-        assert_eq!(rt; told(alloc, &table)?.as_str(), expected);
+        assert_text(&rt, told(alloc, &table)?, expected);
     }
     let two = Disc::two_maps(alloc)?.known_but(alloc, &[520])?;
-    assert_eq!(rt;
-        told(alloc, &two)?.as_str(),
-        "whole directory 120 2001-07-04T09:30:00.000000Z \nwhole file 5000 2001-07-04T09:30:00.000000Z /A\ntorn missing 520 unread /B\nreread 520\n"
+    assert_text(
+        &rt,
+        told(alloc, &two)?,
+        "whole directory 120 2001-07-04T09:30:00.000000Z \nwhole file 5000 2001-07-04T09:30:00.000000Z /A\ntorn missing 520 unread /B\nreread 520\n",
     );
     Ok(())
 }
@@ -64,12 +66,12 @@ fn a_disputed_block_is_missing(rt: HostRuntime) -> Result<(), Fail> {
     let alloc = rt.alloc();
     let mut table = Disc::type1(alloc)?.known_but(alloc, &[])?;
     table.put(278, &[0; 2048])?;
-    assert_eq!(rt; told(alloc, &table)?.as_str(), UNREAD[1].1);
+    assert_text(&rt, told(alloc, &table)?, UNREAD[1].1);
     Ok(())
 }
 
 /// A change of the volume with one map, and what is told then.
-const CHANGES: [(Bytes, &str); 4] = [
+static CHANGES: [(Bytes, &str); 4] = [
     // The name A leads to the root.
     (
         (274, 64, &[1]),
@@ -95,18 +97,19 @@ const CHANGES: [(Bytes, &str); 4] = [
 #[test]
 fn changed_volumes(rt: HostRuntime) -> Result<(), Fail> {
     let alloc = rt.alloc();
-    for (change, expected) in CHANGES {
+    for &(change, expected) in &CHANGES {
         let mut disc = Disc::type1(alloc)?;
         disc.write(&[change])?;
         let table = disc.known_but(alloc, &[])?;
-        assert_eq!(rt; told(alloc, &table)?.as_str(), expected);
+        assert_text(&rt, told(alloc, &table)?, expected);
     }
     let mut disc = Disc::two_maps(alloc)?;
     disc.write(&[(274, 108, &[2])])?;
     let table = disc.known_but(alloc, &[])?;
-    assert_eq!(rt;
-        told(alloc, &table)?.as_str(),
-        "whole directory 120 2001-07-04T09:30:00.000000Z \nwhole file 5000 2001-07-04T09:30:00.000000Z /A\nfault-5 unread /B\nunnamed 1:0 whole file 2 2001-07-04T09:30:00.000000Z\n"
+    assert_text(
+        &rt,
+        told(alloc, &table)?,
+        "whole directory 120 2001-07-04T09:30:00.000000Z \nwhole file 5000 2001-07-04T09:30:00.000000Z /A\nfault-5 unread /B\nunnamed 1:0 whole file 2 2001-07-04T09:30:00.000000Z\n",
     );
     Ok(())
 }

@@ -10,7 +10,7 @@ use udfs_space::Space;
 use udfs_tag::LongAd;
 use udfs_volume::Seen;
 use udfs_volume::layouts::layout;
-use udfs_walk::answers::{Node, NodesError};
+use udfs_walk::answers::{Node, NodesError, Unnamed};
 use udfs_walk::standings::Standing;
 use udfs_walk::unnamed_entries::unnamed;
 use udfs_walk::{nodes, reread};
@@ -88,6 +88,49 @@ fn kind(
     Ok(())
 }
 
+/// The line of a node.
+fn push_node(alloc: Global, text: &mut String, node: &Node) -> Result<(), AllocError> {
+    standing(alloc, text, &node.standing)?;
+    kind(alloc, text, node.kind, node.size, node.stamp)?;
+    text.push(' ')?;
+    for index in 0..node.path.len() {
+        if let Some(name) = node.path.get(index) {
+            text.push('/')?;
+            name.write_escaped(text)?;
+        }
+    }
+    if node.hidden {
+        text.push_str(" hidden")?;
+    }
+    text.push('\n')
+}
+
+/// The line of an entry that no name leads to.
+fn push_unnamed(alloc: Global, text: &mut String, entry: &Unnamed) -> Result<(), AllocError> {
+    let (reference, block) = (entry.reference, entry.block);
+    write!(text, "unnamed {reference}:{block} ")?;
+    standing(alloc, text, &entry.standing)?;
+    kind(alloc, text, entry.kind, Some(entry.size), Some(entry.stamp))?;
+    text.push('\n')
+}
+
+/// The lines behind those of the nodes.
+fn push_others(
+    alloc: Global,
+    text: &mut String,
+    table: &BlockTable,
+    space: &Space,
+    all: &[Node],
+) -> Result<(), Fail> {
+    for entry in &unnamed(alloc, table, space, all)? {
+        push_unnamed(alloc, text, entry)?;
+    }
+    for n in &reread(alloc, all)? {
+        write!(text, "reread {n}\n")?;
+    }
+    Ok(())
+}
+
 /// All that is told of a table's volume.
 pub fn told(alloc: Global, table: &BlockTable) -> Result<String, Fail> {
     let Some((space, root)) = rooted(alloc, table) else {
@@ -97,37 +140,10 @@ pub fn told(alloc: Global, table: &BlockTable) -> Result<String, Fail> {
         Ok(all) => all,
         Err(error) => return Ok(format!(in alloc; "{error}")?),
     };
-    let mut text = format!(in alloc; "")?;
+    let mut text = String::new(alloc);
     for node in &all {
-        standing(alloc, &mut text, &node.standing)?;
-        kind(alloc, &mut text, node.kind, node.size, node.stamp)?;
-        text.push(' ')?;
-        for index in 0..node.path.len() {
-            if let Some(name) = node.path.get(index) {
-                text.push('/')?;
-                name.write_escaped(&mut text)?;
-            }
-        }
-        if node.hidden {
-            text.push_str(" hidden")?;
-        }
-        text.push('\n')?;
+        push_node(alloc, &mut text, node)?;
     }
-    for entry in &unnamed(alloc, table, &space, &all)? {
-        let (reference, block) = (entry.reference, entry.block);
-        text.push_str(format!(in alloc; "unnamed {reference}:{block} ")?.as_str())?;
-        standing(alloc, &mut text, &entry.standing)?;
-        kind(
-            alloc,
-            &mut text,
-            entry.kind,
-            Some(entry.size),
-            Some(entry.stamp),
-        )?;
-        text.push('\n')?;
-    }
-    for n in &reread(alloc, &all)? {
-        text.push_str(format!(in alloc; "reread {n}\n")?.as_str())?;
-    }
+    push_others(alloc, &mut text, table, &space, &all)?;
     Ok(text)
 }
