@@ -14,5 +14,6 @@ mod refusals;
 mod rereading;
 mod sizes;
 mod sparing;
+mod stored;
 mod versions;
 mod words;

@@ -227,6 +227,18 @@ fn of_short_image(alloc: Global, input: InputPath<'_>, block: u64) -> Result<Str
     }
 }
 
+/// What is said of an input that could not be read a second time, or has changed meanwhile.
+fn of_reread(alloc: Global, input: InputPath<'_>) -> Result<String, AllocError> {
+    match input {
+        InputPath::File(path) | InputPath::Pair(path, _) => {
+            format!(in alloc;
+                "{} could not be read a second time, or was changed meanwhile",
+                Shown(path)
+            )
+        }
+    }
+}
+
 /// What is said of a refusal that names an input.
 fn of_named_input<F: Files>(
     alloc: Global,
@@ -239,6 +251,7 @@ fn of_named_input<F: Files>(
         Refusal::Mapfile(_, error) => of_map(alloc, input, error.fault)?,
         Refusal::ImageEnds(_, block) => of_short_image(alloc, input, *block)?,
         Refusal::Open(_) => of_unopened(alloc, input, files)?,
+        Refusal::Reread(_, _) => of_reread(alloc, input)?,
         _ => return Ok(None),
     };
     Ok(Some(line))
@@ -406,6 +419,7 @@ fn named_input(refusal: &Refusal) -> Option<usize> {
         Refusal::Input(number, _)
         | Refusal::Mapfile(number, _)
         | Refusal::ImageEnds(number, _)
+        | Refusal::Reread(number, _)
         | Refusal::Open(number) => Some(*number),
         _ => None,
     }

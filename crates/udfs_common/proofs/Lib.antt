@@ -1,3 +1,4 @@
 pub mod BlamingLemmas
 pub mod KeepingLemmas
 pub mod PlacingLemmas
+pub mod JobLemmas

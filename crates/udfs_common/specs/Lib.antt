@@ -4,3 +4,4 @@ pub mod Keeping
 pub mod Guarding
 pub mod Sources
 pub mod Blaming
+pub mod Jobs

@@ -16,6 +16,11 @@ pub enum Refusal {
     #[error("input {}: fault {} {:?} at record {}", .0, .1.fault as u8, .1.fault, .1.number)]
     Input(usize, ReadingError),
 
+    /// An input, counted from 1, could not be read a second time, or has changed since it was begun: the number of the record. The line is that of an
+    /// input whose device failed.
+    #[error("input {0}: fault 8 Io at record {1}")]
+    Reread(usize, u32),
+
     /// The mapfile of an input, counted from 1, is malformed.
     #[error("input {0}: {1}")]
     Mapfile(usize, LineFault),

@@ -3,3 +3,5 @@ pub mod LeavingLemmas
 pub mod ImagingLemmas
 mod PastEnds
 pub mod ImageWordsLemmas
+mod StoredLemmas
+mod EntryTables

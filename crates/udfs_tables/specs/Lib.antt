@@ -1,3 +1,4 @@
 pub mod Forgetting
 pub mod Leaving
+pub mod Indexing
 pub mod Imaging

@@ -1,7 +1,7 @@
 //! What a person is told when `merge` is done.
 
-use crate::beside::Disagreement;
-use crate::merge_tally::{MergeTally, Totals};
+use crate::beside::Totals;
+use crate::said::Disagreement;
 use std::alloc::{AllocError, Global};
 use udfs_common::files::Files;
 use udfs_overview::push_grouped;
@@ -41,12 +41,17 @@ fn of_doubt(alloc: Global, input: usize, found: Disagreement) -> Result<String, 
 }
 
 /// Tells who watches what was joined of so many inputs, and which of them may be of another disc.
-pub fn remark_on_merge<F: Files>(alloc: Global, inputs: usize, tally: &mut MergeTally, files: &F) {
-    let totals = tally.close();
+pub fn remark_on_merge<F: Files>(
+    alloc: Global,
+    inputs: usize,
+    totals: Totals,
+    disagreements: &[Disagreement],
+    files: &F,
+) {
     if let Ok(text) = of_totals(alloc, inputs, totals) {
         files.remark(text.as_str());
     }
-    for (before, found) in tally.disagreements().iter().enumerate() {
+    for (before, found) in disagreements.iter().enumerate() {
         if is_doubtful(*found)
             && let Ok(text) = of_doubt(alloc, before.saturating_add(2), *found)
         {

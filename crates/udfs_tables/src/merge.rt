@@ -7,8 +7,10 @@ ghost use Rattle.udfs_lattice.specs.Records.{join_all};
 ghost use Rattle.udfs_reading.specs.Writing.{Writes};
 ghost use Rattle.udfs_common.specs.Keeping.{Joined, IsKept, IsTaken, MayReplace, OfPaths, RefusedOut};
 ghost use Rattle.udfs_common.specs.Spelling.{table_file};
+ghost use Rattle.udfs_tables.specs.Indexing.{IsReread};
 
 use crate::closing::remark_on_merge;
+use crate::merge_stored::merge_stored;
 use crate::merge_tally::MergeTally;
 use std::alloc::{AllocError, Global};
 use udfs_common::files::Files;
@@ -16,6 +18,7 @@ use udfs_common::inputs::take_all;
 use udfs_common::putting::put_file;
 use udfs_common::refusal::Refusal;
 use udfs_common::sources::AnySource;
+use udfs_common::stored_inputs::open_all_stored;
 use udfs_files::Content;
 use udfs_lattice::BlockTable;
 use udfs_reading::{Sink, Source, WriteFault, write_table, write_table_v1};
@@ -56,34 +59,25 @@ pub fn tallied<F: Files>(
     }
 }
 
-/// Joins the inputs, and puts the table file of this version at the path `out`, over an old one. All inputs are opened in order before one is read, and
-/// the output is begun only after all are joined. A file is put in its place whole or not at all, and the output may be one of the inputs; a device or a pipe is
-/// written in place.
-pub fn merge<F: Files>(
+/// Joins the inputs and puts their table file, as [`merge`] does, and holds the blocks meanwhile.
+fn merge_held<F: Files>(
     alloc: Global,
     inputs: &[InputPath<'_>],
     out: &str,
     version: Version,
     files: &mut F,
 ) -> Result<(), Refusal>
-    // At `Ok` a file at the output's path holds the table file of the join of what the input paths held, and from now on each crash leaves it.
     ensures written { OnOk result ((tables : List Table) × Joined (λ path. F.holds files.old (F.real files.old path)) (⟦<AnySource<F::Input, F::Image> as Source>⟧.remaining) inputs.now tables ×
         ((F.tells → IsKept (F.holds files.new) (F.may_leave files.new) (F.real files.old out.now) (table_file version (join_all tables)))
         ⊎ (F.in_place files.old out.now × IsTaken F.Output.stream (table_file version (join_all tables))))) }
-    // A crash at any moment of the call leaves all as it was, or with the output in its place, whole.
     ensures any_moment { F.tells → (F.in_place files.old out.now → ⊥) → (c : Disk) → F.left_since files.new (F.moment files.old) c →
         After (F.may_leave files.old) (MayReplace (λ path. F.holds files.old (F.real files.old path)) (⟦<AnySource<F::Input, F::Image> as Source>⟧.remaining) inputs.now version (F.real files.old out.now)) c }
     ensures untouched { IfErr result (λ refusal. refusal ≢ Refusal.Output → refusal ≢ Refusal.Unkept → files.new ≡ files.old) }
-    // A refused output leaves what its path held.
     ensures refused { IsErrOf result Refusal.Output → F.tells → (F.in_place files.old out.now → ⊥) → F.holds files.new (F.real files.old out.now) ≡ F.holds files.old (F.real files.old out.now) }
-    // The table file is in its place where only the folder could not be synced.
     ensures unkept { IsErrOf result Refusal.Unkept → F.tells → (tables : List Table) × Joined (λ path. F.holds files.old (F.real files.old path)) (⟦<AnySource<F::Input, F::Image> as Source>⟧.remaining) inputs.now tables ×
         (F.holds files.new (F.real files.old out.now) ≡ Some (Some (table_file version (join_all tables)))) }
-    // No other path changes, but for those of new files that are to go in its place.
     ensures elsewhere { F.tells → (F.in_place files.old out.now → ⊥) → (q : List ℕ) → q ≢ F.real files.old out.now → (¬ IsOwn (F.real files.old out.now) q) → F.holds files.new q ≡ F.holds files.old q }
-    // It is refused only for a fault.
     ensures cause { IfErr result (λ refusal. (refusal ≡ Refusal.Output) ⊎ (refusal ≡ Refusal.Unkept) → F.shut files.old out.now ⊎ Fails F.faults ⊎ SinkFails F.Output.stream) }
-    // A refusal leaves all as it was; or a call failed, and then the path holds what it held or the new file, whole.
     ensures left { OnErr result (RefusedOut F.tells F.holds F.real F.in_place (F.shut files.old out.now ⊎ Fails F.faults ⊎ SinkFails F.Output.stream) out.now files.old files.new
         (λ Put. (tables : List Table) × Joined (λ path. F.holds files.old (F.real files.old path)) (⟦<AnySource<F::Input, F::Image> as Source>⟧.remaining) inputs.now tables × Put (table_file version (join_all tables)))) }
     ensures told { IfErr result (λ refusal. refusal ≢ Refusal.Spared) }
@@ -98,9 +92,53 @@ pub fn merge<F: Files>(
     };
     match put_file(alloc, &content, out, files) {
         Ok(()) => {
-            remark_on_merge(alloc, inputs.len(), &mut tally, files);
+            let totals = tally.close();
+            remark_on_merge(alloc, inputs.len(), totals, tally.disagreements(), files);
             Ok(())
         }
+        Err(refusal) => Err(refusal),
+    }
+}
+
+/// Joins the inputs, and puts the table file of this version at the path `out`, over an old one. All inputs are opened in order before one is read, and
+/// the output is begun only after all are joined. A file is put in its place whole or not at all, and the output may be one of the inputs; a device or a pipe is
+/// written in place. Where each input is a regular file by its own path, no block is held: of a known block is kept where in which input its bytes stand,
+/// and they are read again when they are written. An input must not change meanwhile: where its length or its time of change has, the merge is refused
+/// before a file is in the output's place.
+pub fn merge<F: Files>(
+    alloc: Global,
+    inputs: &[InputPath<'_>],
+    out: &str,
+    version: Version,
+    files: &mut F,
+) -> Result<(), Refusal>
+    // At `Ok` a file at the output's path holds the table file of the join of what the input paths held, and from now on each crash leaves it.
+    ensures written { OnOk result ((tables : List Table) × Joined (λ path. F.holds files.old (F.real files.old path)) (⟦<AnySource<F::Input, F::Image> as Source>⟧.remaining) inputs.now tables ×
+        ((F.tells → IsKept (F.holds files.new) (F.may_leave files.new) (F.real files.old out.now) (table_file version (join_all tables)))
+        ⊎ (F.in_place files.old out.now × IsTaken F.Output.stream (table_file version (join_all tables))))) }
+    // A crash at any moment of the call leaves all as it was, or with the output in its place, whole.
+    ensures any_moment { F.tells → (F.in_place files.old out.now → ⊥) → (c : Disk) → F.left_since files.new (F.moment files.old) c →
+        After (F.may_leave files.old) (MayReplace (λ path. F.holds files.old (F.real files.old path)) (⟦<AnySource<F::Input, F::Image> as Source>⟧.remaining) inputs.now version (F.real files.old out.now)) c }
+    // Any other refusal leaves all files as they were. An input that could not be read a second time was found so when a new file was begun, which is
+    // removed again.
+    ensures untouched { IfErr result (λ refusal. refusal ≢ Refusal.Output → refusal ≢ Refusal.Unkept → (¬ IsReread refusal) → files.new ≡ files.old) }
+    // A refused output leaves what its path held.
+    ensures refused { IsErrOf result Refusal.Output → F.tells → (F.in_place files.old out.now → ⊥) → F.holds files.new (F.real files.old out.now) ≡ F.holds files.old (F.real files.old out.now) }
+    // The table file is in its place where only the folder could not be synced.
+    ensures unkept { IsErrOf result Refusal.Unkept → F.tells → (tables : List Table) × Joined (λ path. F.holds files.old (F.real files.old path)) (⟦<AnySource<F::Input, F::Image> as Source>⟧.remaining) inputs.now tables ×
+        (F.holds files.new (F.real files.old out.now) ≡ Some (Some (table_file version (join_all tables)))) }
+    // No other path changes, but for those of new files that are to go in its place.
+    ensures elsewhere { F.tells → (F.in_place files.old out.now → ⊥) → (q : List ℕ) → q ≢ F.real files.old out.now → (¬ IsOwn (F.real files.old out.now) q) → F.holds files.new q ≡ F.holds files.old q }
+    // It is refused only for a fault.
+    ensures cause { IfErr result (λ refusal. (refusal ≡ Refusal.Output) ⊎ (refusal ≡ Refusal.Unkept) → F.shut files.old out.now ⊎ Fails F.faults ⊎ SinkFails F.Output.stream) }
+    // A refusal leaves all as it was; or a call failed, and then the path holds what it held or the new file, whole.
+    ensures left { OnErr result (RefusedOut F.tells F.holds F.real F.in_place (F.shut files.old out.now ⊎ Fails F.faults ⊎ SinkFails F.Output.stream) out.now files.old files.new
+        (λ Put. (tables : List Table) × Joined (λ path. F.holds files.old (F.real files.old path)) (⟦<AnySource<F::Input, F::Image> as Source>⟧.remaining) inputs.now tables × Put (table_file version (join_all tables)))) }
+    ensures told { IfErr result (λ refusal. refusal ≢ Refusal.Spared) }
+{
+    match open_all_stored(alloc, inputs, files) {
+        Ok(Some(stored)) => merge_stored(alloc, stored.as_slice(), inputs, out, version, files),
+        Ok(None) => merge_held(alloc, inputs, out, version, files),
         Err(refusal) => Err(refusal),
     }
 }

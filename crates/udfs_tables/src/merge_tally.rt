@@ -3,36 +3,22 @@
 ghost use Rattle.std.specs.Prelude.{◌≡◌, None, IfOk};
 ghost use Rattle.udfs_lattice.specs.Tables.{conflict_count, empty_table, known_count};
 
-use crate::beside::{Beside, Disagreement};
+use crate::beside::{Beside, Totals};
+use crate::said::Disagreement;
 use std::alloc::{AllocError, Global};
 use std::marker::Model;
-use std::mem;
 use udfs_lattice::{BlockTable, Fact};
 use udfs_reading::{NotTaken, Source, Taker};
-
-/// How many blocks are known and in conflict in a join, and how many are not so in its first input.
-#[derive(Clone, Copy, Debug, PartialEq, Eq)]
-pub struct Totals {
-    pub known: u32,
-    pub new_known: u32,
-    pub conflicts: u32,
-    pub new_conflicts: u32,
-}
 
 /// The table of the inputs, which counts while it takes them.
 #[derive(Drop)]
 pub struct MergeTally {
     joined: BlockTable,
     alloc: Global,
-    /// How many inputs were begun.
-    begun: usize,
-    /// The input that is read.
-    input: Beside,
-    /// The first one, and its blocks in conflict, once a second one is begun.
-    first: Beside,
-    first_conflicts: u32,
-    /// Each further input that is over.
-    disagreements: Vec<Disagreement>,
+    beside: Beside,
+    /// The first content of each block in which the input that is read disagrees with those before it: the join lets go of it, as the
+    /// block is in conflict there.
+    others: BlockTable,
 }
 
 impl Model for MergeTally {
@@ -57,11 +43,8 @@ impl MergeTally {
         Ok(MergeTally {
             joined: BlockTable::new(alloc),
             alloc,
-            begun: 0,
-            input: Beside::new(alloc),
-            first: Beside::new(alloc),
-            first_conflicts: 0,
-            disagreements: Vec::with_capacity(alloc, inputs)?,
+            beside: Beside::new(alloc, inputs)?,
+            others: BlockTable::new(alloc),
         })
     }
 
@@ -76,17 +59,13 @@ impl MergeTally {
     fn end_input(&mut self)
         ensures { self.new ≡ self.old }
     {
-        let ended = mem::replace(&mut self.input, Beside::new(self.alloc));
-        match self.begun {
-            0 => {}
-            1 => {
-                self.first = ended;
-                self.first_conflicts = self.joined.conflicts();
-            }
-            _ => {
-                let _ = self.disagreements.push(ended.disagreement());
-            }
-        }
+        self.others = BlockTable::new(self.alloc);
+        let conflicts = if self.beside.is_first() {
+            self.joined.conflicts()
+        } else {
+            0
+        };
+        self.beside.end_input(conflicts);
     }
 
     /// How many blocks are known that the first input says nothing of.
@@ -94,7 +73,7 @@ impl MergeTally {
         let mut count = 0u32;
         for (block, fact) in self.joined.entries() {
             if let Fact::Known(_) = fact
-                && !self.first.speaks_of(block)
+                && !self.beside.first.speaks_of(block)
             {
                 count = count.saturating_add(1);
             }
@@ -114,22 +93,53 @@ impl MergeTally {
             known: self.joined.known(),
             new_known: self.new_known(),
             conflicts,
-            new_conflicts: conflicts.saturating_sub(self.first_conflicts),
+            new_conflicts: conflicts.saturating_sub(self.beside.first_conflicts),
         }
     }
 
     /// For each further input than the first that is over, in their order, in how many blocks it disagrees with those before it.
     pub fn disagreements(&self) -> &[Disagreement] {
-        self.disagreements.as_slice()
+        self.beside.disagreements()
+    }
+
+    /// The input that is read has these bytes for a block.
+    fn hear(&mut self, block: u32, bytes: &[u8; 2048]) -> Result<(), AllocError>
+        ensures { self.new ≡ self.old }
+    {
+        self.beside.input.reach(block)?;
+        let joined = state_before(&self.joined, &self.beside, block);
+        let is_known = matches!(joined, Fact::Known(_));
+        let is_same = if self.beside.input.differs_in(block) {
+            is_known_as(self.others.state(block), bytes)
+        } else {
+            is_known_as(joined, bytes)
+        };
+        if is_known
+            && !is_same
+            && !self.beside.input.speaks_of(block)
+            && self.others.put(block, bytes).is_err()
+        {
+            return Err(AllocError);
+        }
+        self.beside.input.hear(block, is_known, is_same);
+        Ok(())
     }
 }
 
 /// The state of a block in the join, where inputs came before the one that is read.
-fn state_before(joined: &BlockTable, begun: usize, block: u32) -> Fact<&[u8; 2048]> {
-    if begun > 1 {
+fn state_before<'a>(joined: &'a BlockTable, beside: &Beside, block: u32) -> Fact<&'a [u8; 2048]> {
+    if beside.is_further() {
         joined.state(block)
     } else {
         Fact::Unknown
+    }
+}
+
+/// Whether a block is known to have these bytes.
+fn is_known_as(fact: Fact<&[u8; 2048]>, bytes: &[u8; 2048]) -> bool {
+    match fact {
+        Fact::Known(known) => *known == *bytes,
+        _ => false,
     }
 }
 
@@ -140,12 +150,11 @@ impl<R: Source> Taker<R> for MergeTally {
 
     fn begin(&mut self, _source: &mut R) {
         self.end_input();
-        self.begun = self.begun.saturating_add(1);
+        self.beside.begin_input();
     }
 
     fn put(&mut self, block: u32, bytes: &[u8; 2048], _at: u64) -> Result<(), NotTaken> {
-        let before = state_before(&self.joined, self.begun, block);
-        if self.input.hear(block, bytes, before).is_err() {
+        if self.hear(block, bytes).is_err() {
             return Err(NotTaken);
         }
         match self.joined.put(block, bytes) {
@@ -155,9 +164,10 @@ impl<R: Source> Taker<R> for MergeTally {
     }
 
     fn dispute(&mut self, block: u32) -> Result<(), NotTaken> {
-        if self.input.hear_conflict(block).is_err() {
+        if self.beside.input.reach(block).is_err() {
             return Err(NotTaken);
         }
+        self.beside.input.hear_conflict(block);
         match self.joined.add(block, Fact::Conflict) {
             Ok(()) => Ok(()),
             Err(_) => Err(NotTaken),

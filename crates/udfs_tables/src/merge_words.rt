@@ -7,6 +7,7 @@ ghost use Rattle.udfs_words.specs.Asking.{IsPicked, input_texts, out_text, pair_
 ghost use Rattle.udfs_common.specs.Guarding.{IsFree, IsSpared, SomeShut};
 ghost use Rattle.udfs_common.specs.Keeping.{IsKept, IsTaken, RefusedOut};
 ghost use Rattle.udfs_common.specs.declared.sources.AnySource.{AnySource};
+ghost use Rattle.udfs_tables.specs.Indexing.{IsReread};
 ghost use Rattle.udfs_tables.specs.Leaving.{MayMerge, PutsJoin};
 
 use crate::merge::merge;
@@ -49,7 +50,7 @@ pub fn merge_words<F: Files>(
     // A crash at any moment of the call leaves all as it was, or with the output in its place, whole.
     ensures any_moment { F.tells → (F.in_place files.old (out_text (found_of words.now)) → ⊥) → (c : Disk) → F.left_since files.new (F.moment files.old) c →
         After (F.may_leave files.old) (MayMerge (λ path. F.holds files.old (F.real files.old path)) (⟦<AnySource<F::Input, F::Image> as Source>⟧.remaining) (F.real files.old) (found_of words.now)) c }
-    ensures untouched { IfErr result (λ refusal. refusal ≢ Refusal.Output → refusal ≢ Refusal.Unkept → files.new ≡ files.old) }
+    ensures untouched { IfErr result (λ refusal. refusal ≢ Refusal.Output → refusal ≢ Refusal.Unkept → (¬ IsReread refusal) → files.new ≡ files.old) }
     // A refused output leaves what its path held.
     ensures refused { IsErrOf result Refusal.Output → F.tells → (F.in_place files.old (out_text (found_of words.now)) → ⊥) → F.holds files.new (F.real files.old (out_text (found_of words.now))) ≡ F.holds files.old (F.real files.old (out_text (found_of words.now))) }
     // The table file is in its place where only the folder could not be synced.

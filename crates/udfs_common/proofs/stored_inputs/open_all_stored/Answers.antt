@@ -1,0 +1,12 @@
+use Rattle.std.proofs.Common.{◌≡◌, ◌++◌, ◌∷◌, [], length, rules}
+use Rattle.udfs_common.proofs.KeepingLemmas.{opens_more, at_place}
+use Rattle.udfs_common.proofs.stored_inputs.open_all_stored.Goals as goal
+
+pub loop-index-preserved : goal.loop-index-preserved
+loop-index-preserved g c =
+    let grown : c.push.new.self.items ≡ c.loop-index.all.items ++ c.in-Ok-Some.stored ∷ [] = search rules in
+    let many : length c.loop-index.all.items ≡ c.loop-index.index = search rules in
+    record {
+      each = search rules;
+      opened = rw (grown) (opens_more _ _ c.args.paths.now c.loop-index.all.items _ c.in-Ok-Some.stored c.loop-index.invariant.opened (rw c.in-Ok-Some.field-0-is at c.in-Ok-Some.ensures.opened) (rw (many) (at_place c.args.paths.now c.loop-index.index _ (search rules))));
+    }

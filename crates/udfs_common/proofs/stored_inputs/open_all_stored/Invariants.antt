@@ -1,0 +1,12 @@
+-- Each path so far has its file.
+use Rattle.std.proofs.Common.{◌≡◌, vec_len}
+use Rattle.udfs_common.specs.Keeping.{Opens}
+use Rattle.udfs_common.proofs.stored_inputs.open_all_stored.Given as goal
+
+abbrev pub invariant-loop-index : goal.invariant-loop-index
+invariant-loop-index g l =
+    let F = g.F.Files in
+    record {
+      each : vec_len l.all ≡ l.index;
+      opened : Opens (λ path. F.holds l.files (F.real l.files path)) g.F.Stored.Stored.content l.paths l.all.items;
+    }

@@ -1,0 +1,122 @@
+//! The table file of inputs that are read at positions.
+
+ghost use Rattle.std.specs.Prelude.{◌≡◌, ◌≢◌, ℕ, List, Some, Option, IfOk, IfErr, OnErr, length, map};
+ghost use Rattle.std.specs.Io.KnownBytes.{Appends};
+ghost use Rattle.udfs_index.specs.Copying.{AreAllTold, Copies, CountsSink};
+ghost use Rattle.udfs_lattice.specs.Records.{join_all};
+ghost use Rattle.udfs_lattice.specs.Tables.{Table, IsTable};
+ghost use Rattle.udfs_reading.specs.Several.{TablesAre};
+ghost use Rattle.udfs_common.specs.Spelling.{table_file};
+ghost use Rattle.udfs_tables.specs.Indexing.{IsReread, IsSinkFault};
+
+use crate::index_tally::IndexTally;
+use std::alloc::{AllocError, Global};
+use udfs_common::refusal::Refusal;
+use udfs_files::Job;
+use udfs_index::{CopyFault, Cursor, END, Index, Stored, Unread, record_at};
+use udfs_reading::{InputError, ReadingError, ReadingFault, Sink, Source, Taker, take_inputs};
+use udfs_words::forms::Version;
+
+/// What was taken of stored inputs, to be written as a table file of this version.
+#[derive(Drop)]
+pub struct IndexedFile<'i, 'a, S: Stored> {
+    pub index: &'i Index<'a, S>,
+    /// The inputs that it is of.
+    pub stored: &'a [S],
+    pub version: Version,
+}
+
+impl<'i, 'a, S: Stored> Job for IndexedFile<'i, 'a, S> {
+    type Refusal = CopyFault;
+
+    ghost wrote = { λ job old new. (t : Table) → IsTable t → AreAllTold S.content → ⟦<Index<'a, S> as Taker<Cursor<'a, S>>>⟧.took job.index.now t → Appends old new (table_file job.version t) };
+
+    ghost blames_sink = { λ _ fault. IsSinkFault fault };
+
+    fn write_to<W: Sink>(&self, sink: &mut W) -> Result<(), CopyFault> {
+        write_version(self.index, self.version, sink)?;
+        match self.index.changed() {
+            Some(input) => Err(CopyFault::Input(Unread { input, at: END })),
+            None => Ok(()),
+        }
+    }
+}
+
+/// Writes the table file of this version.
+fn write_version<'a, S: Stored, W: Sink>(
+    index: &Index<'a, S>,
+    version: Version,
+    sink: &mut W,
+) -> Result<(), CopyFault>
+    ensures bytes { (t : Table) → IsTable t → AreAllTold S.content → ⟦<Index<'a, S> as Taker<Cursor<'a, S>>>⟧.took index.now t → Copies (W.stream sink.old) (W.stream sink.new) (table_file version t) result }
+    ensures count { CountsSink (W.stream sink.old).faults (W.stream sink.new).faults result }
+{
+    match version {
+        Version::One => index.write_table_v1(sink),
+        Version::Two => index.write_table(sink),
+    }
+}
+
+/// The number of the record to which bytes belong that could not be read again.
+fn record_of<S: Stored>(stored: &[S], unread: Unread) -> u32 {
+    match stored.get(unread.input) {
+        Some(stored) => record_at(stored, unread.at),
+        None => 0,
+    }
+}
+
+impl<'i, 'a, S: Stored> IndexedFile<'i, 'a, S> {
+    /// What is said of bytes of an input that could not be read a second time when they were to be written, or of one that has changed.
+    pub fn reread(&self, unread: Unread) -> Refusal
+        ensures { IsReread result }
+    {
+        let number = record_of(self.stored, unread);
+        Refusal::Reread(unread.input.saturating_add(1), number)
+    }
+}
+
+/// Why the inputs were not taken. Bytes that were to be compared and could not be read are a fault of the input that has them.
+fn refusal_of<S: Stored>(stored: &[S], failed: Option<Unread>, error: InputError) -> Refusal
+    ensures told { (result ≢ Refusal.Output) × (result ≢ Refusal.Unkept) × (result ≢ Refusal.Spared) }
+{
+    match (error.error.fault, failed) {
+        (ReadingFault::OutOfMemory, Some(unread)) => {
+            let number = record_of(stored, unread);
+            let fault = ReadingFault::Io;
+            Refusal::Input(
+                unread.input.saturating_add(1),
+                ReadingError { fault, number },
+            )
+        }
+        _ => Refusal::from(error),
+    }
+}
+
+/// Each stored input as a source that is read from its front.
+fn cursors<'a, S: Stored>(alloc: Global, stored: &'a [S]) -> Result<Vec<Cursor<'a, S>>, AllocError>
+    ensures { IfOk result (λ all. map ⟦<Cursor<'a, S> as Source>⟧.remaining all.items ≡ map S.content stored.now) }
+{
+    let mut all = Vec::new(alloc);
+    for one in stored {
+        all.push(Cursor::new(one))?;
+    }
+    Ok(all)
+}
+
+/// The join of the inputs' tables by where its bytes stand, and what was counted of them.
+pub fn indexed<'a, S: Stored>(alloc: Global, stored: &'a [S]) -> Result<IndexTally<'a, S>, Refusal>
+    ensures table { IfOk result (λ tally. (ts : List Table) × TablesAre S.content stored.now ts × ⟦<IndexTally<'a, S> as Taker<Cursor<'a, S>>>⟧.took tally (join_all ts)) }
+    ensures told { IfErr result (λ refusal. (refusal ≢ Refusal.Output) × (refusal ≢ Refusal.Unkept) × (refusal ≢ Refusal.Spared)) }
+{
+    let mut tally = match IndexTally::new(alloc, stored.len()) {
+        Ok(tally) => tally,
+        Err(AllocError) => return Err(Refusal::Memory(AllocError)),
+    };
+    let Ok(mut sources) = cursors(alloc, stored) else {
+        return Err(Refusal::Memory(AllocError));
+    };
+    match take_inputs(sources.as_mut_slice(), &mut tally) {
+        Ok(()) => Ok(tally),
+        Err(error) => Err(refusal_of(stored, tally.failed(), error)),
+    }
+}
