@@ -16,3 +16,4 @@ pub mod BareNodes
 pub mod BareRereads
 pub mod MemoLemmas
 pub mod FirstGaps
+pub mod CountLemmas

@@ -1,9 +1,9 @@
 -- What a walk still owes: all that stands below the entries that are left.
 --     IsWalking v root nodes frames room     the nodes so far, and what the directories still owe, are all
-use Rattle.std.proofs.Common.{◌≡◌, refl, sym, ◌∙◌, ap, subst, ℕ, ◌+◌, ◌<◌, ◌≤◌, false, List, [], ◌∷◌, ◌++◌, Option, None, Some, length, map, arith, append_assoc, length-append, drop, get_or}
+use Rattle.std.proofs.Common.{◌≡◌, refl, sym, ◌∙◌, ap, subst, ℕ, ◌+◌, ◌-◌, ◌<◌, ◌≤◌, false, List, [], ◌∷◌, ◌++◌, Option, None, Some, length, map, arith, append_assoc, length-append, drop, get_or}
 use Rattle.std.specs.Prelude.{suc, flat_map, Result, Err, IfErr, IsErrAnd, MatchResult}
 use Rattle.std.proofs.lemmas.Result.{err_from_is_err_and}
-use Rattle.std.proofs.lemmas.List.{append-nil, drop_more, length-map}
+use Rattle.std.proofs.lemmas.List.{append-nil, drop_more, length-drop, length-map}
 use Rattle.udfs_tag.specs.declared.layouts.LongAd.{LongAd}
 use Rattle.udfs_space.specs.Places.{View}
 use Rattle.udfs_file.specs.declared.directories.DirEntry.{DirEntry}
@@ -50,7 +50,7 @@ kept_owed : (v : View) (fs : List FrameFields) (o : Option FrameFields) (f : Fra
 kept_owed v fs None f e = ap (λ es. flat_map (λ e. tree v (inside f.path f.above e)) es ++ owed v fs) e
 kept_owed v fs (Some g) f e = ap (λ x. owed_frame v x ++ owed v fs) (sym e) ∙ sym (owed_last v fs g)
 
-left_last : (fs : List FrameFields) (f : FrameFields) → left_in (fs ++ f ∷ []) ≡ left_in fs + length f.left
+pub left_last : (fs : List FrameFields) (f : FrameFields) → left_in (fs ++ f ∷ []) ≡ left_in fs + length f.left
 left_last [] f = refl
 left_last (g ∷ fs) f = let e : left_in (fs ++ f ∷ []) ≡ left_in fs + length f.left = left_last fs f in omega (arith, e)
 
@@ -180,6 +180,10 @@ walk_below v root nodes frames rest f room w e b = tree_more v root 65536 (
 -- ---- the next entry
 pub drop_next : {A : Type 0} (xs : List A) (i : ℕ) (x : A) → i < length xs → x ≡ get_or xs i x → drop i xs ≡ x ∷ drop (i + 1) xs
 drop_next xs i x h e = drop_more xs i x h ∙ ap (λ y. y ∷ drop (i + 1) xs) (sym e)
+
+-- where one is left, some are
+pub some_left : {A : Type 0} (xs : List A) (i : ℕ) → i < length xs → drop i xs ≡ [] → ⊥
+some_left xs i h e = let none : length (drop i xs) ≡ 0 = ap length e in let few : length (drop i xs) ≡ length xs - i = length-drop i xs in omega (arith, h, none, few)
 
 -- ---- an error that is handed up
 pub step_refused : {A : Type 0} (v : View) (most : ℕ) (f : FrameFields) (e : DirEntry) (rest : List DirEntry) (w : Walked) (r : Result A NodesError) (error : NodesError) → IsErrAnd r (λ d. d ≡ error)

@@ -46,3 +46,13 @@ node_path v w = go (target v w.address)
     go (bad f) = refl
     go (unread n) = refl
     go (entry e) = refl
+
+-- and has the address that leads there
+pub node_address : (v : View) (w : Walked) → (node v w).icb ≡ w.address
+unfolding node
+node_address v w = go (target v w.address)
+  where
+    go : (t : Target) → (node_at v w t).icb ≡ w.address
+    go (bad f) = refl
+    go (unread n) = refl
+    go (entry e) = refl

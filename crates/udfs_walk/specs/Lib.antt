@@ -19,3 +19,4 @@ pub mod NodeBodies
 pub mod Bare
 pub mod Gathering
 pub mod Memos
+pub mod Counting

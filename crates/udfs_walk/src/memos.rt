@@ -1,24 +1,28 @@
 //! What the bodies of entries tell, each found once for its information control block, whichever routes lead there.
 
-ghost use Rattle.std.specs.Prelude.{◌≡◌, ◌≤◌, IfErr, IfOk, OnOk, Some, length};
-ghost use Rattle.std.specs.BTreeMap.{IsEmpty, Updates};
+ghost use Rattle.std.specs.Prelude.{◌≡◌, ◌≤◌, ◌+◌, ℕ, List, IfErr, IfOk, IsSome, None, OnOk, Some, length};
+ghost use Rattle.std.specs.BTreeMap.{IsEmpty, IsOrdered, Updates, btree_map_len, get, insert_entry};
 ghost use Rattle.std.specs.Ordering.{nat_cmp};
 ghost use Rattle.udfs_space.specs.Views.{view_now};
 ghost use Rattle.udfs_file.specs.Stretches.{IsStanding};
 ghost use Rattle.udfs_file.specs.Entries.{entry_of};
 ghost use Rattle.udfs_file.specs.Bodies.{body};
 ghost use Rattle.udfs_walk.specs.Routes.{kind_entries};
+ghost use Rattle.udfs_lattice.specs.Volumes.{Includes};
 ghost use Rattle.udfs_walk.specs.Visits.{AreRefused};
+ghost use Rattle.udfs_walk.specs.NamedKeys.{key_of};
+ghost use Rattle.udfs_walk.specs.Counting.{IsCounted};
 ghost use Rattle.udfs_walk.specs.Memos.{IsMemo, deep_word, known_of, known_standing, standing_of, word_of};
 
 use crate::answers::NodesError;
 use crate::bare::no_lists;
 use crate::children::{Children, shared_entries};
+use crate::counting::{Walks, body_walked, entries_walked};
 use crate::standings::Standing;
 use crate::targets::key;
-use crate::told::{body_told, entries_told};
 use std::alloc::{AllocError, Global};
 use std::collections::BTreeMap;
+use std::sync::ledger::Ledger;
 use udfs_file::{Entry, NodeFault};
 use udfs_space::View;
 use udfs_tag::LongAd;
@@ -105,25 +109,30 @@ impl Memo {
         }
     }
 
-    /// What the body of an entry tells that stands at an address. It is found once.
-    pub(crate) fn known(
+    /// What the body of an entry tells that stands at an address. It is found once: where it is kept, no body is walked.
+    pub(crate) fn known<L: Ledger>(
         &mut self,
         alloc: Global,
         view: View<'_>,
         entry: &Entry<'_>,
         address: LongAd,
+        walks: &mut Walks<L>,
     ) -> Result<Known, AllocError>
         requires stands { IsStanding (view_now view) address.reference address.block entry.now }
         requires memo { IsMemo (view_now view) self.old }
         ensures known { IfOk result (λ known. known ≡ known_of (entry_of entry.now).kind
             (body (view_now view.entry) address.reference address.block (entry_of entry.now))) }
         ensures memo { IfOk result (λ known. IsMemo (view_now view.entry) self.new) }
+        ensures again { IsSome (get nat_cmp self.old.words (key_of address.reference address.block)) → walks.new ≡ walks.old }
+        ensures once { walks.new ≤ walks.old + 1 }
+        ensures counted { IfOk result (λ known. (start : ℕ) (icbs : List ℕ) → Includes icbs (key_of address.reference address.block)
+            → IsCounted start icbs self.old walks.old → IsCounted start icbs self.new walks.new) }
     {
         let key = key(address.reference, address.block);
         if let Some(known) = self.words.get(&key) {
             return Ok(*known);
         }
-        let told = body_told(alloc, view, entry, address)?;
+        let told = body_walked(alloc, view, entry, address, walks)?;
         let known = Known {
             word: in_a_word(&told.standing),
             lists: told.lists,
@@ -132,14 +141,16 @@ impl Memo {
         Ok(known)
     }
 
-    /// The entries that an entry lists which stands at an address; there are at most so many. They are found once.
-    pub(crate) fn entries(
+    /// The entries that an entry lists which stands at an address; there are at most so many. They are found once: where they
+    /// are kept, no body is walked.
+    pub(crate) fn entries<L: Ledger>(
         &mut self,
         alloc: Global,
         view: View<'_>,
         entry: &Entry<'_>,
         address: LongAd,
         most: usize,
+        walks: &mut Walks<L>,
     ) -> Result<Children, NodesError>
         requires stands { IsStanding (view_now view) address.reference address.block entry.now }
         requires memo { IsMemo (view_now view) self.old }
@@ -149,6 +160,10 @@ impl Memo {
         ensures refused { IfErr result (AreRefused most (kind_entries (entry_of entry.now).kind
             (body (view_now view.entry) address.reference address.block (entry_of entry.now)))) }
         ensures memo { IfOk result (λ entries. IsMemo (view_now view.entry) self.new) }
+        ensures again { IsSome (get nat_cmp self.old.lists (key_of address.reference address.block)) → walks.new ≡ walks.old }
+        ensures once { walks.new ≤ walks.old + 1 }
+        ensures counted { IfOk result (λ entries. (start : ℕ) (icbs : List ℕ) → Includes icbs (key_of address.reference address.block)
+            → IsCounted start icbs self.old walks.old → IsCounted start icbs self.new walks.new) }
     {
         let key = key(address.reference, address.block);
         if let Some(entries) = self.lists.get(&key) {
@@ -157,7 +172,7 @@ impl Memo {
             }
             return Ok(entries.clone()?);
         }
-        let entries = entries_told(alloc, view, entry, address, most)?;
+        let entries = entries_walked(alloc, view, entry, address, most, walks)?;
         let entries = shared_entries(alloc, entries)?;
         keep(&mut self.lists, key, entries.clone()?)?;
         Ok(entries)
@@ -166,7 +181,10 @@ impl Memo {
 
 /// Keeps what a directory lists.
 fn keep(lists: &mut BTreeMap<u64, Children>, key: u64, entries: Children) -> Result<(), AllocError>
-    ensures { OnOk result (Updates nat_cmp lists.old lists.new key (Some entries)) }
+    ensures updates { OnOk result (Updates nat_cmp lists.old lists.new key (Some entries)) }
+    ensures entries { OnOk result (lists.new.entries ≡ insert_entry nat_cmp lists.old.entries key entries) }
+    ensures count { OnOk result (get nat_cmp lists.old key ≡ None → btree_map_len lists.new ≡ btree_map_len lists.old + 1) }
+    ensures ordered { OnOk result (IsOrdered nat_cmp lists.new) }
 {
     lists.insert(key, entries)?;
     Ok(())

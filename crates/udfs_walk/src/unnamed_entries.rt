@@ -1,6 +1,6 @@
 //! Entries that no name leads to.
 
-ghost use Rattle.std.specs.Prelude.{true, ◌≡◌, ◌++◌, ◌<◌, IfOk, IsSorted, List, nat_eq, filter_map, length, map, option_map};
+ghost use Rattle.std.specs.Prelude.{true, ◌≡◌, ◌+◌, ◌++◌, ◌<◌, IfOk, IsSorted, List, is_some, nat_eq, filter_map, length, map, option_map, if◌then◌else◌};
 ghost use Rattle.std.specs.List.{list_any};
 ghost use Rattle.std.specs.Ordering.{nat_cmp};
 ghost use Rattle.udfs_lattice.specs.Tables.{state_of};
@@ -14,9 +14,11 @@ ghost use Rattle.udfs_walk.specs.NamedKeys.{AreNamed};
 
 use crate::answers::{Node, Unnamed};
 use crate::bare::{entry_address, full_entries};
+use crate::counting::{Walks, body_walked};
 use crate::targets::{Target, key, target_at};
-use crate::told::body_told;
 use std::alloc::{AllocError, Global};
+use std::marker::Brand;
+use std::sync::ledger::{Blank, Ledger};
 use udfs_file::file_sets::address_fault;
 use udfs_lattice::BlockTable;
 use udfs_osta::OutOfMemory;
@@ -73,17 +75,19 @@ fn place_from(keys: &[u64], at: usize, key: u64) -> usize {
 
 /// The entry at a logical block, if one stands there and no name leads to it, without the blocks and the holes. Its number may
 /// stand among the keys at this place: then the block is not read, and else the number is looked up once an entry is found.
-fn unnamed_at(
+fn unnamed_at<L: Ledger>(
     alloc: Global,
     view: View<'_>,
     keys: &[u64],
     at: usize,
     reference: u16,
     block: u32,
+    walks: &mut Walks<L>,
 ) -> Result<Option<Unnamed>, AllocError>
     requires { IsSorted nat_cmp keys.now }
-    ensures { IfOk result (λ found. (nodes : List NodeFields) → AreNamed (view_now view.entry) nodes keys.now
+    ensures entry { IfOk result (λ found. (nodes : List NodeFields) → AreNamed (view_now view.entry) nodes keys.now
         → option_map (full_entry (view_now view.entry)) found ≡ unnamed_at (view_now view.entry) nodes (reference, block)) }
+    ensures walks { IfOk result (λ found. walks.new ≡ walks.old + (if is_some found then 1 else 0)) }
 {
     let key = key(reference, block);
     if is_at(keys, at, key) {
@@ -97,7 +101,7 @@ fn unnamed_at(
             if is_among(keys, key) {
                 return Ok(None);
             }
-            let told = body_told(alloc, view, &entry, address)?;
+            let told = body_walked(alloc, view, &entry, address, walks)?;
             Ok(Some(Unnamed {
                 reference,
                 block,
@@ -111,22 +115,24 @@ fn unnamed_at(
 }
 
 /// Those in a partition, put behind the others, without the blocks and the holes.
-fn push_unnamed(
+fn push_unnamed<L: Ledger>(
     alloc: Global,
     view: View<'_>,
     keys: &[u64],
     reference: u16,
     found: &mut Vec<Unnamed>,
+    walks: &mut Walks<L>,
 ) -> Result<(), AllocError>
     requires sorted { IsSorted nat_cmp keys.now }
     requires reference { reference < length view.space.now.spans }
-    ensures { IfOk result (λ done. (nodes : List NodeFields) → AreNamed (view_now view.entry) nodes keys.now
+    ensures walks { IfOk result (λ done. walks.new + length found.old.items ≡ walks.old + length found.new.items) }
+    ensures found { IfOk result (λ done. (nodes : List NodeFields) → AreNamed (view_now view.entry) nodes keys.now
         → map (full_entry (view_now view.entry)) found.new.items ≡ map (full_entry (view_now view.entry)) found.old.items ++ filter_map (unnamed_at (view_now view.entry) nodes) (icbs_in view.entry.space.now reference)) }
 {
     let mut at = 0;
     for block in 0..view.space.length(reference) {
         at = place_from(keys, at, key(reference, block));
-        match unnamed_at(alloc, view, keys, at, reference, block)? {
+        match unnamed_at(alloc, view, keys, at, reference, block, walks)? {
             Some(entry) => found.push(entry)?,
             None => {}
         }
@@ -149,7 +155,7 @@ pub fn unnamed(
 ) -> Result<Vec<Unnamed>, OutOfMemory>
     ensures { IfOk result (λ found. found.items ≡ unnamed (view (state_of table.now) space.now) space.now nodes.now) }
 {
-    let bare = not_named(alloc, table, space, nodes)?;
+    let bare = begun_unnamed::<Brand>(alloc, table, space, nodes, Blank::new(1))?;
     let found = full_entries(alloc, View { table, space }, bare)?;
     Ok(found)
 }
@@ -169,24 +175,49 @@ pub fn bare_unnamed(
     ensures { IfOk result (λ found. map (full_entry (view (state_of table.now) space.now)) found.items
         ≡ unnamed (view (state_of table.now) space.now) space.now (map (full_node (view (state_of table.now) space.now)) nodes.now)) }
 {
-    let found = not_named(alloc, table, space, nodes)?;
+    let found = begun_unnamed::<Brand>(alloc, table, space, nodes, Blank::new(1))?;
     Ok(found)
 }
 
-/// The entries of the volume that none of these nodes names, without their blocks and holes.
-fn not_named(
+/// The entries as [`counted_unnamed`] lists them, over a count that begins.
+fn begun_unnamed<L: Ledger>(
     alloc: Global,
     table: &BlockTable,
     space: &Space,
     nodes: &[Node],
+    blank: Blank,
 ) -> Result<Vec<Unnamed>, AllocError>
+    requires name { blank.name ≡ L.name }
+    requires parts { blank.parts ≡ L.parts }
+    requires one { blank.parts ≡ 1 }
     ensures { IfOk result (λ found. map (full_entry (view (state_of table.now) space.now)) found.items ≡ unnamed (view (state_of table.now) space.now) space.now nodes.now) }
+{
+    let mut walks = Walks::<L>::none(blank);
+    let found = counted_unnamed(alloc, table, space, nodes, &mut walks)?;
+    Ok(found)
+}
+
+/// The entries of the volume that none of these nodes names, without their blocks and holes, with a count of the walks over
+/// bodies that this takes: one for each of them, and none of what a node names.
+///
+/// # Errors
+///
+/// Memory was refused.
+pub fn counted_unnamed<L: Ledger>(
+    alloc: Global,
+    table: &BlockTable,
+    space: &Space,
+    nodes: &[Node],
+    walks: &mut Walks<L>,
+) -> Result<Vec<Unnamed>, AllocError>
+    ensures walks { IfOk result (λ found. walks.new ≡ walks.old + length found.items) }
+    ensures unnamed { IfOk result (λ found. map (full_entry (view (state_of table.now) space.now)) found.items ≡ unnamed (view (state_of table.now) space.now) space.now nodes.now) }
 {
     let view = View { table, space };
     let keys = named(alloc, space, nodes)?;
     let mut found = Vec::new(alloc);
     for reference in 0..space.maps() {
-        push_unnamed(alloc, view, &keys, reference, &mut found)?;
+        push_unnamed(alloc, view, &keys, reference, &mut found, walks)?;
     }
     Ok(found)
 }

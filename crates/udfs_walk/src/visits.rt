@@ -1,12 +1,15 @@
 //! One node: what stands at the end of a route.
 
-ghost use Rattle.std.specs.Prelude.{◌≤◌, ◌≡◌, [], ◌||◌, IfErr, IfOk, List, cond, length};
+ghost use Rattle.std.specs.Prelude.{◌≤◌, ◌≡◌, [], ◌+◌, ◌||◌, ℕ, IfErr, IfOk, List, cond, length};
 ghost use Rattle.std.specs.List.{list_any};
 ghost use Rattle.udfs_space.specs.Views.{view_now};
 ghost use Rattle.udfs_file.specs.Stretches.{IsStanding};
 ghost use Rattle.udfs_file.specs.Entries.{entry_of};
 ghost use Rattle.udfs_file.specs.Bodies.{body};
+ghost use Rattle.udfs_lattice.specs.Volumes.{Includes};
 ghost use Rattle.udfs_walk.specs.Bare.{bare_node, bare_standing};
+ghost use Rattle.udfs_walk.specs.Counting.{IsCounted};
+ghost use Rattle.udfs_walk.specs.NamedKeys.{key_of};
 ghost use Rattle.udfs_walk.specs.Memos.{IsMemo};
 ghost use Rattle.udfs_walk.specs.Standings.{body_standing};
 ghost use Rattle.udfs_walk.specs.Targets.{Icb, icb_of, is_icb};
@@ -17,11 +20,13 @@ ghost use Rattle.udfs_walk.specs.Visits.{AreListed, AreRefused, count_listed, en
 use crate::answers::{Node, NodesError};
 use crate::bare::no_lists;
 use crate::children::Children;
+use crate::counting::Walks;
 use crate::memos::Memo;
 use crate::paths::Path;
 use crate::standings::Standing;
 use crate::targets::{Target, target_at};
 use std::alloc::Global;
+use std::sync::ledger::Ledger;
 use udfs_file::{Entry, Kind};
 use udfs_space::View;
 use udfs_tag::LongAd;
@@ -43,7 +48,7 @@ fn is_loop(address: LongAd, above: &[(u16, u32)]) -> bool
 
 /// What an entry tells at the end of a route: its standing, without the blocks and the holes, and the entries to which a
 /// route goes on. Of a loop, and below 64 names, there are none.
-fn entry_told(
+fn entry_told<L: Ledger>(
     alloc: Global,
     view: View<'_>,
     entry: &Entry<'_>,
@@ -52,6 +57,7 @@ fn entry_told(
     is_deep: bool,
     most: usize,
     memo: &mut Memo,
+    walks: &mut Walks<L>,
 ) -> Result<(Standing, Option<Children>), NodesError>
     requires stands { IsStanding (view_now view) address.reference address.block entry.now }
     requires memo { IsMemo (view_now view) memo.old }
@@ -61,18 +67,21 @@ fn entry_told(
         (body (view_now view.entry) address.reference address.block (entry_of entry.now))))) }
     ensures few { IfOk result (λ told. count_listed told.1 ≤ most) }
     ensures memo { IfOk result (λ told. IsMemo (view_now view.entry) memo.new) }
+    ensures twice { walks.new ≤ walks.old + 2 }
+    ensures counted { IfOk result (λ told. (start : ℕ) (icbs : List ℕ) → Includes icbs (key_of address.reference address.block)
+        → IsCounted start icbs memo.old walks.old → IsCounted start icbs memo.new walks.new) }
     ensures refused { IfErr result (AreRefused most (cond (is_loop || is_deep) [] (kind_entries (entry_of entry.now).kind
         (body (view_now view.entry) address.reference address.block (entry_of entry.now))))) }
 {
     if is_loop {
         return Ok((Standing::Loop, None));
     }
-    let known = memo.known(alloc, view, entry, address)?;
+    let known = memo.known(alloc, view, entry, address, walks)?;
     let standing = known.standing(alloc, is_deep);
     if is_deep || !known.lists {
         return Ok((standing, None));
     }
-    let entries = memo.entries(alloc, view, entry, address, most)?;
+    let entries = memo.entries(alloc, view, entry, address, most, walks)?;
     Ok((standing, Some(entries)))
 }
 
@@ -115,7 +124,7 @@ fn read(entry: &Entry<'_>, address: LongAd, path: Path, hidden: bool, standing: 
 
 /// What stands at the end of a route: the node is without the blocks and the holes.
 #[tactic(auto, unfolding(crate::specs::Nodes::node, crate::specs::Routes::entries_below))]
-pub(crate) fn visited(
+pub(crate) fn visited<L: Ledger>(
     alloc: Global,
     view: View<'_>,
     address: LongAd,
@@ -124,12 +133,16 @@ pub(crate) fn visited(
     hidden: bool,
     most: usize,
     memo: &mut Memo,
+    walks: &mut Walks<L>,
 ) -> Result<Visit, NodesError>
     requires { IsMemo (view_now view) memo.old }
     ensures node { IfOk result (λ visit. visit.node ≡ bare_node (node (view_now view.entry) (end_at address path above.now hidden))) }
     ensures entries { IfOk result (λ visit. AreListed visit.entries (entries_below (view_now view.entry) (end_at address path above.now hidden))) }
     ensures few { IfOk result (λ visit. count_listed visit.entries ≤ most) }
     ensures memo { IfOk result (λ visit. IsMemo (view_now view.entry) memo.new) }
+    ensures twice { walks.new ≤ walks.old + 2 }
+    ensures counted { IfOk result (λ visit. (start : ℕ) (icbs : List ℕ) → Includes icbs (key_of address.reference address.block)
+        → IsCounted start icbs memo.old walks.old → IsCounted start icbs memo.new walks.new) }
     ensures refused { IfErr result (AreRefused most (entries_below (view_now view.entry) (end_at address path above.now hidden))) }
 {
     match target_at(view, address) {
@@ -145,7 +158,7 @@ pub(crate) fn visited(
             let is_loop = is_loop(address, above);
             let is_deep = path.len() >= MOST_NAMES;
             let (standing, entries) = entry_told(
-                alloc, view, &entry, address, is_loop, is_deep, most, memo,
+                alloc, view, &entry, address, is_loop, is_deep, most, memo, walks,
             )?;
             Ok(Visit {
                 node: read(&entry, address, path, hidden, standing),

@@ -1,10 +1,12 @@
 //! The walk over all routes, in the order of words.
 
-ghost use Rattle.std.specs.Prelude.{◌≡◌, ◌+◌, ◌≤◌, ◌∷◌, [], ◌++◌, IfErr, IfOk, MatchOption, MatchResult, length, map};
+ghost use Rattle.std.specs.Prelude.{◌≡◌, ◌+◌, ◌≤◌, ◌*◌, ◌∷◌, ℕ, List, [], ◌++◌, IfErr, IfOk, MatchOption, MatchResult, length, map};
 ghost use Rattle.udfs_lattice.specs.Tables.{state_of};
 ghost use Rattle.udfs_space.specs.Places.{view};
 ghost use Rattle.udfs_space.specs.Views.{view_now};
+ghost use Rattle.udfs_lattice.specs.Volumes.{Includes};
 ghost use Rattle.udfs_walk.specs.Bare.{bare_node, full_node};
+ghost use Rattle.udfs_walk.specs.Counting.{IsCounted, IsWithinTaken, icb_key, icbs_of};
 ghost use Rattle.udfs_walk.specs.Memos.{IsMemo};
 ghost use Rattle.udfs_walk.specs.Nodes.{node};
 ghost use Rattle.udfs_walk.specs.Visits.{AreRefused, end_at};
@@ -16,12 +18,14 @@ ghost use Rattle.udfs_walk.specs.Frames.{IsFrameOf, IsStepRefused, IsEntryTaken,
 use crate::answers::{Node, NodesError};
 use crate::bare::full_nodes;
 use crate::children::Children;
+use crate::counting::Walks;
 use crate::memos::Memo;
 use crate::paths::{Names, Path};
 use crate::visits::{Visit, visited};
 use bitflags::Flags;
 use std::alloc::{AllocError, Global};
-use std::marker::Model;
+use std::marker::{Brand, Model};
+use std::sync::ledger::{Blank, Ledger};
 use udfs_file::Marks;
 use udfs_lattice::BlockTable;
 use udfs_space::{Space, View};
@@ -70,7 +74,7 @@ fn with_icb(
 impl Frame {
     /// Goes to what stands at the end of a route: its node, without the blocks and the holes, and itself as a directory,
     /// where a route goes on.
-    fn enter(
+    fn enter<L: Ledger>(
         alloc: Global,
         view: View<'_>,
         address: LongAd,
@@ -79,16 +83,20 @@ impl Frame {
         hidden: bool,
         most: usize,
         memo: &mut Memo,
+        walks: &mut Walks<L>,
     ) -> Result<(Node, Option<Frame>), NodesError>
         requires { IsMemo (view_now view) memo.old }
         ensures node { IfOk result (λ entered. entered.0 ≡ bare_node (node (view_now view.entry) (end_at address path above.now hidden))) }
         ensures frame { IfOk result (λ entered. IsFrameOf entered.1 (frame_at (view_now view.entry) (end_at address path above.now hidden))) }
         ensures few { IfOk result (λ entered. count_left entered.1 ≤ most) }
         ensures memo { IfOk result (λ entered. IsMemo (view_now view.entry) memo.new) }
+        ensures twice { walks.new ≤ walks.old + 2 }
+        ensures counted { IfOk result (λ entered. (start : ℕ) (icbs : List ℕ) → Includes icbs (icb_key entered.0)
+            → IsCounted start icbs memo.old walks.old → IsCounted start icbs memo.new walks.new) }
         ensures refused { IfErr result (AreRefused most (entries_below (view_now view.entry) (end_at address path above.now hidden))) }
     {
         let Visit { node, entries } = visited(
-            alloc, view, address, path, above, hidden, most, memo,
+            alloc, view, address, path, above, hidden, most, memo, walks,
         )?;
         let Some(entries) = entries else {
             return Ok((node, None));
@@ -103,17 +111,22 @@ impl Frame {
     }
 
     /// Goes into the next entry, if one is left.
-    fn step(
+    fn step<L: Ledger>(
         &mut self,
         alloc: Global,
         view: View<'_>,
         most: usize,
         memo: &mut Memo,
+        walks: &mut Walks<L>,
     ) -> Result<Option<(Node, Option<Frame>)>, NodesError>
         requires { IsMemo (view_now view) memo.old }
         ensures taken { IfOk result (λ taken. IsEntryTaken (view_now view.entry) self.old taken self.new) }
         ensures few { IfOk result (λ taken. MatchOption taken (Unit {0}) (λ entered. count_left entered.1 ≤ most)) }
         ensures memo { IfOk result (λ taken. IsMemo (view_now view.entry) memo.new) }
+        ensures twice { walks.new ≤ walks.old + 2 }
+        ensures idle { self.old.left ≡ [] → walks.new ≡ walks.old }
+        ensures counted { IfOk result (λ taken. (start : ℕ) (icbs : List ℕ) → IsWithinTaken icbs taken
+            → IsCounted start icbs memo.old walks.old → IsCounted start icbs memo.new walks.new) }
         ensures refused { IfErr result (IsStepRefused (view_now view.entry) most self.old) }
     {
         let Some(entry) = self.entries.get(self.passed) else {
@@ -131,6 +144,7 @@ impl Frame {
             hidden,
             most,
             memo,
+            walks,
         )?;
         Ok(Some(entered))
     }
@@ -204,19 +218,60 @@ pub fn bare_nodes(
     ensures { MatchResult result (λ found. AreNodes (view (state_of table.now) space.now) root (map (full_node (view (state_of table.now) space.now)) found.items))
         (IsNodesRefused (view (state_of table.now) space.now) root) }
 {
+    let found = begun_nodes::<Brand>(alloc, table, space, root, Blank::new(1));
+    found
+}
+
+/// The nodes as [`counted_nodes`] lists them, over a count that begins.
+fn begun_nodes<L: Ledger>(
+    alloc: Global,
+    table: &BlockTable,
+    space: &Space,
+    root: LongAd,
+    blank: Blank,
+) -> Result<Vec<Node>, NodesError>
+    requires name { blank.name ≡ L.name }
+    requires parts { blank.parts ≡ L.parts }
+    requires one { blank.parts ≡ 1 }
+    ensures { MatchResult result (λ found. AreNodes (view (state_of table.now) space.now) root (map (full_node (view (state_of table.now) space.now)) found.items))
+        (IsNodesRefused (view (state_of table.now) space.now) root) }
+{
+    let mut walks = Walks::<L>::none(blank);
+    let found = counted_nodes(alloc, table, space, root, &mut walks);
+    found
+}
+
+/// The nodes as [`bare_nodes`] lists them, with a count of the walks over bodies that this takes: at most two for each
+/// information control block, however many routes lead there, and never more than 131,072.
+///
+/// # Errors
+///
+/// As those of [`nodes`].
+pub fn counted_nodes<L: Ledger>(
+    alloc: Global,
+    table: &BlockTable,
+    space: &Space,
+    root: LongAd,
+    walks: &mut Walks<L>,
+) -> Result<Vec<Node>, NodesError>
+    ensures nodes { MatchResult result (λ found. AreNodes (view (state_of table.now) space.now) root (map (full_node (view (state_of table.now) space.now)) found.items))
+        (IsNodesRefused (view (state_of table.now) space.now) root) }
+    ensures twice { IfOk result (λ found. walks.new ≤ walks.old + 2 * length (icbs_of found.items)) }
+    ensures few { walks.new ≤ walks.old + 131072 }
+{
     let view = View { table, space };
     let path = Path::root(alloc)?;
     // So many nodes may still be found behind those that were, and behind the entries that are left.
     let mut room: usize = MOST_NODES - 1;
     let mut memo = Memo::new(alloc);
-    let (node, frame) = Frame::enter(alloc, view, root, path, &[], false, room, &mut memo)?;
+    let (node, frame) = Frame::enter(alloc, view, root, path, &[], false, room, &mut memo, walks)?;
     room -= count_left(&frame);
     let mut nodes = Vec::new(alloc);
     put(&mut nodes, node)?;
     let mut frames = Vec::new(alloc);
     keep(&mut frames, frame)?;
     'walk: while let Some(mut frame) = frames.pop() {
-        let (node, below) = match frame.step(alloc, view, room, &mut memo)? {
+        let (node, below) = match frame.step(alloc, view, room, &mut memo, walks)? {
             None => continue,
             Some(taken) => taken,
         };

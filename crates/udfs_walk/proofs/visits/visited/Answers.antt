@@ -12,18 +12,18 @@ use Rattle.udfs_walk.proofs.TargetLemmas.{node_is}
 use Rattle.udfs_walk.proofs.visits.visited.Goals as goal
 
 pub returns-in-Fault-clause-node : goal.returns-in-Fault-clause-node
-returns-in-Fault-clause-node c =
+returns-in-Fault-clause-node g c =
     let w = end_at c.args.address c.args.path c.args.above.now c.args.hidden in
     c.unread.ensures c.args.above.now ∙ ap bare_node (node_is (view_now c.args.view) w (bad c.in-Fault.fault) c.in-Fault.ensures.value)
 
 pub returns-in-Unread-clause-node : goal.returns-in-Unread-clause-node
-returns-in-Unread-clause-node c =
+returns-in-Unread-clause-node g c =
     let w = end_at c.args.address c.args.path c.args.above.now c.args.hidden in
     c.unread-in-Unread.ensures c.args.above.now ∙ ap (λ lists. untold w (Torn lists)) c.no_lists.ensures
     ∙ ap bare_node (node_is (view_now c.args.view) w (unread c.in-Unread.field-0) c.in-Unread.ensures.value)
 
 pub returns-in_ok-standing-in-Entry-clause-node : goal.returns-in_ok-standing-in-Entry-clause-node
-returns-in_ok-standing-in-Entry-clause-node c =
+returns-in_ok-standing-in-Entry-clause-node g c =
     let v = view_now c.args.view in
     let w = end_at c.args.address c.args.path c.args.above.now c.args.hidden in
     let e = entry_of c.in-Entry.entry in

@@ -5,11 +5,11 @@ use Rattle.udfs_walk.specs.Nodes.{node}
 use Rattle.udfs_walk.specs.Routes.{inside}
 use Rattle.udfs_walk.specs.Visits.{end_at}
 use Rattle.udfs_walk.proofs.BareNodes.{full_is}
-use Rattle.udfs_walk.proofs.Owed.{drop_next, step_refused}
+use Rattle.udfs_walk.proofs.Owed.{drop_next, some_left, step_refused}
 use Rattle.udfs_walk.proofs.walks.Frame.step.Goals as goal
 
 pub returns-clause-taken : goal.returns-clause-taken
-returns-clause-taken c =
+returns-clause-taken g c =
     let v = view_now c.args.view in
     let f = c.args.self.now in
     let e = c.in-Some.entry.now in
@@ -30,7 +30,7 @@ returns-clause-taken c =
     }
 
 pub returns-in_err-entered-clause-refused : goal.returns-in_err-entered-clause-refused
-returns-in_err-entered-clause-refused c =
+returns-in_err-entered-clause-refused g c =
     let v = view_now c.args.view in
     let f = c.args.self.now in
     let e = c.in-Some.entry.now in
@@ -44,3 +44,13 @@ returns-in_err-entered-clause-refused c =
     (sym (ap (λ f. f.left) c.self.view_is) ∙ (λ i. drop c.self.inside.passed (sym slice i))
     ∙ drop_next c.deref-2.result.now c.self.inside.passed e c.in-Some.ensures.lookup.3.0 c.in-Some.ensures.lookup.1)
     walk c.in_err-entered.ensures.refused
+
+pub returns-clause-idle : goal.returns-clause-idle
+returns-clause-idle g c none =
+    let slice = c.deref-2.ensures.value ∙ ap (λ v. v.items) c.deref.ensures in
+    absurd (some_left c.deref-2.result.now c.self.inside.passed c.in-Some.ensures.lookup.3.0 ((λ i. drop c.self.inside.passed (slice i)) ∙ ap (λ f. f.left) c.self.view_is ∙ none))
+
+pub returns-in_err-entered-clause-idle : goal.returns-in_err-entered-clause-idle
+returns-in_err-entered-clause-idle g c none =
+    let slice = c.deref-2.ensures.value ∙ ap (λ v. v.items) c.deref.ensures in
+    absurd (some_left c.deref-2.result.now c.self.inside.passed c.in-Some.ensures.lookup.3.0 ((λ i. drop c.self.inside.passed (slice i)) ∙ ap (λ f. f.left) c.self.view_is ∙ none))

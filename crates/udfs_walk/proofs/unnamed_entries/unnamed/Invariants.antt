@@ -1,0 +1,4 @@
+use Rattle.udfs_walk.proofs.unnamed_entries.unnamed.Given as goal
+
+abbrev pub ghosts-begun_unnamed : goal.ghosts-begun_unnamed
+ghosts-begun_unnamed a = record { name = a.blank.name; parts = a.blank.parts }

@@ -1,0 +1,36 @@
+-- How many walks over bodies the walk over all routes makes.
+--     icbs_of nodes                         the information control blocks of nodes, each once
+--     IsCounted start icbs memo walks       each walk so far left what it found, and at these information control blocks alone
+--     IsWithinTaken icbs taken              the next node has one of these
+use Rattle.std.specs.Prelude.{◌≡◌, ◌+◌, ℕ, ⊤, List, Option, Some, None, map}
+use Rattle.std.specs.BTreeMap.{IsOrdered, btree_map_len, keys}
+use Rattle.std.specs.Ordering.{nat_cmp}
+use Rattle.udfs_lattice.specs.Volumes.{Includes, ascending}
+use Rattle.udfs_walk.specs.NamedKeys.{key_of}
+use Rattle.udfs_walk.specs.NodeFields.{NodeFields}
+use Rattle.udfs_walk.specs.declared.memos.Memo.{Memo}
+
+-- the information control block of a node, as one number
+abbrev pub icb_key : NodeFields → ℕ
+icb_key n = key_of n.icb.reference n.icb.block
+
+-- the information control blocks of nodes, each once
+abbrev pub icbs_of : List NodeFields → List ℕ
+icbs_of nodes = ascending (map icb_key nodes)
+
+-- all numbers of one list are in another
+abbrev pub AreWithin : List ℕ → List ℕ → Type 0
+AreWithin ns icbs = (n : ℕ) → Includes ns n → Includes icbs n
+
+-- as many walks were made since the start as words and lists are kept, each at one of these information control blocks
+pub record IsCounted (start : ℕ) (icbs : List ℕ) (memo : Memo) (walks : ℕ) : Type 0 where
+  pub count : walks ≡ start + btree_map_len memo.words + btree_map_len memo.lists
+  pub words_once : IsOrdered nat_cmp memo.words
+  pub lists_once : IsOrdered nat_cmp memo.lists
+  pub words : AreWithin (keys memo.words) icbs
+  pub lists : AreWithin (keys memo.lists) icbs
+
+-- the node that was gone to, if one was, has one of these information control blocks
+abbrev pub IsWithinTaken : {F : Type 0} → List ℕ → Option (NodeFields × F) → Type 0
+IsWithinTaken icbs None = ⊤
+IsWithinTaken icbs (Some taken) = Includes icbs (icb_key taken.0)

@@ -1,0 +1,97 @@
+//! How many walks over bodies were made.
+
+ghost use Rattle.std.specs.Prelude.{◌≡◌, ◌+◌, ◌≤◌, IfErr, IfOk, false, length, nat_lt};
+ghost use Rattle.udfs_space.specs.Views.{view_now};
+ghost use Rattle.udfs_file.specs.Stretches.{IsStanding};
+ghost use Rattle.udfs_file.specs.Entries.{entry_of};
+ghost use Rattle.udfs_file.specs.Bodies.{body};
+ghost use Rattle.udfs_walk.specs.Bare.{bare_standing};
+ghost use Rattle.udfs_walk.specs.Standings.{body_standing};
+ghost use Rattle.udfs_walk.specs.Routes.{kind_entries};
+ghost use Rattle.udfs_walk.specs.Visits.{AreRefused};
+
+use crate::answers::NodesError;
+use crate::told::{Told, body_told, entries_told};
+use std::alloc::{AllocError, Global};
+use std::marker::Model;
+use std::sync::ledger::{Blank, Book, Ledger, Share};
+use udfs_file::{DirEntry, Entry};
+use udfs_space::View;
+use udfs_tag::LongAd;
+
+/// How many walks over bodies were made. It takes no bytes and no time: only the proofs see it.
+#[derive(Drop)]
+pub struct Walks<L: Ledger> {
+    book: Book<L>,
+    share: Share<L>,
+}
+
+impl<L: Ledger> Model for Walks<L> {
+    ghost use Rattle.std.specs.Prelude.{ℕ, ◌<◌};
+
+    ghost Value = { ℕ };
+
+    ghost view = { λ w. w.book.total };
+
+    ghost invariant = { λ w. 0 < w.share.parts };
+}
+
+impl<L: Ledger> Walks<L> {
+    /// No walk was made.
+    pub fn none(blank: Blank) -> Walks<L>
+        requires name { blank.name ≡ L.name }
+        requires parts { blank.parts ≡ L.parts }
+        requires one { blank.parts ≡ 1 }
+        ensures { result ≡ 0 }
+    {
+        let (book, share) = blank.open::<L>();
+        Walks { book, share }
+    }
+
+    /// One more walk is made.
+    fn count(&mut self)
+        ensures { self.new ≡ self.old + 1 }
+    {
+        self.book.add(&mut self.share, 1);
+    }
+}
+
+/// What the body of an entry tells that stands at an address, as [`body_told`] has it, which walks over it.
+pub(crate) fn body_walked<L: Ledger>(
+    alloc: Global,
+    view: View<'_>,
+    entry: &Entry<'_>,
+    address: LongAd,
+    walks: &mut Walks<L>,
+) -> Result<Told, AllocError>
+    requires { IsStanding (view_now view) address.reference address.block entry.now }
+    ensures standing { IfOk result (λ told. told.standing ≡ bare_standing (body_standing (entry_of entry.now).kind false
+        (body (view_now view.entry) address.reference address.block (entry_of entry.now)))) }
+    ensures lists { IfOk result (λ told. told.lists ≡ nat_lt 0 (length (kind_entries (entry_of entry.now).kind
+        (body (view_now view.entry) address.reference address.block (entry_of entry.now))))) }
+    ensures walks { walks.new ≡ walks.old + 1 }
+{
+    walks.count();
+    body_told(alloc, view, entry, address)
+}
+
+/// The entries that an entry lists which stands at an address, as [`entries_told`] has them, which walks over its body.
+pub(crate) fn entries_walked<L: Ledger>(
+    alloc: Global,
+    view: View<'_>,
+    entry: &Entry<'_>,
+    address: LongAd,
+    most: usize,
+    walks: &mut Walks<L>,
+) -> Result<Vec<DirEntry>, NodesError>
+    requires { IsStanding (view_now view) address.reference address.block entry.now }
+    ensures entries { IfOk result (λ entries. entries.items ≡ kind_entries (entry_of entry.now).kind
+        (body (view_now view.entry) address.reference address.block (entry_of entry.now))) }
+    ensures few { IfOk result (λ entries. length entries.items ≤ most) }
+    ensures refused { IfErr result (AreRefused most (kind_entries (entry_of entry.now).kind
+        (body (view_now view.entry) address.reference address.block (entry_of entry.now)))) }
+    ensures walks { walks.new ≡ walks.old + 1 }
+{
+    walks.count();
+    entries_told(alloc, view, entry, address, most)
+}
