@@ -13,7 +13,7 @@ use Rattle.udfs_tree.specs.Laws.{AreTheTree, IsNodeOf}
 use Rattle.udfs_tree.proofs.PublicLaws.{complete_nodes, fewer_routes, once_per_path, one_file, partial_nodes}
 use Rattle.udfs_salvage.specs.Found.{Found}
 use Rattle.udfs_salvage.specs.Laws.{IsVolumeGroup, IsFoundOf, IsToldOf}
-use Rattle.udfs_salvage.specs.Reports.{Report, ReportsNodes, ReportsBy, IsReportBy, IsOutOfRange, IsPastEnd, HasTooManyPathsBy, IsLookRefused}
+use Rattle.udfs_salvage.specs.Reports.{Report, ReportsNodes, ReportsBy, IsReportBy, IsOutOfRange, IsPastEnd, HasTooManyPathsBy, IsLookRefused, IsUnfit}
 use Rattle.udfs_salvage.specs.VolumeTrees.{IsInVolumeBy, IsLawfulBy, NeedsOf, for_volume, for_node, IsMetBy}
 use Rattle.udfs_salvage.specs.TreeReports.{IsNodeOfVolume, IsReportOf, TellsTreeBy, IsWholeReportOf, TellsWholeTreeBy, AgreesWithNoneBy, IsOfNoLawfulBy, OpensOnceBy, OneFileAtBy, ReportsTellTreeBy}
 use Rattle.udfs_salvage.specs.declared.errors.SalvageError.{SalvageError}
@@ -154,6 +154,12 @@ too_many P M N (got, e, more) V l a = go (tells_lawful P M N (found got) (sym e)
     go : IsFoundOf V M N f got → ⊥
     go is = (lawful_tree P V N l).limit (fewer_routes (view M f.space) (view (complete V N) f.space) r.opened.blocks (part_of P M V N l a) r.is_whole f.root (lawful_tree P V N l) 65536
         (subst (λ z. HasMoreRoutes (view M z.space) z.root 65536) is.same more))
+
+pub unfit : (P : Profile) (M : Blocks) (N : ℕ) (e : SalvageError) → IsUnfit M N e → IsOfNoLawfulBy P M N e
+unfit P M N errors.LastRange h = out_of_range P M N h
+unfit P M N (errors.PastEnd n) h = past_end P M N n h.1
+unfit P M N errors.TooManyPaths h = absurd h
+unfit P M N errors.OutOfMemory h = absurd h
 
 pub look_refused : (P : Profile) (M : Blocks) (N : ℕ) (e : SalvageError) → IsLookRefused P M N e → IsOfNoLawfulBy P M N e
 look_refused P M N errors.LastRange h = absurd h

@@ -116,6 +116,13 @@ MayWantMemoryBy profile blocks last = (layout_by profile blocks last ≢ faulty 
 abbrev pub MayWantMemory : Blocks → ℕ → Type 0
 MayWantMemory = MayWantMemoryBy Strict
 
+-- why a table can not be told of a volume with this last block: there is no such volume, or something is known behind it
+abbrev pub IsUnfit : Blocks → ℕ → SalvageError → Type 0
+IsUnfit blocks last errors.LastRange = IsOutOfRange last
+IsUnfit blocks last (errors.PastEnd n) = (¬ IsOutOfRange last) × IsPastEnd blocks last n
+IsUnfit blocks last errors.TooManyPaths = ⊥
+IsUnfit blocks last errors.OutOfMemory = ⊥
+
 -- why a volume within its last block has no report: too many paths, or want of memory where it may come
 abbrev pub IsLookRefused : Profile → Blocks → ℕ → SalvageError → Type 0
 IsLookRefused profile blocks last errors.LastRange = ⊥

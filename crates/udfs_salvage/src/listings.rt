@@ -3,6 +3,7 @@
 ghost use Rattle.std.specs.Prelude.{◌≡◌, ◌≤◌, ◌↔◌, ℕ, IfOk, IfErr, IsErrOf};
 ghost use Rattle.udfs_lattice.specs.Tables.{state_of};
 ghost use Rattle.udfs_volume.specs.Answers.{found};
+ghost use Rattle.udfs_volume.specs.Seen.{IsRising};
 ghost use Rattle.udfs_salvage.specs.Found.{found_now, volume_now};
 ghost use Rattle.udfs_salvage.specs.Headline.{HeadlineBy};
 ghost use Rattle.udfs_salvage.specs.Listings.{AreUnnamed, listing_now};
@@ -10,12 +11,11 @@ ghost use Rattle.udfs_salvage.specs.TreeReports.{IsOfNoLawfulBy};
 ghost use Rattle.udfs_salvage.specs.Reports.{HasTooManyPathsBy, IsLookRefused, IsNothingPast, IsOutOfRange, IsPastEnd, IsReportBy, IsWalkRefused, MayWantMemoryBy, ReportsBy, all_whole};
 
 use crate::errors::SalvageError;
-use crate::reports::{FIRST_LAST, all_whole, past_end};
+use crate::reports::{all_whole, judge_last};
 use crate::surveys::list;
 use crate::volumes::{OpenVolume, Volume, open};
 use std::alloc::Global;
 use udfs_lattice::BlockTable;
-use udfs_lattice::table::LAST_BLOCK;
 use udfs_volume::{Profile, Seen};
 use udfs_walk::unnamed_entries::bare_unnamed;
 use udfs_walk::{Node, Unnamed, bare_reread};
@@ -54,6 +54,7 @@ fn list_open<'a>(
     opened: OpenVolume,
 ) -> Result<Listing<'a>, SalvageError>
     ensures report { IfOk result (λ listing. ReportsBy (state_of table.now) (found (found_now opened)) (listing_now listing)) }
+    ensures rising { IfOk result (λ listing. IsRising (listing_now listing).reread) }
     ensures volume { IfOk result (λ listing. volume_now listing.volume ≡ found (found_now opened)) }
     ensures of { IfOk result (λ listing. (listing.table.now ≡ table.now) × (listing.last ≡ last)) }
     ensures rules { IfOk result (λ listing. listing.profile ≡ profile) }
@@ -80,6 +81,7 @@ fn look<'a>(
     requires to { last ≤ 4194303 }
     requires nothing_past { IsNothingPast (state_of table.now) last }
     ensures report { IfOk result (λ listing. IsReportBy profile (state_of table.now) last (listing_now listing)) }
+    ensures rising { IfOk result (λ listing. IsRising (listing_now listing).reread) }
     ensures of { IfOk result (λ listing. (listing.table.now ≡ table.now) × (listing.last ≡ last)) }
     ensures rules { IfOk result (λ listing. listing.profile ≡ profile) }
     ensures refused { IfErr result (IsLookRefused profile (state_of table.now) last) }
@@ -111,7 +113,7 @@ fn look<'a>(
 /// # Errors
 ///
 /// As those of [`salvage_by`](crate::salvage_by).
-#[tactic(auto, using(crate::proofs::TreeReports::out_of_range, crate::proofs::TreeReports::past_end, crate::proofs::TreeReports::look_refused))]
+#[tactic(auto, using(crate::proofs::TreeReports::unfit, crate::proofs::TreeReports::look_refused))]
 pub fn list_volume_by<'a>(
     alloc: Global,
     table: &'a BlockTable,
@@ -126,16 +128,14 @@ pub fn list_volume_by<'a>(
     ensures headline { IfOk result (λ listing. HeadlineBy profile (state_of table.now) last (listing_now listing)) }
     ensures memory { IsErrOf result SalvageError.OutOfMemory → (¬ IsOutOfRange last) × IsNothingPast (state_of table.now) last × MayWantMemoryBy profile (state_of table.now) last }
     ensures of_no_lawful { IfErr result (IsOfNoLawfulBy profile (state_of table.now) last) }
+    ensures rising { IfOk result (λ listing. IsRising (listing_now listing).reread) }
     ensures rules { IfOk result (λ listing. listing.profile ≡ profile) }
     ensures of { IfOk result (λ listing. (listing.table.now ≡ table.now) × (listing.last ≡ last)) }
 {
-    if last < FIRST_LAST || last > LAST_BLOCK {
-        return Err(SalvageError::LastRange);
+    match judge_last(table, last) {
+        Ok(()) => look(alloc, table, last, profile),
+        Err(error) => Err(error),
     }
-    if let Some(block) = past_end(table, last) {
-        return Err(SalvageError::PastEnd(block));
-    }
-    look(alloc, table, last, profile)
 }
 
 /// The entries that no name leads to, of the volume of a listing, as a report has them; a torn one without its blocks and holes. Of a volume that does not open there are none.

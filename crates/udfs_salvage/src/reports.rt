@@ -1,12 +1,12 @@
 //! Reports.
 
-ghost use Rattle.std.specs.Prelude.{◌≡◌, ◌↔◌, ℕ, IfOk, IfErr, IsErrOf, MatchOption};
+ghost use Rattle.std.specs.Prelude.{◌≡◌, ◌↔◌, ℕ, IfOk, IfErr, IsErrOf, MatchOption, OnOk};
 ghost use Rattle.udfs_lattice.specs.Tables.{state_of};
 ghost use Rattle.udfs_volume.specs.Seen.{IsRising};
 ghost use Rattle.udfs_volume.specs.declared.profiles.Profile.TheVariants.{Strict};
 ghost use Rattle.udfs_salvage.specs.Headline.{Headline, HeadlineBy};
 ghost use Rattle.udfs_salvage.specs.TreeReports.{IsOfNoLawful, IsOfNoLawfulBy};
-ghost use Rattle.udfs_salvage.specs.Reports.{HasTooManyPaths, HasTooManyPathsBy, IsNothingPast, IsOutOfRange, IsPastEnd, IsReport, IsReportBy, MayWantMemory, MayWantMemoryBy, all_whole, is_whole, report_now};
+ghost use Rattle.udfs_salvage.specs.Reports.{HasTooManyPaths, HasTooManyPathsBy, IsNothingPast, IsOutOfRange, IsPastEnd, IsReport, IsReportBy, IsUnfit, MayWantMemory, MayWantMemoryBy, all_whole, is_whole, report_now};
 
 use crate::errors::SalvageError;
 use crate::surveys::look_full;
@@ -18,7 +18,7 @@ use udfs_volume::Profile;
 use udfs_walk::{Node, Standing, Unnamed};
 
 /// The least last block of a volume.
-pub(crate) const FIRST_LAST: u32 = 513;
+const FIRST_LAST: u32 = 513;
 
 /// What a table tells of a volume.
 #[derive(Drop)]
@@ -59,7 +59,7 @@ pub fn all_whole(nodes: &[Node]) -> bool
 }
 
 /// The first block behind the last one of which something is known.
-pub(crate) fn past_end(table: &BlockTable, last: u32) -> Option<u32>
+fn past_end(table: &BlockTable, last: u32) -> Option<u32>
     ensures { MatchOption result (IsNothingPast (state_of table.now) last) (λ n. IsPastEnd (state_of table.now) last n) }
 {
     for (block, _) in table.entries() {
@@ -68,6 +68,27 @@ pub(crate) fn past_end(table: &BlockTable, last: u32) -> Option<u32>
         }
     }
     None
+}
+
+/// Whether the table can be told of a volume of which `last` is the last block.
+///
+/// # Errors
+///
+/// `LastRange` exactly where `last` is not from 513 to 4,194,303; else `PastEnd` exactly where something is known of a block behind the last, with the
+/// least such block.
+pub(crate) fn judge_last(table: &BlockTable, last: u32) -> Result<(), SalvageError>
+    ensures good { OnOk result ((¬ IsOutOfRange last) × IsNothingPast (state_of table.now) last) }
+    ensures range { IsErrOf result SalvageError.LastRange ↔ IsOutOfRange last }
+    ensures past { (n : ℕ) → (IsErrOf result (SalvageError.PastEnd n) ↔ ((¬ IsOutOfRange last) × IsPastEnd (state_of table.now) last n)) }
+    ensures bad { IfErr result (IsUnfit (state_of table.now) last) }
+{
+    if last < FIRST_LAST || last > LAST_BLOCK {
+        return Err(SalvageError::LastRange);
+    }
+    match past_end(table, last) {
+        Some(block) => Err(SalvageError::PastEnd(block)),
+        None => Ok(()),
+    }
 }
 
 /// What the table tells of the volume by the rules of a profile, where `last` is its last block: whether it opens, its files and directories
@@ -92,7 +113,7 @@ pub(crate) fn past_end(table: &BlockTable, last: u32) -> Option<u32>
 /// block behind the last, with the least such block; else `TooManyPaths` where more than 65,536 routes lead from the
 /// root to a node; and `OutOfMemory` where memory is refused, but never where one of the first two is due, nor for a volume without
 /// an anchor or with wrong extents.
-#[tactic(auto, using(crate::proofs::TreeReports::out_of_range, crate::proofs::TreeReports::past_end, crate::proofs::TreeReports::look_refused))]
+#[tactic(auto, using(crate::proofs::TreeReports::unfit, crate::proofs::TreeReports::look_refused))]
 pub fn salvage_by<'a>(
     alloc: Global,
     table: &'a BlockTable,
@@ -112,13 +133,10 @@ pub fn salvage_by<'a>(
     ensures rules { IfOk result (λ report. report.profile ≡ profile) }
     ensures of { IfOk result (λ report. (report.table.now ≡ table.now) × (report.last ≡ last)) }
 {
-    if last < FIRST_LAST || last > LAST_BLOCK {
-        return Err(SalvageError::LastRange);
+    match judge_last(table, last) {
+        Ok(()) => look_full(alloc, table, last, profile),
+        Err(error) => Err(error),
     }
-    if let Some(block) = past_end(table, last) {
-        return Err(SalvageError::PastEnd(block));
-    }
-    look_full(alloc, table, last, profile)
 }
 
 /// What the table tells of the volume by the strict rules, of which `last` is the last block: [`salvage_by`] with

@@ -15,11 +15,10 @@ ghost use Rattle.udfs_salvage.specs.Reports.{HasTooManyPaths, HasTooManyPathsBy,
 ghost use Rattle.udfs_salvage.specs.Surveys.{IsClosed, IsVolumeFound, survey_now};
 
 use crate::errors::SalvageError;
-use crate::reports::{FIRST_LAST, Report, all_whole, past_end};
+use crate::reports::{Report, all_whole, judge_last};
 use crate::volumes::{OpenVolume, Volume, open};
 use std::alloc::{AllocError, Global};
 use udfs_lattice::BlockTable;
-use udfs_lattice::table::LAST_BLOCK;
 use udfs_space::View;
 use udfs_volume::{Profile, Seen};
 use udfs_walk::unnamed_entries::bare_unnamed;
@@ -245,7 +244,7 @@ pub(crate) fn look_full<'a>(
 /// # Errors
 ///
 /// As those of [`salvage_by`](crate::salvage_by).
-#[tactic(auto, using(crate::proofs::TreeReports::out_of_range, crate::proofs::TreeReports::past_end, crate::proofs::TreeReports::look_refused))]
+#[tactic(auto, using(crate::proofs::TreeReports::unfit, crate::proofs::TreeReports::look_refused))]
 pub fn survey_volume_by<'a>(
     alloc: Global,
     table: &'a BlockTable,
@@ -264,13 +263,10 @@ pub fn survey_volume_by<'a>(
     ensures rules { IfOk result (λ survey. survey.profile ≡ profile) }
     ensures of { IfOk result (λ survey. (survey.table.now ≡ table.now) × (survey.last ≡ last)) }
 {
-    if last < FIRST_LAST || last > LAST_BLOCK {
-        return Err(SalvageError::LastRange);
+    match judge_last(table, last) {
+        Ok(()) => look(alloc, table, last, profile),
+        Err(error) => Err(error),
     }
-    if let Some(block) = past_end(table, last) {
-        return Err(SalvageError::PastEnd(block));
-    }
-    look(alloc, table, last, profile)
 }
 
 /// What the table tells of the volume, of which `last` is the last block, as [`salvage`](crate::salvage) tells it, but for

@@ -6,6 +6,6 @@ use Rattle.udfs_salvage.specs.Listings.{listing_now}
 use Rattle.udfs_salvage.proofs.Headlines.{reports_keep_it}
 use Rattle.udfs_salvage.proofs.listings.list_volume_by.Goals as goal
 
-pub returns-clause-headline : goal.returns-clause-headline
-returns-clause-headline c = IfOk-weaker c.look.result (λ r. IsReportBy c.args.profile (state_of c.args.table.now) c.args.last (listing_now r)) (λ r. HeadlineBy c.args.profile (state_of c.args.table.now) c.args.last (listing_now r))
+pub returns-in-Ok-clause-headline : goal.returns-in-Ok-clause-headline
+returns-in-Ok-clause-headline c = IfOk-weaker c.look.result (λ r. IsReportBy c.args.profile (state_of c.args.table.now) c.args.last (listing_now r)) (λ r. HeadlineBy c.args.profile (state_of c.args.table.now) c.args.last (listing_now r))
     (λ r h. reports_keep_it c.args.profile (state_of c.args.table.now) c.args.last (listing_now r) h) c.look.ensures.report
