@@ -17,21 +17,25 @@ letter_rule name letter = record (flag_rule name) { short = Some letter }
 abbrev pub value_rule : Text → Rule
 value_rule name = record (new_rule name) { long = Some name; action = Some Set; value_names = 1; required = true }
 
+-- an argument with one value, which may have to be given
+abbrev pub option_rule : Text → Bool → Rule
+option_rule name required = record (value_rule name) { required = required }
+
 -- `--last N`, a number of 32 bits, which may have to be given
 abbrev pub last_rule : Bool → Rule
-last_rule needed = record (value_rule (codes "last")) { parser = Some (Signed (pos 0) (pos 4294967295)); required = needed }
+last_rule needed = record (option_rule (codes "last") needed) { parser = Some (Signed (pos 0) (pos 4294967295)) }
 
 -- `--size BYTES`, a number of 64 bits
 abbrev pub size_rule : Rule
-size_rule = record (new_rule (codes "size")) { long = Some (codes "size"); action = Some Set; value_names = 1; parser = Some (Unsigned 0 18446744073709551615) }
+size_rule = record (option_rule (codes "size") false) { parser = Some (Unsigned 0 18446744073709551615) }
 
 -- `--mapfile FILE`
 abbrev pub mapfile_rule : Rule
-mapfile_rule = record (value_rule (codes "mapfile")) { required = false }
+mapfile_rule = option_rule (codes "mapfile") false
 
 -- `--profile PROFILE`
 abbrev pub profile_rule : Rule
-profile_rule = record (value_rule (codes "profile")) { required = false }
+profile_rule = option_rule (codes "profile") false
 
 -- `--out FILE` or `-o FILE`
 abbrev pub out_rule : Rule
@@ -79,11 +83,11 @@ only_rule = record (new_rule (codes "only")) { long = Some (codes "only"); value
 
 -- `--manifest FILE`
 abbrev pub manifest_rule : Rule
-manifest_rule = record (value_rule (codes "manifest")) { required = false }
+manifest_rule = option_rule (codes "manifest") false
 
 -- `--unnamed DIR`
 abbrev pub unnamed_rule : Rule
-unnamed_rule = record (value_rule (codes "unnamed")) { required = false }
+unnamed_rule = option_rule (codes "unnamed") false
 
 -- `extract (--last N | --size BYTES) [--profile PROFILE] --to DIR [--fill] [--only PATH]... [--manifest FILE] [--unnamed DIR] [--times] [--short-names] IN...`
 abbrev pub extract_app : Given → App

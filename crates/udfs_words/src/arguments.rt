@@ -2,7 +2,7 @@
 
 ghost use Rattle.std.specs.Prelude.{◌≡◌, false, codes};
 ghost use Rattle.clap.specs.Words.{rule_of};
-ghost use Rattle.udfs_words.specs.Grammar.{blocks_rule, flag_rule, inputs_rule, last_rule, letter_rule, manifest_rule, mapfile_rule, only_rule, out_rule, pairs_rule, profile_rule, size_rule, unnamed_rule, value_rule};
+ghost use Rattle.udfs_words.specs.Grammar.{blocks_rule, flag_rule, inputs_rule, last_rule, letter_rule, manifest_rule, mapfile_rule, only_rule, option_rule, out_rule, pairs_rule, profile_rule, size_rule, unnamed_rule, value_rule};
 
 use crate::words::{
     BLOCKS, FORCE, INPUTS, LAST, MANIFEST, MAPFILE, ONLY, OUT, PAIRS, PROFILE, QUIET, SIZE, TO,
@@ -56,26 +56,55 @@ pub fn force<'a>(alloc: Global) -> Arg<'a>
     )
 }
 
+/// An option with one value, which the usage shows by this word.
+fn option<'a>(
+    alloc: Global,
+    name: &'a str,
+    value: &'a str,
+    help: &'a str,
+    required: bool,
+) -> Arg<'a>
+    ensures { (rule_of result ≡ option_rule name.now required) × (result.global ≡ false) }
+{
+    Arg::new(alloc, name)
+        .long(name)
+        .value_name(value)
+        .help(help)
+        .required(required)
+        .action(ArgAction::Set)
+}
+
+/// The file to write, with the letter `o`.
+fn output<'a>(alloc: Global, value: &'a str, help: &'a str) -> Arg<'a>
+    ensures { (rule_of result ≡ out_rule) × (result.global ≡ false) }
+{
+    option(alloc, OUT, value, help, true).short('o')
+}
+
 /// The rules by which the volume is read.
 pub fn profile<'a>(alloc: Global) -> Arg<'a>
     ensures { (rule_of result ≡ profile_rule) × (result.global ≡ false) }
 {
-    Arg::new(alloc, PROFILE)
-        .long("profile")
-        .value_name("PROFILE")
-        .help("The rules by which the volume is read: strict, as without it, or wide")
-        .action(ArgAction::Set)
+    option(
+        alloc,
+        PROFILE,
+        "PROFILE",
+        "The rules by which the volume is read: strict, as without it, or wide",
+        false,
+    )
 }
 
 /// The mapfile to write.
 pub fn domain<'a>(alloc: Global) -> Arg<'a>
     ensures { (rule_of result ≡ mapfile_rule) × (result.global ≡ false) }
 {
-    Arg::new(alloc, MAPFILE)
-        .long("mapfile")
-        .value_name("FILE")
-        .help("Write the blocks as a domain mapfile for ddrescue -m, and print how many they are")
-        .action(ArgAction::Set)
+    option(
+        alloc,
+        MAPFILE,
+        "FILE",
+        "Write the blocks as a domain mapfile for ddrescue -m, and print how many they are",
+        false,
+    )
 }
 
 /// Lists of blocks, of which there is at least one where no conflicts are to be forgotten.
@@ -94,63 +123,55 @@ pub fn blocks<'a>(alloc: Global, conflicts: bool) -> Arg<'a>
 pub fn table_file<'a>(alloc: Global) -> Arg<'a>
     ensures { (rule_of result ≡ out_rule) × (result.global ≡ false) }
 {
-    Arg::new(alloc, OUT)
-        .short('o')
-        .long("out")
-        .value_name("FILE")
-        .help("The table file to write, over an old one")
-        .required(true)
-        .action(ArgAction::Set)
+    output(alloc, "FILE", "The table file to write, over an old one")
 }
 
 /// The page to write.
 pub fn page_file<'a>(alloc: Global) -> Arg<'a>
     ensures { (rule_of result ≡ out_rule) × (result.global ≡ false) }
 {
-    Arg::new(alloc, OUT)
-        .short('o')
-        .long("out")
-        .value_name("FILE")
-        .help("The page to write, over an old one; - is standard output")
-        .required(true)
-        .action(ArgAction::Set)
+    output(
+        alloc,
+        "FILE",
+        "The page to write, over an old one; - is standard output",
+    )
 }
 
 /// The image to write.
 pub fn image_file<'a>(alloc: Global) -> Arg<'a>
     ensures { (rule_of result ≡ out_rule) × (result.global ≡ false) }
 {
-    Arg::new(alloc, OUT)
-        .short('o')
-        .long("out")
-        .value_name("IMAGE")
-        .help("The image to write: zeros stand in the place of what is not known")
-        .required(true)
-        .action(ArgAction::Set)
+    output(
+        alloc,
+        "IMAGE",
+        "The image to write: zeros stand in the place of what is not known",
+    )
 }
 
 /// The image's mapfile to write.
 pub fn image_map<'a>(alloc: Global) -> Arg<'a>
     ensures { (rule_of result ≡ value_rule (codes "mapfile")) × (result.global ≡ false) }
 {
-    Arg::new(alloc, MAPFILE)
-        .long("mapfile")
-        .value_name("MAPFILE")
-        .help("The image's mapfile to write: + known, - in conflict, ? unknown")
-        .required(true)
-        .action(ArgAction::Set)
+    option(
+        alloc,
+        MAPFILE,
+        "MAPFILE",
+        "The image's mapfile to write: + known, - in conflict, ? unknown",
+        true,
+    )
 }
 
 /// The folder to make.
 pub fn folder<'a>(alloc: Global) -> Arg<'a>
     ensures { (rule_of result ≡ value_rule (codes "to")) × (result.global ≡ false) }
 {
-    Arg::new(alloc, TO)
-        .long("to")
-        .value_name("DIR")
-        .help("The folder to make, which may not be there yet")
-        .required(true)
-        .action(ArgAction::Set)
+    option(
+        alloc,
+        TO,
+        "DIR",
+        "The folder to make, which may not be there yet",
+        true,
+    )
 }
 
 /// Paths of nodes that alone are asked for.
@@ -170,49 +191,54 @@ pub fn only<'a>(alloc: Global) -> Arg<'a>
 pub fn manifest<'a>(alloc: Global) -> Arg<'a>
     ensures { (rule_of result ≡ manifest_rule) × (result.global ≡ false) }
 {
-    Arg::new(alloc, MANIFEST)
-        .long("manifest")
-        .value_name("FILE")
-        .help("Write a manifest too, for sha256sum -c in the new folder, over an old one")
-        .action(ArgAction::Set)
+    option(
+        alloc,
+        MANIFEST,
+        "FILE",
+        "Write a manifest too, for sha256sum -c in the new folder, over an old one",
+        false,
+    )
 }
 
 /// The folder for lost files.
 pub fn lost_folder<'a>(alloc: Global) -> Arg<'a>
     ensures { (rule_of result ≡ unnamed_rule) × (result.global ≡ false) }
 {
-    Arg::new(alloc, UNNAMED)
-        .long("unnamed")
-        .value_name("DIR")
-        .help(
-            "Write whole files without a name too, by their blocks, into this folder, which may not be there yet",
-        )
-        .action(ArgAction::Set)
+    option(
+        alloc,
+        UNNAMED,
+        "DIR",
+        "Write whole files without a name too, by their blocks, into this folder, which may not be there yet",
+        false,
+    )
 }
 
 /// The volume's last block, which may have to be given.
 pub fn last<'a>(alloc: Global, needed: bool) -> Arg<'a>
     ensures { (rule_of result ≡ last_rule needed) × (result.global ≡ false) }
 {
-    Arg::new(alloc, LAST)
-        .long("last")
-        .value_name("N")
-        .help("The number of the volume's last block")
-        .required(needed)
-        .value_parser(value_parser!(u32))
-        .action(ArgAction::Set)
+    option(
+        alloc,
+        LAST,
+        "N",
+        "The number of the volume's last block",
+        needed,
+    )
+    .value_parser(value_parser!(u32))
 }
 
 /// The disc's size.
 pub fn disc_size<'a>(alloc: Global) -> Arg<'a>
     ensures { (rule_of result ≡ size_rule) × (result.global ≡ false) }
 {
-    Arg::new(alloc, SIZE)
-        .long("size")
-        .value_name("BYTES")
-        .help("The size of the disc in bytes, in place of --last")
-        .value_parser(value_parser!(u64))
-        .action(ArgAction::Set)
+    option(
+        alloc,
+        SIZE,
+        "BYTES",
+        "The size of the disc in bytes, in place of --last",
+        false,
+    )
+    .value_parser(value_parser!(u64))
 }
 
 /// Images with their mapfiles.
