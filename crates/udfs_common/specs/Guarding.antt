@@ -4,7 +4,10 @@
 --     SomeShut                   one of some paths may fail to open
 --     IsFree                     an output takes the place of no image, no mapfile and no reading, but of a reading that is an input, or by force
 --     IsSpared                   why an output is refused
---     IsFreeMap, IsSparedMap     the same of a map of blocks to read again: it takes the place of no file but such a map, and of none of the inputs
+--     IsFreeOwn                  an output takes the place of no file but one of its own kind, and of none of the inputs
+--     IsSparedOwn                why it is refused
+--     MayNotBeSeen               what an output would take the place of could not be looked at
+--     IsFreeMap, IsSparedMap     the same of a map of blocks to read again
 --     IsApart                    neither of two paths is the other, nor that of a new file that is to go in the place of the other
 --     AreInTheWay                one of them is
 --     IsFreePair                 what an image and its mapfile take the place of
@@ -60,13 +63,26 @@ IsSpared holds real files parts force out = SomeLeads real (real out) parts ⊎ 
 unfoldable pub domain_kind : List ℕ
 domain_kind = made_by ++ mark_line
 
--- `parts` are the images and mapfiles among the inputs
-pub record IsFreeMap (holds : List ℕ → Option (Option (List ℕ))) (real : List ℕ → List ℕ) (in_place : List ℕ → Type 0) (parts : List (List ℕ)) (out : List ℕ) : Type 0 where
+-- an output takes the place of no file but one that begins so, and of none of the inputs: `files` are those that are files, and `parts` the images and mapfiles among them
+pub record IsFreeOwn (kind : List ℕ) (holds : List ℕ → Option (Option (List ℕ))) (real : List ℕ → List ℕ) (in_place : List ℕ → Type 0) (files parts : List (List ℕ)) (out : List ℕ) : Type 0 where
+  pub no_input : NoneLeads real (real out) files
   pub apart : NoneLeads real (real out) parts
-  pub of_kind : (in_place out → ⊥) → (bytes : List ℕ) → holds (real out) ≡ Some (Some bytes) → begins domain_kind bytes ≡ true
+  pub of_kind : (in_place out → ⊥) → (bytes : List ℕ) → holds (real out) ≡ Some (Some bytes) → begins kind bytes ≡ true
+
+-- one of the inputs is there, or no file that begins so is
+abbrev pub IsSparedOwn : List ℕ → (List ℕ → Option (Option (List ℕ))) → (List ℕ → List ℕ) → List (List ℕ) → List (List ℕ) → List ℕ → Type 0
+IsSparedOwn kind holds real files parts out = SomeLeads real (real out) files ⊎ SomeLeads real (real out) parts ⊎ BeginsOtherwise kind (holds (real out))
+
+-- its path, or that of an input, may fail to open, or a read failed
+abbrev pub MayNotBeSeen : (List ℕ → Type 0) → Type 0 → List (List ℕ) → List (List ℕ) → List ℕ → Type 0
+MayNotBeSeen shut Failed files parts out = shut out ⊎ SomeShut shut files ⊎ SomeShut shut parts ⊎ Failed
+
+-- `parts` are the images and mapfiles among the inputs
+abbrev pub IsFreeMap : (List ℕ → Option (Option (List ℕ))) → (List ℕ → List ℕ) → (List ℕ → Type 0) → List (List ℕ) → List ℕ → Type 0
+IsFreeMap holds real in_place parts out = IsFreeOwn domain_kind holds real in_place [] parts out
 
 abbrev pub IsSparedMap : (List ℕ → Option (Option (List ℕ))) → (List ℕ → List ℕ) → List (List ℕ) → List ℕ → Type 0
-IsSparedMap holds real parts out = SomeLeads real (real out) parts ⊎ BeginsOtherwise domain_kind (holds (real out))
+IsSparedMap holds real parts out = IsSparedOwn domain_kind holds real [] parts out
 
 -- two paths, neither of which is that of a new file for the other
 pub record IsApart (image mapfile : List ℕ) : Type 0 where

@@ -1,8 +1,8 @@
 //! What an output may not take the place of: a pass can not be had again.
 
-ghost use Rattle.std.specs.Prelude.{◌≡◌, ◌≢◌, ◌⊎◌, ℕ, List, true, false, Some, IfOk, OnErr, map};
+ghost use Rattle.std.specs.Prelude.{◌≡◌, ◌≢◌, ◌⊎◌, ℕ, List, [], true, false, Some, IfOk, OnErr, map};
 ghost use Rattle.udfs_files.specs.Disk.{Fails};
-ghost use Rattle.udfs_common.specs.Guarding.{BeginsOtherwise, IsFree, IsFreeMap, IsSpared, IsSparedMap, MayBegin, NoneLeads, SomeLeads, SomeShut, begins};
+ghost use Rattle.udfs_common.specs.Guarding.{BeginsOtherwise, IsFree, IsFreeMap, IsFreeOwn, IsSpared, IsSparedMap, IsSparedOwn, MayBegin, MayNotBeSeen, NoneLeads, SomeLeads, SomeShut, begins};
 
 use crate::files::Files;
 use std::alloc::{AllocError, Global};
@@ -142,6 +142,43 @@ pub fn look_at<F: Files>(
     }
 }
 
+/// What is known of an output that takes the place of its own kind of file alone: it is spared where it is one of the inputs, whose files are `inputs` and whose images and
+/// mapfiles are `parts`, or where what is there is a file that begins otherwise than with `kind`.
+pub fn look_at_own<F: Files>(
+    alloc: Global,
+    inputs: &[&str],
+    parts: &[&str],
+    kind: &[u8],
+    out: &str,
+    files: &F,
+) -> Result<Outlook, AllocError>
+    ensures free { IfOk result (λ found. found ≡ Outlook.Free → F.tells → IsFreeOwn kind.now (F.holds files.now) (F.real files.now) (F.in_place files.now) (map (λ path. path.now) inputs.now) (map (λ path. path.now) parts.now) out.now) }
+    ensures spared { IfOk result (λ found. found ≡ Outlook.Spared → F.tells → IsSparedOwn kind.now (F.holds files.now) (F.real files.now) (map (λ path. path.now) inputs.now) (map (λ path. path.now) parts.now) out.now) }
+    ensures unknown { IfOk result (λ found. found ≡ Outlook.Unknown → MayNotBeSeen (F.shut files.now) (Fails F.Input.faults) (map (λ path. path.now) inputs.now) (map (λ path. path.now) parts.now) out.now) }
+{
+    let Ok(place) = files.resolve(alloc, out)? else {
+        return Ok(Outlook::Unknown);
+    };
+    match is_among(alloc, inputs, place.path.as_str(), files)? {
+        Ok(false) => {}
+        Ok(true) => return Ok(Outlook::Spared),
+        Err(DeviceFault) => return Ok(Outlook::Unknown),
+    }
+    match is_among(alloc, parts, place.path.as_str(), files)? {
+        Ok(false) => {}
+        Ok(true) => return Ok(Outlook::Spared),
+        Err(DeviceFault) => return Ok(Outlook::Unknown),
+    }
+    match place.kind {
+        Kind::Absent | Kind::Other => Ok(Outlook::Free),
+        Kind::Regular => match is_kind(out, kind, files) {
+            Ok(true) => Ok(Outlook::Free),
+            Ok(false) => Ok(Outlook::Spared),
+            Err(DeviceFault) => Ok(Outlook::Unknown),
+        },
+    }
+}
+
 /// What is known of a map of blocks to read again that is to be written: it is spared where it is an image or a mapfile of the inputs, or where what is there is
 /// a file and begins as no such map does, as the mapfile of a pass.
 pub fn look_at_map<F: Files>(
@@ -152,22 +189,8 @@ pub fn look_at_map<F: Files>(
 ) -> Result<Outlook, AllocError>
     ensures free { IfOk result (λ found. found ≡ Outlook.Free → F.tells → IsFreeMap (F.holds files.now) (F.real files.now) (F.in_place files.now) (map (λ path. path.now) parts.now) out.now) }
     ensures spared { IfOk result (λ found. found ≡ Outlook.Spared → F.tells → IsSparedMap (F.holds files.now) (F.real files.now) (map (λ path. path.now) parts.now) out.now) }
-    ensures unknown { IfOk result (λ found. found ≡ Outlook.Unknown → F.shut files.now out.now ⊎ SomeShut (F.shut files.now) (map (λ path. path.now) parts.now) ⊎ Fails F.Input.faults) }
+    ensures unknown { IfOk result (λ found. found ≡ Outlook.Unknown → MayNotBeSeen (F.shut files.now) (Fails F.Input.faults) [] (map (λ path. path.now) parts.now) out.now) }
 {
-    let Ok(place) = files.resolve(alloc, out)? else {
-        return Ok(Outlook::Unknown);
-    };
-    match is_among(alloc, parts, place.path.as_str(), files)? {
-        Ok(false) => {}
-        Ok(true) => return Ok(Outlook::Spared),
-        Err(DeviceFault) => return Ok(Outlook::Unknown),
-    }
-    match place.kind {
-        Kind::Absent | Kind::Other => Ok(Outlook::Free),
-        Kind::Regular => match is_kind(out, DOMAIN, files) {
-            Ok(true) => Ok(Outlook::Free),
-            Ok(false) => Ok(Outlook::Spared),
-            Err(DeviceFault) => Ok(Outlook::Unknown),
-        },
-    }
+    let found = look_at_own(alloc, &[], parts, DOMAIN, out, files)?;
+    Ok(found)
 }

@@ -123,7 +123,7 @@ pub fn remark_on<F: Files>(alloc: Global, survey: &Survey<'_>, files: &F) {
 }
 
 /// Tells who watches why the volume of a survey does not open, where it does not.
-pub fn remark_unopened<F: Files>(alloc: Global, survey: &Survey<'_>, files: &F) {
+fn remark_unopened<F: Files>(alloc: Global, survey: &Survey<'_>, files: &F) {
     let told = Told {
         table: survey.table,
         last: survey.last,

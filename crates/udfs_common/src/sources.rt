@@ -140,7 +140,7 @@ pub fn open_all<F: Files>(
 }
 
 /// Why a pair was refused: its own reason, with the number of the input.
-fn refused_pair(input: usize, fault: PairFault) -> Refusal
+pub fn refused_pair(input: usize, fault: PairFault) -> Refusal
     ensures value { result ≡ refused_pair input fault }
     ensures told { (result ≢ Refusal.Output) × (result ≢ Refusal.Unkept) × (result ≢ Refusal.Spared) }
 {

@@ -307,6 +307,9 @@ pub trait Files {
     /// What is read at positions can be read from its front.
     ghost stored_as_input: { (stored : Self.Stored) → (input : Self.Input) × (Self.Input.remaining input ≡ Self.Stored.content stored) };
 
+    /// What is read at positions can be read as an image.
+    ghost stored_as_image: { (stored : Self.Stored) → (image : Self.Image) × (Self.Image.bytes image ≡ Self.Stored.content stored) };
+
     /// What is read at positions is told, or no output tells what was written to it.
     ghost told_or_silent: { ToldOrSilent Self.Stored.content Self.Output.stream };
 

@@ -413,6 +413,8 @@ where
 
     ghost stored_as_input = { λ s. (record { file = s.file; number = s.number; watch = s.watch; faults = 0 }, refl) };
 
+    ghost stored_as_image = { λ s. (record { file = s.file; number = s.number; watch = s.watch; at = None; faults = 0 }, refl) };
+
     ghost told_or_silent = { inr (λ _. refl) };
 
     ghost output_told = { λ never. absurd never };

@@ -365,6 +365,8 @@ impl Files for Memory {
 
     ghost stored_as_input = { λ s. (record { bytes = s.bytes; at = 0; device = record { most = s.most; good = 0; takes_none = false }; faults = 0; within = least s.bytes.items }, refl) };
 
+    ghost stored_as_image = { λ s. (record { bytes = s.bytes; device = record { most = s.most; good = 0; takes_none = false }; faults = 0 }, refl) };
+
     ghost told_or_silent = { inl (λ s. (s.bytes.items, refl)) };
 
     ghost output_told = { λ _ f. (f.bytes.items, refl) };

@@ -6,7 +6,6 @@
 --     MayPageAsked          what a crash in the middle shows: what was there, or the page in its place
 --     IsFreePage            a page takes the place of no file but a page, and of none of the inputs
 --     IsSparedPage          why a page is refused: it would take the place of something else
---     MayNotBeSeen          what an output would take the place of could not be looked at
 --     ReplacesPage          the page replaces what is at its path, whole or not at all, and nothing else, whatever is answered
 use Rattle.std.specs.Prelude.{◌≡◌, ◌≢◌, ◌⊎◌, ⊤, ℕ, Bool, true, List, Option, Some, codes, map, if◌then◌else◌}
 use Rattle.std.specs.Str.{bytes_eq}
@@ -18,7 +17,7 @@ use Rattle.udfs_volume.specs.declared.profiles.Profile.{Profile}
 use Rattle.udfs_page.specs.Heads.{page_mark}
 use Rattle.udfs_page.specs.Pages.{page_html}
 use Rattle.udfs_words.specs.Asking.{IsLast, IsProfile, asked_for, asked_streams, out_text}
-use Rattle.udfs_common.specs.Guarding.{BeginsOtherwise, NoneLeads, SomeLeads, SomeShut, begins}
+use Rattle.udfs_common.specs.Guarding.{IsFreeOwn, IsSparedOwn}
 use Rattle.udfs_common.specs.Keeping.{OfPaths}
 use Rattle.udfs_words.specs.declared.input_path.InputPath.{InputPath}
 
@@ -64,18 +63,12 @@ abbrev pub MayPageAsked : {R : Type 0} → (List ℕ → Option (Option (List �
 MayPageAsked found remaining real words d c = Same d c ⊎ PageAsked found remaining words (λ bytes. Replaced (real (page_path words)) bytes d c)
 
 -- `files` are the inputs that are files, and `parts` the images and mapfiles among the inputs
-pub record IsFreePage (holds : List ℕ → Option (Option (List ℕ))) (real : List ℕ → List ℕ) (in_place : List ℕ → Type 0) (files parts : List (List ℕ)) (out : List ℕ) : Type 0 where
-  pub no_input : NoneLeads real (real out) files
-  pub apart : NoneLeads real (real out) parts
-  pub of_kind : (in_place out → ⊥) → (bytes : List ℕ) → holds (real out) ≡ Some (Some bytes) → begins page_mark bytes ≡ true
+abbrev pub IsFreePage : (List ℕ → Option (Option (List ℕ))) → (List ℕ → List ℕ) → (List ℕ → Type 0) → List (List ℕ) → List (List ℕ) → List ℕ → Type 0
+IsFreePage holds real in_place files parts out = IsFreeOwn page_mark holds real in_place files parts out
 
 -- one of the inputs is there, or no page is
 abbrev pub IsSparedPage : (List ℕ → Option (Option (List ℕ))) → (List ℕ → List ℕ) → List (List ℕ) → List (List ℕ) → List ℕ → Type 0
-IsSparedPage holds real files parts out = SomeLeads real (real out) files ⊎ SomeLeads real (real out) parts ⊎ BeginsOtherwise page_mark (holds (real out))
-
--- its path, or that of an input, may fail to open, or a read failed
-abbrev pub MayNotBeSeen : (List ℕ → Type 0) → Type 0 → List (List ℕ) → List (List ℕ) → List ℕ → Type 0
-MayNotBeSeen shut Failed files parts out = shut out ⊎ SomeShut shut files ⊎ SomeShut shut parts ⊎ Failed
+IsSparedPage holds real files parts out = IsSparedOwn page_mark holds real files parts out
 
 -- unless the page goes to a device or a pipe: a crash at any moment leaves what this step makes of what it might have left before; and no other path changes, but those of new files
 -- that are to go in the page's place

@@ -3,22 +3,23 @@
 ghost use Rattle.std.specs.Prelude.{◌≡◌, ◌≢◌, ◌⊎◌, ℕ, List, true, IfOk, IfErr, OnErr, map};
 ghost use Rattle.udfs_files.specs.Disk.{After, Disk, Fails, SinkFails, IsOwn};
 ghost use Rattle.udfs_common.specs.Keeping.{IsKept, IsTaken, OfPaths, RefusedOut};
-ghost use Rattle.udfs_reports.specs.Paging.{IsFreePage, IsPage, IsSparedPage, MayNotBeSeen, MayPage, MayPageOf, PutsPage};
+ghost use Rattle.udfs_common.specs.Guarding.{MayNotBeSeen};
+ghost use Rattle.udfs_reports.specs.Paging.{IsFreePage, IsPage, IsSparedPage, MayPage, MayPageOf, PutsPage};
 ghost use Rattle.udfs_reports.specs.Telling.{IsRefusedPut, OfPathsRefused};
 ghost use Rattle.udfs_common.specs.declared.sources.AnySource.{AnySource};
 
 use crate::telling::surveyed;
 use std::alloc::{AllocError, Global};
 use udfs_common::files::Files;
-use udfs_common::guard::{Outlook, is_among, is_kind};
+use udfs_common::guard::{Outlook, look_at_own};
 use udfs_common::inputs::joined;
 use udfs_common::putting::put_file;
 use udfs_common::refusal::Refusal;
 use udfs_common::sources::AnySource;
-use udfs_files::{Content, Kind, Stage};
+use udfs_files::{Content, Stage};
 use udfs_lattice::BlockTable;
 use udfs_page::push_page;
-use udfs_reading::{DeviceFault, Sink, Source, WriteFault, write_all};
+use udfs_reading::{Sink, Source, WriteFault, write_all};
 use udfs_volume::Profile;
 use udfs_words::input_path::InputPath;
 
@@ -51,27 +52,8 @@ pub fn look_at_page<F: Files>(
     ensures spared { IfOk result (λ found. found ≡ Outlook.Spared → F.tells → IsSparedPage (F.holds files.now) (F.real files.now) (map (λ path. path.now) inputs.now) (map (λ path. path.now) parts.now) out.now) }
     ensures unknown { IfOk result (λ found. found ≡ Outlook.Unknown → MayNotBeSeen (F.shut files.now) (Fails F.Input.faults) (map (λ path. path.now) inputs.now) (map (λ path. path.now) parts.now) out.now) }
 {
-    let Ok(place) = files.resolve(alloc, out)? else {
-        return Ok(Outlook::Unknown);
-    };
-    match is_among(alloc, inputs, place.path.as_str(), files)? {
-        Ok(false) => {}
-        Ok(true) => return Ok(Outlook::Spared),
-        Err(DeviceFault) => return Ok(Outlook::Unknown),
-    }
-    match is_among(alloc, parts, place.path.as_str(), files)? {
-        Ok(false) => {}
-        Ok(true) => return Ok(Outlook::Spared),
-        Err(DeviceFault) => return Ok(Outlook::Unknown),
-    }
-    match place.kind {
-        Kind::Absent | Kind::Other => Ok(Outlook::Free),
-        Kind::Regular => match is_kind(out, PAGE, files) {
-            Ok(true) => Ok(Outlook::Free),
-            Ok(false) => Ok(Outlook::Spared),
-            Err(DeviceFault) => Ok(Outlook::Unknown),
-        },
-    }
+    let found = look_at_own(alloc, inputs, parts, PAGE, out, files)?;
+    Ok(found)
 }
 
 /// Puts the page of a table's volume by the rules of a profile at a path.

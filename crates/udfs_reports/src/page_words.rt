@@ -4,8 +4,9 @@ ghost use Rattle.std.specs.Prelude.{◌≡◌, ◌≢◌, ◌⊎◌, ℕ, List, 
 ghost use Rattle.clap.specs.Matches.{found_of};
 ghost use Rattle.udfs_files.specs.Disk.{After, Disk, Fails, SinkFails, IsOwn};
 ghost use Rattle.udfs_words.specs.Asking.{asked_streams, input_texts, pair_texts};
+ghost use Rattle.udfs_common.specs.Guarding.{MayNotBeSeen};
 ghost use Rattle.udfs_common.specs.Keeping.{IsKept, IsTaken, RefusedOut};
-ghost use Rattle.udfs_reports.specs.Paging.{IsFreePage, IsSparedPage, MayNotBeSeen, MayPageAsked, PageAsked, WritesPage, page_path};
+ghost use Rattle.udfs_reports.specs.Paging.{IsFreePage, IsSparedPage, MayPageAsked, PageAsked, WritesPage, page_path};
 ghost use Rattle.udfs_reports.specs.Telling.{AskedRefused, IsRefusedPut};
 ghost use Rattle.udfs_common.specs.declared.sources.AnySource.{AnySource};
 

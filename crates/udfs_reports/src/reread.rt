@@ -2,6 +2,7 @@
 
 ghost use Rattle.std.specs.Prelude.{◌≡◌, IfOk, IfErr};
 ghost use Rattle.udfs_lattice.specs.Tables.{state_of};
+ghost use Rattle.udfs_volume.specs.Seen.{IsRising};
 ghost use Rattle.udfs_salvage.specs.Headline.{HeadlineBy};
 ghost use Rattle.udfs_salvage.specs.Listings.{listing_now};
 ghost use Rattle.udfs_salvage.specs.Reports.{IsReportBy};
@@ -20,7 +21,7 @@ use udfs_salvage::{Listing, list_volume_by, reread_blocks, write_numbers};
 use udfs_volume::Profile;
 
 /// The listing of a table's volume by the rules of a profile, where `last` is its last block, or why the table has no report.
-fn listed<'a>(
+pub fn listed<'a>(
     alloc: Global,
     table: &'a BlockTable,
     last: u32,
@@ -28,6 +29,7 @@ fn listed<'a>(
 ) -> Result<Listing<'a>, Refusal>
     ensures headline { IfOk result (λ listing. HeadlineBy profile (state_of table.now) last (listing_now listing)) }
     ensures report { IfOk result (λ listing. IsReportBy profile (state_of table.now) last (listing_now listing)) }
+    ensures rising { IfOk result (λ listing. IsRising (listing_now listing).reread) }
     ensures rules { IfOk result (λ listing. listing.profile ≡ profile) }
     ensures of { IfOk result (λ listing. (listing.table.now ≡ table.now) × (listing.last ≡ last)) }
     ensures refused { IfErr result (λ refusal. IsUntold profile last refusal table.now) }

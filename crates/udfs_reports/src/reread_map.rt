@@ -10,18 +10,19 @@ ghost use Rattle.udfs_reports.specs.Rereading.{IsDomain, IsRefusedDomain, MayDom
 ghost use Rattle.udfs_reports.specs.Telling.{IsUnput, OfPathsRefused};
 ghost use Rattle.udfs_common.specs.declared.sources.AnySource.{AnySource};
 
-use crate::telling::surveyed;
+use crate::reread::listed;
 use std::alloc::{AllocError, Global};
 use udfs_common::files::Files;
 use udfs_common::inputs::joined;
 use udfs_common::putting::put_file;
 use udfs_common::refusal::Refusal;
-use udfs_common::remarks::remark_unopened;
+use udfs_common::remarks::remark_on_listing;
 use udfs_common::sources::AnySource;
 use udfs_files::{Content, Stage};
 use udfs_lattice::BlockTable;
 use udfs_reading::{Sink, Source, WriteFault, write_all};
 use udfs_rescue::write_domain;
+use udfs_salvage::reread_blocks;
 use udfs_volume::Profile;
 use udfs_words::input_path::InputPath;
 
@@ -152,16 +153,20 @@ fn map_of<F: Files, O: Sink>(
     ensures refused { IfErr result (λ refusal. IsRefusedDomain (F.shut files.old path.now ⊎ Fails F.faults ⊎ SinkFails F.Output.stream) profile last (O.stream out.old) (O.stream out.new) refusal table.now) }
 {
     files.begin(Stage::Walking);
-    let survey = match surveyed(alloc, table, last, profile) {
-        Ok(survey) => survey,
+    let listing = match listed(alloc, table, last, profile) {
+        Ok(listing) => listing,
         Err(refusal) => return Err(refusal),
     };
-    match put_domain(alloc, &survey.reread, last, path, files, out) {
+    let blocks = match reread_blocks(alloc, &listing) {
+        Ok(blocks) => blocks,
+        Err(error) => return Err(Refusal::from(error)),
+    };
+    match put_domain(alloc, &blocks, last, path, files, out) {
         Ok(()) => {}
         Err(refusal) => return Err(refusal),
     }
-    remark_unopened(alloc, &survey, files);
-    Ok(survey.all_whole())
+    remark_on_listing(alloc, &listing, files);
+    Ok(listing.all_whole())
 }
 
 /// Joins the inputs, puts the mapfile of the blocks of the volume, of which `last` is the last, that are worth reading again by the rules of a profile at a path, whole or not at all,

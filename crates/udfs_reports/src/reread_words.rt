@@ -1,11 +1,11 @@
 //! What the words after `reread` ask for.
 
-ghost use Rattle.std.specs.Prelude.{◌≡◌, ◌≢◌, ◌⊎◌, ℕ, List, true, false, IfOk, IfErr, OnErr, OnOk, alloc_error, map};
+ghost use Rattle.std.specs.Prelude.{◌≡◌, ◌≢◌, ◌⊎◌, ℕ, List, [], true, false, IfOk, IfErr, OnErr, OnOk, alloc_error, map};
 ghost use Rattle.clap.specs.Matches.{found_of};
 ghost use Rattle.udfs_volume.specs.declared.profiles.Profile.{Profile};
 ghost use Rattle.udfs_files.specs.Disk.{After, Disk, Fails, SinkFails, IsOwn};
 ghost use Rattle.udfs_words.specs.Asking.{IsLast, IsProfile, asked_for, asked_inputs, is_mapped, mapfile_text, pair_texts};
-ghost use Rattle.udfs_common.specs.Guarding.{IsFreeMap, IsSparedMap, SomeShut};
+ghost use Rattle.udfs_common.specs.Guarding.{IsFreeMap, IsSparedMap, MayNotBeSeen};
 ghost use Rattle.udfs_common.specs.Keeping.{IsKept, IsTaken, OfPaths, RefusedOut};
 ghost use Rattle.udfs_common.specs.declared.sources.AnySource.{AnySource};
 ghost use Rattle.udfs_words.specs.declared.input_path.InputPath.{InputPath};
@@ -36,7 +36,7 @@ fn asked_map_outlook<F: Files>(
 ) -> Result<Outlook, AllocError>
     ensures free { IfOk result (λ found. found ≡ Outlook.Free → F.tells → IsFreeMap (F.holds files.now) (F.real files.now) (F.in_place files.now) (pair_texts (found_of words.now)) (mapfile_text (found_of words.now))) }
     ensures spared { IfOk result (λ found. found ≡ Outlook.Spared → F.tells → IsSparedMap (F.holds files.now) (F.real files.now) (pair_texts (found_of words.now)) (mapfile_text (found_of words.now))) }
-    ensures unknown { IfOk result (λ found. found ≡ Outlook.Unknown → F.shut files.now (mapfile_text (found_of words.now)) ⊎ SomeShut (F.shut files.now) (pair_texts (found_of words.now)) ⊎ Fails F.Input.faults) }
+    ensures unknown { IfOk result (λ found. found ≡ Outlook.Unknown → MayNotBeSeen (F.shut files.now) (Fails F.Input.faults) [] (pair_texts (found_of words.now)) (mapfile_text (found_of words.now))) }
 {
     let parts = words.get_strs(PAIRS).unwrap_or(&[]);
     let found = look_at_map(alloc, parts, asked_mapfile(words), files)?;
@@ -66,7 +66,7 @@ fn reread_map_words<F: Files, O: Sink>(
     // Why it is refused: what is there is spared or could not be looked at, or the last block or the inputs are to blame, or their table has no report, or the blocks were not
     // told, or the mapfile was not put.
     ensures refused { IfErr result (λ refusal. ((files.new ≡ files.old) × (O.stream out.new ≡ O.stream out.old) × (refusal ≡ Refusal.Memory alloc_error)) ⊎ ((refusal ≡ Refusal.Spared) × (F.tells → IsSparedMap (F.holds files.old) (F.real files.old) (pair_texts (found_of words.now)) (mapfile_text (found_of words.now)))) ⊎
-        ((refusal ≡ Refusal.Output) × (F.shut files.old (mapfile_text (found_of words.now)) ⊎ SomeShut (F.shut files.old) (pair_texts (found_of words.now)) ⊎ Fails F.Input.faults)) ⊎
+        ((refusal ≡ Refusal.Output) × MayNotBeSeen (F.shut files.old) (Fails F.Input.faults) [] (pair_texts (found_of words.now)) (mapfile_text (found_of words.now))) ⊎
         AskedRefused (λ path. F.holds files.old (F.real files.old path)) (F.shut files.old) (⟦<AnySource<F::Input, F::Image> as Source>⟧.remaining) (⟦<AnySource<F::Input, F::Image> as Source>⟧.faults) (found_of words.now) (asked_inputs (found_of words.now)) ((files.new ≡ files.old) × (O.stream out.new ≡ O.stream out.old))
         (λ profile last. IsRefusedDomain (F.shut files.old (mapfile_text (found_of words.now)) ⊎ Fails F.faults ⊎ SinkFails F.Output.stream) profile last (O.stream out.old) (O.stream out.new)) refusal) }
 {
@@ -151,7 +151,7 @@ pub fn reread_as<F: Files, O: Sink>(
     ensures numbers_refused { IfErr result (λ refusal. is_mapped (found_of words.now) ≡ false → ((O.stream out.new ≡ O.stream out.old) × (refusal ≡ Refusal.Memory alloc_error)) ⊎ AskedRefused (λ path. F.holds files.old (F.real files.old path)) (F.shut files.old) (⟦<AnySource<F::Input, F::Image> as Source>⟧.remaining) (⟦<AnySource<F::Input, F::Image> as Source>⟧.faults) (found_of words.now) (asked_inputs (found_of words.now))
         (O.stream out.new ≡ O.stream out.old) (λ profile last. IsRefusedTelling numbers_of profile last (O.stream out.old) (O.stream out.new)) refusal) }
     ensures map_refused { IfErr result (λ refusal. is_mapped (found_of words.now) ≡ true → ((files.new ≡ files.old) × (O.stream out.new ≡ O.stream out.old) × (refusal ≡ Refusal.Memory alloc_error)) ⊎ ((refusal ≡ Refusal.Spared) × (F.tells → IsSparedMap (F.holds files.old) (F.real files.old) (pair_texts (found_of words.now)) (mapfile_text (found_of words.now)))) ⊎
-        ((refusal ≡ Refusal.Output) × (F.shut files.old (mapfile_text (found_of words.now)) ⊎ SomeShut (F.shut files.old) (pair_texts (found_of words.now)) ⊎ Fails F.Input.faults)) ⊎
+        ((refusal ≡ Refusal.Output) × MayNotBeSeen (F.shut files.old) (Fails F.Input.faults) [] (pair_texts (found_of words.now)) (mapfile_text (found_of words.now))) ⊎
         AskedRefused (λ path. F.holds files.old (F.real files.old path)) (F.shut files.old) (⟦<AnySource<F::Input, F::Image> as Source>⟧.remaining) (⟦<AnySource<F::Input, F::Image> as Source>⟧.faults) (found_of words.now) (asked_inputs (found_of words.now)) ((files.new ≡ files.old) × (O.stream out.new ≡ O.stream out.old))
         (λ profile last. IsRefusedDomain (F.shut files.old (mapfile_text (found_of words.now)) ⊎ Fails F.faults ⊎ SinkFails F.Output.stream) profile last (O.stream out.old) (O.stream out.new)) refusal) }
 {

@@ -11,8 +11,14 @@ use Rattle.udfs_reading.specs.Several.{HasTable, TablesAre}
 use Rattle.udfs_common.specs.Keeping.{FailedOut, Joined, Opens, RefusedOut}
 use Rattle.udfs_common.specs.Sources.{IsPathOpened, left_in}
 use Rattle.udfs_common.specs.declared.sources.AnySource.{AnySource}
-use Rattle.udfs_common.specs.declared.sources.AnySource.TheVariants.{File}
-use Rattle.udfs_rescue.specs.declared.pair.Pair.{Pair}
+use Rattle.udfs_common.specs.declared.sources.AnySource.TheVariants.{File, Paired, Refused}
+use Rattle.udfs_pairs.specs.AnyStored.{stored_in}
+use Rattle.udfs_pairs.specs.declared.any_stored.AnyStored.{AnyStored}
+use Rattle.udfs_pairs.specs.declared.any_stored.AnyStored.TheVariants as any
+use Rattle.udfs_reading.specs.Format.{header}
+use Rattle.udfs_reading.specs.Reading.{magic}
+use Rattle.udfs_rescue.specs.Blocks.{left_bytes, reading_known, reading_of, records_of}
+use Rattle.udfs_rescue.specs.declared.known.BlockRange.{BlockRange}
 use Rattle.udfs_words.specs.declared.input_path.InputPath.{InputPath}
 
 -- for each thing that is stored there is a source that has left what it holds
@@ -98,6 +104,35 @@ pub gave_up : {F : Type 0} {tells Shut Failed : Type 0} {holds : F → List ℕ 
     FailedOut tells holds real in_place Failed out old new (λ Put. ⊥) → RefusedOut tells holds real in_place (Shut ⊎ Failed) out old new Puts
 gave_up Puts failed = inr (record { failed = inr failed.failed; stands = λ t p. ⊎_elim (λ same. inl same) (λ no. absurd no) (failed.stands t p); elsewhere = failed.elsewhere })
 
--- where each thing that is stored can be read from its front, it has a source among those of both kinds
-pub sources_for : {R I S : Type 0} (file : R → Option (List ℕ)) (pair : Pair I → Option (List ℕ)) (content : S → Option (List ℕ)) → ((s : S) → (input : R) × (file input ≡ content s)) → HaveSources {R = AnySource R I} {S = S} (left_in file pair) content
-sources_for file pair content as_input s = let i = as_input s in (File i.0, i.1)
+-- ---- inputs of both kinds
+
+-- what a source of the reading of these blocks gives first
+abbrev pending_of : Option (List ℕ) → List BlockRange → List ℕ
+pending_of None ranges = []
+pending_of (Some all) ranges = header magic (length (records_of all ranges))
+
+pair_left : (image : Option (List ℕ)) (ranges : List BlockRange) → left_bytes image (pending_of image ranges) [] ranges ≡ reading_known image ranges
+pair_left None ranges = refl
+pair_left (Some all) ranges = refl
+
+pair_by : (told image : Option (List ℕ)) (ranges : List BlockRange) → told ≡ image → left_bytes told (pending_of image ranges) [] ranges ≡ reading_known image ranges
+pair_by told image ranges is = ap (λ (o : Option (List ℕ)). left_bytes o (pending_of image ranges) [] ranges) is ∙ pair_left image ranges
+
+-- where each thing that is stored can be read from its front and as an image, each input has a source of its kind
+pub sources_for_any : {R I S : Type 0} {g : _} (file : R → Option (List ℕ)) (bytes : I → Option (List ℕ)) (content : S → Option (List ℕ)) → ((s : S) → (input : R) × (file input ≡ content s)) → ((s : S) → (image : I) × (bytes image ≡ content s))
+    → HaveSources {R = AnySource R I} {S = AnyStored S g} (left_in file (λ p. left_bytes (bytes p.image) p.pending p.piece p.left)) (stored_in content)
+sources_for_any file bytes content as_input as_image (any.File s) = let i = as_input s in (File i.0, i.1)
+sources_for_any file bytes content as_input as_image (any.Paired p) =
+    let i = as_image p.image in
+    (Paired (record { image = i.0; pending = pending_of (content p.image) p.blocks; piece = []; left = p.blocks; faults = 0 }), pair_by (bytes i.0) (content p.image) p.blocks i.1)
+sources_for_any file bytes content as_input as_image (any.Refused fault) = (Refused fault 0, refl)
+
+-- where images tell their bytes, inputs of both kinds do
+pub any_told : {S : Type 0} {g : _} (content : S → Option (List ℕ)) → AreAllTold content → AreAllTold {S = AnyStored S g} (stored_in content)
+any_told content told (any.File s) = told s
+any_told content told (any.Paired p) = let t = told p.image in (reading_of t.0 p.blocks, ap (λ (o : Option (List ℕ)). reading_known o p.blocks) t.1)
+any_told content told (any.Refused fault) = ([], refl)
+
+pub any_told_or_silent : {S W : Type 0} {g : _} (content : S → Option (List ℕ)) (stream : W → Stream) → ToldOrSilent content stream → ToldOrSilent {S = AnyStored S g} (stored_in content) stream
+any_told_or_silent content stream (inl told) = inl (any_told content told)
+any_told_or_silent content stream (inr none) = inr none

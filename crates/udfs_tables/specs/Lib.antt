@@ -2,3 +2,4 @@ pub mod Forgetting
 pub mod Leaving
 pub mod Indexing
 pub mod Imaging
+pub mod Refused

@@ -1,20 +1,25 @@
 //! The table file of inputs that are read at positions.
 
-ghost use Rattle.std.specs.Prelude.{◌≡◌, ◌≢◌, ℕ, List, Some, Option, IfOk, IfErr, OnErr, length, map};
+ghost use Rattle.std.specs.Prelude.{◌≡◌, ◌≢◌, ◌-◌, ℕ, List, Some, Option, IfOk, IfErr, IfSome, OnErr, length, map, slice_get};
 ghost use Rattle.std.specs.Io.KnownBytes.{Appends};
 ghost use Rattle.udfs_index.specs.Copying.{AreAllTold, Copies, CountsSink};
 ghost use Rattle.udfs_lattice.specs.Records.{join_all};
 ghost use Rattle.udfs_lattice.specs.Tables.{Table, IsTable};
 ghost use Rattle.udfs_reading.specs.Several.{TablesAre};
 ghost use Rattle.udfs_common.specs.Spelling.{table_file};
+ghost use Rattle.udfs_common.specs.Refusing.{refused_pair};
 ghost use Rattle.udfs_tables.specs.Indexing.{IsReread, IsSinkFault};
+ghost use Rattle.udfs_tables.specs.Refused.{refused_in};
 
 use crate::index_tally::IndexTally;
 use std::alloc::{AllocError, Global};
 use udfs_common::refusal::Refusal;
+use udfs_common::sources::refused_pair;
 use udfs_files::Job;
 use udfs_index::{CopyFault, Cursor, END, Index, Stored, Unread, record_at};
+use udfs_pairs::AnyStored;
 use udfs_reading::{InputError, ReadingError, ReadingFault, Sink, Source, Taker, take_inputs};
+use udfs_rescue::PairFault;
 use udfs_words::forms::Version;
 
 /// What was taken of stored inputs, to be written as a table file of this version.
@@ -75,10 +80,29 @@ impl<'i, 'a, S: Stored> IndexedFile<'i, 'a, S> {
     }
 }
 
-/// Why the inputs were not taken. Bytes that were to be compared and could not be read are a fault of the input that has them.
-fn refusal_of<S: Stored>(stored: &[S], failed: Option<Unread>, error: InputError) -> Refusal
-    ensures told { (result ≢ Refusal.Output) × (result ≢ Refusal.Unkept) × (result ≢ Refusal.Spared) }
+/// Why an image with its mapfile has no reading, if the input that has this error is one.
+fn refused_of<S: Stored>(stored: &[AnyStored<S>], error: InputError) -> Option<PairFault>
+    ensures { result ≡ refused_in (slice_get stored.now (error.input - 1)) }
 {
+    match stored.get(error.input.saturating_sub(1)) {
+        Some(AnyStored::Refused(fault)) => Some(*fault),
+        _ => None,
+    }
+}
+
+/// Why the inputs were not taken. A pair that was refused has its own reason. Bytes that were to be compared and could not be read are a fault of the
+/// input that has them.
+fn refusal_of<S: Stored>(
+    stored: &[AnyStored<S>],
+    failed: Option<Unread>,
+    error: InputError,
+) -> Refusal
+    ensures told { (result ≢ Refusal.Output) × (result ≢ Refusal.Unkept) × (result ≢ Refusal.Spared) }
+    ensures pair { IfSome (refused_in (slice_get stored.now (error.input - 1))) (λ fault. result ≡ refused_pair error.input fault) }
+{
+    if let Some(fault) = refused_of(stored, error) {
+        return refused_pair(error.input, fault);
+    }
     match (error.error.fault, failed) {
         (ReadingFault::OutOfMemory, Some(unread)) => {
             let number = record_of(stored, unread);
@@ -104,8 +128,11 @@ fn cursors<'a, S: Stored>(alloc: Global, stored: &'a [S]) -> Result<Vec<Cursor<'
 }
 
 /// The join of the inputs' tables by where its bytes stand, and what was counted of them.
-pub fn indexed<'a, S: Stored>(alloc: Global, stored: &'a [S]) -> Result<IndexTally<'a, S>, Refusal>
-    ensures table { IfOk result (λ tally. (ts : List Table) × TablesAre S.content stored.now ts × ⟦<IndexTally<'a, S> as Taker<Cursor<'a, S>>>⟧.took tally (join_all ts)) }
+pub fn indexed<'a, S: Stored>(
+    alloc: Global,
+    stored: &'a [AnyStored<S>],
+) -> Result<IndexTally<'a, AnyStored<S>>, Refusal>
+    ensures table { IfOk result (λ tally. (ts : List Table) × TablesAre ⟦<AnyStored<S> as Stored>⟧.content stored.now ts × ⟦<IndexTally<'a, AnyStored<S>> as Taker<Cursor<'a, AnyStored<S>>>>⟧.took tally (join_all ts)) }
     ensures told { IfErr result (λ refusal. (refusal ≢ Refusal.Output) × (refusal ≢ Refusal.Unkept) × (refusal ≢ Refusal.Spared)) }
 {
     let mut tally = match IndexTally::new(alloc, stored.len()) {

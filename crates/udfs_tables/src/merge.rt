@@ -102,8 +102,8 @@ fn merge_held<F: Files>(
 
 /// Joins the inputs, and puts the table file of this version at the path `out`, over an old one. All inputs are opened in order before one is read, and
 /// the output is begun only after all are joined. A file is put in its place whole or not at all, and the output may be one of the inputs; a device or a pipe is
-/// written in place. Where each input is a regular file by its own path, no block is held: of a known block is kept where in which input its bytes stand,
-/// and they are read again when they are written. An input must not change meanwhile: where its length or its time of change has, the merge is refused
+/// written in place. Where each input is a regular file by its own path, or an image and a mapfile that are, no block is held: of a known block is kept
+/// where in which input its bytes stand, and they are read again when they are written. An input must not change meanwhile: where its length or its time of change has, the merge is refused
 /// before a file is in the output's place.
 pub fn merge<F: Files>(
     alloc: Global,

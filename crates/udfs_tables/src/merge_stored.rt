@@ -1,4 +1,4 @@
-//! `merge` of inputs that are regular files: its output is written from an index, and no block is held.
+//! `merge` of inputs that are read at positions: its output is written from an index, and no block is held.
 
 ghost use Rattle.std.specs.Prelude.{◌≡◌, ◌≢◌, ◌⊎◌, ℕ, List, Some, IfErr, OnErr, OnOk, IsErrOf, length};
 ghost use Rattle.udfs_files.specs.Disk.{Disk, After, IsOwn, Fails, SinkFails};
@@ -15,7 +15,8 @@ use udfs_common::files::Files;
 use udfs_common::job_putting::put_job;
 use udfs_common::refusal::Refusal;
 use udfs_common::sources::AnySource;
-use udfs_index::CopyFault;
+use udfs_index::{CopyFault, Stored};
+use udfs_pairs::AnyStored;
 use udfs_reading::Source;
 use udfs_words::forms::Version;
 use udfs_words::input_path::InputPath;
@@ -24,14 +25,14 @@ use udfs_words::input_path::InputPath;
 /// Of the blocks it keeps where in which input their bytes stand, and reads them again when it writes them.
 pub fn merge_stored<F: Files>(
     alloc: Global,
-    stored: &[F::Stored],
+    stored: &[AnyStored<F::Stored>],
     inputs: &[InputPath<'_>],
     out: &str,
     version: Version,
     files: &mut F,
 ) -> Result<(), Refusal>
     requires each { length stored.now ≡ length inputs.now }
-    requires opened { Opens (λ path. F.holds files.now (F.real files.now path)) F.Stored.content inputs.now stored.now }
+    requires opened { Opens (λ path. F.holds files.now (F.real files.now path)) ⟦<AnyStored<F::Stored> as Stored>⟧.content inputs.now stored.now }
     ensures written { OnOk result ((tables : List Table) × Joined (λ path. F.holds files.old (F.real files.old path)) (⟦<AnySource<F::Input, F::Image> as Source>⟧.remaining) inputs.now tables ×
         ((F.tells → IsKept (F.holds files.new) (F.may_leave files.new) (F.real files.old out.now) (table_file version (join_all tables)))
         ⊎ (F.in_place files.old out.now × IsTaken F.Output.stream (table_file version (join_all tables))))) }

@@ -4,10 +4,10 @@ use Rattle.udfs_rescue.specs.Writing.{made_by, mark_line}
 use Rattle.udfs_common.specs.Guarding.{domain_kind}
 use Rattle.udfs_common.proofs.guard.look_at_map.Goals as goal
 
-pub returns-in-Ok-true-is_kind-clause-free : goal.returns-in-Ok-true-is_kind-clause-free
+pub returns-clause-free : goal.returns-clause-free
 unfolding domain_kind made_by mark_line mark
-returns-in-Ok-true-is_kind-clause-free g c = search rules
+returns-clause-free g c = search rules
 
-pub returns-in-Ok-false-is_kind-clause-spared : goal.returns-in-Ok-false-is_kind-clause-spared
+pub returns-clause-spared : goal.returns-clause-spared
 unfolding domain_kind made_by mark_line mark
-returns-in-Ok-false-is_kind-clause-spared g c = search rules
+returns-clause-spared g c is tells = c.in_ok-found.ensures.spared is tells

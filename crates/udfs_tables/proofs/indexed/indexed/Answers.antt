@@ -2,10 +2,11 @@ use Rattle.std.proofs.Common.{rules}
 use Rattle.udfs_lattice.specs.Records.{join_all}
 use Rattle.udfs_lattice.specs.TableLaws.{join_tables-empty}
 use Rattle.udfs_lattice.specs.Tables.{empty_table}
+use Rattle.udfs_pairs.specs.AnyStored.{stored_in}
 use Rattle.udfs_tables.proofs.StoredLemmas.{tables_by}
 use Rattle.udfs_tables.proofs.indexed.indexed.Goals as goal
 
 pub returns-in-Ok-take_inputs-clause-table : goal.returns-in-Ok-take_inputs-clause-table
 returns-in-Ok-take_inputs-clause-table g c =
     let t = c.in-Ok-take_inputs.ensures.table in
-    (t.0, tables_by _ g.S.Stored.content _ _ t.0 (search rules) t.1, rw (← join_tables-empty (join_all t.0)) (t.2 empty_table c.in-Ok.ensures))
+    (t.0, tables_by _ (stored_in g.S.Stored.content) _ _ t.0 (search rules) t.1, rw (← join_tables-empty (join_all t.0)) (t.2 empty_table c.in-Ok.ensures))

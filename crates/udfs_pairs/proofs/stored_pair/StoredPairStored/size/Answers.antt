@@ -1,0 +1,6 @@
+use Rattle.std.proofs.Common.{refl}
+use Rattle.udfs_pairs.proofs.FrontLemmas.{size_told}
+use Rattle.udfs_pairs.proofs.stored_pair.StoredPairStored.size.Goals as goal
+
+pub returns-clause-value : goal.returns-clause-value
+returns-clause-value g c = size_told (g.S.Stored.content c.args.self.now.image) c.args.self.now.blocks c.args.self.now.size c.count.result _ c.args.self.now.told c.args.self.now.inside c.count.ensures refl
