@@ -9,3 +9,4 @@ mod ShortNameLemmas
 mod ShortNameSizes
 mod PlaceLemmas
 mod ListedLemmas
+pub mod ManifestJob

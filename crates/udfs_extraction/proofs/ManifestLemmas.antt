@@ -1,5 +1,7 @@
 -- The manifest of the nodes so far; and that it is put last, at a place beside the folder.
 use Rattle.std.proofs.lemmas.List.{append-nil}
+use Rattle.std.proofs.lemmas.List.Concat.{flat_map-append}
+use Rattle.sha2.specs.Sha256.{sha256}
 use Rattle.std.proofs.Common.{◌≡◌, ◌≢◌, ◌⊎◌, inl, inr, ⊎_elim, ℕ, suc, ◌+◌, arith, ◌++◌, List, [], ◌∷◌, Bool, true, false, Option, Some, None, refl, sym, ◌∙◌, subst, length, ap, slice_get, drop, append_assoc, codes}
 use Rattle.udfs_files.specs.Disk.{Disk, IsOwn}
 use Rattle.std.specs.Prelude.{◌&&◌}
@@ -15,8 +17,10 @@ use Rattle.udfs_salvage.specs.NodeTexts.{names_text}
 use Rattle.udfs_salvage.specs.Reports.{IsReportBy, Report, is_whole}
 use Rattle.udfs_extraction.specs.Choosing.{chosen, goes_on, is_node}
 use Rattle.udfs_extraction.specs.Extracting.{IsDone, IsElsewhere, IsIn, Puts, PutsBy, Stay, all_good, path_below}
-use Rattle.udfs_extraction.specs.Manifests.{AreLines, IsBeside, IsLine, IsNoted, ListsChosen, ListsOf, MayPutLast, PutsListed, PutsWith, SparesListed, note_line}
+use Rattle.udfs_extraction.specs.Manifests.{AreLines, IsBeside, IsLine, IsNoted, ListsChosen, ListsOf, MayPutLast, PutsListed, PutsWith, SparesListed, digest_line, note_text, notes_of, notes_text}
+use Rattle.udfs_extraction.specs.ShortNames.{placed}
 use Rattle.udfs_extraction.specs.declared.extract.Fate.{Fate}
+use Rattle.udfs_extraction.specs.declared.manifest.Noted.{Noted}
 use Rattle.udfs_extraction.specs.declared.extract.Fate.TheVariants.{Made, Written, Failed, Left, Skipped, Passed}
 use Rattle.udfs_extraction.proofs.ChoosingLemmas.{on_behind}
 use Rattle.udfs_extraction.proofs.PutNodes.{spares_nothing}
@@ -61,14 +65,23 @@ line_more place holds folder k (m ∷ ns) (f ∷ fates) n fate text line at is o
 )
 
 -- what is noted of a node is its line
-pub noted_line : (wanted : Bool) (tells : Type 0) (holds : Held) (folder : List ℕ) (names : List (List ℕ)) (fate : Fate) (digest : Option (List ℕ)) → wanted ≡ true → tells → IsNoted wanted tells holds (path_below folder names) fate digest
-    → IsLine holds folder names fate (note_line fate digest (names_text names))
-noted_line wanted tells holds folder names Made digest is told noted = refl
-noted_line wanted tells holds folder names Written digest is told noted = let w = noted refl is told in (w.0, w.1, ap (λ d. note_line Written d (names_text names)) w.2)
-noted_line wanted tells holds folder names Failed digest is told noted = refl
-noted_line wanted tells holds folder names Left digest is told noted = refl
-noted_line wanted tells holds folder names Skipped digest is told noted = refl
-noted_line wanted tells holds folder names Passed digest is told noted = refl
+pub noted_line : (wanted : Bool) (tells : Type 0) (holds : Held) (folder : List ℕ) (short : Bool) (report : Report) (index : ℕ) (n : NodeFields) (fate : Fate) (digest : Option (List ℕ)) → slice_get report.nodes index ≡ Some n → wanted ≡ true → tells
+    → IsNoted wanted tells holds (path_below folder (placed short report index n)) fate digest → IsLine holds folder (placed short report index n) fate (notes_text short report (notes_of fate digest index))
+noted_line wanted tells holds folder short report index n Made digest at is told noted = refl
+noted_line wanted tells holds folder short report index n Written digest at is told noted =
+    let w = noted refl is told in (
+      w.0,
+      w.1,
+      ap (λ d. notes_text short report (notes_of Written d index)) w.2 ∙ append-nil (note_text short report (record { index = index; digest = sha256 w.0 })) ∙ ap (digest_line (placed short report index) (sha256 w.0)) at,
+    )
+noted_line wanted tells holds folder short report index n Failed digest at is told noted = refl
+noted_line wanted tells holds folder short report index n Left digest at is told noted = refl
+noted_line wanted tells holds folder short report index n Skipped digest at is told noted = refl
+noted_line wanted tells holds folder short report index n Passed digest at is told noted = refl
+
+-- one note more
+pub notes_more : (short : Bool) (report : Report) (old more : List Noted) → notes_text short report (old ++ more) ≡ notes_text short report old ++ notes_text short report more
+notes_more short report old more = flat_map-append (note_text short report) old more
 
 -- ---- what is put
 

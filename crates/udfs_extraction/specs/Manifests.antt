@@ -1,11 +1,13 @@
 -- The manifest of the files that `extract` writes.
 --     file_line path bytes                    the line of a file with these bytes
 --     IsManifest holds folder short report fates     the lines of all files that were written, in order, each with the digest of what its path holds
+--     notes_of fate digest index              what is noted of a node
+--     notes_text short report noted           the lines of the files that were noted
 --     PutsNoted                               what is made and told of a report, with the manifest
 --     ListsChosen                             the same of the report of a table, and the manifest is put after the files
 --     SparesListed                            what is left as it was, whatever is answered
 --     IsFreeManifest                          a manifest takes the place of no file but a manifest, of none of the inputs, and of none that is written
-use Rattle.std.specs.Prelude.{◌≡◌, ◌≢◌, ◌⊎◌, ℕ, Bool, true, List, [], ◌∷◌, ◌++◌, suc, Option, Some, None, drop}
+use Rattle.std.specs.Prelude.{◌≡◌, ◌≢◌, ◌⊎◌, ℕ, Bool, true, List, [], ◌∷◌, ◌++◌, suc, Option, Some, None, drop, flat_map, slice_get}
 use Rattle.sha2.specs.Sha256.{sha256}
 use Rattle.udfs_files.specs.Disk.{Disk, Goes, IsOwn, Replaced}
 use Rattle.udfs_lattice.specs.Tables.{Table, state_of}
@@ -19,6 +21,7 @@ use Rattle.udfs_common.specs.Keeping.{IsKept}
 use Rattle.udfs_extraction.specs.ShortNames.{own_name, placed}
 use Rattle.udfs_extraction.specs.SumLines.{begins_as_sums, sum_line}
 use Rattle.udfs_extraction.specs.declared.extract.Fate.{Fate}
+use Rattle.udfs_extraction.specs.declared.manifest.Noted.{Noted}
 use Rattle.udfs_extraction.specs.declared.extract.Fate.TheVariants.{Made, Written, Failed, Left, Skipped, Passed}
 use Rattle.udfs_reading.specs.Device.{Stream}
 
@@ -50,15 +53,28 @@ IsManifest holds folder short report fates text = AreLines (placed short report)
 abbrev pub IsNoted : Bool → Type 0 → (List ℕ → Option (Option (List ℕ))) → List ℕ → Fate → Option (List ℕ) → Type 0
 IsNoted wanted tells holds path fate digest = fate ≡ Written → wanted ≡ true → tells → (bytes : List ℕ) × (holds path ≡ Some (Some bytes)) × (digest ≡ Some (sha256 bytes))
 
--- what is appended for a node with this fate and digest, whose place has this text
-abbrev pub note_line : Fate → Option (List ℕ) → List ℕ → List ℕ
-note_line Made digest text = []
-note_line Written None text = []
-note_line Written (Some digest) text = sum_line digest (drop 1 text)
-note_line Failed digest text = []
-note_line Left digest text = []
-note_line Skipped digest text = []
-note_line Passed digest text = []
+-- what is noted of the node of this index with this fate and digest
+abbrev pub notes_of : Fate → Option (List ℕ) → ℕ → List Noted
+notes_of Made digest index = []
+notes_of Written None index = []
+notes_of Written (Some digest) index = record { index = index; digest = digest } ∷ []
+notes_of Failed digest index = []
+notes_of Left digest index = []
+notes_of Skipped digest index = []
+notes_of Passed digest index = []
+
+-- the line of a file with this digest, whose node is this one, if there is one
+abbrev pub digest_line : (NodeFields → List (List ℕ)) → List ℕ → Option NodeFields → List ℕ
+digest_line names digest None = []
+digest_line names digest (Some n) = sum_line digest (drop 1 (names_text (names n)))
+
+-- the line of a file that was noted: the digest that was taken, and the place of the node
+abbrev pub note_text : Bool → Report → Noted → List ℕ
+note_text short report noted = digest_line (placed short report noted.index) noted.digest (slice_get report.nodes noted.index)
+
+-- the lines of all that were noted
+abbrev pub notes_text : Bool → Report → List Noted → List ℕ
+notes_text short report noted = flat_map (note_text short report) noted
 
 -- what is made and told of nodes that are asked for, and a text that this holds of, with them and their fates
 pub record PutsWith (only : List (List ℕ)) (own : NodeFields → Option (List ℕ)) (P : ℕ → NodeFields → Fate → Type 0) (Is : List Fate → List ℕ → Type 0) (nodes : List NodeFields) (old new : Stream) (good : Bool) (manifest : Option (List ℕ)) : Type 0 where

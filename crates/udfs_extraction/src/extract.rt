@@ -6,13 +6,13 @@ ghost use Rattle.udfs_volume.specs.declared.profiles.Profile.{Profile};
 ghost use Rattle.udfs_salvage.specs.Listings.{listing_now};
 ghost use Rattle.udfs_extraction.specs.Extracting.{ExtractsChosen, IsDone, IsElsewhere, IsIn, IsPut, Puts, Spares, Stay, all_good, is_good};
 ghost use Rattle.udfs_common.specs.Keeping.{OfPaths};
-ghost use Rattle.udfs_extraction.specs.Manifests.{IsManifest, PutsNoted};
+ghost use Rattle.udfs_extraction.specs.Manifests.{IsManifest, PutsNoted, notes_text};
 ghost use Rattle.udfs_extraction.specs.ShortNames.{own_name};
 ghost use Rattle.udfs_common.specs.declared.sources.AnySource.{AnySource};
 
 use crate::choosing::{all_are_nodes, chosen_are_whole};
 use crate::fate_remarks::remark_on_fate;
-use crate::manifest::note;
+use crate::manifest::{Noted, note};
 use crate::node_files::{node_at, put_chosen, put_folder};
 use crate::places::place_of;
 use crate::spare::Spare;
@@ -74,8 +74,8 @@ struct Told {
     good: bool,
     /// Whether the output took all lines.
     heard: bool,
-    /// The manifest of the files that were written, where it is wanted.
-    manifest: Vec<u8>,
+    /// The files that were written, with their digests, where these are wanted.
+    manifest: Vec<Noted>,
 }
 
 /// Whether nothing failed so far, and neither did this.
@@ -104,7 +104,7 @@ fn put_nodes<F: Files, O: Sink>(
         (IsPut F.tells (Fails F.faults ⊎ SinkFails F.Output.stream) listing.now.table.now (listing_now listing.now) fill short folder.now (F.holds files.new) (F.moment files.new) (F.left_since files.new)))
         (listing_now listing.now).nodes (O.stream out.old) (O.stream out.new) heard fates ×
         IfOk result (λ told. (length fates ≡ length (drop 1 (listing_now listing.now).nodes)) × (told.heard ≡ heard) × (told.good ≡ all_good fates) ×
-        (digest ≡ true → F.tells → IsManifest (F.holds files.new) folder.now short (listing_now listing.now) fates told.manifest.items)) }
+        (digest ≡ true → F.tells → IsManifest (F.holds files.new) folder.now short (listing_now listing.now) fates (notes_text short (listing_now listing.now) told.manifest.items))) }
     ensures stays { F.tells → Stay (F.holds files.old) (F.holds files.new) }
     ensures outside { (q : List ℕ) → (¬ IsIn folder.now q) → F.holds files.new q ≡ F.holds files.old q }
     ensures elsewhere { (q : List ℕ) → IsElsewhere (map (λ word. word.now) only.now) short (listing_now listing.now) folder.now q → F.holds files.new q ≡ F.holds files.old q }
@@ -123,7 +123,7 @@ fn put_nodes<F: Files, O: Sink>(
             alloc, listing, index, only, fill, digest, folder, place, &spare, files,
         )?;
         let node = node_at(listing, index);
-        note(alloc, &mut manifest, done, place)?;
+        note(&mut manifest, done, index)?;
         good = still_good(good, done.fate);
         heard = tell(alloc, heard, done.fate, &node.path, &target.own, out)?;
         remark_on_fate(alloc, done.fate, &node.path, files);
@@ -131,7 +131,7 @@ fn put_nodes<F: Files, O: Sink>(
             alloc, node, index, only, done.fate, folder, place, &mut made, files,
         );
     }
-    set_folder_times(alloc, listing, made.as_slice(), folder, files);
+    set_folder_times(alloc, listing, made.as_slice(), short, folder, files);
     Ok(Told {
         good,
         heard,
@@ -151,8 +151,8 @@ pub fn is_all_good(good: bool, whole: bool) -> bool
 pub struct Made {
     /// Whether all nodes that are asked for are whole and nothing failed.
     pub good: bool,
-    /// The manifest of the files that were written, where the volume opens.
-    pub manifest: Option<Vec<u8>>,
+    /// The files that were written, with their digests where these are wanted, where the volume opens.
+    pub manifest: Option<Vec<Noted>>,
 }
 
 /// Makes the folder and what the report has for it, as far as it is asked for; where the volume does not open, it makes nothing, and prints the line of the
@@ -171,7 +171,7 @@ pub fn put_report<F: Files, O: Sink>(
     ensures put { IfOk result (λ made. PutsNoted (map (λ word. word.now) only.now) short
         (λ told. IsPut F.tells (Fails F.faults ⊎ SinkFails F.Output.stream) listing.now.table.now told fill short folder.now (F.holds files.new) (F.moment files.new) (F.left_since files.new))
         (λ told fates text. digest ≡ true → F.tells → IsManifest (F.holds files.new) folder.now short told fates text)
-        files.old files.new (listing_now listing.now) (O.stream out.old) (O.stream out.new) made.good (option_map (λ m. m.items) made.manifest)) }
+        files.old files.new (listing_now listing.now) (O.stream out.old) (O.stream out.new) made.good (option_map (λ m. notes_text short (listing_now listing.now) m.items) made.manifest)) }
     ensures no_node { IfErr result (λ refusal. (i : ℕ) → refusal ≡ Refusal.NoNode i → files.new ≡ files.old) }
     ensures stays { F.tells → Stay (F.holds files.old) (F.holds files.new) }
     ensures outside { (q : List ℕ) → (¬ IsIn folder.now q) → F.holds files.new q ≡ F.holds files.old q }

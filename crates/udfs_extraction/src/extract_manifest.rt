@@ -5,53 +5,58 @@ ghost use Rattle.udfs_files.specs.Disk.{Fails, SinkFails, Goes, IsOwn, Replaced}
 ghost use Rattle.udfs_salvage.specs.Listings.{listing_now};
 ghost use Rattle.udfs_extraction.specs.Extracting.{IsElsewhere, IsPut};
 ghost use Rattle.udfs_common.specs.Keeping.{IsKept, OfPaths};
-ghost use Rattle.udfs_extraction.specs.Manifests.{IsManifest, IsPutLast, ListsChosen, ListsOf, SparesListed};
+ghost use Rattle.udfs_extraction.specs.Manifests.{IsManifest, IsPutLast, ListsChosen, ListsOf, SparesListed, notes_text};
 ghost use Rattle.udfs_common.specs.declared.sources.AnySource.{AnySource};
 
 use crate::extract::put_report;
+use crate::manifest::Noted;
+use crate::manifest_text::{ManifestText, TextError};
 use std::alloc::{AllocError, Global};
 use udfs_common::files::Files;
 use udfs_common::inputs::joined;
 use udfs_common::refusal::Refusal;
 use udfs_common::sources::AnySource;
-use udfs_files::{Content, ReplaceError, Stage, replace};
-use udfs_reading::{Sink, Source, WriteFault, write_all};
+use udfs_files::{JobError, ReplaceError, Stage, replace_by_job};
+use udfs_reading::{Sink, Source};
 use udfs_salvage::{Fill, Listing, list_volume_by};
 use udfs_volume::Profile;
 use udfs_words::input_path::InputPath;
 
-/// The text of a manifest.
-#[derive(Drop)]
-struct ManifestText<'a> {
-    text: &'a [u8],
-}
-
-impl<'a> Content for ManifestText<'a> {
-    ghost bytes = { λ manifest. manifest.text.now };
-
-    fn write_to<W: Sink>(&self, sink: &mut W) -> Result<(), WriteFault> {
-        write_all(sink, self.text)
+/// Why a manifest was not put.
+fn unput(error: JobError<TextError>) -> Refusal
+    ensures { (i : ℕ) → result ≢ Refusal.NoNode i }
+{
+    match error {
+        JobError::Files(ReplaceError::OutOfMemory) => Refusal::Memory(AllocError),
+        JobError::Files(ReplaceError::NotKept) => Refusal::Unkept,
+        JobError::Refused(TextError::OutOfMemory) => Refusal::Memory(AllocError),
+        _ => Refusal::Output,
     }
 }
 
-/// Puts a manifest at its place, whole or not at all.
+/// Puts a manifest at its place, whole or not at all: its text is made while it is written.
 fn put_manifest<F: Files>(
     alloc: Global,
-    text: &[u8],
+    listing: &Listing<'_>,
+    short: bool,
+    noted: &[Noted],
     place: &str,
     files: &mut F,
 ) -> Result<(), Refusal>
-    ensures kept { OnOk result (F.tells → IsKept (F.holds files.new) (F.may_leave files.new) place.now text.now) }
-    ensures crash { F.tells → Goes F.moment F.may_leave F.left_since files.old files.new (Replaced place.now text.now) }
+    ensures kept { OnOk result (F.tells → IsKept (F.holds files.new) (F.may_leave files.new) place.now (notes_text short (listing_now listing.now) noted.now)) }
+    ensures crash { F.tells → Goes F.moment F.may_leave F.left_since files.old files.new (Replaced place.now (notes_text short (listing_now listing.now) noted.now)) }
     ensures elsewhere { (q : List ℕ) → q ≢ place.now → (¬ IsOwn place.now q) → F.holds files.new q ≡ F.holds files.old q }
     ensures no_node { IfErr result (λ refusal. (i : ℕ) → refusal ≢ Refusal.NoNode i) }
 {
-    let content = ManifestText { text };
-    match replace(alloc, files, place, &content) {
+    let text = ManifestText {
+        alloc,
+        listing,
+        short,
+        noted,
+    };
+    match replace_by_job(alloc, files, place, &text) {
         Ok(()) => Ok(()),
-        Err(ReplaceError::OutOfMemory) => Err(Refusal::Memory(AllocError)),
-        Err(ReplaceError::NotKept) => Err(Refusal::Unkept),
-        Err(_) => Err(Refusal::Output),
+        Err(error) => Err(unput(error)),
     }
 }
 
@@ -82,7 +87,7 @@ pub fn list_report<F: Files, O: Sink>(
         Err(refusal) => return Err(refusal),
     };
     match &made.manifest {
-        Some(manifest) => match put_manifest(alloc, manifest.as_slice(), place, files) {
+        Some(noted) => match put_manifest(alloc, listing, short, noted.as_slice(), place, files) {
             Ok(()) => Ok(made.good),
             Err(refusal) => Err(refusal),
         },

@@ -11,6 +11,7 @@ mod extract_words;
 mod fate_remarks;
 mod manifest;
 mod manifest_place;
+mod manifest_text;
 mod node_files;
 mod places;
 mod short_names;

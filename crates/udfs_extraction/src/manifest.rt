@@ -1,8 +1,9 @@
 //! A manifest: a line for each file that was written, with the digest of its bytes and its path in the folder, as `sha256sum` writes and reads it.
+//! Until it is written, each file has the index of its node and its digest, however long its path is.
 
 ghost use Rattle.std.specs.Prelude.{◌≡◌, ◌++◌, OnOk, drop};
 ghost use Rattle.std.specs.List.{list_any};
-ghost use Rattle.udfs_extraction.specs.Manifests.{note_line};
+ghost use Rattle.udfs_extraction.specs.Manifests.{notes_of};
 ghost use Rattle.udfs_extraction.specs.SumLines.{must_escape, path_byte, path_text, sum_line};
 
 use crate::extract::{Done, Fate};
@@ -53,7 +54,7 @@ fn push_path(text: &mut Vec<u8>, path: &[u8]) -> Result<(), AllocError>
 }
 
 /// Appends the line of a file: a backslash where its path has a byte that is written with one, the digest in hexadecimal, two spaces, the path, and a line feed.
-fn push_sum_line(
+pub fn push_sum_line(
     alloc: Global,
     text: &mut Vec<u8>,
     digest: &[u8; 32],
@@ -73,7 +74,7 @@ fn push_sum_line(
 }
 
 /// A path without the byte in front.
-fn behind_slash(path: &[u8]) -> &[u8]
+pub fn behind_slash(path: &[u8]) -> &[u8]
     ensures { result.now ≡ drop 1 path.now }
 {
     match path {
@@ -82,18 +83,22 @@ fn behind_slash(path: &[u8]) -> &[u8]
     }
 }
 
-/// Appends the line of a node's file, if it was written and its digest taken: its place in the folder without the `/` in front.
-pub fn note(
-    alloc: Global,
-    manifest: &mut Vec<u8>,
-    done: Done,
-    place: &str,
-) -> Result<(), AllocError>
-    ensures { OnOk result (manifest.new.items ≡ manifest.old.items ++ note_line done.fate done.digest place.now) }
+/// A file that was written: the index of its node, and the digest of its bytes.
+#[derive(Clone, Copy)]
+pub struct Noted {
+    /// The index of its node.
+    pub index: usize,
+    /// The digest of the bytes that were written.
+    pub digest: [u8; 32],
+}
+
+/// Notes the file of the node of this index, if it was written and its digest taken.
+pub fn note(manifest: &mut Vec<Noted>, done: Done, index: usize) -> Result<(), AllocError>
+    ensures { OnOk result (manifest.new.items ≡ manifest.old.items ++ notes_of done.fate done.digest index) }
 {
     match (done.fate, done.digest) {
         (Fate::Written, Some(digest)) => {
-            push_sum_line(alloc, manifest, &digest, behind_slash(place.as_bytes()))?;
+            manifest.push(Noted { index, digest })?;
             Ok(())
         }
         _ => Ok(()),

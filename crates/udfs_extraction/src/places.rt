@@ -1,6 +1,6 @@
 //! Where nodes are written below the folder: by the names of their paths, or by short ones in the place of those that are too long.
 
-ghost use Rattle.std.specs.Prelude.{◌≡◌, ◌<◌, ◌++◌, ℕ, suc, List, Some, IfOk, OnOk, length, slice_get, string_bytes, unwrap_or};
+ghost use Rattle.std.specs.Prelude.{◌≡◌, ◌<◌, ◌≤◌, ◌++◌, ℕ, suc, List, Some, IfOk, OnOk, length, slice_get, string_bytes, unwrap_or};
 ghost use Rattle.udfs_salvage.specs.Found.{volume_now};
 ghost use Rattle.udfs_salvage.specs.NodeTexts.{name_text, names_text};
 ghost use Rattle.udfs_salvage.specs.Listings.{listing_now};
@@ -160,4 +160,52 @@ pub fn place_of(
     let text = place_text(alloc, listing, index, short, way.as_slice())?;
     let own = own_name(alloc, listing, index, short)?;
     Ok(Place { text, own })
+}
+
+/// Where a walk goes on from to the node of this index: from the node that it is at, or where that stands behind, from the root.
+fn begin(way: &mut Vec<usize>, at: usize, index: usize) -> usize
+    ensures before { result ≤ index }
+    ensures way { (nodes : List NodeFields) → IsWay nodes at way.old.items → IsWay nodes result way.new.items }
+{
+    if at <= index {
+        return at;
+    }
+    way.clear();
+    0
+}
+
+/// Goes from one node to another, each by its index. `way` has the way to the one, and then the way to the other.
+fn go_to(
+    way: &mut Vec<usize>,
+    listing: &Listing<'_>,
+    at: usize,
+    index: usize,
+) -> Result<(), AllocError>
+    requires { index < length listing.now.nodes.items }
+    ensures { OnOk result (IsWay (listing_now listing.now).nodes at way.old.items → IsWay (listing_now listing.now).nodes index way.new.items) }
+{
+    let from = begin(way, at, index);
+    for passed in from..index {
+        enter(way, listing, passed + 1)?;
+    }
+    Ok(())
+}
+
+/// The place of the node of this index, whichever node was gone to before. `way` has the way to that one, and then the way to this one.
+pub fn place_from(
+    alloc: Global,
+    listing: &Listing<'_>,
+    at: usize,
+    index: usize,
+    short: bool,
+    way: &mut Vec<usize>,
+) -> Result<String, AllocError>
+    requires { index < length listing.now.nodes.items }
+    ensures way { IfOk result (λ text. IsWay (listing_now listing.now).nodes at way.old.items → IsWay (listing_now listing.now).nodes index way.new.items) }
+    ensures text { IfOk result (λ text. (n : NodeFields) → slice_get (listing_now listing.now).nodes index ≡ Some n → IsWay (listing_now listing.now).nodes at way.old.items →
+        string_bytes text ≡ names_text (placed short (listing_now listing.now) index n)) }
+{
+    go_to(way, listing, at, index)?;
+    let text = place_text(alloc, listing, index, short, way.as_slice())?;
+    Ok(text)
 }

@@ -7,7 +7,8 @@ ghost use Rattle.udfs_extraction.specs.Timing.{IsTold};
 
 use crate::choosing::is_above;
 use crate::extract::Fate;
-use crate::node_files::path_in;
+use crate::node_files::{node_at, path_in};
+use crate::places::place_from;
 use crate::unnamed::{lost_path, push_lost_name};
 use clap::ArgMatches;
 use std::alloc::{AllocError, Global};
@@ -139,27 +140,8 @@ fn is_folder_made(
     }
 }
 
-/// A folder that was made: the index of its node, and its place.
-#[derive(Drop)]
-pub struct MadeFolder {
-    index: usize,
-    place: String,
-}
-
-/// Notes a folder that was made for the node of this index.
-fn note_folder(
-    alloc: Global,
-    index: usize,
-    place: &str,
-    made: &mut Vec<MadeFolder>,
-) -> Result<(), AllocError> {
-    let place = String::from_str(alloc, place)?;
-    made.push(MadeFolder { index, place })?;
-    Ok(())
-}
-
-/// Sets the time of the file that was written at a place for the node of this index, where times are to be set. A folder that was made there is noted: its time
-/// is set when all is made, since what is put into it changes it.
+/// Sets the time of the file that was written at a place for the node of this index, where times are to be set. A folder that was made there is noted by that
+/// index: its time is set when all is made, since what is put into it changes it.
 pub fn note_time<F: Files>(
     alloc: Global,
     node: &Node,
@@ -168,7 +150,7 @@ pub fn note_time<F: Files>(
     fate: Fate,
     folder: &str,
     place: &str,
-    made: &mut Vec<MadeFolder>,
+    made: &mut Vec<usize>,
     files: &F,
 ) {
     if !files.times().are_kept() {
@@ -179,7 +161,7 @@ pub fn note_time<F: Files>(
     }
     match is_folder_made(alloc, only, node, fate) {
         Ok(true) => {
-            if note_folder(alloc, index, place, made).is_err() {
+            if made.push(index).is_err() {
                 files.times().lack();
             }
         }
@@ -188,21 +170,57 @@ pub fn note_time<F: Files>(
     }
 }
 
-/// Sets the times of the folders that were made, from the last to the first, and at last that of the folder which stands for the root.
+/// Sets the time of the folder that was made for the node of this index. `way` has the way to the node of the index `at`, and then the way to this one, or none where
+/// memory was refused. It answers the index of the node to which `way` leads.
+fn set_folder_time<F: Files>(
+    alloc: Global,
+    listing: &Listing<'_>,
+    at: usize,
+    index: usize,
+    short: bool,
+    folder: &str,
+    way: &mut Vec<usize>,
+    files: &F,
+) -> usize {
+    if index >= listing.nodes.len() {
+        return at;
+    }
+    match place_from(alloc, listing, at, index, short, way) {
+        Ok(place) => {
+            set_node_time(
+                alloc,
+                node_at(listing, index),
+                folder,
+                place.as_str(),
+                files,
+            );
+            index
+        }
+        Err(AllocError) => {
+            files.times().lack();
+            way.clear();
+            0
+        }
+    }
+}
+
+/// Sets the times of the folders that were made, which have the indexes of their nodes, in order, and at last that of the folder which stands for the root. Setting one
+/// changes no other.
 pub fn set_folder_times<F: Files>(
     alloc: Global,
     listing: &Listing<'_>,
-    made: &[MadeFolder],
+    made: &[usize],
+    short: bool,
     folder: &str,
     files: &F,
 ) {
     if !files.times().are_kept() {
         return;
     }
-    for made in made.iter().rev() {
-        if let Some(node) = listing.nodes.get(made.index) {
-            set_node_time(alloc, node, folder, made.place.as_str(), files);
-        }
+    let mut way = Vec::new(alloc);
+    let mut at = 0;
+    for index in made {
+        at = set_folder_time(alloc, listing, at, *index, short, folder, &mut way, files);
     }
     if let Some(root) = listing.nodes.first() {
         set_node_time(alloc, root, folder, "", files);

@@ -8,9 +8,9 @@ use Rattle.udfs_salvage.specs.Found.{volume_now}
 use Rattle.udfs_salvage.specs.Listings.{full_in, listing_now}
 use Rattle.udfs_extraction.specs.Extracting.{IsDone, IsPut, TellsLines, TellsOn, fate_line, fate_lines, is_good}
 use Rattle.udfs_extraction.specs.declared.extract.Fate.{Fate}
-use Rattle.udfs_extraction.specs.Manifests.{AreLines, IsLine, IsNoted, note_line}
+use Rattle.udfs_extraction.specs.Manifests.{AreLines, IsLine, IsNoted, notes_of, notes_text}
 use Rattle.udfs_extraction.specs.ShortNames.{IsWay, own_name, placed}
-use Rattle.udfs_extraction.proofs.ManifestLemmas.{line_more, lines_still, noted_line}
+use Rattle.udfs_extraction.proofs.ManifestLemmas.{line_more, lines_still, noted_line, notes_more}
 use Rattle.udfs_extraction.proofs.PutNodes.{all_behind, done_still, each_few, each_map, each_more, good_more, lines_more, one_on, spares_nothing, spares_on, tells_on}
 use Rattle.udfs_extraction.proofs.extract.put_nodes.Goals as goal
 
@@ -165,12 +165,13 @@ loop-index-preserved g c =
         λ wanted told.
             let holds = F.holds c.put_chosen.new.files in
             let folder = c.args.folder.now in
-            let still = lines_still (placed c.args.short report) folder (F.holds c.loop-index.files) holds (step.stays told) 1 (drop 1 nodes) fates c.loop-index.manifest.items (inv.put.4 wanted told) in
+            let still = lines_still (placed c.args.short report) folder (F.holds c.loop-index.files) holds (step.stays told) 1 (drop 1 nodes) fates (notes_text c.args.short report c.loop-index.manifest.items) (inv.put.4 wanted told) in
             let noted = subst (λ t. IsNoted c.args.digest F.tells holds (folder ++ t) fate c.in_ok-done.done.digest) here c.in_ok-done.ensures.digest in
-            let one = noted_line c.args.digest F.tells holds folder names fate c.in_ok-done.done.digest wanted told noted in
-            let line = note_line fate c.in_ok-done.done.digest (names_text names) in
-            let more = line_more (placed c.args.short report) holds folder 1 (drop 1 nodes) fates n fate c.loop-index.manifest.items line at still (subst (λ k. IsLine holds folder (placed c.args.short report k n) fate line) (sym count) one) in
-            subst (λ t. AreLines (placed c.args.short report) holds folder 1 (drop 1 nodes) (fates ++ fate ∷ []) t) (sym (subst (λ t. c.note.new.manifest.items ≡ c.loop-index.manifest.items ++ note_line fate c.in_ok-done.done.digest t) here c.in_ok-note.ensures)) more,
+            let one = noted_line c.args.digest F.tells holds folder c.args.short report index n fate c.in_ok-done.done.digest c.node_at-node.ensures wanted told noted in
+            let notes = notes_of fate c.in_ok-done.done.digest index in
+            let line = notes_text c.args.short report notes in
+            let more = line_more (placed c.args.short report) holds folder 1 (drop 1 nodes) fates n fate (notes_text c.args.short report c.loop-index.manifest.items) line at still (subst (λ k. IsLine holds folder (placed c.args.short report k n) fate line) (sym count) one) in
+            subst (λ t. AreLines (placed c.args.short report) holds folder 1 (drop 1 nodes) (fates ++ fate ∷ []) t) (sym (ap (notes_text c.args.short report) c.in_ok-note.ensures ∙ notes_more c.args.short report c.loop-index.manifest.items notes)) more,
       );
       way = λ k next.
           let e : k ≡ index = omega (arith, next) in

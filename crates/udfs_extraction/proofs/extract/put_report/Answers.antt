@@ -6,6 +6,7 @@ use Rattle.udfs_salvage.specs.Found.{volume_now}
 use Rattle.udfs_salvage.specs.Reports.{is_whole}
 use Rattle.udfs_salvage.specs.Listings.{listing_now}
 use Rattle.udfs_extraction.specs.Choosing.{chosen, is_node}
+use Rattle.udfs_extraction.specs.Manifests.{notes_text}
 use Rattle.udfs_extraction.proofs.ListedLemmas.{same_chosen, same_named}
 use Rattle.udfs_extraction.proofs.ManifestLemmas.{by_open, puts_with}
 use Rattle.udfs_extraction.proofs.PutNodes.{spares_all, spares_on}
@@ -42,4 +43,4 @@ returns-else-not-told-clause-put g c =
     let named : list_all (is_node (listing_now l).nodes) only ≡ true = same_named M a items only ∙ named_items in
     let whole_items : c.in_ok-whole-in-Open.whole ≡ list_all (λ (n : NodeFields). is_whole n.standing) (chosen only items) = search rules in
     let whole : c.in_ok-whole-in-Open.whole ≡ list_all (λ (n : NodeFields). is_whole n.standing) (chosen only (listing_now l).nodes) = whole_items ∙ sym (same_chosen M a only items) in
-    by_open _ _ c.in-Open.is _ _ (puts_with _ _ _ _ _ _ _ _ put.1 put.0 c.in-Ok.told.good c.in_ok-whole-in-Open.whole c.in-Ok.told.manifest.items named put.2 put.3.0 heard put.3.2 whole c.is_all_good.ensures put.3.3)
+    by_open _ _ c.in-Open.is _ _ (puts_with _ _ _ _ _ _ _ _ put.1 put.0 c.in-Ok.told.good c.in_ok-whole-in-Open.whole (notes_text c.args.short (listing_now l) c.in-Ok.told.manifest.items) named put.2 put.3.0 heard put.3.2 whole c.is_all_good.ensures put.3.3)

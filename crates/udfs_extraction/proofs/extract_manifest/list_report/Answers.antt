@@ -1,5 +1,7 @@
-use Rattle.std.proofs.Common.{inl, inr, refl, rules}
-use Rattle.udfs_extraction.proofs.ManifestLemmas.{listed_by, text_of, unlisted_by}
+use Rattle.std.proofs.Common.{inl, refl, rules}
+use Rattle.udfs_salvage.specs.Listings.{listing_now}
+use Rattle.udfs_extraction.specs.Manifests.{notes_text}
+use Rattle.udfs_extraction.proofs.ManifestLemmas.{listed_by, unlisted_by}
 use Rattle.udfs_extraction.proofs.extract_manifest.list_report.Goals as goal
 
 pub returns-in-Err-clause-spares : goal.returns-in-Err-clause-spares
@@ -14,7 +16,7 @@ returns-in-Err-clause-spares g c = record {
 pub returns-in-Ok-put_manifest-clause-listed : goal.returns-in-Ok-put_manifest-clause-listed
 returns-in-Ok-put_manifest-clause-listed g c = (
   c.put_report.new.files,
-  listed_by _ _ _ _ _ _ _ _ _ _ _ _ c.as_slice.result.now _ _ (λ fs t has told. has refl told) c.in-Ok.ensures.put (search rules)
+  listed_by _ _ _ _ _ _ _ _ _ _ _ _ (notes_text c.args.short (listing_now c.args.listing.now) c.as_slice.result.now) _ _ (λ fs t has told. has refl told) c.in-Ok.ensures.put (search rules)
       (λ told. record { kept = c.in-Ok-put_manifest.ensures.kept told; crash = c.put_manifest.ensures.crash told; elsewhere = c.put_manifest.ensures.elsewhere }),
   c.put_report.ensures.elsewhere,
 )

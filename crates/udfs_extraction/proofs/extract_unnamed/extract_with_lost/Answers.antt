@@ -1,6 +1,6 @@
 use Rattle.std.proofs.Common.{◌≡◌, false, option_map, refl, true}
 use Rattle.udfs_salvage.specs.Listings.{listing_now}
-use Rattle.udfs_extraction.specs.Manifests.{IsManifest}
+use Rattle.udfs_extraction.specs.Manifests.{IsManifest, notes_text}
 use Rattle.udfs_extraction.proofs.LostLemmas.{chosen_of, lost_of, nothing_lost}
 use Rattle.udfs_extraction.proofs.PutNodes.{spares_nothing}
 use Rattle.udfs_extraction.proofs.extract_unnamed.extract_with_lost.Goals as goal
@@ -34,7 +34,7 @@ returns-in-Ok-put_lost-clause-added g c =
         between = c.put_report.new.out;
         nodes_good = c.in-Ok-put_report.made.good;
         lost_good = c.in-Ok-put_lost.good;
-        nodes = chosen_of _ _ _ (λ r fates text. false ≡ true → g.F.Files.tells → IsManifest (g.F.Files.holds c.put_report.new.files) c.args.folder.now c.args.short r fates text) _ _ _ _ _ _ _ _ _ (option_map (λ m. m.items) c.in-Ok-put_report.made.manifest) _ _ _ told c.in_ok-listing.ensures.of.0 of.2 c.in_ok-listing.ensures.report c.in-Ok-put_report.ensures.put c.put_report.ensures.elsewhere;
+        nodes = chosen_of _ _ _ (λ r fates text. false ≡ true → g.F.Files.tells → IsManifest (g.F.Files.holds c.put_report.new.files) c.args.folder.now c.args.short r fates text) _ _ _ _ _ _ _ _ _ (option_map (λ m. notes_text c.args.short told m.items) c.in-Ok-put_report.made.manifest) _ _ _ told c.in_ok-listing.ensures.of.0 of.2 c.in_ok-listing.ensures.report c.in-Ok-put_report.ensures.put c.put_report.ensures.elsewhere;
         lost = lost_of _ _ _ _ _ _ _ _ _ _ told c.in_ok-listing.ensures.of.0 of.2 c.in_ok-listing.ensures.report c.in-Ok-put_lost.ensures.put c.put_lost.ensures.spares;
         says = c.is_all_good.ensures;
       },

@@ -1,7 +1,6 @@
-use Rattle.std.proofs.Common.{◌≡◌, ◌∙◌, Bor, List, None, Some, map, refl, rules, subst, sym, true, ℕ}
+use Rattle.std.proofs.Common.{◌≡◌, ◌∙◌, Bor, List, None, Some, map, rules, subst, sym, ℕ}
 use Rattle.udfs_common.specs.Guarding.{NoneLeads}
 use Rattle.udfs_extraction.specs.Manifests.{IsBeside}
-use Rattle.udfs_extraction.specs.SumLines.{begins_as_sums}
 use Rattle.udfs_extraction.proofs.manifest_place.find_manifest.Goals as goal
 
 pub returns-in-Absent-clause-free : goal.returns-in-Absent-clause-free

@@ -1,0 +1,137 @@
+//! The text of a manifest is made line by line while it is written, so that the paths of all files are never held together.
+
+ghost use Rattle.std.specs.Prelude.{◌≡◌, ◌++◌, List, ℕ, IfErr, IfOk, OnErr, OnOk};
+ghost use Rattle.std.specs.Io.KnownBytes.{Appends};
+ghost use Rattle.udfs_files.specs.Disk.{SinkFails};
+ghost use Rattle.udfs_salvage.specs.Listings.{listing_now};
+ghost use Rattle.udfs_extraction.specs.Manifests.{note_text, notes_text};
+ghost use Rattle.udfs_extraction.specs.ShortNames.{IsWay};
+
+use crate::manifest::{Noted, behind_slash, push_sum_line};
+use crate::places::place_from;
+use std::alloc::{AllocError, Global};
+use udfs_files::Job;
+use udfs_reading::{Sink, WriteFault, write_all};
+use udfs_salvage::Listing;
+
+/// So many bytes of lines are held, and those of one line more, before they are written.
+const PIECE: usize = 262_144;
+
+/// Why the text of a manifest was not written.
+#[derive(Clone, Copy, Debug, PartialEq, Eq)]
+pub enum TextError {
+    /// Memory was refused.
+    OutOfMemory,
+    /// The sink failed.
+    NotWritten,
+}
+
+impl From<AllocError> for TextError {
+    ghost use Rattle.std.specs.Prelude.{◌≡◌};
+    ghost use Rattle.udfs_extraction.specs.declared.manifest_text.TextError.TheVariants as text_error;
+
+    ghost from_gives = { λ _ e. e ≡ text_error.OutOfMemory };
+
+    fn from(_error: AllocError) -> TextError {
+        TextError::OutOfMemory
+    }
+}
+
+impl From<WriteFault> for TextError {
+    ghost use Rattle.std.specs.Prelude.{◌≡◌};
+    ghost use Rattle.udfs_extraction.specs.declared.manifest_text.TextError.TheVariants as text_error;
+
+    ghost from_gives = { λ _ e. e ≡ text_error.NotWritten };
+
+    fn from(_fault: WriteFault) -> TextError {
+        TextError::NotWritten
+    }
+}
+
+/// Appends the line of a file that was noted, and answers the index of the node that was gone to: `way` has the way to the node of the index `at`, and then to that one.
+fn push_noted(
+    alloc: Global,
+    listing: &Listing<'_>,
+    short: bool,
+    noted: Noted,
+    at: usize,
+    way: &mut Vec<usize>,
+    text: &mut Vec<u8>,
+) -> Result<usize, AllocError>
+    ensures line { IfOk result (λ next. IsWay (listing_now listing.now).nodes at way.old.items → text.new.items ≡ text.old.items ++ note_text short (listing_now listing.now) noted) }
+    ensures way { IfOk result (λ next. IsWay (listing_now listing.now).nodes at way.old.items → IsWay (listing_now listing.now).nodes next way.new.items) }
+{
+    if noted.index >= listing.nodes.len() {
+        return Ok(at);
+    }
+    let place = place_from(alloc, listing, at, noted.index, short, way)?;
+    push_sum_line(
+        alloc,
+        text,
+        &noted.digest,
+        behind_slash(place.as_str().as_bytes()),
+    )?;
+    Ok(noted.index)
+}
+
+/// Writes the bytes that are held where they are many.
+fn pour<W: Sink>(text: &mut Vec<u8>, sink: &mut W) -> Result<(), WriteFault>
+    ensures poured { OnOk result ((out : List ℕ) × Appends (W.stream sink.old).contents (W.stream sink.new).contents out × (text.old.items ≡ out ++ text.new.items)) }
+    ensures fault { OnErr result (SinkFails W.stream) }
+{
+    if text.len() < PIECE {
+        return Ok(());
+    }
+    write_all(sink, text.as_slice())?;
+    text.clear();
+    Ok(())
+}
+
+/// Writes the lines of the files that were noted, in order.
+fn write_lines<W: Sink>(
+    alloc: Global,
+    listing: &Listing<'_>,
+    short: bool,
+    noted: &[Noted],
+    sink: &mut W,
+) -> Result<(), TextError>
+    ensures wrote { OnOk result (Appends (W.stream sink.old).contents (W.stream sink.new).contents (notes_text short (listing_now listing.now) noted.now)) }
+    ensures cause { IfErr result (λ error. error ≡ TextError.NotWritten → SinkFails W.stream) }
+{
+    let mut text = Vec::new(alloc);
+    let mut way = Vec::new(alloc);
+    let mut at = 0;
+    for one in noted {
+        at = push_noted(alloc, listing, short, *one, at, &mut way, &mut text)?;
+        pour(&mut text, sink)?;
+    }
+    write_all(sink, text.as_slice())?;
+    Ok(())
+}
+
+/// The text of the manifest of these files, each with the place of its node in the folder.
+#[derive(Drop)]
+pub struct ManifestText<'a, 'r> {
+    /// Where memory is taken from.
+    pub alloc: Global,
+    /// The listing that has the nodes.
+    pub listing: &'a Listing<'r>,
+    /// Whether names that are too long have short ones.
+    pub short: bool,
+    /// The files.
+    pub noted: &'a [Noted],
+}
+
+impl<'a, 'r> Job for ManifestText<'a, 'r> {
+    ghost use Rattle.udfs_extraction.specs.declared.manifest_text.TextError.TheVariants as text_error;
+
+    type Refusal = TextError;
+
+    ghost wrote = { λ job old new. Appends old new (notes_text job.short (listing_now job.listing.now) job.noted.now) };
+
+    ghost blames_sink = { λ _ error. error ≡ text_error.NotWritten };
+
+    fn write_to<W: Sink>(&self, sink: &mut W) -> Result<(), TextError> {
+        write_lines(self.alloc, self.listing, self.short, self.noted, sink)
+    }
+}
