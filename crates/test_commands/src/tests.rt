@@ -1,19 +1,54 @@
-//! The command over files in memory. What is expected comes from the formats' description, byte by byte.
+//! The program over files in memory. What is expected comes from the formats' description, byte by byte.
 
 mod closing;
 mod devices;
 mod ends;
 mod explaining;
+mod extracting;
 mod forgetting;
+mod hostile;
 mod imaging;
+mod json;
 mod keeping;
+mod listing;
+mod manifests;
 mod merging;
+mod only;
+mod paging;
 mod pair_faults;
 mod pairs;
+mod profiles;
 mod refusals;
+mod reporting;
 mod rereading;
+mod short_names;
 mod sizes;
 mod sparing;
 mod stored;
+mod stored_images;
+mod summing;
+mod times;
+mod unnamed;
 mod versions;
 mod words;
+
+use std::alloc::Global;
+use std::process::Abort;
+use std::test::Fail;
+use test_runs::faults;
+
+/// What is told of a script is nothing: all is as it says.
+fn assert_nothing(rt: &impl Abort, told: String) {
+    assert_eq!(rt; told.as_str(), "");
+}
+
+/// It is so, of this text.
+pub fn assert_case(rt: &impl Abort, is_so: bool, text: &str) {
+    assert!(rt; is_so, "{text}");
+}
+
+/// All is as a script says.
+pub fn check(rt: &impl Abort, alloc: Global, script: &'static str) -> Result<(), Fail> {
+    assert_nothing(rt, faults(alloc, script)?);
+    Ok(())
+}

@@ -1,8 +1,22 @@
 // SPDX-License-Identifier: MIT OR Apache-2.0
-//! Runs of the program over files in memory, whose devices can be slow or fail. For tests alone.
+//! Runs of the program over files in memory, whose devices can be slow or fail, as scripts tell them. For tests alone.
 #![tactic(auto)]
 
+mod contents;
+mod discs;
+mod given;
+mod hostile;
+mod names;
 mod runs;
+mod scripts;
+mod seen;
+mod texts;
+mod trial;
+mod wants;
 
-pub use runs::{Outcome, Shared, Taker, header, number, passes, ran, reading, table, with_table};
-pub use udfs_memory::{Device, Memory, SOUND};
+pub use runs::words_refused;
+pub use scripts::faults;
+pub use wants::{
+    files_want_memory, merge_wants_memory, short_names_want_memory, times_want_memory,
+    unnamed_want_memory,
+};

@@ -5,7 +5,7 @@ use std::cell::RefCell;
 use std::io;
 use std::io::Write;
 use std::rc::Rc;
-use udfs_commands::run;
+use udfs_commands::{refuse_words, run};
 use udfs_lattice::BlockTable;
 use udfs_memory::{Device, Memory, SOUND};
 use udfs_reading::{Writer, write_table};
@@ -41,13 +41,15 @@ impl Write for Taker {
     }
 }
 
-/// Files of which `disc.tab` is the table's file.
-pub fn with_table(alloc: Global, table: &BlockTable) -> Result<Memory, AllocError> {
+/// Puts the file of a table at `disc.tab`.
+pub fn store_table(
+    alloc: Global,
+    memory: &mut Memory,
+    table: &BlockTable,
+) -> Result<(), AllocError> {
     let mut file = Writer::new(Vec::new(alloc));
     write_table(table, &mut file).map_err(|_| AllocError)?;
-    let mut memory = Memory::new(alloc);
-    memory.store("disc.tab", file.into_inner().as_slice())?;
-    Ok(memory)
+    memory.store("disc.tab", file.into_inner().as_slice())
 }
 
 /// What a run answered and printed.
@@ -123,8 +125,11 @@ pub fn number(number: u64) -> [u8; 4] {
     [a, b, c, d]
 }
 
+/// A block number, and the byte that all bytes of the block are.
+pub type Record = (u32, u8);
+
 /// A reading file: each record is a block number and the byte that all its 2048 bytes are.
-pub fn reading(alloc: Global, records: &[(u32, u8)]) -> Result<Vec<u8>, AllocError> {
+pub fn reading(alloc: Global, records: &[Record]) -> Result<Vec<u8>, AllocError> {
     let mut bytes = header(alloc, b"UDFREAD1", records.len())?;
     for (block, byte) in records {
         bytes.extend_from_slice(&number(u64::from(*block)))?;
@@ -134,7 +139,7 @@ pub fn reading(alloc: Global, records: &[(u32, u8)]) -> Result<Vec<u8>, AllocErr
 }
 
 /// A table file of known blocks, in rising order.
-pub fn table(alloc: Global, entries: &[(u32, u8)]) -> Result<Vec<u8>, AllocError> {
+pub fn table(alloc: Global, entries: &[Record]) -> Result<Vec<u8>, AllocError> {
     let mut bytes = header(alloc, b"UDFTABL1", entries.len())?;
     for (block, byte) in entries {
         bytes.extend_from_slice(&number(u64::from(*block)))?;
@@ -144,11 +149,18 @@ pub fn table(alloc: Global, entries: &[(u32, u8)]) -> Result<Vec<u8>, AllocError
     Ok(bytes)
 }
 
-/// Files a.rd with block 300 of bytes 61 hex, b.rd with block 301 of bytes 62 hex, and c.rd which disputes block 300.
-pub fn passes(alloc: Global) -> Result<Memory, AllocError> {
-    let mut memory = Memory::new(alloc);
+/// Puts the files a.rd with block 300 of bytes 61 hex, b.rd with block 301 of bytes 62 hex, and c.rd which disputes block 300.
+pub fn store_passes(alloc: Global, memory: &mut Memory) -> Result<(), AllocError> {
     memory.store("a.rd", reading(alloc, &[(300, 0x61)])?.as_slice())?;
     memory.store("b.rd", reading(alloc, &[(301, 0x62)])?.as_slice())?;
-    memory.store("c.rd", reading(alloc, &[(300, 0x63)])?.as_slice())?;
-    Ok(memory)
+    memory.store("c.rd", reading(alloc, &[(300, 0x63)])?.as_slice())
+}
+
+/// What is told where the words of the command line could not be had, and the status.
+pub fn words_refused(alloc: Global, wants_memory: bool) -> Result<(u8, String), AllocError> {
+    let mut err = Writer::new(Vec::new(alloc));
+    let status = refuse_words(wants_memory, &mut err);
+    let bytes = err.into_inner();
+    let text = std::str::from_utf8(bytes.as_slice()).unwrap_or("no text");
+    Ok((status, String::from_str(alloc, text)?))
 }

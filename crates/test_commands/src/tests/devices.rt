@@ -1,145 +1,114 @@
 //! Devices that fail or are slow, and want of memory.
 
-use std::alloc::{AllocError, Global};
+use crate::tests::{assert_case, check};
 use std::test::Fail;
-use test_runs::{Memory, ran, reading, table, with_table};
-use udfs_samples::Disc;
+use test_runs::merge_wants_memory;
 
-const WORDS: &str = "merge --v1 --out t.tab two.rd";
+static INPUTS_THAT_FAIL: &str = r"
+= an_input_that_fails_is_told
+# At 4120 bytes only the end was still asked for.
+file two.rd reading 300:61 301:62
+file t.tab text «5000*w»
+then has t.tab text «5000*w»
 
-/// The reading of two records, and an old output.
-fn prepared(alloc: Global) -> Result<Memory, AllocError> {
-    let mut memory = Memory::new(alloc);
-    let two = reading(alloc, &[(300, 0x61), (301, 0x62)])?;
-    memory.store("two.rd", two.as_slice())?;
-    memory.store("t.tab", &[0x77; 5000])?;
-    Ok(memory)
-}
+some 0 16
+inputs-fail «n»
+$ merge --v1 --out t.tab two.rd
+refused udfsalvage: input 1: fault 8 Io at record 0\n
 
-/// The counts of bytes after which a device fails here: all about the header, the records' borders and the end, and some between.
-fn is_tried(good: usize) -> bool {
-    matches!(good, 0..40 | 2050..2090 | 4100.. ) || good % 32 == 7 || good % 32 == 16
-}
+some 16 2068
+inputs-fail «n»
+$ merge --v1 --out t.tab two.rd
+refused udfsalvage: input 1: fault 8 Io at record 1\n
 
-/// At 4120 bytes only the end was still asked for.
-#[test]
-fn an_input_that_fails_is_told(rt: HostRuntime) -> Result<(), Fail> {
-    let alloc = rt.alloc();
-    for good in 0..4121usize {
-        if !is_tried(good) {
-            continue;
-        }
-        let record = match good {
-            0..16 => 0,
-            16..2068 => 1,
-            _ => 2,
-        };
-        let mut memory = prepared(alloc)?;
-        memory.inputs.good = good;
-        let ran = ran(alloc, &mut memory, WORDS)?;
-        let line = format!(in alloc; "udfsalvage: input 1: fault 8 Io at record {record}\n")?;
-        assert!(rt; ran.is_refused(line.as_str()), "after {good}: {ran:?}");
-        assert!(rt; memory.has("t.tab", &[0x77; 5000]), "after {good}");
-    }
-    Ok(())
-}
-
-/// The output has 4122 bytes. A write that fails leaves the old file, and no other.
-#[test]
-fn an_output_that_fails_is_told(rt: HostRuntime) -> Result<(), Fail> {
-    let alloc = rt.alloc();
-    let whole = table(alloc, &[(300, 0x61), (301, 0x62)])?;
-    assert_eq!(rt; whole.len(), 4122);
-    for good in 0..4122usize {
-        if !is_tried(good) {
-            continue;
-        }
-        let mut memory = prepared(alloc)?;
-        memory.outputs.good = good;
-        memory.outputs.takes_none = good % 2 == 1;
-        let ran = ran(alloc, &mut memory, WORDS)?;
-        assert!(rt;
-            ran.is_refused("udfsalvage: cannot write output\n"),
-            "after {good}: {ran:?}"
-        );
-        assert!(rt; memory.has("t.tab", &[0x77; 5000]), "after {good}");
-        assert!(rt; memory.survives("t.tab", &[0x77; 5000]), "after {good}");
-        assert_eq!(rt; memory.count(), 2);
-    }
-    Ok(())
-}
+some 2068 4121
+inputs-fail «n»
+$ merge --v1 --out t.tab two.rd
+refused udfsalvage: input 1: fault 8 Io at record 2\n
+";
 
 #[test]
-fn a_byte_a_call_changes_nothing(rt: HostRuntime) -> Result<(), Fail> {
-    let alloc = rt.alloc();
-    let mut memory = prepared(alloc)?;
-    memory.inputs.most = 1;
-    memory.outputs.most = 1;
-    memory.outputs.good = 4122;
-    let ran = ran(alloc, &mut memory, WORDS)?;
-    assert!(rt; ran.is_silent(), "{ran:?}");
-    let whole = table(alloc, &[(300, 0x61), (301, 0x62)])?;
-    assert!(rt; memory.has("t.tab", whole.as_slice()));
-    Ok(())
+fn inputs_that_fail(rt: HostRuntime) -> Result<(), Fail> {
+    check(&rt, rt.alloc(), INPUTS_THAT_FAIL)
 }
 
-/// What is known of a disc whose file `A` lacks block 278.
-const KNOWN: [u32; 11] = [32, 33, 34, 256, 272, 273, 274, 275, 276, 277, 279];
+static OUTPUTS_THAT_FAIL_OR_ARE_SLOW: &str = r"
+= an_output_that_fails_is_told
+# The output has 4122 bytes. A write that fails leaves the old file, and no other.
+file two.rd reading 300:61 301:62
+file t.tab text «5000*w»
 
-/// What the commands print of it.
-const PRINTED: [(&str, &str); 4] = [
-    (
-        "report --last 600 disc.tab",
-        "UDFREPORT1 last 600\nknown 11 conflict 0\nvolume ok revision 1.50 map type1\nlabel name TEST\nnode 0 whole directory 120 2001-07-04T09:30:00.000000Z /\nnode 1 torn file 5000 2001-07-04T09:30:00.000000Z /A\nmissing 278\nhole 2048 2048\nnode 2 whole file 2 2001-07-04T09:30:00.000000Z /B\nreread 278 unknown\nend\n",
-    ),
-    (
-        "report --last 600 --json disc.tab",
-        "{\"conflict\":0,\"known\":11,\"label\":{\"state\":\"name\",\"text\":\"TEST\"},\"last\":600,\"nodes\":[{\"hidden\":false,\"holes\":[],\"kind\":\"directory\",\"missing\":[],\"modified\":\"2001-07-04T09:30:00.000000Z\",\"path\":\"/\",\"size\":120,\"standing\":\"whole\"},{\"hidden\":false,\"holes\":[[2048,2048]],\"kind\":\"file\",\"missing\":[278],\"modified\":\"2001-07-04T09:30:00.000000Z\",\"path\":\"/A\",\"size\":5000,\"standing\":\"torn\"},{\"hidden\":false,\"holes\":[],\"kind\":\"file\",\"missing\":[],\"modified\":\"2001-07-04T09:30:00.000000Z\",\"path\":\"/B\",\"size\":2,\"standing\":\"whole\"}],\"reread\":[{\"block\":278,\"state\":\"unknown\"}],\"unnamed\":[],\"volume\":{\"map\":\"type1\",\"revision\":\"1.50\",\"state\":\"ok\"}}\n",
-    ),
-    ("reread --last 600 disc.tab", "278\n"),
-    (
-        "extract --last 600 --to out disc.tab",
-        "skipped /A\nwritten /B\n",
-    ),
-];
+some 0 4122
+outputs-fail «n»
+outputs-take-none «n»
+$ merge --v1 --out t.tab two.rd
+refused udfsalvage: cannot write output\n
+has t.tab text «5000*w»
+survives t.tab text «5000*w»
+files 2
 
-/// Of what is printed a beginning is out, and the status says that it is not all.
+= a_byte_a_call_changes_nothing
+file two.rd reading 300:61 301:62
+file t.tab text «5000*w»
+
+inputs-move 1
+outputs-move 1
+outputs-fail 4122
+$ merge --v1 --out t.tab two.rd
+silent
+has t.tab table 300:61 301:62
+length t.tab 4122
+";
+
+#[test]
+fn outputs_that_fail_or_are_slow(rt: HostRuntime) -> Result<(), Fail> {
+    check(&rt, rt.alloc(), OUTPUTS_THAT_FAIL_OR_ARE_SLOW)
+}
+
+static STANDARD_OUTPUT: &str = r#"
+= a_standard_output_that_fails_after_any_count_is_told
+# Of what is printed a beginning is out, and the status says that it is not all. Each number of bytes below that of the text is tried.
+at 32 33 34 256 272 273 274 275 276 277 279
+then status 2
+then error udfsalvage: cannot write output\n
+
+each 0 301
+terminal-fails «n»
+terminal-takes-none «n»
+$ report --last 600 disc.tab
+out-front UDFREPORT1 last 600\nknown 11 conflict 0\nvolume ok revision 1.50 map type1\nlabel name TEST\nnode 0 whole directory 120 2001-07-04T09:30:00.000000Z /\nnode 1 torn file 5000 2001-07-04T09:30:00.000000Z /A\nmissing 278\nhole 2048 2048\nnode 2 whole file 2 2001-07-04T09:30:00.000000Z /B\nreread 278 unknown\nend\n
+
+each 0 628
+terminal-fails «n»
+terminal-takes-none «n»
+$ report --last 600 --json disc.tab
+out-front {"conflict":0,"known":11,"label":{"state":"name","text":"TEST"},"last":600,"nodes":[{"hidden":false,"holes":[],"kind":"directory","missing":[],"modified":"2001-07-04T09:30:00.000000Z","path":"/","size":120,"standing":"whole"},{"hidden":false,"holes":[[2048,2048]],"kind":"file","missing":[278],"modified":"2001-07-04T09:30:00.000000Z","path":"/A","size":5000,"standing":"torn"},{"hidden":false,"holes":[],"kind":"file","missing":[],"modified":"2001-07-04T09:30:00.000000Z","path":"/B","size":2,"standing":"whole"}],"reread":[{"block":278,"state":"unknown"}],"unnamed":[],"volume":{"map":"type1","revision":"1.50","state":"ok"}}\n
+
+each 0 4
+terminal-fails «n»
+terminal-takes-none «n»
+$ reread --last 600 disc.tab
+out-front 278\n
+
+each 0 22
+terminal-fails «n»
+terminal-takes-none «n»
+$ extract --last 600 --to out disc.tab
+out-front skipped /A\nwritten /B\n
+"#;
+
 #[test]
 fn a_standard_output_that_fails_after_any_count_is_told(rt: HostRuntime) -> Result<(), Fail> {
-    let alloc = rt.alloc();
-    let table = Disc::type1(alloc)?.known_at(alloc, &KNOWN)?;
-    for (words, text) in PRINTED {
-        for good in 0..text.len() {
-            let mut memory = with_table(alloc, &table)?;
-            memory.terminal.good = good;
-            memory.terminal.takes_none = good % 2 == 1;
-            let ran = ran(alloc, &mut memory, words)?;
-            assert_eq!(rt; ran.status, 2);
-            assert_eq!(rt; ran.err.as_str(), "udfsalvage: cannot write output\n");
-            assert_eq!(rt; ran.out.as_bytes(), &text.as_bytes()[..good]);
-        }
-    }
-    Ok(())
+    check(&rt, rt.alloc(), STANDARD_OUTPUT)
 }
 
 /// With ample memory the merge is done. Where one allocation is refused it is done, or refused by the line of want of
 /// memory and the old output stays. The test's own allocations may be refused too, and that is no fault of the merge.
 #[test]
 fn want_of_memory_is_told(rt: HostRuntime) {
-    let outcome = is_done_or_wants_memory(rt.alloc());
-    assert!(rt; !matches!(outcome, Ok(false)));
-}
-
-fn is_done_or_wants_memory(alloc: Global) -> Result<bool, AllocError> {
-    let whole = table(alloc, &[(300, 0x61), (301, 0x62)])?;
-    let mut memory = prepared(alloc)?;
-    let ran = ran(alloc, &mut memory, WORDS)?;
-    if memory.wanted_memory() {
-        return Err(AllocError);
-    }
-    if ran.status == 0 {
-        return Ok(ran.is_silent() && memory.has("t.tab", whole.as_slice()));
-    }
-    let is_refused = ran.is_refused("udfsalvage: out of memory\n");
-    Ok(is_refused && memory.has("t.tab", &[0x77; 5000]))
+    assert_case(
+        &rt,
+        !matches!(merge_wants_memory(rt.alloc()), Ok(false)),
+        "",
+    );
 }

@@ -1,0 +1,166 @@
+//! What `page` writes. The discs have 601 blocks, of which each is an arc of the picture. A disc whose file `A` lacks block 278 lacks 2,048 of its 5,000 bytes.
+
+use crate::tests::check;
+use std::test::Fail;
+
+static WHAT_A_PAGE_HAS: &str = r"
+= the_page_of_a_torn_disc
+# There is one arc of a block that is lacking, and what it means, and 600 of the others, and what they mean.
+let MARK <!DOCTYPE html>\n<!-- a page of udfsalvage -->\n<html lang=en>\n
+let END <div class=w><bdi>B</bdi><small>2 B</small></div>\n</details>\n</body>\n</html>\n
+but 278
+then done 1
+then file-begins p.html «MARK»
+then file-has p.html <title>TEST</title>
+then file-has p.html <div><bdi>TEST</bdi>   UDF 1.50, type 1   601 blocks, 1.2 MB</div>\n
+then file-has p.html <div>Files      1 whole (2 B)   1 torn (2.0 kB of 5.0 kB lost)   0 not yet known</div>\n
+then file-has p.html <div>Disc       600 known   1 not known, of which 1 are needed (1 runs)   0 in conflict</div>\n
+then file-has p.html <title>blocks 278 to 278</title></path>\n
+then file-has p.html udfsalvage reread --last 600 --mapfile want.map ...\nddrescue -b2048 -m want.map /dev/sr0 next.img next.map</pre>\n
+then file-has p.html <tr><td><bdi>/A</bdi><td>41.0 %<td>2.0 kB<td>5.0 kB\n
+then file-has p.html <details open class=w><summary><bdi>/</bdi><small>folder</small></summary>\n<div class=t><bdi>A</bdi><small>5.0 kB, torn: 2.0 kB lost, bytes 2048&ndash;4095</small></div>\n
+then file-has p.html «END»
+then file-counts p.html 2 <path class=m\x20
+then file-counts p.html 601 <path class=k\x20
+then stays p.html
+then files 2
+
+$ page --last 600 --out p.html disc.tab
+
+$ page --size 1230848 -o p.html disc.tab
+
+= the_page_of_a_whole_disc
+but
+
+$ page --last 600 --out p.html disc.tab
+silent
+file-has p.html <p>No block is worth reading again.</p>\n
+file-has p.html <div class=w><bdi>A</bdi><small>5.0 kB</small></div>\n
+file-lacks p.html <table>
+
+= the_page_of_a_disc_that_does_not_open
+but 272
+
+$ page --last 600 --out p.html disc.tab
+status 1
+file-has p.html <title>a disc that does not open</title>
+file-has p.html <div>does not open: block 272 is needed</div>\n
+file-has p.html --mapfile want.map ...
+file-lacks p.html udfsalvage extract
+file-lacks p.html <h2>All files</h2>
+
+= what_a_page_says_to_do_next
+# Of a volume with a fault no block is worth reading again, and there are no files; blocks in conflict are forgotten first, by the rules that were asked for.
+
+write 32 240 \0\x02
+but
+$ page --last 600 --out p.html disc.tab
+status 1
+file-has p.html <p>The volume does not open, and no block to read again helps: the manual of udfsalvage says what this fault means.</p>\n
+file-lacks p.html udfsalvage extract
+
+write 32 240 \0\x02
+but
+also 277 07
+$ page --last 600 --profile wide --out p.html disc.tab
+status 1
+file-has p.html 600 known   0 not known   1 in conflict   1 of these are needed (1 runs)</div>\n
+file-has p.html <pre>udfsalvage forget --conflicts --out clean.tab ...\nudfsalvage reread --last 600 --profile wide --mapfile want.map clean.tab\n
+file-has p.html <pre>udfsalvage page --last 600 --profile wide --out page.html clean.tab --ddrescue next.img next.map</pre>\n
+file-has p.html <pre>udfsalvage extract --last 600 --profile wide --to files ...</pre>\n
+";
+
+#[test]
+fn what_a_page_has(rt: HostRuntime) -> Result<(), Fail> {
+    check(&rt, rt.alloc(), WHAT_A_PAGE_HAS)
+}
+
+static WHERE_A_PAGE_GOES: &str = r"
+= a_page_on_standard_output
+# `-` is standard output, and so is its own path.
+let MARK <!DOCTYPE html>\n<!-- a page of udfsalvage -->\n<html lang=en>\n
+let END <div class=w><bdi>B</bdi><small>2 B</small></div>\n</details>\n</body>\n</html>\n
+but 278
+folder /dev
+then status 1
+then file-begins /dev/stdout «MARK»
+then file-ends /dev/stdout «END»
+
+$ page --last 600 --out - disc.tab
+
+$ page --last 600 --out /dev/stdout disc.tab
+
+= an_old_page_is_replaced
+# An old page is replaced, also one that is cut short behind its beginning; and so is nothing.
+let MARK <!DOCTYPE html>\n<!-- a page of udfsalvage -->\n<html lang=en>\n
+but 278
+file p.html text <!DOCTYPE html>\n<!-- a page of udfsalvage -->\nold
+
+$ page --last 600 --out p.html disc.tab
+status 1
+file-begins p.html «MARK»
+file-lacks p.html -->\nold
+
+= what_a_page_is_not_written_over
+# No file but a page is written over, and no input; no input is read then.
+but 278
+file note.html text <!DOCTYPE html>\n<p>a page of another kind\n
+file a.html text <!DOCTYPE html>\n<!-- a page of udfsalvage -->\n
+file p.map text # Mapfile. Created by GNU ddrescue\n0 + 1\n
+file p.img text «2048*\0»
+then same-files
+then has note.html text <!DOCTYPE html>\n<p>a page of another kind\n
+then has p.map text # Mapfile. Created by GNU ddrescue\n0 + 1\n
+
+$ page --last 600 --out disc.tab disc.tab
+refused udfsalvage: cannot write output\n
+
+$ page --last 600 --out note.html absent.rd
+refused udfsalvage: cannot write output\n
+
+$ page --last 600 --out a.html a.html
+refused udfsalvage: cannot write output\n
+
+$ page --last 600 --out p.map disc.tab --ddrescue p.img p.map
+refused udfsalvage: cannot write output\n
+
+$ page --last 600 --out p.img disc.tab --ddrescue p.img p.map
+refused udfsalvage: cannot write output\n
+
+$ page --last 600 --out new.html absent.rd
+refused udfsalvage: cannot open input 1\n
+
+$ page --last 512 --out new.html disc.tab
+refused udfsalvage: fault 1 LastRange\n
+
+= a_page_that_cannot_be_written, 1
+# A device that fails leaves the old page.
+but 278
+file p.html text <!DOCTYPE html>\n<!-- a page of udfsalvage -->\nold
+then refused udfsalvage: cannot write output\n
+then has p.html text <!DOCTYPE html>\n<!-- a page of udfsalvage -->\nold
+then survives p.html text <!DOCTYPE html>\n<!-- a page of udfsalvage -->\nold
+
+outputs-fail 0
+$ page --last 600 --out p.html disc.tab
+
+outputs-fail 1
+$ page --last 600 --out p.html disc.tab
+
+outputs-fail 1000
+$ page --last 600 --out p.html disc.tab
+
+outputs-fail 40000
+$ page --last 600 --out p.html disc.tab
+
+= a_page_that_cannot_be_written, 2
+file empty.rd reading
+
+$ page --last 600 empty.rd
+status 2
+";
+
+#[test]
+fn where_a_page_goes(rt: HostRuntime) -> Result<(), Fail> {
+    check(&rt, rt.alloc(), WHERE_A_PAGE_GOES)
+}
