@@ -1,5 +1,6 @@
 pub mod SlotLemmas
 pub mod CursorLemmas
+pub mod RecordedLemmas
 pub mod IndexLemmas
 pub mod RunLemmas
 pub mod CopyLemmas

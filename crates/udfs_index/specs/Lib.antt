@@ -1,5 +1,6 @@
 pub mod Slots
 pub mod Places
+pub mod Recorded
 pub mod Index
 pub mod Runs
 pub mod Copying

@@ -29,9 +29,20 @@ impl<'a, S: Stored> Cursor<'a, S> {
 
     /// What it reads, and the position of the next byte.
     pub fn place(&self) -> (&'a S, u64)
-        ensures { ⟦<Cursor<'a, S> as Source>⟧.remaining self.now ≡ behind result.1 (S.content result.0.now) }
+        ensures remaining { ⟦<Cursor<'a, S> as Source>⟧.remaining self.now ≡ behind result.1 (S.content result.0.now) }
+        ensures stored { result.0 ≡ self.now.stored }
+        ensures at { result.1 ≡ self.now.at }
     {
         (self.stored, self.at)
+    }
+
+    /// The next byte that it reads is the one behind so many of its input. It is not looked whether there is one.
+    pub(crate) fn move_to(&mut self, at: u64)
+        ensures at { self.new.at ≡ at }
+        ensures stored { self.new.stored ≡ self.old.stored }
+        ensures faults { self.new.faults ≡ self.old.faults }
+    {
+        self.at = at;
     }
 }
 

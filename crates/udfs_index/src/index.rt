@@ -1,6 +1,6 @@
 //! The table of what was taken, by where its bytes stand.
 
-ghost use Rattle.std.specs.Prelude.{◌≡◌, ℕ, ◌^◌, ◌≤◌, ◌<◌, length, IfOk, IfSome, OnOk, OnErr};
+ghost use Rattle.std.specs.Prelude.{◌≡◌, ℕ, ◌^◌, ◌≤◌, ◌<◌, List, length, take, drop, IfOk, IfSome, OnOk, OnErr};
 ghost use Rattle.udfs_lattice.specs.declared.facts.Fact.TheVariants.{Unknown, Known, Conflict};
 ghost use Rattle.udfs_lattice.specs.Tables.{Table, IsTable, conflict_count, empty_table, known_count, join_tables, one_entry, one_record};
 ghost use Rattle.udfs_reading.specs.PacketFile.{table_bytes};
@@ -14,8 +14,9 @@ use crate::cursor::Cursor;
 use crate::fault::{CopyFault, Unread};
 use crate::inputs::{BYTES, read_from};
 use crate::places::{NOWHERE, Places, end_of};
+use crate::recorded::{RecordTaker, take_records};
 use crate::stamp::Stamp;
-use crate::stored::Stored;
+use crate::stored::{Stored, block_at, fill};
 use crate::{counting, entries, packing};
 use std::alloc::{AllocError, Global};
 use udfs_lattice::Fact;
@@ -163,21 +164,42 @@ impl<'a, S: Stored> Index<'a, S> {
     }
 
     /// Keeps where the bytes of a block stand of which nothing is known.
-    fn keep(&mut self, block: u32, bytes: &[u8; 2048], at: u64) -> Result<(), NotTaken>
+    fn keep(&mut self, block: u32, at: u64) -> Result<(), NotTaken>
         requires block { block ≤ 4194303 }
         requires unknown { slot_at self.now.places.packets.items block ≡ Unknown }
-        requires at { HasBlockAt (input_by (contents_of S.content self.now.inputs.items) self.now.begun) at bytes.now }
-        ensures ok { OnOk result ((t : Table) → Took (contents_of S.content self.old.inputs.items) self.old.places.packets.items t → Took (contents_of S.content self.new.inputs.items) self.new.places.packets.items (join_tables t (one_record block bytes.now))) }
+        ensures ok { OnOk result ((t : Table) (bytes : List ℕ) → HasBlockAt (input_by (contents_of S.content self.old.inputs.items) self.old.begun) at bytes → Took (contents_of S.content self.old.inputs.items) self.old.places.packets.items t → Took (contents_of S.content self.new.inputs.items) self.new.places.packets.items (join_tables t (one_record block bytes))) }
         ensures err { OnErr result ((t : Table) → Took (contents_of S.content self.old.inputs.items) self.old.places.packets.items t → Took (contents_of S.content self.new.inputs.items) self.new.places.packets.items t) }
         ensures input { input_by (contents_of S.content self.new.inputs.items) self.new.begun ≡ input_by (contents_of S.content self.old.inputs.items) self.old.begun }
     {
-        let _ = bytes;
         let Some(place) = self.place_of(at) else {
             return Err(NotTaken);
         };
         match self.places.put(block, place) {
             Ok(()) => Ok(()),
             Err(_) => Err(NotTaken),
+        }
+    }
+
+    /// Reads the bytes of a block, which stand behind so many bytes of the input that is taken.
+    ///
+    /// # Errors
+    ///
+    /// `NotTaken` where they could not be read.
+    fn read_own(&mut self, stored: &S, at: u64) -> Result<[u8; 2048], NotTaken>
+        requires { at < 2 ^ 63 }
+        ensures bytes { IfOk result (λ bytes. IfSome (S.content stored.now) (λ all. take 2048 (drop at all) ≡ bytes)) }
+        ensures inputs { self.new.inputs.items ≡ self.old.inputs.items }
+        ensures begun { self.new.begun ≡ self.old.begun }
+        ensures packets { self.new.places.packets.items ≡ self.old.places.packets.items }
+    {
+        let mut bytes = [0; 2048];
+        match fill(stored, at, &mut bytes) {
+            Ok(true) => Ok(bytes),
+            _ => {
+                let input = self.inputs.len().saturating_sub(1);
+                self.failed = Some(Unread { input, at });
+                Err(NotTaken)
+            }
         }
     }
 
@@ -256,16 +278,37 @@ impl<'a, S: Stored> Taker<Cursor<'a, S>> for Index<'a, S> {
 
     fn put(&mut self, block: u32, bytes: &[u8; 2048], at: u64) -> Result<(), NotTaken> {
         match self.places.slot(block) {
-            Fact::Unknown => self.keep(block, bytes, at),
+            Fact::Unknown => self.keep(block, at),
             Fact::Known(place) => self.compare(block, bytes, at, place),
             Fact::Conflict => Ok(()),
         }
+    }
+
+    fn take_records(&mut self, source: &mut Cursor<'a, S>) -> Result<bool, u32> {
+        take_records(source, self)
     }
 
     fn dispute(&mut self, block: u32) -> Result<(), NotTaken> {
         match self.places.dispute(block, NOWHERE) {
             Ok(()) => Ok(()),
             Err(_) => Err(NotTaken),
+        }
+    }
+}
+
+impl<'a, S: Stored> RecordTaker<S> for Index<'a, S> {
+    ghost took = { λ x t. Took (contents_of S.content x.inputs.items) x.places.packets.items t };
+
+    ghost input = { λ x. input_by (contents_of S.content x.inputs.items) x.begun };
+
+    fn take_record(&mut self, stored: &S, number: u32, block: u32) -> Result<(), NotTaken> {
+        let at = block_at(number);
+        match self.places.slot(block) {
+            Fact::Unknown => self.keep(block, at),
+            _ => {
+                let bytes = self.read_own(stored, at)?;
+                self.put(block, &bytes, at)
+            }
         }
     }
 }

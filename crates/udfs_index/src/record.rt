@@ -3,15 +3,12 @@
 ghost use Rattle.std.specs.Prelude.{None, ⊤};
 
 use crate::cursor::Cursor;
-use crate::stored::{Stored, fill};
+use crate::stored::{HEADER, Stored, fill};
 use byteorder::{ByteOrder, LittleEndian};
 use udfs_reading::{NotTaken, Source, Taker, take_inputs};
 
 /// The position of nothing that an input has: what is told of it is told of the input's end.
 pub const END: u64 = u64::MAX;
-
-/// How many bytes stand before the first record of an input.
-const HEADER: u64 = 16;
 
 /// Takes nothing, and stops at the content that stands at this position.
 #[derive(Drop)]

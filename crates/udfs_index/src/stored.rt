@@ -1,9 +1,24 @@
 //! An input that is read at any position.
 
-ghost use Rattle.std.specs.Prelude.{◌≡◌, ℕ, ◌+◌, ◌^◌, ◌≤◌, ◌<◌, List, Option, length, take, drop, true, false, IfOk, IfSome, OnErr};
+ghost use Rattle.std.specs.Prelude.{◌≡◌, ℕ, ◌+◌, ◌*◌, ◌^◌, ◌≤◌, ◌<◌, List, Option, length, take, drop, true, false, IfOk, IfSome, OnErr};
+ghost use Rattle.udfs_reading.specs.Kind.{AreBytes};
+ghost use Rattle.udfs_index.specs.Recorded.{HasRecords, IsRecordedAt};
 
 use std::time::SystemTime;
 use udfs_reading::DeviceFault;
+
+/// How many bytes stand before the first record of a reading.
+pub const HEADER: u64 = 16;
+
+/// How many bytes the record of a reading has: the number of its block in 4 bytes, and the block.
+pub const RECORD: u64 = 2052;
+
+/// Where the bytes of the block of a record begin, the first record being 0.
+pub fn block_at(number: u32) -> u64
+    ensures { result ≡ 20 + 2052 * number }
+{
+    HEADER + RECORD * number as u64 + 4
+}
 
 /// What is read at positions, and does not change meanwhile: a file, or bytes in memory.
 pub trait Stored {
@@ -20,10 +35,27 @@ pub trait Stored {
     /// `DeviceFault` where the device failed.
     fn size(&self) -> Result<u64, DeviceFault>
         ensures value { IfSome (content self.now) (λ all. IfOk result (λ n. n ≡ length all)) }
+        ensures bytes { IfSome (content self.now) AreBytes }
         ensures fails { OnErr result (fails self.now) };
 
     /// When its bytes were last changed, where that is told.
     fn changed(&self) -> Option<SystemTime> {
+        None
+    }
+
+    /// How many records it has, where it is a reading, each of another block in rising order, and tells of which blocks they are without
+    /// being read.
+    fn records(&self) -> Option<u32>
+        ensures { IfSome result (λ count. IfSome (content self.now) (λ all. HasRecords all count)) }
+    {
+        None
+    }
+
+    /// The block of the record of this number, from 0, where that is told without a read.
+    fn block_of(&self, number: u32) -> Option<u32>
+        ensures fits { IfSome result (λ block. block ≤ 4194303) }
+        ensures at { IfSome result (λ block. IfSome (content self.now) (λ all. IsRecordedAt all number block)) }
+    {
         None
     }
 

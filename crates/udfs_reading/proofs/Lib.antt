@@ -23,6 +23,7 @@ pub mod Public
 pub mod Magics
 pub mod Outcomes
 pub mod Whole
+pub mod TakenWhole
 pub mod WritingLemmas
 pub mod SoFar
 pub mod Good

@@ -11,7 +11,7 @@ ghost use Rattle.udfs_reading.specs.Outcome.{Stops};
 ghost use Rattle.udfs_reading.specs.Several.{TablesAre, AllTell, AllReadings, Joins, InputFails, IsFirstFaulty};
 
 use crate::device::Source;
-use crate::error::ReadingError;
+use crate::error::{ReadingError, ReadingFault};
 use crate::input::join_any;
 use crate::taker::Taker;
 use crate::window::Window;
@@ -40,8 +40,17 @@ fn take_input<R: Source, T: Taker<R>>(
 {
     window.clear();
     taker.begin(source);
-    join_any(source, window, taker)?;
-    Ok(())
+    match taker.take_records(source) {
+        Ok(true) => Ok(()),
+        Ok(false) => {
+            join_any(source, window, taker)?;
+            Ok(())
+        }
+        Err(number) => Err(ReadingError {
+            fault: ReadingFault::OutOfMemory,
+            number,
+        }),
+    }
 }
 
 fn take_each<R: Source, T: Taker<R>>(inputs: &mut [R], taker: &mut T) -> Result<(), InputError>

@@ -1,8 +1,9 @@
 //! What takes the blocks of inputs: a table, or what stands in the place of one.
 
-ghost use Rattle.std.specs.Prelude.{◌≡◌, ◌≤◌, ℕ, List, Option, None, OnOk, OnErr};
+ghost use Rattle.std.specs.Prelude.{◌≡◌, ◌≤◌, ℕ, List, Option, None, IfOk, IfErr, OnOk, OnErr, true, false};
 ghost use Rattle.udfs_lattice.specs.declared.facts.Fact.TheVariants.{Conflict};
 ghost use Rattle.udfs_lattice.specs.Tables.{Table, join_tables, one_entry, one_record};
+ghost use Rattle.udfs_reading.specs.Gains.{LeavesReading, TakesReading};
 ghost use Rattle.udfs_reading.specs.Places.{StandsAt, HasBlockAt};
 
 use crate::device::Source;
@@ -29,6 +30,26 @@ pub trait Taker<R: Source> {
         ensures input { StandsAt (input self.new) 0 (R.remaining source.new) }
         ensures unread { R.remaining source.new ≡ R.remaining source.old }
         ensures count { R.faults source.new ≡ R.faults source.old };
+
+    /// Takes all records of the input that has just begun, where it is a reading and says itself of which blocks its records
+    /// are: so none of its bytes has to be read that is not looked into. It answers whether it did.
+    ///
+    /// # Errors
+    ///
+    /// The number of the record, from 1, that was not taken, for the reasons of [`put`](Self::put).
+    fn take_records(&mut self, source: &mut R) -> Result<bool, u32>
+        requires { StandsAt (input self.old) 0 (R.remaining source.old) }
+        ensures taken { IfOk result (λ all. all ≡ true → TakesReading (took self.old) (took self.new) (R.remaining source.old) (R.remaining source.new)) }
+        ensures same { IfOk result (λ all. all ≡ false → (t : Table) → took self.old t → took self.new t) }
+        ensures unread { IfOk result (λ all. all ≡ false → R.remaining source.new ≡ R.remaining source.old) }
+        ensures input { IfOk result (λ all. all ≡ false → input self.new ≡ input self.old) }
+        ensures left { IfErr result (LeavesReading (R.remaining source.old) (R.remaining source.new)) }
+        ensures count { R.faults source.new ≡ R.faults source.old }
+    {
+        let _ = self;
+        let _ = source;
+        Ok(false)
+    }
 
     /// Takes the bytes of block `block` in one reading, as [`BlockTable::put`] does. They stand behind the first `at` bytes
     /// of the input, modulo 2 ^ 64.
