@@ -1,13 +1,12 @@
 -- Readings whose records are taken by where they stand.
-use Rattle.std.proofs.Common.{◌≡◌, ℕ, zero, suc, ◌+◌, ◌-◌, ◌*◌, ◌^◌, ◌<◌, ◌≤◌, List, [], ◌∷◌, ◌++◌, length, take, drop, Option, None, Some, IfSome, refl, sym, ap, subst, ◌∙◌, arith, append_assoc, append-nil, length-append}
-use Rattle.core.specs.List.{replicate}
+use Rattle.std.proofs.Common.{◌≡◌, ℕ, ◌+◌, ◌*◌, ◌^◌, ◌<◌, ◌≤◌, List, [], ◌∷◌, ◌++◌, length, take, drop, Option, None, Some, IfSome, refl, sym, ap, subst, ◌∙◌, arith, append_assoc, append-nil, length-append, replicate, slice_index_or}
 use Rattle.std.specs.Io.KnownBytes.{Consumes, IsAtEnd}
 use Rattle.std.specs.List.{flat_map}
+use Rattle.std.proofs.lemmas.Grind.{get_or_default_zero}
 use Rattle.std.proofs.lemmas.List.{drop_at, length-replicate, take_at}
 use Rattle.std.proofs.lemmas.List.Concat.{flat_map-append}
 use Rattle.std.proofs.lemmas.List.Elements.{All-replicate}
 use lib.Seq.{drop-drop}
-use Rattle.byteorder.specs.Endian.{little_number}
 use Rattle.byteorder.specs.Numbers.{little_number-reads_back}
 use Rattle.udfs_lattice.proofs.PublicLaws.{record_added}
 use Rattle.udfs_lattice.specs.Records.{Record, table_of}
@@ -85,7 +84,7 @@ next_of all done (r ∷ rest) count each reading many less =
     let F = flat_map record_bytes rest in
     let there : drop (16 + 2052 * n) all ≡ number r.0 ++ (r.1 ++ F) =
     ap (drop (16 + 2052 * n)) reading.spelled ∙ records_behind (length (done ++ r ∷ rest)) done (r ∷ rest) each ∙ append_assoc (number r.0) r.1 F in
-    let further : 20 + 2052 * n ≡ 4 + (16 + 2052 * n) = omega arith in
+    let further : 20 + 2052 * n ≡ 16 + 2052 * n + 4 = omega arith in
     record {
       one = r;
       later = rest;
@@ -101,12 +100,17 @@ next_of all done (r ∷ rest) count each reading many less =
 pub next : (all : List ℕ) (done : List Record) (count : ℕ) → IsFrontOf (Some all) done count → length done < count → Next all done count
 next all done count h less = next_of all done h.told.0 count h.each h.told.1 h.told.2 less
 
+-- a whole block was read
+pub read_whole : (content : Option (List ℕ)) (at : ℕ) (buf : List ℕ) → length buf ≡ 2048 → IfSome content (λ all. buf ≡ take (length buf) (drop at all)) → IfSome content (λ all. take 2048 (drop at all) ≡ buf)
+read_whole None at buf long h = tt
+read_whole (Some all) at buf long h = ap (λ (k : ℕ). take k (drop at all)) (sym long) ∙ sym h
+
 -- ---- one record
 
 -- the bytes of its block, where they are told; else some
 some_block : (content : Option (List ℕ)) (done : List Record) (count : ℕ) → IsFrontOf content done count → length done < count
     → (bytes : List ℕ) × IsBlock bytes × IfSome content (λ all. take 2048 (drop (20 + 2052 * length done) all) ≡ bytes)
-some_block None done count h less = (replicate 2048 0, record { whole = length-replicate 2048 0; bytes = All-replicate (λ x. x < 256) 2048 0 (omega arith) }, tt)
+some_block None done count h less = (replicate 2048 0, record { whole = length-replicate {A = ℕ} 2048 0; bytes = All-replicate (λ x. x < 256) 2048 0 (omega arith) }, tt)
 some_block (Some all) done count h less = let n = next all done count h less in (n.one.1, n.is.block, n.bytes_there)
 
 -- the records go on with it
@@ -165,6 +169,14 @@ takes_bytes {old} {new} content number at block bytes place fits recorded is_blo
 pub has_read : (input content : Option (List ℕ)) (at : ℕ) (bytes : List ℕ) → IsOf input content → IfSome content (λ all. take 2048 (drop at all) ≡ bytes) → HasBlockAt input at bytes
 has_read input content at bytes of read = has_block input content at bytes of read
 
+-- an array of 2048 bytes is a block
+pub block_of : (bytes : List ℕ) → length bytes ≡ 2048 → ((i : ℕ) → slice_index_or bytes i 0 < 256) → IsBlock bytes
+block_of bytes whole small = record { whole = whole; bytes = λ k d lt. subst (λ x. x < 256) (sym (get_or_default_zero bytes k d lt)) (small k) }
+
+-- by a taker that is as it was before
+pub taken_after : {older old new : Table → Type 0} {content : Option (List ℕ)} {done : List Record} {count : ℕ} → ((t : Table) → older t → old t) → TakesOne content done count old new → TakesOne content done count older new
+taken_after same h = record { one = h.one; is = h.is; front = h.front; took = λ t p. h.took t (same t p) }
+
 -- ---- all records
 
 drop_whole : (xs : List ℕ) → drop (length xs) xs ≡ []
@@ -180,6 +192,7 @@ is_told None = ⊥
 is_told (Some l) = Unit {0}
 
 stands_none : {l : List ℕ} → None ≡ Some l → ⊥
+unfolding is_told
 stands_none e = subst is_told (sym e) tt
 
 -- these were taken so far
@@ -188,13 +201,13 @@ pub record TookFront (content input : Option (List ℕ)) (count number : ℕ) (o
   pub many : length done ≡ number
   pub front : IsFrontOf content done count
   pub took : (t : Table) → old t → now (join_tables t (table_of done))
-  pub input : input_now ≡ input
+  pub same_input : input_now ≡ input
 
 -- none
 pub took_none : {old : Table → Type 0} (content input : Option (List ℕ)) (count : ℕ) → count < 2 ^ 32 → IfSome content (λ all. HasRecords all count) → TookFront content input count 0 old old input
-took_none {old} None input count few has = record { done = []; many = refl; front = record { few = few; each = tt; within = omega arith; told = tt }; took = λ t p. subst old (sym (join_tables-empty_right t)) p; input = refl }
+took_none {old} None input count few has = record { done = []; many = refl; front = record { few = few; each = tt; within = omega arith; told = tt }; took = λ t p. subst old (sym (join_tables-empty_right t)) p; same_input = refl }
 took_none {old} (Some all) input count few has =
-    record { done = []; many = refl; front = record { few = few; each = tt; within = omega arith; told = (has.records, has.is, has.many) }; took = λ t p. subst old (sym (join_tables-empty_right t)) p; input = refl }
+    record { done = []; many = refl; front = record { few = few; each = tt; within = omega arith; told = (has.records, has.is, has.many) }; took = λ t p. subst old (sym (join_tables-empty_right t)) p; same_input = refl }
 
 -- one more
 pub took_next : {old now new : Table → Type 0} (content input : Option (List ℕ)) (count number : ℕ) {input_now input_new : Option (List ℕ)} → number < count → TookFront content input count number old now input_now → TakesNext content number now new → input_new ≡ input_now
@@ -206,7 +219,7 @@ took_next {old} {now} {new} content input count number {input_now} {input_new} l
       many = length-append h.done (one.one ∷ []) ∙ omega (arith, h.many);
       front = one.front;
       took = λ t p. subst new (join_tables-assoc t (table_of h.done) (one_record one.one.0 one.one.1) ∙ ap (join_tables t) (sym (record_added h.done one.one.0 one.one.1))) (one.took (join_tables t (table_of h.done)) (h.took t p));
-      input = same ∙ h.input;
+      same_input = same ∙ h.same_input;
     }
 
 -- the input that is taken is that of the source
@@ -227,8 +240,8 @@ consumes_all (Some all) done count at end zero_at is h many =
     let over : drop end all ≡ [] = ap (λ (k : ℕ). drop k all) (sym long) ∙ drop_whole all in
     (ap (λ (k : ℕ). drop k all) zero_at ∙ spelled ∙ sym (append-nil (front (length done) done)) ∙ ap (λ (l : List ℕ). front (length done) done ++ l) (sym over), over)
 
-pub all_taken : {old new : Table → Type 0} (content input : Option (List ℕ)) (count at end : ℕ) {input_now : Option (List ℕ)} → at ≡ 0 → end ≡ 16 + 2052 * count → TookFront content input count count old new input_now → TakesReading old new (behind at content) (behind end content)
-all_taken {old} {new} content input count at end zero_at is h =
+pub all_taken : {old new : Table → Type 0} {input_now : Option (List ℕ)} (content input : Option (List ℕ)) (count at end : ℕ) → at ≡ 0 → end ≡ 16 + 2052 * count → TookFront content input count count old new input_now → TakesReading old new (behind at content) (behind end content)
+all_taken {old} {new} {input_now} content input count at end zero_at is h =
     let c = consumes_all content h.done count at end zero_at is h.front h.many in
     record { records = h.done; few = omega (arith, h.many, h.front.few); each = h.front.each; given = c.0; end = c.1; took = h.took }
 

@@ -1,6 +1,7 @@
 //! Bytes in memory as an input.
 
-ghost use Rattle.std.specs.Prelude.{◌≡◌, Some};
+ghost use Rattle.std.specs.Prelude.{◌≡◌, Some, length};
+ghost use Rattle.udfs_reading.specs.Kind.{AreBytes};
 
 use crate::stored::Stored;
 use udfs_reading::DeviceFault;
@@ -20,13 +21,21 @@ impl<'a> StoredBytes<'a> {
     }
 }
 
+/// How many bytes there are.
+fn count(bytes: &[u8]) -> u64
+    ensures value { result ≡ length bytes.now }
+    ensures bytes { AreBytes bytes.now }
+{
+    bytes.len() as u64
+}
+
 impl<'a> Stored for StoredBytes<'a> {
     ghost content = { λ s. Some s.bytes.now };
 
     ghost fails = { λ _. ⊥ };
 
     fn size(&self) -> Result<u64, DeviceFault> {
-        Ok(self.bytes.len() as u64)
+        Ok(count(self.bytes))
     }
 
     fn read_at(&self, at: u64, buf: &mut [u8]) -> Result<usize, DeviceFault> {

@@ -1,6 +1,6 @@
 //! The table of what was taken, by where its bytes stand.
 
-ghost use Rattle.std.specs.Prelude.{◌≡◌, ℕ, ◌^◌, ◌≤◌, ◌<◌, List, length, take, drop, IfOk, IfSome, OnOk, OnErr};
+ghost use Rattle.std.specs.Prelude.{◌≡◌, ℕ, ◌+◌, ◌*◌, ◌^◌, ◌≤◌, ◌<◌, List, length, take, drop, IfOk, IfSome, OnOk, OnErr};
 ghost use Rattle.udfs_lattice.specs.declared.facts.Fact.TheVariants.{Unknown, Known, Conflict};
 ghost use Rattle.udfs_lattice.specs.Tables.{Table, IsTable, conflict_count, empty_table, known_count, join_tables, one_entry, one_record};
 ghost use Rattle.udfs_reading.specs.PacketFile.{table_bytes};
@@ -8,6 +8,7 @@ ghost use Rattle.udfs_reading.specs.Places.{HasBlockAt};
 ghost use Rattle.udfs_reading.specs.TableFile.{table_bytes_v1};
 ghost use Rattle.udfs_index.specs.Copying.{AreAllTold, BlamesNone, Copies, CountsSink, NoneFails};
 ghost use Rattle.udfs_index.specs.Index.{Took, IsAtPlace, IsPlaceOf, contents_of, input_by};
+ghost use Rattle.udfs_index.specs.Recorded.{IsOf, IsRecordedAt, TakesNext};
 ghost use Rattle.udfs_index.specs.Slots.{slot_at};
 
 use crate::cursor::Cursor;
@@ -188,9 +189,8 @@ impl<'a, S: Stored> Index<'a, S> {
     fn read_own(&mut self, stored: &S, at: u64) -> Result<[u8; 2048], NotTaken>
         requires { at < 2 ^ 63 }
         ensures bytes { IfOk result (λ bytes. IfSome (S.content stored.now) (λ all. take 2048 (drop at all) ≡ bytes)) }
-        ensures inputs { self.new.inputs.items ≡ self.old.inputs.items }
-        ensures begun { self.new.begun ≡ self.old.begun }
-        ensures packets { self.new.places.packets.items ≡ self.old.places.packets.items }
+        ensures same { (t : Table) → Took (contents_of S.content self.old.inputs.items) self.old.places.packets.items t → Took (contents_of S.content self.new.inputs.items) self.new.places.packets.items t }
+        ensures input { input_by (contents_of S.content self.new.inputs.items) self.new.begun ≡ input_by (contents_of S.content self.old.inputs.items) self.old.begun }
     {
         let mut bytes = [0; 2048];
         match fill(stored, at, &mut bytes) {
@@ -200,6 +200,28 @@ impl<'a, S: Stored> Index<'a, S> {
                 self.failed = Some(Unread { input, at });
                 Err(NotTaken)
             }
+        }
+    }
+
+    /// Takes the record of this number, from 0, of the input that is being taken, which is of this block and has these bytes.
+    fn put_own(
+        &mut self,
+        number: u32,
+        block: u32,
+        bytes: &[u8; 2048],
+        stored: &S,
+    ) -> Result<(), NotTaken>
+        requires block { block ≤ 4194303 }
+        requires at { IfSome (S.content stored.now) (λ all. IsRecordedAt all number block) }
+        requires is { IsOf (input_by (contents_of S.content self.now.inputs.items) self.now.begun) (S.content stored.now) }
+        requires read { IfSome (S.content stored.now) (λ all. take 2048 (drop (20 + 2052 * number) all) ≡ bytes.now) }
+        ensures next { OnOk result (TakesNext (S.content stored.now) number (Took (contents_of S.content self.old.inputs.items) self.old.places.packets.items) (Took (contents_of S.content self.new.inputs.items) self.new.places.packets.items)) }
+        ensures input { input_by (contents_of S.content self.new.inputs.items) self.new.begun ≡ input_by (contents_of S.content self.old.inputs.items) self.old.begun }
+    {
+        let _ = stored;
+        match self.put(block, bytes, block_at(number)) {
+            Ok(()) => Ok(()),
+            Err(NotTaken) => Err(NotTaken),
         }
     }
 
@@ -278,7 +300,10 @@ impl<'a, S: Stored> Taker<Cursor<'a, S>> for Index<'a, S> {
 
     fn put(&mut self, block: u32, bytes: &[u8; 2048], at: u64) -> Result<(), NotTaken> {
         match self.places.slot(block) {
-            Fact::Unknown => self.keep(block, at),
+            Fact::Unknown => match self.keep(block, at) {
+                Ok(()) => Ok(()),
+                Err(NotTaken) => Err(NotTaken),
+            },
             Fact::Known(place) => self.compare(block, bytes, at, place),
             Fact::Conflict => Ok(()),
         }
@@ -304,11 +329,17 @@ impl<'a, S: Stored> RecordTaker<S> for Index<'a, S> {
     fn take_record(&mut self, stored: &S, number: u32, block: u32) -> Result<(), NotTaken> {
         let at = block_at(number);
         match self.places.slot(block) {
-            Fact::Unknown => self.keep(block, at),
-            _ => {
-                let bytes = self.read_own(stored, at)?;
-                self.put(block, &bytes, at)
-            }
+            Fact::Unknown => match self.keep(block, at) {
+                Ok(()) => Ok(()),
+                Err(NotTaken) => Err(NotTaken),
+            },
+            _ => match self.read_own(stored, at) {
+                Ok(bytes) => match self.put_own(number, block, &bytes, stored) {
+                    Ok(()) => Ok(()),
+                    Err(NotTaken) => Err(NotTaken),
+                },
+                Err(NotTaken) => Err(NotTaken),
+            },
         }
     }
 }

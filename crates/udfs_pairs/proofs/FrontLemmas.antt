@@ -158,3 +158,15 @@ read_fails (Some all) fails ranges size number_of block left (Err e) told inside
 pub size_fails : (image : Option (List ℕ)) (fails : Type 0) (size now : ℕ) → HasSize image size → IfSome image (λ all. now ≡ length all) → (now ≡ size → ⊥) → (image ≡ None) ⊎ fails
 size_fails None fails size now told h differs = inl refl
 size_fails (Some all) fails size now told h differs = absurd (differs (h ∙ sym told))
+
+-- ---- the block of a record
+
+-- the number of the block stands where its record begins
+pub recorded_at : (image : Option (List ℕ)) (ranges : List BlockRange) (size number_of block left : ℕ) → HasSize image size → AreInside ranges size → IsBlockOf ranges number_of block left → IfSome (reading_known image ranges) (λ all. IsRecordedAt all number_of block)
+recorded_at None ranges size number_of block left told inside is = tt
+recorded_at (Some all) ranges size number_of block left told inside is =
+    let front = number_given all (number block) block left 0 4 is.some (omega arith) refl in
+    record { spelled = sym (read_behind all ranges number_of block left 0 (16 + 2052 * number_of) 4 (number block) (inside_of all size ranges told inside) is (omega arith) front) ∙ take_all 4 (number block) (omega (arith, length-number block)) }
+
+pub low_block : (ranges : List BlockRange) (number_of block left : ℕ) → IsBlockOf ranges number_of block left → block ≤ 4194303
+low_block ranges number_of block left is = omega (arith, is.left_is, is.some, is.within)

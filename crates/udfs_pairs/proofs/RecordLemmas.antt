@@ -1,15 +1,20 @@
 -- The records of an image's blocks.
-use Rattle.std.proofs.Common.{◌≡◌, inl, inr, ℕ, zero, suc, ◌+◌, ◌-◌, ◌*◌, ◌<◌, ◌≤◌, List, [], ◌∷◌, ◌++◌, length, take, drop, refl, sym, ap, subst, ◌∙◌, arith, append_assoc, length-append, length-take-le, length-drop}
+use Rattle.std.proofs.Common.{◌≡◌, ◌^◌, IfSome, None, Option, Some, ⊎_elim, inl, inr, rules, ℕ, zero, suc, ◌+◌, ◌-◌, ◌*◌, ◌<◌, ◌≤◌, List, [], ◌∷◌, ◌++◌, length, take, drop, refl, sym, ap, subst, ◌∙◌, arith, append_assoc, length-append, length-take-le, length-drop}
 use Rattle.std.specs.List.{flat_map}
+use Rattle.std.proofs.lemmas.Bool.{cases_lt}
 use Rattle.std.proofs.lemmas.List.Concat.{flat_map-append}
+use Rattle.std.proofs.lemmas.List.Elements.{All-append, All-cons, All-drop, All-from_recursion, All-nil, All-take}
 use lib.Seq.{drop-drop}
 use Rattle.udfs_lattice.specs.Records.{Record}
 use Rattle.udfs_reading.specs.Format.{header, number}
-use Rattle.udfs_reading.specs.Reading.{magic, record_bytes}
+use Rattle.udfs_reading.specs.Kind.{AreBytes}
+use Rattle.udfs_reading.specs.Reading.{magic, record_bytes, AreRecords}
 use Rattle.udfs_rescue.specs.declared.known.BlockRange.{BlockRange}
-use Rattle.udfs_rescue.specs.Blocks.{block_of, reading_of, records_from, records_of}
-use Rattle.udfs_rescue.specs.Known.{InRanges, block_count}
+use Rattle.udfs_rescue.specs.Blocks.{block_of, reading_known, reading_of, records_from, records_of}
+use Rattle.udfs_rescue.specs.Known.{EndWithin, InRanges, block_count}
+use Rattle.udfs_index.specs.Recorded.{HasRecords, IsRecordedAt}
 use Rattle.udfs_pairs.specs.Placed.{IsBlockOf}
+use Rattle.udfs_pairs.specs.Told.{AreInside, HasSize}
 use Rattle.udfs_pairs.specs.Fronts.{IsFrontBehind}
 
 -- ---- how long they are
@@ -138,3 +143,73 @@ read_behind all ranges number_of block left skip at n bytes inside is there fron
     front within behind.0
     ∙ ap (λ (l : List ℕ). take n (drop skip l)) (sym behind.1)
     ∙ ap (take n) (drop-drop skip (2052 * number_of) body ∙ ap (drop (2052 * number_of + skip)) (sym (drop-front h body 16 (length-header (length (records_of all ranges))))) ∙ drop-drop (2052 * number_of + skip) 16 (h ++ body) ∙ ap (λ (m : ℕ). drop m (h ++ body)) (sym place))
+
+-- ---- as a reading
+
+AreBytes-number : (n : ℕ) → AreBytes (number n)
+unfolding number
+AreBytes-number n =
+    All-cons (λ x. x < 256) _ _ (omega arith) (All-cons (λ x. x < 256) _ _ (omega arith) (All-cons (λ x. x < 256) _ _ (omega arith) (All-cons (λ x. x < 256) _ _ (omega arith) (All-nil (λ x. x < 256)))))
+
+AreBytes-magic : AreBytes magic
+unfolding magic
+AreBytes-magic = All-from_recursion (λ x. x < 256) _ (search rules)
+
+AreBytes-header : (count : ℕ) → AreBytes (header magic count)
+AreBytes-header count = All-append (λ x. x < 256) (magic ++ number 2048) (number count) (All-append (λ x. x < 256) magic (number 2048) AreBytes-magic (AreBytes-number 2048)) (AreBytes-number count)
+
+AreBytes-block : (all : List ℕ) (n : ℕ) → AreBytes all → AreBytes (block_of all n)
+AreBytes-block all n are = All-take (λ x. x < 256) 2048 (drop (2048 * n) all) (All-drop (λ x. x < 256) (2048 * n) all are)
+
+AreBytes-blocks : (all : List ℕ) (n k : ℕ) → AreBytes all → AreBytes (flat_map record_bytes (records_from all n k))
+AreBytes-blocks all n zero are = All-nil (λ x. x < 256)
+AreBytes-blocks all n (suc k) are =
+    All-append (λ x. x < 256) (number n ++ block_of all n) (flat_map record_bytes (records_from all (n + 1) k)) (All-append (λ x. x < 256) (number n) (block_of all n) (AreBytes-number n) (AreBytes-block all n are)) (AreBytes-blocks all (n + 1) k are)
+
+AreBytes-ranges : (all : List ℕ) (ranges : List BlockRange) → AreBytes all → AreBytes (flat_map record_bytes (records_of all ranges))
+AreBytes-ranges all [] are = All-nil (λ x. x < 256)
+AreBytes-ranges all (r ∷ rs) are =
+    subst AreBytes (sym (flat_map-append record_bytes (records_from all r.start (r.end - r.start)) (records_of all rs)))
+    (All-append (λ x. x < 256) (flat_map record_bytes (records_from all r.start (r.end - r.start))) (flat_map record_bytes (records_of all rs)) (AreBytes-blocks all r.start (r.end - r.start) are) (AreBytes-ranges all rs are))
+
+-- its bytes are bytes, where those of the image are
+pub bytes_of_reading : (image : Option (List ℕ)) (ranges : List BlockRange) → IfSome image AreBytes → IfSome (reading_known image ranges) AreBytes
+bytes_of_reading None ranges are = tt
+bytes_of_reading (Some all) ranges are =
+    All-append (λ x. x < 256) (header magic (length (records_of all ranges))) (flat_map record_bytes (records_of all ranges)) (AreBytes-header (length (records_of all ranges))) (AreBytes-ranges all ranges are)
+
+are_blocks : (all : List ℕ) (n k : ℕ) → n + k ≤ 4194304 → ((m : ℕ) → n ≤ m → m < n + k → 2048 * (m + 1) ≤ length all) → AreBytes all → AreRecords (records_from all n k)
+are_blocks all n zero within inside are = tt
+are_blocks all n (suc k) within inside are =
+    (record { number = omega (arith, within); block = record { whole = length-block all n (inside n (omega arith) (omega arith)); bytes = AreBytes-block all n are } },
+    are_blocks all (n + 1) k (omega (arith, within)) (λ m l h. inside m (omega (arith, l)) (omega (arith, h))) are)
+
+are_range : (all : List ℕ) (r : BlockRange) → r.end ≤ 4194304 → ((m : ℕ) → r.start ≤ m → m < r.end → 2048 * (m + 1) ≤ length all) → AreBytes all → AreRecords (records_from all r.start (r.end - r.start))
+are_range all r within inside are =
+    ⊎_elim
+    (λ (some : r.start < r.end). are_blocks all r.start (r.end - r.start) (omega (arith, some, within)) (λ m l h. inside m l (omega (arith, l, h, some))) are)
+    (λ (none : r.end ≤ r.start). let zero_left : r.end - r.start ≡ 0 = omega (arith, none) in subst (λ (k : ℕ). AreRecords (records_from all r.start k)) (sym zero_left) tt)
+    (cases_lt r.start r.end)
+
+are_both : (xs ys : List Record) → AreRecords xs → AreRecords ys → AreRecords (xs ++ ys)
+are_both [] ys h k = k
+are_both (x ∷ xs) ys h k = (h.0, are_both xs ys h.1 k)
+
+are_records : (all : List ℕ) (ranges : List BlockRange) → EndWithin ranges → ((m : ℕ) → InRanges ranges m → 2048 * (m + 1) ≤ length all) → AreBytes all → AreRecords (records_of all ranges)
+are_records all [] within inside are = tt
+are_records all (r ∷ rs) within inside are =
+    are_both (records_from all r.start (r.end - r.start)) (records_of all rs)
+    (are_range all r within.0 (λ m l h. inside m (inl (l, h))) are)
+    (are_records all rs within.1 (λ m i. inside m (inr i)) are)
+
+-- it is a reading of so many records
+pub has_records : (image : Option (List ℕ)) (ranges : List BlockRange) (size count : ℕ) → HasSize image size → AreInside ranges size → EndWithin ranges → count ≡ block_count ranges → count < 2 ^ 32 → IfSome image AreBytes
+    → IfSome (reading_known image ranges) (λ all. HasRecords all count)
+has_records None ranges size count told inside within is few are = tt
+has_records (Some all) ranges size count told inside within is few are =
+    let many : length (records_of all ranges) ≡ count = length-records_of all ranges ∙ sym is in
+    record {
+      records = records_of all ranges;
+      is = record { count = omega (arith, many, few); each = are_records all ranges within (λ m i. let h = inside m i in omega (arith, told, h)) are; spelled = refl };
+      many = many;
+    }

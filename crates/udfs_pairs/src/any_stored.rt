@@ -41,6 +41,22 @@ impl<S: Stored> Stored for AnyStored<S> {
         }
     }
 
+    fn records(&self) -> Option<u32> {
+        match self {
+            AnyStored::File(stored) => stored.records(),
+            AnyStored::Paired(pair) => pair.records(),
+            AnyStored::Refused(_) => None,
+        }
+    }
+
+    fn block_of(&self, number: u32) -> Option<u32> {
+        match self {
+            AnyStored::File(stored) => stored.block_of(number),
+            AnyStored::Paired(pair) => pair.block_of(number),
+            AnyStored::Refused(_) => None,
+        }
+    }
+
     fn read_at(&self, at: u64, buf: &mut [u8]) -> Result<usize, DeviceFault> {
         match self {
             AnyStored::File(stored) => stored.read_at(at, buf),

@@ -85,7 +85,8 @@ impl NumberedBlocks {
 
     /// How many they are.
     pub fn count(&self) -> u32
-        ensures { result ≡ block_count self.now }
+        ensures value { result ≡ block_count self.now }
+        ensures blocks { AreBlocks self.now }
     {
         self.known.count()
     }

@@ -8,15 +8,9 @@ use crate::blocks::NumberedBlocks;
 use crate::giving::{give_behind, give_header};
 use std::alloc::{AllocError, Global};
 use std::time::SystemTime;
-use udfs_index::Stored;
+use udfs_index::{HEADER, RECORD, Stored};
 use udfs_reading::DeviceFault;
 use udfs_rescue::KnownBlocks;
-
-/// How many bytes stand before the first record of a reading.
-const HEADER: u64 = 16;
-
-/// How many bytes a record has.
-const RECORD: u64 = 2052;
 
 /// An image with the blocks that are known of it, all of which are in it: the reading (`UDFREAD1`) of these blocks, in rising order. Its records stand
 /// where they would in a file. Of the image nothing is read that is not known, and no byte of it is kept.
@@ -73,6 +67,20 @@ impl<S: Stored> Stored for StoredPair<S> {
 
     fn changed(&self) -> Option<SystemTime> {
         self.image.changed()
+    }
+
+    fn records(&self) -> Option<u32> {
+        match self.image.size() {
+            Ok(_) => Some(self.blocks.count()),
+            Err(_) => None,
+        }
+    }
+
+    fn block_of(&self, number: u32) -> Option<u32> {
+        match self.blocks.find(number as u64) {
+            Some(found) => Some(found.block),
+            None => None,
+        }
     }
 
     fn read_at(&self, at: u64, buf: &mut [u8]) -> Result<usize, DeviceFault> {

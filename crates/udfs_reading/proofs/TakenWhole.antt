@@ -1,13 +1,13 @@
 -- A reading whose records are known without reading, as an input that is read.
-use Rattle.std.proofs.Common.{◌≡◌, ℕ, ◌+◌, ◌^◌, ◌<◌, List, [], ◌++◌, length, Option, refl, sym, subst, ◌∙◌, append_assoc, append-nil, arith}
+use Rattle.std.proofs.Common.{◌≡◌, ℕ, ◌^◌, ◌<◌, List, [], ◌++◌, length, Option, refl, sym, subst, ◌∙◌, append_assoc, append-nil}
 use Rattle.std.specs.List.{flat_map}
 use Rattle.udfs_lattice.specs.Records.{Record, table_of}
-use Rattle.udfs_lattice.specs.Tables.{Table, join_tables}
+use Rattle.udfs_lattice.specs.Tables.{Table}
 use Rattle.udfs_reading.specs.declared.error.ReadingFault.{ReadingFault}
 use Rattle.udfs_reading.specs.declared.error.ReadingFault.TheVariants.{Io, OutOfMemory}
 use Rattle.udfs_reading.specs.Format.{header, number}
 use Rattle.udfs_reading.specs.Gains.{Gains, LeavesReading, TakesReading}
-use Rattle.udfs_reading.specs.Inputs.{files, inputs}
+use Rattle.udfs_reading.specs.Inputs.{inputs}
 use Rattle.udfs_reading.specs.Outcome.{HeaderIsSound, Stops}
 use Rattle.udfs_reading.specs.Reading.{magic, front, record_bytes, AreRecords, readings}
 use Rattle.udfs_reading.specs.Several.{Joins}

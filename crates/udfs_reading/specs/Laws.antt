@@ -4,7 +4,7 @@
 --     FailedThen      where the sink fails in the second, it fails in both
 --     FailedMore      and so it does where more was to come
 --     FailedLast      where it fails in what is held at the end, it fails in all
-use Rattle.std.specs.Prelude.{ℕ, List, [], ◌++◌, Option}
+use Rattle.std.specs.Prelude.{ℕ, List, [], ◌++◌}
 use Rattle.udfs_reading.specs.Writing.{Failed, Passed, FailedPast}
 use Rattle.udfs_reading.specs.Device.{Stream}
 

@@ -192,7 +192,8 @@ impl KnownBlocks {
 
     /// How many blocks are known.
     pub fn count(&self) -> u32
-        ensures { result ≡ block_count self.now }
+        ensures value { result ≡ block_count self.now }
+        ensures blocks { AreBlocks self.now }
     {
         self.count
     }

@@ -1,9 +1,8 @@
-use Rattle.std.proofs.Common.{ℕ, List, Option, refl, subst, ◌∙◌}
+use Rattle.std.proofs.Common.{ℕ, List, Option, subst, ◌∙◌}
 use Rattle.udfs_lattice.specs.Tables.{join_tables}
 use Rattle.udfs_reading.specs.Gains.{LeavesReading, TakesReading}
 use Rattle.udfs_reading.specs.Inputs.{inputs}
 use Rattle.udfs_reading.specs.Several.{Joins}
-use Rattle.udfs_reading.proofs.PlaceLemmas.{front_stands}
 use Rattle.udfs_reading.proofs.TakenWhole.{gains_reading, stops_reading, taken_since}
 use Rattle.udfs_reading.proofs.Whole.{joins_whole}
 use Rattle.udfs_reading.proofs.inputs.take_input.Goals as goal
