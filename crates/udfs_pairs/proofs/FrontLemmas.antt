@@ -1,5 +1,5 @@
 -- What is given of records.
-use Rattle.std.proofs.Common.{◌≡◌, ◌⊎◌, inl, inr, ℕ, zero, suc, ◌+◌, ◌-◌, ◌*◌, ◌<◌, ◌≤◌, List, [], ◌∷◌, ◌++◌, length, take, drop, Option, None, Some, IfSome, refl, sym, ap, subst, ◌∙◌, arith, append_assoc, length-drop}
+use Rattle.std.proofs.Common.{◌≡◌, ◌⊎◌, inl, inr, take_all, ℕ, zero, suc, ◌+◌, ◌-◌, ◌*◌, ◌<◌, ◌≤◌, List, [], ◌∷◌, ◌++◌, length, take, drop, Option, None, Some, IfSome, refl, sym, ap, subst, ◌∙◌, arith, append_assoc, length-drop}
 use Rattle.std.specs.Prelude.{Result, Ok, Err, IfOk, OnErr}
 use Rattle.std.specs.List.{flat_map}
 use Rattle.std.proofs.lemmas.List.Concat.{flat_map-append}
@@ -12,6 +12,7 @@ use Rattle.udfs_reading.specs.Reading.{magic, record_bytes}
 use Rattle.udfs_rescue.specs.declared.known.BlockRange.{BlockRange}
 use Rattle.udfs_rescue.specs.Blocks.{block_of, reading_known, records_from, records_in, records_of}
 use Rattle.udfs_rescue.specs.Known.{InRanges, block_count}
+use Rattle.udfs_index.specs.Recorded.{IsRecordedAt}
 use Rattle.udfs_pairs.specs.Fronts.{IsFrontBehind, MayFail}
 use Rattle.udfs_pairs.specs.Placed.{IsBlockOf}
 use Rattle.udfs_pairs.specs.Told.{AreInside, HasSize}

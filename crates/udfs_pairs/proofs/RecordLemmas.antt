@@ -1,5 +1,6 @@
 -- The records of an image's blocks.
-use Rattle.std.proofs.Common.{◌≡◌, ◌^◌, IfSome, None, Option, Some, ⊎_elim, inl, inr, rules, ℕ, zero, suc, ◌+◌, ◌-◌, ◌*◌, ◌<◌, ◌≤◌, List, [], ◌∷◌, ◌++◌, length, take, drop, refl, sym, ap, subst, ◌∙◌, arith, append_assoc, length-append, length-take-le, length-drop}
+use Rattle.std.proofs.Common.{◌≡◌, ◌^◌, IfSome, None, Option, Some, ⊎_elim, inl, inr, ℕ, zero, suc, ◌+◌, ◌-◌, ◌*◌, ◌<◌, ◌≤◌, List, [], ◌∷◌, ◌++◌, length, take, drop, refl, sym, ap, subst, ◌∙◌, arith, append_assoc, length-append, length-take-le, length-drop}
+use Rattle.std.specs.Int.{byte_at, bytes_low_first}
 use Rattle.std.specs.List.{flat_map}
 use Rattle.std.proofs.lemmas.Bool.{cases_lt}
 use Rattle.std.proofs.lemmas.List.Concat.{flat_map-append}
@@ -12,7 +13,7 @@ use Rattle.udfs_reading.specs.Reading.{magic, record_bytes, AreRecords}
 use Rattle.udfs_rescue.specs.declared.known.BlockRange.{BlockRange}
 use Rattle.udfs_rescue.specs.Blocks.{block_of, reading_known, reading_of, records_from, records_of}
 use Rattle.udfs_rescue.specs.Known.{EndWithin, InRanges, block_count}
-use Rattle.udfs_index.specs.Recorded.{HasRecords, IsRecordedAt}
+use Rattle.udfs_index.specs.Recorded.{HasRecords}
 use Rattle.udfs_pairs.specs.Placed.{IsBlockOf}
 use Rattle.udfs_pairs.specs.Told.{AreInside, HasSize}
 use Rattle.udfs_pairs.specs.Fronts.{IsFrontBehind}
@@ -146,14 +147,21 @@ read_behind all ranges number_of block left skip at n bytes inside is there fron
 
 -- ---- as a reading
 
+low_byte : (i x : ℕ) → byte_at i x < 256
+low_byte zero x = omega arith
+low_byte (suc i) x = omega arith
+
+AreBytes-low : (i k x : ℕ) → AreBytes (bytes_low_first i k x)
+AreBytes-low i zero x = All-nil (λ y. y < 256)
+AreBytes-low i (suc k) x = All-cons (λ y. y < 256) (byte_at i x) (bytes_low_first (suc i) k x) (low_byte i x) (AreBytes-low (suc i) k x)
+
 AreBytes-number : (n : ℕ) → AreBytes (number n)
 unfolding number
-AreBytes-number n =
-    All-cons (λ x. x < 256) _ _ (omega arith) (All-cons (λ x. x < 256) _ _ (omega arith) (All-cons (λ x. x < 256) _ _ (omega arith) (All-cons (λ x. x < 256) _ _ (omega arith) (All-nil (λ x. x < 256)))))
+AreBytes-number n = AreBytes-low 0 4 n
 
 AreBytes-magic : AreBytes magic
 unfolding magic
-AreBytes-magic = All-from_recursion (λ x. x < 256) _ (search rules)
+AreBytes-magic = All-from_recursion (λ x. x < 256) magic (omega arith, (omega arith, (omega arith, (omega arith, (omega arith, (omega arith, (omega arith, (omega arith, tt))))))))
 
 AreBytes-header : (count : ℕ) → AreBytes (header magic count)
 AreBytes-header count = All-append (λ x. x < 256) (magic ++ number 2048) (number count) (All-append (λ x. x < 256) magic (number 2048) AreBytes-magic (AreBytes-number 2048)) (AreBytes-number count)

@@ -7,7 +7,7 @@ ghost use Rattle.udfs_lattice.specs.Tables.{Table, IsTable, conflict_count, empt
 use crate::beside::{Beside, Totals};
 use crate::said::Disagreement;
 use std::alloc::{AllocError, Global};
-use udfs_index::{Cursor, Index, Stored, Unread};
+use udfs_index::{Cursor, Index, RecordTaker, Stored, Unread, take_records};
 use udfs_lattice::Fact;
 use udfs_reading::{NotTaken, Taker};
 
@@ -102,6 +102,30 @@ impl<'a, S: Stored> IndexTally<'a, S> {
     }
 }
 
+impl<'a, S: Stored> RecordTaker<S> for IndexTally<'a, S> {
+    ghost took = { λ x t. IsTable t × ⟦<Index<'a, S> as Taker<Cursor<'a, S>>>⟧.took x.index t };
+
+    ghost input = { λ x. ⟦<Index<'a, S> as Taker<Cursor<'a, S>>>⟧.input x.index };
+
+    fn take_record(&mut self, stored: &S, number: u32, block: u32) -> Result<(), NotTaken> {
+        if self.beside.input.reach(block).is_err() {
+            return Err(NotTaken);
+        }
+        let was_known = matches!(self.index.slot(block), Fact::Known(_));
+        match self.index.take_record(stored, number, block) {
+            Ok(()) => {
+                let is_known = matches!(self.index.slot(block), Fact::Known(_));
+                let is_further = self.beside.is_further();
+                self.beside
+                    .input
+                    .hear(block, is_further && was_known, was_known && is_known);
+                Ok(())
+            }
+            Err(_) => Err(NotTaken),
+        }
+    }
+}
+
 impl<'a, S: Stored> Taker<Cursor<'a, S>> for IndexTally<'a, S> {
     ghost took = { λ x t. IsTable t × ⟦<Index<'a, S> as Taker<Cursor<'a, S>>>⟧.took x.index t };
 
@@ -111,6 +135,10 @@ impl<'a, S: Stored> Taker<Cursor<'a, S>> for IndexTally<'a, S> {
         self.end_input();
         self.beside.begin_input();
         self.index.begin(source);
+    }
+
+    fn take_records(&mut self, source: &mut Cursor<'a, S>) -> Result<bool, u32> {
+        take_records(source, self)
     }
 
     fn put(&mut self, block: u32, bytes: &[u8; 2048], at: u64) -> Result<(), NotTaken> {

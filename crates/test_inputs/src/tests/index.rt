@@ -6,6 +6,7 @@ mod copies;
 mod files;
 mod records;
 mod runs;
+mod told;
 
 use crate::tests::assert_same;
 use std::alloc::{AllocError, Global};

@@ -4,7 +4,7 @@ use Rattle.udfs_pairs.proofs.stored_pair.StoredPairStored.read_at.Goals as goal
 
 pub returns-then-at-lt-HEADER-clause-value : goal.returns-then-at-lt-HEADER-clause-value
 returns-then-at-lt-HEADER-clause-value g c =
-    header_read (g.S.Stored.content c.args.self.now.image) c.args.self.now.blocks c.count.result c.args.at c.give_header.result _ c.count.ensures c.if-at-lt-HEADER.true c.give_header.ensures.few c.give_header.ensures.value
+    header_read (g.S.Stored.content c.args.self.now.image) c.args.self.now.blocks c.count.result c.args.at c.give_header.result _ c.count.ensures.value c.if-at-lt-HEADER.true c.give_header.ensures.few c.give_header.ensures.value
 
 pub returns-in-Some-clause-value : goal.returns-in-Some-clause-value
 returns-in-Some-clause-value g c =
