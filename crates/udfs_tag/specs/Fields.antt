@@ -3,11 +3,14 @@
 --     uint8_at, uint16_at, uint32_at, uint64_at        the number at a byte position
 --     extent_ad_of, short_ad_of, long_ad_of, regid_of  the record at the front of bytes
 --     extent_ad_at, short_ad_at, long_ad_at, regid_at  the record at a byte position
+--     first_address extent                             the address of an extent's first logical block
+--     number_of address                                an address as one number
 --     zero_filled n text                                    a short text with zero bytes after it
-use Rattle.std.specs.Prelude.{ℕ, ◌-◌, ◌/◌, ◌%◌, ◌^◌, List, ◌++◌, length, take, drop, replicate, slice_index}
+use Rattle.std.specs.Prelude.{ℕ, ◌+◌, ◌-◌, ◌*◌, ◌/◌, ◌%◌, ◌^◌, List, ◌++◌, length, take, drop, replicate, slice_index}
 use Rattle.byteorder.specs.Endian.{little_number}
 use Rattle.udfs_tag.specs.declared.layouts.ExtentAd.{ExtentAd}
 use Rattle.udfs_tag.specs.declared.layouts.ShortAd.{ShortAd}
+use Rattle.udfs_tag.specs.declared.layouts.LbAddr.{LbAddr}
 use Rattle.udfs_tag.specs.declared.layouts.LongAd.{LongAd}
 use Rattle.udfs_tag.specs.declared.layouts.RegId.{RegId}
 
@@ -71,6 +74,14 @@ long_ad_at bytes at = long_ad_of (drop at bytes)
 -- the regid at a position (ECMA-167 1/7.4)
 abbrev pub regid_at : List ℕ → ℕ → RegId
 regid_at bytes at = regid_of (drop at bytes)
+
+-- the address of an extent's first logical block, lb_addr (ECMA-167 4/7.1)
+abbrev pub first_address : LongAd → LbAddr
+first_address extent = record { block = extent.block; reference = extent.reference }
+
+-- an address as one number: by partition, and then by block
+abbrev pub number_of : LbAddr → ℕ
+number_of address = address.reference * 4294967296 + address.block
 
 -- a short text, with zero bytes up to n
 abbrev pub zero_filled : ℕ → List ℕ → List ℕ

@@ -25,6 +25,15 @@ pub struct ShortAd {
     pub block: u32,
 }
 
+/// A logical block of any partition, `lb_addr` (ECMA-167 4/7.1).
+#[derive(Clone, Copy, Debug, PartialEq, Eq)]
+pub struct LbAddr {
+    /// The logical block within the partition.
+    pub block: u32,
+    /// The partition, by the number of its map.
+    pub reference: u16,
+}
+
 /// An extent of any partition, `long_ad` (ECMA-167 4/14.14.2).
 #[derive(Clone, Copy, Debug, PartialEq, Eq)]
 pub struct LongAd {
@@ -93,7 +102,7 @@ impl ShortAd {
 }
 
 impl LongAd {
-    ghost use Rattle.udfs_tag.specs.Fields.{long_ad_of};
+    ghost use Rattle.udfs_tag.specs.Fields.{first_address, long_ad_of};
 
     /// Reads the 16 bytes at the front. The last six are for the implementation's use.
     pub fn read(bytes: &[u8]) -> Self
@@ -109,6 +118,28 @@ impl LongAd {
             block: LittleEndian::read_u32(&bytes[4..]),
             reference: LittleEndian::read_u16(&bytes[8..]),
         }
+    }
+
+    /// The address of its first logical block.
+    pub fn address(self) -> LbAddr
+        ensures { result ≡ first_address self }
+    {
+        LbAddr {
+            block: self.block,
+            reference: self.reference,
+        }
+    }
+}
+
+impl LbAddr {
+    ghost use Rattle.udfs_tag.specs.Fields.{number_of};
+
+    /// The one number by which addresses are kept and sorted: by partition, and then by block.
+    pub fn number(self) -> u64
+        ensures value { result ≡ number_of self }
+        ensures block { self.block < 4294967296 }
+    {
+        u64::from(self.reference) * 4294967296 + u64::from(self.block)
     }
 }
 

@@ -3,7 +3,7 @@
 //!
 //! Each descriptor of a volume begins with a tag of 16 bytes (ECMA-167 3/7.2), whose sums tell it
 //! from noise: [`Tag::check`] says whether they hold. [`ExtentAd`], [`ShortAd`], [`LongAd`] and
-//! [`RegId`] are read from slices. No call of this crate takes memory, and none is refused.
+//! [`RegId`] are read from slices; an [`LbAddr`] is where a [`LongAd`] begins. No call of this crate takes memory, and none is refused.
 #![tactic(auto)]
 
 mod checksum;
@@ -14,5 +14,5 @@ mod tables;
 mod tags;
 
 pub use checksum::crc;
-pub use layouts::{ExtentAd, LongAd, RegId, ShortAd};
+pub use layouts::{ExtentAd, LbAddr, LongAd, RegId, ShortAd};
 pub use tags::{Tag, TagFault};

@@ -167,7 +167,7 @@ any_in p (y ∷ xs) x (inr i) e = ap (λ z. p y || z) (any_in p xs x i e) ∙ go
     go false = refl
 
 icb_same : (x : Icb) → is_icb x x ≡ true
-icb_same x = λ i. eq-eqb x.0 x.0 refl i && eq-eqb x.1 x.1 refl i
+icb_same x = λ i. eq-eqb x.reference x.reference refl i && eq-eqb x.block x.block refl i
 
 no_loop : (all : View) (blocks : PartitionBlocks) → IsComplete all blocks → (root : LongAd) → IsLawfulTree all root → (path : Path) (a b : LongAd) (name : List ℕ) (more : Path) → Leads blocks root path a → Leads blocks a (name ∷ more) b
     → icb_of b ≢ icb_of a

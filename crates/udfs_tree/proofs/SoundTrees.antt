@@ -93,10 +93,10 @@ record Way (blocks : PartitionBlocks) (root : LongAd) (w : Walked) : Type 0 wher
   above : (icb : Icb) → Includes w.above icb → IsAbove blocks root w.address icb
 
 same_icb : (x y : Icb) → is_icb x y ≡ true → x ≡ y
-same_icb x y e = go (x.0 == y.0) refl (x.1 == y.1) refl e
+same_icb x y e = go (x.reference == y.reference) refl (x.block == y.block) refl e
   where
-    go : (p : Bool) → (x.0 == y.0) ≡ p → (q : Bool) → (x.1 == y.1) ≡ q → (p && q) ≡ true → x ≡ y
-    go true a true b z = λ i. (eqb-true x.0 y.0 a i, eqb-true x.1 y.1 b i)
+    go : (p : Bool) → (x.reference == y.reference) ≡ p → (q : Bool) → (x.block == y.block) ≡ q → (p && q) ≡ true → x ≡ y
+    go true a true b z = λ i. record { block = eqb-true x.block y.block b i; reference = eqb-true x.reference y.reference a i }
     go true a false b z = absurd (let n : ⊥ = cc in n)
     go false a q b z = absurd (let n : ⊥ = cc in n)
 

@@ -100,11 +100,11 @@ lists_entry v a e t = ap (target_lists v a) (sym t)
 pub entry_again : (v : View) (icb : Icb) (f : EntryFields) (u : Unnamed) → entry f ≡ target v (address_of icb) → u ≡ bare_entry (unnamed_with v icb f) → full_entry v u ≡ unnamed_with v icb f
 entry_again v icb f u t e = ap (full_entry v) e ∙ with_entry
   where
-    lists : lists_at v (address_of icb) ≡ body_lists (body v icb.0 icb.1 f)
+    lists : lists_at v (address_of icb) ≡ body_lists (body v icb.reference icb.block f)
     lists = lists_entry v (address_of icb) f t
 
     with_entry : full_entry v (bare_entry (unnamed_with v icb f)) ≡ unnamed_with v icb f
-    with_entry = λ i. record { reference = icb.0; block = icb.1; kind = f.kind; size = f.size; stamp = f.stamp; standing = body_again f.kind false (body v icb.0 icb.1 f) (lists_at v (address_of icb)) lists i }
+    with_entry = λ i. record { reference = icb.reference; block = icb.block; kind = f.kind; size = f.size; stamp = f.stamp; standing = body_again f.kind false (body v icb.reference icb.block f) (lists_at v (address_of icb)) lists i }
 
 -- one entry more
 pub entries_more : (v : View) (old new : List Unnamed) (u : Unnamed) → new ≡ old ++ u ∷ [] → map (full_entry v) new ≡ map (full_entry v) old ++ full_entry v u ∷ []

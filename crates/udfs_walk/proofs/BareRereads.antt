@@ -5,6 +5,7 @@ use Rattle.std.specs.BTreeMap.{is_at}
 use Rattle.std.specs.BTreeSet.{BTreeSet, IsEmpty, Updates, contains}
 use Rattle.std.specs.List.{list_any}
 use Rattle.std.specs.Ordering.{is_eq, nat_cmp}
+use Rattle.udfs_tag.specs.Fields.{number_of}
 use Rattle.udfs_tag.specs.declared.layouts.LongAd.{LongAd}
 use Rattle.std.proofs.lemmas.Grind.{flat_map-append}
 use Rattle.std.proofs.lemmas.List.{append-nil, take_more}
@@ -18,9 +19,8 @@ use Rattle.udfs_file.specs.Bodies.{body}
 use Rattle.udfs_file.specs.declared.faults.NodeFault.{NodeFault}
 use Rattle.udfs_walk.specs.Bare.{body_lists, full_node, lists_at, target_lists, with_lists}
 use Rattle.udfs_walk.specs.Gathering.{AreGathered, missing_at}
-use Rattle.udfs_walk.specs.NamedKeys.{key_of}
 use Rattle.udfs_walk.specs.NodeFields.{NodeFields}
-use Rattle.udfs_walk.specs.Targets.{Target, bad, unread, entry, target, target_at}
+use Rattle.udfs_walk.specs.Targets.{Target, bad, unread, entry, icb_of, target, target_at}
 use Rattle.udfs_walk.specs.Rereads.{missing_of, reread}
 use Rattle.udfs_walk.specs.TornFields.{TornFields}
 use Rattle.udfs_walk.specs.declared.standings.Standing.{Standing}
@@ -66,7 +66,7 @@ lacks_there lists (Fault f) n i = absurd i
 
 -- a node of which all was gathered before
 pub gathered_before : (v : View) (node : NodeFields) (icbs : BTreeSet ℕ) (blocks : List ℕ) → node.icb.block < 4294967296 → AreGathered v icbs blocks
-    → contains nat_cmp icbs (key_of node.icb.reference node.icb.block) ≡ true → ascending blocks ≡ ascending (blocks ++ missing_at v node)
+    → contains nat_cmp icbs (number_of (icb_of node.icb)) ≡ true → ascending blocks ≡ ascending (blocks ++ missing_at v node)
 gathered_before v node icbs blocks l h c = same_numbers blocks (blocks ++ missing_at v node)
     (λ n i. in_front blocks (missing_at v node) n i)
     (λ n i. ⊎_elim (λ j. j) (λ j. (ascending_includes blocks n).0 (h node.icb l c n (lacks_there (lists_at v node.icb) node.standing n j))) (either blocks (missing_at v node) n i))
@@ -99,17 +99,17 @@ same_missing v a d r b h n i = go (address_fault v a) (address_fault v d) refl r
 
 -- what is missing at an address was put behind the others
 pub gathered_now : (v : View) (a : LongAd) (icbs more_icbs : BTreeSet ℕ) (old more : List ℕ) → a.block < 4294967296 → AreGathered v icbs old
-    → Updates nat_cmp icbs more_icbs (key_of a.reference a.block) true → more ≡ (lists_at v a).missing → 0 < length more → AreGathered v more_icbs (old ++ more)
-gathered_now v a icbs more_icbs old more l h u e z = λ d k c n i. go d k c n i (is_eq (nat_cmp (key_of a.reference a.block) (key_of d.reference d.block))) refl
+    → Updates nat_cmp icbs more_icbs (number_of (icb_of a)) true → more ≡ (lists_at v a).missing → 0 < length more → AreGathered v more_icbs (old ++ more)
+gathered_now v a icbs more_icbs old more l h u e z = λ d k c n i. go d k c n i (is_eq (nat_cmp (number_of (icb_of a)) (number_of (icb_of d)))) refl
   where
-    go : (d : LongAd) → d.block < 4294967296 → contains nat_cmp more_icbs (key_of d.reference d.block) ≡ true → (n : ℕ) → Includes (lists_at v d).missing n
-        → (t : Bool) → is_eq (nat_cmp (key_of a.reference a.block) (key_of d.reference d.block)) ≡ t → Includes (ascending (old ++ more)) n
+    go : (d : LongAd) → d.block < 4294967296 → contains nat_cmp more_icbs (number_of (icb_of d)) ≡ true → (n : ℕ) → Includes (lists_at v d).missing n
+        → (t : Bool) → is_eq (nat_cmp (number_of (icb_of a)) (number_of (icb_of d))) ≡ t → Includes (ascending (old ++ more)) n
     go d k c n i true q =
-        let icb = same_icb a.reference a.block d.reference d.block l k q in
-        let m : Includes (lists_at v a).missing n = same_missing v a d icb.0 icb.1 (subst (λ (x : List ℕ). 0 < length x) e z) n i in
+        let icb : icb_of a ≡ icb_of d = same_icb (icb_of a) (icb_of d) l k q in
+        let m : Includes (lists_at v a).missing n = same_missing v a d (ap (λ x. x.reference) icb) (ap (λ x. x.block) icb) (subst (λ (x : List ℕ). 0 < length x) e z) n i in
         (ascending_includes (old ++ more) n).1 (in_back old more n (subst (λ x. Includes x n) (sym e) m))
     go d k c n i false q = gathered_still v icbs old more h d k
-        (sym (u.0 (key_of d.reference d.block) ∙ ap (λ t. cond t true (contains nat_cmp icbs (key_of d.reference d.block))) q) ∙ c) n i
+        (sym (u.0 (number_of (icb_of d)) ∙ ap (λ t. cond t true (contains nat_cmp icbs (number_of (icb_of d)))) q) ∙ c) n i
 
 -- where something is missing, it is what is missing at the address
 pub lacks_all : (lists : TornFields) (full standing : Standing) → full ≡ with_lists lists standing → 0 < length (missing_of full) → missing_of full ≡ lists.missing
@@ -126,7 +126,7 @@ pub gathered_settled : (v : View) (icbs : BTreeSet ℕ) (old new : List ℕ) →
 gathered_settled v icbs old new e h = λ a l c n i. subst (λ (z : List ℕ). Includes z n) (sym e) (h a l c n i)
 
 pub gathered_none : (v : View) (icbs : BTreeSet ℕ) (blocks : List ℕ) → IsEmpty icbs → AreGathered v icbs blocks
-gathered_none v icbs blocks e = λ a l c n i. absurd (let z : false ≡ true = sym (ap (list_any (is_at (nat_cmp (key_of a.reference a.block)))) e) ∙ c in let w : ⊥ = cc in w)
+gathered_none v icbs blocks e = λ a l c n i. absurd (let z : false ≡ true = sym (ap (list_any (is_at (nat_cmp (number_of (icb_of a))))) e) ∙ c in let w : ⊥ = cc in w)
 
 -- the blocks of one node more
 pub node_more : (v : View) (nodes : List NodeFields) (i : ℕ) (d : NodeFields) (old mid new : List ℕ) → ascending old ≡ ascending (flat_map (missing_at v) (take i nodes)) → i < length nodes

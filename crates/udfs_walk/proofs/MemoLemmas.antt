@@ -9,6 +9,7 @@ use Rattle.udfs_lattice.specs.States.{State}
 use Rattle.udfs_lattice.specs.TableLaws.{eq_by_cmp-nat}
 use Rattle.udfs_lattice.specs.Volumes.{ascending}
 use Rattle.udfs_lattice.specs.declared.facts.Fact.TheVariants.{Unknown, Known, Conflict}
+use Rattle.udfs_tag.specs.Fields.{number_of}
 use Rattle.udfs_space.specs.Places.{View}
 use Rattle.udfs_file.specs.Bodies.{Body, cells, faulty_body}
 use Rattle.udfs_file.specs.Fronts.{directory, directory_entries, fault_in}
@@ -21,8 +22,8 @@ use Rattle.udfs_file.specs.declared.faults.NodeFault.{NodeFault}
 use Rattle.udfs_file.specs.declared.faults.NodeFault.TheVariants.{Depth}
 use Rattle.udfs_walk.specs.Bare.{bare_standing}
 use Rattle.udfs_walk.specs.Memos.{AreKept, deep_word, known_of, known_standing, standing_of, word_of}
-use Rattle.udfs_walk.specs.NamedKeys.{key_of}
 use Rattle.udfs_walk.specs.Standings.{body_standing, cells_standing, depth_or, missing_blocks, runs_from, standing_or_fault, torn_or_whole}
+use Rattle.udfs_walk.specs.Targets.{Icb}
 use Rattle.udfs_walk.specs.declared.memos.Word.TheVariants as word
 use Rattle.udfs_walk.specs.declared.standings.Standing.{Standing}
 use Rattle.udfs_walk.specs.declared.standings.Standing.TheVariants.{Whole, Torn, Loop, Fault}
@@ -86,10 +87,12 @@ none_listed (e ∷ es) h = absurd (let k : length (e ∷ es) ≤ 0 = ltb-false 0
 
 -- ---- what is kept
 -- two ICBs have one number only if they are one
-pub same_icb : (r b s c : ℕ) → b < 4294967296 → c < 4294967296 → is_eq (nat_cmp (key_of r b) (key_of s c)) ≡ true → (r ≡ s) × (b ≡ c)
-same_icb r b s c h l e =
-    let k : key_of r b ≡ key_of s c = eqb-true (key_of r b) (key_of s c) (sym (eq_by_cmp-nat (key_of r b) (key_of s c)) ∙ e) in
-    (omega (arith, k, h, l), omega (arith, k, h, l))
+pub same_icb : (x y : Icb) → x.block < 4294967296 → y.block < 4294967296 → is_eq (nat_cmp (number_of x) (number_of y)) ≡ true → x ≡ y
+same_icb x y h l e =
+    let k : number_of x ≡ number_of y = eqb-true (number_of x) (number_of y) (sym (eq_by_cmp-nat (number_of x) (number_of y)) ∙ e) in
+    let r : x.reference ≡ y.reference = omega (arith, k, h, l) in
+    let b : x.block ≡ y.block = omega (arith, k, h, l) in
+    (λ i. record { block = b i; reference = r i })
 
 abbrev bytes_in : Option (ℕ × State) → List ℕ
 bytes_in None = []
@@ -104,18 +107,18 @@ same_bytes v r b xs ys p q = ap bytes_in (sym p.1 ∙ q.1)
 some_is : {A : Type 0} (x y : A) → Some x ≡ Some y → x ≡ y
 some_is x y e = ap (λ o. elim o [ None ↦ x | Some z ↦ z ]) e
 
-pub kept_new : {X : Type 0} (v : View) (P : ℕ → ℕ → List ℕ → X → Type 0) (kept : BTreeMap ℕ X) → IsEmpty kept → AreKept v P kept
-kept_new v P kept e = λ r b bytes x h st g. absurd (let z : None ≡ Some x = sym (ap (lookup (λ q. is_eq (nat_cmp (key_of r b) q))) e) ∙ g in let w : ⊥ = cc in w)
+pub kept_new : {X : Type 0} (v : View) (P : Icb → List ℕ → X → Type 0) (kept : BTreeMap ℕ X) → IsEmpty kept → AreKept v P kept
+kept_new v P kept e = λ icb bytes x h st g. absurd (let z : None ≡ Some x = sym (ap (lookup (λ q. is_eq (nat_cmp (number_of icb) q))) e) ∙ g in let w : ⊥ = cc in w)
 
-pub kept_more : {X : Type 0} (v : View) (P : ℕ → ℕ → List ℕ → X → Type 0) (old new : BTreeMap ℕ X) (r b : ℕ) (bytes : List ℕ) (x : X) → b < 4294967296 → IsStanding v r b bytes
-    → P r b bytes x → Updates nat_cmp old new (key_of r b) (Some x) → AreKept v P old → AreKept v P new
-kept_more {X} v P old new r b bytes x h st is u a = λ s c xs y l at g. go s c xs y l at g (is_eq (nat_cmp (key_of r b) (key_of s c))) refl
+pub kept_more : {X : Type 0} (v : View) (P : Icb → List ℕ → X → Type 0) (old new : BTreeMap ℕ X) (icb : Icb) (bytes : List ℕ) (x : X) → icb.block < 4294967296 → IsStanding v icb.reference icb.block bytes
+    → P icb bytes x → Updates nat_cmp old new (number_of icb) (Some x) → AreKept v P old → AreKept v P new
+kept_more {X} v P old new icb bytes x h st is u a = λ d xs y l at g. go d xs y l at g (is_eq (nat_cmp (number_of icb) (number_of d))) refl
   where
-    go : (s c : ℕ) (xs : List ℕ) (y : X) → c < 4294967296 → IsStanding v s c xs → get nat_cmp new (key_of s c) ≡ Some y
-        → (t : Bool) → is_eq (nat_cmp (key_of r b) (key_of s c)) ≡ t → P s c xs y
-    go s c xs y l at g true e =
-        let icb = same_icb r b s c h l e in
-        let found : Some x ≡ Some y = sym (u.0 (key_of s c) ∙ ap (λ t. cond t (Some x) (get nat_cmp old (key_of s c))) e) ∙ g in
-        let z : bytes ≡ xs = same_bytes v r b bytes xs st (subst (λ (p : ℕ × ℕ). IsStanding v p.0 p.1 xs) (λ i. (sym icb.0 i, sym icb.1 i)) at) in
-        subst (P s c xs) (some_is x y found) (subst (λ (p : ℕ × ℕ × List ℕ). P p.0 p.1 p.2 x) (λ i. (icb.0 i, icb.1 i, z i)) is)
-    go s c xs y l at g false e = a s c xs y l at (sym (u.0 (key_of s c) ∙ ap (λ t. cond t (Some x) (get nat_cmp old (key_of s c))) e) ∙ g)
+    go : (d : Icb) (xs : List ℕ) (y : X) → d.block < 4294967296 → IsStanding v d.reference d.block xs → get nat_cmp new (number_of d) ≡ Some y
+        → (t : Bool) → is_eq (nat_cmp (number_of icb) (number_of d)) ≡ t → P d xs y
+    go d xs y l at g true e =
+        let same : icb ≡ d = same_icb icb d h l e in
+        let found : Some x ≡ Some y = sym (u.0 (number_of d) ∙ ap (λ t. cond t (Some x) (get nat_cmp old (number_of d))) e) ∙ g in
+        let z : bytes ≡ xs = same_bytes v icb.reference icb.block bytes xs st (subst (λ (p : Icb). IsStanding v p.reference p.block xs) (sym same) at) in
+        subst (P d xs) (some_is x y found) (subst (λ (p : Icb × List ℕ). P p.0 p.1 x) (λ i. (same i, z i)) is)
+    go d xs y l at g false e = a d xs y l at (sym (u.0 (number_of d) ∙ ap (λ t. cond t (Some x) (get nat_cmp old (number_of d))) e) ∙ g)

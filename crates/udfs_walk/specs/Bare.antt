@@ -9,7 +9,7 @@ use Rattle.udfs_file.specs.Bodies.{Body, body, cells, faulty_body}
 use Rattle.udfs_walk.specs.NodeFields.{NodeFields}
 use Rattle.udfs_walk.specs.TornFields.{TornFields}
 use Rattle.udfs_walk.specs.Standings.{cells_standing}
-use Rattle.udfs_walk.specs.Targets.{Target, bad, unread, entry, target}
+use Rattle.udfs_walk.specs.Targets.{Target, bad, unread, entry, icb_at, target}
 use Rattle.udfs_walk.specs.UnnamedEntries.{address_of}
 use Rattle.udfs_walk.specs.declared.answers.Unnamed.{Unnamed}
 use Rattle.udfs_walk.specs.declared.standings.Standing.{Standing}
@@ -74,4 +74,4 @@ bare_entry u = with_standing u (bare_standing u.standing)
 
 -- an entry with what is missing of it
 abbrev pub full_entry : View → Unnamed → Unnamed
-full_entry view u = with_standing u (with_lists (lists_at view (address_of (u.reference, u.block))) u.standing)
+full_entry view u = with_standing u (with_lists (lists_at view (address_of (icb_at u.reference u.block))) u.standing)

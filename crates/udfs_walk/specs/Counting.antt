@@ -6,13 +6,14 @@ use Rattle.std.specs.Prelude.{◌≡◌, ◌+◌, ℕ, ⊤, List, Option, Some, 
 use Rattle.std.specs.BTreeMap.{IsOrdered, btree_map_len, keys}
 use Rattle.std.specs.Ordering.{nat_cmp}
 use Rattle.udfs_lattice.specs.Volumes.{Includes, ascending}
-use Rattle.udfs_walk.specs.NamedKeys.{key_of}
+use Rattle.udfs_tag.specs.Fields.{number_of}
 use Rattle.udfs_walk.specs.NodeFields.{NodeFields}
+use Rattle.udfs_walk.specs.Targets.{icb_of}
 use Rattle.udfs_walk.specs.declared.memos.Memo.{Memo}
 
 -- the information control block of a node, as one number
 abbrev pub icb_key : NodeFields → ℕ
-icb_key n = key_of n.icb.reference n.icb.block
+icb_key n = number_of (icb_of n.icb)
 
 -- the information control blocks of nodes, each once
 abbrev pub icbs_of : List NodeFields → List ℕ

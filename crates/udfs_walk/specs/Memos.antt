@@ -8,6 +8,7 @@ use Rattle.std.specs.declared.rc.Rc.{Rc}
 use Rattle.std.specs.declared.vec.Vec.{Vec}
 use Rattle.std.specs.BTreeMap.{BTreeMap, get}
 use Rattle.std.specs.Ordering.{nat_cmp}
+use Rattle.udfs_tag.specs.Fields.{number_of}
 use Rattle.udfs_space.specs.Places.{View}
 use Rattle.udfs_file.specs.Bodies.{Body, body}
 use Rattle.udfs_file.specs.Entries.{entry_of}
@@ -16,9 +17,9 @@ use Rattle.udfs_file.specs.declared.directories.DirEntry.{DirEntry}
 use Rattle.udfs_file.specs.declared.faults.Kind.{Kind}
 use Rattle.udfs_file.specs.declared.faults.NodeFault.TheVariants.{Depth}
 use Rattle.udfs_walk.specs.Bare.{no_lists}
-use Rattle.udfs_walk.specs.NamedKeys.{key_of}
 use Rattle.udfs_walk.specs.Routes.{kind_entries}
 use Rattle.udfs_walk.specs.Standings.{body_standing}
+use Rattle.udfs_walk.specs.Targets.{Icb}
 use Rattle.udfs_walk.specs.declared.memos.Known.{Known}
 use Rattle.udfs_walk.specs.declared.memos.Memo.{Memo}
 use Rattle.udfs_walk.specs.declared.memos.Word.{Word}
@@ -57,16 +58,17 @@ abbrev pub known_standing : Bool → Known → Standing
 known_standing is_deep known = standing_of (deep_word (is_deep && known.lists) known.word)
 
 -- what is kept by the number of an ICB is so for the bytes that stand there
-abbrev pub AreKept : {X : Type 0} → View → (ℕ → ℕ → List ℕ → X → Type 0) → BTreeMap ℕ X → Type 0
-AreKept view IsSo kept = (r b : ℕ) (bytes : List ℕ) (x : _) → b < 4294967296 → IsStanding view r b bytes → get nat_cmp kept (key_of r b) ≡ Some x → IsSo r b bytes x
+abbrev pub AreKept : {X : Type 0} → View → (Icb → List ℕ → X → Type 0) → BTreeMap ℕ X → Type 0
+AreKept view IsSo kept = (icb : Icb) (bytes : List ℕ) (x : _) → icb.block < 4294967296 → IsStanding view icb.reference icb.block bytes
+    → get nat_cmp kept (number_of icb) ≡ Some x → IsSo icb bytes x
 
 -- what the body tells of the entry there
-abbrev pub IsWordOf : View → ℕ → ℕ → List ℕ → Known → Type 0
-IsWordOf view r b bytes known = known ≡ known_of (entry_of bytes).kind (body view r b (entry_of bytes))
+abbrev pub IsWordOf : View → Icb → List ℕ → Known → Type 0
+IsWordOf view icb bytes known = known ≡ known_of (entry_of bytes).kind (body view icb.reference icb.block (entry_of bytes))
 
 -- what the entry there lists
-abbrev pub IsListOf : {Y Z : Type 0} → View → ℕ → ℕ → List ℕ → Rc (Vec DirEntry Y) Z → Type 0
-IsListOf view r b bytes entries = entries.value.items ≡ kind_entries (entry_of bytes).kind (body view r b (entry_of bytes))
+abbrev pub IsListOf : {Y Z : Type 0} → View → Icb → List ℕ → Rc (Vec DirEntry Y) Z → Type 0
+IsListOf view icb bytes entries = entries.value.items ≡ kind_entries (entry_of bytes).kind (body view icb.reference icb.block (entry_of bytes))
 
 -- all that is kept is told by what stands there
 abbrev pub IsMemo : View → Memo → Type 0

@@ -1,9 +1,12 @@
 -- What the address of an information control block leads to.
 --     target view a        a fault, a block that is not known, or an entry
---     icb_of a             the partition reference and logical block of an address
+--     icb_of a             the information control block that an address names
+--     icb_at r b           the one at a logical block of a partition
 use Rattle.std.specs.Prelude.{ℕ, Bool, ◌==◌, ◌&&◌, Option, Some, None}
 use Rattle.udfs_lattice.specs.States.{State}
 use Rattle.udfs_lattice.specs.declared.facts.Fact.TheVariants.{Unknown, Known, Conflict}
+use Rattle.udfs_tag.specs.Fields.{first_address}
+use Rattle.udfs_tag.specs.declared.layouts.LbAddr.{LbAddr}
 use Rattle.udfs_tag.specs.declared.layouts.LongAd.{LongAd}
 use Rattle.udfs_space.specs.Places.{View, block_at}
 use Rattle.udfs_file.specs.Addresses.{address_fault}
@@ -38,14 +41,18 @@ target_at None b (Some block) = target_in b block.0 block.1
 unfoldable pub target : View → LongAd → Target
 target view a = target_at (address_fault view a) a.block (block_at view a.reference a.block)
 
--- a partition reference and a logical block
+-- an information control block, by its logical block
 abbrev pub Icb : Type 0
-Icb = ℕ × ℕ
+Icb = LbAddr
+
+-- the one at a logical block of a partition
+abbrev pub icb_at : ℕ → ℕ → Icb
+icb_at r b = record { block = b; reference = r }
 
 -- the information control block that an address names
 abbrev pub icb_of : LongAd → Icb
-icb_of a = (a.reference, a.block)
+icb_of a = first_address a
 
 -- whether two information control blocks are one
 abbrev pub is_icb : Icb → Icb → Bool
-is_icb a b = (a.0 == b.0) && (a.1 == b.1)
+is_icb a b = (a.reference == b.reference) && (a.block == b.block)

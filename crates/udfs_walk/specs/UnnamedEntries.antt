@@ -11,7 +11,7 @@ use Rattle.udfs_file.specs.Bodies.{body}
 use Rattle.std.specs.Prelude.{Bool}
 use Rattle.udfs_walk.specs.NodeFields.{NodeFields}
 use Rattle.udfs_walk.specs.Standings.{body_standing}
-use Rattle.udfs_walk.specs.Targets.{Target, bad, unread, entry, target, Icb, icb_of, is_icb}
+use Rattle.udfs_walk.specs.Targets.{Target, bad, unread, entry, target, Icb, icb_at, icb_of, is_icb}
 use Rattle.udfs_walk.specs.declared.answers.Unnamed.{Unnamed}
 
 -- the address of a node is good, and leads there
@@ -20,17 +20,17 @@ names view icb n = is_none (address_fault view n.icb) && is_icb icb (icb_of n.ic
 
 -- a recorded extent of one block
 abbrev pub address_of : Icb → LongAd
-address_of icb = record { kind = 0; length = 2048; block = icb.1; reference = icb.0 }
+address_of icb = record { kind = 0; length = 2048; block = icb.block; reference = icb.reference }
 
 -- an entry without a name, by its fields
 abbrev pub unnamed_with : View → Icb → EntryFields → Unnamed
 unnamed_with view icb e = record {
-  reference = icb.0;
-  block = icb.1;
+  reference = icb.reference;
+  block = icb.block;
   kind = e.kind;
   size = e.size;
   stamp = e.stamp;
-  standing = body_standing e.kind false (body view icb.0 icb.1 e);
+  standing = body_standing e.kind false (body view icb.reference icb.block e);
 }
 
 -- the entry that stands at an information control block, if it is a sound one
@@ -45,7 +45,7 @@ unnamed_at view nodes icb = cond (list_any (names view icb) nodes) None (entry_a
 
 -- the logical blocks of a partition
 abbrev pub icbs_in : Space → ℕ → List Icb
-icbs_in space r = map (λ b. (r, b)) (range_with_len 0 (length_of space r))
+icbs_in space r = map (icb_at r) (range_with_len 0 (length_of space r))
 
 -- the sound entries in known blocks that no node names, by partition and block
 abbrev pub unnamed : View → Space → List NodeFields → List Unnamed

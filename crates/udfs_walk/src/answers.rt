@@ -2,13 +2,14 @@
 
 use crate::paths::Path;
 use crate::standings::Standing;
+use crate::targets::entry_address;
 use std::alloc::AllocError;
 use std::error::Error;
 use std::fmt;
 use std::marker::Model;
 use udfs_file::Kind;
 use udfs_osta::Stamp;
-use udfs_tag::LongAd;
+use udfs_tag::{LbAddr, LongAd};
 
 /// What is told of a node: of what stands at the end of one route from the root. Two equal names in a directory are
 /// two nodes, and so is every path to a file that has several.
@@ -61,6 +62,29 @@ pub struct Unnamed {
     pub stamp: Stamp,
     /// How whole it is.
     pub standing: Standing,
+}
+
+impl Unnamed {
+    ghost use Rattle.std.specs.Prelude.{◌≡◌};
+    ghost use Rattle.udfs_walk.specs.Targets.{icb_at};
+    ghost use Rattle.udfs_walk.specs.UnnamedEntries.{address_of};
+
+    /// Where its information control block stands.
+    pub fn address(&self) -> LbAddr
+        ensures { result ≡ icb_at self.now.reference self.now.block }
+    {
+        LbAddr {
+            block: self.block,
+            reference: self.reference,
+        }
+    }
+
+    /// Its information control block, as an entry of a directory would name it.
+    pub fn icb(&self) -> LongAd
+        ensures { result ≡ address_of (icb_at self.now.reference self.now.block) }
+    {
+        entry_address(self.address())
+    }
 }
 
 /// Why nodes are not listed.

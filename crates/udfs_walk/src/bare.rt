@@ -15,7 +15,7 @@ use crate::targets::{Target, target_at};
 use std::alloc::{AllocError, Global};
 use udfs_file::{Body, Entry, WalkError};
 use udfs_space::View;
-use udfs_tag::LongAd;
+use udfs_tag::{LbAddr, LongAd};
 
 /// Nothing that is missing.
 pub(crate) fn no_lists(alloc: Global) -> Torn
@@ -53,7 +53,7 @@ fn entry_lists(
     alloc: Global,
     view: View<'_>,
     entry: &Entry<'_>,
-    address: LongAd,
+    address: LbAddr,
 ) -> Result<Torn, AllocError>
     requires { IsStanding (view_now view) address.reference address.block entry.now }
     ensures { IfOk result (λ torn. torn ≡ body_lists (body (view_now view.entry) address.reference address.block (entry_of entry.now))) }
@@ -84,7 +84,7 @@ fn lists_at(alloc: Global, view: View<'_>, address: LongAd) -> Result<Torn, Allo
     match target_at(view, address) {
         Target::Fault(_) => Ok(no_lists(alloc)),
         Target::Unread(n) => one_block(alloc, n),
-        Target::Entry(entry) => entry_lists(alloc, view, &entry, address),
+        Target::Entry(entry) => entry_lists(alloc, view, &entry, address.address()),
     }
 }
 
@@ -142,6 +142,7 @@ fn full_node(alloc: Global, view: View<'_>, node: Node) -> Result<Node, AllocErr
 fn full_entry(alloc: Global, view: View<'_>, entry: Unnamed) -> Result<Unnamed, AllocError>
     ensures { IfOk result (λ full. full ≡ full_entry (view_now view.entry) entry) }
 {
+    let icb = entry.icb();
     let Unnamed {
         reference,
         block,
@@ -150,7 +151,7 @@ fn full_entry(alloc: Global, view: View<'_>, entry: Unnamed) -> Result<Unnamed, 
         stamp,
         standing,
     } = entry;
-    let standing = full_standing(alloc, view, entry_address(reference, block), &standing)?;
+    let standing = full_standing(alloc, view, icb, &standing)?;
     Ok(Unnamed {
         reference,
         block,
@@ -159,18 +160,6 @@ fn full_entry(alloc: Global, view: View<'_>, entry: Unnamed) -> Result<Unnamed, 
         stamp,
         standing,
     })
-}
-
-/// The address of an information control block that stands in this logical block.
-pub fn entry_address(reference: u16, block: u32) -> LongAd
-    ensures { result ≡ address_of (reference, block) }
-{
-    LongAd {
-        kind: 0,
-        length: 2048,
-        block,
-        reference,
-    }
 }
 
 /// Nodes with the blocks and the holes, of nodes without them.

@@ -17,7 +17,7 @@ use std::marker::Model;
 use std::sync::ledger::{Blank, Book, Ledger, Share};
 use udfs_file::{DirEntry, Entry};
 use udfs_space::View;
-use udfs_tag::LongAd;
+use udfs_tag::LbAddr;
 
 /// How many walks over bodies were made. It takes no bytes and no time: only the proofs see it.
 #[derive(Drop)]
@@ -61,7 +61,7 @@ pub(crate) fn body_walked<L: Ledger>(
     alloc: Global,
     view: View<'_>,
     entry: &Entry<'_>,
-    address: LongAd,
+    address: LbAddr,
     walks: &mut Walks<L>,
 ) -> Result<Told, AllocError>
     requires { IsStanding (view_now view) address.reference address.block entry.now }
@@ -80,7 +80,7 @@ pub(crate) fn entries_walked<L: Ledger>(
     alloc: Global,
     view: View<'_>,
     entry: &Entry<'_>,
-    address: LongAd,
+    address: LbAddr,
     most: usize,
     walks: &mut Walks<L>,
 ) -> Result<Vec<DirEntry>, NodesError>

@@ -23,7 +23,7 @@ mod visits;
 mod walks;
 
 pub use answers::{Node, NodesError, Unnamed};
-pub use bare::{entry_address, full_entries, full_nodes, full_standing};
+pub use bare::{full_entries, full_nodes, full_standing};
 pub use node_bodies::body_at;
 pub use paths::Path;
 pub use rereads::{bare_reread, reread};

@@ -3,6 +3,7 @@
 ghost use Rattle.std.specs.Prelude.{◌≡◌, ◌≤◌, ◌+◌, ℕ, List, IfErr, IfOk, IsSome, None, OnOk, Some, length};
 ghost use Rattle.std.specs.BTreeMap.{IsEmpty, IsOrdered, Updates, btree_map_len, get, insert_entry};
 ghost use Rattle.std.specs.Ordering.{nat_cmp};
+ghost use Rattle.udfs_tag.specs.Fields.{number_of};
 ghost use Rattle.udfs_space.specs.Views.{view_now};
 ghost use Rattle.udfs_file.specs.Stretches.{IsStanding};
 ghost use Rattle.udfs_file.specs.Entries.{entry_of};
@@ -10,7 +11,6 @@ ghost use Rattle.udfs_file.specs.Bodies.{body};
 ghost use Rattle.udfs_walk.specs.Routes.{kind_entries};
 ghost use Rattle.udfs_lattice.specs.Volumes.{Includes};
 ghost use Rattle.udfs_walk.specs.Visits.{AreRefused};
-ghost use Rattle.udfs_walk.specs.NamedKeys.{key_of};
 ghost use Rattle.udfs_walk.specs.Counting.{IsCounted};
 ghost use Rattle.udfs_walk.specs.Memos.{IsMemo, deep_word, known_of, known_standing, standing_of, word_of};
 
@@ -19,13 +19,12 @@ use crate::bare::no_lists;
 use crate::children::{Children, shared_entries};
 use crate::counting::{Walks, body_walked, entries_walked};
 use crate::standings::Standing;
-use crate::targets::key;
 use std::alloc::{AllocError, Global};
 use std::collections::BTreeMap;
 use std::sync::ledger::Ledger;
 use udfs_file::{Entry, NodeFault};
 use udfs_space::View;
-use udfs_tag::LongAd;
+use udfs_tag::LbAddr;
 
 /// A standing in a word: without the blocks and the holes.
 #[derive(Clone, Copy)]
@@ -115,7 +114,7 @@ impl Memo {
         alloc: Global,
         view: View<'_>,
         entry: &Entry<'_>,
-        address: LongAd,
+        address: LbAddr,
         walks: &mut Walks<L>,
     ) -> Result<Known, AllocError>
         requires stands { IsStanding (view_now view) address.reference address.block entry.now }
@@ -123,13 +122,13 @@ impl Memo {
         ensures known { IfOk result (λ known. known ≡ known_of (entry_of entry.now).kind
             (body (view_now view.entry) address.reference address.block (entry_of entry.now))) }
         ensures memo { IfOk result (λ known. IsMemo (view_now view.entry) self.new) }
-        ensures again { IsSome (get nat_cmp self.old.words (key_of address.reference address.block)) → walks.new ≡ walks.old }
+        ensures again { IsSome (get nat_cmp self.old.words (number_of address)) → walks.new ≡ walks.old }
         ensures once { walks.new ≤ walks.old + 1 }
-        ensures counted { IfOk result (λ known. (start : ℕ) (icbs : List ℕ) → Includes icbs (key_of address.reference address.block)
+        ensures counted { IfOk result (λ known. (start : ℕ) (icbs : List ℕ) → Includes icbs (number_of address)
             → IsCounted start icbs self.old walks.old → IsCounted start icbs self.new walks.new) }
     {
-        let key = key(address.reference, address.block);
-        if let Some(known) = self.words.get(&key) {
+        let number = address.number();
+        if let Some(known) = self.words.get(&number) {
             return Ok(*known);
         }
         let told = body_walked(alloc, view, entry, address, walks)?;
@@ -137,7 +136,7 @@ impl Memo {
             word: in_a_word(&told.standing),
             lists: told.lists,
         };
-        self.words.insert(key, known)?;
+        self.words.insert(number, known)?;
         Ok(known)
     }
 
@@ -148,7 +147,7 @@ impl Memo {
         alloc: Global,
         view: View<'_>,
         entry: &Entry<'_>,
-        address: LongAd,
+        address: LbAddr,
         most: usize,
         walks: &mut Walks<L>,
     ) -> Result<Children, NodesError>
@@ -160,13 +159,13 @@ impl Memo {
         ensures refused { IfErr result (AreRefused most (kind_entries (entry_of entry.now).kind
             (body (view_now view.entry) address.reference address.block (entry_of entry.now)))) }
         ensures memo { IfOk result (λ entries. IsMemo (view_now view.entry) self.new) }
-        ensures again { IsSome (get nat_cmp self.old.lists (key_of address.reference address.block)) → walks.new ≡ walks.old }
+        ensures again { IsSome (get nat_cmp self.old.lists (number_of address)) → walks.new ≡ walks.old }
         ensures once { walks.new ≤ walks.old + 1 }
-        ensures counted { IfOk result (λ entries. (start : ℕ) (icbs : List ℕ) → Includes icbs (key_of address.reference address.block)
+        ensures counted { IfOk result (λ entries. (start : ℕ) (icbs : List ℕ) → Includes icbs (number_of address)
             → IsCounted start icbs self.old walks.old → IsCounted start icbs self.new walks.new) }
     {
-        let key = key(address.reference, address.block);
-        if let Some(entries) = self.lists.get(&key) {
+        let number = address.number();
+        if let Some(entries) = self.lists.get(&number) {
             if entries.len() > most {
                 return Err(NodesError::TooManyPaths);
             }
@@ -174,18 +173,22 @@ impl Memo {
         }
         let entries = entries_walked(alloc, view, entry, address, most, walks)?;
         let entries = shared_entries(alloc, entries)?;
-        keep(&mut self.lists, key, entries.clone()?)?;
+        keep(&mut self.lists, number, entries.clone()?)?;
         Ok(entries)
     }
 }
 
 /// Keeps what a directory lists.
-fn keep(lists: &mut BTreeMap<u64, Children>, key: u64, entries: Children) -> Result<(), AllocError>
-    ensures updates { OnOk result (Updates nat_cmp lists.old lists.new key (Some entries)) }
-    ensures entries { OnOk result (lists.new.entries ≡ insert_entry nat_cmp lists.old.entries key entries) }
-    ensures count { OnOk result (get nat_cmp lists.old key ≡ None → btree_map_len lists.new ≡ btree_map_len lists.old + 1) }
+fn keep(
+    lists: &mut BTreeMap<u64, Children>,
+    number: u64,
+    entries: Children,
+) -> Result<(), AllocError>
+    ensures updates { OnOk result (Updates nat_cmp lists.old lists.new number (Some entries)) }
+    ensures entries { OnOk result (lists.new.entries ≡ insert_entry nat_cmp lists.old.entries number entries) }
+    ensures count { OnOk result (get nat_cmp lists.old number ≡ None → btree_map_len lists.new ≡ btree_map_len lists.old + 1) }
     ensures ordered { OnOk result (IsOrdered nat_cmp lists.new) }
 {
-    lists.insert(key, entries)?;
+    lists.insert(number, entries)?;
     Ok(())
 }

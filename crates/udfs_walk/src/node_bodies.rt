@@ -1,8 +1,7 @@
 //! The body of what stands at an address.
 
 ghost use Rattle.std.specs.Prelude.{IfOk, List, MatchOption, OnErr};
-ghost use Rattle.udfs_lattice.specs.Tables.{state_of};
-ghost use Rattle.udfs_space.specs.Places.{view};
+ghost use Rattle.udfs_space.specs.Views.{view_now};
 ghost use Rattle.udfs_file.specs.Stretches.{cells_of};
 ghost use Rattle.udfs_file.specs.declared.cells.Cell.{Cell};
 ghost use Rattle.udfs_walk.specs.NodeBodies.{HasCells, MayTakeMemory};
@@ -10,8 +9,7 @@ ghost use Rattle.udfs_walk.specs.NodeBodies.{HasCells, MayTakeMemory};
 use crate::targets::{Target, target_at};
 use std::alloc::{AllocError, Global};
 use udfs_file::{Body, WalkError};
-use udfs_lattice::BlockTable;
-use udfs_space::{Space, View};
+use udfs_space::View;
 use udfs_tag::LongAd;
 
 /// The body of the entry that an address leads to, if an entry without a fault of its own is known there whose body
@@ -20,23 +18,18 @@ use udfs_tag::LongAd;
 /// # Errors
 ///
 /// `AllocError` where memory is refused: never of a body without a byte that is not embedded.
-pub fn body_at(
-    alloc: Global,
-    table: &BlockTable,
-    space: &Space,
-    address: LongAd,
-) -> Result<Option<Body>, AllocError>
+pub fn body_at(alloc: Global, view: View<'_>, address: LongAd) -> Result<Option<Body>, AllocError>
     ensures value { IfOk result (λ found. MatchOption found
-        ((cs : List Cell) → ¬ HasCells (view (state_of table.now) space.now) address cs)
-        (λ body. HasCells (view (state_of table.now) space.now) address (cells_of (view (state_of table.now) space.now) body))) }
-    ensures memory { OnErr result (MayTakeMemory (view (state_of table.now) space.now) address) }
+        ((cs : List Cell) → ¬ HasCells (view_now view.entry) address cs)
+        (λ body. HasCells (view_now view.entry) address (cells_of (view_now view.entry) body))) }
+    ensures memory { OnErr result (MayTakeMemory (view_now view.entry) address) }
 {
-    match target_at(View { table, space }, address) {
+    match target_at(view, address) {
         Target::Entry(entry) => {
             match Body::read(
                 alloc,
-                table,
-                space,
+                view.table,
+                view.space,
                 &entry,
                 address.reference,
                 address.block,

@@ -1,9 +1,7 @@
 //! What has to be read again.
 
 ghost use Rattle.std.specs.Prelude.{◌≡◌, ◌++◌, IfOk, length, map, nat_lt};
-ghost use Rattle.udfs_lattice.specs.Tables.{state_of};
 ghost use Rattle.udfs_lattice.specs.Volumes.{ascending};
-ghost use Rattle.udfs_space.specs.Places.{view};
 ghost use Rattle.udfs_space.specs.Views.{view_now};
 ghost use Rattle.udfs_walk.specs.Bare.{full_node};
 ghost use Rattle.udfs_walk.specs.Gathering.{AreGathered, missing_at};
@@ -13,12 +11,10 @@ use crate::answers::Node;
 use crate::ascending::sort_once;
 use crate::bare::full_standing;
 use crate::standings::Standing;
-use crate::targets::key;
 use std::alloc::{AllocError, Global};
 use std::collections::BTreeSet;
-use udfs_lattice::BlockTable;
 use udfs_osta::OutOfMemory;
-use udfs_space::{Space, View};
+use udfs_space::View;
 
 /// Puts the blocks that are missing in a node behind the others.
 fn push_missing(blocks: &mut Vec<u32>, standing: &Standing) -> Result<(), AllocError>
@@ -87,14 +83,14 @@ fn gather(
     ensures more { IfOk result (λ done. ascending blocks.new.items ≡ ascending (blocks.old.items ++ missing_at (view_now view.entry) node.now)) }
     ensures gathered { IfOk result (λ done. AreGathered (view_now view.entry) gathered.new blocks.new.items) }
 {
-    let key = key(node.icb.reference, node.icb.block);
-    if gathered.contains(&key) {
+    let number = node.icb.address().number();
+    if gathered.contains(&number) {
         return Ok(());
     }
     let standing = full_standing(alloc, view, node.icb, &node.standing)?;
     push_missing(blocks, &standing)?;
     if lacks_blocks(&standing) {
-        gathered.insert(key)?;
+        gathered.insert(number)?;
     }
     Ok(())
 }
@@ -105,15 +101,9 @@ fn gather(
 /// # Errors
 ///
 /// Memory was refused.
-pub fn bare_reread(
-    alloc: Global,
-    table: &BlockTable,
-    space: &Space,
-    nodes: &[Node],
-) -> Result<Vec<u32>, OutOfMemory>
-    ensures { IfOk result (λ blocks. blocks.items ≡ reread (map (full_node (view (state_of table.now) space.now)) nodes.now)) }
+pub fn bare_reread(alloc: Global, view: View<'_>, nodes: &[Node]) -> Result<Vec<u32>, OutOfMemory>
+    ensures { IfOk result (λ blocks. blocks.items ≡ reread (map (full_node (view_now view.entry)) nodes.now)) }
 {
-    let view = View { table, space };
     let mut blocks = Vec::new(alloc);
     let mut most = MOST_GATHERED;
     let mut gathered = BTreeSet::new(alloc);

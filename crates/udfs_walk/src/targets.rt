@@ -1,23 +1,27 @@
 //! What the address of an information control block leads to.
 
-ghost use Rattle.std.specs.Prelude.{◌≡◌, ◌<◌};
+ghost use Rattle.std.specs.Prelude.{◌≡◌};
 ghost use Rattle.udfs_space.specs.Views.{view_now};
-ghost use Rattle.udfs_walk.specs.NamedKeys.{key_of};
 ghost use Rattle.udfs_walk.specs.Targets.{target};
+ghost use Rattle.udfs_walk.specs.UnnamedEntries.{address_of};
 ghost use Rattle.udfs_walk.specs.Visits.{Stands, target_now};
 
 use udfs_file::file_sets::address_fault;
 use udfs_file::{Entry, NodeFault};
 use udfs_lattice::Fact;
 use udfs_space::View;
-use udfs_tag::LongAd;
+use udfs_tag::{LbAddr, LongAd};
 
-/// An ICB as one number.
-pub(crate) fn key(reference: u16, block: u32) -> u64
-    ensures value { result ≡ key_of reference block }
-    ensures block { block < 4294967296 }
+/// The recorded extent of one block at which an information control block stands.
+pub(crate) fn entry_address(address: LbAddr) -> LongAd
+    ensures { result ≡ address_of address }
 {
-    u64::from(reference) * 4294967296 + u64::from(block)
+    LongAd {
+        kind: 0,
+        length: 2048,
+        block: address.block,
+        reference: address.reference,
+    }
 }
 
 /// What an address leads to.

@@ -19,7 +19,7 @@ use std::alloc::{AllocError, Global};
 use udfs_file::directories::{DirEnd, DirFront};
 use udfs_file::{Body, Dir, DirEntry, Entry, FrontError, Kind, WalkError};
 use udfs_space::View;
-use udfs_tag::LongAd;
+use udfs_tag::LbAddr;
 
 /// What the body of an entry tells, wherever in the tree the entry stands.
 #[derive(Drop)]
@@ -65,7 +65,7 @@ pub(crate) fn body_told(
     alloc: Global,
     view: View<'_>,
     entry: &Entry<'_>,
-    address: LongAd,
+    address: LbAddr,
 ) -> Result<Told, AllocError>
     requires { IsStanding (view_now view) address.reference address.block entry.now }
     ensures standing { IfOk result (λ told. told.standing ≡ bare_standing (body_standing (entry_of entry.now).kind false
@@ -120,7 +120,7 @@ pub(crate) fn entries_told(
     alloc: Global,
     view: View<'_>,
     entry: &Entry<'_>,
-    address: LongAd,
+    address: LbAddr,
     most: usize,
 ) -> Result<Vec<DirEntry>, NodesError>
     requires { IsStanding (view_now view) address.reference address.block entry.now }

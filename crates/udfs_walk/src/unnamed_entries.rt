@@ -10,12 +10,13 @@ ghost use Rattle.udfs_space.specs.Views.{view_now};
 ghost use Rattle.udfs_walk.specs.UnnamedEntries.{icbs_in, unnamed, unnamed_at};
 ghost use Rattle.udfs_walk.specs.Bare.{full_entry, full_node};
 ghost use Rattle.udfs_walk.specs.NodeFields.{NodeFields};
+ghost use Rattle.udfs_walk.specs.Targets.{icb_at};
 ghost use Rattle.udfs_walk.specs.NamedKeys.{AreNamed};
 
 use crate::answers::{Node, Unnamed};
-use crate::bare::{entry_address, full_entries};
+use crate::bare::full_entries;
 use crate::counting::{Walks, body_walked};
-use crate::targets::{Target, key, target_at};
+use crate::targets::{Target, entry_address, target_at};
 use std::alloc::{AllocError, Global};
 use std::marker::Brand;
 use std::sync::ledger::{Blank, Ledger};
@@ -23,6 +24,7 @@ use udfs_file::file_sets::address_fault;
 use udfs_lattice::BlockTable;
 use udfs_osta::OutOfMemory;
 use udfs_space::{Space, View};
+use udfs_tag::LbAddr;
 
 /// The ICBs that nodes name, in rising order.
 fn named(alloc: Global, space: &Space, nodes: &[Node]) -> Result<Vec<u64>, AllocError>
@@ -33,7 +35,7 @@ fn named(alloc: Global, space: &Space, nodes: &[Node]) -> Result<Vec<u64>, Alloc
     for node in nodes {
         match address_fault(space, node.icb) {
             Some(_) => {}
-            None => keys.push(key(node.icb.reference, node.icb.block))?,
+            None => keys.push(node.icb.address().number())?,
         }
     }
     keys.sort_unstable();
@@ -80,31 +82,29 @@ fn unnamed_at<L: Ledger>(
     view: View<'_>,
     keys: &[u64],
     at: usize,
-    reference: u16,
-    block: u32,
+    address: LbAddr,
     walks: &mut Walks<L>,
 ) -> Result<Option<Unnamed>, AllocError>
     requires { IsSorted nat_cmp keys.now }
     ensures entry { IfOk result (λ found. (nodes : List NodeFields) → AreNamed (view_now view.entry) nodes keys.now
-        → option_map (full_entry (view_now view.entry)) found ≡ unnamed_at (view_now view.entry) nodes (reference, block)) }
+        → option_map (full_entry (view_now view.entry)) found ≡ unnamed_at (view_now view.entry) nodes address) }
     ensures walks { IfOk result (λ found. walks.new ≡ walks.old + (if is_some found then 1 else 0)) }
 {
-    let key = key(reference, block);
-    if is_at(keys, at, key) {
+    let number = address.number();
+    if is_at(keys, at, number) {
         return Ok(None);
     }
-    let address = entry_address(reference, block);
-    match target_at(view, address) {
+    match target_at(view, entry_address(address)) {
         Target::Fault(_) => Ok(None),
         Target::Unread(_) => Ok(None),
         Target::Entry(entry) => {
-            if is_among(keys, key) {
+            if is_among(keys, number) {
                 return Ok(None);
             }
             let told = body_walked(alloc, view, &entry, address, walks)?;
             Ok(Some(Unnamed {
-                reference,
-                block,
+                reference: address.reference,
+                block: address.block,
                 kind: entry.kind(),
                 size: entry.size(),
                 stamp: entry.stamp(),
@@ -131,8 +131,9 @@ fn push_unnamed<L: Ledger>(
 {
     let mut at = 0;
     for block in 0..view.space.length(reference) {
-        at = place_from(keys, at, key(reference, block));
-        match unnamed_at(alloc, view, keys, at, reference, block, walks)? {
+        let address = LbAddr { block, reference };
+        at = place_from(keys, at, address.number());
+        match unnamed_at(alloc, view, keys, at, address, walks)? {
             Some(entry) => found.push(entry)?,
             None => {}
         }
@@ -155,8 +156,9 @@ pub fn unnamed(
 ) -> Result<Vec<Unnamed>, OutOfMemory>
     ensures { IfOk result (λ found. found.items ≡ unnamed (view (state_of table.now) space.now) space.now nodes.now) }
 {
-    let bare = begun_unnamed::<Brand>(alloc, table, space, nodes, Blank::new(1))?;
-    let found = full_entries(alloc, View { table, space }, bare)?;
+    let view = View { table, space };
+    let bare = begun_unnamed::<Brand>(alloc, view, nodes, Blank::new(1))?;
+    let found = full_entries(alloc, view, bare)?;
     Ok(found)
 }
 
@@ -168,32 +170,30 @@ pub fn unnamed(
 /// Memory was refused.
 pub fn bare_unnamed(
     alloc: Global,
-    table: &BlockTable,
-    space: &Space,
+    view: View<'_>,
     nodes: &[Node],
 ) -> Result<Vec<Unnamed>, OutOfMemory>
-    ensures { IfOk result (λ found. map (full_entry (view (state_of table.now) space.now)) found.items
-        ≡ unnamed (view (state_of table.now) space.now) space.now (map (full_node (view (state_of table.now) space.now)) nodes.now)) }
+    ensures { IfOk result (λ found. map (full_entry (view_now view.entry)) found.items
+        ≡ unnamed (view_now view.entry) view.entry.space.now (map (full_node (view_now view.entry)) nodes.now)) }
 {
-    let found = begun_unnamed::<Brand>(alloc, table, space, nodes, Blank::new(1))?;
+    let found = begun_unnamed::<Brand>(alloc, view, nodes, Blank::new(1))?;
     Ok(found)
 }
 
 /// The entries as [`counted_unnamed`] lists them, over a count that begins.
 fn begun_unnamed<L: Ledger>(
     alloc: Global,
-    table: &BlockTable,
-    space: &Space,
+    view: View<'_>,
     nodes: &[Node],
     blank: Blank,
 ) -> Result<Vec<Unnamed>, AllocError>
     requires name { blank.name ≡ L.name }
     requires parts { blank.parts ≡ L.parts }
     requires one { blank.parts ≡ 1 }
-    ensures { IfOk result (λ found. map (full_entry (view (state_of table.now) space.now)) found.items ≡ unnamed (view (state_of table.now) space.now) space.now nodes.now) }
+    ensures { IfOk result (λ found. map (full_entry (view_now view.entry)) found.items ≡ unnamed (view_now view.entry) view.entry.space.now nodes.now) }
 {
     let mut walks = Walks::<L>::none(blank);
-    let found = counted_unnamed(alloc, table, space, nodes, &mut walks)?;
+    let found = counted_unnamed(alloc, view, nodes, &mut walks)?;
     Ok(found)
 }
 
@@ -205,18 +205,16 @@ fn begun_unnamed<L: Ledger>(
 /// Memory was refused.
 pub fn counted_unnamed<L: Ledger>(
     alloc: Global,
-    table: &BlockTable,
-    space: &Space,
+    view: View<'_>,
     nodes: &[Node],
     walks: &mut Walks<L>,
 ) -> Result<Vec<Unnamed>, AllocError>
     ensures walks { IfOk result (λ found. walks.new ≡ walks.old + length found.items) }
-    ensures unnamed { IfOk result (λ found. map (full_entry (view (state_of table.now) space.now)) found.items ≡ unnamed (view (state_of table.now) space.now) space.now nodes.now) }
+    ensures unnamed { IfOk result (λ found. map (full_entry (view_now view.entry)) found.items ≡ unnamed (view_now view.entry) view.entry.space.now nodes.now) }
 {
-    let view = View { table, space };
-    let keys = named(alloc, space, nodes)?;
+    let keys = named(alloc, view.space, nodes)?;
     let mut found = Vec::new(alloc);
-    for reference in 0..space.maps() {
+    for reference in 0..view.space.maps() {
         push_unnamed(alloc, view, &keys, reference, &mut found, walks)?;
     }
     Ok(found)

@@ -2,6 +2,7 @@
 
 ghost use Rattle.std.specs.Prelude.{◌≤◌, ◌≡◌, [], ◌+◌, ◌||◌, ℕ, IfErr, IfOk, List, cond, length};
 ghost use Rattle.std.specs.List.{list_any};
+ghost use Rattle.udfs_tag.specs.Fields.{number_of};
 ghost use Rattle.udfs_space.specs.Views.{view_now};
 ghost use Rattle.udfs_file.specs.Stretches.{IsStanding};
 ghost use Rattle.udfs_file.specs.Entries.{entry_of};
@@ -9,7 +10,6 @@ ghost use Rattle.udfs_file.specs.Bodies.{body};
 ghost use Rattle.udfs_lattice.specs.Volumes.{Includes};
 ghost use Rattle.udfs_walk.specs.Bare.{bare_node, bare_standing};
 ghost use Rattle.udfs_walk.specs.Counting.{IsCounted};
-ghost use Rattle.udfs_walk.specs.NamedKeys.{key_of};
 ghost use Rattle.udfs_walk.specs.Memos.{IsMemo};
 ghost use Rattle.udfs_walk.specs.Standings.{body_standing};
 ghost use Rattle.udfs_walk.specs.Targets.{Icb, icb_of, is_icb};
@@ -29,17 +29,17 @@ use std::alloc::Global;
 use std::sync::ledger::Ledger;
 use udfs_file::{Entry, Kind};
 use udfs_space::View;
-use udfs_tag::LongAd;
+use udfs_tag::{LbAddr, LongAd};
 
 /// A directory with so many names in its path is not entered.
 const MOST_NAMES: usize = 64;
 
 /// Whether an ICB is one of these.
-fn is_loop(address: LongAd, above: &[(u16, u32)]) -> bool
-    ensures { result ≡ list_any (is_icb (icb_of address)) above.now }
+fn is_loop(address: LbAddr, above: &[LbAddr]) -> bool
+    ensures { result ≡ list_any (is_icb address) above.now }
 {
     for icb in above {
-        if address.reference == icb.0 && address.block == icb.1 {
+        if address.reference == icb.reference && address.block == icb.block {
             return true;
         }
     }
@@ -52,7 +52,7 @@ fn entry_told<L: Ledger>(
     alloc: Global,
     view: View<'_>,
     entry: &Entry<'_>,
-    address: LongAd,
+    address: LbAddr,
     is_loop: bool,
     is_deep: bool,
     most: usize,
@@ -68,7 +68,7 @@ fn entry_told<L: Ledger>(
     ensures few { IfOk result (λ told. count_listed told.1 ≤ most) }
     ensures memo { IfOk result (λ told. IsMemo (view_now view.entry) memo.new) }
     ensures twice { walks.new ≤ walks.old + 2 }
-    ensures counted { IfOk result (λ told. (start : ℕ) (icbs : List ℕ) → Includes icbs (key_of address.reference address.block)
+    ensures counted { IfOk result (λ told. (start : ℕ) (icbs : List ℕ) → Includes icbs (number_of address)
         → IsCounted start icbs memo.old walks.old → IsCounted start icbs memo.new walks.new) }
     ensures refused { IfErr result (AreRefused most (cond (is_loop || is_deep) [] (kind_entries (entry_of entry.now).kind
         (body (view_now view.entry) address.reference address.block (entry_of entry.now))))) }
@@ -129,7 +129,7 @@ pub(crate) fn visited<L: Ledger>(
     view: View<'_>,
     address: LongAd,
     path: Path,
-    above: &[(u16, u32)],
+    above: &[LbAddr],
     hidden: bool,
     most: usize,
     memo: &mut Memo,
@@ -141,7 +141,7 @@ pub(crate) fn visited<L: Ledger>(
     ensures few { IfOk result (λ visit. count_listed visit.entries ≤ most) }
     ensures memo { IfOk result (λ visit. IsMemo (view_now view.entry) memo.new) }
     ensures twice { walks.new ≤ walks.old + 2 }
-    ensures counted { IfOk result (λ visit. (start : ℕ) (icbs : List ℕ) → Includes icbs (key_of address.reference address.block)
+    ensures counted { IfOk result (λ visit. (start : ℕ) (icbs : List ℕ) → Includes icbs (number_of (icb_of address))
         → IsCounted start icbs memo.old walks.old → IsCounted start icbs memo.new walks.new) }
     ensures refused { IfErr result (AreRefused most (entries_below (view_now view.entry) (end_at address path above.now hidden))) }
 {
@@ -155,10 +155,11 @@ pub(crate) fn visited<L: Ledger>(
             entries: None,
         }),
         Target::Entry(entry) => {
-            let is_loop = is_loop(address, above);
+            let icb = address.address();
+            let is_loop = is_loop(icb, above);
             let is_deep = path.len() >= MOST_NAMES;
             let (standing, entries) = entry_told(
-                alloc, view, &entry, address, is_loop, is_deep, most, memo, walks,
+                alloc, view, &entry, icb, is_loop, is_deep, most, memo, walks,
             )?;
             Ok(Visit {
                 node: read(&entry, address, path, hidden, standing),

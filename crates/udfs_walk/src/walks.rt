@@ -12,7 +12,6 @@ ghost use Rattle.udfs_walk.specs.Nodes.{node};
 ghost use Rattle.udfs_walk.specs.Visits.{AreRefused, end_at};
 ghost use Rattle.udfs_walk.specs.Walks.{AreNodes, IsNodesRefused};
 ghost use Rattle.udfs_walk.specs.Routes.{entries_below};
-ghost use Rattle.udfs_walk.specs.Targets.{icb_of};
 ghost use Rattle.udfs_walk.specs.Frames.{IsFrameOf, IsStepRefused, IsEntryTaken, count_left, frame_at, frames_with};
 
 use crate::answers::{Node, NodesError};
@@ -29,7 +28,7 @@ use std::sync::ledger::{Blank, Ledger};
 use udfs_file::Marks;
 use udfs_lattice::BlockTable;
 use udfs_space::{Space, View};
-use udfs_tag::LongAd;
+use udfs_tag::{LbAddr, LongAd};
 
 /// The nodes that a volume may have.
 const MOST_NODES: usize = 65_536;
@@ -40,7 +39,7 @@ struct Frame {
     /// The names that lead to it.
     names: Names,
     /// The ICBs of the directories on the way, its own among them.
-    above: Vec<(u16, u32)>,
+    above: Vec<LbAddr>,
     /// Its entries.
     entries: Children,
     /// How many of them were gone into.
@@ -58,16 +57,12 @@ impl Model for Frame {
 }
 
 /// The ICBs above a directory, and its own.
-fn with_icb(
-    alloc: Global,
-    above: &[(u16, u32)],
-    address: LongAd,
-) -> Result<Vec<(u16, u32)>, AllocError>
-    ensures { IfOk result (λ icbs. icbs.items ≡ above.now ++ icb_of address ∷ []) }
+fn with_icb(alloc: Global, above: &[LbAddr], address: LbAddr) -> Result<Vec<LbAddr>, AllocError>
+    ensures { IfOk result (λ icbs. icbs.items ≡ above.now ++ address ∷ []) }
 {
     let mut icbs = Vec::with_capacity(alloc, above.len() + 1)?;
     icbs.extend_from_slice(above)?;
-    icbs.push((address.reference, address.block))?;
+    icbs.push(address)?;
     Ok(icbs)
 }
 
@@ -79,7 +74,7 @@ impl Frame {
         view: View<'_>,
         address: LongAd,
         path: Path,
-        above: &[(u16, u32)],
+        above: &[LbAddr],
         hidden: bool,
         most: usize,
         memo: &mut Memo,
@@ -103,7 +98,7 @@ impl Frame {
         };
         let frame = Frame {
             names: node.path.names(alloc)?,
-            above: with_icb(alloc, above, address)?,
+            above: with_icb(alloc, above, address.address())?,
             entries,
             passed: 0,
         };
@@ -198,8 +193,9 @@ pub fn nodes(
     ensures { MatchResult result (λ found. AreNodes (view (state_of table.now) space.now) root found.items)
         (IsNodesRefused (view (state_of table.now) space.now) root) }
 {
-    let bare = bare_nodes(alloc, table, space, root)?;
-    let full = full_nodes(alloc, View { table, space }, bare)?;
+    let view = View { table, space };
+    let bare = bare_nodes(alloc, view, root)?;
+    let full = full_nodes(alloc, view, bare)?;
     Ok(full)
 }
 
@@ -209,35 +205,29 @@ pub fn nodes(
 /// # Errors
 ///
 /// As those of [`nodes`].
-pub fn bare_nodes(
-    alloc: Global,
-    table: &BlockTable,
-    space: &Space,
-    root: LongAd,
-) -> Result<Vec<Node>, NodesError>
-    ensures { MatchResult result (λ found. AreNodes (view (state_of table.now) space.now) root (map (full_node (view (state_of table.now) space.now)) found.items))
-        (IsNodesRefused (view (state_of table.now) space.now) root) }
+pub fn bare_nodes(alloc: Global, view: View<'_>, root: LongAd) -> Result<Vec<Node>, NodesError>
+    ensures { MatchResult result (λ found. AreNodes (view_now view.entry) root (map (full_node (view_now view.entry)) found.items))
+        (IsNodesRefused (view_now view.entry) root) }
 {
-    let found = begun_nodes::<Brand>(alloc, table, space, root, Blank::new(1));
+    let found = begun_nodes::<Brand>(alloc, view, root, Blank::new(1));
     found
 }
 
 /// The nodes as [`counted_nodes`] lists them, over a count that begins.
 fn begun_nodes<L: Ledger>(
     alloc: Global,
-    table: &BlockTable,
-    space: &Space,
+    view: View<'_>,
     root: LongAd,
     blank: Blank,
 ) -> Result<Vec<Node>, NodesError>
     requires name { blank.name ≡ L.name }
     requires parts { blank.parts ≡ L.parts }
     requires one { blank.parts ≡ 1 }
-    ensures { MatchResult result (λ found. AreNodes (view (state_of table.now) space.now) root (map (full_node (view (state_of table.now) space.now)) found.items))
-        (IsNodesRefused (view (state_of table.now) space.now) root) }
+    ensures { MatchResult result (λ found. AreNodes (view_now view.entry) root (map (full_node (view_now view.entry)) found.items))
+        (IsNodesRefused (view_now view.entry) root) }
 {
     let mut walks = Walks::<L>::none(blank);
-    let found = counted_nodes(alloc, table, space, root, &mut walks);
+    let found = counted_nodes(alloc, view, root, &mut walks);
     found
 }
 
@@ -249,17 +239,15 @@ fn begun_nodes<L: Ledger>(
 /// As those of [`nodes`].
 pub fn counted_nodes<L: Ledger>(
     alloc: Global,
-    table: &BlockTable,
-    space: &Space,
+    view: View<'_>,
     root: LongAd,
     walks: &mut Walks<L>,
 ) -> Result<Vec<Node>, NodesError>
-    ensures nodes { MatchResult result (λ found. AreNodes (view (state_of table.now) space.now) root (map (full_node (view (state_of table.now) space.now)) found.items))
-        (IsNodesRefused (view (state_of table.now) space.now) root) }
+    ensures nodes { MatchResult result (λ found. AreNodes (view_now view.entry) root (map (full_node (view_now view.entry)) found.items))
+        (IsNodesRefused (view_now view.entry) root) }
     ensures twice { IfOk result (λ found. walks.new ≤ walks.old + 2 * length (icbs_of found.items)) }
     ensures few { walks.new ≤ walks.old + 131072 }
 {
-    let view = View { table, space };
     let path = Path::root(alloc)?;
     // So many nodes may still be found behind those that were, and behind the entries that are left.
     let mut room: usize = MOST_NODES - 1;

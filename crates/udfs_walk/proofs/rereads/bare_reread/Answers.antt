@@ -1,19 +1,18 @@
 use Rattle.std.proofs.Common.{◌∙◌, ap, arith}
 use Rattle.std.specs.Prelude.{◌++◌}
-use Rattle.udfs_lattice.specs.Tables.{state_of}
 use Rattle.udfs_lattice.specs.Volumes.{ascending}
-use Rattle.udfs_space.specs.Places.{view}
+use Rattle.udfs_space.specs.Views.{view_now}
 use Rattle.udfs_walk.specs.Gathering.{missing_at}
 use Rattle.udfs_walk.proofs.BareRereads.{all_nodes, gathered_settled, node_more}
 use Rattle.udfs_walk.proofs.rereads.bare_reread.Goals as goal
 
 pub loop-node-preserved : goal.loop-node-preserved
 loop-node-preserved c =
-    let v = view (state_of c.args.table.now) c.args.space.now in record {
+    let v = view_now c.args.view in record {
       blocks = node_more v c.args.nodes.now c.loop-node.node-index c.node-item.result c.loop-node.blocks.items c.gather.new.blocks.items c.settle-most.new.blocks.items
           c.loop-node.invariant.blocks c.loop-node-test.true (c.in_ok-gather.ensures.more ∙ ap (λ n. ascending (c.loop-node.blocks.items ++ missing_at v n)) c.node-item.is) c.settle-most.ensures;
       gathered = gathered_settled v _ c.gather.new.blocks.items c.settle-most.new.blocks.items c.settle-most.ensures c.in_ok-gather.ensures.gathered;
     }
 
 pub returns : goal.returns
-returns c = c.sort_once.ensures ∙ all_nodes (view (state_of c.args.table.now) c.args.space.now) c.args.nodes.now c.loop-node.node-index c.loop-node.blocks.items (omega arith) c.loop-node.invariant.blocks
+returns c = c.sort_once.ensures ∙ all_nodes (view_now c.args.view) c.args.nodes.now c.loop-node.node-index c.loop-node.blocks.items (omega arith) c.loop-node.invariant.blocks

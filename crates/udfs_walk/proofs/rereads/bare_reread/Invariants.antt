@@ -1,14 +1,13 @@
 use Rattle.std.proofs.Common.{◌≡◌, take}
 use Rattle.std.specs.Prelude.{flat_map}
-use Rattle.udfs_lattice.specs.Tables.{state_of}
 use Rattle.udfs_lattice.specs.Volumes.{ascending}
-use Rattle.udfs_space.specs.Places.{view}
+use Rattle.udfs_space.specs.Views.{view_now}
 use Rattle.udfs_walk.specs.Gathering.{AreGathered, missing_at}
 use Rattle.udfs_walk.proofs.rereads.bare_reread.Given as goal
 
 -- the blocks of the nodes so far, some of them let go where they stand twice
 abbrev pub invariant-loop-node : goal.invariant-loop-node
 invariant-loop-node l = record {
-  blocks : ascending l.blocks.items ≡ ascending (flat_map (missing_at (view (state_of l.table) l.space)) (take l.node-index l.nodes));
-  gathered : AreGathered (view (state_of l.table) l.space) l.gathered l.blocks.items;
+  blocks : ascending l.blocks.items ≡ ascending (flat_map (missing_at (view_now l.view)) (take l.node-index l.nodes));
+  gathered : AreGathered (view_now l.view) l.gathered l.blocks.items;
 }

@@ -1,7 +1,7 @@
 use Rattle.std.proofs.Common.{arith, map, sym, subst}
 use Rattle.std.specs.Prelude.{filter_map}
 use Rattle.udfs_lattice.specs.Tables.{state_of}
-use Rattle.udfs_space.specs.Places.{view}
+use Rattle.udfs_space.specs.Views.{view_now}
 use Rattle.udfs_walk.specs.Bare.{full_entry}
 use Rattle.udfs_walk.specs.NamedKeys.{AreNamed}
 use Rattle.udfs_walk.specs.UnnamedEntries.{icbs_in, unnamed_at}
@@ -10,11 +10,11 @@ use Rattle.udfs_walk.proofs.unnamed_entries.counted_unnamed.Goals as goal
 
 pub loop-reference-preserved : goal.loop-reference-preserved
 loop-reference-preserved g c =
-    let v = view (state_of c.args.table.now) c.args.space.now in
+    let v = view_now c.args.view in
     let more = c.in_ok-push_unnamed.ensures.walks in
     let so_far = c.loop-reference.invariant.1 in (
-      partition_next (λ r. filter_map (unnamed_at v c.args.nodes.now) (icbs_in c.args.space.now r)) c.loop-reference.reference (map (full_entry v) c.loop-reference.found.items) (map (full_entry v) c.push_unnamed.new.found.items)
+      partition_next (λ r. filter_map (unnamed_at v c.args.nodes.now) (icbs_in c.args.view.space.now r)) c.loop-reference.reference (map (full_entry v) c.loop-reference.found.items) (map (full_entry v) c.push_unnamed.new.found.items)
           c.loop-reference.invariant.0
-          (c.in_ok-push_unnamed.ensures.found c.args.nodes.now (subst (AreNamed v c.args.nodes.now) (sym c.deref.ensures.value) (c.in_ok-keys.ensures.named (state_of c.args.table.now)))),
+          (c.in_ok-push_unnamed.ensures.found c.args.nodes.now (subst (AreNamed v c.args.nodes.now) (sym c.deref.ensures.value) (c.in_ok-keys.ensures.named (state_of c.args.view.table.now)))),
       omega (arith, more, so_far),
     )

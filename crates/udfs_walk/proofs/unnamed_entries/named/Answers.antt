@@ -1,7 +1,10 @@
 use Rattle.std.proofs.Common.{◌∙◌, [], sym, ap, subst, take, ◌+◌, ◌<◌, arith}
+use Rattle.udfs_tag.specs.Fields.{number_of}
+use Rattle.udfs_tag.specs.declared.layouts.LbAddr.{LbAddr}
 use Rattle.udfs_space.specs.Places.{view}
 use Rattle.udfs_file.specs.Addresses.{address_fault}
-use Rattle.udfs_walk.specs.NamedKeys.{AreNamed, key_of}
+use Rattle.udfs_walk.specs.NamedKeys.{AreNamed}
+use Rattle.udfs_walk.specs.Targets.{icb_of}
 use Rattle.udfs_walk.proofs.NamedLemmas.{named_start, named_skip, named_more, named_all, take_whole}
 use Rattle.udfs_walk.proofs.unnamed_entries.named.Goals as goal
 use Rattle.udfs_walk.proofs.unnamed_entries.named.Goals.{in-Some, in-None+in_ok-push-in-None}
@@ -17,10 +20,10 @@ loop-node-preserved c = λ blocks.
           (named_skip v c.args.nodes.now c.loop-node.node-index c.node-item.result c.loop-node.keys.items w.in-Some.field-0 c.loop-node-test.true c.node-item.is
           (w.in-Some.ensures blocks ∙ ap (λ n. address_fault v n.icb) c.node.view_is) (c.loop-node.invariant blocks))
       | in-None+in_ok-push-in-None w ↦ subst (AreNamed v (take (c.loop-node.node-index + 1) c.args.nodes.now)) (ap (λ k. k.items) (sym w.keys-is))
-          (named_more v c.args.nodes.now c.loop-node.node-index c.node-item.result c.loop-node.keys.items w.push.new.self.items w.key.result c.loop-node-test.true c.node-item.is
+          (named_more v c.args.nodes.now c.loop-node.node-index c.node-item.result c.loop-node.keys.items w.push.new.self.items w.number.result c.loop-node-test.true c.node-item.is
           (w.in-None.ensures blocks ∙ ap (λ n. address_fault v n.icb) c.node.view_is)
-          (w.key.ensures.value ∙ ap (λ n. key_of n.icb.reference n.icb.block) c.node.view_is)
-          (subst (λ n. n.icb.block < 4294967296) c.node.view_is w.key.ensures.block)
+          (w.number.ensures.value ∙ ap number_of w.address.ensures ∙ ap (λ n. number_of (icb_of n.icb)) c.node.view_is)
+          (subst (λ n. n.icb.block < 4294967296) c.node.view_is (subst (λ (x : LbAddr). x.block < 4294967296) w.address.ensures w.number.ensures.block))
           w.in_ok-push-in-None.ensures.items (c.loop-node.invariant blocks))
     ]
 

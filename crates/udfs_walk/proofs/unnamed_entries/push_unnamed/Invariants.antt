@@ -6,10 +6,10 @@ use Rattle.udfs_walk.specs.Bare.{full_entry}
 use Rattle.udfs_walk.specs.NodeFields.{NodeFields}
 use Rattle.udfs_walk.specs.NamedKeys.{AreNamed}
 use Rattle.udfs_walk.specs.UnnamedEntries.{unnamed_at}
-use Rattle.udfs_walk.proofs.NamedLemmas.{in_partition}
+use Rattle.udfs_walk.specs.Targets.{icb_at}
 use Rattle.udfs_walk.proofs.unnamed_entries.push_unnamed.Given as goal
 
 abbrev pub invariant-loop-block : goal.invariant-loop-block
 invariant-loop-block g l = ((nodes : List NodeFields) → AreNamed (view_now l.view) nodes l.keys
-    → map (full_entry (view_now l.view)) l.found.items ≡ map (full_entry (view_now l.view)) l.fn.found.items ++ filter_map (unnamed_at (view_now l.view) nodes) (map (in_partition l.reference) (range_with_len 0 l.block)))
+    → map (full_entry (view_now l.view)) l.found.items ≡ map (full_entry (view_now l.view)) l.fn.found.items ++ filter_map (unnamed_at (view_now l.view) nodes) (map (icb_at l.reference) (range_with_len 0 l.block)))
     × (l.walks + length l.fn.found.items ≡ l.fn.walks + length l.found.items)

@@ -1,11 +1,15 @@
-use Rattle.std.proofs.Common.{◌∙◌, ap, cond, nat_le}
+use Rattle.std.proofs.Common.{◌∙◌, ap, cond, nat_le, subst, sym}
+use Rattle.std.specs.List.{list_any}
+use Rattle.udfs_lattice.specs.Volumes.{Includes}
+use Rattle.udfs_tag.specs.Fields.{number_of}
+use Rattle.udfs_tag.specs.declared.layouts.LbAddr.{LbAddr}
 use Rattle.udfs_space.specs.Views.{view_now}
 use Rattle.udfs_file.specs.Bodies.{body}
 use Rattle.udfs_file.specs.Entries.{entry_of}
 use Rattle.udfs_walk.specs.Bare.{bare_node, bare_standing}
 use Rattle.udfs_walk.specs.Standings.{body_standing}
 use Rattle.udfs_walk.specs.Nodes.{told, untold}
-use Rattle.udfs_walk.specs.Targets.{bad, entry, unread}
+use Rattle.udfs_walk.specs.Targets.{bad, entry, is_icb, unread}
 use Rattle.udfs_walk.specs.Visits.{end_at}
 use Rattle.udfs_walk.specs.declared.standings.Standing.TheVariants.{Loop, Torn}
 use Rattle.udfs_walk.proofs.TargetLemmas.{node_is}
@@ -28,6 +32,12 @@ returns-in_ok-standing-in-Entry-clause-node g c =
     let w = end_at c.args.address c.args.path c.args.above.now c.args.hidden in
     let e = entry_of c.in-Entry.entry in
     let n = c.len-is_deep.ensures in
+    let icb = c.address-icb.ensures in
+    let loop = c.is_loop-is_loop.ensures ∙ ap (λ a. list_any (is_icb a) c.args.above.now) icb in
     c.read.ensures c.args.above.now ∙ ap (told w e) c.in_ok-standing-in-Entry.ensures.standing
-    ∙ (λ i. told w e (bare_standing (cond (c.is_loop-is_loop.ensures i) Loop (body_standing e.kind (nat_le 64 (n i)) (body v c.args.address.reference c.args.address.block e)))))
+    ∙ (λ i. told w e (bare_standing (cond (loop i) Loop (body_standing e.kind (nat_le 64 (n i)) (body v (icb i).reference (icb i).block e)))))
     ∙ ap bare_node (node_is v w (entry e) c.in-Entry.ensures.value)
+
+pub returns-in_ok-standing-in-Entry-clause-counted : goal.returns-in_ok-standing-in-Entry-clause-counted
+returns-in_ok-standing-in-Entry-clause-counted g c start icbs at counted =
+    c.in_ok-standing-in-Entry.ensures.counted start icbs (subst (λ (a : LbAddr). Includes icbs (number_of a)) (sym c.address-icb.ensures) at) counted

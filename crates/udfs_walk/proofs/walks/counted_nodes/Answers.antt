@@ -1,8 +1,7 @@
 use Rattle.std.proofs.Common.{◌∙◌, ap, subst, sym, ◌∷◌, ◌++◌, ◌≤◌, [], false, map, refl, arith, length, length-append}
 use Rattle.std.proofs.lemmas.List.{length-map}
 use Rattle.std.specs.Prelude.{MatchOption}
-use Rattle.udfs_lattice.specs.Tables.{state_of}
-use Rattle.udfs_space.specs.Places.{view}
+use Rattle.udfs_space.specs.Views.{view_now}
 use Rattle.udfs_walk.specs.Bare.{full_node}
 use Rattle.udfs_walk.specs.Visits.{end_at}
 use Rattle.udfs_walk.proofs.BareNodes.{full_first, full_is, full_more}
@@ -13,8 +12,8 @@ use Rattle.udfs_walk.proofs.Owed.{start_refused, walk_refused, walk_start, walk_
 use Rattle.udfs_walk.proofs.walks.counted_nodes.Goals as goal
 
 pub walk-init : goal.walk-init
-walk-init g c = let v = view (state_of c.args.table.now) c.args.space.now in (
-  walk_start (view (state_of c.args.table.now) c.args.space.now) c.args.root (full_node v c.in_ok-node.node) c.in_ok-node.frame _ _ _ _ _
+walk-init g c = let v = view_now c.args.view in (
+  walk_start (view_now c.args.view) c.args.root (full_node v c.in_ok-node.node) c.in_ok-node.frame _ _ _ _ _
       c.in_ok-path.ensures refl (full_is v (end_at c.args.root c.in_ok-path.path [] false) c.in_ok-node.node c.in_ok-node.ensures.node) c.in_ok-node.ensures.frame
       (full_first v _ _ c.in_ok-node.node c.new-nodes.ensures.items c.in_ok-put.ensures)
       (c.in_ok-keep.ensures.kept ∙ ap (λ x. frames_with x c.in_ok-node.frame) c.new-frames.ensures.items)
@@ -26,7 +25,7 @@ walk-init g c = let v = view (state_of c.args.table.now) c.args.space.now in (
 
 pub walk-preserved-in-None : goal.walk-preserved-in-None
 walk-preserved-in-None g c =
-    let v = view (state_of c.args.table.now) c.args.space.now in (
+    let v = view_now c.args.view in (
       walk_none v c.args.root (map (full_node v) c.walk.nodes.items) c.walk.frames.items c.pop.new.self.items c.in-Some.frame c.walk.room c.walk.invariant.0 c.in-Some.ensures.items
           (subst (λ o. IsEntryTaken v c.in-Some.frame o c.step.new.self) c.in-None.is c.in_ok-step.ensures.taken),
       c.in_ok-step.ensures.memo,
@@ -35,7 +34,7 @@ walk-preserved-in-None g c =
 
 pub walk-smaller : goal.walk-smaller
 walk-smaller g c =
-    let v = view (state_of c.args.table.now) c.args.space.now in
+    let v = view_now c.args.view in
     let short = walk_short v c.args.root (map (full_node v) c.walk.nodes.items) c.walk.frames.items c.pop.new.self.items c.in-Some.frame c.step.new.self _ _ c.walk.room c.walk.invariant.0 c.in-Some.ensures.items
     (subst (λ o. IsEntryTaken v c.in-Some.frame o c.step.new.self) c.in-Some-2.is c.in_ok-step.ensures.taken) in
     let more = ap length c.in_ok-put-2.ensures ∙ length-append c.walk.nodes.items (c.in-Some-2.taken.0 ∷ []) in
@@ -45,7 +44,7 @@ walk-smaller g c =
 
 pub walk-preserved : goal.walk-preserved
 walk-preserved g c =
-    let v = view (state_of c.args.table.now) c.args.space.now in (
+    let v = view_now c.args.view in (
       walk_some v c.args.root (map (full_node v) c.walk.nodes.items) _ c.walk.frames.items c.pop.new.self.items _ c.in-Some.frame c.step.new.self _ _ c.walk.room _ c.walk.invariant.0 c.in-Some.ensures.items
           (subst (λ o. IsEntryTaken v c.in-Some.frame o c.step.new.self) c.in-Some-2.is c.in_ok-step.ensures.taken)
           (full_more v c.walk.nodes.items _ c.in-Some-2.taken.0 c.in_ok-put-2.ensures)
@@ -58,14 +57,14 @@ walk-preserved g c =
     )
 
 pub returns-clause-nodes : goal.returns-clause-nodes
-returns-clause-nodes g c = walk_done (view (state_of c.args.table.now) c.args.space.now) c.args.root _ _ c.walk.room c.walk.invariant.0 (omega (arith, c.in_default.ensures.cases.0, c.walk.frames.ok.0))
+returns-clause-nodes g c = walk_done (view_now c.args.view) c.args.root _ _ c.walk.room c.walk.invariant.0 (omega (arith, c.in_default.ensures.cases.0, c.walk.frames.ok.0))
 
 pub returns-in_err-node-clause-nodes : goal.returns-in_err-node-clause-nodes
-returns-in_err-node-clause-nodes g c = start_refused (view (state_of c.args.table.now) c.args.space.now) c.args.root _ _ _ c.from_residual-in_err-node.result _ c.from_residual-in_err-node.ensures.1 c.in_err-node.ensures.refused c.in_ok-path.ensures refl
+returns-in_err-node-clause-nodes g c = start_refused (view_now c.args.view) c.args.root _ _ _ c.from_residual-in_err-node.result _ c.from_residual-in_err-node.ensures.1 c.in_err-node.ensures.refused c.in_ok-path.ensures refl
 
 pub returns-in_err-step-clause-nodes : goal.returns-in_err-step-clause-nodes
 returns-in_err-step-clause-nodes g c =
-    let v = view (state_of c.args.table.now) c.args.space.now in
+    let v = view_now c.args.view in
     walk_refused v c.args.root (map (full_node v) c.walk.nodes.items) c.walk.frames.items c.pop.new.self.items c.in-Some.frame c.walk.room _ c.from_residual-in_err-step.result _ c.from_residual-in_err-step.ensures.1
     c.walk.invariant.0 c.in-Some.ensures.items c.in_err-step.ensures.refused
 
@@ -73,20 +72,20 @@ pub returns-clause-twice : goal.returns-clause-twice
 returns-clause-twice g c = counted_twice c.args.walks.now c.walk.nodes.items _ _ c.walk.invariant.2
 
 pub returns-clause-few : goal.returns-clause-few
-returns-clause-few g c = counted_walking (view (state_of c.args.table.now) c.args.space.now) c.args.root c.args.walks.now c.walk.nodes.items _ _ c.walk.room c.walk.frames.items c.walk.invariant.0 c.walk.invariant.2
+returns-clause-few g c = counted_walking (view_now c.args.view) c.args.root c.args.walks.now c.walk.nodes.items _ _ c.walk.room c.walk.frames.items c.walk.invariant.0 c.walk.invariant.2
 
 pub returns-in_err-step-clause-few : goal.returns-in_err-step-clause-few
-returns-in_err-step-clause-few g c = counted_step (view (state_of c.args.table.now) c.args.space.now) c.args.root c.args.walks.now c.walk.nodes.items _ _ c.walk.room _ c.walk.frames.items c.pop.new.self.items c.in-Some.frame
+returns-in_err-step-clause-few g c = counted_step (view_now c.args.view) c.args.root c.args.walks.now c.walk.nodes.items _ _ c.walk.room _ c.walk.frames.items c.pop.new.self.items c.in-Some.frame
     c.walk.invariant.0 c.walk.invariant.2 c.in-Some.ensures.items c.in_err-step.ensures.idle c.in_err-step.ensures.twice
 
 pub returns-in_err-put-2-clause-few : goal.returns-in_err-put-2-clause-few
-returns-in_err-put-2-clause-few g c = counted_step (view (state_of c.args.table.now) c.args.space.now) c.args.root c.args.walks.now c.walk.nodes.items _ _ c.walk.room _ c.walk.frames.items c.pop.new.self.items c.in-Some.frame
+returns-in_err-put-2-clause-few g c = counted_step (view_now c.args.view) c.args.root c.args.walks.now c.walk.nodes.items _ _ c.walk.room _ c.walk.frames.items c.pop.new.self.items c.in-Some.frame
     c.walk.invariant.0 c.walk.invariant.2 c.in-Some.ensures.items c.in_ok-step.ensures.idle c.in_ok-step.ensures.twice
 
 pub returns-in_err-keep-2-clause-few : goal.returns-in_err-keep-2-clause-few
-returns-in_err-keep-2-clause-few g c = counted_step (view (state_of c.args.table.now) c.args.space.now) c.args.root c.args.walks.now c.walk.nodes.items _ _ c.walk.room _ c.walk.frames.items c.pop.new.self.items c.in-Some.frame
+returns-in_err-keep-2-clause-few g c = counted_step (view_now c.args.view) c.args.root c.args.walks.now c.walk.nodes.items _ _ c.walk.room _ c.walk.frames.items c.pop.new.self.items c.in-Some.frame
     c.walk.invariant.0 c.walk.invariant.2 c.in-Some.ensures.items c.in_ok-step.ensures.idle c.in_ok-step.ensures.twice
 
 pub returns-in_err-keep-3-clause-few : goal.returns-in_err-keep-3-clause-few
-returns-in_err-keep-3-clause-few g c = counted_step (view (state_of c.args.table.now) c.args.space.now) c.args.root c.args.walks.now c.walk.nodes.items _ _ c.walk.room _ c.walk.frames.items c.pop.new.self.items c.in-Some.frame
+returns-in_err-keep-3-clause-few g c = counted_step (view_now c.args.view) c.args.root c.args.walks.now c.walk.nodes.items _ _ c.walk.room _ c.walk.frames.items c.pop.new.self.items c.in-Some.frame
     c.walk.invariant.0 c.walk.invariant.2 c.in-Some.ensures.items c.in_ok-step.ensures.idle c.in_ok-step.ensures.twice

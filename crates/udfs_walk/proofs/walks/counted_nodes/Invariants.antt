@@ -1,6 +1,5 @@
 use Rattle.std.proofs.Common.{◌+◌, ◌-◌, ◌*◌, length, map}
-use Rattle.udfs_lattice.specs.Tables.{state_of}
-use Rattle.udfs_space.specs.Places.{view}
+use Rattle.udfs_space.specs.Views.{view_now}
 use Rattle.udfs_walk.specs.Bare.{full_node}
 use Rattle.udfs_walk.specs.Counting.{IsCounted, icb_key}
 use Rattle.udfs_walk.specs.Memos.{IsMemo}
@@ -8,8 +7,8 @@ use Rattle.udfs_walk.proofs.Owed.{IsWalking}
 use Rattle.udfs_walk.proofs.walks.counted_nodes.Given as goal
 
 abbrev pub invariant-walk : goal.invariant-walk
-invariant-walk g l = IsWalking (view (state_of l.table) l.space) l.fn.root (map (full_node (view (state_of l.table) l.space)) l.nodes.items) l.frames.items l.room
-    × IsMemo (view (state_of l.table) l.space) l.memo
+invariant-walk g l = IsWalking (view_now l.view) l.fn.root (map (full_node (view_now l.view)) l.nodes.items) l.frames.items l.room
+    × IsMemo (view_now l.view) l.memo
     × IsCounted l.fn.walks (map icb_key l.nodes.items) l.memo l.walks
 
 abbrev pub decreases-walk : goal.decreases-walk

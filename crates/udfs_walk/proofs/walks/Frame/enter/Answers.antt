@@ -1,10 +1,11 @@
-use Rattle.std.proofs.Common.{◌∙◌, ap, subst}
+use Rattle.std.proofs.Common.{◌∙◌, ◌++◌, ◌∷◌, [], ap, subst}
 use Rattle.udfs_space.specs.Views.{view_now}
 use Rattle.udfs_walk.specs.Routes.{entries_below}
 use Rattle.udfs_walk.specs.Visits.{AreListed, end_at}
 use Rattle.udfs_lattice.specs.Volumes.{Includes}
+use Rattle.udfs_tag.specs.Fields.{number_of}
 use Rattle.udfs_tag.specs.declared.layouts.LongAd.{LongAd}
-use Rattle.udfs_walk.specs.NamedKeys.{key_of}
+use Rattle.udfs_walk.specs.Targets.{icb_of}
 use Rattle.udfs_walk.specs.NodeFields.{NodeFields}
 use Rattle.udfs_walk.proofs.TargetLemmas.{node_address, node_path}
 use Rattle.udfs_walk.proofs.walks.Frame.enter.Goals as goal
@@ -14,17 +15,18 @@ returns-clause-frame g c =
     let v = view_now c.args.view in
     let w = end_at c.args.address c.args.path c.args.above.now c.args.hidden in
     let path = c.in_ok-names.ensures ∙ ap (λ n. n.path) (c.node.view_is ∙ c.in_ok-node.ensures.node) ∙ node_path v w in
+    let above = c.in_ok-with_icb.ensures ∙ ap (λ x. c.args.above.now ++ x ∷ []) c.address.ensures in
     let left = subst (λ o. AreListed o (entries_below v w)) c.in-Some.is c.in_ok-node.ensures.entries in
-    (λ i. record { path = path i; above = c.in_ok-with_icb.ensures i; left = left i })
+    (λ i. record { path = path i; above = above i; left = left i })
 
 pub returns-in_default-clause-counted : goal.returns-in_default-clause-counted
 returns-in_default-clause-counted g c start icbs at counted =
     let w = end_at c.args.address c.args.path c.args.above.now c.args.hidden in
     let icb = ap (λ (n : NodeFields). n.icb) c.in_ok-node.ensures.node ∙ node_address (view_now c.args.view) w in
-    c.in_ok-node.ensures.counted start icbs (subst (λ (a : LongAd). Includes icbs (key_of a.reference a.block)) icb at) counted
+    c.in_ok-node.ensures.counted start icbs (subst (λ (a : LongAd). Includes icbs (number_of (icb_of a))) icb at) counted
 
 pub returns-clause-counted : goal.returns-clause-counted
 returns-clause-counted g c start icbs at counted =
     let w = end_at c.args.address c.args.path c.args.above.now c.args.hidden in
     let icb = ap (λ (n : NodeFields). n.icb) c.in_ok-node.ensures.node ∙ node_address (view_now c.args.view) w in
-    c.in_ok-node.ensures.counted start icbs (subst (λ (a : LongAd). Includes icbs (key_of a.reference a.block)) icb at) counted
+    c.in_ok-node.ensures.counted start icbs (subst (λ (a : LongAd). Includes icbs (number_of (icb_of a))) icb at) counted
