@@ -188,9 +188,10 @@ bytes_of_reading (Some all) ranges are =
 
 are_blocks : (all : List ℕ) (n k : ℕ) → n + k ≤ 4194304 → ((m : ℕ) → n ≤ m → m < n + k → 2048 * (m + 1) ≤ length all) → AreBytes all → AreRecords (records_from all n k)
 are_blocks all n zero within inside are = tt
-are_blocks all n (suc k) within inside are =
-    (record { number = omega (arith, within); block = record { whole = length-block all n (inside n (omega arith) (omega arith)); bytes = AreBytes-block all n are } },
-    are_blocks all (n + 1) k (omega (arith, within)) (λ m l h. inside m (omega (arith, l)) (omega (arith, h))) are)
+are_blocks all n (suc k) within inside are = (
+  record { number = omega (arith, within); block = record { whole = length-block all n (inside n (omega arith) (omega arith)); bytes = AreBytes-block all n are } },
+  are_blocks all (n + 1) k (omega (arith, within)) (λ m l h. inside m (omega (arith, l)) (omega (arith, h))) are,
+)
 
 are_range : (all : List ℕ) (r : BlockRange) → r.end ≤ 4194304 → ((m : ℕ) → r.start ≤ m → m < r.end → 2048 * (m + 1) ≤ length all) → AreBytes all → AreRecords (records_from all r.start (r.end - r.start))
 are_range all r within inside are =
