@@ -8,6 +8,7 @@ use Rattle.udfs_file.specs.declared.faults.Kind.{Kind}
 use Rattle.udfs_walk.specs.Bare.{full_entry, full_node, lists_at, with_lists}
 use Rattle.udfs_walk.specs.NodeFields.{NodeFields}
 use Rattle.udfs_walk.specs.TornFields.{TornFields}
+use Rattle.udfs_walk.specs.Targets.{icb_at}
 use Rattle.udfs_walk.specs.UnnamedEntries.{address_of}
 use Rattle.udfs_walk.specs.declared.answers.Unnamed.{Unnamed}
 use Rattle.udfs_walk.specs.declared.standings.Standing.{Standing}
@@ -32,7 +33,7 @@ same_line v i n = ap (λ t. line (codes "node " ++ decimal i ++ t ++ path_text n
 
 pub same_place : (v : View) (two : Bool) (u : Unnamed) → unnamed_line two (full_entry v u) ≡ unnamed_line two u
 unfolding unnamed_line
-same_place v two u = ap (λ t. line (codes "unnamed " ++ place_text two u ++ t)) (same_told (lists_at v (address_of (u.reference, u.block))) u.standing u.kind (Some u.size) (Some u.stamp))
+same_place v two u = ap (λ t. line (codes "unnamed " ++ place_text two u ++ t)) (same_told (lists_at v (address_of (icb_at u.reference u.block))) u.standing u.kind (Some u.size) (Some u.stamp))
 
 -- ---- the place in a list of such
 pub full_length : {A B : Type 0} (f : A → B) (xs : List A) (i : ℕ) → i < length xs → i < length (map f xs)

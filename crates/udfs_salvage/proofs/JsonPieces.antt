@@ -16,6 +16,7 @@ use Rattle.udfs_file.specs.declared.faults.Kind.{Kind}
 use Rattle.udfs_walk.specs.Bare.{full_entry, full_node, lists_at, with_lists}
 use Rattle.udfs_walk.specs.NodeFields.{NodeFields}
 use Rattle.udfs_walk.specs.TornFields.{TornFields}
+use Rattle.udfs_walk.specs.Targets.{icb_at}
 use Rattle.udfs_walk.specs.UnnamedEntries.{address_of}
 use Rattle.udfs_walk.specs.declared.answers.Unnamed.{Unnamed}
 use Rattle.udfs_walk.specs.declared.standings.Standing.{Standing}
@@ -83,7 +84,7 @@ same_entry_end : (v : View) (two : Bool) (u : Unnamed) → entry_end two (full_e
 unfolding entry_end
 same_entry_end v two u =
     ap (λ t. codes ",\"modified\":" ++ (compact_text (time_data (Some u.stamp)) ++ (reference_piece two u.reference ++ t)))
-    (same_end (lists_at v (address_of (u.reference, u.block))) (Some u.size) u.standing)
+    (same_end (lists_at v (address_of (icb_at u.reference u.block))) (Some u.size) u.standing)
 
 -- what stands before a node, and its pieces
 node_behind : (front : List ℕ) (v : View) (n : NodeFields) (s : Standing) → s ≡ with_lists (lists_at v n.icb) n.standing
@@ -103,12 +104,12 @@ full_node_pieces front v n hidden k s same_hidden same_kind is =
     ∙ node_behind front v n s is
 
 -- the same of an entry
-pub full_entry_pieces : (front : List ℕ) (v : View) (two : Bool) (u : Unnamed) (s : Standing) → s ≡ with_lists (lists_at v (address_of (u.reference, u.block))) u.standing
+pub full_entry_pieces : (front : List ℕ) (v : View) (two : Bool) (u : Unnamed) (s : Standing) → s ≡ with_lists (lists_at v (address_of (icb_at u.reference u.block))) u.standing
     → (front ++ entry_front u.block) ++ (told_piece s u.kind ++ entry_end two u) ≡ front ++ compact_text (unnamed_data two (full_entry v u))
 full_entry_pieces front v two u s is =
     append_assoc front (entry_front u.block) (told_piece s u.kind ++ entry_end two u)
     ∙ ap (λ t. front ++ (entry_front u.block ++ (told_piece t u.kind ++ entry_end two u))) is
-    ∙ ap (λ t. front ++ (entry_front u.block ++ (told_piece (with_lists (lists_at v (address_of (u.reference, u.block))) u.standing) u.kind ++ t))) (sym (same_entry_end v two u))
+    ∙ ap (λ t. front ++ (entry_front u.block ++ (told_piece (with_lists (lists_at v (address_of (icb_at u.reference u.block))) u.standing) u.kind ++ t))) (sym (same_entry_end v two u))
     ∙ ap (λ t. front ++ t) (entry_pieces two (full_entry v u))
 
 -- a list of values that are found where they are told

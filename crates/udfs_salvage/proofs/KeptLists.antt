@@ -6,23 +6,23 @@ use Rattle.std.specs.Option.{is_some}
 use Rattle.std.specs.Ordering.{is_eq, nat_cmp}
 use Rattle.std.proofs.lemmas.Bool.{eqb-true}
 use Rattle.udfs_lattice.specs.TableLaws.{eq_by_cmp-nat}
+use Rattle.udfs_tag.specs.Fields.{number_of}
 use Rattle.udfs_tag.specs.declared.layouts.LongAd.{LongAd}
 use Rattle.udfs_space.specs.Places.{View, block_at}
 use Rattle.udfs_file.specs.Addresses.{address_fault}
 use Rattle.udfs_file.specs.Bodies.{body}
 use Rattle.udfs_file.specs.declared.faults.NodeFault.{NodeFault}
 use Rattle.udfs_walk.specs.Bare.{body_lists, lists_at, target_lists, with_lists}
-use Rattle.udfs_walk.specs.NamedKeys.{key_of}
-use Rattle.udfs_walk.specs.Targets.{Target, bad, unread, entry, target, target_at}
+use Rattle.udfs_walk.specs.Targets.{Icb, Target, bad, unread, entry, icb_of, target, target_at}
 use Rattle.udfs_walk.specs.TornFields.{TornFields}
 use Rattle.udfs_walk.specs.declared.standings.Standing.{Standing}
 use Rattle.udfs_walk.specs.declared.standings.Standing.TheVariants.{Whole, Torn, Loop, Fault}
 use Rattle.udfs_salvage.specs.KeptLists.{AreKeptLists}
 
 -- two ICBs have one number only if they are one
-one_icb : (r b s c : ℕ) → b < 4294967296 → c < 4294967296 → is_eq (nat_cmp (key_of r b) (key_of s c)) ≡ true → (r ≡ s) × (b ≡ c)
-one_icb r b s c h l e =
-    let k : key_of r b ≡ key_of s c = eqb-true (key_of r b) (key_of s c) (sym (eq_by_cmp-nat (key_of r b) (key_of s c)) ∙ e) in
+one_icb : (x y : Icb) → x.block < 4294967296 → y.block < 4294967296 → is_eq (nat_cmp (number_of x) (number_of y)) ≡ true → (x.reference ≡ y.reference) × (x.block ≡ y.block)
+one_icb x y h l e =
+    let k : number_of x ≡ number_of y = eqb-true (number_of x) (number_of y) (sym (eq_by_cmp-nat (number_of x) (number_of y)) ∙ e) in
     (omega (arith, k, h, l), omega (arith, k, h, l))
 
 -- what is missing where an address has no fault
@@ -47,20 +47,20 @@ some_is x y e = ap (λ o. elim o [ None ↦ x | Some z ↦ z ]) e
 
 -- where nothing is kept
 pub none_kept : (v : View) (kept : BTreeMap ℕ TornFields) → IsEmpty kept → AreKeptLists v kept
-none_kept v kept e = λ a torn l f g. absurd (let z : None ≡ Some torn = sym (ap (lookup (λ q. is_eq (nat_cmp (key_of a.reference a.block) q))) e) ∙ g in let w : ⊥ = cc in w)
+none_kept v kept e = λ a torn l f g. absurd (let z : None ≡ Some torn = sym (ap (lookup (λ q. is_eq (nat_cmp (number_of (icb_of a)) q))) e) ∙ g in let w : ⊥ = cc in w)
 
 -- the lists of one body more
 pub more_kept : (v : View) (old new : BTreeMap ℕ TornFields) (a : LongAd) (torn : TornFields) → a.block < 4294967296 → address_fault v a ≡ None → torn ≡ lists_at v a
-    → Updates nat_cmp old new (key_of a.reference a.block) (Some torn) → AreKeptLists v old → AreKeptLists v new
-more_kept v old new a torn h f is u k = λ d lists l g at. go d lists l g at (is_eq (nat_cmp (key_of a.reference a.block) (key_of d.reference d.block))) refl
+    → Updates nat_cmp old new (number_of (icb_of a)) (Some torn) → AreKeptLists v old → AreKeptLists v new
+more_kept v old new a torn h f is u k = λ d lists l g at. go d lists l g at (is_eq (nat_cmp (number_of (icb_of a)) (number_of (icb_of d)))) refl
   where
-    go : (d : LongAd) (lists : TornFields) → d.block < 4294967296 → address_fault v d ≡ None → get nat_cmp new (key_of d.reference d.block) ≡ Some lists
-        → (t : Bool) → is_eq (nat_cmp (key_of a.reference a.block) (key_of d.reference d.block)) ≡ t → lists ≡ lists_at v d
+    go : (d : LongAd) (lists : TornFields) → d.block < 4294967296 → address_fault v d ≡ None → get nat_cmp new (number_of (icb_of d)) ≡ Some lists
+        → (t : Bool) → is_eq (nat_cmp (number_of (icb_of a)) (number_of (icb_of d))) ≡ t → lists ≡ lists_at v d
     go d lists l g at true e =
-        let icb = one_icb a.reference a.block d.reference d.block h l e in
-        let found : Some torn ≡ Some lists = sym (u.0 (key_of d.reference d.block) ∙ ap (λ t. cond t (Some torn) (get nat_cmp old (key_of d.reference d.block))) e) ∙ at in
+        let icb = one_icb (icb_of a) (icb_of d) h l e in
+        let found : Some torn ≡ Some lists = sym (u.0 (number_of (icb_of d)) ∙ ap (λ t. cond t (Some torn) (get nat_cmp old (number_of (icb_of d)))) e) ∙ at in
         sym (some_is torn lists found) ∙ is ∙ same_lists v a d f g icb.0 icb.1
-    go d lists l g at false e = k d lists l g (sym (u.0 (key_of d.reference d.block) ∙ ap (λ t. cond t (Some torn) (get nat_cmp old (key_of d.reference d.block))) e) ∙ at)
+    go d lists l g at false e = k d lists l g (sym (u.0 (number_of (icb_of d)) ∙ ap (λ t. cond t (Some torn) (get nat_cmp old (number_of (icb_of d)))) e) ∙ at)
 
 -- what is torn lacks what is missing at its address
 pub torn_lacks : (lists torn : TornFields) (s : Standing) → Torn torn ≡ with_lists lists s → torn ≡ lists

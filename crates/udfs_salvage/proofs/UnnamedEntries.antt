@@ -17,7 +17,7 @@ use Rattle.udfs_file.specs.declared.faults.Kind.TheVariants as kind
 use Rattle.udfs_walk.specs.NodeBodies.{HasCells}
 use Rattle.udfs_walk.specs.NodeFields.{NodeFields}
 use Rattle.udfs_walk.specs.Standings.{body_standing, cells_standing, missing_blocks, runs_from, torn_or_whole}
-use Rattle.udfs_walk.specs.Targets.{Target, bad, unread, entry, target, Icb}
+use Rattle.udfs_walk.specs.Targets.{Target, bad, unread, entry, target, Icb, icb_at}
 use Rattle.udfs_walk.specs.UnnamedEntries.{address_of, entry_alone, icbs_in, names, unnamed, unnamed_at, unnamed_with}
 use Rattle.udfs_walk.specs.declared.answers.Unnamed.{Unnamed}
 use Rattle.udfs_walk.specs.declared.standings.Standing.{Standing}
@@ -90,20 +90,20 @@ and_right false b e = absurd (let z : ⊥ = cc in z)
 
 -- where a lost file stands, its cells
 abbrev HasBodyOf : View → Unnamed → Type 0
-HasBodyOf v u = is_lost_file u ≡ true → (cs : List Cell) × HasCells v (address_of (u.reference, u.block)) cs × (missing_blocks cs ≡ [])
+HasBodyOf v u = is_lost_file u ≡ true → (cs : List Cell) × HasCells v (address_of (icb_at u.reference u.block)) cs × (missing_blocks cs ≡ [])
 
 of_target : (v : View) (icb : Icb) (t : Target) (u : Unnamed) → target v (address_of icb) ≡ t → entry_alone v icb t ≡ Some u → HasBodyOf v u
 of_target v icb (bad f) u is at lost = let no : None ≡ Some u = at in absurd (let z : ⊥ = cc in z)
 of_target v icb (unread n) u is at lost = let no : None ≡ Some u = at in absurd (let z : ⊥ = cc in z)
 of_target v icb (entry e) u is at lost =
     let same : unnamed_with v icb e ≡ u = cc in
-    subst (λ w. is_lost_file w ≡ true → (cs : List Cell) × HasCells v (address_of (w.reference, w.block)) cs × (missing_blocks cs ≡ [])) same here lost
+    subst (λ w. is_lost_file w ≡ true → (cs : List Cell) × HasCells v (address_of (icb_at w.reference w.block)) cs × (missing_blocks cs ≡ [])) same here lost
   where
     here : is_lost_file (unnamed_with v icb e) ≡ true → (cs : List Cell) × HasCells v (address_of icb) cs × (missing_blocks cs ≡ [])
     here file =
-        let s = body_standing e.kind false (body v icb.0 icb.1 e) in
+        let s = body_standing e.kind false (body v icb.reference icb.block e) in
         let rest = and_right (is_file e.kind) (nat_lt 0 e.size && is_whole s) file in
-        let w = whole_body e.kind (body v icb.0 icb.1 e) (and_left (is_file e.kind) _ file) (is_whole_is s (and_right (nat_lt 0 e.size) (is_whole s) rest)) in
+        let w = whole_body e.kind (body v icb.reference icb.block e) (and_left (is_file e.kind) _ file) (is_whole_is s (and_right (nat_lt 0 e.size) (is_whole s) rest)) in
         (w.0, record { fields = e; is_entry = is; has_body = w.1 }, w.2)
 
 at_icb : (v : View) (nodes : List NodeFields) (icb : Icb) (u : Unnamed) → unnamed_at v nodes icb ≡ Some u → HasBodyOf v u
@@ -120,13 +120,13 @@ unnamed_cells v space nodes i u at = of_all (λ r. filter_map (unnamed_at v node
 
 -- the cells of a lost file of a report
 pub lost_cells : (P : Profile) (blocks : Blocks) (last i : ℕ) (r : Report) (f : Found) (u : Unnamed) → IsReportBy P blocks last r → r.volume ≡ found f
-    → slice_get r.unnamed i ≡ Some u → is_lost_file u ≡ true → (cs : List Cell) × HasUnnamedCellsBy P blocks last u cs × HasCells (view blocks f.space) (address_of (u.reference, u.block)) cs
+    → slice_get r.unnamed i ≡ Some u → is_lost_file u ≡ true → (cs : List Cell) × HasUnnamedCellsBy P blocks last u cs × HasCells (view blocks f.space) (address_of (icb_at u.reference u.block)) cs
 lost_cells P blocks last i r f u is opens at lost = (there.0, record { opened = f; opens = sym is.volume_is ∙ opens; has_cells = there.1; none_missing = there.2 }, there.1)
   where
     listed : ReportsNodes blocks f r
     listed = subst (λ o. ReportsBy blocks o r) opens is.by_volume
 
-    there : (cs : List Cell) × HasCells (view blocks f.space) (address_of (u.reference, u.block)) cs × (missing_blocks cs ≡ [])
+    there : (cs : List Cell) × HasCells (view blocks f.space) (address_of (icb_at u.reference u.block)) cs × (missing_blocks cs ≡ [])
     there = unnamed_cells (view blocks f.space) f.space r.nodes i u (subst (λ us. slice_get us i ≡ Some u) listed.unnamed_is at) lost
 
 -- the entry that was taken is the one at its index

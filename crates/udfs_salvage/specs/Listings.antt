@@ -12,6 +12,7 @@ use Rattle.udfs_space.specs.Places.{view}
 use Rattle.udfs_walk.specs.Bare.{lists_at, node_with, with_lists, with_standing}
 use Rattle.udfs_walk.specs.NodeFields.{NodeFields}
 use Rattle.udfs_walk.specs.Rereads.{reread}
+use Rattle.udfs_walk.specs.Targets.{icb_at}
 use Rattle.udfs_walk.specs.UnnamedEntries.{address_of, unnamed}
 use Rattle.udfs_walk.specs.declared.answers.Unnamed.{Unnamed}
 use Rattle.udfs_walk.specs.declared.standings.Standing.{Standing}
@@ -31,7 +32,7 @@ full_in blocks volume n = node_with n (standing_in blocks volume n.icb n.standin
 
 -- an entry that no name leads to, with what is missing of it
 abbrev pub full_entry_in : Blocks → Answer Found → Unnamed → Unnamed
-full_entry_in blocks volume u = with_standing u (standing_in blocks volume (address_of (u.reference, u.block)) u.standing)
+full_entry_in blocks volume u = with_standing u (standing_in blocks volume (address_of (icb_at u.reference u.block)) u.standing)
 
 -- the entries that no name leads to; of a volume that does not open there are none
 abbrev pub unnamed_in : Blocks → Answer Found → List NodeFields → List Unnamed

@@ -11,6 +11,7 @@ use Rattle.udfs_file.specs.declared.faults.Kind.{Kind}
 use Rattle.udfs_file.specs.declared.faults.Kind.TheVariants as kind
 use Rattle.udfs_walk.specs.NodeBodies.{HasCells}
 use Rattle.udfs_walk.specs.Standings.{missing_blocks}
+use Rattle.udfs_walk.specs.Targets.{icb_at}
 use Rattle.udfs_walk.specs.UnnamedEntries.{address_of}
 use Rattle.udfs_walk.specs.declared.answers.Unnamed.{Unnamed}
 use Rattle.udfs_salvage.specs.Found.{Found, volume_by}
@@ -32,5 +33,5 @@ is_lost_file u = is_file u.kind && (nat_lt 0 u.size && is_whole u.standing)
 pub record HasUnnamedCellsBy (profile : Profile) (blocks : Blocks) (last : ℕ) (u : Unnamed) (cs : List Cell) : Type 0 where
   pub opened : Found
   pub opens : volume_by profile blocks last ≡ found opened
-  pub has_cells : HasCells (view blocks opened.space) (address_of (u.reference, u.block)) cs
+  pub has_cells : HasCells (view blocks opened.space) (address_of (icb_at u.reference u.block)) cs
   pub none_missing : missing_blocks cs ≡ []

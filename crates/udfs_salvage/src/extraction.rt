@@ -3,6 +3,7 @@
 ghost use Rattle.std.specs.Prelude.{◌≡◌, ◌<◌, ◌↔◌, ℕ, Bool, true, false, List, [], Some, length, slice_get, IsErrOf, IfErr, OnOk};
 ghost use Rattle.udfs_lattice.specs.Tables.{state_of};
 ghost use Rattle.udfs_space.specs.Places.{view};
+ghost use Rattle.udfs_space.specs.Views.{view_now};
 ghost use Rattle.udfs_file.specs.declared.cells.Cell.{Cell};
 ghost use Rattle.udfs_volume.specs.Answers.{found};
 ghost use Rattle.udfs_volume.specs.declared.profiles.Profile.{Profile};
@@ -19,9 +20,8 @@ use crate::volumes::Volume;
 use std::alloc::{AllocError, Global};
 use std::error::Error;
 use std::fmt;
-use udfs_lattice::BlockTable;
 use udfs_reading::{Outgoing, Sink, WriteFault};
-use udfs_space::{Space, View};
+use udfs_space::View;
 use udfs_tag::LongAd;
 use udfs_walk::{Node, Standing, body_at};
 
@@ -81,23 +81,22 @@ pub fn is_offered(node: &Node, fill: Fill) -> bool
 /// Writes the body of the entry at an address, where there is one, through a piece of outgoing bytes that holds none, nor does after it.
 pub(crate) fn write_at<W: Sink>(
     alloc: Global,
-    table: &BlockTable,
-    space: &Space,
+    view: View<'_>,
     address: LongAd,
     fill: u8,
     out: &mut Outgoing,
     sink: &mut W,
 ) -> Result<(), ExtractError>
     requires { out.old ≡ [] }
-    ensures cells { (cs : List Cell) → HasCells (view (state_of table.now) space.now) address cs →
+    ensures cells { (cs : List Cell) → HasCells (view_now view.entry) address cs →
         Extracts (W.stream sink.old) (W.stream sink.new) (filled fill cs) result }
     ensures not_whole { IsErrOf result ExtractError.NotWhole → sink.new ≡ sink.old }
     ensures memory { IsErrOf result ExtractError.OutOfMemory → sink.new ≡ sink.old }
-    ensures wanted { IsErrOf result ExtractError.OutOfMemory → MayTakeMemory (view (state_of table.now) space.now) address }
+    ensures wanted { IsErrOf result ExtractError.OutOfMemory → MayTakeMemory (view_now view.entry) address }
     ensures empty { OnOk result (out.new ≡ []) }
 {
-    match body_at(alloc, table, space, address) {
-        Ok(Some(body)) => match write_body(out, sink, View { table, space }, &body, fill) {
+    match body_at(alloc, view, address) {
+        Ok(Some(body)) => match write_body(out, sink, view, &body, fill) {
             Ok(()) => Ok(()),
             Err(WriteFault) => Err(ExtractError::Write),
         },
@@ -165,15 +164,11 @@ pub fn extract_by<W: Sink>(
         Volume::Open(opened) => {
             let byte = fill_byte(fill);
             let mut out = Outgoing::new();
-            write_at(
-                alloc,
-                report.table,
-                &opened.space,
-                node.icb,
-                byte,
-                &mut out,
-                sink,
-            )
+            let view = View {
+                table: report.table,
+                space: &opened.space,
+            };
+            write_at(alloc, view, node.icb, byte, &mut out, sink)
         }
         _ => Err(ExtractError::NotWhole),
     }

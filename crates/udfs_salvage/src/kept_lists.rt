@@ -1,10 +1,9 @@
 //! What is missing of torn bodies, kept where it is short, so that it is found once for many names of one body.
 
-ghost use Rattle.std.specs.Prelude.{◌≡◌, ◌<◌, IfOk, IfSome};
+ghost use Rattle.std.specs.Prelude.{◌≡◌, IfOk, IfSome};
 ghost use Rattle.std.specs.BTreeMap.{IsEmpty};
 ghost use Rattle.udfs_space.specs.Views.{view_now};
 ghost use Rattle.udfs_walk.specs.Bare.{lists_at, with_lists};
-ghost use Rattle.udfs_walk.specs.NamedKeys.{key_of};
 ghost use Rattle.udfs_walk.specs.TornFields.{TornFields};
 ghost use Rattle.udfs_walk.specs.declared.standings.Standing.TheVariants as walk_standing;
 ghost use Rattle.udfs_salvage.specs.KeptLists.{AreKeptLists};
@@ -21,14 +20,6 @@ const MOST_KEPT: usize = 16_000_000;
 
 /// So many bytes what is kept of a body takes beside its lists.
 const BESIDE: usize = 128;
-
-/// An information control block as one number.
-fn key(address: LongAd) -> u64
-    ensures value { result ≡ key_of address.reference address.block }
-    ensures block { address.block < 4294967296 }
-{
-    u64::from(address.reference) * 4294967296 + u64::from(address.block)
-}
 
 /// The same lists once more.
 fn copied(torn: &Torn) -> Result<Torn, AllocError>
@@ -82,7 +73,8 @@ impl KeptLists {
         if address_fault(view.space, address).is_some() {
             return Ok(None);
         }
-        match self.lists.get(&key(address)) {
+        let number = address.address().number();
+        match self.lists.get(&number) {
             None => Ok(None),
             Some(torn) => {
                 let torn = copied(torn)?;
@@ -105,7 +97,8 @@ impl KeptLists {
             return Ok(());
         }
         self.room -= size;
-        self.lists.insert(key(address), copied(torn)?)?;
+        let number = address.address().number();
+        self.lists.insert(number, copied(torn)?)?;
         Ok(())
     }
 

@@ -19,7 +19,8 @@ use crate::unnamed_extraction::is_lost_file;
 use crate::volumes::Volume;
 use std::alloc::Global;
 use udfs_reading::{Outgoing, Sink};
-use udfs_walk::{Unnamed, entry_address};
+use udfs_space::View;
+use udfs_walk::Unnamed;
 
 /// Writes the bytes of the node at this index, counted from 0 and below the number of nodes, of a listing that [`list_volume_by`](crate::list_volume_by)
 /// answered, as [`extract_by`](crate::extract_by) writes those of a report's node, through a piece of outgoing bytes that holds none. After `Ok` it holds none, so that one piece serves for many nodes.
@@ -65,15 +66,11 @@ pub fn write_node<W: Sink>(
     match &listing.volume {
         Volume::Open(opened) => {
             let byte = fill_byte(fill);
-            write_at(
-                alloc,
-                listing.table,
-                &opened.space,
-                node.icb,
-                byte,
-                out,
-                sink,
-            )
+            let view = View {
+                table: listing.table,
+                space: &opened.space,
+            };
+            write_at(alloc, view, node.icb, byte, out, sink)
         }
         _ => Err(ExtractError::NotWhole),
     }
@@ -114,8 +111,12 @@ pub fn write_lost<W: Sink>(
     }
     match &listing.volume {
         Volume::Open(opened) => {
-            let address = entry_address(entry.reference, entry.block);
-            write_at(alloc, listing.table, &opened.space, address, 0, out, sink)
+            let address = entry.icb();
+            let view = View {
+                table: listing.table,
+                space: &opened.space,
+            };
+            write_at(alloc, view, address, 0, out, sink)
         }
         _ => Err(ExtractError::NotWhole),
     }

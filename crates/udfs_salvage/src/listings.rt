@@ -16,6 +16,7 @@ use crate::surveys::list;
 use crate::volumes::{OpenVolume, Volume, open};
 use std::alloc::Global;
 use udfs_lattice::BlockTable;
+use udfs_space::View;
 use udfs_volume::{Profile, Seen};
 use udfs_walk::unnamed_entries::bare_unnamed;
 use udfs_walk::{Node, Unnamed, bare_reread};
@@ -149,7 +150,11 @@ pub fn list_unnamed(alloc: Global, listing: &Listing<'_>) -> Result<Vec<Unnamed>
 {
     match &listing.volume {
         Volume::Open(opened) => {
-            let entries = bare_unnamed(alloc, listing.table, &opened.space, &listing.nodes)?;
+            let view = View {
+                table: listing.table,
+                space: &opened.space,
+            };
+            let entries = bare_unnamed(alloc, view, &listing.nodes)?;
             Ok(entries)
         }
         _ => Ok(Vec::new(alloc)),
@@ -168,7 +173,11 @@ pub fn reread_blocks(alloc: Global, listing: &Listing<'_>) -> Result<Vec<u32>, S
 {
     match &listing.volume {
         Volume::Open(opened) => {
-            let blocks = bare_reread(alloc, listing.table, &opened.space, &listing.nodes)?;
+            let view = View {
+                table: listing.table,
+                space: &opened.space,
+            };
+            let blocks = bare_reread(alloc, view, &listing.nodes)?;
             Ok(blocks)
         }
         Volume::Holes(blocks) => {

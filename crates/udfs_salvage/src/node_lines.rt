@@ -10,6 +10,7 @@ use udfs_file::Kind;
 use udfs_osta::{Name, Stamp};
 use udfs_printing::Printer;
 use udfs_reading::Sink;
+use udfs_tag::LbAddr;
 use udfs_walk::{Node, Path, Standing, Unnamed};
 
 /// A standing, a space before it.
@@ -121,12 +122,12 @@ pub(crate) fn put_node_line<W: Sink>(out: &mut Printer, sink: &mut W, number: us
 }
 
 /// Where an entry stands, of a volume with two partitions.
-fn put_two_place<W: Sink>(out: &mut Printer, sink: &mut W, reference: u16, block: u32)
-    ensures { Puts (W.stream sink.old) (W.stream sink.new) out.old out.new (decimal reference ++ codes ":" ++ decimal block) }
+fn put_two_place<W: Sink>(out: &mut Printer, sink: &mut W, address: LbAddr)
+    ensures { Puts (W.stream sink.old) (W.stream sink.new) out.old out.new (decimal address.reference ++ codes ":" ++ decimal address.block) }
 {
-    out.put_number(sink, u64::from(reference));
+    out.put_number(sink, u64::from(address.reference));
     out.put(sink, ":");
-    out.put_number(sink, u64::from(block));
+    out.put_number(sink, u64::from(address.block));
 }
 
 /// Where an entry stands.
@@ -134,7 +135,7 @@ fn put_place<W: Sink>(out: &mut Printer, sink: &mut W, two: bool, entry: &Unname
     ensures { Puts (W.stream sink.old) (W.stream sink.new) out.old out.new (place_text two entry.now) }
 {
     if two {
-        put_two_place(out, sink, entry.reference, entry.block);
+        put_two_place(out, sink, entry.address());
     } else {
         out.put_number(sink, u64::from(entry.block));
     }

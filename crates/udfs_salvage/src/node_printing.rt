@@ -15,7 +15,7 @@ use udfs_printing::Printer;
 use udfs_reading::Sink;
 use udfs_space::View;
 use udfs_tag::LongAd;
-use udfs_walk::{Node, Standing, Unnamed, entry_address, full_standing};
+use udfs_walk::{Node, Standing, Unnamed, full_standing};
 
 /// The lines of missing blocks.
 fn put_missings<W: Sink>(out: &mut Printer, sink: &mut W, blocks: &[u32])
@@ -182,7 +182,7 @@ fn put_full_unnamed<W: Sink>(
     ensures { PutsMost (W.stream sink.old) (W.stream sink.new) out.old out.new (unnamed_text two (full_entry (view_now view.entry) entry.now)) result }
 {
     put_unnamed_line(out, sink, two, entry);
-    let address = entry_address(entry.reference, entry.block);
+    let address = entry.icb();
     put_full_gaps(alloc, out, sink, view, address, &entry.standing)
 }
 

@@ -30,7 +30,7 @@ use crate::volumes::Volume;
 use std::alloc::Global;
 use udfs_reading::Sink;
 use udfs_space::View;
-use udfs_walk::{Node, Unnamed, entry_address, full_standing};
+use udfs_walk::{Node, Unnamed, full_standing};
 
 /// The object of a node up to its holes, and what stands before it.
 fn put_node_front<W: Sink>(
@@ -157,7 +157,7 @@ fn put_entry<W: Sink>(
 ) -> Result<(), RunError>
     ensures { PassesOn (W.stream sink.old) (W.stream sink.new) (string_bytes text.old) (string_bytes text.new) (front.now ++ compact_text (unnamed_data two (full_entry (view_now view.entry) entry.now))) result }
 {
-    let address = entry_address(entry.reference, entry.block);
+    let address = entry.icb();
     let full = full_standing(alloc, view, address, &entry.standing)?;
     put_entry_front(alloc, text, sink, front, entry.block)?;
     put_told(alloc, text, sink, &full, entry.kind)?;

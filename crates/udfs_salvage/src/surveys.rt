@@ -62,7 +62,11 @@ pub(crate) fn list(
     ensures nodes { IfOk result (λ listed. AreNodes (view (state_of table.now) opened.now.space) opened.now.root (map (full_node (view (state_of table.now) opened.now.space)) listed.items)) }
     ensures refused { IfErr result (IsWalkRefused (state_of table.now) (found_now opened.now)) }
 {
-    match bare_nodes(alloc, table, &opened.space, opened.root) {
+    let view = View {
+        table,
+        space: &opened.space,
+    };
+    match bare_nodes(alloc, view, opened.root) {
         Ok(listed) => Ok(listed),
         Err(NodesError::TooManyPaths) => Err(SalvageError::TooManyPaths),
         Err(NodesError::OutOfMemory) => Err(SalvageError::OutOfMemory),
@@ -86,8 +90,12 @@ fn survey_open<'a>(
     ensures refused { IfErr result (IsWalkRefused (state_of table.now) (found_now opened)) }
 {
     let listed = list(alloc, table, &opened)?;
-    let unnamed = bare_unnamed(alloc, table, &opened.space, &listed)?;
-    let reread = bare_reread(alloc, table, &opened.space, &listed)?;
+    let view = View {
+        table,
+        space: &opened.space,
+    };
+    let unnamed = bare_unnamed(alloc, view, &listed)?;
+    let reread = bare_reread(alloc, view, &listed)?;
     Ok(Survey {
         table,
         last,

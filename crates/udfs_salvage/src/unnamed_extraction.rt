@@ -18,7 +18,8 @@ use crate::volumes::Volume;
 use std::alloc::Global;
 use udfs_file::Kind;
 use udfs_reading::{Outgoing, Sink};
-use udfs_walk::{Unnamed, entry_address};
+use udfs_space::View;
+use udfs_walk::Unnamed;
 
 /// Whether an entry that no name leads to is a lost file: a file with data that is whole.
 pub fn is_lost_file(entry: &Unnamed) -> bool
@@ -70,17 +71,13 @@ pub fn extract_unnamed_by<W: Sink>(
     }
     match &report.volume {
         Volume::Open(opened) => {
-            let address = entry_address(entry.reference, entry.block);
+            let address = entry.icb();
             let mut out = Outgoing::new();
-            write_at(
-                alloc,
-                report.table,
-                &opened.space,
-                address,
-                0,
-                &mut out,
-                sink,
-            )
+            let view = View {
+                table: report.table,
+                space: &opened.space,
+            };
+            write_at(alloc, view, address, 0, &mut out, sink)
         }
         _ => Err(ExtractError::NotWhole),
     }

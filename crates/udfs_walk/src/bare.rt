@@ -6,7 +6,6 @@ ghost use Rattle.udfs_file.specs.Bodies.{body};
 ghost use Rattle.udfs_file.specs.Entries.{entry_of};
 ghost use Rattle.udfs_file.specs.Stretches.{IsStanding};
 ghost use Rattle.udfs_walk.specs.Bare.{body_lists, full_entry, full_node, lists_at, lists_of, no_lists, with_lists};
-ghost use Rattle.udfs_walk.specs.UnnamedEntries.{address_of};
 
 use crate::answers::{Node, Unnamed};
 use crate::gaps::cells_standing;

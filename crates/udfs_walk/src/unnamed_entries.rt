@@ -10,7 +10,6 @@ ghost use Rattle.udfs_space.specs.Views.{view_now};
 ghost use Rattle.udfs_walk.specs.UnnamedEntries.{icbs_in, unnamed, unnamed_at};
 ghost use Rattle.udfs_walk.specs.Bare.{full_entry, full_node};
 ghost use Rattle.udfs_walk.specs.NodeFields.{NodeFields};
-ghost use Rattle.udfs_walk.specs.Targets.{icb_at};
 ghost use Rattle.udfs_walk.specs.NamedKeys.{AreNamed};
 
 use crate::answers::{Node, Unnamed};

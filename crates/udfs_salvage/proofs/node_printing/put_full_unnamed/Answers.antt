@@ -14,4 +14,4 @@ returns g c =
     rw (same_place v c.args.two c.args.entry.now)
     (most_then (W.stream c.put_full_gaps.new.sink) c.put_full_gaps.new.out (gap_lines (full_entry v c.args.entry.now).standing) c.put_full_gaps.result c.put_unnamed_line.ensures
     (subst (λ a. PutsMost (W.stream c.put_unnamed_line.new.sink) (W.stream c.put_full_gaps.new.sink) c.put_unnamed_line.new.out c.put_full_gaps.new.out (gap_lines (with_lists (lists_at v a) c.args.entry.now.standing)) c.put_full_gaps.result)
-    c.entry_address-address.ensures c.put_full_gaps.ensures))
+    c.icb-address.ensures c.put_full_gaps.ensures))

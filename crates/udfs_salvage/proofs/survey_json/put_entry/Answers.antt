@@ -13,7 +13,7 @@ returns-in_err-put_entry_front g c =
     let p = err_from_is_err_and c.from_residual-in_err-put_entry_front.result c.from_residual-in_err-put_entry_front.ensures.1 in
     let n = c.args.entry.now in
     let s = c.in_ok-full.full in
-    let is = c.in_ok-full.ensures ∙ ap (λ a. with_lists (lists_at (view_now c.args.view) a) n.standing) c.entry_address-address.ensures in
+    let is = c.in_ok-full.ensures ∙ ap (λ a. with_lists (lists_at (view_now c.args.view) a) n.standing) c.icb-address.ensures in
     rw (p.1, p.2) (stopped_first_of _ (c.args.front.now ++ entry_front n.block) (told_piece s n.kind ++ entry_end c.args.two n) _ (full_entry_pieces c.args.front.now (view_now c.args.view) c.args.two n s is) c.in_err-put_entry_front.ensures)
 
 pub returns-in_err-put_told : goal.returns-in_err-put_told
@@ -21,7 +21,7 @@ returns-in_err-put_told g c =
     let p = err_from_is_err_and c.from_residual-in_err-put_told.result c.from_residual-in_err-put_told.ensures.1 in
     let n = c.args.entry.now in
     let s = c.in_ok-full.full in
-    let is = c.in_ok-full.ensures ∙ ap (λ a. with_lists (lists_at (view_now c.args.view) a) n.standing) c.entry_address-address.ensures in
+    let is = c.in_ok-full.ensures ∙ ap (λ a. with_lists (lists_at (view_now c.args.view) a) n.standing) c.icb-address.ensures in
     rw (p.1, p.2) (stopped_second_of (c.args.front.now ++ entry_front n.block) (told_piece s n.kind) (entry_end c.args.two n) _ (full_entry_pieces c.args.front.now (view_now c.args.view) c.args.two n s is) c.in_ok-put_entry_front.ensures c.in_err-put_told.ensures)
 
 pub returns : goal.returns
@@ -29,6 +29,6 @@ returns g c =
     let W = g.W.Sink in
     let n = c.args.entry.now in
     let s = c.in_ok-full.full in
-    let is = c.in_ok-full.ensures ∙ ap (λ a. with_lists (lists_at (view_now c.args.view) a) n.standing) c.entry_address-address.ensures in
+    let is = c.in_ok-full.ensures ∙ ap (λ a. with_lists (lists_at (view_now c.args.view) a) n.standing) c.icb-address.ensures in
     passes_three (W.stream c.put_entry_end.new.sink) (string_bytes c.put_entry_end.new.text) (c.args.front.now ++ entry_front n.block) (told_piece s n.kind) (entry_end c.args.two n) _ c.put_entry_end.result
     (full_entry_pieces c.args.front.now (view_now c.args.view) c.args.two n s is) c.in_ok-put_entry_front.ensures c.in_ok-put_told.ensures c.put_entry_end.ensures

@@ -2,6 +2,7 @@ use Rattle.std.proofs.Common.{◌≡◌, ◌∙◌, sym, ap, subst, true}
 use Rattle.udfs_lattice.specs.Tables.{state_of}
 use Rattle.udfs_space.specs.Places.{view}
 use Rattle.udfs_walk.specs.NodeBodies.{HasCells}
+use Rattle.udfs_walk.specs.Targets.{icb_at}
 use Rattle.udfs_walk.specs.UnnamedEntries.{address_of}
 use Rattle.udfs_walk.specs.declared.answers.Unnamed.{Unnamed}
 use Rattle.udfs_salvage.specs.Found.{found_now, volume_now}
@@ -18,7 +19,7 @@ returns-in-Open-clause-cells g c = λ profile last u is at lost.
     let b = state_of r.table.now in
     let k = lost_cells profile b last c.args.index (report_now r) (found_now c.in-Open.opened) u is (ap volume_now c.in-Open.is) at lost in
     let same = same_entry r.unnamed.items c.args.index u c.index-entry.result.now at c.index-entry.ensures in
-    let address : c.entry_address-address.result ≡ address_of (u.reference, u.block) = c.entry_address-address.ensures ∙ ap (λ (w : Unnamed). address_of (w.reference, w.block)) same in (
+    let address : c.icb-address.result ≡ address_of (icb_at u.reference u.block) = c.icb-address.ensures ∙ ap (λ (w : Unnamed). address_of (icb_at w.reference w.block)) same in (
       k.0,
       k.1,
       c.write_at.ensures.cells k.0 (subst (λ a. HasCells (view b c.in-Open.opened.space) a k.0) (sym address) k.2),
