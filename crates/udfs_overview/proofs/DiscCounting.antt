@@ -7,6 +7,7 @@ use Rattle.udfs_volume.specs.Answers.{Answer, found, holes, faulty}
 use Rattle.udfs_space.specs.Places.{view}
 use Rattle.udfs_walk.specs.Bare.{full_entry, lists_at, with_lists}
 use Rattle.udfs_walk.specs.TornFields.{TornFields}
+use Rattle.udfs_walk.specs.Targets.{icb_at}
 use Rattle.udfs_walk.specs.UnnamedEntries.{address_of}
 use Rattle.udfs_walk.specs.declared.answers.Unnamed.{Unnamed}
 use Rattle.udfs_walk.specs.declared.standings.Standing.{Standing}
@@ -55,12 +56,12 @@ count_same p g same a (u ∷ us) = ap (λ t. fold (λ b v. b + cond (p v) 1 0) (
 
 pub data_full : (M : Blocks) (answer : Answer Found) (us : List Unnamed) → count_by has_data (full_entries M answer us) ≡ count_by has_data us
 data_full M (found f) us =
-    count_same has_data (full_entry (view M f.space)) (λ u. ap (λ t. t && is_file u.kind && nat_lt 0 u.size) (same_whole (lists_at (view M f.space) (address_of (u.reference, u.block))) u.standing)) 0 us
+    count_same has_data (full_entry (view M f.space)) (λ u. ap (λ t. t && is_file u.kind && nat_lt 0 u.size) (same_whole (lists_at (view M f.space) (address_of (icb_at u.reference u.block))) u.standing)) 0 us
 data_full M (holes listed) us = refl
 data_full M (faulty fault) us = refl
 
 pub empty_full : (M : Blocks) (answer : Answer Found) (us : List Unnamed) → count_by is_empty_file (full_entries M answer us) ≡ count_by is_empty_file us
 empty_full M (found f) us =
-    count_same is_empty_file (full_entry (view M f.space)) (λ u. ap (λ t. t && is_file u.kind && u.size == 0) (same_whole (lists_at (view M f.space) (address_of (u.reference, u.block))) u.standing)) 0 us
+    count_same is_empty_file (full_entry (view M f.space)) (λ u. ap (λ t. t && is_file u.kind && u.size == 0) (same_whole (lists_at (view M f.space) (address_of (icb_at u.reference u.block))) u.standing)) 0 us
 empty_full M (holes listed) us = refl
 empty_full M (faulty fault) us = refl

@@ -8,6 +8,7 @@ use Rattle.udfs_file.specs.declared.faults.Kind.{Kind}
 use Rattle.udfs_walk.specs.Bare.{full_entry, full_node, lists_at, with_lists}
 use Rattle.udfs_walk.specs.NodeFields.{NodeFields}
 use Rattle.udfs_walk.specs.TornFields.{TornFields}
+use Rattle.udfs_walk.specs.Targets.{icb_at}
 use Rattle.udfs_walk.specs.UnnamedEntries.{address_of}
 use Rattle.udfs_walk.specs.declared.answers.Unnamed.{Unnamed}
 use Rattle.udfs_walk.specs.declared.standings.Standing.{Standing}
@@ -33,7 +34,7 @@ named_full v ns =
 pub nameless_full : (v : View) (us : List Unnamed) → count_by (entry_has_streams v) (map (full_entry v) us) ≡ count_by (entry_has_streams v) us
 nameless_full v us =
     count_same (entry_has_streams v) (full_entry v)
-    (λ u. ap (λ b. b && block_names_streams (block_at v u.reference u.block)) (read_same (lists_at v (address_of (u.reference, u.block))) u.standing u.kind)) 0 us
+    (λ u. ap (λ b. b && block_names_streams (block_at v u.reference u.block)) (read_same (lists_at v (address_of (icb_at u.reference u.block))) u.standing u.kind)) 0 us
 
 -- so the report of a survey has as many as the survey
 pub streams_full : (M : Blocks) (answer : Answer Found) (ns : List NodeFields) (us : List Unnamed)

@@ -17,7 +17,7 @@ use udfs_lattice::Fact;
 use udfs_osta::OutOfMemory;
 use udfs_salvage::{Survey, Volume};
 use udfs_space::View;
-use udfs_tag::{LongAd, identifiers};
+use udfs_tag::{LbAddr, LongAd, identifiers};
 use udfs_walk::{Node, Standing, Unnamed};
 
 /// Whether an entry has a stream directory: an extended entry whose address of one, at byte 152, has a length (ECMA-167 4/14.17).
@@ -39,10 +39,10 @@ fn fact_names_streams(fact: Fact<&[u8; 2048]>) -> bool
 }
 
 /// Whether such an entry is known to stand at a logical block.
-fn block_names_streams(view: View<'_>, reference: u16, block: u32) -> bool
-    ensures { result ≡ block_names_streams (block_at (view_now view.entry) reference block) }
+fn block_names_streams(view: View<'_>, address: LbAddr) -> bool
+    ensures { result ≡ block_names_streams (block_at (view_now view.entry) address.reference address.block) }
 {
-    match view.block_at(reference, u64::from(block)) {
+    match view.block_at(address.reference, u64::from(address.block)) {
         Some((_, fact)) => fact_names_streams(fact),
         None => false,
     }
@@ -59,16 +59,14 @@ fn is_read_file(standing: &Standing, kind: Kind) -> bool
 fn has_streams(view: View<'_>, node: &Node) -> bool
     ensures { result ≡ has_streams (view_now view.entry) node.now }
 {
-    is_read_file(&node.standing, node.kind)
-        && block_names_streams(view, node.icb.reference, node.icb.block)
+    is_read_file(&node.standing, node.kind) && block_names_streams(view, node.icb.address())
 }
 
 /// Whether an entry that no name leads to is that of a file with a stream directory.
 fn entry_has_streams(view: View<'_>, entry: &Unnamed) -> bool
     ensures { result ≡ entry_has_streams (view_now view.entry) entry.now }
 {
-    is_read_file(&entry.standing, entry.kind)
-        && block_names_streams(view, entry.reference, entry.block)
+    is_read_file(&entry.standing, entry.kind) && block_names_streams(view, entry.address())
 }
 
 /// How many nodes are such files.
