@@ -5,6 +5,7 @@ mod Fewness
 mod Html
 mod Lines
 mod Nesting
+mod Passing
 mod Roots
 mod Texts
 mod TreeNodes

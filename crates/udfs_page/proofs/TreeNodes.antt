@@ -1,5 +1,5 @@
 -- Nodes in their order, each with the depth of the next; and the last name of a path.
-use Rattle.std.proofs.Common.{◌≡◌, ◌∙◌, refl, sym, ap, subst, arith, ℕ, ◌+◌, ◌-◌, ◌<◌, List, [], ◌∷◌, ◌++◌, length, map, drop, take, get_or, Some}
+use Rattle.std.proofs.Common.{◌≡◌, ◌∙◌, refl, sym, ap, subst, arith, ℕ, ◌+◌, ◌-◌, ◌<◌, List, [], ◌∷◌, length, map, drop, take, get_or, Some}
 use Rattle.std.specs.Prelude.{zero, suc, flat_map, slice_get}
 use Rattle.std.proofs.lemmas.List.{length-map}
 use Rattle.std.proofs.Math.Seq.{take-length}
@@ -8,7 +8,6 @@ use Rattle.udfs_walk.specs.Bare.{full_node}
 use Rattle.udfs_walk.specs.NodeFields.{NodeFields}
 use Rattle.udfs_overview.specs.SafeNames.{safe_name}
 use Rattle.udfs_page.specs.Trees.{first_depth, node_html, nodes_html, own_name, with_next}
-use Rattle.udfs_page.proofs.Texts.{text_more}
 
 -- each node is there with the depth of the next
 with_next_length : (ns : List NodeFields) → length (with_next ns) ≡ length ns
@@ -38,18 +37,21 @@ full_at v (m ∷ ms) (suc i) n h e = full_at v ms i n (omega (arith, h)) e
 abbrev pub nodes_so_far : View → List NodeFields → ℕ → List ℕ
 nodes_so_far v ns i = flat_map (λ (p : NodeFields × ℕ). node_html p.0 p.1) (take i (with_next (map (full_node v) ns)))
 
--- and one more
-pub node_more : (v : View) (ns : List NodeFields) (i : ℕ) (n : NodeFields) (next : ℕ) (old middle new : List ℕ) → i < length ns → n ≡ get_or ns i n → next ≡ first_depth (drop (i + 1) ns)
-    → middle ≡ old ++ nodes_so_far v ns i → new ≡ middle ++ node_html (full_node v n) next → new ≡ old ++ nodes_so_far v ns (i + 1)
-node_more v ns i n next old middle new h is depth e more =
+-- there is one at each place of a node
+pub next_within : (v : View) (ns : List NodeFields) (i : ℕ) → i < length ns → i < length (with_next (map (full_node v) ns))
+next_within v ns i h =
+    let size : length (with_next (map (full_node v) ns)) ≡ length ns = with_next_length (map (full_node v) ns) ∙ length-map ns (full_node v) in
+    omega (arith, h, size)
+
+-- and it is that node, with the depth of the next
+pub node_at : (v : View) (ns : List NodeFields) (i : ℕ) (n : NodeFields) (next : ℕ) → i < length ns → n ≡ get_or ns i n → next ≡ first_depth (drop (i + 1) ns)
+    → (full_node v n, next) ≡ get_or (with_next (map (full_node v) ns)) i (full_node v n, next)
+node_at v ns i n next h is depth =
     let fulls = map (full_node v) ns in
     let size : length fulls ≡ length ns = length-map ns (full_node v) in
     let within : i < length fulls = omega (arith, h, size) in
-    let paired : length (with_next fulls) ≡ length fulls = with_next_length fulls in
     let deep : next ≡ first_depth (drop (i + 1) fulls) = depth ∙ sym (full_depth v (i + 1) ns) in
-    let p : NodeFields × ℕ = (full_node v n, next) in
-    let here : p ≡ get_or (with_next fulls) i p = ap (λ k. (full_node v n, k)) deep ∙ with_next_at fulls i (full_node v n) p within (full_at v ns i n h is) in
-    text_more (λ (q : NodeFields × ℕ). node_html q.0 q.1) (with_next fulls) i p old middle new (omega (arith, h, size, paired)) here e more
+    ap (λ k. (full_node v n, k)) deep ∙ with_next_at fulls i (full_node v n) (full_node v n, next) within (full_at v ns i n h is)
 
 -- all nodes
 pub all_nodes : (v : View) (ns : List NodeFields) → nodes_so_far v ns (length ns) ≡ nodes_html (map (full_node v) ns)

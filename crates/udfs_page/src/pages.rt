@@ -8,7 +8,7 @@ ghost use Rattle.udfs_lattice.specs.Tables.{Table};
 ghost use Rattle.udfs_volume.specs.declared.profiles.Profile.{Profile};
 ghost use Rattle.udfs_salvage.specs.Found.{volume_now};
 ghost use Rattle.udfs_salvage.specs.Reports.{Report};
-ghost use Rattle.udfs_salvage.specs.Printing.{Prints};
+ghost use Rattle.udfs_salvage.specs.Printing.{PassesOn, Prints};
 ghost use Rattle.udfs_salvage.specs.Surveys.{survey_now};
 ghost use Rattle.udfs_page.specs.Arcs.{arcs_of};
 ghost use Rattle.udfs_page.specs.Heads.{head_text, page_mark};
@@ -23,7 +23,7 @@ use crate::next_steps::push_next;
 use crate::overviews::{push_overview, push_title};
 use crate::pictures::push_picture;
 use crate::torn_tables::push_torn;
-use crate::trees::push_tree;
+use crate::trees::put_tree;
 use std::alloc::Global;
 use udfs_lattice::BlockTable;
 use udfs_osta::OutOfMemory;
@@ -79,25 +79,29 @@ fn push_torn_files(
 }
 
 /// What is told of nodes that are without their blocks and holes.
-fn push_about_nodes(
+fn put_about_nodes<W: Sink>(
     alloc: Global,
     text: &mut String,
+    sink: &mut W,
     view: View<'_>,
     nodes: &[Node],
-) -> Result<(), OutOfMemory>
-    ensures { OnOk result (string_bytes text.new ≡ string_bytes text.old ++ nodes_of (map (full_node (view_now view.entry)) nodes.now)) }
+) -> Result<(), RunError>
+    ensures { PassesOn (W.stream sink.old) (W.stream sink.new) (string_bytes text.old) (string_bytes text.new)
+        (nodes_of (map (full_node (view_now view.entry)) nodes.now)) result }
 {
     push_torn_files(alloc, text, view, nodes)?;
-    push_tree(alloc, text, view, nodes)
+    put_tree(alloc, text, sink, view, nodes)
 }
 
 /// What is told of the nodes of a volume that opens.
-fn push_about_files(
+fn put_about_files<W: Sink>(
     alloc: Global,
     text: &mut String,
+    sink: &mut W,
     survey: &Survey<'_>,
-) -> Result<(), OutOfMemory>
-    ensures { OnOk result (string_bytes text.new ≡ string_bytes text.old ++ files_html (volume_now survey.now.volume) (survey_now survey.now)) }
+) -> Result<(), RunError>
+    ensures { PassesOn (W.stream sink.old) (W.stream sink.new) (string_bytes text.old) (string_bytes text.new)
+        (files_html (volume_now survey.now.volume) (survey_now survey.now)) result }
 {
     match &survey.volume {
         Volume::Open(opened) => {
@@ -105,40 +109,49 @@ fn push_about_files(
                 table: survey.table,
                 space: &opened.space,
             };
-            push_about_nodes(alloc, text, view, &survey.nodes)
+            put_about_nodes(alloc, text, sink, view, &survey.nodes)
         }
         _ => Ok(()),
     }
 }
 
-/// Appends the page of the report that a survey stands for: HTML of its own, with what is found of the volume, the disc as a picture, what to do
-/// next, the torn files of which most is lost, and all files inside their folders. No name can begin or end an element in it. The blocks and holes of one
-/// node are held at a time.
-///
-/// # Errors
-///
-/// Where memory is refused, and then a part may be appended.
-#[tactic(auto, unfolding(crate::specs::Pages::page_html))]
-pub fn push_page(alloc: Global, text: &mut String, survey: &Survey<'_>) -> Result<(), OutOfMemory>
-    ensures { OnOk result (string_bytes text.new ≡ string_bytes text.old ++ page_html survey.now.profile survey.now.table.now survey.now.last (survey_now survey.now)) }
+/// All before what is told of the nodes.
+fn push_front(alloc: Global, text: &mut String, survey: &Survey<'_>) -> Result<(), OutOfMemory>
+    ensures { OnOk result (string_bytes text.new ≡ string_bytes text.old ++ (head_text (title_html (volume_now survey.now.volume)) ++ disc_html survey.now.profile survey.now.table.now survey.now.last (survey_now survey.now))) }
 {
     push_head(alloc, text, &survey.volume)?;
-    push_about_disc(alloc, text, survey)?;
-    push_about_files(alloc, text, survey)?;
-    push_markup(text, "</body>\n</html>\n")
+    push_about_disc(alloc, text, survey)
 }
 
-/// Writes the page, which is held in memory first.
+/// All of it.
+fn put_page<W: Sink>(
+    alloc: Global,
+    text: &mut String,
+    sink: &mut W,
+    survey: &Survey<'_>,
+) -> Result<(), RunError>
+    ensures { PassesOn (W.stream sink.old) (W.stream sink.new) (string_bytes text.old) (string_bytes text.new)
+        (page_html survey.now.profile survey.now.table.now survey.now.last (survey_now survey.now)) result }
+{
+    push_front(alloc, text, survey)?;
+    put_about_files(alloc, text, sink, survey)?;
+    push_markup(text, "</body>\n</html>\n")?;
+    Ok(())
+}
+
+/// Writes the page of the report that a survey stands for: HTML of its own, with what is found of the volume, the disc as a picture, what to do
+/// next, the torn files of which most is lost, and all files inside their folders. No name can begin or end an element in it. It is written in pieces: the
+/// blocks and holes of one node are held at a time, and no more text of the nodes than a piece and that of one of them.
 ///
 /// # Errors
 ///
-/// `Write` exactly where the sink failed, and then a beginning of the page is out; and `OutOfMemory` where memory is refused, and then nothing is.
+/// `Write` exactly where the sink failed, and `OutOfMemory` where memory is refused. Then a beginning of the page may be out.
 pub fn write_page<W: Sink>(alloc: Global, survey: &Survey<'_>, sink: &mut W) -> Result<(), RunError>
     ensures { Prints (W.stream sink.old) (W.stream sink.new)
         (page_html survey.now.profile survey.now.table.now survey.now.last (survey_now survey.now)) result }
 {
     let mut text = String::new(alloc);
-    push_page(alloc, &mut text, survey)?;
+    put_page(alloc, &mut text, sink, survey)?;
     flush(&mut text, sink)
 }
 

@@ -1,10 +1,12 @@
-//! The files and folders, each inside its folder. Each function appends to a text; where memory is refused, a part may be appended.
+//! The files and folders, each inside its folder. What is `push`ed is appended to a text; where memory is refused, a part may be appended. What is `put` is
+//! besides handed to a sink in pieces.
 
 ghost use Rattle.std.specs.Prelude.{◌≡◌, ◌++◌, ◌-◌, ℕ, List, OnOk, drop, length, map};
 ghost use Rattle.std.specs.String.{string_bytes};
 ghost use Rattle.udfs_space.specs.Views.{view_now};
 ghost use Rattle.udfs_walk.specs.Bare.{full_node, node_with};
 ghost use Rattle.udfs_walk.specs.NodeFields.{NodeFields};
+ghost use Rattle.udfs_salvage.specs.Printing.{PassesOn};
 ghost use Rattle.udfs_page.specs.Markups.{markup, shown_name};
 ghost use Rattle.udfs_page.specs.Nestings.{IsStepwise, open_after};
 ghost use Rattle.udfs_page.specs.Trees.{class_of, details_front, fault_html, first_depth, folder_front, folder_html, kind_html, known_lost, leaf_front, leaf_html, lost_html, node_html, nodes_html, note_html, other_html, own_name, size_html, standing_html, told_html, tree_html};
@@ -15,6 +17,8 @@ use std::alloc::Global;
 use udfs_file::{Kind, NodeFault};
 use udfs_osta::OutOfMemory;
 use udfs_overview::{lost_of, push_safe_name, push_size};
+use udfs_reading::Sink;
+use udfs_salvage::{RunError, pass_on};
 use udfs_space::View;
 use udfs_walk::{Node, Path, Standing, full_standing};
 
@@ -259,33 +263,54 @@ fn depth_at(nodes: &[Node], index: usize) -> usize
     }
 }
 
-/// Nodes without their blocks and holes, with those. The blocks and holes of one node are held at a time.
-fn push_nodes(
+/// A node without its blocks and holes, with those, handed on where what is held is long.
+fn put_full_node<W: Sink>(
     alloc: Global,
     text: &mut String,
+    sink: &mut W,
+    view: View<'_>,
+    node: &Node,
+    next: usize,
+) -> Result<(), RunError>
+    ensures { PassesOn (W.stream sink.old) (W.stream sink.new) (string_bytes text.old) (string_bytes text.new)
+        (node_html (full_node (view_now view.entry) node.now) next) result }
+{
+    push_full_node(alloc, text, view, node, next)?;
+    pass_on(text, sink)
+}
+
+/// Nodes without their blocks and holes, with those. The blocks and holes of one node are held at a time, and no more text than one piece and that of one node.
+fn put_nodes<W: Sink>(
+    alloc: Global,
+    text: &mut String,
+    sink: &mut W,
     view: View<'_>,
     nodes: &[Node],
-) -> Result<(), OutOfMemory>
-    ensures { OnOk result (string_bytes text.new ≡ string_bytes text.old ++ nodes_html (map (full_node (view_now view.entry)) nodes.now)) }
+) -> Result<(), RunError>
+    ensures { PassesOn (W.stream sink.old) (W.stream sink.new) (string_bytes text.old) (string_bytes text.new)
+        (nodes_html (map (full_node (view_now view.entry)) nodes.now)) result }
 {
     let count = nodes.len();
     for index in 0..count {
-        push_full_node(alloc, text, view, &nodes[index], depth_at(nodes, index + 1))?;
+        let next = depth_at(nodes, index + 1);
+        put_full_node(alloc, text, sink, view, &nodes[index], next)?;
     }
     Ok(())
 }
 
 /// All nodes, which are without their blocks and holes, with those.
-pub(crate) fn push_tree(
+pub(crate) fn put_tree<W: Sink>(
     alloc: Global,
     text: &mut String,
+    sink: &mut W,
     view: View<'_>,
     nodes: &[Node],
-) -> Result<(), OutOfMemory>
-    ensures { OnOk result (string_bytes text.new ≡ string_bytes text.old ++ tree_html (map (full_node (view_now view.entry)) nodes.now)) }
+) -> Result<(), RunError>
+    ensures { PassesOn (W.stream sink.old) (W.stream sink.new) (string_bytes text.old) (string_bytes text.new)
+        (tree_html (map (full_node (view_now view.entry)) nodes.now)) result }
 {
     push_markup(text, "<h2>All files</h2>\n")?;
-    push_nodes(alloc, text, view, nodes)
+    put_nodes(alloc, text, sink, view, nodes)
 }
 
 /// A node stands inside as many folders as its path has names, and all folders end: where the first node is the root, and no node is more

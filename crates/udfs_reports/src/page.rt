@@ -1,11 +1,14 @@
 //! The command `page`: readings in, the page of their volume out.
 
-ghost use Rattle.std.specs.Prelude.{◌≡◌, ◌≢◌, ◌⊎◌, ℕ, List, true, IfOk, IfErr, OnErr, map};
-ghost use Rattle.udfs_files.specs.Disk.{After, Disk, Fails, SinkFails, IsOwn};
+ghost use Rattle.std.specs.Prelude.{◌≡◌, ◌≢◌, ◌⊎◌, ℕ, List, true, IfOk, IfErr, OnErr, OnOk, map};
+ghost use Rattle.std.specs.Io.KnownBytes.{Appends};
+ghost use Rattle.udfs_files.specs.Disk.{After, Disk, Fails, Replaced, SinkFails, IsOwn};
+ghost use Rattle.udfs_page.specs.Pages.{page_html};
+ghost use Rattle.udfs_salvage.specs.Surveys.{survey_now};
 ghost use Rattle.udfs_common.specs.Keeping.{IsKept, IsTaken, OfPaths, RefusedOut};
 ghost use Rattle.udfs_common.specs.Guarding.{MayNotBeSeen};
 ghost use Rattle.udfs_reports.specs.Paging.{IsFreePage, IsPage, IsSparedPage, MayPage, MayPageOf, PutsPage};
-ghost use Rattle.udfs_reports.specs.Telling.{IsRefusedPut, OfPathsRefused};
+ghost use Rattle.udfs_reports.specs.Telling.{IsRefusedPut, IsUnput, OfPathsRefused};
 ghost use Rattle.udfs_common.specs.declared.sources.AnySource.{AnySource};
 
 use crate::telling::surveyed;
@@ -13,30 +16,54 @@ use std::alloc::{AllocError, Global};
 use udfs_common::files::Files;
 use udfs_common::guard::{Outlook, look_at_own};
 use udfs_common::inputs::joined;
-use udfs_common::putting::put_file;
+use udfs_common::job_putting::put_job;
 use udfs_common::refusal::Refusal;
 use udfs_common::sources::AnySource;
-use udfs_files::{Content, Stage};
+use udfs_files::{Job, Stage};
 use udfs_lattice::BlockTable;
-use udfs_page::push_page;
-use udfs_reading::{Sink, Source, WriteFault, write_all};
+use udfs_page::write_page;
+use udfs_reading::{Sink, Source};
+use udfs_salvage::{RunError, Survey};
 use udfs_volume::Profile;
 use udfs_words::input_path::InputPath;
 
 /// The beginning of a page that this program wrote.
 const PAGE: &[u8] = b"<!DOCTYPE html>\n<!-- a page of udfsalvage -->\n";
 
-/// The text of a page.
-#[derive(Drop)]
-struct PageText<'a> {
-    text: &'a str,
+/// Why a page was not written.
+#[derive(Clone, Copy)]
+enum PageError {
+    /// Memory was refused.
+    OutOfMemory,
+    /// The sink failed.
+    NotWritten,
 }
 
-impl<'a> Content for PageText<'a> {
-    ghost bytes = { λ page. page.text.now };
+/// The page of what was found of a volume, which is made while it is written.
+#[derive(Drop)]
+struct PageText<'a, 'r> {
+    /// Where memory is taken from.
+    alloc: Global,
+    /// What was found.
+    survey: &'a Survey<'r>,
+}
 
-    fn write_to<W: Sink>(&self, sink: &mut W) -> Result<(), WriteFault> {
-        write_all(sink, self.text.as_bytes())
+impl<'a, 'r> Job for PageText<'a, 'r> {
+    ghost use Rattle.udfs_reports.specs.declared.page.PageError.TheVariants as page_error;
+
+    type Refusal = PageError;
+
+    ghost wrote = { λ job old new. Appends old new (page_html job.survey.now.profile job.survey.now.table.now job.survey.now.last (survey_now job.survey.now)) };
+
+    ghost blames_sink = { λ _ error. error ≡ page_error.NotWritten };
+
+    fn write_to<W: Sink>(&self, sink: &mut W) -> Result<(), PageError> {
+        match write_page(self.alloc, self.survey, sink) {
+            Ok(()) => Ok(()),
+            Err(RunError::Write) => Err(PageError::NotWritten),
+            // It has no other error but want of memory.
+            Err(_) => Err(PageError::OutOfMemory),
+        }
     }
 }
 
@@ -54,6 +81,32 @@ pub fn look_at_page<F: Files>(
 {
     let found = look_at_own(alloc, inputs, parts, PAGE, out, files)?;
     Ok(found)
+}
+
+/// Puts the page of what was found of a volume at a path, whole or not at all, or writes it to what is there and is no file. The page is made while it is
+/// written, so that memory can be refused in the middle: then the new file is removed again.
+fn put_page<F: Files>(
+    alloc: Global,
+    survey: &Survey<'_>,
+    path: &str,
+    files: &mut F,
+) -> Result<(), Refusal>
+    ensures written { OnOk result ((F.tells → IsKept (F.holds files.new) (F.may_leave files.new) (F.real files.old path.now) (page_html survey.now.profile survey.now.table.now survey.now.last (survey_now survey.now)))
+        ⊎ (F.in_place files.old path.now × IsTaken F.Output.stream (page_html survey.now.profile survey.now.table.now survey.now.last (survey_now survey.now)))) }
+    ensures any_moment { F.tells → (F.in_place files.old path.now → ⊥) → (c : Disk) → F.left_since files.new (F.moment files.old) c →
+        After (F.may_leave files.old) (Replaced (F.real files.old path.now) (page_html survey.now.profile survey.now.table.now survey.now.last (survey_now survey.now))) c }
+    ensures elsewhere { F.tells → (F.in_place files.old path.now → ⊥) → (q : List ℕ) → q ≢ F.real files.old path.now → (¬ IsOwn (F.real files.old path.now) q) → F.holds files.new q ≡ F.holds files.old q }
+    ensures left { OnErr result (RefusedOut F.tells F.holds F.real F.in_place (F.shut files.old path.now ⊎ Fails F.faults ⊎ SinkFails F.Output.stream) path.now files.old files.new
+        (λ Put. Put (page_html survey.now.profile survey.now.table.now survey.now.last (survey_now survey.now)))) }
+    ensures why { IfErr result (IsUnput (F.shut files.old path.now ⊎ Fails F.faults ⊎ SinkFails F.Output.stream)) }
+{
+    let page = PageText { alloc, survey };
+    match put_job(alloc, &page, path, files) {
+        Ok(Ok(())) => Ok(()),
+        Ok(Err(PageError::OutOfMemory)) => Err(Refusal::Memory(AllocError)),
+        Ok(Err(PageError::NotWritten)) => Err(Refusal::Output),
+        Err(refusal) => Err(refusal),
+    }
 }
 
 /// Puts the page of a table's volume by the rules of a profile at a path.
@@ -80,14 +133,7 @@ fn page_of<F: Files>(
         Ok(survey) => survey,
         Err(refusal) => return Err(refusal),
     };
-    let mut text = String::new(alloc);
-    if push_page(alloc, &mut text, &survey).is_err() {
-        return Err(Refusal::Memory(AllocError));
-    }
-    let page = PageText {
-        text: text.as_str(),
-    };
-    match put_file(alloc, &page, path, files) {
+    match put_page(alloc, &survey, path, files) {
         Ok(()) => Ok(survey.all_whole()),
         Err(refusal) => Err(refusal),
     }

@@ -23,6 +23,7 @@ returns-in-Ok g c =
       cause = search rules;
       left = search rules;
       told = search rules;
+      why = search rules;
     }
 
 pub returns-in-Err-Files-NotKept : goal.returns-in-Err-Files-NotKept
@@ -45,6 +46,7 @@ returns-in-Err-Files-NotKept g c =
       cause = search rules;
       left = λ bytes only. inr (record { failed = search rules; stands = λ tells place. inr (held tells bytes (only tells)); elsewhere = λ tells place. else_at (λ (q : List ℕ). F.holds c.replace_by_job.new.files q ≡ F.holds c.args.files.now q) (leads tells) c.in-Err-Files-NotKept.ensures.elsewhere });
       told = search rules;
+      why = inr (inr (search rules), search rules);
     }
 
 pub returns-in-Err-Files : goal.returns-in-Err-Files
@@ -68,6 +70,7 @@ returns-in-Err-Files g c =
       cause = λ is. failed;
       left = λ bytes only. inr (record { failed = failed; stands = λ tells place. inl (kept tells); elsewhere = λ tells place. else_at (λ (q : List ℕ). F.holds c.replace_by_job.new.files q ≡ F.holds c.args.files.now q) (leads tells) c.in-Err-Files.ensures.elsewhere });
       told = search rules;
+      why = inr (inl (search rules), failed);
     }
 
 pub returns-in-Err-Refused : goal.returns-in-Err-Refused
@@ -92,6 +95,7 @@ returns-in-Err-Refused g c =
       cause = search rules;
       left = search rules;
       told = search rules;
+      why = search rules;
     }
 
 pub returns : goal.returns
@@ -113,6 +117,7 @@ returns g c =
       cause = search rules;
       left = search rules;
       told = search rules;
+      why = search rules;
     }
 
 pub returns-in-Other-clause-given_up : goal.returns-in-Other-clause-given_up
