@@ -8,7 +8,7 @@ use Rattle.udfs_reading.specs.Several.{HasTable, InputFails, TablesAre}
 use Rattle.udfs_reading.specs.TableFile.{table_magic}
 use Rattle.udfs_reading.specs.declared.inputs.InputError.{InputError}
 use Rattle.udfs_rescue.specs.declared.pair.Pair.{Pair}
-use Rattle.udfs_common.specs.Blaming.{InputsRefused, MayBeShut, first_refused, refusal_by}
+use Rattle.udfs_common.specs.Blaming.{InputsRefused, IsShut, MayBeShut, first_refused, refusal_by}
 use Rattle.udfs_common.specs.Refusing.{refusal_for, refusal_of}
 use Rattle.udfs_common.specs.Sources.{left_in}
 use Rattle.udfs_common.specs.declared.refusal.Refusal.{Refusal}
@@ -64,3 +64,9 @@ pub shut_at : {R I : Type 0} (found : List ℕ → Option (Option (List ℕ))) (
     slice_get paths k ≡ Some path → (refusal ≡ Memory alloc_error) ⊎ ((refusal ≡ Open (k + 1)) × MayBeShut shut path) → InputsRefused found shut remaining faults paths refusal
 shut_at found shut remaining faults paths k path refusal stands (inl memory) = record { why = inl memory }
 shut_at found shut remaining faults paths k path refusal stands (inr named) = record { why = inr (inl (record { place = k; path = path; stands = stands; may = named.1; named = named.0 })) }
+
+-- the same of an input that is read at positions
+pub stored_shut_at : (shut : List ℕ → Type 0) (paths : List InputPath) (k : ℕ) (path : InputPath) (refusal : Refusal) →
+    slice_get paths k ≡ Some path → (refusal ≡ Memory alloc_error) ⊎ ((refusal ≡ Open (k + 1)) × MayBeShut shut path) → (refusal ≡ Memory alloc_error) ⊎ IsShut shut paths refusal
+stored_shut_at shut paths k path refusal stands (inl memory) = inl memory
+stored_shut_at shut paths k path refusal stands (inr named) = inr (record { place = k; path = path; stands = stands; may = named.1; named = named.0 })

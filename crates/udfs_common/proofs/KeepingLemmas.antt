@@ -1,9 +1,10 @@
 -- One more path has its source.
 use Rattle.std.proofs.Common.{◌≡◌, ◌<◌, ◌⊎◌, arith, slice_index_or, ℕ, zero, suc, List, [], ◌∷◌, ◌++◌, Option, Some, length, slice_get, ap, inl, inr, refl, subst}
-use Rattle.udfs_common.specs.Blaming.{AreJudged, IsJudged}
+use Rattle.udfs_common.specs.Blaming.{AreJudged, AreJudgedFor, IsJudged, IsJudgedFor}
 use Rattle.udfs_common.specs.Keeping.{Opens}
 use Rattle.udfs_common.specs.Sources.{IsPathOpened}
 use Rattle.udfs_common.specs.declared.sources.AnySource.{AnySource}
+use Rattle.udfs_rescue.specs.declared.opening.PairFault.{PairFault}
 use Rattle.udfs_words.specs.declared.input_path.InputPath.{InputPath}
 
 last_more : {R : Type 0} (y : R) (ys : List R) (x : R) (k : ℕ) (s : R) → (slice_get ys k ≡ Some s) ⊎ ((k ≡ length ys) × (x ≡ s)) → (slice_get (y ∷ ys) (suc k) ≡ Some s) ⊎ ((suc k ≡ length (y ∷ ys)) × (x ≡ s))
@@ -38,6 +39,10 @@ opens_more found left paths sources path source old is at = each_more (λ p s. I
 pub judged_more : {R I : Type 0} (found : List ℕ → Option (Option (List ℕ))) (paths : List InputPath) (sources : List (AnySource R I)) (path : InputPath) (source : AnySource R I) →
     AreJudged found paths sources → IsJudged found path source → slice_get paths (length sources) ≡ Some path → AreJudged found paths (sources ++ source ∷ [])
 judged_more found paths sources path source old is at = each_more (λ p s. IsJudged found p s) paths sources path source old is at
+
+pub judged_for_more : {R : Type 0} (found : List ℕ → Option (Option (List ℕ))) (reason : R → Option PairFault) (paths : List InputPath) (sources : List R) (path : InputPath) (source : R) →
+    AreJudgedFor found reason paths sources → IsJudgedFor found path (reason source) → slice_get paths (length sources) ≡ Some path → AreJudgedFor found reason paths (sources ++ source ∷ [])
+judged_for_more found reason paths sources path source old is at = each_more (λ p s. IsJudgedFor found p (reason s)) paths sources path source old is at
 
 pub at_place : {A : Type 0} (xs : List A) (i : ℕ) (d : A) → i < length xs → slice_get xs i ≡ Some (slice_index_or xs i d)
 at_place [] i d lt = absurd (omega (arith, lt))

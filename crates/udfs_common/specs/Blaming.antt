@@ -1,6 +1,7 @@
 -- Why the inputs of some paths were not joined, and which of them is to blame.
 --     IsShut shut paths refusal         one of the paths may fail to open, and it is named
 --     AreJudged found paths sources     each source that was refused when it was opened is an image whose mapfile gives no reading of it, for this reason
+--     AreJudgedFor found reason paths sources     the same of sources of any kind, by the reason that each was refused for
 --     BlamesSource                      one of these sources could not be read, and what is said of it
 --     BlamesInput                       the same of the sources of some paths
 --     InputsRefused                     the inputs of some paths were not joined: for want of memory, or because one of them is shut, or could not be read
@@ -13,6 +14,8 @@ use Rattle.udfs_reading.specs.Several.{InputFails}
 use Rattle.udfs_reading.specs.declared.inputs.InputError.{InputError}
 use Rattle.udfs_rescue.specs.Opening.{PairFails}
 use Rattle.udfs_rescue.specs.declared.opening.PairFault.{PairFault}
+use Rattle.udfs_pairs.specs.declared.any_stored.AnyStored.{AnyStored}
+use Rattle.udfs_pairs.specs.declared.any_stored.AnyStored.TheVariants as any
 use Rattle.udfs_common.specs.Keeping.{Opens}
 use Rattle.udfs_common.specs.Refusing.{refusal_for, refusal_of, refused_pair}
 use Rattle.udfs_common.specs.declared.refusal.Refusal.{Refusal}
@@ -61,6 +64,26 @@ pub record IsJudged {R I : Type 0} (found : List ℕ → Option (Option (List �
 -- the source at each place by the path at that place
 abbrev pub AreJudged : {R I : Type 0} → (List ℕ → Option (Option (List ℕ))) → List InputPath → List (AnySource R I) → Type 0
 AreJudged {R} {I} found paths sources = (k : ℕ) (path : InputPath) (source : AnySource R I) → slice_get paths k ≡ Some path → slice_get sources k ≡ Some source → IsJudged found path source
+
+-- why a source was refused when it was opened, if it was
+abbrev pub source_reason : {R I : Type 0} → AnySource R I → Option PairFault
+source_reason (File source) = None
+source_reason (Paired source) = None
+source_reason (Refused fault count) = Some fault
+
+-- the same of an input that is read at positions
+abbrev pub stored_reason : {S : Type 0} {g : _} → AnyStored S g → Option PairFault
+stored_reason (any.File stored) = None
+stored_reason (any.Paired stored) = None
+stored_reason (any.Refused fault) = Some fault
+
+-- what was refused for this reason when it was opened was refused for what its path leads to
+pub record IsJudgedFor (found : List ℕ → Option (Option (List ℕ))) (path : InputPath) (reason : Option PairFault) : Type 0 where
+  pub by : IfSome reason (λ fault. IsPathRefused found path fault)
+
+-- the source at each place by the path at that place
+abbrev pub AreJudgedFor : {R : Type 0} → (List ℕ → Option (Option (List ℕ))) → (R → Option PairFault) → List InputPath → List R → Type 0
+AreJudgedFor {R} found reason paths sources = (k : ℕ) (path : InputPath) (source : R) → slice_get paths k ≡ Some path → slice_get sources k ≡ Some source → IsJudgedFor found path (reason source)
 
 -- one of these sources could not be read: those before it have tables; a pair that was refused has its own reason
 pub record BlamesSource {R I : Type 0} (remaining : AnySource R I → Option (List ℕ)) (faults : AnySource R I → ℕ) (before after : List (AnySource R I)) (refusal : Refusal) : Type 0 where

@@ -1,6 +1,7 @@
 //! Inputs that are read at positions, as often as it is wanted.
 
-ghost use Rattle.std.specs.Prelude.{◌≡◌, ◌≢◌, ◌≤◌, ◌<◌, ℕ, IfOk, IfErr, IfSome, alloc_error, length, vec_len};
+ghost use Rattle.std.specs.Prelude.{◌≡◌, ◌≢◌, ◌⊎◌, ◌≤◌, ◌<◌, ℕ, IfOk, IfErr, IfSome, OnErr, alloc_error, length, vec_len};
+ghost use Rattle.udfs_common.specs.Blaming.{AreJudgedFor, IsJudgedFor, IsShut, MayBeShut, stored_reason};
 ghost use Rattle.udfs_common.specs.Keeping.{Opens};
 ghost use Rattle.udfs_common.specs.Sources.{IsPathOpened};
 
@@ -21,7 +22,9 @@ fn open_stored_file<F: Files>(
     files: &F,
 ) -> Result<Option<AnyStored<F::Stored>>, Refusal>
     ensures opened { IfOk result (λ found. IfSome found (λ stored. IsPathOpened (λ path. F.holds files.now (F.real files.now path)) (InputPath.File path.entry) (⟦<AnyStored<F::Stored> as Stored>⟧.content stored))) }
+    ensures judged { IfOk result (λ found. IfSome found (λ stored. IsJudgedFor (λ path. F.holds files.now (F.real files.now path)) (InputPath.File path.entry) (stored_reason stored))) }
     ensures told { IfErr result (λ refusal. refusal ≡ Refusal.Open number) }
+    ensures shut { OnErr result (MayBeShut (F.shut files.now) (InputPath.File path.entry)) }
 {
     match files.open_stored(path) {
         Ok(Some(stored)) => Ok(Some(AnyStored::File(stored))),
@@ -40,6 +43,8 @@ fn open_stored_both<F: Files>(
 ) -> Result<Option<AnyStored<F::Stored>>, Refusal>
     ensures opened { IfOk result (λ found. IfSome found (λ stored. IsPathOpened (λ path. F.holds files.now (F.real files.now path)) (InputPath.Pair image.entry map.entry) (⟦<AnyStored<F::Stored> as Stored>⟧.content stored))) }
     ensures told { IfErr result (λ refusal. refusal ≢ Refusal.Open number → refusal ≡ Refusal.Memory alloc_error) }
+    ensures judged { IfOk result (λ found. IfSome found (λ stored. IsJudgedFor (λ path. F.holds files.now (F.real files.now path)) (InputPath.Pair image.entry map.entry) (stored_reason stored))) }
+    ensures why { IfErr result (λ refusal. (refusal ≡ Refusal.Memory alloc_error) ⊎ ((refusal ≡ Refusal.Open number) × MayBeShut (F.shut files.now) (InputPath.Pair image.entry map.entry))) }
 {
     let image = match files.open_stored(image) {
         Ok(Some(image)) => image,
@@ -67,6 +72,8 @@ fn open_one_stored<F: Files>(
 ) -> Result<Option<AnyStored<F::Stored>>, Refusal>
     ensures opened { IfOk result (λ found. IfSome found (λ stored. IsPathOpened (λ path. F.holds files.now (F.real files.now path)) path.entry (⟦<AnyStored<F::Stored> as Stored>⟧.content stored))) }
     ensures told { IfErr result (λ refusal. refusal ≢ Refusal.Open number → refusal ≡ Refusal.Memory alloc_error) }
+    ensures judged { IfOk result (λ found. IfSome found (λ stored. IsJudgedFor (λ path. F.holds files.now (F.real files.now path)) path.entry (stored_reason stored))) }
+    ensures why { IfErr result (λ refusal. (refusal ≡ Refusal.Memory alloc_error) ⊎ ((refusal ≡ Refusal.Open number) × MayBeShut (F.shut files.now) path.entry)) }
 {
     match path {
         InputPath::File(path) => match open_stored_file(path, number, files) {
@@ -91,6 +98,10 @@ pub fn open_all_stored<F: Files>(
     ensures opened { IfOk result (λ found. IfSome found (λ all. Opens (λ path. F.holds files.now (F.real files.now path)) ⟦<AnyStored<F::Stored> as Stored>⟧.content paths.now all.items)) }
     ensures told { IfErr result (λ refusal. (refusal ≢ Refusal.Output) × (refusal ≢ Refusal.Unkept) × (refusal ≢ Refusal.Spared)) }
     ensures named { IfErr result (λ refusal. (input : ℕ) → refusal ≡ Refusal.Open input → (0 < input) × (input ≤ length paths.now)) }
+    // A pair that has no reading was refused for what its paths lead to.
+    ensures judged { IfOk result (λ found. IfSome found (λ all. AreJudgedFor (λ path. F.holds files.now (F.real files.now path)) stored_reason paths.now all.items)) }
+    // The first input that cannot be opened is named, or memory was refused.
+    ensures blamed { IfErr result (λ refusal. (refusal ≡ Refusal.Memory alloc_error) ⊎ IsShut (F.shut files.now) paths.now refusal) }
 {
     files.begin(Stage::Reading);
     let mut all = Vec::new(alloc);

@@ -1,5 +1,6 @@
 use Rattle.std.proofs.Common.{◌≡◌, ◌++◌, ◌∷◌, [], length, rules}
-use Rattle.udfs_common.proofs.KeepingLemmas.{opens_more, at_place}
+use Rattle.udfs_common.proofs.BlamingLemmas.{stored_shut_at}
+use Rattle.udfs_common.proofs.KeepingLemmas.{at_place, judged_for_more, opens_more}
 use Rattle.udfs_common.proofs.stored_inputs.open_all_stored.Goals as goal
 
 pub loop-index-preserved : goal.loop-index-preserved
@@ -9,4 +10,8 @@ loop-index-preserved g c =
     record {
       each = search rules;
       opened = rw (grown) (opens_more _ _ c.args.paths.now c.loop-index.all.items _ c.in-Ok-Some.stored c.loop-index.invariant.opened (rw c.in-Ok-Some.field-0-is at c.in-Ok-Some.ensures.opened) (rw (many) (at_place c.args.paths.now c.loop-index.index _ (search rules))));
+      judged = rw (grown) (judged_for_more _ _ c.args.paths.now c.loop-index.all.items _ c.in-Ok-Some.stored c.loop-index.invariant.judged (rw c.in-Ok-Some.field-0-is at c.in-Ok-Some.ensures.judged) (rw (many) (at_place c.args.paths.now c.loop-index.index _ (search rules))));
     }
+
+pub returns-in-Err-clause-blamed : goal.returns-in-Err-clause-blamed
+returns-in-Err-clause-blamed g c = stored_shut_at _ c.args.paths.now c.loop-index.index _ c.in-Err.refusal (at_place c.args.paths.now c.loop-index.index _ (search rules)) c.in-Err.ensures.why
