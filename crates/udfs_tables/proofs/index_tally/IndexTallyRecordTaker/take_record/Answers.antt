@@ -2,8 +2,8 @@ use Rattle.udfs_lattice.specs.declared.facts.Fact.TheVariants.{Known}
 use Rattle.udfs_tables.proofs.EntryTables.{one_more_is_table}
 use Rattle.udfs_tables.proofs.index_tally.IndexTallyRecordTaker.take_record.Goals as goal
 
-pub returns-in-Ok-clause-next : goal.returns-in-Ok-clause-next
-returns-in-Ok-clause-next g c done count h is less =
+pub returns-after-was_known-clause-next : goal.returns-after-was_known-clause-next
+returns-after-was_known-clause-next g c done count h is less =
     let one = c.in-Ok.ensures.next done count h is less in
     record {
       one = one.one;
