@@ -4,6 +4,7 @@ use Rattle.clap.specs.declared.parser.matches.Found.{Found}
 use Rattle.udfs_files.specs.Disk.{Disk}
 use Rattle.udfs_words.specs.Asking.{IsPicked, asked_for, asked_inputs, asked_streams, list_texts, out_text}
 use Rattle.udfs_tables.specs.Forgetting.{IsForgottenJoin, MayForget}
+use Rattle.udfs_common.specs.Guarding.{MayNotBeSeen, SomeShut}
 use Rattle.udfs_common.specs.Keeping.{MayReplace, RefusedOut}
 use Rattle.udfs_tables.specs.Leaving.{MayForgetAsked, MayMerge}
 use Rattle.udfs_words.specs.declared.input_path.InputPath.{InputPath}
@@ -40,3 +41,10 @@ left_wider Puts Wider widen (inr failed) = inr (record { failed = failed.failed;
 pub left_at : {F : Type 0} {tells More : Type 0} {holds : F → List ℕ → Option (Option (List ℕ))} {real : F → List ℕ → List ℕ} {in_place : F → List ℕ → Type 0} {out path : List ℕ} {old new : F} {Puts : (List ℕ → Type 0) → Type 0} (shut : List ℕ → Type 0) →
     out ≡ path → RefusedOut tells holds real in_place (shut out ⊎ More) out old new Puts → RefusedOut tells holds real in_place (shut path ⊎ More) path old new Puts
 left_at {tells = tells} {More = More} {holds = holds} {real = real} {in_place = in_place} {old = old} {new = new} {Puts = Puts} shut is left = subst (λ (p : List ℕ). RefusedOut tells holds real in_place (shut p ⊎ More) p old new Puts) is left
+
+-- why an output could not be looked at, in another order
+pub unseen : (shut : List ℕ → Type 0) (Failed : Type 0) (files parts : List (List ℕ)) (out : List ℕ) → shut out ⊎ SomeShut shut parts ⊎ SomeShut shut files ⊎ Failed → MayNotBeSeen shut Failed files parts out
+unseen shut Failed files parts out (inl own) = inl own
+unseen shut Failed files parts out (inr (inl some)) = inr (inr (inl some))
+unseen shut Failed files parts out (inr (inr (inl some))) = inr (inl some)
+unseen shut Failed files parts out (inr (inr (inr failed))) = inr (inr (inr failed))

@@ -4,15 +4,24 @@
 --     IsForgottenJoin               the join of the inputs without what the words name
 --     MayForget                     what a crash in the middle shows: what was there, or that table in its place
 --     PutsForgotten                 its table file is put, as the words of the command ask for
-use Rattle.std.specs.Prelude.{◌≡◌, ◌⊎◌, ◌++◌, ℕ, List, [], ◌∷◌, Bool, true, false, cond, Option, IfSome, Ok, codes, map}
+--     SomeFault                     a count of faults changed: some read failed
+--     IsListRefused                 the list at a path was not read, and why
+--     ListsRefused                  the lists at these paths were not read, and why
+--     ForgetRefused                 no table file was put, and why
+use Rattle.std.specs.Prelude.{◌≡◌, ◌≢◌, ◌⊎◌, ◌++◌, ℕ, List, [], ◌∷◌, Bool, true, false, cond, Option, IfSome, Ok, Err, alloc_error, codes, map}
 use Rattle.clap.specs.declared.parser.matches.Found.{Found}
 use Rattle.udfs_files.specs.Disk.{Disk, Same, Replaced}
 use Rattle.udfs_lattice.specs.declared.facts.Fact.TheVariants.{Unknown}
 use Rattle.udfs_lattice.specs.Tables.{Table, is_named, state_of, without_conflict}
 use Rattle.udfs_rescue.specs.BlockLists.{list_outcome}
 use Rattle.udfs_words.specs.Asking.{IsPicked, asked_for, asked_streams, list_texts, stream_path}
+use Rattle.udfs_common.specs.Blaming.{InputsRefused}
 use Rattle.udfs_common.specs.Keeping.{OfPaths}
 use Rattle.udfs_common.specs.Spelling.{table_file}
+use Rattle.udfs_common.specs.declared.refusal.Refusal.{Refusal}
+use Rattle.udfs_common.specs.declared.refusal.Refusal.TheVariants.{ListLine, ListOpen, ListRead, Memory}
+use Rattle.udfs_common.specs.declared.sources.AnySource.{AnySource}
+use Rattle.udfs_tables.specs.Refused.{IsUnput}
 use Rattle.udfs_words.specs.declared.forms.Version.TheVariants.{Two}
 use Rattle.udfs_words.specs.declared.input_path.InputPath.{InputPath}
 
@@ -47,3 +56,29 @@ pub record PutsForgotten {R : Type 0} (found : List ℕ → Option (Option (List
   pub asked : map asked_for inputs ≡ asked_streams words
   pub join : IsForgottenJoin found remaining inputs conflicts (list_texts words) table
   pub put : Put (table_file Two table)
+
+-- the list that is held, where that is told, has its first fault in this line
+abbrev pub HasListFault : Option (Option (List ℕ)) → ℕ → Type 0
+HasListFault held line = IfSome held (λ file. IfSome file (λ bytes. list_outcome bytes ≡ Err line))
+
+abbrev pub SomeFault : {R : Type 0} → (R → ℕ) → Type 0
+SomeFault {R} faults = (before : R) × (after : R) × (faults after ≢ faults before)
+
+-- memory was refused, or the path may fail to open, or a read failed, or a line is no block number
+abbrev pub IsListRefused : (List ℕ → Option (Option (List ℕ))) → (List ℕ → Type 0) → Type 0 → List ℕ → Refusal → Type 0
+IsListRefused found shut Failed path refusal = (refusal ≡ Memory alloc_error) ⊎ ((refusal ≡ ListOpen) × shut (stream_path path)) ⊎ ((refusal ≡ ListRead) × Failed) ⊎
+    ((line : ℕ) × (refusal ≡ ListLine line) × HasListFault (found (stream_path path)) line)
+
+-- one of them was not, and those before it were
+pub record ListsRefused (found : List ℕ → Option (Option (List ℕ))) (shut : List ℕ → Type 0) (Failed : Type 0) (paths : List (List ℕ)) (refusal : Refusal) : Type 0 where
+  pub earlier : List (List ℕ)
+  pub path : List ℕ
+  pub later : List (List ℕ)
+  pub are : paths ≡ earlier ++ path ∷ later
+  pub blocks : List ℕ
+  pub listed : Lists found earlier blocks
+  pub why : IsListRefused found shut Failed path refusal
+
+-- a list was not read, or the inputs were not joined, or the output was not put
+abbrev pub ForgetRefused : {R I : Type 0} → (List ℕ → Option (Option (List ℕ))) → (List ℕ → Type 0) → (AnySource R I → Option (List ℕ)) → (AnySource R I → ℕ) → Type 0 → Type 0 → List (List ℕ) → List InputPath → Refusal → Type 0
+ForgetRefused found shut remaining faults Failed Unput lists inputs refusal = ListsRefused found shut Failed lists refusal ⊎ InputsRefused found shut remaining faults inputs refusal ⊎ IsUnput Unput refusal

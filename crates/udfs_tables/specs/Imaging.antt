@@ -4,16 +4,24 @@
 --     HasImage        the table has an image up to this last block, and something holds of it and its mapfile
 --     MayImage        what a crash in the middle of the command shows
 --     WritesImage     the image and the mapfile of what the words ask for
+--     ImageUnput      the table's image was not put, and why
+--     ImageRefused    the same of the inputs of some paths, or they were not joined
+--     ImageAskedRefused    the same where the words tell the last block, or there is no last block
 --     ReplacesPair    the command replaces its outputs, and nothing else, whatever it answers
-use Rattle.std.specs.Prelude.{◌≡◌, ◌≢◌, ◌⊎◌, ℕ, List, Option, Some, None, map}
+use Rattle.std.specs.Prelude.{◌≡◌, ◌≢◌, ◌⊎◌, ⊤, ℕ, List, Option, Some, None, map}
 use Rattle.clap.specs.declared.parser.matches.Found.{Found}
 use Rattle.udfs_files.specs.Disk.{After, Disk, IsOwn, Same}
 use Rattle.udfs_lattice.specs.Tables.{Table, state_of}
 use Rattle.udfs_rescue.specs.Images.{image_bytes}
 use Rattle.udfs_rescue.specs.Writing.{map_text, table_status}
-use Rattle.udfs_salvage.specs.Reports.{IsNothingPast, IsOutOfRange}
+use Rattle.udfs_salvage.specs.Reports.{IsNothingPast, IsOutOfRange, IsPastEnd}
 use Rattle.udfs_words.specs.Asking.{IsLast, asked_for, asked_streams, mapfile_text, out_text}
+use Rattle.udfs_common.specs.Blaming.{EndRefused, InputsRefused}
 use Rattle.udfs_common.specs.Keeping.{OfPaths}
+use Rattle.udfs_common.specs.declared.refusal.Refusal.{Refusal}
+use Rattle.udfs_common.specs.declared.refusal.Refusal.TheVariants.{LastRange, PastEnd, Spared}
+use Rattle.udfs_common.specs.declared.sources.AnySource.{AnySource}
+use Rattle.udfs_tables.specs.Refused.{IsUnput}
 use Rattle.udfs_words.specs.declared.input_path.InputPath.{InputPath}
 
 -- where an image a and a mapfile b were, are x and y: as they were; or no mapfile, beside the old image or the new one; or the new image and the new mapfile
@@ -46,6 +54,17 @@ pub record WritesImage {R : Type 0} (found : List ℕ → Option (Option (List �
 -- the same by the words
 abbrev pub MayImageAsked : {R : Type 0} → (List ℕ → Option (Option (List ℕ))) → (R → Option (List ℕ)) → (List ℕ → List ℕ) → Found → Disk → Disk → Type 0
 MayImageAsked found remaining real words d c = Same d c ⊎ WritesImage found remaining words (λ bytes text. BothReplaced (real (out_text words)) (real (mapfile_text words)) bytes text d c)
+
+-- the last block is out of range; or something is known behind it, and the least such block is named; or the outputs would take the place of what is to stay; or they were not put
+abbrev pub ImageUnput : Type 0 → Type 0 → ℕ → Refusal → Table → Type 0
+ImageUnput Spares Failed last refusal t = ((refusal ≡ LastRange) × IsOutOfRange last) ⊎ ((n : ℕ) × (refusal ≡ PastEnd n) × (¬ IsOutOfRange last) × IsPastEnd (state_of t) last n) ⊎ ((refusal ≡ Spared) × Spares) ⊎ IsUnput Failed refusal
+
+abbrev pub ImageRefused : {R I : Type 0} → (List ℕ → Option (Option (List ℕ))) → (List ℕ → Type 0) → (AnySource R I → Option (List ℕ)) → (AnySource R I → ℕ) → Type 0 → Type 0 → ℕ → List InputPath → Refusal → Type 0
+ImageRefused found shut remaining faults Spares Failed last inputs refusal = InputsRefused found shut remaining faults inputs refusal ⊎ OfPaths found remaining inputs (ImageUnput Spares Failed last refusal)
+
+abbrev pub ImageAskedRefused : {R I : Type 0} → (List ℕ → Option (Option (List ℕ))) → (List ℕ → Type 0) → (AnySource R I → Option (List ℕ)) → (AnySource R I → ℕ) → Type 0 → Found → List InputPath → Refusal → Type 0
+ImageAskedRefused found shut remaining faults Failed words inputs refusal = EndRefused found shut remaining faults inputs words refusal ⊎ InputsRefused found shut remaining faults inputs refusal ⊎
+    ((last : ℕ) × IsLast found inputs words last × ImageRefused found shut remaining faults ⊤ Failed last inputs refusal)
 
 -- a crash at any moment leaves one of these steps after what it might have left before, and so do the two paths hold it at the end; and no other path changes, but those of new files
 pub record ReplacesPair {F R : Type 0} (tells : Type 0) (holds : F → List ℕ → Option (Option (List ℕ))) (real : F → List ℕ → List ℕ) (may_leave : F → Disk → Type 0) (moment : F → ℕ) (left_since : F → ℕ → Disk → Type 0)

@@ -1,8 +1,32 @@
--- Which input has no reading.
-use Rattle.std.specs.Prelude.{Option, None, Some}
+-- Why inputs were not joined, why an output was not put, and what is said of it.
+--     refused_in                     why an input has no reading
+--     refusal_with reason error      what is said of an input's error, where it has no reading for this reason, or none is known
+--     OneFails                       one of some inputs has this error
+--     BlamesOne                      one of them was not taken, and what is said of it
+--     BlamesPath                     the same of the inputs of some paths
+--     IsUncompared, IsUnread         bytes of one of so many inputs could not be read again, to be compared or to be written
+--     StoredRefused                  so many inputs that are read at positions were not taken, and why
+--     MergeRefused                   the inputs of some paths were not merged, and why
+--     IsUnput                        an output was not put, because a call failed or memory was refused
+--     WordsRefused                   a command was refused by its words, and why
+use Rattle.std.specs.Prelude.{◌≡◌, ◌⊎◌, ◌<◌, ◌+◌, ℕ, List, ◌∷◌, ◌++◌, Option, None, Some, Err, alloc_error, length, map}
+use Rattle.udfs_lattice.specs.Tables.{Table}
 use Rattle.udfs_pairs.specs.declared.any_stored.AnyStored.{AnyStored}
 use Rattle.udfs_pairs.specs.declared.any_stored.AnyStored.TheVariants.{File, Paired, Refused}
+use Rattle.udfs_reading.specs.Answers.{GivesFault, RefusesFaulty}
+use Rattle.udfs_reading.specs.Inputs.{inputs}
+use Rattle.udfs_reading.specs.Several.{TablesAre}
+use Rattle.udfs_reading.specs.declared.error.ReadingFault.TheVariants.{Io}
+use Rattle.udfs_reading.specs.declared.inputs.InputError.{InputError}
 use Rattle.udfs_rescue.specs.declared.opening.PairFault.{PairFault}
+use Rattle.udfs_words.specs.Asking.{Asked, asked_for}
+use Rattle.udfs_words.specs.declared.input_path.InputPath.{InputPath}
+use Rattle.udfs_common.specs.Blaming.{AreJudgedFor, IsShut, source_reason}
+use Rattle.udfs_common.specs.Keeping.{Opens}
+use Rattle.udfs_common.specs.Refusing.{refusal_of, refused_pair}
+use Rattle.udfs_common.specs.declared.refusal.Refusal.{Refusal}
+use Rattle.udfs_common.specs.declared.refusal.Refusal.TheVariants as refusal
+use Rattle.udfs_common.specs.declared.sources.AnySource.{AnySource}
 
 -- why an input has none, where it is an image with its mapfile and has none
 abbrev pub refused_in : {S : Type 0} {g : _} → Option (AnyStored S g) → Option PairFault
@@ -10,3 +34,58 @@ refused_in None = None
 refused_in (Some (File stored)) = None
 refused_in (Some (Paired pair)) = None
 refused_in (Some (Refused fault)) = Some fault
+
+-- an image with its mapfile that has no reading has its own reason
+abbrev pub refusal_with : Option PairFault → InputError → Refusal
+refusal_with None error = refusal_of error
+refusal_with (Some fault) error = refused_pair error.input fault
+
+-- those before it have tables; a fault of its bytes, where it tells them, is their first one, and where they have one no other is said of them
+pub record OneFails {R : Type 0} (remaining : R → Option (List ℕ)) (all : List R) (error : InputError) : Type 0 where
+  pub earlier : List R
+  pub one : R
+  pub later : List R
+  pub are : all ≡ earlier ++ one ∷ later
+  pub which : error.input ≡ length earlier + 1
+  pub tables : List Table
+  pub have_tables : TablesAre remaining earlier tables
+  pub fault : GivesFault inputs (remaining one) (Err error.error)
+  pub faulty : RefusesFaulty inputs (remaining one) (Err error.error)
+
+-- by the reason that each was refused for when it was opened, if it was
+pub record BlamesOne {R : Type 0} (remaining : R → Option (List ℕ)) (reason : R → Option PairFault) (all : List R) (refusal : Refusal) : Type 0 where
+  pub error : InputError
+  pub fails : OneFails remaining all error
+  pub told : refusal ≡ refusal_with (reason fails.one) error
+
+-- the inputs are those that the paths lead to
+pub record BlamesPath {R : Type 0} (found : List ℕ → Option (Option (List ℕ))) (remaining : R → Option (List ℕ)) (reason : R → Option PairFault) (paths : List InputPath) (refusal : Refusal) : Type 0 where
+  pub sources : List R
+  pub each : length sources ≡ length paths
+  pub opened : Opens found remaining paths sources
+  pub judged : AreJudgedFor found reason paths sources
+  pub blames : BlamesOne remaining reason sources refusal
+
+-- its device failed, and it is named, counted from 1
+abbrev pub IsUncompared : ℕ → Refusal → Type 0
+IsUncompared count r = (place : ℕ) × (number : ℕ) × (place < count) × (r ≡ refusal.Input (place + 1) (record { fault = Io; number = number }))
+
+-- or it has changed since it was begun
+abbrev pub IsUnread : ℕ → Refusal → Type 0
+IsUnread count r = (place : ℕ) × (number : ℕ) × (place < count) × (r ≡ refusal.Reread (place + 1) number)
+
+-- memory was refused, or one of them was not taken, or its bytes could not be compared with those of another
+abbrev pub StoredRefused : {S : Type 0} → (S → Option (List ℕ)) → (S → Option PairFault) → List S → Refusal → Type 0
+StoredRefused content reason stored r = (r ≡ refusal.Memory alloc_error) ⊎ BlamesOne content reason stored r ⊎ IsUncompared (length stored) r
+
+-- memory was refused; or one of the paths is shut, and it is named; or what it leads to has no table, and why; or bytes of an input could not be read again
+pub record MergeRefused {R I : Type 0} (found : List ℕ → Option (Option (List ℕ))) (shut : List ℕ → Type 0) (remaining : AnySource R I → Option (List ℕ)) (paths : List InputPath) (refused : Refusal) : Type 0 where
+  pub why : (refused ≡ refusal.Memory alloc_error) ⊎ IsShut shut paths refused ⊎ BlamesPath found remaining source_reason paths refused ⊎ IsUncompared (length paths) refused ⊎ IsUnread (length paths) refused
+
+-- the output is said to have failed only where a call did
+abbrev pub IsUnput : Type 0 → Refusal → Type 0
+IsUnput Failed r = (r ≡ refusal.Memory alloc_error) ⊎ (((r ≡ refusal.Output) ⊎ (r ≡ refusal.Unkept)) × Failed)
+
+-- memory was refused; or the output would take the place of what is to stay; or it could not be looked at; or this is said of the inputs that the words ask for
+abbrev pub WordsRefused : Type 0 → List Asked → (List InputPath → Refusal → Type 0) → Refusal → Type 0
+WordsRefused Unseen asked Why r = (r ≡ refusal.Memory alloc_error) ⊎ (r ≡ refusal.Spared) ⊎ ((r ≡ refusal.Output) × Unseen) ⊎ ((paths : List InputPath) × (map asked_for paths ≡ asked) × Why paths r)

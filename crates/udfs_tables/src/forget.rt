@@ -5,7 +5,8 @@ ghost use Rattle.udfs_files.specs.Disk.{Disk, After, Fails, SinkFails, IsOwn};
 ghost use Rattle.udfs_lattice.specs.Tables.{Table};
 ghost use Rattle.udfs_lattice.specs.Records.{join_all};
 ghost use Rattle.udfs_words.specs.Asking.{stream_path};
-ghost use Rattle.udfs_tables.specs.Forgetting.{HasList, Lists, Forgets, IsForgottenJoin, MayForget};
+ghost use Rattle.udfs_tables.specs.Forgetting.{ForgetRefused, HasList, Lists, ListsRefused, Forgets, IsForgottenJoin, IsListRefused, MayForget, SomeFault};
+ghost use Rattle.udfs_common.specs.Blaming.{InputsRefused};
 ghost use Rattle.udfs_common.specs.Keeping.{Joined, IsKept, IsTaken, RefusedOut};
 ghost use Rattle.udfs_common.specs.Spelling.{table_file};
 ghost use Rattle.udfs_words.specs.declared.forms.Version.{Version};
@@ -29,6 +30,7 @@ use udfs_words::input_path::InputPath;
 fn read_list<F: Files>(alloc: Global, path: &str, files: &F) -> Result<BlockList, Refusal>
     ensures listed { IfOk result (λ list. HasList (F.holds files.now (F.real files.now (stream_path path.now))) list) }
     ensures told { IfErr result (λ refusal. (refusal ≢ Refusal.Output) × (refusal ≢ Refusal.Unkept) × (refusal ≢ Refusal.Spared)) }
+    ensures why { IfErr result (IsListRefused (λ path. F.holds files.now (F.real files.now path)) (F.shut files.now) (SomeFault F.Input.faults) path.now) }
 {
     let Ok(mut source) = files.open(stream_path(path)) else {
         return Err(Refusal::ListOpen);
@@ -50,6 +52,7 @@ fn read_lists<F: Files>(
 ) -> Result<(), Refusal>
     ensures listed { OnOk result ((more : List ℕ) × Lists (λ path. F.holds files.now (F.real files.now path)) (map (λ path. path.now) paths.now) more × (blocks.new.items ≡ blocks.old.items ++ more)) }
     ensures told { IfErr result (λ refusal. (refusal ≢ Refusal.Output) × (refusal ≢ Refusal.Unkept) × (refusal ≢ Refusal.Spared)) }
+    ensures why { IfErr result (ListsRefused (λ path. F.holds files.now (F.real files.now path)) (F.shut files.now) (SomeFault F.Input.faults) (map (λ path. path.now) paths.now)) }
 {
     match paths {
         [] => Ok(()),
@@ -74,6 +77,7 @@ fn read_lists<F: Files>(
 fn listed<F: Files>(alloc: Global, paths: &[&str], files: &F) -> Result<Vec<u32>, Refusal>
     ensures listed { IfOk result (λ blocks. Lists (λ path. F.holds files.now (F.real files.now path)) (map (λ path. path.now) paths.now) blocks.items) }
     ensures told { IfErr result (λ refusal. (refusal ≢ Refusal.Output) × (refusal ≢ Refusal.Unkept) × (refusal ≢ Refusal.Spared)) }
+    ensures why { IfErr result (ListsRefused (λ path. F.holds files.now (F.real files.now path)) (F.shut files.now) (SomeFault F.Input.faults) (map (λ path. path.now) paths.now)) }
 {
     let mut blocks = Vec::new(alloc);
     match read_lists(alloc, paths, &mut blocks, files) {
@@ -102,6 +106,7 @@ fn forgotten<F: Files>(
 ) -> Result<BlockTable, Refusal>
     ensures left { IfOk result (λ table. IsForgottenJoin (λ path. F.holds files.now (F.real files.now path)) (⟦<AnySource<F::Input, F::Image> as Source>⟧.remaining) inputs.now conflicts (map (λ path. path.now) lists.now) table) }
     ensures told { IfErr result (λ refusal. (refusal ≢ Refusal.Output) × (refusal ≢ Refusal.Unkept) × (refusal ≢ Refusal.Spared)) }
+    ensures why { IfErr result (λ refusal. ListsRefused (λ path. F.holds files.now (F.real files.now path)) (F.shut files.now) (SomeFault F.Input.faults) (map (λ path. path.now) lists.now) refusal ⊎ InputsRefused (λ path. F.holds files.now (F.real files.now path)) (F.shut files.now) (⟦<AnySource<F::Input, F::Image> as Source>⟧.remaining) (⟦<AnySource<F::Input, F::Image> as Source>⟧.faults) inputs.now refusal) }
 {
     let blocks = match listed(alloc, lists, files) {
         Ok(blocks) => blocks,
@@ -147,6 +152,8 @@ pub fn forget<F: Files>(
     ensures left { OnErr result (RefusedOut F.tells F.holds F.real F.in_place (F.shut files.old out.now ⊎ Fails F.faults ⊎ SinkFails F.Output.stream) out.now files.old files.new
         (λ Put. (table : Table) × IsForgottenJoin (λ path. F.holds files.old (F.real files.old path)) (⟦<AnySource<F::Input, F::Image> as Source>⟧.remaining) inputs.now conflicts (map (λ path. path.now) lists.now) table × Put (table_file Version.Two table))) }
     ensures told { IfErr result (λ refusal. refusal ≢ Refusal.Spared) }
+    // The first list that was not read is to blame, and why, or else the inputs were not joined, or the table file was not put.
+    ensures why { IfErr result (ForgetRefused (λ path. F.holds files.old (F.real files.old path)) (F.shut files.old) (⟦<AnySource<F::Input, F::Image> as Source>⟧.remaining) (⟦<AnySource<F::Input, F::Image> as Source>⟧.faults) (SomeFault F.Input.faults) (F.shut files.old out.now ⊎ Fails F.faults ⊎ SinkFails F.Output.stream) (map (λ path. path.now) lists.now) inputs.now) }
 {
     let table = match forgotten(alloc, inputs, conflicts, lists, files) {
         Ok(table) => table,

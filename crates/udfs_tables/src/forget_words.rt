@@ -3,12 +3,13 @@
 ghost use Rattle.std.specs.Prelude.{◌≡◌, ◌≢◌, ◌⊎◌, ℕ, List, Bool, true, false, Some, IfErr, IsErrOf, OnErr, OnOk, codes};
 ghost use Rattle.clap.specs.Matches.{found_of};
 ghost use Rattle.udfs_files.specs.Disk.{After, Disk, Fails, SinkFails, IsOwn};
-ghost use Rattle.udfs_words.specs.Asking.{IsPicked, asked_streams, input_texts, out_text, pair_texts};
-ghost use Rattle.udfs_tables.specs.Forgetting.{PutsForgotten};
-ghost use Rattle.udfs_common.specs.Guarding.{IsFree, IsSpared};
+ghost use Rattle.udfs_words.specs.Asking.{IsPicked, asked_streams, input_texts, list_texts, out_text, pair_texts};
+ghost use Rattle.udfs_tables.specs.Forgetting.{ForgetRefused, PutsForgotten, SomeFault};
+ghost use Rattle.udfs_common.specs.Guarding.{IsFree, IsSpared, MayNotBeSeen};
 ghost use Rattle.udfs_common.specs.Keeping.{IsKept, IsTaken, RefusedOut};
 ghost use Rattle.udfs_common.specs.declared.sources.AnySource.{AnySource};
 ghost use Rattle.udfs_tables.specs.Leaving.{MayForgetAsked};
+ghost use Rattle.udfs_tables.specs.Refused.{WordsRefused};
 
 use crate::forget::forget;
 use crate::merge_words::asked_outlook;
@@ -49,6 +50,9 @@ pub fn forget_words<F: Files>(
         (F.tells → IsFree (F.holds files.old) (F.real files.old) (F.in_place files.old) (input_texts (found_of words.now)) (pair_texts (found_of words.now)) force (out_text (found_of words.now)))) }
     ensures spared { IsErrOf result Refusal.Spared → (force : Bool) × IsPicked (found_of words.now) (codes "force") true false force ×
         (F.tells → IsSpared (F.holds files.old) (F.real files.old) (input_texts (found_of words.now)) (pair_texts (found_of words.now)) force (out_text (found_of words.now))) }
+    // Why it is refused: what is there is spared or could not be looked at, or a list was not read, or the inputs were not joined, or the table file was not put.
+    ensures why { IfErr result (WordsRefused (MayNotBeSeen (F.shut files.old) (Fails F.Input.faults) (input_texts (found_of words.now)) (pair_texts (found_of words.now)) (out_text (found_of words.now))) (asked_streams (found_of words.now))
+        (ForgetRefused (λ path. F.holds files.old (F.real files.old path)) (F.shut files.old) (⟦<AnySource<F::Input, F::Image> as Source>⟧.remaining) (⟦<AnySource<F::Input, F::Image> as Source>⟧.faults) (SomeFault F.Input.faults) (F.shut files.old (out_text (found_of words.now)) ⊎ Fails F.faults ⊎ SinkFails F.Output.stream) (list_texts (found_of words.now)))) }
 {
     let Ok(inputs) = asked_streams(alloc, words) else {
         return Err(Refusal::Memory(AllocError));

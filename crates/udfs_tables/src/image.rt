@@ -7,8 +7,9 @@ ghost use Rattle.udfs_lattice.specs.Tables.{state_of};
 ghost use Rattle.udfs_rescue.specs.Images.{image_bytes};
 ghost use Rattle.udfs_rescue.specs.Writing.{map_text, table_status};
 ghost use Rattle.udfs_salvage.specs.Reports.{IsNothingPast, IsOutOfRange, IsPastEnd};
-ghost use Rattle.udfs_tables.specs.Imaging.{BothReplaced, HasImage, MayImage, Stands};
-ghost use Rattle.udfs_common.specs.Guarding.{IsApart};
+ghost use Rattle.udfs_tables.specs.Imaging.{BothReplaced, HasImage, ImageRefused, ImageUnput, MayImage, Stands};
+ghost use Rattle.udfs_tables.specs.Refused.{IsUnput};
+ghost use Rattle.udfs_common.specs.Guarding.{HaveNoPlace, IsApart};
 ghost use Rattle.udfs_common.specs.Keeping.{IsKept, OfPaths};
 ghost use Rattle.udfs_common.specs.declared.sources.AnySource.{AnySource};
 
@@ -88,7 +89,7 @@ fn past_end(table: &BlockTable, last: u32) -> Option<u32>
 fn check_end(table: &BlockTable, last: u32) -> Result<(), Refusal>
     ensures in_range { OnOk result (¬ IsOutOfRange last) }
     ensures nothing_past { OnOk result (IsNothingPast (state_of table.now) last) }
-    ensures told { IfErr result (λ refusal. ((refusal ≡ Refusal.LastRange) × IsOutOfRange last) ⊎ ((n : ℕ) × (refusal ≡ Refusal.PastEnd n) × IsPastEnd (state_of table.now) last n)) }
+    ensures told { IfErr result (λ refusal. ((refusal ≡ Refusal.LastRange) × IsOutOfRange last) ⊎ ((n : ℕ) × (refusal ≡ Refusal.PastEnd n) × (¬ IsOutOfRange last) × IsPastEnd (state_of table.now) last n)) }
 {
     if last < FIRST_LAST || last > LAST_BLOCK {
         return Err(Refusal::LastRange);
@@ -116,6 +117,7 @@ fn put_at<F: Files>(
     ensures elsewhere { (q : List ℕ) → q ≢ string_bytes places.now.image → q ≢ string_bytes places.now.mapfile → (¬ IsOwn (string_bytes places.now.image) q) → (¬ IsOwn (string_bytes places.now.mapfile) q) → F.holds files.new q ≡ F.holds files.old q }
     ensures told { IfErr result (λ refusal. refusal ≢ Refusal.Spared) }
     ensures cause { IfErr result (λ refusal. (refusal ≡ Refusal.Output) ⊎ (refusal ≡ Refusal.Unkept) → Fails F.faults ⊎ SinkFails F.Output.stream) }
+    ensures why { IfErr result (IsUnput (Fails F.faults ⊎ SinkFails F.Output.stream)) }
     ensures crash { F.tells → Goes F.moment F.may_leave F.left_since files.old files.new (BothReplaced (string_bytes places.now.image) (string_bytes places.now.mapfile) (image_bytes table.now last) (map_text (table_status table.now) last)) }
 {
     let image = ImageOf { table, last };
@@ -148,7 +150,9 @@ fn put_table<F: Files>(
     ensures stand { F.tells → ((q : List ℕ) → F.holds files.new q ≡ F.holds files.old q) ⊎ HasImage last (λ bytes text. Stands (Some None) (Some (Some bytes)) (Some (Some text)) (F.holds files.old (F.real files.old outputs.entry.image.now)) (F.holds files.old (F.real files.old outputs.entry.mapfile.now)) (F.holds files.new (F.real files.old outputs.entry.image.now)) (F.holds files.new (F.real files.old outputs.entry.mapfile.now))) table.now }
     ensures elsewhere { F.tells → (q : List ℕ) → q ≢ F.real files.old outputs.entry.image.now → q ≢ F.real files.old outputs.entry.mapfile.now → (¬ IsOwn (F.real files.old outputs.entry.image.now) q) → (¬ IsOwn (F.real files.old outputs.entry.mapfile.now) q) → F.holds files.new q ≡ F.holds files.old q }
     ensures spared { IsErrOf result Refusal.Spared → files.new ≡ files.old }
+    ensures no_place { IsErrOf result Refusal.Spared → F.tells → HaveNoPlace (F.real files.old) (F.in_place files.old) outputs.entry.force outputs.entry.image.now outputs.entry.mapfile.now }
     ensures cause { IfErr result (λ refusal. (refusal ≡ Refusal.Output) ⊎ (refusal ≡ Refusal.Unkept) → F.shut files.old outputs.entry.image.now ⊎ F.shut files.old outputs.entry.mapfile.now ⊎ Fails F.faults ⊎ SinkFails F.Output.stream) }
+    ensures why { IfErr result (λ refusal. ImageUnput (F.tells → HaveNoPlace (F.real files.old) (F.in_place files.old) outputs.entry.force outputs.entry.image.now outputs.entry.mapfile.now) (F.shut files.old outputs.entry.image.now ⊎ F.shut files.old outputs.entry.mapfile.now ⊎ Fails F.faults ⊎ SinkFails F.Output.stream) last refusal table.now) }
 {
     match check_end(table, last) {
         Ok(()) => {}
@@ -185,6 +189,12 @@ pub fn image<F: Files>(
         (HasImage last (λ bytes text. Stands (Some None) (Some (Some bytes)) (Some (Some text)) (F.holds files.old (F.real files.old outputs.entry.image.now)) (F.holds files.old (F.real files.old outputs.entry.mapfile.now)) (F.holds files.new (F.real files.old outputs.entry.image.now)) (F.holds files.new (F.real files.old outputs.entry.mapfile.now)))) }
     // No other path changes, but for those of new files that are to go in their places.
     ensures elsewhere { F.tells → (q : List ℕ) → q ≢ F.real files.old outputs.entry.image.now → q ≢ F.real files.old outputs.entry.mapfile.now → (¬ IsOwn (F.real files.old outputs.entry.image.now) q) → (¬ IsOwn (F.real files.old outputs.entry.mapfile.now) q) → F.holds files.new q ≡ F.holds files.old q }
+    // The outputs are spared only where they may not be written over, or are in the way of one another.
+    ensures spared { IsErrOf result Refusal.Spared → F.tells → HaveNoPlace (F.real files.old) (F.in_place files.old) outputs.entry.force outputs.entry.image.now outputs.entry.mapfile.now }
+    // The inputs were not joined, or the last block is out of range, or something is known behind it, or the outputs are spared, or they were not put.
+    ensures why { IfErr result (ImageRefused (λ path. F.holds files.old (F.real files.old path)) (F.shut files.old) (⟦<AnySource<F::Input, F::Image> as Source>⟧.remaining) (⟦<AnySource<F::Input, F::Image> as Source>⟧.faults)
+        (F.tells → HaveNoPlace (F.real files.old) (F.in_place files.old) outputs.entry.force outputs.entry.image.now outputs.entry.mapfile.now)
+        (F.shut files.old outputs.entry.image.now ⊎ F.shut files.old outputs.entry.mapfile.now ⊎ Fails F.faults ⊎ SinkFails F.Output.stream) last inputs.now) }
 {
     let table = match joined(alloc, inputs, files) {
         Ok(table) => table,

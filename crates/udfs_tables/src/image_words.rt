@@ -1,10 +1,12 @@
 //! What the words after `image` ask for.
 
-ghost use Rattle.std.specs.Prelude.{◌≡◌, Bool, true, false, OnOk, codes};
+ghost use Rattle.std.specs.Prelude.{◌≡◌, ◌⊎◌, ⊤, Bool, true, false, IfErr, IsErrOf, OnOk, alloc_error, codes};
 ghost use Rattle.clap.specs.Matches.{found_of};
-ghost use Rattle.udfs_words.specs.Asking.{IsPicked, input_texts, mapfile_text, out_text, pair_texts};
-ghost use Rattle.udfs_common.specs.Guarding.{IsFreePair};
-ghost use Rattle.udfs_tables.specs.Imaging.{ReplacesPair, WritesImage};
+ghost use Rattle.udfs_files.specs.Disk.{Fails, SinkFails};
+ghost use Rattle.udfs_words.specs.Asking.{IsPicked, asked_streams, input_texts, mapfile_text, out_text, pair_texts};
+ghost use Rattle.udfs_common.specs.Guarding.{IsFreePair, IsSparedPair};
+ghost use Rattle.udfs_tables.specs.Imaging.{ImageAskedRefused, ReplacesPair, WritesImage};
+ghost use Rattle.udfs_tables.specs.Refused.{WordsRefused};
 ghost use Rattle.udfs_common.specs.Keeping.{IsKept};
 ghost use Rattle.udfs_common.specs.declared.sources.AnySource.{AnySource};
 
@@ -42,6 +44,8 @@ fn look_at_asked<F: Files>(
     files: &F,
 ) -> Result<(), Refusal>
     ensures free { OnOk result (F.tells → IsFreePair (F.holds files.now) (F.real files.now) (input_texts (found_of words.now)) (pair_texts (found_of words.now)) outputs.entry.force outputs.entry.image.now outputs.entry.mapfile.now) }
+    ensures spared { IsErrOf result Refusal.Spared → F.tells → IsSparedPair (F.real files.now) (F.in_place files.now) (input_texts (found_of words.now)) (pair_texts (found_of words.now)) outputs.entry.force outputs.entry.image.now outputs.entry.mapfile.now }
+    ensures told { IfErr result (λ refusal. (refusal ≡ Refusal.Output) ⊎ (refusal ≡ Refusal.Spared) ⊎ (refusal ≡ Refusal.Memory alloc_error)) }
 {
     let inputs = words.get_strs(INPUTS).unwrap_or(&[]);
     let parts = words.get_strs(PAIRS).unwrap_or(&[]);
@@ -73,6 +77,12 @@ pub fn image_words<F: Files>(
         (F.tells → IsFreePair (F.holds files.old) (F.real files.old) (input_texts (found_of words.now)) (pair_texts (found_of words.now)) force (out_text (found_of words.now)) (mapfile_text (found_of words.now)))) }
     // Whatever it answers, and at each moment of it: a crash leaves no mapfile beside an image that lacks what it tells, and no other path changes.
     ensures replaces { ReplacesPair F.tells F.holds F.real F.may_leave F.moment F.left_since (⟦<AnySource<F::Input, F::Image> as Source>⟧.remaining) (found_of words.now) files.old files.new }
+    // The outputs are spared only where one of them would take the place of an input, or of something that may not be written over, or is in the way of the other.
+    ensures spared { IsErrOf result Refusal.Spared → (force : Bool) × IsPicked (found_of words.now) (codes "force") true false force × (F.tells → IsSparedPair (F.real files.old) (F.in_place files.old) (input_texts (found_of words.now)) (pair_texts (found_of words.now)) force (out_text (found_of words.now)) (mapfile_text (found_of words.now))) }
+    // Why it is refused: the outputs are spared or could not be looked at, or the last block or the inputs are to blame, or the last block is out of range, or something is known behind it,
+    // or the image or its mapfile was not put.
+    ensures why { IfErr result (WordsRefused ⊤ (asked_streams (found_of words.now))
+        (ImageAskedRefused (λ path. F.holds files.old (F.real files.old path)) (F.shut files.old) (⟦<AnySource<F::Input, F::Image> as Source>⟧.remaining) (⟦<AnySource<F::Input, F::Image> as Source>⟧.faults) (F.shut files.old (out_text (found_of words.now)) ⊎ F.shut files.old (mapfile_text (found_of words.now)) ⊎ Fails F.faults ⊎ SinkFails F.Output.stream) (found_of words.now))) }
 {
     let Ok(inputs) = asked_streams(alloc, words) else {
         return Err(Refusal::Memory(AllocError));
@@ -84,7 +94,10 @@ pub fn image_words<F: Files>(
         Err(Refusal::Output) => return Err(unwritten(alloc, paths, files)),
         Err(refusal) => return Err(refusal),
     }
-    let last = asked_end(alloc, words, paths, files)?;
+    let last = match asked_end(alloc, words, paths, files) {
+        Ok(last) => last,
+        Err(refusal) => return Err(refusal),
+    };
     match image(alloc, paths, last, outputs, files) {
         Ok(()) => Ok(()),
         Err(refusal) => Err(refusal),

@@ -1,15 +1,16 @@
 //! The table file of inputs that are read at positions.
 
-ghost use Rattle.std.specs.Prelude.{◌≡◌, ◌≢◌, ◌-◌, ℕ, List, Some, Option, IfOk, IfErr, IfSome, OnErr, length, map, slice_get};
+ghost use Rattle.std.specs.Prelude.{◌≡◌, ◌≢◌, ◌⊎◌, ◌-◌, ◌<◌, ℕ, List, Some, Option, IfOk, IfErr, IfSome, OnErr, length, map, slice_get};
 ghost use Rattle.std.specs.Io.KnownBytes.{Appends};
 ghost use Rattle.udfs_index.specs.Copying.{AreAllTold, Copies, CountsSink};
 ghost use Rattle.udfs_lattice.specs.Records.{join_all};
 ghost use Rattle.udfs_lattice.specs.Tables.{Table, IsTable};
 ghost use Rattle.udfs_reading.specs.Several.{TablesAre};
 ghost use Rattle.udfs_common.specs.Spelling.{table_file};
+ghost use Rattle.udfs_common.specs.Blaming.{stored_reason};
 ghost use Rattle.udfs_common.specs.Refusing.{refused_pair};
 ghost use Rattle.udfs_tables.specs.Indexing.{IsReread, IsSinkFault};
-ghost use Rattle.udfs_tables.specs.Refused.{refused_in};
+ghost use Rattle.udfs_tables.specs.Refused.{IsUncompared, IsUnread, StoredRefused, refusal_with, refused_in};
 
 use crate::index_tally::IndexTally;
 use std::alloc::{AllocError, Global};
@@ -73,10 +74,12 @@ fn record_of<S: Stored>(stored: &[S], unread: Unread) -> u32 {
 impl<'i, 'a, S: Stored> IndexedFile<'i, 'a, S> {
     /// What is said of bytes of an input that could not be read a second time when they were to be written, or of one that has changed.
     pub fn reread(&self, unread: Unread) -> Refusal
-        ensures { IsReread result }
+        ensures reread { IsReread result }
+        ensures named { 0 < length self.now.stored.now → IsUnread (length self.now.stored.now) result }
     {
         let number = record_of(self.stored, unread);
-        Refusal::Reread(unread.input.saturating_add(1), number)
+        let place = unread.input.min(self.stored.len().saturating_sub(1));
+        Refusal::Reread(place.saturating_add(1), number)
     }
 }
 
@@ -99,18 +102,16 @@ fn refusal_of<S: Stored>(
 ) -> Refusal
     ensures told { (result ≢ Refusal.Output) × (result ≢ Refusal.Unkept) × (result ≢ Refusal.Spared) }
     ensures pair { IfSome (refused_in (slice_get stored.now (error.input - 1))) (λ fault. result ≡ refused_pair error.input fault) }
+    ensures why { (result ≡ refusal_with (refused_in (slice_get stored.now (error.input - 1))) error) ⊎ IsUncompared (length stored.now) result }
 {
     if let Some(fault) = refused_of(stored, error) {
         return refused_pair(error.input, fault);
     }
     match (error.error.fault, failed) {
-        (ReadingFault::OutOfMemory, Some(unread)) => {
+        (ReadingFault::OutOfMemory, Some(unread)) if unread.input < stored.len() => {
             let number = record_of(stored, unread);
             let fault = ReadingFault::Io;
-            Refusal::Input(
-                unread.input.saturating_add(1),
-                ReadingError { fault, number },
-            )
+            Refusal::Input(unread.input + 1, ReadingError { fault, number })
         }
         _ => Refusal::from(error),
     }
@@ -134,6 +135,8 @@ pub fn indexed<'a, S: Stored>(
 ) -> Result<IndexTally<'a, AnyStored<S>>, Refusal>
     ensures table { IfOk result (λ tally. (ts : List Table) × TablesAre ⟦<AnyStored<S> as Stored>⟧.content stored.now ts × ⟦<IndexTally<'a, AnyStored<S>> as Taker<Cursor<'a, AnyStored<S>>>>⟧.took tally (join_all ts)) }
     ensures told { IfErr result (λ refusal. (refusal ≢ Refusal.Output) × (refusal ≢ Refusal.Unkept) × (refusal ≢ Refusal.Spared)) }
+    // Memory was refused, or an input was not taken, and why, or its bytes could not be compared with those of another.
+    ensures why { IfErr result (StoredRefused ⟦<AnyStored<S> as Stored>⟧.content stored_reason stored.now) }
 {
     let mut tally = match IndexTally::new(alloc, stored.len()) {
         Ok(tally) => tally,

@@ -5,9 +5,11 @@ ghost use Rattle.udfs_files.specs.Disk.{Disk, After, IsOwn, Fails, SinkFails};
 ghost use Rattle.udfs_lattice.specs.Tables.{Table};
 ghost use Rattle.udfs_lattice.specs.Records.{join_all};
 ghost use Rattle.udfs_reading.specs.Writing.{Writes};
+ghost use Rattle.udfs_common.specs.Blaming.{InputsRefused};
 ghost use Rattle.udfs_common.specs.Keeping.{Joined, IsKept, IsTaken, MayReplace, OfPaths, RefusedOut};
 ghost use Rattle.udfs_common.specs.Spelling.{table_file};
 ghost use Rattle.udfs_tables.specs.Indexing.{IsReread};
+ghost use Rattle.udfs_tables.specs.Refused.{IsUnput, MergeRefused};
 
 use crate::closing::remark_on_merge;
 use crate::merge_stored::merge_stored;
@@ -48,6 +50,8 @@ pub fn tallied<F: Files>(
 ) -> Result<MergeTally, Refusal>
     ensures by_path { IfOk result (λ tally. OfPaths (λ path. F.holds files.now (F.real files.now path)) (⟦<AnySource<F::Input, F::Image> as Source>⟧.remaining) inputs.now (λ t. tally ≡ t)) }
     ensures told { IfErr result (λ refusal. (refusal ≢ Refusal.Output) × (refusal ≢ Refusal.Unkept) × (refusal ≢ Refusal.Spared)) }
+    // The first input that cannot be opened is named, or else the first that cannot be read, and why.
+    ensures blamed { IfErr result (InputsRefused (λ path. F.holds files.now (F.real files.now path)) (F.shut files.now) (⟦<AnySource<F::Input, F::Image> as Source>⟧.remaining) (⟦<AnySource<F::Input, F::Image> as Source>⟧.faults) inputs.now) }
 {
     let mut tally = match MergeTally::new(alloc, inputs.len()) {
         Ok(tally) => tally,
@@ -81,6 +85,8 @@ fn merge_held<F: Files>(
     ensures left { OnErr result (RefusedOut F.tells F.holds F.real F.in_place (F.shut files.old out.now ⊎ Fails F.faults ⊎ SinkFails F.Output.stream) out.now files.old files.new
         (λ Put. (tables : List Table) × Joined (λ path. F.holds files.old (F.real files.old path)) (⟦<AnySource<F::Input, F::Image> as Source>⟧.remaining) inputs.now tables × Put (table_file version (join_all tables)))) }
     ensures told { IfErr result (λ refusal. refusal ≢ Refusal.Spared) }
+    ensures blamed { IfErr result (λ refusal. InputsRefused (λ path. F.holds files.old (F.real files.old path)) (F.shut files.old) (⟦<AnySource<F::Input, F::Image> as Source>⟧.remaining) (⟦<AnySource<F::Input, F::Image> as Source>⟧.faults) inputs.now refusal ⊎ IsUnput (F.shut files.old out.now ⊎ Fails F.faults ⊎ SinkFails F.Output.stream) refusal) }
+    ensures why { IfErr result (λ refusal. MergeRefused (λ path. F.holds files.old (F.real files.old path)) (F.shut files.old) (⟦<AnySource<F::Input, F::Image> as Source>⟧.remaining) inputs.now refusal ⊎ IsUnput (F.shut files.old out.now ⊎ Fails F.faults ⊎ SinkFails F.Output.stream) refusal) }
 {
     let mut tally = match tallied(alloc, inputs, files) {
         Ok(tally) => tally,
@@ -135,7 +141,13 @@ pub fn merge<F: Files>(
     ensures left { OnErr result (RefusedOut F.tells F.holds F.real F.in_place (F.shut files.old out.now ⊎ Fails F.faults ⊎ SinkFails F.Output.stream) out.now files.old files.new
         (λ Put. (tables : List Table) × Joined (λ path. F.holds files.old (F.real files.old path)) (⟦<AnySource<F::Input, F::Image> as Source>⟧.remaining) inputs.now tables × Put (table_file version (join_all tables)))) }
     ensures told { IfErr result (λ refusal. refusal ≢ Refusal.Spared) }
+    // The inputs were not joined, and why, or their table file was not put.
+    ensures why { IfErr result (λ refusal. MergeRefused (λ path. F.holds files.old (F.real files.old path)) (F.shut files.old) (⟦<AnySource<F::Input, F::Image> as Source>⟧.remaining) inputs.now refusal ⊎ IsUnput (F.shut files.old out.now ⊎ Fails F.faults ⊎ SinkFails F.Output.stream) refusal) }
 {
+    // Where there is no input, nothing is read again.
+    if inputs.is_empty() {
+        return merge_held(alloc, inputs, out, version, files);
+    }
     match open_all_stored(alloc, inputs, files) {
         Ok(Some(stored)) => merge_stored(alloc, stored.as_slice(), inputs, out, version, files),
         Ok(None) => merge_held(alloc, inputs, out, version, files),

@@ -5,6 +5,7 @@ ghost use Rattle.udfs_files.specs.Disk.{Disk, Fails, SinkFails, Goes, Gone, IsOw
 ghost use Rattle.udfs_files.specs.declared.files.Kind.{Kind};
 ghost use Rattle.udfs_tables.specs.Imaging.{BothReplaced, Stands};
 ghost use Rattle.udfs_common.specs.Guarding.{IsApart};
+ghost use Rattle.udfs_tables.specs.Refused.{IsUnput};
 
 use std::alloc::{AllocError, Global};
 use udfs_common::files::Files;
@@ -66,6 +67,7 @@ fn put<F: Files, C: Content>(
     ensures elsewhere { (q : List ℕ) → q ≢ path.now → (¬ IsOwn path.now q) → F.holds files.new q ≡ F.holds files.old q }
     ensures told { IfErr result (λ refusal. refusal ≢ Refusal.Spared) }
     ensures cause { IfErr result (λ refusal. (refusal ≡ Refusal.Output) ⊎ (refusal ≡ Refusal.Unkept) → Fails F.faults ⊎ SinkFails F.Output.stream) }
+    ensures why { IfErr result (IsUnput (Fails F.faults ⊎ SinkFails F.Output.stream)) }
     ensures crash { F.tells → Goes F.moment F.may_leave F.left_since files.old files.new (Replaced path.now (C.bytes content.now)) }
 {
     match replace(alloc, files, path, content) {
@@ -95,6 +97,7 @@ fn put_image<F: Files, C: Content>(
     ensures elsewhere { (q : List ℕ) → q ≢ image.now → q ≢ mapfile.now → (¬ IsOwn image.now q) → F.holds files.new q ≡ F.holds files.old q }
     ensures told { IfErr result (λ refusal. refusal ≢ Refusal.Spared) }
     ensures cause { IfErr result (λ refusal. (refusal ≡ Refusal.Output) ⊎ (refusal ≡ Refusal.Unkept) → Fails F.faults ⊎ SinkFails F.Output.stream) }
+    ensures why { IfErr result (IsUnput (Fails F.faults ⊎ SinkFails F.Output.stream)) }
     ensures crash { F.tells → (text : List ℕ) → Goes F.moment F.may_leave F.left_since files.old files.new (BothReplaced image.now mapfile.now (C.bytes blocks.now) text) }
 {
     match clear(files, mapfile, kind) {
@@ -127,6 +130,7 @@ pub fn put_both<F: Files, C: Content, D: Content>(
     ensures elsewhere { (q : List ℕ) → q ≢ image.now → q ≢ mapfile.now → (¬ IsOwn image.now q) → (¬ IsOwn mapfile.now q) → F.holds files.new q ≡ F.holds files.old q }
     ensures told { IfErr result (λ refusal. refusal ≢ Refusal.Spared) }
     ensures cause { IfErr result (λ refusal. (refusal ≡ Refusal.Output) ⊎ (refusal ≡ Refusal.Unkept) → Fails F.faults ⊎ SinkFails F.Output.stream) }
+    ensures why { IfErr result (IsUnput (Fails F.faults ⊎ SinkFails F.Output.stream)) }
     ensures crash { F.tells → Goes F.moment F.may_leave F.left_since files.old files.new (BothReplaced image.now mapfile.now (C.bytes blocks.now) (D.bytes runs.now)) }
 {
     match put_image(alloc, files, image, blocks, mapfile, kind) {

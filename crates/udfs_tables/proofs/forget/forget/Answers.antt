@@ -1,4 +1,4 @@
-use Rattle.std.proofs.Common.{inr}
+use Rattle.std.proofs.Common.{inl, inr, ⊎_elim}
 use Rattle.udfs_tables.proofs.LeavingLemmas.{left_wider}
 use Rattle.udfs_tables.proofs.forget.forget.Goals as goal
 
@@ -17,3 +17,9 @@ returns-clause-left g c = left_wider _ _ (λ Put put. (c.in-Ok.table, c.in-Ok.en
 
 pub returns-clause-unkept : goal.returns-clause-unkept
 returns-clause-unkept g c is tells = (c.in-Ok.table, c.in-Ok.ensures.left, c.in-Err-put_file.ensures.unkept is tells)
+
+pub returns-in-Err-clause-why : goal.returns-in-Err-clause-why
+returns-in-Err-clause-why g c = ⊎_elim (λ list. inl list) (λ inputs. inr (inl inputs)) c.in-Err.ensures.why
+
+pub returns-clause-why : goal.returns-clause-why
+returns-clause-why g c = inr (inr c.in-Err-put_file.ensures.why)

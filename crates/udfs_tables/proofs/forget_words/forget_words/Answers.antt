@@ -1,11 +1,11 @@
-use Rattle.std.proofs.Common.{◌≡◌, ◌⊎◌, Bor, List, Some, ℕ, codes, false, map, subst, rules, true}
+use Rattle.std.proofs.Common.{◌≡◌, ◌⊎◌, Bor, List, Some, ℕ, codes, false, inl, inr, map, subst, rules, true, ⊎_elim}
 use Rattle.clap.specs.Matches.{found_of}
 use Rattle.udfs_words.specs.Asking.{IsPicked, asked_for, asked_streams, list_texts}
 use Rattle.udfs_common.specs.Keeping.{IsKept, IsTaken}
 use Rattle.udfs_common.specs.Spelling.{table_file}
 use Rattle.udfs_words.specs.declared.forms.Version.TheVariants.{Two}
-use Rattle.udfs_tables.proofs.ForgettingLemmas.{of_lists}
-use Rattle.udfs_tables.proofs.LeavingLemmas.{left_at, left_wider, may_forget}
+use Rattle.udfs_tables.proofs.ForgettingLemmas.{forget_by, of_lists}
+use Rattle.udfs_tables.proofs.LeavingLemmas.{left_at, left_wider, may_forget, unseen}
 use Rattle.udfs_tables.proofs.forget_words.forget_words.Goals as goal
 
 pub returns-in-Ok-forget-clause-written : goal.returns-in-Ok-forget-clause-written
@@ -81,3 +81,14 @@ returns-clause-left g c =
       join = of_lists _ _ _ _ _ _ _ lists put.1;
       put = put.2;
     }) c.in-Err-forget.ensures.left)
+
+pub returns-clause-why : goal.returns-clause-why
+returns-clause-why g c =
+    let lists : map (λ (path : Bor (List ℕ)). path.now) c.unwrap_or.result.now ≡ list_texts (found_of c.args.words.now) = search rules in
+    let asked : map asked_for c.as_slice-2.result.now ≡ asked_streams (found_of c.args.words.now) = search rules in
+    inr (inr (inr (c.as_slice-2.result.now, asked, forget_by _ _ _ _ _ _ _ _ _ _ _ _ lists c.asked_out.ensures c.in-Err-forget.ensures.why)))
+
+pub returns-in-Ok-Unknown-clause-why : goal.returns-in-Ok-Unknown-clause-why
+returns-in-Ok-Unknown-clause-why g c =
+    let asked : map asked_for c.as_slice.result.now ≡ asked_streams (found_of c.args.words.now) = search rules in
+    ⊎_elim (λ out. inr (inr (inl (out, unseen _ _ _ _ _ (search rules))))) (λ h. inr (inr (inr (c.as_slice.result.now, asked, inr (inl h))))) c.unwritten.ensures.blamed

@@ -1,4 +1,6 @@
-use Rattle.std.proofs.Common.{inr}
+use Rattle.std.proofs.Common.{ap, inr}
+use Rattle.std.specs.Prelude.{Err}
+use Rattle.udfs_tables.proofs.ImageWordsLemmas.{no_place, not_put}
 use Rattle.udfs_tables.proofs.image.put_table.Goals as goal
 
 pub returns-clause-stand : goal.returns-clause-stand
@@ -11,3 +13,9 @@ returns-clause-stand g c tells =
 
 pub returns-clause-cause : goal.returns-clause-cause
 returns-clause-cause g c which = inr (inr (c.in-Err-put_at.ensures.cause which))
+
+pub returns-in-Err-find_places-clause-why : goal.returns-in-Err-find_places-clause-why
+returns-in-Err-find_places-clause-why g c = no_place _ _ _ _ _ _ _ c.in-Err-find_places.ensures.told (λ e. c.in-Err-find_places.ensures.cause (ap (λ x. Err x) e)) (λ e. c.in-Err-find_places.ensures.spared (ap (λ x. Err x) e))
+
+pub returns-clause-why : goal.returns-clause-why
+returns-clause-why g c = not_put _ _ _ _ _ _ _ c.in-Err-put_at.ensures.why

@@ -1,9 +1,10 @@
-use Rattle.std.proofs.Common.{◌⊎◌, inr, subst, ◌∙◌}
+use Rattle.std.proofs.Common.{◌⊎◌, inl, inr, subst, ◌∙◌}
 use Rattle.udfs_files.specs.Disk.{Replaced}
 use Rattle.udfs_lattice.specs.Tables.{Table}
 use Rattle.udfs_common.specs.Keeping.{IsKept, IsTaken}
 use Rattle.udfs_common.specs.Spelling.{table_file}
 use Rattle.udfs_tables.proofs.LeavingLemmas.{left_wider}
+use Rattle.udfs_tables.proofs.StoredLemmas.{of_held}
 use Rattle.udfs_tables.proofs.merge.merge_held.Goals as goal
 
 pub returns-in-Ok-put_file-clause-written : goal.returns-in-Ok-put_file-clause-written
@@ -34,3 +35,12 @@ pub returns-clause-left : goal.returns-clause-left
 returns-clause-left g c =
     let t = c.in-Ok.ensures.by_path in
     left_wider _ _ (λ Put put. (t.0, t.1, subst (λ (x : Table). Put (table_file c.args.version x)) (c.table.ensures ∙ t.2) put)) c.in-Err-put_file.ensures.left
+
+pub returns-clause-blamed : goal.returns-clause-blamed
+returns-clause-blamed g c = inr c.in-Err-put_file.ensures.why
+
+pub returns-clause-why : goal.returns-clause-why
+returns-clause-why g c = inr c.in-Err-put_file.ensures.why
+
+pub returns-in-Err-clause-why : goal.returns-in-Err-clause-why
+returns-in-Err-clause-why g c = inl (of_held _ _ _ _ _ _ c.in-Err.ensures.blamed)

@@ -1,11 +1,12 @@
-use Rattle.std.proofs.Common.{◌≡◌, ◌⊎◌, List, Some, ℕ, codes, map, subst, rules}
+use Rattle.std.proofs.Common.{◌≡◌, ◌⊎◌, List, Some, ℕ, codes, inl, inr, map, subst, rules, ⊎_elim}
 use Rattle.udfs_lattice.specs.Records.{join_all}
 use Rattle.udfs_common.specs.Keeping.{IsKept, IsTaken}
 use Rattle.udfs_common.specs.Spelling.{table_file}
 use Rattle.clap.specs.Matches.{found_of}
 use Rattle.udfs_words.specs.Asking.{IsPicked, asked_for, asked_inputs}
 use Rattle.udfs_words.specs.declared.forms.Version.TheVariants.{One, Two}
-use Rattle.udfs_tables.proofs.LeavingLemmas.{left_at, left_wider, may_merge}
+use Rattle.udfs_tables.proofs.LeavingLemmas.{left_at, left_wider, may_merge, unseen}
+use Rattle.udfs_tables.proofs.StoredLemmas.{of_held}
 use Rattle.udfs_tables.proofs.merge_words.merge_words.Goals as goal
 
 pub returns-in-Ok-merge-clause-written : goal.returns-in-Ok-merge-clause-written
@@ -64,3 +65,13 @@ returns-clause-left g c =
     let asked : map asked_for c.as_slice-2.result.now ≡ asked_inputs (found_of c.args.words.now) = search rules in
     left_at (F.shut c.args.files.now) c.asked_out.ensures
     (left_wider _ _ (λ Put put. (c.asked_version.result, c.as_slice-2.result.now, put.0, picked, asked, put.1, put.2)) c.in-Err-merge.ensures.left)
+
+pub returns-clause-why : goal.returns-clause-why
+returns-clause-why g c =
+    let asked : map asked_for c.as_slice-2.result.now ≡ asked_inputs (found_of c.args.words.now) = search rules in
+    inr (inr (inr (c.as_slice-2.result.now, asked, rw (← c.asked_out.ensures) c.in-Err-merge.ensures.why)))
+
+pub returns-in-Ok-Unknown-clause-why : goal.returns-in-Ok-Unknown-clause-why
+returns-in-Ok-Unknown-clause-why g c =
+    let asked : map asked_for c.as_slice.result.now ≡ asked_inputs (found_of c.args.words.now) = search rules in
+    ⊎_elim (λ out. inr (inr (inl (out, unseen _ _ _ _ _ (search rules))))) (λ h. inr (inr (inr (c.as_slice.result.now, asked, inl (of_held _ _ _ _ _ _ h))))) c.unwritten.ensures.blamed
