@@ -46,10 +46,10 @@ impl<'a> Stored for Told<'a> {
 }
 
 /// The reading with these bytes, which says of which blocks its records are.
-fn told<'a>(bytes: &'a [u8], blocks: &'a [u32]) -> Told<'a> {
+fn reading_of<'a>(bytes: &'a [u8], blocks: &'a [u32]) -> Told<'a> {
     Told {
         bytes,
-        count: blocks.len() as u32,
+        count: blocks.len().min(1000) as u32,
         blocks,
         reads: Cell::new(0),
     }
@@ -60,8 +60,8 @@ fn only_what_comes_again_is_read(rt: HostRuntime) -> Result<(), Fail> {
     let alloc = rt.alloc();
     let one = reading(alloc, &[(5, 0x61), (7, 0x62)])?;
     let two = reading(alloc, &[(7, 0x62), (9, 0x63)])?;
-    let a = told(one.as_slice(), &[5, 7]);
-    let b = told(two.as_slice(), &[7, 9]);
+    let a = reading_of(one.as_slice(), &[5, 7]);
+    let b = reading_of(two.as_slice(), &[7, 9]);
     let (index, error) = index_of(alloc, &a, &b)?;
     assert!(rt; error.is_none());
     assert_same(&rt, index.known(), 3);
@@ -78,8 +78,8 @@ fn other_bytes_are_a_conflict(rt: HostRuntime) -> Result<(), Fail> {
     let alloc = rt.alloc();
     let one = reading(alloc, &[(5, 0x61), (7, 0x62)])?;
     let two = reading(alloc, &[(7, 0x64), (9, 0x63)])?;
-    let a = told(one.as_slice(), &[5, 7]);
-    let b = told(two.as_slice(), &[7, 9]);
+    let a = reading_of(one.as_slice(), &[5, 7]);
+    let b = reading_of(two.as_slice(), &[7, 9]);
     let (mut index, error) = index_of(alloc, &a, &b)?;
     assert!(rt; error.is_none());
     assert_same(&rt, index.known(), 2);
@@ -92,10 +92,11 @@ fn other_bytes_are_a_conflict(rt: HostRuntime) -> Result<(), Fail> {
 fn bytes_that_are_not_there_are_told(rt: HostRuntime) -> Result<(), Fail> {
     let alloc = rt.alloc();
     let one = reading(alloc, &[(5, 0x61), (7, 0x62)])?;
-    let two = reading(alloc, &[(7, 0x62), (9, 0x63)])?;
-    let a = told(one.as_slice(), &[5, 7]);
+    let mut two = reading(alloc, &[(7, 0x62), (9, 0x63)])?;
     // It ends within its first block.
-    let b = told(&two.as_slice()[..1000], &[7, 9]);
+    two.truncate(1000);
+    let a = reading_of(one.as_slice(), &[5, 7]);
+    let b = reading_of(two.as_slice(), &[7, 9]);
     let (index, error) = index_of(alloc, &a, &b)?;
     match error {
         Some(error) => {
@@ -113,8 +114,8 @@ fn bytes_that_are_not_there_are_told(rt: HostRuntime) -> Result<(), Fail> {
 fn a_record_without_a_block_is_not_taken(rt: HostRuntime) -> Result<(), Fail> {
     let alloc = rt.alloc();
     let one = reading(alloc, &[(5, 0x61), (7, 0x62)])?;
-    let a = told(one.as_slice(), &[5, 7]);
-    let mut b = told(one.as_slice(), &[5, 7]);
+    let a = reading_of(one.as_slice(), &[5, 7]);
+    let mut b = reading_of(one.as_slice(), &[5, 7]);
     b.count = 3;
     let (_, error) = index_of(alloc, &a, &b)?;
     match error {
