@@ -17,6 +17,6 @@ mod wants;
 pub use runs::words_refused;
 pub use scripts::faults;
 pub use wants::{
-    files_want_memory, merge_wants_memory, short_names_want_memory, times_want_memory,
-    unnamed_want_memory,
+    files_want_memory, merge_wants_memory, page_wants_memory, short_names_want_memory,
+    times_want_memory, unnamed_want_memory,
 };

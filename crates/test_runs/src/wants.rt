@@ -79,6 +79,23 @@ pub fn merge_wants_memory(alloc: Global) -> Result<bool, AllocError> {
     Ok(is_refused && memory.has("t.tab", &[0x77; 5000]))
 }
 
+/// An old page.
+const OLD_PAGE: &[u8] = b"<!DOCTYPE html>\n<!-- a page of udfsalvage -->\nold";
+
+/// The page of the volume with one map, of which a file is torn, over an old page. It is put, or refused by the line of want of memory, and the old page stays.
+pub fn page_wants_memory(alloc: Global) -> Result<bool, AllocError> {
+    let table = table_but(alloc, &[278]);
+    let mut memory = with_table(alloc, table)?;
+    memory.store("p.html", OLD_PAGE)?;
+    let words = "page --last 600 --out p.html disc.tab";
+    let ran = ran_with_memory(alloc, &mut memory, words)?;
+    let is_old = memory.has("p.html", OLD_PAGE);
+    if ran.status == 1 {
+        return Ok(ran.out.is_empty() && ran.err.is_empty() && !is_old);
+    }
+    Ok(ran.is_refused("udfsalvage: out of memory\n") && is_old)
+}
+
 /// The files of the volume with one map. Each file that is told as written has its bytes.
 pub fn files_want_memory(alloc: Global) -> Result<bool, AllocError> {
     let a = a_bytes(alloc)?;

@@ -1,7 +1,8 @@
 //! What `page` writes. The discs have 601 blocks, of which each is an arc of the picture. A disc whose file `A` lacks block 278 lacks 2,048 of its 5,000 bytes.
 
-use crate::tests::check;
+use crate::tests::{assert_case, check};
 use std::test::Fail;
+use test_runs::page_wants_memory;
 
 static WHAT_A_PAGE_HAS: &str = r"
 = the_page_of_a_torn_disc
@@ -163,4 +164,38 @@ status 2
 #[test]
 fn where_a_page_goes(rt: HostRuntime) -> Result<(), Fail> {
     check(&rt, rt.alloc(), WHERE_A_PAGE_GOES)
+}
+
+static A_PAGE_IN_PIECES: &str = r"
+= a_page_of_many_nodes
+# Of 65,535 directories the page has some megabytes, so it is written in pieces. A device that fails behind some of them leaves the old page.
+disc doubling 0
+but
+
+$ page --last 600 --out p.html disc.tab
+silent
+file-counts p.html 65535 <small>folder</small>
+file-counts p.html 1 <bdi>/</bdi>
+file-ends p.html </details>\n</details>\n</body>\n</html>\n
+stays p.html
+
+file p.html text <!DOCTYPE html>\n<!-- a page of udfsalvage -->\nold
+outputs-fail 1000000
+$ page --last 600 --out p.html disc.tab
+refused udfsalvage: cannot write output\n
+has p.html text <!DOCTYPE html>\n<!-- a page of udfsalvage -->\nold
+survives p.html text <!DOCTYPE html>\n<!-- a page of udfsalvage -->\nold
+files 2
+";
+
+#[test]
+fn a_page_in_pieces(rt: HostRuntime) -> Result<(), Fail> {
+    check(&rt, rt.alloc(), A_PAGE_IN_PIECES)
+}
+
+/// With ample memory the page is put. Where one allocation is refused it is put, or refused by the line of want of memory and the old page stays: also where
+/// a beginning of the new one was written.
+#[test]
+fn want_of_memory_is_told(rt: HostRuntime) {
+    assert_case(&rt, !matches!(page_wants_memory(rt.alloc()), Ok(false)), "");
 }

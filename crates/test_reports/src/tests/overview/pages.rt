@@ -153,13 +153,14 @@ fn no_more_than_twenty_torn_files_in_the_table(rt: HostRuntime) -> Result<(), Fa
     Ok(())
 }
 
+/// Also where its last byte is not taken.
 #[test]
 fn a_sink_that_fails_is_told(rt: HostRuntime) -> Result<(), Fail> {
     let alloc = rt.alloc();
     let table = Disc::type1(alloc)?.known_but(alloc, &[278])?;
     let whole = page_of(alloc, &table)?;
     let survey = survey_volume(alloc, &table, LAST)?;
-    for good in [0usize, 1, 50_000] {
+    for good in [0usize, 1, 50_000, whole.len().saturating_sub(1)] {
         let bytes = Vec::new(alloc);
         let mut sink = Writer::new(Narrow { bytes, good });
         let outcome = write_page(alloc, &survey, &mut sink);
