@@ -162,7 +162,7 @@ impl Stored for MemoryStored {
     ghost fails = { λ _. ⊤ };
 
     fn size(&self) -> Result<u64, DeviceFault> {
-        Ok(self.bytes.len() as u64)
+        StoredBytes::new(self.bytes.as_slice()).size()
     }
 
     fn read_at(&self, at: u64, buf: &mut [u8]) -> Result<usize, DeviceFault> {
