@@ -5,9 +5,7 @@ ghost use Rattle.clap.specs.Matches.{found_of};
 ghost use Rattle.clap.specs.Words.{fault_of};
 ghost use Rattle.udfs_files.specs.Disk.{Fails, SinkFails};
 ghost use Rattle.udfs_volume.specs.declared.profiles.Profile.{Profile};
-ghost use Rattle.udfs_salvage.specs.declared.extraction.Fill.{Fill};
-ghost use Rattle.udfs_words.specs.Asking.{IsKnownProfile, IsLast, IsOneEnd, IsPicked, IsProfile, are_two_streams, asked_for, asked_inputs, asked_streams, folder_text, has_lost, has_manifest, has_only, input_texts, is_mapped, lost_text, manifest_text, mapfile_text, only_texts, out_text, pair_texts};
-ghost use Rattle.udfs_extraction.specs.Extracting.{ExtractsAll, ExtractsChosen, IsPut};
+ghost use Rattle.udfs_words.specs.Asking.{IsKnownProfile, IsLast, IsOneEnd, IsPicked, IsProfile, are_two_streams, asked_for, asked_inputs, asked_streams, has_lost, has_manifest, has_only, input_texts, is_mapped, mapfile_text, out_text, pair_texts};
 ghost use Rattle.udfs_tables.specs.Forgetting.{PutsForgotten};
 ghost use Rattle.udfs_common.specs.Guarding.{IsFreePair, IsFree, IsFreeMap};
 ghost use Rattle.udfs_tables.specs.Imaging.{ReplacesPair, WritesImage};
@@ -20,8 +18,8 @@ ghost use Rattle.clap.specs.declared.parser.matches.Found.{Found};
 ghost use Rattle.std.specs.String.{string_bytes};
 ghost use Rattle.udfs_extraction.specs.Sparing.{ExtractSpares};
 ghost use Rattle.udfs_tables.specs.Leaving.{MayForgetAsked, MayMerge, PutsJoin, ReplacesOut};
-ghost use Rattle.udfs_extraction.specs.LostFiles.{AddsLost, ExtractAsked, IsLostPut, IsNewFolder, SparesLost, WritesLost, lost_others};
-ghost use Rattle.udfs_extraction.specs.Manifests.{IsFreeManifest, IsManifest, IsPutLast, ListsChosen};
+ghost use Rattle.udfs_extraction.specs.ByWords.{AddsAsked, ExtractsAllAsked, ExtractsAsked, HasFreeManifest, HasNewFolder, ListsAddsAsked, ListsAsked};
+ghost use Rattle.udfs_extraction.specs.LostFiles.{lost_others};
 ghost use Rattle.udfs_reports.specs.Listing.{IsListForm, PrintsList};
 ghost use Rattle.udfs_reports.specs.Paging.{IsFreePage, MayPageAsked, PageAsked, ReplacesPage, WritesPage, page_path};
 ghost use Rattle.udfs_reports.specs.Summarizing.{PrintsSummary};
@@ -87,44 +85,18 @@ pub fn run<F: Files, O: Sink, E: Sink>(
         (F.tells → IsFreeMap (F.holds files.old) (F.real files.old) (F.in_place files.old) (pair_texts found) (mapfile_text found))) }
     // Where `--times` asks for times, one that could not be set is lacking too.
     ensures extract { GrammarTakes (map string_bytes words.now) → Asks (map string_bytes words.now) (codes "extract") → result ≢ 2 → (all : Bool) × (result ≡ cond all 0 1) × (found : Found) × IsAsked (map string_bytes words.now) (codes "extract") found ×
-        ((good : Bool) × IsTold found good all × (has_lost found ≡ false → has_manifest found ≡ false → has_only found ≡ false → (fill : Fill) × (short : Bool) × (last : ℕ) × (profile : Profile) × (inputs : List InputPath) × (map asked_for inputs ≡ asked_inputs found) ×
-        IsPicked found (codes "fill") (Fill.Byte 0) Fill.Refuse fill × IsPicked found (codes "short-names") true false short × IsLast (λ path. F.holds files.old (F.real files.old path)) inputs found last × IsProfile found profile ×
-        OfPaths (λ path. F.holds files.old (F.real files.old path)) (⟦<AnySource<F::Input, F::Image> as Source>⟧.remaining) inputs
-        (ExtractsAll short (λ table told. IsPut F.tells (Fails F.faults ⊎ SinkFails F.Output.stream) table told fill short (folder_text found) (F.holds files.new) (F.moment files.new) (F.left_since files.new))
-        files.old files.new profile last (O.stream out.old) (O.stream out.new) good))) }
+        ((good : Bool) × IsTold found good all × (has_lost found ≡ false → has_manifest found ≡ false → has_only found ≡ false → ExtractsAllAsked F.Files F.Output.stream found (⟦<AnySource<F::Input, F::Image> as Source>⟧.remaining) O.stream files.old files.new out.old out.new good)) }
     ensures chosen { GrammarTakes (map string_bytes words.now) → Asks (map string_bytes words.now) (codes "extract") → result ≢ 2 → (all : Bool) × (result ≡ cond all 0 1) × (found : Found) × IsAsked (map string_bytes words.now) (codes "extract") found ×
-        ((good : Bool) × IsTold found good all × (has_lost found ≡ false → has_manifest found ≡ false → (fill : Fill) × (short : Bool) × (last : ℕ) × (profile : Profile) × (inputs : List InputPath) × (map asked_for inputs ≡ asked_inputs found) ×
-        IsPicked found (codes "fill") (Fill.Byte 0) Fill.Refuse fill × IsPicked found (codes "short-names") true false short × IsLast (λ path. F.holds files.old (F.real files.old path)) inputs found last × IsProfile found profile ×
-        OfPaths (λ path. F.holds files.old (F.real files.old path)) (⟦<AnySource<F::Input, F::Image> as Source>⟧.remaining) inputs
-        (ExtractsChosen (only_texts found) short (λ table told. IsPut F.tells (Fails F.faults ⊎ SinkFails F.Output.stream) table told fill short (folder_text found) (F.holds files.new) (F.moment files.new) (F.left_since files.new))
-        F.holds (folder_text found) files.old files.new profile last (O.stream out.old) (O.stream out.new) good))) }
+        ((good : Bool) × IsTold found good all × (has_lost found ≡ false → has_manifest found ≡ false → ExtractsAsked F.Files F.Output.stream found (⟦<AnySource<F::Input, F::Image> as Source>⟧.remaining) O.stream files.old files.new out.old out.new good)) }
     ensures listed { GrammarTakes (map string_bytes words.now) → Asks (map string_bytes words.now) (codes "extract") → result ≢ 2 → (all : Bool) × (result ≡ cond all 0 1) × (found : Found) × IsAsked (map string_bytes words.now) (codes "extract") found ×
-        ((good : Bool) × IsTold found good all × (has_lost found ≡ false → has_manifest found ≡ true → ((fill : Fill) × (short : Bool) × (last : ℕ) × (profile : Profile) × (inputs : List InputPath) × (map asked_for inputs ≡ asked_inputs found) ×
-        IsPicked found (codes "fill") (Fill.Byte 0) Fill.Refuse fill × IsPicked found (codes "short-names") true false short × IsLast (λ path. F.holds files.old (F.real files.old path)) inputs found last × IsProfile found profile ×
-        OfPaths (λ path. F.holds files.old (F.real files.old path)) (⟦<AnySource<F::Input, F::Image> as Source>⟧.remaining) inputs
-        (ListsChosen (only_texts found) short
-        (λ f table told. IsPut F.tells (Fails F.faults ⊎ SinkFails F.Output.stream) table told fill short (folder_text found) (F.holds f) (F.moment f) (F.left_since f))
-        (λ f told fates text. F.tells → IsManifest (F.holds f) (folder_text found) short told fates text)
-        (λ f text. F.tells → IsPutLast F.holds F.may_leave F.moment F.left_since (F.real files.old (manifest_text found)) f files.new text)
-        F.holds (folder_text found) files.old files.new profile last (O.stream out.old) (O.stream out.new) good)) ×
-        (F.tells → IsFreeManifest (F.holds files.old) (F.real files.old) (input_texts found) (pair_texts found) (folder_text found) (manifest_text found)))) }
+        ((good : Bool) × IsTold found good all × (has_lost found ≡ false → has_manifest found ≡ true → ListsAsked F.Files F.Output.stream found (⟦<AnySource<F::Input, F::Image> as Source>⟧.remaining) O.stream files.old files.new out.old out.new good × HasFreeManifest F.Files found files.old)) }
     // With `--unnamed` the same, and then the lost files are written, into a folder that was not there.
     ensures lost { GrammarTakes (map string_bytes words.now) → Asks (map string_bytes words.now) (codes "extract") → result ≢ 2 → (all : Bool) × (result ≡ cond all 0 1) × (found : Found) × IsAsked (map string_bytes words.now) (codes "extract") found ×
-        ((good : Bool) × IsTold found good all × (has_lost found ≡ true → has_manifest found ≡ false → ExtractAsked (λ path. F.holds files.old (F.real files.old path)) (⟦<AnySource<F::Input, F::Image> as Source>⟧.remaining) found (λ fill short last profile. AddsLost
-        (λ (mid : F) (between : O) nodes_good. ExtractsChosen (only_texts found) short (λ table told. IsPut F.tells (Fails F.faults ⊎ SinkFails F.Output.stream) table told fill short (folder_text found) (F.holds mid) (F.moment mid) (F.left_since mid))
-        F.holds (folder_text found) files.old mid profile last (O.stream out.old) (O.stream between) nodes_good)
-        (λ (mid : F) (between : O) lost_good. WritesLost (λ table told two. IsLostPut F.tells (Fails F.faults ⊎ SinkFails F.Output.stream) table told (lost_text found) two (F.holds files.new) (F.moment files.new) (F.left_since files.new))
-        (SparesLost F.tells F.holds F.may_leave F.moment F.left_since (lost_text found) mid files.new) profile last (O.stream between) (O.stream out.new) lost_good) good))) }
+        ((good : Bool) × IsTold found good all × (has_lost found ≡ true → has_manifest found ≡ false → AddsAsked F.Files F.Output.stream found (⟦<AnySource<F::Input, F::Image> as Source>⟧.remaining) O.stream files.old files.new out.old out.new good)) }
     ensures listed_lost { GrammarTakes (map string_bytes words.now) → Asks (map string_bytes words.now) (codes "extract") → result ≢ 2 → (all : Bool) × (result ≡ cond all 0 1) × (found : Found) × IsAsked (map string_bytes words.now) (codes "extract") found ×
-        ((good : Bool) × IsTold found good all × (has_lost found ≡ true → has_manifest found ≡ true → ExtractAsked (λ path. F.holds files.old (F.real files.old path)) (⟦<AnySource<F::Input, F::Image> as Source>⟧.remaining) found (λ fill short last profile. AddsLost
-        (λ (mid : F) (between : O) nodes_good. ListsChosen (only_texts found) short (λ f table told. IsPut F.tells (Fails F.faults ⊎ SinkFails F.Output.stream) table told fill short (folder_text found) (F.holds f) (F.moment f) (F.left_since f))
-        (λ f told fates text. F.tells → IsManifest (F.holds f) (folder_text found) short told fates text)
-        (λ f text. F.tells → IsPutLast F.holds F.may_leave F.moment F.left_since (F.real files.old (manifest_text found)) f mid text)
-        F.holds (folder_text found) files.old mid profile last (O.stream out.old) (O.stream between) nodes_good)
-        (λ (mid : F) (between : O) lost_good. WritesLost (λ table told two. IsLostPut F.tells (Fails F.faults ⊎ SinkFails F.Output.stream) table told (lost_text found) two (F.holds files.new) (F.moment files.new) (F.left_since files.new))
-        (SparesLost F.tells F.holds F.may_leave F.moment F.left_since (lost_text found) mid files.new) profile last (O.stream between) (O.stream out.new) lost_good) good))) }
+        ((good : Bool) × IsTold found good all × (has_lost found ≡ true → has_manifest found ≡ true → ListsAddsAsked F.Files F.Output.stream found (⟦<AnySource<F::Input, F::Image> as Source>⟧.remaining) O.stream files.old files.new out.old out.new good)) }
     ensures free_lost { GrammarTakes (map string_bytes words.now) → Asks (map string_bytes words.now) (codes "extract") → result ≢ 2 → (good : Bool) × (result ≡ cond good 0 1) × (found : Found) × IsAsked (map string_bytes words.now) (codes "extract") found ×
-        ((has_lost found ≡ true → F.tells → IsNewFolder (F.holds files.old) (F.real files.old) (lost_others found) (lost_text found)) × (has_lost found ≡ true → has_manifest found ≡ true → F.tells → IsFreeManifest (F.holds files.old) (F.real files.old) (input_texts found) (pair_texts found) (folder_text found) (manifest_text found))) }
+        ((has_lost found ≡ true → HasNewFolder F.Files found (lost_others found) files.old) × (has_lost found ≡ true → has_manifest found ≡ true → HasFreeManifest F.Files found files.old)) }
     ensures forget { GrammarTakes (map string_bytes words.now) → Asks (map string_bytes words.now) (codes "forget") → result ≢ 2 → (result ≡ 0) × (found : Found) × IsAsked (map string_bytes words.now) (codes "forget") found ×
         PutsForgotten (λ path. F.holds files.old (F.real files.old path)) (⟦<AnySource<F::Input, F::Image> as Source>⟧.remaining) found
         (λ bytes. (F.tells → IsKept (F.holds files.new) (F.may_leave files.new) (F.real files.old (out_text found)) bytes) ⊎ (F.in_place files.old (out_text found) × IsTaken F.Output.stream bytes)) ×
@@ -244,38 +216,18 @@ fn obey<F: Files, O: Sink>(
     ensures reread { name.now ≡ codes "reread" → IfSome result (λ outcome. IfOk outcome (λ whole. is_mapped (found_of words.now) ≡ false → (last : ℕ) × (profile : Profile) × (inputs : List InputPath) × (map asked_for inputs ≡ asked_inputs (found_of words.now)) ×
         IsLast (λ path. F.holds files.old (F.real files.old path)) inputs (found_of words.now) last × IsProfile (found_of words.now) profile × OfPaths (λ path. F.holds files.old (F.real files.old path)) (⟦<AnySource<F::Input, F::Image> as Source>⟧.remaining) inputs
         (PrintsNumbers profile last (O.stream out.old) (O.stream out.new) whole))) }
-    ensures extract { name.now ≡ codes "extract" → IfSome result (λ outcome. IfOk outcome (λ all. (good : Bool) × IsTold (found_of words.now) good all × (has_lost (found_of words.now) ≡ false → has_manifest (found_of words.now) ≡ false → has_only (found_of words.now) ≡ false → (fill : Fill) × (short : Bool) × (last : ℕ) × (profile : Profile) × (inputs : List InputPath) × (map asked_for inputs ≡ asked_inputs (found_of words.now)) ×
-        IsPicked (found_of words.now) (codes "fill") (Fill.Byte 0) Fill.Refuse fill × IsPicked (found_of words.now) (codes "short-names") true false short × IsLast (λ path. F.holds files.old (F.real files.old path)) inputs (found_of words.now) last × IsProfile (found_of words.now) profile ×
-        OfPaths (λ path. F.holds files.old (F.real files.old path)) (⟦<AnySource<F::Input, F::Image> as Source>⟧.remaining) inputs
-        (ExtractsAll short (λ table told. IsPut F.tells (Fails F.faults ⊎ SinkFails F.Output.stream) table told fill short (folder_text (found_of words.now)) (F.holds files.new) (F.moment files.new) (F.left_since files.new))
-        files.old files.new profile last (O.stream out.old) (O.stream out.new) good)))) }
-    ensures chosen { name.now ≡ codes "extract" → IfSome result (λ outcome. IfOk outcome (λ all. (good : Bool) × IsTold (found_of words.now) good all × (has_lost (found_of words.now) ≡ false → has_manifest (found_of words.now) ≡ false → (fill : Fill) × (short : Bool) × (last : ℕ) × (profile : Profile) × (inputs : List InputPath) × (map asked_for inputs ≡ asked_inputs (found_of words.now)) ×
-        IsPicked (found_of words.now) (codes "fill") (Fill.Byte 0) Fill.Refuse fill × IsPicked (found_of words.now) (codes "short-names") true false short × IsLast (λ path. F.holds files.old (F.real files.old path)) inputs (found_of words.now) last × IsProfile (found_of words.now) profile ×
-        OfPaths (λ path. F.holds files.old (F.real files.old path)) (⟦<AnySource<F::Input, F::Image> as Source>⟧.remaining) inputs
-        (ExtractsChosen (only_texts (found_of words.now)) short (λ table told. IsPut F.tells (Fails F.faults ⊎ SinkFails F.Output.stream) table told fill short (folder_text (found_of words.now)) (F.holds files.new) (F.moment files.new) (F.left_since files.new))
-        F.holds (folder_text (found_of words.now)) files.old files.new profile last (O.stream out.old) (O.stream out.new) good)))) }
-    ensures listed { name.now ≡ codes "extract" → IfSome result (λ outcome. IfOk outcome (λ all. (good : Bool) × IsTold (found_of words.now) good all × (has_lost (found_of words.now) ≡ false → has_manifest (found_of words.now) ≡ true → ((fill : Fill) × (short : Bool) × (last : ℕ) × (profile : Profile) × (inputs : List InputPath) × (map asked_for inputs ≡ asked_inputs (found_of words.now)) ×
-        IsPicked (found_of words.now) (codes "fill") (Fill.Byte 0) Fill.Refuse fill × IsPicked (found_of words.now) (codes "short-names") true false short × IsLast (λ path. F.holds files.old (F.real files.old path)) inputs (found_of words.now) last × IsProfile (found_of words.now) profile ×
-        OfPaths (λ path. F.holds files.old (F.real files.old path)) (⟦<AnySource<F::Input, F::Image> as Source>⟧.remaining) inputs
-        (ListsChosen (only_texts (found_of words.now)) short
-        (λ f table told. IsPut F.tells (Fails F.faults ⊎ SinkFails F.Output.stream) table told fill short (folder_text (found_of words.now)) (F.holds f) (F.moment f) (F.left_since f))
-        (λ f told fates text. F.tells → IsManifest (F.holds f) (folder_text (found_of words.now)) short told fates text)
-        (λ f text. F.tells → IsPutLast F.holds F.may_leave F.moment F.left_since (F.real files.old (manifest_text (found_of words.now))) f files.new text)
-        F.holds (folder_text (found_of words.now)) files.old files.new profile last (O.stream out.old) (O.stream out.new) good)) ×
-        (F.tells → IsFreeManifest (F.holds files.old) (F.real files.old) (input_texts (found_of words.now)) (pair_texts (found_of words.now)) (folder_text (found_of words.now)) (manifest_text (found_of words.now)))))) }
-    ensures lost { name.now ≡ codes "extract" → IfSome result (λ outcome. IfOk outcome (λ all. (good : Bool) × IsTold (found_of words.now) good all × (has_lost (found_of words.now) ≡ true → has_manifest (found_of words.now) ≡ false → ExtractAsked (λ path. F.holds files.old (F.real files.old path)) (⟦<AnySource<F::Input, F::Image> as Source>⟧.remaining) (found_of words.now) (λ fill short last profile. AddsLost
-        (λ (mid : F) (between : O) nodes_good. ExtractsChosen (only_texts (found_of words.now)) short (λ table told. IsPut F.tells (Fails F.faults ⊎ SinkFails F.Output.stream) table told fill short (folder_text (found_of words.now)) (F.holds mid) (F.moment mid) (F.left_since mid))
-        F.holds (folder_text (found_of words.now)) files.old mid profile last (O.stream out.old) (O.stream between) nodes_good)
-        (λ (mid : F) (between : O) lost_good. WritesLost (λ table told two. IsLostPut F.tells (Fails F.faults ⊎ SinkFails F.Output.stream) table told (lost_text (found_of words.now)) two (F.holds files.new) (F.moment files.new) (F.left_since files.new))
-        (SparesLost F.tells F.holds F.may_leave F.moment F.left_since (lost_text (found_of words.now)) mid files.new) profile last (O.stream between) (O.stream out.new) lost_good) good)))) }
-    ensures listed_lost { name.now ≡ codes "extract" → IfSome result (λ outcome. IfOk outcome (λ all. (good : Bool) × IsTold (found_of words.now) good all × (has_lost (found_of words.now) ≡ true → has_manifest (found_of words.now) ≡ true → ExtractAsked (λ path. F.holds files.old (F.real files.old path)) (⟦<AnySource<F::Input, F::Image> as Source>⟧.remaining) (found_of words.now) (λ fill short last profile. AddsLost
-        (λ (mid : F) (between : O) nodes_good. ListsChosen (only_texts (found_of words.now)) short (λ f table told. IsPut F.tells (Fails F.faults ⊎ SinkFails F.Output.stream) table told fill short (folder_text (found_of words.now)) (F.holds f) (F.moment f) (F.left_since f))
-        (λ f told fates text. F.tells → IsManifest (F.holds f) (folder_text (found_of words.now)) short told fates text)
-        (λ f text. F.tells → IsPutLast F.holds F.may_leave F.moment F.left_since (F.real files.old (manifest_text (found_of words.now))) f mid text)
-        F.holds (folder_text (found_of words.now)) files.old mid profile last (O.stream out.old) (O.stream between) nodes_good)
-        (λ (mid : F) (between : O) lost_good. WritesLost (λ table told two. IsLostPut F.tells (Fails F.faults ⊎ SinkFails F.Output.stream) table told (lost_text (found_of words.now)) two (F.holds files.new) (F.moment files.new) (F.left_since files.new))
-        (SparesLost F.tells F.holds F.may_leave F.moment F.left_since (lost_text (found_of words.now)) mid files.new) profile last (O.stream between) (O.stream out.new) lost_good) good)))) }
-    ensures free_lost { name.now ≡ codes "extract" → IfSome result (λ outcome. IfOk outcome (λ good. (has_lost (found_of words.now) ≡ true → F.tells → IsNewFolder (F.holds files.old) (F.real files.old) (lost_others (found_of words.now)) (lost_text (found_of words.now))) × (has_lost (found_of words.now) ≡ true → has_manifest (found_of words.now) ≡ true → F.tells → IsFreeManifest (F.holds files.old) (F.real files.old) (input_texts (found_of words.now)) (pair_texts (found_of words.now)) (folder_text (found_of words.now)) (manifest_text (found_of words.now))))) }
+    ensures extract { name.now ≡ codes "extract" → IfSome result (λ outcome. IfOk outcome (λ all. (good : Bool) × IsTold (found_of words.now) good all ×
+        (has_lost (found_of words.now) ≡ false → has_manifest (found_of words.now) ≡ false → has_only (found_of words.now) ≡ false → ExtractsAllAsked F.Files F.Output.stream (found_of words.now) (⟦<AnySource<F::Input, F::Image> as Source>⟧.remaining) O.stream files.old files.new out.old out.new good))) }
+    ensures chosen { name.now ≡ codes "extract" → IfSome result (λ outcome. IfOk outcome (λ all. (good : Bool) × IsTold (found_of words.now) good all ×
+        (has_lost (found_of words.now) ≡ false → has_manifest (found_of words.now) ≡ false → ExtractsAsked F.Files F.Output.stream (found_of words.now) (⟦<AnySource<F::Input, F::Image> as Source>⟧.remaining) O.stream files.old files.new out.old out.new good))) }
+    ensures listed { name.now ≡ codes "extract" → IfSome result (λ outcome. IfOk outcome (λ all. (good : Bool) × IsTold (found_of words.now) good all ×
+        (has_lost (found_of words.now) ≡ false → has_manifest (found_of words.now) ≡ true → ListsAsked F.Files F.Output.stream (found_of words.now) (⟦<AnySource<F::Input, F::Image> as Source>⟧.remaining) O.stream files.old files.new out.old out.new good × HasFreeManifest F.Files (found_of words.now) files.old))) }
+    ensures lost { name.now ≡ codes "extract" → IfSome result (λ outcome. IfOk outcome (λ all. (good : Bool) × IsTold (found_of words.now) good all ×
+        (has_lost (found_of words.now) ≡ true → has_manifest (found_of words.now) ≡ false → AddsAsked F.Files F.Output.stream (found_of words.now) (⟦<AnySource<F::Input, F::Image> as Source>⟧.remaining) O.stream files.old files.new out.old out.new good))) }
+    ensures listed_lost { name.now ≡ codes "extract" → IfSome result (λ outcome. IfOk outcome (λ all. (good : Bool) × IsTold (found_of words.now) good all ×
+        (has_lost (found_of words.now) ≡ true → has_manifest (found_of words.now) ≡ true → ListsAddsAsked F.Files F.Output.stream (found_of words.now) (⟦<AnySource<F::Input, F::Image> as Source>⟧.remaining) O.stream files.old files.new out.old out.new good))) }
+    ensures free_lost { name.now ≡ codes "extract" → IfSome result (λ outcome. IfOk outcome (λ good.
+        (has_lost (found_of words.now) ≡ true → HasNewFolder F.Files (found_of words.now) (lost_others (found_of words.now)) files.old) × (has_lost (found_of words.now) ≡ true → has_manifest (found_of words.now) ≡ true → HasFreeManifest F.Files (found_of words.now) files.old))) }
     ensures done_forget { name.now ≡ codes "forget" → IfSome result (λ outcome. IfOk outcome (λ whole. whole ≡ true)) }
     ensures forget { name.now ≡ codes "forget" → IfSome result (λ outcome. OnOk outcome
         (PutsForgotten (λ path. F.holds files.old (F.real files.old path)) (⟦<AnySource<F::Input, F::Image> as Source>⟧.remaining) (found_of words.now)

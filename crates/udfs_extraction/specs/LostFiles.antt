@@ -7,7 +7,6 @@
 --     SparesLost .. before after       no file that was there changes, nor anything outside of the folder, whatever crashes
 --     WritesLost                       what is made and told of the entries of the report of a table
 --     AddsLost                         the nodes are written and told as without `--unnamed`, and then the lost files
---     ExtractAsked                     this holds of the inputs, by what the words ask for
 --     IsNewFolder                      nothing is where the folder is to be, and other paths do not lead there
 use Rattle.std.specs.Prelude.{◌≡◌, ◌≢◌, ℕ, Bool, true, false, List, [], ◌∷◌, ◌++◌, ⊤, ◌&&◌, Option, Some, None, cond, codes, length, map}
 use Rattle.udfs_file.specs.declared.cells.Cell.{Cell}
@@ -21,14 +20,10 @@ use Rattle.udfs_salvage.specs.Reports.{Report, IsReportBy}
 use Rattle.udfs_salvage.specs.Texts.{has_two, line}
 use Rattle.udfs_salvage.specs.UnnamedExtraction.{HasUnnamedCellsBy, is_lost_file}
 use Rattle.clap.specs.declared.parser.matches.Found.{Found}
-use Rattle.udfs_salvage.specs.declared.extraction.Fill.{Fill}
-use Rattle.udfs_salvage.specs.declared.extraction.Fill.TheVariants.{Refuse, Byte}
-use Rattle.udfs_words.specs.Asking.{IsLast, IsPicked, IsProfile, asked_for, asked_inputs, folder_text, has_manifest, manifest_text}
+use Rattle.udfs_words.specs.Asking.{folder_text, has_manifest, manifest_text}
 use Rattle.udfs_extraction.specs.Extracting.{IsFateOf, IsSafe, Stay, all_good, is_good}
 use Rattle.udfs_common.specs.Guarding.{NoneLeads}
-use Rattle.udfs_common.specs.Keeping.{OfPaths}
 use Rattle.udfs_extraction.specs.ShortNames.{icb_number}
-use Rattle.udfs_words.specs.declared.input_path.InputPath.{InputPath}
 use Rattle.udfs_extraction.specs.declared.extract.Deed.{Deed}
 use Rattle.udfs_extraction.specs.declared.extract.Deed.TheVariants.{File, Skip}
 use Rattle.udfs_extraction.specs.declared.extract.Fate.{Fate}
@@ -133,17 +128,3 @@ pub record IsNewFolder (holds : List ℕ → Option (Option (List ℕ))) (real :
 -- other paths that may not lead to the folder: that of the nodes, and that of a manifest
 abbrev pub lost_others : Found → List (List ℕ)
 lost_others words = cond (has_manifest words) (folder_text words ∷ manifest_text words ∷ []) (folder_text words ∷ [])
-
--- this holds of the inputs, by the last block, the profile, the fill and the names that the words ask for
-pub record ExtractAsked {R : Type 0} (found : List ℕ → Option (Option (List ℕ))) (remaining : R → Option (List ℕ)) (words : Found) (Holds : Fill → Bool → ℕ → Profile → Table → Type 0) : Type 0 where
-  pub fill : Fill
-  pub short : Bool
-  pub last : ℕ
-  pub profile : Profile
-  pub inputs : List InputPath
-  pub are_inputs : map asked_for inputs ≡ asked_inputs words
-  pub is_fill : IsPicked words (codes "fill") (Byte 0) Refuse fill
-  pub is_short : IsPicked words (codes "short-names") true false short
-  pub is_last : IsLast found inputs words last
-  pub is_profile : IsProfile words profile
-  pub of_inputs : OfPaths found remaining inputs (Holds fill short last profile)

@@ -1,16 +1,14 @@
 //! What the words after `extract` ask for.
 
-ghost use Rattle.std.specs.Prelude.{◌≡◌, ◌⊎◌, ℕ, Bool, List, true, false, None, Some, IfOk, IfErr, OnOk, codes, map, string_bytes};
+ghost use Rattle.std.specs.Prelude.{◌≡◌, ℕ, Bool, List, true, false, None, Some, IfOk, IfErr, OnOk, codes, string_bytes};
 ghost use Rattle.clap.specs.Matches.{found_of, one_text};
-ghost use Rattle.udfs_volume.specs.declared.profiles.Profile.{Profile};
-ghost use Rattle.udfs_files.specs.Disk.{Fails, SinkFails, Goes};
+ghost use Rattle.udfs_files.specs.Disk.{Goes};
 ghost use Rattle.udfs_salvage.specs.declared.extraction.Fill.{Fill};
-ghost use Rattle.udfs_words.specs.Asking.{IsLast, IsPicked, IsProfile, asked_for, asked_inputs, folder_text, has_manifest, has_only, input_texts, manifest_text, only_texts, pair_texts};
-ghost use Rattle.udfs_extraction.specs.Extracting.{ExtractsAll, ExtractsChosen, IsIn, IsPut, Spares, Stay};
-ghost use Rattle.udfs_common.specs.Keeping.{OfPaths};
-ghost use Rattle.udfs_extraction.specs.Manifests.{IsFreeManifest, IsManifest, IsPutLast, ListsChosen, SparesListed};
+ghost use Rattle.udfs_words.specs.Asking.{IsPicked, folder_text, has_manifest, has_only, manifest_text};
+ghost use Rattle.udfs_extraction.specs.Extracting.{IsIn, Spares, Stay};
+ghost use Rattle.udfs_extraction.specs.Manifests.{SparesListed};
+ghost use Rattle.udfs_extraction.specs.ByWords.{HasFreeManifest, ListsAsked, ExtractsAsked, ExtractsAllAsked};
 ghost use Rattle.udfs_common.specs.declared.sources.AnySource.{AnySource};
-ghost use Rattle.udfs_words.specs.declared.input_path.InputPath.{InputPath};
 
 use crate::choosing::ALL;
 use crate::extract::extract;
@@ -55,17 +53,10 @@ fn extract_words<F: Files, O: Sink>(
     files: &mut F,
     out: &mut O,
 ) -> Result<bool, Refusal>
-    ensures extracted { IfOk result (λ good. has_only (found_of words.now) ≡ false → (fill : Fill) × (short : Bool) × (last : ℕ) × (profile : Profile) × (inputs : List InputPath) × (map asked_for inputs ≡ asked_inputs (found_of words.now)) ×
-        IsPicked (found_of words.now) (codes "fill") (Fill.Byte 0) Fill.Refuse fill × IsPicked (found_of words.now) (codes "short-names") true false short × IsLast (λ path. F.holds files.old (F.real files.old path)) inputs (found_of words.now) last × IsProfile (found_of words.now) profile ×
-        OfPaths (λ path. F.holds files.old (F.real files.old path)) (⟦<AnySource<F::Input, F::Image> as Source>⟧.remaining) inputs
-        (ExtractsAll short (λ table told. IsPut F.tells (Fails F.faults ⊎ SinkFails F.Output.stream) table told fill short (folder_text (found_of words.now)) (F.holds files.new) (F.moment files.new) (F.left_since files.new))
-        files.old files.new profile last (O.stream out.old) (O.stream out.new) good)) }
+    ensures extracted { IfOk result (λ good. has_only (found_of words.now) ≡ false →
+        ExtractsAllAsked F.Files F.Output.stream (found_of words.now) (⟦<AnySource<F::Input, F::Image> as Source>⟧.remaining) O.stream files.old files.new out.old out.new good) }
     // With `--only` or without: only what is asked for is made, told and judged.
-    ensures chosen { IfOk result (λ good. (fill : Fill) × (short : Bool) × (last : ℕ) × (profile : Profile) × (inputs : List InputPath) × (map asked_for inputs ≡ asked_inputs (found_of words.now)) ×
-        IsPicked (found_of words.now) (codes "fill") (Fill.Byte 0) Fill.Refuse fill × IsPicked (found_of words.now) (codes "short-names") true false short × IsLast (λ path. F.holds files.old (F.real files.old path)) inputs (found_of words.now) last × IsProfile (found_of words.now) profile ×
-        OfPaths (λ path. F.holds files.old (F.real files.old path)) (⟦<AnySource<F::Input, F::Image> as Source>⟧.remaining) inputs
-        (ExtractsChosen (only_texts (found_of words.now)) short (λ table told. IsPut F.tells (Fails F.faults ⊎ SinkFails F.Output.stream) table told fill short (folder_text (found_of words.now)) (F.holds files.new) (F.moment files.new) (F.left_since files.new))
-        F.holds (folder_text (found_of words.now)) files.old files.new profile last (O.stream out.old) (O.stream out.new) good)) }
+    ensures chosen { IfOk result (λ good. ExtractsAsked F.Files F.Output.stream (found_of words.now) (⟦<AnySource<F::Input, F::Image> as Source>⟧.remaining) O.stream files.old files.new out.old out.new good) }
     // A path that is no node's is refused before anything is made.
     ensures no_node { IfErr result (λ refusal. (i : ℕ) → refusal ≡ Refusal.NoNode i → files.new ≡ files.old) }
     ensures stays { F.tells → Stay (F.holds files.old) (F.holds files.new) }
@@ -95,7 +86,7 @@ pub fn asked_place<F: Files>(
     files: &F,
 ) -> Result<String, Refusal>
     ensures leads { IfOk result (λ place. F.tells → string_bytes place ≡ F.real files.now (manifest_text (found_of words.now))) }
-    ensures free { OnOk result (F.tells → IsFreeManifest (F.holds files.now) (F.real files.now) (input_texts (found_of words.now)) (pair_texts (found_of words.now)) (folder_text (found_of words.now)) (manifest_text (found_of words.now))) }
+    ensures free { OnOk result (HasFreeManifest F.Files (found_of words.now) files.now) }
 {
     let inputs = words.get_strs(INPUTS).unwrap_or(&[]);
     let parts = words.get_strs(PAIRS).unwrap_or(&[]);
@@ -113,16 +104,9 @@ fn manifest_words<F: Files, O: Sink>(
     files: &mut F,
     out: &mut O,
 ) -> Result<bool, Refusal>
-    ensures listed { IfOk result (λ good. (fill : Fill) × (short : Bool) × (last : ℕ) × (profile : Profile) × (inputs : List InputPath) × (map asked_for inputs ≡ asked_inputs (found_of words.now)) ×
-        IsPicked (found_of words.now) (codes "fill") (Fill.Byte 0) Fill.Refuse fill × IsPicked (found_of words.now) (codes "short-names") true false short × IsLast (λ path. F.holds files.old (F.real files.old path)) inputs (found_of words.now) last × IsProfile (found_of words.now) profile ×
-        OfPaths (λ path. F.holds files.old (F.real files.old path)) (⟦<AnySource<F::Input, F::Image> as Source>⟧.remaining) inputs
-        (ListsChosen (only_texts (found_of words.now)) short
-        (λ f table told. IsPut F.tells (Fails F.faults ⊎ SinkFails F.Output.stream) table told fill short (folder_text (found_of words.now)) (F.holds f) (F.moment f) (F.left_since f))
-        (λ f told fates text. F.tells → IsManifest (F.holds f) (folder_text (found_of words.now)) short told fates text)
-        (λ f text. F.tells → IsPutLast F.holds F.may_leave F.moment F.left_since (F.real files.old (manifest_text (found_of words.now))) f files.new text)
-        F.holds (folder_text (found_of words.now)) files.old files.new profile last (O.stream out.old) (O.stream out.new) good)) }
+    ensures listed { IfOk result (λ good. ListsAsked F.Files F.Output.stream (found_of words.now) (⟦<AnySource<F::Input, F::Image> as Source>⟧.remaining) O.stream files.old files.new out.old out.new good) }
     // It takes the place of no file but a manifest, and never that of an input, nor of a file that is written.
-    ensures free { OnOk result (F.tells → IsFreeManifest (F.holds files.old) (F.real files.old) (input_texts (found_of words.now)) (pair_texts (found_of words.now)) (folder_text (found_of words.now)) (manifest_text (found_of words.now))) }
+    ensures free { OnOk result (HasFreeManifest F.Files (found_of words.now) files.old) }
     // A path that is no node's is refused before anything is made.
     ensures no_node { IfErr result (λ refusal. (i : ℕ) → refusal ≡ Refusal.NoNode i → files.new ≡ files.old) }
     ensures spares { (short : Bool) × IsPicked (found_of words.now) (codes "short-names") true false short × SparesListed F.tells F.holds F.may_leave F.moment F.left_since short (folder_text (found_of words.now)) (F.real files.old (manifest_text (found_of words.now))) files.old files.new }
@@ -165,27 +149,14 @@ pub fn extract_as<F: Files, O: Sink>(
     files: &mut F,
     out: &mut O,
 ) -> Result<bool, Refusal>
-    ensures extracted { IfOk result (λ good. has_manifest (found_of words.now) ≡ false → has_only (found_of words.now) ≡ false → (fill : Fill) × (short : Bool) × (last : ℕ) × (profile : Profile) × (inputs : List InputPath) × (map asked_for inputs ≡ asked_inputs (found_of words.now)) ×
-        IsPicked (found_of words.now) (codes "fill") (Fill.Byte 0) Fill.Refuse fill × IsPicked (found_of words.now) (codes "short-names") true false short × IsLast (λ path. F.holds files.old (F.real files.old path)) inputs (found_of words.now) last × IsProfile (found_of words.now) profile ×
-        OfPaths (λ path. F.holds files.old (F.real files.old path)) (⟦<AnySource<F::Input, F::Image> as Source>⟧.remaining) inputs
-        (ExtractsAll short (λ table told. IsPut F.tells (Fails F.faults ⊎ SinkFails F.Output.stream) table told fill short (folder_text (found_of words.now)) (F.holds files.new) (F.moment files.new) (F.left_since files.new))
-        files.old files.new profile last (O.stream out.old) (O.stream out.new) good)) }
+    ensures extracted { IfOk result (λ good. has_manifest (found_of words.now) ≡ false → has_only (found_of words.now) ≡ false →
+        ExtractsAllAsked F.Files F.Output.stream (found_of words.now) (⟦<AnySource<F::Input, F::Image> as Source>⟧.remaining) O.stream files.old files.new out.old out.new good) }
     // With `--only` or without: only what is asked for is made, told and judged.
-    ensures chosen { IfOk result (λ good. has_manifest (found_of words.now) ≡ false → (fill : Fill) × (short : Bool) × (last : ℕ) × (profile : Profile) × (inputs : List InputPath) × (map asked_for inputs ≡ asked_inputs (found_of words.now)) ×
-        IsPicked (found_of words.now) (codes "fill") (Fill.Byte 0) Fill.Refuse fill × IsPicked (found_of words.now) (codes "short-names") true false short × IsLast (λ path. F.holds files.old (F.real files.old path)) inputs (found_of words.now) last × IsProfile (found_of words.now) profile ×
-        OfPaths (λ path. F.holds files.old (F.real files.old path)) (⟦<AnySource<F::Input, F::Image> as Source>⟧.remaining) inputs
-        (ExtractsChosen (only_texts (found_of words.now)) short (λ table told. IsPut F.tells (Fails F.faults ⊎ SinkFails F.Output.stream) table told fill short (folder_text (found_of words.now)) (F.holds files.new) (F.moment files.new) (F.left_since files.new))
-        F.holds (folder_text (found_of words.now)) files.old files.new profile last (O.stream out.old) (O.stream out.new) good)) }
+    ensures chosen { IfOk result (λ good. has_manifest (found_of words.now) ≡ false →
+        ExtractsAsked F.Files F.Output.stream (found_of words.now) (⟦<AnySource<F::Input, F::Image> as Source>⟧.remaining) O.stream files.old files.new out.old out.new good) }
     // With `--manifest` the same, and then the manifest is put.
-    ensures listed { IfOk result (λ good. has_manifest (found_of words.now) ≡ true → ((fill : Fill) × (short : Bool) × (last : ℕ) × (profile : Profile) × (inputs : List InputPath) × (map asked_for inputs ≡ asked_inputs (found_of words.now)) ×
-        IsPicked (found_of words.now) (codes "fill") (Fill.Byte 0) Fill.Refuse fill × IsPicked (found_of words.now) (codes "short-names") true false short × IsLast (λ path. F.holds files.old (F.real files.old path)) inputs (found_of words.now) last × IsProfile (found_of words.now) profile ×
-        OfPaths (λ path. F.holds files.old (F.real files.old path)) (⟦<AnySource<F::Input, F::Image> as Source>⟧.remaining) inputs
-        (ListsChosen (only_texts (found_of words.now)) short
-        (λ f table told. IsPut F.tells (Fails F.faults ⊎ SinkFails F.Output.stream) table told fill short (folder_text (found_of words.now)) (F.holds f) (F.moment f) (F.left_since f))
-        (λ f told fates text. F.tells → IsManifest (F.holds f) (folder_text (found_of words.now)) short told fates text)
-        (λ f text. F.tells → IsPutLast F.holds F.may_leave F.moment F.left_since (F.real files.old (manifest_text (found_of words.now))) f files.new text)
-        F.holds (folder_text (found_of words.now)) files.old files.new profile last (O.stream out.old) (O.stream out.new) good)) ×
-        (F.tells → IsFreeManifest (F.holds files.old) (F.real files.old) (input_texts (found_of words.now)) (pair_texts (found_of words.now)) (folder_text (found_of words.now)) (manifest_text (found_of words.now)))) }
+    ensures listed { IfOk result (λ good. has_manifest (found_of words.now) ≡ true →
+        ListsAsked F.Files F.Output.stream (found_of words.now) (⟦<AnySource<F::Input, F::Image> as Source>⟧.remaining) O.stream files.old files.new out.old out.new good × HasFreeManifest F.Files (found_of words.now) files.old) }
     // A path that is no node's is refused before anything is made.
     ensures no_node { IfErr result (λ refusal. (i : ℕ) → refusal ≡ Refusal.NoNode i → files.new ≡ files.old) }
     ensures stays { has_manifest (found_of words.now) ≡ false → F.tells → Stay (F.holds files.old) (F.holds files.new) }

@@ -24,23 +24,23 @@ returns-in-Ok-extract_listed-clause-listed g c =
     let only : map (λ (p : Bor (List ℕ)). p.now) c.unwrap_or-only.result.now ≡ only_texts (found_of c.args.words.now) = paths_or _ _ _ _ (codes "/" ∷ []) c.get_strs.ensures refl c.unwrap_or-only.ensures in
     let at : F.tells → c.as_str.result.now ≡ F.real c.args.files.now (manifest_text (found_of c.args.words.now)) = λ told. search rules in
     let of_nodes = rw only at c.in-Ok-extract_listed.ensures.listed in
-    let listed = rw c.asked_folder-folder.ensures at of_nodes in (
-      c.asked_fill-fill.result,
-      c.asked_short-short.result,
-      c.in_ok-last.last,
-      c.asked_profile-profile.result,
-      c.as_slice-paths.result.now,
-      search rules,
-      record { with_flag = c.asked_fill-fill.ensures.with; without_flag = c.asked_fill-fill.ensures.without; unknown_flag = c.asked_fill-fill.ensures.unset },
-      c.asked_short-short.ensures,
-      c.in_ok-last.ensures.last,
-      c.asked_profile-profile.ensures,
-      (
+    let listed = rw c.asked_folder-folder.ensures at of_nodes in record {
+      fill = c.asked_fill-fill.result;
+      short = c.asked_short-short.result;
+      last = c.in_ok-last.last;
+      profile = c.asked_profile-profile.result;
+      inputs = c.as_slice-paths.result.now;
+      are_inputs = search rules;
+      is_fill = record { with_flag = c.asked_fill-fill.ensures.with; without_flag = c.asked_fill-fill.ensures.without; unknown_flag = c.asked_fill-fill.ensures.unset };
+      is_short = c.asked_short-short.ensures;
+      is_last = c.in_ok-last.ensures.last;
+      is_profile = c.asked_profile-profile.ensures;
+      of_inputs = (
         listed.0,
         listed.1,
         lists_by _ _ _ _ _ _ _ _ _ _ _ _ _ _ _ _ (λ f text put told. subst (λ p. IsPutLast F.holds F.may_leave F.moment F.left_since p f c.extract_listed.new.files text) (at told) (put told)) listed.2,
-      ),
-    )
+      );
+    }
 
 pub returns-in-Ok-extract_listed-clause-spares : goal.returns-in-Ok-extract_listed-clause-spares
 returns-in-Ok-extract_listed-clause-spares g c =

@@ -18,6 +18,9 @@ returns-in_err-last-clause-spares g c = (c.args.files.now, λ told q bytes is. i
 pub returns-in-Ok-extract_with_lost-clause-added : goal.returns-in-Ok-extract_with_lost-clause-added
 returns-in-Ok-extract_with_lost-clause-added g c =
     let only : map (λ (p : Bor (List ℕ)). p.now) c.unwrap_or-only.result.now ≡ only_texts (found_of c.args.words.now) = paths_or _ _ _ _ (codes "/" ∷ []) c.get_strs.ensures refl c.unwrap_or-only.ensures in
+    let of_nodes = rw only at c.in-Ok-extract_with_lost.ensures.added in
+    let to_folder = rw c.asked_folder-folder.ensures at of_nodes in
+    let added = rw c.asked_lost_folder-lost.ensures at to_folder in
     record {
       fill = c.asked_fill-fill.result;
       short = c.asked_short-short.result;
@@ -29,7 +32,7 @@ returns-in-Ok-extract_with_lost-clause-added g c =
       is_short = c.asked_short-short.ensures;
       is_last = c.in_ok-last.ensures.last;
       is_profile = c.asked_profile-profile.ensures;
-      of_inputs = rw (← c.asked_folder-folder.ensures) (rw (← c.asked_lost_folder-lost.ensures) (rw (← only) c.in-Ok-extract_with_lost.ensures.added));
+      of_inputs = added;
     }
 
 pub returns-in-Ok-extract_with_lost-clause-spares : goal.returns-in-Ok-extract_with_lost-clause-spares
