@@ -4,6 +4,7 @@ ghost use Rattle.std.specs.Prelude.{None, ⊤};
 
 use crate::tests::assert_same;
 use crate::tests::index::{index_of, reading};
+use std::alloc::{AllocError, Global};
 use std::cell::Cell;
 use std::test::Fail;
 use udfs_index::{Stored, StoredBytes, Unread};
@@ -55,6 +56,19 @@ fn reading_of<'a>(bytes: &'a [u8], blocks: &'a [u32]) -> Told<'a> {
     }
 }
 
+/// How many blocks are known and in conflict of two inputs, and what is said of block 7.
+fn taken(
+    alloc: Global,
+    first: &Told<'_>,
+    second: &Told<'_>,
+) -> Result<(u32, u32, Fact<u64>), AllocError> {
+    let (index, error) = index_of(alloc, first, second)?;
+    if error.is_some() {
+        return Err(AllocError);
+    }
+    Ok((index.known(), index.conflicts(), index.slot(7)))
+}
+
 #[test]
 fn only_what_comes_again_is_read(rt: HostRuntime) -> Result<(), Fail> {
     let alloc = rt.alloc();
@@ -62,12 +76,9 @@ fn only_what_comes_again_is_read(rt: HostRuntime) -> Result<(), Fail> {
     let two = reading(alloc, &[(7, 0x62), (9, 0x63)])?;
     let a = reading_of(one.as_slice(), &[5, 7]);
     let b = reading_of(two.as_slice(), &[7, 9]);
-    let (index, error) = index_of(alloc, &a, &b)?;
-    assert!(rt; error.is_none());
-    assert_same(&rt, index.known(), 3);
-    assert_same(&rt, index.conflicts(), 0);
+    let found = taken(alloc, &a, &b)?;
     // The header and a record stand before the second record, and its number before its bytes.
-    assert_same(&rt, index.slot(7), Fact::Known(16 + 2052 + 4));
+    assert_same(&rt, found, (3, 0, Fact::Known(16 + 2052 + 4)));
     assert_same(&rt, a.reads.get(), 1);
     assert_same(&rt, b.reads.get(), 1);
     Ok(())
