@@ -5,12 +5,8 @@ use Rattle.udfs_reading.specs.declared.error.ReadingFault.{ReadingFault}
 use Rattle.udfs_reading.specs.declared.error.ReadingFault.TheVariants.{OutOfMemory}
 use Rattle.udfs_rescue.specs.declared.opening.PairFault.{PairFault}
 use Rattle.udfs_rescue.specs.declared.opening.PairFault.TheVariants as pair
-use Rattle.udfs_salvage.specs.declared.errors.RunError.{RunError}
-use Rattle.udfs_salvage.specs.declared.errors.RunError.TheVariants as run
-use Rattle.udfs_salvage.specs.declared.errors.SalvageError.{SalvageError}
-use Rattle.udfs_salvage.specs.declared.errors.SalvageError.TheVariants as salvage
 use Rattle.udfs_common.specs.declared.refusal.Refusal.{Refusal}
-use Rattle.udfs_common.specs.declared.refusal.Refusal.TheVariants.{Input, Mapfile, ImageEnds, Output, LastRange, PastEnd, TooManyPaths, Memory}
+use Rattle.udfs_common.specs.declared.refusal.Refusal.TheVariants.{Input, Mapfile, ImageEnds, Memory}
 use Rattle.udfs_common.specs.declared.sources.AnySource.{AnySource}
 use Rattle.udfs_common.specs.declared.sources.AnySource.TheVariants.{File, Paired, Refused}
 
@@ -36,17 +32,3 @@ refusal_for (Some (Refused fault count)) error = refused_pair error.input fault
 refusal_for (Some (File source)) error = refusal_of error
 refusal_for (Some (Paired source)) error = refusal_of error
 refusal_for None error = refusal_of error
-
--- what a command says where there is no report
-abbrev pub salvage_refusal_of : SalvageError → Refusal
-salvage_refusal_of salvage.LastRange = LastRange
-salvage_refusal_of (salvage.PastEnd n) = PastEnd n
-salvage_refusal_of salvage.TooManyPaths = TooManyPaths
-salvage_refusal_of salvage.OutOfMemory = Memory alloc_error
-
--- what a command says where a report was not printed, or only begun
-abbrev pub run_refusal_of : RunError → Refusal
-run_refusal_of (run.Reading error) = refusal_of error
-run_refusal_of (run.Salvage error) = salvage_refusal_of error
-run_refusal_of run.Write = Output
-run_refusal_of run.OutOfMemory = Memory alloc_error

@@ -1,5 +1,5 @@
 // SPDX-License-Identifier: MIT OR Apache-2.0
-//! What the commands of `udfsalvage` share: their inputs and outputs, why they refuse, and what is told beside an answer.
+//! What the commands of `udfsalvage` share: their inputs and outputs, and why they refuse.
 #![tactic(auto)]
 
 pub mod ends;
@@ -10,7 +10,6 @@ pub mod job_putting;
 pub mod placing;
 pub mod putting;
 pub mod refusal;
-pub mod remarks;
 pub mod shown;
 pub mod sources;
 pub mod stored_inputs;

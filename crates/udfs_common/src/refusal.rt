@@ -1,13 +1,12 @@
 //! Why a command was refused.
 
 ghost use Rattle.std.specs.Prelude.{◌≡◌};
-ghost use Rattle.udfs_common.specs.Refusing.{refusal_of, run_refusal_of, salvage_refusal_of};
+ghost use Rattle.udfs_common.specs.Refusing.{refusal_of};
 
 use std::alloc::AllocError;
 use thiserror::Error;
 use udfs_reading::{InputError, ReadingError, ReadingFault};
 use udfs_rescue::LineFault;
-use udfs_salvage::{RunError, SalvageError};
 
 /// Why a command was refused: its text is the line on standard error, without the program's name.
 #[derive(Debug, Drop, Error)]
@@ -102,34 +101,6 @@ impl From<InputError> for Refusal {
         match error.error.fault {
             ReadingFault::OutOfMemory => Refusal::Memory(AllocError),
             _ => Refusal::Input(error.input, error.error),
-        }
-    }
-}
-
-/// A table that has no report.
-impl From<SalvageError> for Refusal {
-    ghost from_gives = { λ error refusal. refusal ≡ salvage_refusal_of error };
-
-    fn from(error: SalvageError) -> Refusal {
-        match error {
-            SalvageError::LastRange => Refusal::LastRange,
-            SalvageError::PastEnd(block) => Refusal::PastEnd(block),
-            SalvageError::TooManyPaths => Refusal::TooManyPaths,
-            SalvageError::OutOfMemory => Refusal::Memory(AllocError),
-        }
-    }
-}
-
-/// A report that was not printed, or only begun.
-impl From<RunError> for Refusal {
-    ghost from_gives = { λ error refusal. refusal ≡ run_refusal_of error };
-
-    fn from(error: RunError) -> Refusal {
-        match error {
-            RunError::Reading(error) => Refusal::from(error),
-            RunError::Salvage(error) => Refusal::from(error),
-            RunError::Write => Refusal::Output,
-            RunError::OutOfMemory => Refusal::Memory(AllocError),
         }
     }
 }

@@ -22,7 +22,7 @@ use std::alloc::{AllocError, Global};
 use udfs_common::files::Files;
 use udfs_common::inputs::joined;
 use udfs_common::refusal::Refusal;
-use udfs_common::remarks::remark_on_listing;
+use udfs_remarks::remarks::remark_on_listing;
 use udfs_common::sources::AnySource;
 use udfs_files::Stage;
 use udfs_reading::{Sink, Source};

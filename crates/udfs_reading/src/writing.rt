@@ -107,6 +107,11 @@ impl Outgoing {
     }
 }
 
+/// Writes a number of 32 bits in four bytes, the least significant first.
+///
+/// # Errors
+///
+/// `WriteFault` exactly where the sink failed, as of [`Outgoing::push`].
 pub fn write_number<W: Sink>(out: &mut Outgoing, sink: &mut W, n: u32) -> Result<(), WriteFault>
     ensures { Passes (W.stream sink.old) (W.stream sink.new) out.old out.new (number n) result }
 {
@@ -137,7 +142,11 @@ fn write_state<W: Sink>(
     }
 }
 
-/// The header of a file with this magic.
+/// Writes the header of a file with this magic: the magic, the size of a block (2048), and how many records or packets follow.
+///
+/// # Errors
+///
+/// `WriteFault` exactly where the sink failed, as of [`Outgoing::push`].
 pub fn write_header<W: Sink>(
     out: &mut Outgoing,
     sink: &mut W,

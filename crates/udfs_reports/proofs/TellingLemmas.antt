@@ -10,7 +10,7 @@ use Rattle.udfs_salvage.specs.TreeReports.{IsOfNoLawfulBy}
 use Rattle.udfs_salvage.specs.declared.errors.RunError.{RunError}
 use Rattle.udfs_salvage.specs.declared.errors.SalvageError.{SalvageError}
 use Rattle.udfs_salvage.specs.declared.errors.SalvageError.TheVariants.{LastRange, OutOfMemory, PastEnd, TooManyPaths}
-use Rattle.udfs_common.specs.Refusing.{run_refusal_of, salvage_refusal_of}
+use Rattle.udfs_remarks.specs.NoReports.{run_refusal_of, salvage_refusal_of}
 use Rattle.udfs_common.specs.declared.refusal.Refusal.{Refusal}
 use Rattle.udfs_common.specs.declared.refusal.Refusal.TheVariants.{Memory, Output}
 use Rattle.udfs_reports.specs.Rereading.{IsRefusedDomain, domain_line}

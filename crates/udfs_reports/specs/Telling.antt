@@ -25,7 +25,7 @@ use Rattle.udfs_words.specs.Asking.{Asked, IsLast, IsProfile, asked_for}
 use Rattle.udfs_words.specs.declared.input_path.InputPath.{InputPath}
 use Rattle.udfs_common.specs.Blaming.{EndRefused, InputsRefused}
 use Rattle.udfs_common.specs.Keeping.{OfPaths}
-use Rattle.udfs_common.specs.Refusing.{run_refusal_of, salvage_refusal_of}
+use Rattle.udfs_remarks.specs.NoReports.{run_refusal_of, salvage_refusal_of}
 use Rattle.udfs_common.specs.declared.refusal.Refusal.{Refusal}
 use Rattle.udfs_common.specs.declared.refusal.Refusal.TheVariants.{Memory, Output, Unkept}
 use Rattle.udfs_common.specs.declared.sources.AnySource.{AnySource}

@@ -9,11 +9,12 @@ use clap::ArgMatches;
 use std::alloc::Global;
 use udfs_common::files::Files;
 use udfs_common::refusal::Refusal;
-use udfs_common::remarks::remark_on;
 use udfs_files::Stage;
 use udfs_lattice::BlockTable;
 use udfs_overview::{ListForm, write_list};
 use udfs_reading::Sink;
+use udfs_remarks::no_reports::refused_run;
+use udfs_remarks::remarks::remark_on;
 use udfs_volume::Profile;
 use udfs_words::asking::is_set;
 use udfs_words::words::{NULL, PATHS, TORN};
@@ -57,7 +58,7 @@ impl Telling for NodeLines {
                 remark_on(alloc, &survey, files);
                 Ok(survey.all_whole())
             }
-            Err(error) => Err(Refusal::from(error)),
+            Err(error) => Err(refused_run(error)),
         }
     }
 }

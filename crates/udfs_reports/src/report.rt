@@ -8,10 +8,11 @@ use crate::telling::{Telling, surveyed};
 use std::alloc::Global;
 use udfs_common::files::Files;
 use udfs_common::refusal::Refusal;
-use udfs_common::remarks::remark_on;
 use udfs_files::Stage;
 use udfs_lattice::BlockTable;
 use udfs_reading::Sink;
+use udfs_remarks::no_reports::refused_run;
+use udfs_remarks::remarks::remark_on;
 use udfs_salvage::{RunError, Survey, write_json, write_survey};
 use udfs_volume::Profile;
 use udfs_words::forms::Form;
@@ -60,7 +61,7 @@ impl Telling for ReportAs {
                 remark_on(alloc, &survey, files);
                 Ok(survey.all_whole())
             }
-            Err(error) => Err(Refusal::from(error)),
+            Err(error) => Err(refused_run(error)),
         }
     }
 }

@@ -13,10 +13,11 @@ use crate::telling::Telling;
 use std::alloc::Global;
 use udfs_common::files::Files;
 use udfs_common::refusal::Refusal;
-use udfs_common::remarks::remark_on_listing;
 use udfs_files::Stage;
 use udfs_lattice::BlockTable;
 use udfs_reading::{Sink, WriteFault};
+use udfs_remarks::no_reports::refused_report;
+use udfs_remarks::remarks::remark_on_listing;
 use udfs_salvage::{Listing, list_volume_by, reread_blocks, write_numbers};
 use udfs_volume::Profile;
 
@@ -36,7 +37,7 @@ pub fn listed<'a>(
 {
     match list_volume_by(alloc, table, last, profile) {
         Ok(listing) => Ok(listing),
-        Err(error) => Err(Refusal::from(error)),
+        Err(error) => Err(refused_report(error)),
     }
 }
 

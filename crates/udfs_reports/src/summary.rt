@@ -10,6 +10,7 @@ use udfs_files::Stage;
 use udfs_lattice::BlockTable;
 use udfs_overview::write_summary;
 use udfs_reading::Sink;
+use udfs_remarks::no_reports::refused_run;
 use udfs_volume::Profile;
 
 /// The summary. It says itself why a volume does not open, and whether sparing copies disagree, so nothing is remarked beside it.
@@ -35,7 +36,7 @@ impl Telling for Summary {
         };
         match write_summary(alloc, &survey, out) {
             Ok(()) => Ok(survey.all_whole()),
-            Err(error) => Err(Refusal::from(error)),
+            Err(error) => Err(refused_run(error)),
         }
     }
 }

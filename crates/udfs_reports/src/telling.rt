@@ -22,6 +22,7 @@ use udfs_common::refusal::Refusal;
 use udfs_common::sources::AnySource;
 use udfs_lattice::BlockTable;
 use udfs_reading::{Sink, Source};
+use udfs_remarks::no_reports::refused_report;
 use udfs_salvage::{Survey, survey_volume_by};
 use udfs_volume::Profile;
 use udfs_words::input_path::InputPath;
@@ -68,7 +69,7 @@ pub fn surveyed<'a>(
 {
     match survey_volume_by(alloc, table, last, profile) {
         Ok(survey) => Ok(survey),
-        Err(error) => Err(Refusal::from(error)),
+        Err(error) => Err(refused_report(error)),
     }
 }
 

@@ -1,7 +1,7 @@
 //! What a person is told beside what is printed.
 
-use crate::files::Files;
 use std::alloc::{AllocError, Global};
+use udfs_common::files::Files;
 use udfs_lattice::BlockTable;
 use udfs_overview::{push_volume, spares_disagree};
 use udfs_salvage::{Listing, Survey, Volume};
