@@ -1,13 +1,11 @@
 -- Bytes that are taken from inputs, one piece after another.
-use Rattle.std.proofs.Common.{◌≡◌, ℕ, zero, suc, ◌+◌, ◌-◌, ◌*◌, ◌<◌, List, [], ◌++◌, take, drop, slice_range, Ok, Err, Result, refl, sym, ap, subst, ◌∙◌, append_assoc, append-nil, arith}
+use Rattle.std.proofs.Common.{◌≡◌, ℕ, List, [], ◌++◌, Ok, Err, Result, refl, sym, ap, subst, ◌∙◌, append_assoc}
 use Rattle.std.proofs.KnownBytes.{Appends-nil, Appends-trans}
-use Rattle.udfs_reading.specs.Writing.{Passed, FailedPast}
+use Rattle.udfs_reading.specs.Writing.{Passed}
 use Rattle.udfs_reading.proofs.WritingLemmas.{passed_then, failed_then, failed_more, failed_first}
-use Rattle.udfs_index.specs.Runs.{strided}
 use Rattle.udfs_index.specs.declared.fault.CopyFault.{CopyFault}
 use Rattle.udfs_index.specs.declared.fault.CopyFault.TheVariants.{Sink, Input}
 use Rattle.udfs_index.specs.Copying.{Stopped, FailsBy, CopiesPast, Copies}
-use Rattle.udfs_index.proofs.RunLemmas.{strided-next}
 use Rattle.udfs_reading.specs.Device.{Stream}
 
 -- ---- an input that could not be read
@@ -56,32 +54,3 @@ copies_then a b c p q r x y (Err e) h g = fails_then a b c p q x y e h g
 pub copies_first : {X : Type 0} (a b : Stream) (p x : List ℕ) (e : CopyFault) (result : Result X CopyFault) → result ≡ Err e → p ≡ [] → FailsBy a b p x e → Copies a b x result
 copies_first a b p x (Sink f) result is none h = rw is (failed_first none h)
 copies_first a b p x (Input n) result is none h = rw is (subst (λ (l : List ℕ). Stopped a b l x) none h)
-
--- ---- blocks at equal distances
-
--- so many of them, and the others
-pub strided-cut : (bytes : List ℕ) (stride m k : ℕ) → (rest : List ℕ) × (strided bytes stride (k + m) ≡ strided bytes stride m ++ rest)
-strided-cut bytes stride m zero = let z : 0 + m ≡ m = omega arith in ([], ap (strided bytes stride) z ∙ sym (append-nil (strided bytes stride m)))
-strided-cut bytes stride m (suc k) =
-    let z : suc k + m ≡ suc (k + m) = omega arith in
-    let h = strided-cut bytes stride m k in
-    let last = take 2048 (drop (stride * (k + m)) bytes) in
-    (h.0 ++ last, ap (strided bytes stride) z ∙ strided-next bytes stride (k + m) ∙ ap (λ (l : List ℕ). l ++ last) h.1 ∙ append_assoc (strided bytes stride m) h.0 last)
-
--- the bytes of one
-pub block_at : (bytes : List ℕ) (at : ℕ) → slice_range bytes at (at + 2048) ≡ take 2048 (drop at bytes)
-block_at bytes at = let z : (at + 2048) - at ≡ 2048 = omega arith in ap (λ (k : ℕ). take k (drop at bytes)) z
-
--- one more block was taken
-pub strided_passed : {a b c : Stream} {p q r : List ℕ} (bytes block : List ℕ) (stride m n : ℕ) → n ≡ m + 1 → block ≡ take 2048 (drop (stride * m) bytes) → Passed a b p q (strided bytes stride m) → Passed b c q r block → Passed a c p r (strided bytes stride n)
-strided_passed {a} {b} {c} {p} {q} {r} bytes block stride m n one is h g =
-    let s : n ≡ suc m = omega arith in
-    subst (Passed a c p r) (ap (λ (l : List ℕ). strided bytes stride m ++ l) is ∙ sym (ap (strided bytes stride) s ∙ strided-next bytes stride m)) (passed_then h g)
-
--- the sink failed at one
-pub strided_fails : {a b c : Stream} {p q : List ℕ} (bytes block : List ℕ) (stride m many : ℕ) → m < many → block ≡ take 2048 (drop (stride * m) bytes) → Passed a b p q (strided bytes stride m) → FailedPast b c q block → FailedPast a c p (strided bytes stride many)
-strided_fails {a} {b} {c} {p} {q} bytes block stride m many lt is h g =
-    let cut = strided-cut bytes stride (suc m) (many - suc m) in
-    let z : (many - suc m) + suc m ≡ many = omega arith in
-    subst (FailedPast a c p) (ap (λ (l : List ℕ). l ++ cut.0) (ap (λ (l : List ℕ). strided bytes stride m ++ l) is ∙ sym (strided-next bytes stride m)) ∙ sym cut.1 ∙ ap (strided bytes stride) z)
-    (failed_more cut.0 (failed_then h g))

@@ -12,14 +12,12 @@ use Rattle.udfs_lattice.specs.Tables.{Table, state_of, IsStateAt, IsTable}
 use Rattle.udfs_reading.specs.Format.{number, header}
 use Rattle.udfs_reading.specs.PacketFile.{Packet as Packing, content, mask_of, packet_bytes, packet_magic, says_some, some_packet, states_from, packets_below, packets_of, packed_file}
 use Rattle.udfs_reading.proofs.PacketMasks.{halve, some_mask, mask_some}
-use Rattle.udfs_reading.proofs.PacketStates.{states-next, states-none, states-unknown}
+use Rattle.udfs_reading.proofs.PacketStates.{states-next, states-none, states-append}
 use Rattle.udfs_reading.proofs.PacketTables.{below_none, below_front}
 use Rattle.udfs_index.specs.declared.packet.Packet.{Packet}
-use Rattle.udfs_index.specs.Slots.{Slot, slot_in, slot_found, is_placed, is_disputed}
-use Rattle.udfs_index.specs.Places.{bytes_at, state_by, IsWholeAt}
-use Rattle.udfs_index.specs.Runs.{AreWhole, states_in}
+use Rattle.udfs_index.specs.Slots.{Slot, slot_at, slot_in, slot_found, is_placed, is_disputed}
+use Rattle.udfs_index.specs.Places.{bytes_at, state_by, AreWhole, IsWholeAt}
 use Rattle.udfs_index.specs.Copying.{IsShown}
-use Rattle.udfs_index.proofs.RunLemmas.{in-next, in-none, in-cut}
 
 -- ---- the masks
 
@@ -29,15 +27,15 @@ low_bit (suc zero) h = refl
 low_bit (suc (suc r)) h = absurd (omega (arith, h))
 
 -- the mask of the states is the one whose bits tell them
-pub mask_in : (test : State → Bool) (wholes : List (List ℕ)) (p : Packet) (m i k : ℕ) → k < 2 ^ m → ((j : ℕ) → j < m → (bit_at k j == 1) ≡ test (state_by wholes (slot_in p (i + j)))) → mask_of test (states_in wholes p i m) ≡ k
-mask_in test wholes p zero i k fits bits = ap (mask_of test) (in-none wholes p i) ∙ omega (arith, fits)
-mask_in test wholes p (suc m) i k fits bits =
-    let z : i + 0 ≡ i = omega arith in
-    let rest = mask_in test wholes p m (i + 1) (k / 2) (halve k m fits)
-    (λ j lt. let y : i + suc j ≡ (i + 1) + j = omega arith in ap (λ (b : ℕ). b == 1) (sym (bit_at-suc k j)) ∙ bits (suc j) (omega (arith, lt)) ∙ ap (λ (n : ℕ). test (state_by wholes (slot_in p n))) y) in
-    let low : test (state_by wholes (slot_in p i)) ≡ (k % 2 == 1) = ap (λ (n : ℕ). test (state_by wholes (slot_in p n))) (sym z) ∙ sym (bits 0 (omega arith)) ∙ ap (λ (b : ℕ). b == 1) (bit_at_lowest k) in
-    ap (mask_of test) (in-next wholes p i m)
-    ∙ ap (λ (b : Bool). cond b 1 0 + 2 * mask_of test (states_in wholes p (i + 1) m)) low
+mask_from : (test : State → Bool) (t : Table) (m n k : ℕ) → k < 2 ^ m → ((j : ℕ) → j < m → (bit_at k j == 1) ≡ test (state_of t (n + j))) → mask_of test (states_from t n m) ≡ k
+mask_from test t zero n k fits bits = ap (mask_of test) (states-none t n) ∙ omega (arith, fits)
+mask_from test t (suc m) n k fits bits =
+    let z : n + 0 ≡ n = omega arith in
+    let rest = mask_from test t m (n + 1) (k / 2) (halve k m fits)
+    (λ j lt. let y : n + suc j ≡ (n + 1) + j = omega arith in ap (λ (b : ℕ). b == 1) (sym (bit_at-suc k j)) ∙ bits (suc j) (omega (arith, lt)) ∙ ap (λ (q : ℕ). test (state_of t q)) y) in
+    let low : test (state_of t n) ≡ (k % 2 == 1) = ap (λ (q : ℕ). test (state_of t q)) (sym z) ∙ sym (bits 0 (omega arith)) ∙ ap (λ (b : ℕ). b == 1) (bit_at_lowest k) in
+    ap (mask_of test) (states-next t n m)
+    ∙ ap (λ (b : Bool). cond b 1 0 + 2 * mask_of test (states_from t (n + 1) m)) low
     ∙ ap (λ (b : ℕ). cond (k % 2 == 1) 1 0 + 2 * b) rest
     ∙ ap (λ (b : ℕ). b + 2 * (k / 2)) (low_bit (k % 2) (omega arith)) ∙ omega arith
 
@@ -51,12 +49,6 @@ disputed_state wholes Unknown = refl
 disputed_state wholes (Known place) = refl
 disputed_state wholes Conflict = refl
 
-pub known_in : (wholes : List (List ℕ)) (p : Packet) (k : ℕ) → k < 2 ^ 32 → ((i : ℕ) → i < 32 → (bit_at k i == 1) ≡ is_placed (slot_in p i)) → mask_of is_known (states_in wholes p 0 32) ≡ k
-known_in wholes p k fits bits = mask_in is_known wholes p 32 0 k fits (λ j lt. let z : j ≡ 0 + j = omega arith in bits j lt ∙ placed_state wholes (slot_in p j) ∙ ap (λ (n : ℕ). is_known (state_by wholes (slot_in p n))) z)
-
-pub conflict_in : (wholes : List (List ℕ)) (p : Packet) (k : ℕ) → k < 2 ^ 32 → ((i : ℕ) → i < 32 → (bit_at k i == 1) ≡ is_disputed (slot_in p i)) → mask_of is_conflict (states_in wholes p 0 32) ≡ k
-conflict_in wholes p k fits bits = mask_in is_conflict wholes p 32 0 k fits (λ j lt. let z : j ≡ 0 + j = omega arith in bits j lt ∙ disputed_state wholes (slot_in p j) ∙ ap (λ (n : ℕ). is_conflict (state_by wholes (slot_in p n))) z)
-
 -- ---- the table that an index shows
 
 shown_block : (wholes : List (List ℕ)) (packets : List Packet) (t : Table) (index i : ℕ) (found : Option Packet) → IsShown wholes packets t → slice_get packets index ≡ found → i < 32 → state_of t (32 * index + i) ≡ state_by wholes (slot_found found i)
@@ -68,25 +60,23 @@ shown_block wholes packets t index i found shown got lt =
     ∙ ap (λ (k : ℕ). state_by wholes (slot_found (slice_get packets index) k)) r
     ∙ ap (λ (o : Option Packet). state_by wholes (slot_found o i)) got
 
-shown_states : (wholes : List (List ℕ)) (packets : List Packet) (t : Table) (index : ℕ) (p : Packet) → IsShown wholes packets t → slice_get packets index ≡ Some p → (m i : ℕ) → i + m ≤ 32 → states_from t (32 * index + i) m ≡ states_in wholes p i m
-shown_states wholes packets t index p shown got zero i le = states-none t (32 * index + i) ∙ sym (in-none wholes p i)
-shown_states wholes packets t index p shown got (suc m) i le =
-    let z : 32 * index + i + 1 ≡ 32 * index + (i + 1) = omega arith in
-    states-next t (32 * index + i) m
-    ∙ ap (λ (s : State). s ∷ states_from t (32 * index + i + 1) m) (shown_block wholes packets t index i (Some p) shown got (omega (arith, le)))
-    ∙ ap (λ (l : List State). state_by wholes (slot_in p i) ∷ l) (ap (λ (k : ℕ). states_from t k m) z ∙ shown_states wholes packets t index p shown got m (i + 1) (omega (arith, le)))
-    ∙ sym (in-next wholes p i m)
+-- the masks of a packet are those of its blocks' states
+pub known_shown : (wholes : List (List ℕ)) (packets : List Packet) (t : Table) (index k : ℕ) (p : Packet) → IsShown wholes packets t → slice_get packets index ≡ Some p → k < 2 ^ 32 → ((i : ℕ) → i < 32 → (bit_at k i == 1) ≡ is_placed (slot_in p i)) → mask_of is_known (states_from t (32 * index) 32) ≡ k
+known_shown wholes packets t index k p shown got fits bits =
+    mask_from is_known t 32 (32 * index) k fits (λ i lt. bits i lt ∙ placed_state wholes (slot_in p i) ∙ ap is_known (sym (shown_block wholes packets t index i (Some p) shown got lt)))
 
--- the states of a packet's blocks
-pub shown_packet : (wholes : List (List ℕ)) (packets : List Packet) (t : Table) (index : ℕ) (p : Packet) → IsShown wholes packets t → slice_get packets index ≡ Some p → states_from t (32 * index) 32 ≡ states_in wholes p 0 32
-shown_packet wholes packets t index p shown got = let z : 32 * index ≡ 32 * index + 0 = omega arith in ap (λ (k : ℕ). states_from t k 32) z ∙ shown_states wholes packets t index p shown got 32 0 (omega arith)
+pub conflict_shown : (wholes : List (List ℕ)) (packets : List Packet) (t : Table) (index k : ℕ) (p : Packet) → IsShown wholes packets t → slice_get packets index ≡ Some p → k < 2 ^ 32 → ((i : ℕ) → i < 32 → (bit_at k i == 1) ≡ is_disputed (slot_in p i)) → mask_of is_conflict (states_from t (32 * index) 32) ≡ k
+conflict_shown wholes packets t index k p shown got fits bits =
+    mask_from is_conflict t 32 (32 * index) k fits (λ i lt. bits i lt ∙ disputed_state wholes (slot_in p i) ∙ ap is_conflict (sym (shown_block wholes packets t index i (Some p) shown got lt)))
 
--- where there is no packet, nothing is said
-pub shown_none : (wholes : List (List ℕ)) (packets : List Packet) (t : Table) (index : ℕ) → IsShown wholes packets t → slice_get packets index ≡ None → says_some (states_from t (32 * index) 32) ≡ false
-shown_none wholes packets t index shown got =
-    states-unknown t (32 * index) 32 (λ q low high.
-    let z : q ≡ 32 * index + (q - 32 * index) = omega (arith, low) in
-    ap (state_of t) z ∙ shown_block wholes packets t index (q - 32 * index) None shown got (omega (arith, low, high)))
+no_bit : (j : ℕ) → (bit_at 0 j == 1) ≡ false
+no_bit zero = refl
+no_bit (suc j) = ap (λ (b : ℕ). b == 1) (bit_at-suc 0 j) ∙ no_bit j
+
+-- where there is no packet, no bit is set
+pub unshown : (test : State → Bool) (wholes : List (List ℕ)) (packets : List Packet) (t : Table) (index : ℕ) → test Unknown ≡ false → IsShown wholes packets t → slice_get packets index ≡ None → mask_of test (states_from t (32 * index) 32) ≡ 0
+unshown test wholes packets t index none shown got =
+    mask_from test t 32 (32 * index) 0 (omega arith) (λ i lt. no_bit i ∙ sym none ∙ ap test (sym (shown_block wholes packets t index i None shown got lt)))
 
 said_by : (ss : List State) (b : Bool) → says_some ss ≡ b → mask_of is_known ss ≡ 0 → mask_of is_conflict ss ≡ 0 → b ≡ false
 said_by ss true is k c = let some = some_mask ss is in absurd (omega arith)
@@ -110,43 +100,45 @@ said_conflict ss k c is has none = said_if ss k c (c == 0) refl is has none
 -- ---- the blocks that are copied
 
 -- of a block that is not known nothing is copied
-unplaced : (wholes : List (List ℕ)) (s : Slot) → ((place : ℕ) → s ≡ Known place → ⊥) → content (state_by wholes s) ≡ []
+pub unplaced : (wholes : List (List ℕ)) (s : Slot) → ((place : ℕ) → s ≡ Known place → ⊥) → content (state_by wholes s) ≡ []
 unplaced wholes Unknown h = refl
 unplaced wholes (Known place) h = absurd (h place refl)
 unplaced wholes Conflict h = refl
 
-pub nothing_in : (wholes : List (List ℕ)) (p : Packet) (first n : ℕ) → n ≡ 1 → ((place : ℕ) → slot_in p first ≡ Known place → ⊥) → flat_map content (states_in wholes p first n) ≡ []
-nothing_in wholes p first n one h =
-    ap (λ (k : ℕ). flat_map content (states_in wholes p first k)) one
-    ∙ ap (flat_map content) (in-next wholes p first 0 ∙ ap (λ (l : List State). state_by wholes (slot_in p first) ∷ l) (in-none wholes p (first + 1)))
-    ∙ append-nil (content (state_by wholes (slot_in p first)))
-    ∙ unplaced wholes (slot_in p first) h
+-- the bytes of a known block are copied
+pub placed : (wholes : List (List ℕ)) (s : Slot) (place : ℕ) (there : List ℕ) → s ≡ Known place → bytes_at wholes place ≡ there → there ≡ content (state_by wholes s)
+placed wholes s place there is e = sym e ∙ sym (ap (λ (x : Slot). content (state_by wholes x)) is)
 
--- the blocks from one on, cut at a later one
-pub blocks_cut : (wholes : List (List ℕ)) (p : Packet) (first next end : ℕ) → first ≤ next → next ≤ end → flat_map content (states_in wholes p first (end - first)) ≡ flat_map content (states_in wholes p first (next - first)) ++ flat_map content (states_in wholes p next (end - next))
-blocks_cut wholes p first next end low high =
-    let z : end - first ≡ (next - first) + (end - next) = omega (arith, low, high) in
-    let y : first + (next - first) ≡ next = omega (arith, low) in
-    ap (λ (k : ℕ). flat_map content (states_in wholes p first k)) z ∙ in-cut wholes p first (next - first) (end - next)
-    ∙ ap (λ (k : ℕ). flat_map content (states_in wholes p first (next - first)) ++ flat_map content (states_in wholes p k (end - next))) y
+-- the bytes of no blocks
+pub blocks_none : (t : Table) (n : ℕ) → flat_map content (states_from t n 0) ≡ []
+blocks_none t n = ap (flat_map content) (states-none t n)
+
+-- the bytes of one more block
+pub blocks_more : (t : Table) (n m : ℕ) → flat_map content (states_from t n (m + 1)) ≡ flat_map content (states_from t n m) ++ content (state_of t (n + m))
+blocks_more t n m =
+    let one : states_from t (n + m) 1 ≡ state_of t (n + m) ∷ [] = states-next t (n + m) 0 ∙ ap (λ (l : List State). state_of t (n + m) ∷ l) (states-none t (n + m + 1)) in
+    ap (flat_map content) (states-append t n m 1 ∙ ap (λ (l : List State). states_from t n m ++ l) one)
+    ∙ flat_map-append content (states_from t n m) (state_of t (n + m) ∷ [])
+    ∙ ap (λ (l : List ℕ). flat_map content (states_from t n m) ++ l) (append-nil (content (state_of t (n + m))))
+
+-- a block, and what stands before and behind it
+pub blocks_cut : (t : Table) (n m end : ℕ) → m < end → (rest : List ℕ) × ((flat_map content (states_from t n m) ++ content (state_of t (n + m))) ++ rest ≡ flat_map content (states_from t n end))
+blocks_cut t n m end lt =
+    let later = states_from t (n + (m + 1)) (end - (m + 1)) in
+    let z : (m + 1) + (end - (m + 1)) ≡ end = omega (arith, lt) in (
+      flat_map content later,
+      ap (λ (l : List ℕ). l ++ flat_map content later) (sym (blocks_more t n m)) ∙ sym (flat_map-append content (states_from t n (m + 1)) later) ∙ ap (flat_map content) (sym (states-append t n (m + 1) (end - (m + 1))) ∙ ap (states_from t n) z),
+    )
 
 -- a packet's number, its masks and the bytes of its known blocks
-pub packet_spelled : (wholes : List (List ℕ)) (p : Packet) (index k c : ℕ) → k < 2 ^ 32 → c < 2 ^ 32 → ((i : ℕ) → i < 32 → (bit_at k i == 1) ≡ is_placed (slot_in p i)) → ((i : ℕ) → i < 32 → (bit_at c i == 1) ≡ is_disputed (slot_in p i))
-    → (number index ++ (number k ++ number c)) ++ flat_map content (states_in wholes p 0 32) ≡ packet_bytes (index, states_in wholes p 0 32)
-packet_spelled wholes p index k c fits also known conflict =
-    let ss = states_in wholes p 0 32 in
+pub packet_spelled : (t : Table) (index k c : ℕ) → mask_of is_known (states_from t (32 * index) 32) ≡ k → mask_of is_conflict (states_from t (32 * index) 32) ≡ c
+    → (number index ++ (number k ++ number c)) ++ flat_map content (states_from t (32 * index) 32) ≡ packet_bytes (index, states_from t (32 * index) 32)
+packet_spelled t index k c known conflict =
+    let ss = states_from t (32 * index) 32 in
     let blocks = flat_map content ss in
     append_assoc (number index) (number k ++ number c) blocks
-    ∙ ap (λ (x : ℕ). number index ++ ((number x ++ number c) ++ blocks)) (sym (known_in wholes p k fits known))
-    ∙ ap (λ (x : ℕ). number index ++ ((number (mask_of is_known ss) ++ number x) ++ blocks)) (sym (conflict_in wholes p c also conflict))
-
--- the blocks before one, and from it on
-pub front_cut : (wholes : List (List ℕ)) (p : Packet) (next end : ℕ) → next ≤ end → flat_map content (states_in wholes p 0 end) ≡ flat_map content (states_in wholes p 0 next) ++ flat_map content (states_in wholes p next (end - next))
-front_cut wholes p next end high =
-    let z : end ≡ next + (end - next) = omega (arith, high) in
-    let y : 0 + next ≡ next = omega arith in
-    ap (λ (k : ℕ). flat_map content (states_in wholes p 0 k)) z ∙ in-cut wholes p 0 next (end - next)
-    ∙ ap (λ (k : ℕ). flat_map content (states_in wholes p 0 next) ++ flat_map content (states_in wholes p k (end - next))) y
+    ∙ ap (λ (x : ℕ). number index ++ ((number x ++ number c) ++ blocks)) (sym known)
+    ∙ ap (λ (x : ℕ). number index ++ ((number (mask_of is_known ss) ++ number x) ++ blocks)) (sym conflict)
 
 -- ---- all packets
 
@@ -197,9 +189,9 @@ pub no_packet : (t : Table) (p : ℕ) → false ≡ says_some (states_from t (32
 no_packet t p is = ap (λ (b : Bool). flat_map packet_bytes (cond b ((p, states_from t (32 * p) 32) ∷ []) [])) (sym is)
 
 -- and the others are
-pub one_packet : (t : Table) (p : ℕ) (ss : List State) → true ≡ says_some (states_from t (32 * p) 32) → states_from t (32 * p) 32 ≡ ss → packet_bytes (p, ss) ≡ flat_map packet_bytes (some_packet (p, states_from t (32 * p) 32))
-one_packet t p ss is same =
-    sym (ap (λ (b : Bool). flat_map packet_bytes (cond b ((p, states_from t (32 * p) 32) ∷ []) [])) (sym is) ∙ append-nil (packet_bytes (p, states_from t (32 * p) 32)) ∙ ap (λ (l : List State). packet_bytes (p, l)) same)
+pub one_packet : (t : Table) (p : ℕ) → true ≡ says_some (states_from t (32 * p) 32) → packet_bytes (p, states_from t (32 * p) 32) ≡ flat_map packet_bytes (some_packet (p, states_from t (32 * p) 32))
+one_packet t p is =
+    sym (ap (λ (b : Bool). flat_map packet_bytes (cond b ((p, states_from t (32 * p) 32) ∷ []) [])) (sym is) ∙ append-nil (packet_bytes (p, states_from t (32 * p) 32)))
 
 -- ---- known blocks are whole
 
@@ -216,9 +208,6 @@ whole_by wholes n (Known place) s e is =
     whole_bytes (place % 2 ^ 44) (get_or wholes (place / 2 ^ 44) []) there.1.whole
 whole_by wholes n Conflict s e is = tt
 
--- of a block of a table that there can be all bytes stand in the inputs
-pub whole_slot : (wholes : List (List ℕ)) (t : Table) (n : ℕ) (slot : Slot) → state_of t n ≡ state_by wholes slot → IsStateAt n (state_of t n) → IsWholeAt wholes slot
-whole_slot wholes t n slot e is = whole_by wholes n slot (state_of t n) e is
-
-pub whole_packet : (wholes : List (List ℕ)) (packets : List Packet) (t : Table) (index : ℕ) (p : Packet) → IsTable t → IsShown wholes packets t → slice_get packets index ≡ Some p → AreWhole wholes p
-whole_packet wholes packets t index p is shown got i lt = whole_slot wholes t (32 * index + i) (slot_in p i) (shown_block wholes packets t index i (Some p) shown got lt) (is (32 * index + i))
+-- of the blocks of a table that there can be all bytes stand in the inputs
+pub whole_shown : (wholes : List (List ℕ)) (packets : List Packet) (t : Table) → IsTable t → IsShown wholes packets t → AreWhole wholes packets
+whole_shown wholes packets t is shown n = whole_by wholes n (slot_at packets n) (state_of t n) (shown n) (is n)

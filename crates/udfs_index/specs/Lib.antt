@@ -2,5 +2,5 @@ pub mod Slots
 pub mod Places
 pub mod Recorded
 pub mod Index
-pub mod Runs
+pub mod Windows
 pub mod Copying

@@ -29,6 +29,10 @@ IsWholeAt wholes Unknown = Unit {0}
 IsWholeAt wholes (Known place) = AreHeld wholes place 2048
 IsWholeAt wholes Conflict = Unit {0}
 
+-- all bytes of the known blocks stand there
+abbrev pub AreWhole : List (List ℕ) → List Packet → Type 0
+AreWhole wholes packets = (n : ℕ) → IsWholeAt wholes (slot_at packets n)
+
 -- what a slot says of the inputs
 abbrev pub state_by : List (List ℕ) → Slot → State
 state_by wholes Unknown = Unknown

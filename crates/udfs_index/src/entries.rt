@@ -1,6 +1,6 @@
 //! A table file of version 1 is written from an index, block by block.
 
-ghost use Rattle.std.specs.Prelude.{◌≡◌, ◌*◌, ◌+◌, ◌<◌, ◌≤◌, ◌++◌, ℕ, List, Some, map, length};
+ghost use Rattle.std.specs.Prelude.{◌≡◌, ◌*◌, ◌+◌, ◌<◌, ◌≤◌, ◌++◌, ℕ, List, Some, map, length, OnOk};
 ghost use Rattle.std.specs.List.{flat_map};
 ghost use Rattle.udfs_lattice.specs.declared.facts.Fact.TheVariants.{Unknown, Known, Conflict};
 ghost use Rattle.udfs_lattice.specs.Tables.{Table, IsTable, entries_of, state_of};
@@ -9,14 +9,16 @@ ghost use Rattle.udfs_reading.specs.TableFile.{entry_bytes, state_bytes, table_b
 ghost use Rattle.udfs_reading.specs.Writing.{Passes};
 ghost use Rattle.udfs_index.specs.Copying.{BlamesNone, CopiesPast, Copies, CountsSink, IsShown, NoneFails};
 ghost use Rattle.udfs_index.specs.Index.{contents_of};
-ghost use Rattle.udfs_index.specs.Places.{state_by, IsWholeAt};
+ghost use Rattle.udfs_index.specs.Places.{state_by, AreWhole};
+ghost use Rattle.udfs_index.specs.Slots.{slot_at};
+ghost use Rattle.udfs_index.specs.Windows.{IsRead};
 
 use crate::copying::{put_header, put_number};
 use crate::fault::CopyFault;
-use crate::inputs::read_from;
 use crate::packet::Packet;
 use crate::places::{end_of, slot_of};
 use crate::stored::Stored;
+use crate::window::Window;
 use udfs_lattice::Fact;
 use udfs_reading::{Outgoing, Sink, WriteFault};
 
@@ -25,8 +27,9 @@ fn put_known<W: Sink>(
     out: &mut Outgoing,
     sink: &mut W,
     block: u32,
-    bytes: &[u8; 2048],
+    bytes: &[u8],
 ) -> Result<(), WriteFault>
+    requires { length bytes.now ≤ 2048 }
     ensures { Passes (W.stream sink.old) (W.stream sink.new) out.old out.new (entry_bytes (block, Known bytes.now)) result }
 {
     put_number(out, sink, block)?;
@@ -47,24 +50,28 @@ fn put_conflict<W: Sink>(out: &mut Outgoing, sink: &mut W, block: u32) -> Result
 /// The entry of a block, if something is said of it.
 fn write_entry<S: Stored, W: Sink>(
     inputs: &[&S],
-    slot: Fact<u64>,
+    packets: &[Packet],
     block: u32,
+    window: &mut Window,
     out: &mut Outgoing,
     sink: &mut W,
 ) -> Result<(), CopyFault>
+    requires block { block < 4194304 }
+    requires read { IsRead (contents_of S.content inputs.now) window.old }
+    ensures read { OnOk result (IsRead (contents_of S.content inputs.now) window.new) }
     ensures bytes { (wholes : List (List ℕ)) → contents_of S.content inputs.now ≡ map Some wholes →
-        CopiesPast (W.stream sink.old) (W.stream sink.new) out.old out.new (flat_map entry_bytes (entry_at block (state_by wholes slot))) result }
+        CopiesPast (W.stream sink.old) (W.stream sink.new) out.old out.new (flat_map entry_bytes (entry_at block (state_by wholes (slot_at packets.now block)))) result }
     ensures count { CountsSink (W.stream sink.old).faults (W.stream sink.new).faults result }
-    ensures reads { (wholes : List (List ℕ)) → contents_of S.content inputs.now ≡ map Some wholes → NoneFails S.fails → IsWholeAt wholes slot → BlamesNone result }
+    ensures reads { (wholes : List (List ℕ)) → contents_of S.content inputs.now ≡ map Some wholes → NoneFails S.fails → AreWhole wholes packets.now → BlamesNone result }
 {
-    match slot {
+    match slot_of(packets, block) {
         Fact::Unknown => Ok(()),
         Fact::Known(place) => {
-            let mut bytes = [0; 2048];
-            if let Err(unread) = read_from(inputs, place, &mut bytes) {
-                return Err(CopyFault::Input(unread));
-            }
-            put_known(out, sink, block, &bytes)?;
+            let at = match window.reach(inputs, packets, block, place) {
+                Ok(at) => at,
+                Err(unread) => return Err(CopyFault::Input(unread)),
+            };
+            put_known(out, sink, block, window.block(at))?;
             Ok(())
         }
         Fact::Conflict => {
@@ -112,9 +119,10 @@ fn write_entries<S: Stored, W: Sink>(
 {
     let count = count_entries(packets);
     let end = end_of(packets);
+    let mut window = Window::new();
     put_header(out, sink, b"UDFTABL1", count)?;
     for block in 0..end {
-        write_entry(inputs, slot_of(packets, block), block, out, sink)?;
+        write_entry(inputs, packets, block, &mut window, out, sink)?;
     }
     Ok(())
 }

@@ -17,9 +17,9 @@ mod packing;
 mod places;
 mod record;
 mod recorded;
-mod runs;
 mod stamp;
 mod stored;
+mod window;
 
 pub use bytes::StoredBytes;
 pub use cursor::Cursor;

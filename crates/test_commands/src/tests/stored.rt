@@ -20,8 +20,8 @@ $ merge --out t.tab one.rd dev/two.rd
 $ merge --out t.tab dev/two.rd one.rd
 
 = an_input_that_fails_when_it_is_read_again_is_told, 1
-# The reading has 4120 bytes, which are read once from its front. Of the table file of 4122 bytes each block is read again. The device
-# then fails for good, so the record that is sought from the front is not found behind the header.
+# The reading has 4120 bytes, which are read once from its front. For the table file both blocks are read again at once, 4100 bytes with
+# the number between them. The device then fails for good, so the record that is sought from the front is not found behind the header.
 file two.rd reading 300:61 301:62
 file t.tab text «5000*w»
 then refused udfsalvage: input 1: fault 8 Io at record 0\n
@@ -44,13 +44,13 @@ $ merge --v1 --out t.tab two.rd
 inputs-fail 6169
 $ merge --v1 --out t.tab two.rd
 
-inputs-fail 8215
+inputs-fail 8219
 $ merge --v1 --out t.tab two.rd
 
 = an_input_that_fails_when_it_is_read_again_is_told, 2
 file two.rd reading 300:61 301:62
 
-inputs-fail 8216
+inputs-fail 8220
 $ merge --v1 --out t.tab two.rd
 silent
 has t.tab table 300:61 301:62

@@ -1,17 +1,17 @@
-//! How often an input is read where its blocks stand at equal distances.
+//! How often an input is read where its blocks stand one behind the other.
 
-use super::copies::Shaky;
+use super::copies::{Shaky, unread};
 use super::{index_of, reading};
 use crate::tests::assert_same;
 use std::alloc::Global;
 use std::test::Fail;
 use udfs_reading::{Reader, Writer, join_inputs, write_table, write_table_v1};
 
-/// A reading of the blocks below 41 in order, all bytes of each of them the block's number.
-fn in_order(alloc: Global) -> Result<Vec<u8>, Fail> {
+/// A reading of so many blocks in order, from block 0 on, all bytes of each of them the block's number by 251.
+fn in_order(alloc: Global, count: u32) -> Result<Vec<u8>, Fail> {
     let mut records = Vec::new(alloc);
-    for n in 0..41u8 {
-        records.push((u32::from(n), n))?;
+    for n in 0..count {
+        records.push((n, (n % 251) as u8))?;
     }
     Ok(reading(alloc, records.as_slice())?)
 }
@@ -31,9 +31,9 @@ fn copied(alloc: Global, file: &[u8]) -> Result<(Vec<u8>, u64), Fail> {
 }
 
 #[test]
-fn a_packet_of_blocks_in_order_is_read_at_once(rt: HostRuntime) -> Result<(), Fail> {
+fn blocks_in_order_are_read_at_once(rt: HostRuntime) -> Result<(), Fail> {
     let alloc = rt.alloc();
-    let file = in_order(alloc)?;
+    let file = in_order(alloc, 41)?;
     let Ok(table) = join_inputs(alloc, &mut [Reader::new(file.as_slice())]) else {
         assert!(rt; false);
         return Ok(());
@@ -44,12 +44,63 @@ fn a_packet_of_blocks_in_order_is_read_at_once(rt: HostRuntime) -> Result<(), Fa
     let mut first = Writer::new(Vec::new(alloc));
     assert!(rt; write_table_v1(&table, &mut first).is_ok());
     let first = first.into_inner();
-    // 2052 bytes from one block of a reading to the next, 2053 of a table file of version 1, 2048 of one of version 2.
+    // Between two blocks of a reading stand 4 bytes, of a table file of version 1 5, of one of version 2 none, and 12 between
+    // two packets.
     for input in [file.as_slice(), first.as_slice(), second.as_slice()] {
         let (written, reads) = copied(alloc, input)?;
         assert!(rt; written == second);
-        assert_same(&rt, reads, 2);
+        assert_same(&rt, reads, 1);
     }
+    Ok(())
+}
+
+#[test]
+fn three_hundred_blocks_are_read_by_three_reads(rt: HostRuntime) -> Result<(), Fail> {
+    let alloc = rt.alloc();
+    let file = in_order(alloc, 300)?;
+    let Ok(table) = join_inputs(alloc, &mut [Reader::new(file.as_slice())]) else {
+        assert!(rt; false);
+        return Ok(());
+    };
+    let mut out = Writer::new(Vec::new(alloc));
+    assert!(rt; write_table(&table, &mut out).is_ok());
+    // 127 records have 260,604 bytes, and one more would be above 262,144.
+    let (written, reads) = copied(alloc, file.as_slice())?;
+    assert!(rt; written == out.into_inner());
+    assert_same(&rt, reads, 3);
+    Ok(())
+}
+
+#[test]
+fn a_device_that_fails_between_two_reads_is_named(rt: HostRuntime) -> Result<(), Fail> {
+    let alloc = rt.alloc();
+    let file = in_order(alloc, 300)?;
+    let other = reading(alloc, &[(400, 0x61)])?;
+    let stored = Shaky::new(file.as_slice());
+    let last = Shaky::new(other.as_slice());
+    let (index, error) = index_of(alloc, &stored, &last)?;
+    assert!(rt; error.is_none());
+    let mut out = Writer::new(Vec::new(alloc));
+    // The third read begins with the block of record 254, counted from 0.
+    stored.reads.set(2);
+    assert_same(
+        &rt,
+        index.write_table(&mut out),
+        unread(0, 16 + 2052 * 254 + 4),
+    );
+    stored.reads.set(2);
+    assert_same(
+        &rt,
+        index.write_table_v1(&mut out),
+        unread(0, 16 + 2052 * 254 + 4),
+    );
+    stored.reads.set(3);
+    last.reads.set(0);
+    assert_same(&rt, index.write_table(&mut out), unread(1, 20));
+    // In both versions the first input is read by three reads, and the other one by one.
+    stored.reads.set(3);
+    last.reads.set(1);
+    assert_same(&rt, index.write_table_v1(&mut out), Ok(()));
     Ok(())
 }
 
@@ -58,7 +109,7 @@ fn blocks_in_disorder_are_read_one_by_one(rt: HostRuntime) -> Result<(), Fail> {
     let alloc = rt.alloc();
     let file = reading(alloc, &[(3, 0x61), (2, 0x62), (9, 0x63), (4, 0x64)])?;
     let (written, reads) = copied(alloc, file.as_slice())?;
-    // Block 4 stands at no distance behind block 3 that a format has, and block 9 before block 4.
+    // Block 3 stands before block 2, block 4 two records behind block 3, and block 9 before block 4.
     assert_same(&rt, reads, 4);
     assert_eq!(rt; written.len(), 28 + 4 * 2048);
     for (i, byte) in [0x62, 0x61, 0x64, 0x63].iter().enumerate() {

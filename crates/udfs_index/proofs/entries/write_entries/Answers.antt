@@ -7,10 +7,8 @@ use Rattle.udfs_reading.specs.TableFile.{table_magic, table_header, entry_bytes}
 use Rattle.udfs_reading.specs.Writing.{Passed, FailedPast}
 use Rattle.udfs_reading.proofs.WritingLemmas.{passed_none, passed_then, failed_more}
 use Rattle.udfs_index.specs.Copying.{FailsBy}
-use Rattle.udfs_index.specs.Places.{state_by}
-use Rattle.udfs_index.specs.Slots.{Slot}
 use Rattle.udfs_index.proofs.CopyLemmas.{fails_then, fails_more}
-use Rattle.udfs_index.proofs.PackLemmas.{whole_slot}
+use Rattle.udfs_index.proofs.PackLemmas.{whole_shown}
 use Rattle.udfs_index.proofs.EntryLemmas.{entries_below, entries-none, said_entries, spelled_more, spelled_cut, spelled_whole}
 use Rattle.udfs_index.proofs.entries.write_entries.Goals as goal
 
@@ -23,6 +21,7 @@ returns-in_err-put_header-clause-bytes g c wholes t is told shown =
 pub loop-block-init : goal.loop-block-init
 loop-block-init g c =
     record {
+      read = c.new-window.ensures _;
       bytes = λ wholes t told shown. subst (Passed _ _ _ _) (sym (ap (flat_map entry_bytes) (entries-none t))) (passed_none _ _);
       count = refl;
     }
@@ -30,8 +29,9 @@ loop-block-init g c =
 pub loop-block-preserved : goal.loop-block-preserved
 loop-block-preserved g c =
     record {
+      read = c.in_ok-write_entry.ensures.read;
       bytes = λ wholes t told shown.
-          let here = shown c.loop-block.block ∙ ap (λ (s : Slot). state_by wholes s) (sym c.slot_of.ensures) in
+          let here = shown c.loop-block.block in
           subst (Passed _ _ _ _) (ap (λ (s : State). flat_map entry_bytes (entries_below t c.loop-block.block) ++ flat_map entry_bytes (entry_at c.loop-block.block s)) (sym here) ∙ sym (spelled_more t c.loop-block.block))
           (passed_then (c.loop-block.invariant.bytes wholes t told shown) (c.in_ok-write_entry.ensures.bytes wholes told));
       count = search rules;
@@ -41,7 +41,7 @@ pub returns-in_err-write_entry-clause-bytes : goal.returns-in_err-write_entry-cl
 unfolding table_magic
 returns-in_err-write_entry-clause-bytes g c wholes t is told shown =
     let p = err_from_is_err_and c.from_residual-in_err-write_entry.result c.from_residual-in_err-write_entry.ensures.1 in
-    let here = shown c.loop-block.block ∙ ap (λ (s : Slot). state_by wholes s) (sym c.slot_of.ensures) in
+    let here = shown c.loop-block.block in
     let cut = spelled_cut t c.loop-block.block c.end_of-end.result c.loop-block-test.true in
     let front = ap (λ (s : State). (flat_map entry_bytes (entries_below t c.loop-block.block) ++ flat_map entry_bytes (entry_at c.loop-block.block s)) ++ cut.0) (sym here) in
     let all = ap (λ (l : List ℕ). table_header c.count_entries-count.result ++ l) (front ∙ cut.1) ∙ spelled_whole t c.count_entries-count.result c.end_of-end.result (said_entries wholes c.args.packets.now t c.end_of-end.result is shown c.end_of-end.ensures.most c.end_of-end.ensures.rest) (c.count_entries-count.ensures wholes t is shown) in
@@ -62,4 +62,4 @@ returns-clause-bytes g c wholes t is told shown =
 pub returns-in_err-write_entry-clause-reads : goal.returns-in_err-write_entry-clause-reads
 returns-in_err-write_entry-clause-reads g c wholes t is told never shown =
     let p = err_from_is_err_and c.from_residual-in_err-write_entry.result c.from_residual-in_err-write_entry.ensures.1 in
-    rw (p.1, p.2) (c.in_err-write_entry.ensures.reads wholes told never (whole_slot wholes t c.loop-block.block c.slot_of.result (shown c.loop-block.block ∙ ap (λ (s : Slot). state_by wholes s) (sym c.slot_of.ensures)) (is c.loop-block.block)))
+    rw (p.1, p.2) (c.in_err-write_entry.ensures.reads wholes told never (whole_shown wholes c.args.packets.now t is shown))

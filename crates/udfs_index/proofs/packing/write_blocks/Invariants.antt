@@ -1,21 +1,20 @@
--- The blocks before `next` were copied.
-use Rattle.std.proofs.Common.{◌≡◌, ℕ, ◌-◌, ◌≤◌, List, map, Some}
+-- The blocks before this one were copied, and the window holds what stands in an input.
+use Rattle.std.proofs.Common.{◌≡◌, ℕ, ◌*◌, List, map, Some}
 use Rattle.std.specs.List.{flat_map}
-use Rattle.udfs_reading.specs.PacketFile.{content}
+use Rattle.udfs_lattice.specs.Tables.{Table}
+use Rattle.udfs_reading.specs.PacketFile.{content, states_from}
 use Rattle.udfs_reading.specs.Writing.{Passed}
+use Rattle.udfs_index.specs.Copying.{IsShown}
 use Rattle.udfs_index.specs.Index.{contents_of}
-use Rattle.udfs_index.specs.Runs.{states_in}
+use Rattle.udfs_index.specs.Windows.{IsRead}
 use Rattle.udfs_index.proofs.packing.write_blocks.Given as goal
 
-abbrev pub invariant-loop-next : goal.invariant-loop-next
-invariant-loop-next g l =
+abbrev pub invariant-loop-i : goal.invariant-loop-i
+invariant-loop-i g l =
     let W = g.W.Sink in
     record {
-      within : l.next ≤ 32;
-      bytes : (wholes : List (List ℕ)) → contents_of g.S.Stored.content l.inputs ≡ map Some wholes →
-          Passed (W.stream l.initial.sink) (W.stream l.sink) l.initial.out l.out (flat_map content (states_in wholes l.packet 0 l.next));
+      read : IsRead (contents_of g.S.Stored.content l.inputs) l.window;
+      bytes : (wholes : List (List ℕ)) (t : Table) → contents_of g.S.Stored.content l.inputs ≡ map Some wholes → IsShown wholes l.packets t →
+          Passed (W.stream l.initial.sink) (W.stream l.sink) l.initial.out l.out (flat_map content (states_from t (32 * l.index) l.i));
       count : (W.stream l.sink).faults ≡ (W.stream l.initial.sink).faults;
     }
-
-abbrev pub decreases-loop-next : goal.decreases-loop-next
-decreases-loop-next g l = 32 - l.next

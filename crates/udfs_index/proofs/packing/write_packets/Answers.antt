@@ -8,7 +8,7 @@ use Rattle.udfs_reading.proofs.PacketTables.{below_none}
 use Rattle.udfs_reading.proofs.WritingLemmas.{passed_none, passed_then, failed_more}
 use Rattle.udfs_index.specs.Copying.{FailsBy}
 use Rattle.udfs_index.proofs.CopyLemmas.{fails_then, fails_more}
-use Rattle.udfs_index.proofs.PackLemmas.{packed_more, packed_cut, packed_whole, all_packets}
+use Rattle.udfs_index.proofs.PackLemmas.{packed_more, packed_cut, packed_whole, all_packets, whole_shown}
 use Rattle.udfs_index.proofs.packing.write_packets.Goals as goal
 
 pub returns-in_err-put_header-clause-bytes : goal.returns-in_err-put_header-clause-bytes
@@ -21,6 +21,7 @@ returns-in_err-put_header-clause-bytes g c wholes t told shown =
 pub loop-index-init : goal.loop-index-init
 loop-index-init g c =
     record {
+      read = c.new-window.ensures _;
       bytes = λ wholes t told shown. subst (Passed _ _ _ _) (sym (ap (flat_map packet_bytes) (below_none t))) (passed_none _ _);
       count = refl;
     }
@@ -28,6 +29,7 @@ loop-index-init g c =
 pub loop-index-preserved : goal.loop-index-preserved
 loop-index-preserved g c =
     record {
+      read = c.in_ok-write_some.ensures.read;
       bytes = λ wholes t told shown.
           subst (Passed _ _ _ _) (sym (packed_more t c.loop-index.index)) (passed_then (c.loop-index.invariant.bytes wholes t told shown) (c.in_ok-write_some.ensures.bytes wholes t told shown));
       count = search rules;
@@ -59,4 +61,4 @@ returns-clause-bytes g c wholes t told shown =
 pub returns-in_err-write_some-clause-reads : goal.returns-in_err-write_some-clause-reads
 returns-in_err-write_some-clause-reads g c wholes t is told never shown =
     let p = err_from_is_err_and c.from_residual-in_err-write_some.result c.from_residual-in_err-write_some.ensures.1 in
-    rw (p.1, p.2) (c.in_err-write_some.ensures.reads wholes t is told never shown)
+    rw (p.1, p.2) (c.in_err-write_some.ensures.reads wholes told never (whole_shown wholes c.args.packets.now t is shown))

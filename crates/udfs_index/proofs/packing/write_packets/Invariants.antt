@@ -1,4 +1,4 @@
--- The packets before this one were taken.
+-- The packets before this one were taken, and the window holds what stands in an input.
 use Rattle.std.proofs.Common.{◌≡◌, ℕ, List, map, Some}
 use Rattle.std.specs.List.{flat_map}
 use Rattle.udfs_lattice.specs.Tables.{Table}
@@ -6,12 +6,14 @@ use Rattle.udfs_reading.specs.PacketFile.{packet_bytes, packets_below}
 use Rattle.udfs_reading.specs.Writing.{Passed}
 use Rattle.udfs_index.specs.Copying.{IsShown}
 use Rattle.udfs_index.specs.Index.{contents_of}
+use Rattle.udfs_index.specs.Windows.{IsRead}
 use Rattle.udfs_index.proofs.packing.write_packets.Given as goal
 
 abbrev pub invariant-loop-index : goal.invariant-loop-index
 invariant-loop-index g l =
     let W = g.W.Sink in
     record {
+      read : IsRead (contents_of g.S.Stored.content l.inputs) l.window;
       bytes : (wholes : List (List ℕ)) (t : Table) → contents_of g.S.Stored.content l.inputs ≡ map Some wholes → IsShown wholes l.packets t →
           Passed (W.stream l.initial.sink) (W.stream l.sink) l.initial.out l.out (flat_map packet_bytes (packets_below t l.index));
       count : (W.stream l.sink).faults ≡ (W.stream l.initial.sink).faults;
