@@ -22,7 +22,7 @@ drop-nothing zero = refl
 drop-nothing (suc i) = refl
 
 pub length-stretch : (v : View) (s : Stretch) → length (stretch_cells v s) ≡ stretch_count s
-length-stretch v (Recorded run n) = length-map-range_with_len (recorded_cell v run.reference run.block) run.offset n
+length-stretch v (Recorded run n) = length-map-range_with_len (recorded_cell v run.address.reference run.address.block) run.offset n
 length-stretch v (Zeros n) = length-replicate n (Byte 0 None)
 length-stretch v (Missing b n) = length-replicate n (Gap b)
 

@@ -64,7 +64,7 @@ area_is : (bytes : List ℕ) → (entry_of bytes).area ≡ take (descriptors_len
 unfolding entry_of
 area_is bytes = refl
 
-one_stretch : (v : View) (r b at k : ℕ) → cells_of v (Recorded (record { reference = r; block = b; offset = at }) k ∷ []) ≡ map (recorded_cell v r b) (range_with_len at k)
+one_stretch : (v : View) (r b at k : ℕ) → cells_of v (Recorded (record { address = record { block = b; reference = r }; offset = at }) k ∷ []) ≡ map (recorded_cell v r b) (range_with_len at k)
 unfolding cells_of
 one_stretch v r b at k = append-nil (map (recorded_cell v r b) (range_with_len at k))
 
@@ -79,12 +79,12 @@ embedded_fits bytes fit k = sum_le (area_start bytes) (entry_of bytes).size (des
     fit
 
 pub embedded_lies : (r b : ℕ) (bytes : List ℕ) (items : List Stretch) → FitsBlock bytes → (entry_of bytes).size ≤ length (entry_of bytes).area
-    → items ≡ Recorded (record { reference = r; block = b; offset = area_start bytes }) (entry_of bytes).size ∷ [] → LieInBlocks items
+    → items ≡ Recorded (record { address = record { block = b; reference = r }; offset = area_start bytes }) (entry_of bytes).size ∷ [] → LieInBlocks items
 embedded_lies r b bytes items fit k is = subst LieInBlocks (sym is) (inr (embedded_fits bytes fit k))
 
 pub body-recorded : (v : View) (r b n : ℕ) (bytes : List ℕ) (items : List Stretch) → (entry_of bytes).form ≡ 3 → block_at v r b ≡ Some (n, Known bytes)
     → length bytes ≡ 2048 → FitsBlock bytes → (entry_of bytes).size ≤ length (entry_of bytes).area
-    → items ≡ Recorded (record { reference = r; block = b; offset = area_start bytes }) (entry_of bytes).size ∷ []
+    → items ≡ Recorded (record { address = record { block = b; reference = r }; offset = area_start bytes }) (entry_of bytes).size ∷ []
     → body v r b (entry_of bytes) ≡ cells (cells_of v items)
 body-recorded v r b n bytes items f e w fit k is =
     let size = (entry_of bytes).size in

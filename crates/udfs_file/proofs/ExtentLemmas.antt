@@ -68,7 +68,7 @@ filled size c n d k e f l =
     ∙ eqb-true (d.length % 2048) 0 (last_of (not (d.kind == 3)) (nat_lt (c + d.length) size) (d.length % 2048 == 0) (ap not (is_not d.kind 3 k)) (is_lt (c + d.length) size (subst (λ x. c + x < size) long l)) f)
 
 pub recorded : (v : View) (size c n : ℕ) (d : LongAd) → n ≡ cells_in size (c, d) → is_misreferred v d ≡ false → is_misplaced v d n ≡ false → is_odd size c d ≡ false
-    → d.kind ≢ 3 → d.kind ≡ 0 → IsExtent v size c d (Recorded (record { reference = d.reference; block = d.block; offset = 0 }) n)
+    → d.kind ≢ 3 → d.kind ≡ 0 → IsExtent v size c d (Recorded (record { address = record { block = d.block; reference = d.reference }; offset = 0 }) n)
 recorded v size c n d e a b f other k = record {
   no_fault = sound v size c n d e a b f;
   cells = ap (λ m. map (recorded_cell v d.reference d.block) (range_with_len 0 m)) e

@@ -119,9 +119,9 @@ gap_part n count p (suc k) h l = (replicate k (Gap n), part_same (Gap n) count p
 
 pub recorded_part : (v : View) (s : Stretch) (run : Run) (n p want at here : ℕ) → s ≡ Recorded run n → p < stretch_count s
     → at ≡ run.offset + p → here ≡ min (min (2048 - at % 2048) (n - p)) want
-    → map (recorded_cell v run.reference run.block) (range_with_len at here) ≡ take (min want (rest_in_block s p)) (drop p (stretch_cells v s))
-recorded_part v s run n p want at here e h a l = (λ i. map (recorded_cell v run.reference run.block) (range_with_len (a i) (same i)))
-    ∙ sym (part_range (recorded_cell v run.reference run.block) run.offset n p (min want (rest_in_block (Recorded run n) p)) (omega (arith, left)))
+    → map (recorded_cell v run.address.reference run.address.block) (range_with_len at here) ≡ take (min want (rest_in_block s p)) (drop p (stretch_cells v s))
+recorded_part v s run n p want at here e h a l = (λ i. map (recorded_cell v run.address.reference run.address.block) (range_with_len (a i) (same i)))
+    ∙ sym (part_range (recorded_cell v run.address.reference run.address.block) run.offset n p (min want (rest_in_block (Recorded run n) p)) (omega (arith, left)))
     ∙ ap (λ z. take (min want (rest_in_block z p)) (drop p (stretch_cells v z))) (sym e)
   where
     left : p < n

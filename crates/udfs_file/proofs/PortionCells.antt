@@ -100,9 +100,9 @@ pub length-part : (bytes : List ℕ) (at k : ℕ) → length bytes ≡ 2048 → 
 length-part bytes at k l h = length-take-le k (drop at bytes) (let q : length (drop at bytes) ≡ length bytes - at = length-drop at bytes in omega (arith, q, l, h))
 
 pub recorded_take : (v : View) (s : Stretch) (run : Run) (n p at k : ℕ) → s ≡ Recorded run n → at ≡ run.offset + p → p + k ≤ n
-    → map (recorded_cell v run.reference run.block) (range_with_len at k) ≡ take k (drop p (stretch_cells v s))
-recorded_take v s run n p at k e a h = (λ i. map (recorded_cell v run.reference run.block) (range_with_len (a i) k))
-    ∙ sym (part_range (recorded_cell v run.reference run.block) run.offset n p k h)
+    → map (recorded_cell v run.address.reference run.address.block) (range_with_len at k) ≡ take k (drop p (stretch_cells v s))
+recorded_take v s run n p at k e a h = (λ i. map (recorded_cell v run.address.reference run.address.block) (range_with_len (a i) k))
+    ∙ sym (part_range (recorded_cell v run.address.reference run.address.block) run.offset n p k h)
     ∙ ap (λ z. take k (drop p (stretch_cells v z))) (sym e)
 
 pub zeros_take : (v : View) (s : Stretch) (n p k : ℕ) → s ≡ Zeros n → p + k ≤ n → take k (drop p (stretch_cells v s)) ≡ replicate k (Byte 0 None)

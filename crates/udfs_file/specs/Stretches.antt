@@ -21,7 +21,7 @@ use Rattle.udfs_file.specs.declared.faults.WalkError.TheVariants.{Fault, OutOfMe
 
 -- the cells of a stretch
 abbrev pub stretch_cells : View → Stretch → List Cell
-stretch_cells view (Recorded run count) = map (recorded_cell view run.reference run.block) (range_with_len run.offset count)
+stretch_cells view (Recorded run count) = map (recorded_cell view run.address.reference run.address.block) (range_with_len run.offset count)
 stretch_cells view (Zeros count) = replicate count (Byte 0 None)
 stretch_cells view (Missing n count) = replicate count (Gap n)
 

@@ -13,7 +13,7 @@ use std::alloc::Global;
 use std::marker::Model;
 use udfs_lattice::BlockTable;
 use udfs_space::{Space, View};
-use udfs_tag::extent_types;
+use udfs_tag::{LbAddr, extent_types};
 
 /// The body of an entry: as many bytes as its information length says, each of them known, zero or missing.
 /// In contracts a body is its stretches; `cells_of` makes cells of them.
@@ -103,8 +103,10 @@ impl Body {
             return Err(WalkError::Fault(NodeFault::Short));
         }
         let run = Run {
-            reference,
-            block: b,
+            address: LbAddr {
+                block: b,
+                reference,
+            },
             offset: entry.start(),
         };
         let mut stretches = Vec::new(alloc);

@@ -1,8 +1,7 @@
 //! Directories descriptor by descriptor, where they lie (ECMA-167 4/14.4).
 
 ghost use Rattle.std.specs.Prelude.{◌≡◌, ◌≤◌, ◌<◌, ◌+◌, drop, is_some, length, take};
-ghost use Rattle.udfs_lattice.specs.Tables.{state_of};
-ghost use Rattle.udfs_space.specs.Places.{view};
+ghost use Rattle.udfs_space.specs.Views.{view_now};
 ghost use Rattle.udfs_tag.specs.Fields.{part, uint8_at, uint16_at};
 ghost use Rattle.udfs_tag.specs.Tags.{is_valid};
 ghost use Rattle.udfs_osta.specs.Names.{fault_of, units_of};
@@ -17,9 +16,8 @@ use crate::faults::NodeFault;
 use crate::pieces::{Front, Pieces};
 use byteorder::{ByteOrder, LittleEndian};
 use std::marker::Model;
-use udfs_lattice::BlockTable;
 use udfs_osta::Name;
-use udfs_space::{Space, View};
+use udfs_space::View;
 use udfs_tag::{Tag, identifiers};
 
 /// What stands next in a directory.
@@ -204,13 +202,13 @@ fn ahead<'a>(cells: &Cells<'a>) -> Step<'a>
 }
 
 impl<'a> Cursor<'a> {
-    /// The beginning of the directory that has this body, which is one of this table and space.
-    pub fn new(table: &'a BlockTable, space: &'a Space, body: &'a Body) -> Cursor<'a>
-        ensures { result ≡ cells_of (view (state_of table.now) space.now) body.now }
+    /// The beginning of the directory that has this body, which is one of this view.
+    pub fn new(view: View<'a>, body: &'a Body) -> Cursor<'a>
+        ensures { result ≡ cells_of (view_now view.entry) body.now }
     {
         Cursor {
             cells: Cells {
-                view: View { table, space },
+                view,
                 stretches: body.stretches(),
                 passed: 0,
             },

@@ -3,6 +3,7 @@
 ghost use Rattle.std.specs.Prelude.{◌≡◌, ◌≤◌, ◌<◌, ◌+◌, ◌++◌, ◌∷◌, [], length, true, Ok, Some, IfErr, IfOk};
 ghost use Rattle.udfs_lattice.specs.Tables.{state_of};
 ghost use Rattle.udfs_space.specs.Places.{view};
+ghost use Rattle.udfs_space.specs.Views.{view_now};
 ghost use Rattle.udfs_tag.specs.Fields.{uint8_at, uint16_at, part};
 ghost use Rattle.udfs_file.specs.Stretches.{cells_of};
 ghost use Rattle.udfs_file.specs.Fronts.{directory_entries, entry_with, is_listed, IsEndOf, IsFrontOf, IsFrontRefused};
@@ -19,7 +20,7 @@ use byteorder::{ByteOrder, LittleEndian};
 use std::alloc::{AllocError, Global};
 use udfs_lattice::BlockTable;
 use udfs_osta::{Name, NameFault, OutOfMemory};
-use udfs_space::Space;
+use udfs_space::{Space, View};
 use udfs_tag::LongAd;
 
 /// An entry of a directory.
@@ -177,7 +178,7 @@ impl Dir {
         ensures complete { IfOk result (TellsFront (cells_of (view (state_of table.now) space.now) body.now)) }
         ensures memory { IfErr result (λ e. 0 < length (directory_entries (cells_of (view (state_of table.now) space.now) body.now))) }
     {
-        match Dir::front_within(alloc, table, space, body, usize::MAX) {
+        match Dir::front_within(alloc, View { table, space }, body, usize::MAX) {
             Ok(front) => Ok(front),
             Err(_) => Err(AllocError),
         }
@@ -191,21 +192,20 @@ impl Dir {
     /// [`FrontError::OutOfMemory`] where memory was refused: never where the directory lists nothing.
     pub fn front_within(
         alloc: Global,
-        table: &BlockTable,
-        space: &Space,
+        view: View<'_>,
         body: &Body,
         most: usize,
     ) -> Result<DirFront, FrontError>
-        ensures value { IfOk result (λ front. IsFrontOf front (cells_of (view (state_of table.now) space.now) body.now)) }
-        ensures complete { IfOk result (TellsFront (cells_of (view (state_of table.now) space.now) body.now)) }
+        ensures value { IfOk result (λ front. IsFrontOf front (cells_of (view_now view.entry) body.now)) }
+        ensures complete { IfOk result (TellsFront (cells_of (view_now view.entry) body.now)) }
         ensures few { IfOk result (λ front. length front.entries.items ≤ most) }
-        ensures refused { IfErr result (IsFrontRefused most (cells_of (view (state_of table.now) space.now) body.now)) }
+        ensures refused { IfErr result (IsFrontRefused most (cells_of (view_now view.entry) body.now)) }
     {
-        let mut cursor = Cursor::new(table, space, body);
+        let mut cursor = Cursor::new(view, body);
         let mut entries = Vec::new(alloc);
         'steps: loop {
             match cursor.next() {
-                Step::Id(view) => match listed(alloc, &view)? {
+                Step::Id(pieces) => match listed(alloc, &pieces)? {
                     Some(entry) => {
                         if entries.len() >= most {
                             return Err(FrontError::TooMany);
@@ -223,15 +223,15 @@ impl Dir {
 
     /// What ends the directory that has this body, as [`Dir::front`] tells it, and whether it lists anything before that. It takes
     /// no memory.
-    pub fn end(table: &BlockTable, space: &Space, body: &Body) -> DirEnd
-        ensures { IsEndOf result (cells_of (view (state_of table.now) space.now) body.now) }
+    pub fn end(view: View<'_>, body: &Body) -> DirEnd
+        ensures { IsEndOf result (cells_of (view_now view.entry) body.now) }
     {
-        let mut cursor = Cursor::new(table, space, body);
+        let mut cursor = Cursor::new(view, body);
         let mut lists = false;
         'steps: loop {
             match cursor.next() {
-                Step::Id(view) => {
-                    if view.is_listed() {
+                Step::Id(pieces) => {
+                    if pieces.is_listed() {
                         lists = true;
                     }
                 }

@@ -16,7 +16,7 @@ use crate::stretches::{Follow, Run, Stretch};
 use byteorder::{ByteOrder, LittleEndian};
 use udfs_lattice::Fact;
 use udfs_space::{Space, View};
-use udfs_tag::{LongAd, ShortAd, Tag, extent_types, identifiers};
+use udfs_tag::{LbAddr, LongAd, ShortAd, Tag, extent_types, identifiers};
 
 /// How many descriptors an area has.
 pub(crate) fn descriptor_count(form: u16, area: &[u8]) -> usize
@@ -94,8 +94,7 @@ fn is_misplaced(space: &Space, d: LongAd, count: u64) -> bool
     requires { count < 4294967296 }
     ensures { (blocks : Blocks) → result ≡ is_misplaced (seen blocks space.now) d count }
 {
-    d.kind == extent_types::RECORDED
-        && space.is_past(d.reference, d.block, ((count + 2047) / 2048) as u32)
+    d.kind == extent_types::RECORDED && space.is_past(d.address(), ((count + 2047) / 2048) as u32)
 }
 
 fn is_odd(size: u64, c: u64, d: LongAd) -> bool
@@ -123,8 +122,7 @@ pub(crate) fn extent(space: &Space, size: u64, c: u64, d: LongAd) -> Result<Stre
     }
     if d.kind == extent_types::RECORDED {
         let run = Run {
-            reference: d.reference,
-            block: d.block,
+            address: d.address(),
             offset: 0,
         };
         Ok(Stretch::Recorded(run, count as u32))
@@ -156,10 +154,10 @@ fn extent_area<'a>(bytes: &'a [u8; 2048]) -> &'a [u8]
 }
 
 /// Whether an address has no place.
-pub(crate) fn is_unplaced(space: &Space, d: LongAd) -> bool
-    ensures { result ≡ is_none (place space.now d.reference d.block) }
+pub(crate) fn is_unplaced(space: &Space, address: LbAddr) -> bool
+    ensures { result ≡ is_none (place space.now address.reference address.block) }
 {
-    space.place(d.reference, d.block).is_none()
+    space.place(address.reference, address.block).is_none()
 }
 
 /// What is wrong with a continuation before its block is looked at.
@@ -170,7 +168,7 @@ fn continuation_fault(space: &Space, is_last: bool, d: LongAd) -> Option<NodeFau
     if d.reference >= space.maps() {
         return Some(NodeFault::Reference);
     }
-    if is_unplaced(space, d) {
+    if is_unplaced(space, d.address()) {
         return Some(NodeFault::Range);
     }
     if d.length > 2048 || is_last {
@@ -215,10 +213,6 @@ pub(crate) fn follow<'a>(view: View<'a>, form: u16, is_last: bool, d: LongAd) ->
 {
     match continuation_fault(view.space, is_last, d) {
         Some(fault) => Follow::Broken(fault),
-        None => area_at(
-            form,
-            d.block,
-            view.block_at(d.reference, u64::from(d.block)),
-        ),
+        None => area_at(form, d.block, view.block_at(d.address())),
     }
 }

@@ -15,7 +15,7 @@ use crate::extents::is_unplaced;
 use crate::faults::NodeFault;
 use std::alloc::Global;
 use udfs_lattice::{BlockTable, Fact};
-use udfs_space::Space;
+use udfs_space::{Space, View};
 use udfs_tag::{LongAd, Tag, extent_types, identifiers};
 use udfs_volume::{Seen, VolumeFault};
 
@@ -35,7 +35,7 @@ pub fn address_fault(space: &Space, address: LongAd) -> Option<NodeFault>
     if is_no_reference(space, address) {
         return Some(NodeFault::Reference);
     }
-    if is_unplaced(space, address) {
+    if is_unplaced(space, address.address()) {
         return Some(NodeFault::Range);
     }
     None
@@ -95,7 +95,7 @@ pub fn file_set(alloc: Global, table: &BlockTable, space: &Space, address: LongA
     match address_fault(space, address) {
         Some(_) => Seen::Fault(VolumeFault::FileSet),
         None => {
-            let block = space.block_at(table, address.reference, u64::from(address.block));
+            let block = View { table, space }.block_at(address.address());
             file_set_at(alloc, address, block)
         }
     }

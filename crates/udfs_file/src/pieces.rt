@@ -68,13 +68,14 @@ pub(crate) fn recorded_piece<'a>(view: View<'a>, run: Run, at: u64, count: usize
     requires inside { at % 2048 + count ≤ 2048 }
     requires some { 1 ≤ count }
     requires near { at < 2 ^ 33 }
-    ensures { IsPieceOf result (map (recorded_cell (view_now view.entry) run.reference run.block) (range_with_len at count)) }
+    ensures { IsPieceOf result (map (recorded_cell (view_now view.entry) run.address.reference run.address.block) (range_with_len at count)) }
 {
-    let b = u64::from(run.block) + at / 2048;
-    match view.block_at(run.reference, b) {
+    let behind = (at / 2048) as u32;
+    match view.block_behind(run.address, behind) {
         None => Piece::Bytes(zeros(count), None),
         Some((_, Fact::Known(bytes))) => {
-            Piece::Bytes(bytes_at(bytes, (at % 2048) as usize, count), Some(b as u32))
+            let holder = run.address.block + behind;
+            Piece::Bytes(bytes_at(bytes, (at % 2048) as usize, count), Some(holder))
         }
         Some((n, Fact::Unknown)) => Piece::Gap(n),
         Some((n, Fact::Conflict)) => Piece::Gap(n),

@@ -16,6 +16,7 @@ use crate::stretches::{Run, Stretch};
 use std::marker::Model;
 use udfs_lattice::Fact;
 use udfs_space::View;
+use udfs_tag::LbAddr;
 
 /// Bytes of a body that lie side by side, at least one.
 #[derive(Clone, Copy, Debug)]
@@ -52,44 +53,45 @@ impl<'a> Portion<'a> {
     }
 }
 
-/// Whether the block at a logical address is not known and has this number.
-fn is_unread(view: View<'_>, reference: u16, block: u64, n: u64) -> bool
-    ensures { result ≡ true → IsUnreadAt (block_at (view_now view.entry) reference block) n }
+/// Whether the block so many behind a logical address is not known and has this number.
+fn is_unread(view: View<'_>, address: LbAddr, behind: u32, n: u32) -> bool
+    ensures { result ≡ true → IsUnreadAt (block_at (view_now view.entry) address.reference (address.block + behind)) n }
 {
-    match view.block_at(reference, block) {
-        Some((found, Fact::Unknown)) => u64::from(found) == n,
-        Some((found, Fact::Conflict)) => u64::from(found) == n,
+    match view.block_behind(address, behind) {
+        Some((found, Fact::Unknown)) => found == n,
+        Some((found, Fact::Conflict)) => found == n,
         _ => false,
     }
 }
 
-/// How many consecutive logical blocks from one on are not known and stand one behind the other from this block of
-/// the volume on, as far as a step goes: several at once only where they are unknown; none only where the first is not such a block.
-fn unread_step(view: View<'_>, reference: u16, block: u64, n: u64) -> u64
-    ensures { (j : ℕ) → j < result → IsUnreadAt (block_at (view_now view.entry) reference (block + j)) (n + j) }
+/// How many consecutive logical blocks, from the one so many behind an address on, are not known and stand one behind the other from
+/// this block of the volume on, as far as a step goes: several at once only where they are unknown; none only where the first is not
+/// such a block.
+fn unread_step(view: View<'_>, address: LbAddr, behind: u32, n: u32) -> u32
+    ensures { (j : ℕ) → j < result → IsUnreadAt (block_at (view_now view.entry) address.reference (address.block + behind + j)) (n + j) }
 {
-    match view.unknown_ahead(reference, block) {
+    match view.unknown_ahead(address, behind) {
         Some((found, count)) => {
-            if u64::from(found) == n && count > 0 {
-                return u64::from(count);
+            if found == n && count > 0 {
+                return count;
             }
         }
         None => {}
     }
-    u64::from(is_unread(view, reference, block, n))
+    u32::from(is_unread(view, address, behind, n))
 }
 
-/// How many consecutive logical blocks from one on are not known and stand one behind the other from this block of
-/// the volume on: at most so many.
-fn unread_run(view: View<'_>, reference: u16, block: u64, n: u64, most: u64) -> u64
-    requires near { block + most < 2 ^ 64 }
-    requires low { n + most < 2 ^ 64 }
+/// How many consecutive logical blocks, from the one so many behind an address on, are not known and stand one behind the other from
+/// this block of the volume on: at most so many.
+fn unread_run(view: View<'_>, address: LbAddr, behind: u32, n: u32, most: u32) -> u32
+    requires near { behind + most < 2 ^ 32 }
+    requires low { n + most < 2 ^ 32 }
     ensures most { result ≤ most }
-    ensures unread { (j : ℕ) → j < result → IsUnreadAt (block_at (view_now view.entry) reference (block + j)) (n + j) }
+    ensures unread { (j : ℕ) → j < result → IsUnreadAt (block_at (view_now view.entry) address.reference (address.block + behind + j)) (n + j) }
 {
     let mut count = 0;
     'blocks: while count < most {
-        let step = unread_step(view, reference, block + count, n + count);
+        let step = unread_step(view, address, behind + count, n + count);
         if step == 0 {
             break 'blocks;
         }
@@ -104,23 +106,17 @@ fn unread_portion<'a>(view: View<'a>, run: Run, at: u64, n: u32, left: u64) -> P
     requires far { left < 2 ^ 32 }
     requires near { at < 2 ^ 33 }
     requires low { n ≤ 4194303 }
-    requires unread { IsUnreadAt (block_at (view_now view) run.reference (run.block + at / 2048)) n }
-    ensures cells { IsPortion result (map (recorded_cell (view_now view.entry) run.reference run.block) (range_with_len at (portion_count result))) }
+    requires unread { IsUnreadAt (block_at (view_now view) run.address.reference (run.address.block + at / 2048)) n }
+    ensures cells { IsPortion result (map (recorded_cell (view_now view.entry) run.address.reference run.address.block) (range_with_len at (portion_count result))) }
     ensures some { 1 ≤ portion_count result }
     ensures most { portion_count result ≤ left }
 {
-    let more = (at % 2048 + left - 1) / 2048;
-    let behind = unread_run(
-        view,
-        run.reference,
-        u64::from(run.block) + at / 2048 + 1,
-        u64::from(n) + 1,
-        more,
-    );
-    let count = left.min(2048 * (behind + 1) - at % 2048);
+    let more = ((at % 2048 + left - 1) / 2048) as u32;
+    let behind = unread_run(view, run.address, (at / 2048) as u32 + 1, n + 1, more);
+    let count = left.min(2048 * (u64::from(behind) + 1) - at % 2048);
     Portion::Missing(Unread {
         first: n,
-        last: n + behind as u32,
+        last: n + behind,
         count,
     })
 }
@@ -130,12 +126,12 @@ fn recorded_portion<'a>(view: View<'a>, run: Run, at: u64, left: u64) -> Portion
     requires some { 1 ≤ left }
     requires far { left < 2 ^ 32 }
     requires near { at < 2 ^ 33 }
-    ensures cells { IsPortion result (map (recorded_cell (view_now view.entry) run.reference run.block) (range_with_len at (portion_count result))) }
+    ensures cells { IsPortion result (map (recorded_cell (view_now view.entry) run.address.reference run.address.block) (range_with_len at (portion_count result))) }
     ensures some { 1 ≤ portion_count result }
     ensures most { portion_count result ≤ left }
 {
     let here = left.min(2048 - at % 2048);
-    match view.block_at(run.reference, u64::from(run.block) + at / 2048) {
+    match view.block_behind(run.address, (at / 2048) as u32) {
         None => Portion::Zeros(here),
         Some((_, Fact::Known(bytes))) => {
             Portion::Bytes(bytes_at(bytes, (at % 2048) as usize, here as usize))

@@ -4,14 +4,13 @@ ghost use Rattle.std.specs.Prelude.{◌≡◌};
 ghost use Rattle.udfs_file.specs.Stretches.{stretch_count};
 
 use crate::faults::NodeFault;
+use udfs_tag::LbAddr;
 
 /// Where recorded bytes begin.
 #[derive(Clone, Copy, Debug, PartialEq, Eq)]
 pub struct Run {
-    /// The partition reference.
-    pub reference: u16,
     /// The first logical block.
-    pub block: u32,
+    pub address: LbAddr,
     /// How many bytes of it stand before them: 0 but in an embedded body.
     pub offset: u32,
 }

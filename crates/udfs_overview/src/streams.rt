@@ -42,7 +42,7 @@ fn fact_names_streams(fact: Fact<&[u8; 2048]>) -> bool
 fn block_names_streams(view: View<'_>, address: LbAddr) -> bool
     ensures { result ≡ block_names_streams (block_at (view_now view.entry) address.reference address.block) }
 {
-    match view.block_at(address.reference, u64::from(address.block)) {
+    match view.block_at(address) {
         Some((_, fact)) => fact_names_streams(fact),
         None => false,
     }

@@ -15,6 +15,7 @@ use crate::spans::Span;
 use std::alloc::{AllocError, Global};
 use std::marker::Model;
 use udfs_lattice::{BlockTable, Fact};
+use udfs_tag::LbAddr;
 use udfs_volume::{Partition, Seen, VolumeParts};
 
 /// Where the logical blocks of each partition stand (UDF 2.2.11, ECMA-167 3/10.5.8).
@@ -163,22 +164,23 @@ impl Space {
 
     /// How many logical blocks from one on stand one behind the other in the volume: 0 where the first has no place, and else at least
     /// 1, up to the end of its packet or, where no packet of the partition is spared, of the partition. It takes no memory.
-    pub fn beside(&self, reference: u16, block: u32) -> u32
-        ensures beside { StandBeside (place self.now reference) block result }
-        ensures some { block < length_of self.now reference → 0 < result }
+    pub fn beside(&self, address: LbAddr) -> u32
+        ensures beside { StandBeside (place self.now address.reference) address.block result }
+        ensures some { address.block < length_of self.now address.reference → 0 < result }
     {
-        match self.spans.get(usize::from(reference)) {
-            Some(span) => span.beside(block),
+        match self.spans.get(usize::from(address.reference)) {
+            Some(span) => span.beside(address.block),
             None => 0,
         }
     }
 
     /// Whether one of so many consecutive logical blocks has no place. It takes no memory, and no longer for
     /// many blocks than for one.
-    pub fn is_past(&self, reference: u16, block: u32, count: u32) -> bool
-        ensures { result ≡ is_past (place self.now) reference block count }
+    pub fn is_past(&self, address: LbAddr, count: u32) -> bool
+        ensures { result ≡ is_past (place self.now) address.reference address.block count }
     {
-        count != 0 && u64::from(block) + u64::from(count) > u64::from(self.size(reference))
+        count != 0
+            && u64::from(address.block) + u64::from(count) > u64::from(self.size(address.reference))
     }
 
     /// What is known of a logical block. It takes no memory.

@@ -7,6 +7,7 @@ ghost use Rattle.udfs_space.specs.Views.{view_now};
 
 use crate::spaces::Space;
 use udfs_lattice::{BlockTable, Fact};
+use udfs_tag::LbAddr;
 
 /// A volume as the layers above see it: what is known of its blocks, and where the logical blocks of its partitions
 /// stand. It borrows both, so it is passed by value.
@@ -21,25 +22,36 @@ pub struct View<'a> {
 impl<'a> View<'a> {
     /// The block of the volume that holds a logical block, and what is known of it: none where the logical
     /// block has no place. It takes no memory.
-    pub fn block_at(self, reference: u16, block: u64) -> Option<(u32, Fact<&'a [u8; 2048]>)>
-        ensures value { block_now result ≡ block_at (view_now self.entry) reference block }
-        ensures small { IsSome result → block < 4294967296 }
+    pub fn block_at(self, address: LbAddr) -> Option<(u32, Fact<&'a [u8; 2048]>)>
+        ensures value { block_now result ≡ block_at (view_now self.entry) address.reference address.block }
         ensures fits { IfSome result (λ found. found.0 ≤ 4194303) }
     {
-        self.space.block_at(self.table, reference, block)
+        self.block_behind(address, 0)
     }
 
-    /// The block of the volume that holds a logical block, and how many logical blocks from this one on are unknown and stand one
-    /// behind the other, as far as that is told at once: up to the end of a packet of 32 blocks. It takes no memory.
-    pub fn unknown_ahead(self, reference: u16, block: u64) -> Option<(u32, u32)>
-        ensures { IfSome result (λ ahead. (j : ℕ) → j < ahead.1 → block_at (view_now self.entry) reference (block + j) ≡ Some (ahead.0 + j, Unknown)) }
+    /// The same of the logical block that stands so many behind an address in its partition. Its number may pass 32 bits, and then
+    /// it has no place. It takes no memory.
+    pub fn block_behind(self, address: LbAddr, count: u32) -> Option<(u32, Fact<&'a [u8; 2048]>)>
+        ensures value { block_now result ≡ block_at (view_now self.entry) address.reference (address.block + count) }
+        ensures small { IsSome result → address.block + count < 4294967296 }
+        ensures fits { IfSome result (λ found. found.0 ≤ 4194303) }
     {
-        if block > u64::from(u32::MAX) {
-            return None;
-        }
-        let first = block as u32;
-        let place = self.space.place(reference, first)?;
-        let beside = self.space.beside(reference, first);
+        let block = u64::from(address.block) + u64::from(count);
+        self.space.block_at(self.table, address.reference, block)
+    }
+
+    /// The block of the volume that holds the logical block so many behind an address, and how many logical blocks from that one on
+    /// are unknown and stand one behind the other, as far as that is told at once: up to the end of a packet of 32 blocks. It takes
+    /// no memory.
+    pub fn unknown_ahead(self, address: LbAddr, count: u32) -> Option<(u32, u32)>
+        ensures { IfSome result (λ ahead. (j : ℕ) → j < ahead.1 → block_at (view_now self.entry) address.reference (address.block + count + j) ≡ Some (ahead.0 + j, Unknown)) }
+    {
+        let first = address.block.checked_add(count)?;
+        let place = self.space.place(address.reference, first)?;
+        let beside = self.space.beside(LbAddr {
+            block: first,
+            reference: address.reference,
+        });
         Some((place, beside.min(self.table.unknown_ahead(place))))
     }
 }

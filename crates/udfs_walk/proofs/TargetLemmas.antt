@@ -19,19 +19,19 @@ target_is v a f o e h = λ i. target_at (e i) a.block (h i)
 pub bad_target : (v : View) (a : LongAd) (f : NodeFault) → Some f ≡ address_fault v a → bad f ≡ target v a
 bad_target v a f e = sym (target_is v a (Some f) (block_at v a.reference a.block) (sym e) refl)
 
-pub no_block : (v : View) (a : LongAd) (b : ℕ) → None ≡ address_fault v a → None ≡ block_at v a.reference b → b ≡ a.block → bad Range ≡ target v a
-no_block v a b e h q = sym (target_is v a None None (sym e) (ap (block_at v a.reference) (sym q) ∙ sym h))
+pub no_block : (v : View) (a : LongAd) → None ≡ address_fault v a → None ≡ block_at v a.reference a.block → bad Range ≡ target v a
+no_block v a e h = sym (target_is v a None None (sym e) (sym h))
 
-pub block_target : (v : View) (a : LongAd) (b n : ℕ) (s : State) → None ≡ address_fault v a → Some (n, s) ≡ block_at v a.reference b → b ≡ a.block → target_in a.block n s ≡ target v a
-block_target v a b n s e h q = sym (target_is v a None (Some (n, s)) (sym e) (ap (block_at v a.reference) (sym q) ∙ sym h))
+pub block_target : (v : View) (a : LongAd) (n : ℕ) (s : State) → None ≡ address_fault v a → Some (n, s) ≡ block_at v a.reference a.block → target_in a.block n s ≡ target v a
+block_target v a n s e h = sym (target_is v a None (Some (n, s)) (sym e) (sym h))
 
-pub entry_target : (v : View) (a : LongAd) (b n : ℕ) (bytes got : List ℕ) → None ≡ address_fault v a → Some (n, Known bytes) ≡ block_at v a.reference b → b ≡ a.block
+pub entry_target : (v : View) (a : LongAd) (n : ℕ) (bytes got : List ℕ) → None ≡ address_fault v a → Some (n, Known bytes) ≡ block_at v a.reference a.block
     → got ≡ bytes → entry_fault bytes a.block ≡ None → entry (entry_of got) ≡ target v a
-entry_target v a b n bytes got e h q g f = ap (λ x. entry (entry_of x)) g ∙ ap (λ o. entry_unless o (entry_of bytes)) (sym f) ∙ block_target v a b n (Known bytes) e h q
+entry_target v a n bytes got e h g f = ap (λ x. entry (entry_of x)) g ∙ ap (λ o. entry_unless o (entry_of bytes)) (sym f) ∙ block_target v a n (Known bytes) e h
 
-pub fault_target : (v : View) (a : LongAd) (b n : ℕ) (bytes : List ℕ) (fault : NodeFault) → None ≡ address_fault v a → Some (n, Known bytes) ≡ block_at v a.reference b → b ≡ a.block
+pub fault_target : (v : View) (a : LongAd) (n : ℕ) (bytes : List ℕ) (fault : NodeFault) → None ≡ address_fault v a → Some (n, Known bytes) ≡ block_at v a.reference a.block
     → entry_fault bytes a.block ≡ Some fault → bad fault ≡ target v a
-fault_target v a b n bytes fault e h q f = ap (λ o. entry_unless o (entry_of bytes)) (sym f) ∙ block_target v a b n (Known bytes) e h q
+fault_target v a n bytes fault e h f = ap (λ o. entry_unless o (entry_of bytes)) (sym f) ∙ block_target v a n (Known bytes) e h
 
 pub node_is : (v : View) (w : Walked) (t : Target) → t ≡ target v w.address → node_at v w t ≡ node v w
 unfolding node

@@ -42,7 +42,7 @@ pub(crate) fn target_at<'a>(view: View<'a>, address: LongAd) -> Target<'a>
 {
     match address_fault(view.space, address) {
         Some(fault) => Target::Fault(fault),
-        None => match view.block_at(address.reference, u64::from(address.block)) {
+        None => match view.block_at(address.address()) {
             None => Target::Fault(NodeFault::Range),
             Some((n, fact)) => match fact {
                 Fact::Unknown => Target::Unread(n),

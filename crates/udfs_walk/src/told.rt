@@ -52,7 +52,7 @@ fn kind_told(alloc: Global, view: View<'_>, kind: Kind, body: &Body) -> Told
 {
     let standing = bare_cells_standing(alloc, view, body);
     match kind {
-        Kind::Directory => ended(Dir::end(view.table, view.space, body), standing),
+        Kind::Directory => ended(Dir::end(view, body), standing),
         _ => Told {
             standing,
             lists: false,
@@ -103,7 +103,7 @@ fn body_entries(
     ensures refused { IfErr result (AreRefused most (kind_entries kind (cells (cells_of (view_now view.entry) body.now)))) }
 {
     match kind {
-        Kind::Directory => match Dir::front_within(alloc, view.table, view.space, body, most) {
+        Kind::Directory => match Dir::front_within(alloc, view, body, most) {
             Ok(front) => {
                 let DirFront { entries, .. } = front;
                 Ok(entries)

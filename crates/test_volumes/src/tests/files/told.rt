@@ -14,7 +14,7 @@ use udfs_file::stretches::{Run, Stretch};
 use udfs_lattice::{BlockTable, Fact};
 use udfs_samples::LAST;
 use udfs_space::{Space, View};
-use udfs_tag::LongAd;
+use udfs_tag::{LbAddr, LongAd};
 use udfs_volume::layouts::layout_by;
 use udfs_volume::{Profile, Seen};
 
@@ -155,7 +155,8 @@ pub fn stretches_by(
     for stretch in body.stretches() {
         let one = match stretch {
             Stretch::Recorded(run, count) => {
-                let (reference, block, offset) = (run.reference, run.block, run.offset);
+                let LbAddr { block, reference } = run.address;
+                let offset = run.offset;
                 format!(in alloc; " recorded {reference}:{block}+{offset} {count}")?
             }
             Stretch::Zeros(count) => format!(in alloc; " zeros {count}")?,
@@ -224,8 +225,8 @@ fn are_alike(a: Option<Cell>, b: Cell) -> bool {
 
 /// The cell so many bytes behind the start of a run's block.
 fn recorded_cell(table: &BlockTable, space: &Space, run: Run, at: u64) -> Cell {
-    let b = u64::from(run.block).wrapping_add(at / 2048);
-    match space.block_at(table, run.reference, b) {
+    let b = u64::from(run.address.block).wrapping_add(at / 2048);
+    match space.block_at(table, run.address.reference, b) {
         None => Cell::Byte(0, None),
         Some((_, Fact::Known(bytes))) => Cell::Byte(bytes[(at % 2048) as usize], Some(b as u32)),
         Some((n, _)) => Cell::Gap(n),
@@ -311,7 +312,11 @@ pub fn within(alloc: Global, table: &BlockTable, b: u32, most: usize) -> Result<
         Ok(body) => body,
         Err(text) => return Ok(text),
     };
-    match Dir::front_within(alloc, table, &space, &body, most) {
+    let view = View {
+        table,
+        space: &space,
+    };
+    match Dir::front_within(alloc, view, &body, most) {
         Ok(front) => front_text(alloc, &front),
         Err(error) => Ok(format!(in alloc; "{error}")?),
     }
@@ -326,7 +331,11 @@ pub fn end(alloc: Global, table: &BlockTable, b: u32) -> Result<String, Fail> {
         Ok(body) => body,
         Err(text) => return Ok(text),
     };
-    let end = Dir::end(table, &space, &body);
+    let view = View {
+        table,
+        space: &space,
+    };
+    let end = Dir::end(view, &body);
     let mut text = format!(in alloc; "{}", if end.lists { "some" } else { "none" })?;
     push_end(alloc, &mut text, end.missing, end.fault)?;
     Ok(text)
@@ -374,7 +383,11 @@ pub fn steps(alloc: Global, table: &BlockTable, b: u32, count: usize) -> Result<
         Ok(body) => body,
         Err(text) => return Ok(text),
     };
-    let mut cursor = Cursor::new(table, &space, &body);
+    let view = View {
+        table,
+        space: &space,
+    };
+    let mut cursor = Cursor::new(view, &body);
     let mut text = format!(in alloc; "steps")?;
     for _ in 0..count {
         let step = match cursor.next() {

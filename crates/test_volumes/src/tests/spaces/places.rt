@@ -7,6 +7,7 @@ use std::test::Fail;
 use udfs_lattice::{BlockTable, Fact};
 use udfs_samples::{Disc, LAST};
 use udfs_space::{Space, View};
+use udfs_tag::LbAddr;
 use udfs_volume::Seen;
 
 /// What is known of a logical block of the one partition: its first byte.
@@ -115,7 +116,7 @@ fn old_place_is_not_read(rt: HostRuntime) -> Result<(), Fail> {
 /// So many blocks from a logical block on go past the partition's end, or do not.
 fn assert_past(rt: &impl Abort, space: &Space, run: (u16, u32, u32), want: bool) {
     let (reference, block, count) = run;
-    let past = space.is_past(reference, block, count);
+    let past = space.is_past(LbAddr { block, reference }, count);
     assert_eq!(rt; past, want, "{reference} {block} {count}");
 }
 
@@ -174,12 +175,77 @@ fn blocks_at_wide_numbers(rt: HostRuntime) -> Result<(), Fail> {
 
 /// So many blocks from a logical block on stand one behind the other.
 fn assert_beside(rt: &impl Abort, space: &Space, reference: u16, block: u32, want: u32) {
-    assert_eq!(rt; space.beside(reference, block), want, "{reference} {block}");
+    let beside = space.beside(LbAddr { block, reference });
+    assert_eq!(rt; beside, want, "{reference} {block}");
 }
 
-/// A logical block stands here, and so many from it on are unknown.
-fn assert_ahead(rt: &impl Abort, view: View, block: u64, want: Option<(u32, u32)>) {
-    assert_eq!(rt; view.unknown_ahead(0, block), want, "{block}");
+/// The logical block so many behind an address of the one partition.
+fn assert_behind(rt: &impl Abort, view: View, block: u32, count: u32, want: Option<u32>) {
+    let address = LbAddr {
+        block,
+        reference: 0,
+    };
+    let place = match view.block_behind(address, count) {
+        Some((place, _)) => Some(place),
+        None => None,
+    };
+    assert_eq!(rt; place, want, "{block} {count}");
+}
+
+/// Blocks behind an address. The packet at 0 stands at 400; the partition has 300 blocks.
+#[test]
+fn blocks_behind_an_address(rt: HostRuntime) -> Result<(), Fail> {
+    let alloc = rt.alloc();
+    let table = Disc::sparable(alloc)?.known_but(alloc, &[401])?;
+    let Seen::Got(space) = space_of(alloc, &table, LAST) else {
+        assert!(rt; false);
+        return Ok(());
+    };
+    let view = View {
+        table: &table,
+        space: &space,
+    };
+    let first = LbAddr {
+        block: 0,
+        reference: 0,
+    };
+    assert_case(
+        &rt,
+        matches!(view.block_at(first), Some((400, Fact::Known(_)))),
+        0,
+    );
+    assert_case(
+        &rt,
+        matches!(view.block_behind(first, 1), Some((401, Fact::Unknown))),
+        1,
+    );
+    static BEHIND: [(u32, u32, Option<u32>); 5] = [
+        (1, 0, Some(401)),
+        (20, 11, Some(431)),
+        (299, 1, None),
+        (u32::MAX, 1, None),
+        (u32::MAX, u32::MAX, None),
+    ];
+    for &(block, count, want) in &BEHIND {
+        assert_behind(&rt, view, block, count, want);
+    }
+    Ok(())
+}
+
+/// The logical block so many behind an address stands here, and so many from it on are unknown.
+fn assert_ahead(
+    rt: &impl Abort,
+    view: View,
+    address: LbAddr,
+    count: u32,
+    want: Option<(u32, u32)>,
+) {
+    let LbAddr { block, reference } = address;
+    assert_eq!(rt;
+        view.unknown_ahead(address, count),
+        want,
+        "{reference} {block} {count}"
+    );
 }
 
 /// Blocks that stand one behind the other. The packet at 0 stands at 400.
@@ -220,18 +286,19 @@ fn unknown_blocks_ahead(rt: HostRuntime) -> Result<(), Fail> {
         table: &table,
         space: &space,
     };
-    static AHEAD: [(u64, Option<(u32, u32)>); 7] = [
-        (1, Some((401, 0))),
-        (2, Some((402, 2))),
-        (3, Some((403, 1))),
-        (31, Some((431, 1))),
-        (288, Some((560, 4))),
-        (300, None),
-        (4_294_967_298, None),
+    static AHEAD: [(u16, u32, u32, Option<(u32, u32)>); 9] = [
+        (0, 1, 0, Some((401, 0))),
+        (0, 2, 0, Some((402, 2))),
+        (0, 0, 2, Some((402, 2))),
+        (0, 3, 0, Some((403, 1))),
+        (0, 30, 1, Some((431, 1))),
+        (0, 288, 0, Some((560, 4))),
+        (0, 300, 0, None),
+        (0, u32::MAX, 3, None),
+        (1, 2, 0, None),
     ];
-    for &(block, want) in &AHEAD {
-        assert_ahead(&rt, view, block, want);
+    for &(reference, block, count, want) in &AHEAD {
+        assert_ahead(&rt, view, LbAddr { block, reference }, count, want);
     }
-    assert_same(&rt, view.unknown_ahead(1, 2), None);
     Ok(())
 }

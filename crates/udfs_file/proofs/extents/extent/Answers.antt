@@ -1,6 +1,8 @@
-use Rattle.std.proofs.Common.{◌∙◌, sym, ◌≡◌}
+use Rattle.std.proofs.Common.{◌∙◌, sym, subst, ◌≡◌}
 use Rattle.udfs_space.specs.Places.{view}
 use Rattle.udfs_file.specs.Bodies.{cells_in}
+use Rattle.udfs_file.specs.Stretches.{IsExtent}
+use Rattle.udfs_file.specs.declared.stretches.Stretch.TheVariants.{Recorded}
 use Rattle.udfs_file.proofs.ExtentLemmas.{misreferred, misplaced, odd, recorded, zeros, count_is}
 use Rattle.udfs_file.proofs.extents.extent.Goals as goal
 
@@ -24,9 +26,10 @@ returns-then-is_odd c = λ blocks.
 pub returns-then-d-eq-RECORDED : goal.returns-then-d-eq-RECORDED
 returns-then-d-eq-RECORDED c = λ blocks.
     let e : c.min-count.result ≡ cells_in c.args.size (c.args.c, c.args.d) = cc (count_is c.args.size c.args.c c.args.d c.requires.is_extent) in
-    recorded (view blocks c.args.space.now) c.args.size c.args.c c.min-count.result c.args.d e
+    subst (λ a. IsExtent (view blocks c.args.space.now) c.args.size c.args.c c.args.d (Recorded (record { address = a; offset = 0 }) c.min-count.result)) (sym c.address.ensures)
+    (recorded (view blocks c.args.space.now) c.args.size c.args.c c.min-count.result c.args.d e
     (sym (c.is_misreferred.ensures blocks) ∙ c.if-is_misreferred.false) (sym (c.is_misplaced.ensures blocks) ∙ c.if-is_misplaced.false)
-    (sym c.is_odd.ensures ∙ c.if-is_odd.false) c.requires.is_extent c.if-d-eq-RECORDED.true
+    (sym c.is_odd.ensures ∙ c.if-is_odd.false) c.requires.is_extent c.if-d-eq-RECORDED.true)
 
 pub returns-else-d-eq-RECORDED : goal.returns-else-d-eq-RECORDED
 returns-else-d-eq-RECORDED c = λ blocks.

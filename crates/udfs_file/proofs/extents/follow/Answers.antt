@@ -1,6 +1,7 @@
 use Rattle.std.proofs.Common.{◌∙◌, ap, Option, None, ℕ}
 use Rattle.udfs_lattice.specs.States.{State}
 use Rattle.udfs_lattice.specs.Tables.{state_of}
+use Rattle.udfs_tag.specs.declared.layouts.LbAddr.{LbAddr}
 use Rattle.udfs_space.specs.Views.{view_now}
 use Rattle.udfs_space.specs.Places.{block_at}
 use Rattle.udfs_file.specs.Bodies.{next_if}
@@ -16,6 +17,6 @@ pub returns-in-None-clause-value : goal.returns-in-None-clause-value
 returns-in-None-clause-value c =
     c.area_at.ensures.value
     ∙ ap (λ (b : Option (ℕ × State)). next_if c.args.form c.args.d.block None b) c.block_at.ensures.value
-    ∙ ap (λ n. next_if c.args.form c.args.d.block None (block_at (view_now c.args.view) c.args.d.reference n)) c.from.ensures
+    ∙ ap (λ (a : LbAddr). next_if c.args.form c.args.d.block None (block_at (view_now c.args.view) a.reference a.block)) c.address.ensures
     ∙ ap (λ (o : Option NodeFault). next_if c.args.form c.args.d.block o (block_at (view_now c.args.view) c.args.d.reference c.args.d.block))
     (c.in-None.ensures.value (state_of c.args.view.table.now))

@@ -1,6 +1,7 @@
 use Rattle.std.proofs.Common.{◌≡◌, ◌∙◌, ap, sym, subst, Option, None}
 use Rattle.udfs_lattice.specs.Tables.{state_of}
 use Rattle.udfs_space.specs.Places.{block_at, block_now, view}
+use Rattle.udfs_tag.specs.declared.layouts.LbAddr.{LbAddr}
 use Rattle.udfs_tag.specs.declared.layouts.LongAd.{LongAd}
 use Rattle.udfs_volume.specs.Answers.{Answer, IsHoles}
 use Rattle.udfs_volume.specs.Seen.{Sees}
@@ -28,7 +29,7 @@ unfolding file_set
 returns-in-None c =
     let same : file_set_at c.args.address None (block_now c.block_at-block.result) ≡ file_set (view (state_of c.args.table.now) c.args.space.now) c.args.address =
     ap (file_set_at c.args.address None) (c.block_at-block.ensures.value
-    ∙ ap (block_at (view (state_of c.args.table.now) c.args.space.now) c.args.address.reference) c.from.ensures)
+    ∙ ap (λ (a : LbAddr). block_at (view (state_of c.args.table.now) c.args.space.now) a.reference a.block) c.address.ensures)
     ∙ ap (λ (o : Option NodeFault). file_set_at c.args.address o (block_at (view (state_of c.args.table.now) c.args.space.now) c.args.address.reference c.args.address.block))
     (c.in-None.ensures (state_of c.args.table.now)) in
     let value = subst (Sees (λ a. a) c.file_set_at.result) same c.file_set_at.ensures.value in

@@ -11,8 +11,8 @@ blocks-2-preserved c = record {
   unread = λ j d. ⊎_elim
       (λ near. c.blocks-2.invariant.unread j near)
       (λ far.
-      subst (λ b. IsUnreadAt (block_at (view_now c.args.view) c.args.reference b) (c.args.n + j)) (let z : c.args.block + c.blocks-2.count + (j - c.blocks-2.count) ≡ c.args.block + j = omega (arith, far) in z)
-      (subst (λ n. IsUnreadAt (block_at (view_now c.args.view) c.args.reference (c.args.block + c.blocks-2.count + (j - c.blocks-2.count))) n) (let z : c.args.n + c.blocks-2.count + (j - c.blocks-2.count) ≡ c.args.n + j = omega (arith, far) in z)
+      subst (λ b. IsUnreadAt (block_at (view_now c.args.view) c.args.address.reference b) (c.args.n + j)) (let z : c.args.address.block + (c.args.behind + c.blocks-2.count) + (j - c.blocks-2.count) ≡ c.args.address.block + c.args.behind + j = omega (arith, far) in z)
+      (subst (λ n. IsUnreadAt (block_at (view_now c.args.view) c.args.address.reference (c.args.address.block + (c.args.behind + c.blocks-2.count) + (j - c.blocks-2.count))) n) (let z : c.args.n + c.blocks-2.count + (j - c.blocks-2.count) ≡ c.args.n + j = omega (arith, far) in z)
       (c.unread_step-step.ensures (j - c.blocks-2.count) (omega (arith, far, d, c.min-count.ensures)))))
       (cases_lt j c.blocks-2.count);
 }

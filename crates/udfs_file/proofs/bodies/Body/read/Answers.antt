@@ -29,11 +29,11 @@ pub invariant_of-result : goal.invariant_of-result
 invariant_of-result c =
     let enough : (entry_of c.args.entry.now).size ≤ length (entry_of c.args.entry.now).area = rw (← c.area-2.ensures.value, ← c.size-size.ensures) c.if-size-area.false in
     embedded_lies c.args.reference c.args.b c.args.entry.now c.push.new.self.items c.start.ensures.fits enough
-    (pushed_alone c.new-stretches.result.items c.push.new.self.items (Recorded (record { reference = c.args.reference; block = c.args.b; offset = c.start.result }) c.size-size.result)
-    (Recorded (record { reference = c.args.reference; block = c.args.b; offset = area_start c.args.entry.now }) (entry_of c.args.entry.now).size)
+    (pushed_alone c.new-stretches.result.items c.push.new.self.items (Recorded (record { address = record { block = c.args.b; reference = c.args.reference }; offset = c.start.result }) c.size-size.result)
+    (Recorded (record { address = record { block = c.args.b; reference = c.args.reference }; offset = area_start c.args.entry.now }) (entry_of c.args.entry.now).size)
     (is_ok c.push.result) c.new-stretches.ensures.items c.push.ensures.items (c.is_err.ensures.negation ∙ ap not c.if-is_err.false)
-    (ap (λ o. Recorded (record { reference = c.args.reference; block = c.args.b; offset = o }) c.size-size.result) c.start.ensures.value
-    ∙ ap (λ n. Recorded (record { reference = c.args.reference; block = c.args.b; offset = area_start c.args.entry.now }) n) c.size-size.ensures))
+    (ap (λ o. Recorded (record { address = record { block = c.args.b; reference = c.args.reference }; offset = o }) c.size-size.result) c.start.ensures.value
+    ∙ ap (λ n. Recorded (record { address = record { block = c.args.b; reference = c.args.reference }; offset = area_start c.args.entry.now }) n) c.size-size.ensures))
 
 pub returns : goal.returns
 returns c =
@@ -41,8 +41,8 @@ returns c =
     body_clauses (view (state_of c.args.table.now) c.args.space.now) c.args.reference c.args.b (entry_of c.args.entry.now) (Ok c.push.new.self.items) _
     (body-recorded (view (state_of c.args.table.now) c.args.space.now) c.args.reference c.args.b c.requires.0 c.args.entry.now c.push.new.self.items
     (sym c.form.ensures ∙ c.if-form-ne3.false) c.requires.1 c.start.ensures.whole c.start.ensures.fits enough
-    (pushed_alone c.new-stretches.result.items c.push.new.self.items (Recorded (record { reference = c.args.reference; block = c.args.b; offset = c.start.result }) c.size-size.result)
-    (Recorded (record { reference = c.args.reference; block = c.args.b; offset = area_start c.args.entry.now }) (entry_of c.args.entry.now).size)
+    (pushed_alone c.new-stretches.result.items c.push.new.self.items (Recorded (record { address = record { block = c.args.b; reference = c.args.reference }; offset = c.start.result }) c.size-size.result)
+    (Recorded (record { address = record { block = c.args.b; reference = c.args.reference }; offset = area_start c.args.entry.now }) (entry_of c.args.entry.now).size)
     (is_ok c.push.result) c.new-stretches.ensures.items c.push.ensures.items (c.is_err.ensures.negation ∙ ap not c.if-is_err.false)
-    (ap (λ o. Recorded (record { reference = c.args.reference; block = c.args.b; offset = o }) c.size-size.result) c.start.ensures.value
-    ∙ ap (λ n. Recorded (record { reference = c.args.reference; block = c.args.b; offset = area_start c.args.entry.now }) n) c.size-size.ensures))) (never (Ok c.push.new.self.items) _ tt)
+    (ap (λ o. Recorded (record { address = record { block = c.args.b; reference = c.args.reference }; offset = o }) c.size-size.result) c.start.ensures.value
+    ∙ ap (λ n. Recorded (record { address = record { block = c.args.b; reference = c.args.reference }; offset = area_start c.args.entry.now }) n) c.size-size.ensures))) (never (Ok c.push.new.self.items) _ tt)

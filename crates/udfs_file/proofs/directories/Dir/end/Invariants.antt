@@ -1,12 +1,11 @@
 use Rattle.std.proofs.Common.{length}
-use Rattle.udfs_lattice.specs.Tables.{state_of}
-use Rattle.udfs_space.specs.Places.{view}
+use Rattle.udfs_space.specs.Views.{view_now}
 use Rattle.udfs_file.specs.Stretches.{cells_of}
 use Rattle.udfs_file.proofs.Ends.{IsEnding}
 use Rattle.udfs_file.proofs.directories.Dir.end.Given as goal
 
 abbrev pub invariant-steps : goal.invariant-steps
-invariant-steps l = IsEnding (cells_of (view (state_of l.table) l.space) l.body) l.cursor l.lists
+invariant-steps l = IsEnding (cells_of (view_now l.view) l.body) l.cursor l.lists
 
 abbrev pub decreases-steps : goal.decreases-steps
 decreases-steps l = length l.cursor
