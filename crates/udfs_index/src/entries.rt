@@ -13,14 +13,13 @@ ghost use Rattle.udfs_index.specs.Places.{state_by, AreWhole};
 ghost use Rattle.udfs_index.specs.Slots.{slot_at};
 ghost use Rattle.udfs_index.specs.Windows.{IsRead};
 
-use crate::copying::{put_header, put_number};
 use crate::fault::CopyFault;
 use crate::packet::Packet;
 use crate::places::{end_of, slot_of};
 use crate::stored::Stored;
 use crate::window::Window;
 use udfs_lattice::Fact;
-use udfs_reading::{Outgoing, Sink, WriteFault};
+use udfs_reading::{Outgoing, Sink, WriteFault, write_header, write_number};
 
 /// The number of a block and the mark of its state, and its bytes.
 fn put_known<W: Sink>(
@@ -32,7 +31,7 @@ fn put_known<W: Sink>(
     requires { length bytes.now ≤ 2048 }
     ensures { Passes (W.stream sink.old) (W.stream sink.new) out.old out.new (entry_bytes (block, Known bytes.now)) result }
 {
-    put_number(out, sink, block)?;
+    write_number(out, sink, block)?;
     out.push(sink, &[1])?;
     out.push(sink, bytes)?;
     Ok(())
@@ -42,7 +41,7 @@ fn put_known<W: Sink>(
 fn put_conflict<W: Sink>(out: &mut Outgoing, sink: &mut W, block: u32) -> Result<(), WriteFault>
     ensures { Passes (W.stream sink.old) (W.stream sink.new) out.old out.new (entry_bytes (block, Conflict)) result }
 {
-    put_number(out, sink, block)?;
+    write_number(out, sink, block)?;
     out.push(sink, &[2])?;
     Ok(())
 }
@@ -120,7 +119,7 @@ fn write_entries<S: Stored, W: Sink>(
     let count = count_entries(packets);
     let end = end_of(packets);
     let mut window = Window::new();
-    put_header(out, sink, b"UDFTABL1", count)?;
+    write_header(out, sink, b"UDFTABL1", count)?;
     for block in 0..end {
         write_entry(inputs, packets, block, &mut window, out, sink)?;
     }

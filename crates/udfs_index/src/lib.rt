@@ -3,7 +3,6 @@
 #![tactic(auto)]
 
 mod bytes;
-mod copying;
 mod counting;
 mod cursor;
 mod entries;

@@ -13,14 +13,13 @@ ghost use Rattle.udfs_index.specs.Places.{state_by, AreWhole};
 ghost use Rattle.udfs_index.specs.Slots.{slot_at};
 ghost use Rattle.udfs_index.specs.Windows.{IsRead};
 
-use crate::copying::{put_header, put_number};
 use crate::fault::CopyFault;
 use crate::packet::Packet;
 use crate::places::slot_of;
 use crate::stored::Stored;
 use crate::window::Window;
 use udfs_lattice::Fact;
-use udfs_reading::{Outgoing, Sink, WriteFault};
+use udfs_reading::{Outgoing, Sink, WriteFault, write_header, write_number};
 
 /// How many packets there are at most.
 const PACKETS: u32 = 131_072;
@@ -86,9 +85,9 @@ fn put_masks<W: Sink>(
 ) -> Result<(), WriteFault>
     ensures { Passes (W.stream sink.old) (W.stream sink.new) out.old out.new (number packet ++ (number known ++ number conflict)) result }
 {
-    put_number(out, sink, packet)?;
-    put_number(out, sink, known)?;
-    put_number(out, sink, conflict)?;
+    write_number(out, sink, packet)?;
+    write_number(out, sink, known)?;
+    write_number(out, sink, conflict)?;
     Ok(())
 }
 
@@ -184,7 +183,7 @@ fn write_packets<S: Stored, W: Sink>(
 {
     let mut window = Window::new();
     let count = count_packets(packets);
-    put_header(out, sink, b"UDFTABL2", count)?;
+    write_header(out, sink, b"UDFTABL2", count)?;
     for index in 0..PACKETS {
         write_some(inputs, packets, index, &mut window, out, sink)?;
     }

@@ -11,12 +11,12 @@ use Rattle.udfs_index.proofs.CopyLemmas.{fails_then, fails_more}
 use Rattle.udfs_index.proofs.PackLemmas.{packed_more, packed_cut, packed_whole, all_packets, whole_shown}
 use Rattle.udfs_index.proofs.packing.write_packets.Goals as goal
 
-pub returns-in_err-put_header-clause-bytes : goal.returns-in_err-put_header-clause-bytes
+pub returns-in_err-write_header-clause-bytes : goal.returns-in_err-write_header-clause-bytes
 unfolding packet_magic
-returns-in_err-put_header-clause-bytes g c wholes t told shown =
+returns-in_err-write_header-clause-bytes g c wholes t told shown =
     let p = err_from_is_err_and c.from_residual.result c.from_residual.ensures.1 in
     let count = c.count_packets-count.ensures wholes t shown ∙ sym (ap length (all_packets t 131072 refl)) in
-    rw (p.1, p.2) (subst (FailedPast _ _ _) (packed_whole t c.count_packets-count.result 131072 refl count) (failed_more (flat_map packet_bytes (packets_below t 131072)) c.in_err-put_header.ensures))
+    rw (p.1, p.2) (subst (FailedPast _ _ _) (packed_whole t c.count_packets-count.result 131072 refl count) (failed_more (flat_map packet_bytes (packets_below t 131072)) c.in_err-write_header.ensures))
 
 pub loop-index-init : goal.loop-index-init
 loop-index-init g c =
@@ -45,7 +45,7 @@ returns-in_err-write_some-clause-bytes g c wholes t told shown =
     let all = ap (λ (l : List ℕ). header packet_magic c.count_packets-count.result ++ l) cut.1 ∙ packed_whole t c.count_packets-count.result 131072 refl count in
     rw (p.1, p.2)
     (subst (λ (l : List ℕ). FailsBy (g.W.Sink.stream c.args.sink.now) (g.W.Sink.stream c.write_some.new.sink) c.args.out.now l c.in_err-write_some.field-0.0) all
-    (fails_then _ _ _ _ _ _ _ c.in_err-write_some.field-0.0 c.in_ok-put_header.ensures
+    (fails_then _ _ _ _ _ _ _ c.in_err-write_some.field-0.0 c.in_ok-write_header.ensures
     (fails_more _ _ _ _ cut.0 c.in_err-write_some.field-0.0
     (fails_then _ _ _ _ _ _ _ c.in_err-write_some.field-0.0 (c.loop-index.invariant.bytes wholes t told shown) (c.in_err-write_some.ensures.bytes wholes t told shown)))))
 
@@ -56,7 +56,7 @@ returns-clause-bytes g c wholes t told shown =
     let high = c.loop-index.auto.index-end in
     let is : c.loop-index.index ≡ 131072 = omega arith in
     let count = c.count_packets-count.ensures wholes t shown ∙ sym (ap length (all_packets t c.loop-index.index is)) in
-    subst (Passed _ _ _ _) (packed_whole t c.count_packets-count.result c.loop-index.index is count) (passed_then c.in_ok-put_header.ensures (c.loop-index.invariant.bytes wholes t told shown))
+    subst (Passed _ _ _ _) (packed_whole t c.count_packets-count.result c.loop-index.index is count) (passed_then c.in_ok-write_header.ensures (c.loop-index.invariant.bytes wholes t told shown))
 
 pub returns-in_err-write_some-clause-reads : goal.returns-in_err-write_some-clause-reads
 returns-in_err-write_some-clause-reads g c wholes t is told never shown =
