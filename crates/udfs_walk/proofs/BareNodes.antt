@@ -78,15 +78,6 @@ pub full_again : (v : View) (w : Walked) → full_node v (bare_node (node v w)) 
 unfolding node lists_at
 full_again v w = at_target v w (target v w.address) (lists_at v (node v w).icb) (ap (λ a. target_lists v a (target v a)) (icb_in v w (target v w.address)))
 
-pub full_is : (v : View) (w : Walked) (n : NodeFields) → n ≡ bare_node (node v w) → full_node v n ≡ node v w
-full_is v w n h = ap (full_node v) h ∙ full_again v w
-
-pub full_more : (v : View) (old new : List NodeFields) (n : NodeFields) → new ≡ old ++ n ∷ [] → map (full_node v) new ≡ map (full_node v) old ++ full_node v n ∷ []
-full_more v old new n e = ap (map (full_node v)) e ∙ map-append (full_node v) old (n ∷ [])
-
-pub full_first : (v : View) (old new : List NodeFields) (n : NodeFields) → old ≡ [] → new ≡ old ++ n ∷ [] → map (full_node v) new ≡ full_node v n ∷ []
-full_first v old new n z e = full_more v old new n e ∙ ap (λ x. map (full_node v) x ++ full_node v n ∷ []) z
-
 -- ---- entries that no name leads to
 pub lists_is : (v : View) (a : LongAd) (t : Target) → t ≡ target v a → target_lists v a t ≡ lists_at v a
 unfolding lists_at

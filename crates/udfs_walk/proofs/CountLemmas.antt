@@ -1,26 +1,27 @@
 -- Walks over bodies: each leaves what it found at its information control block, of which there are no more than the nodes have.
-use Rattle.std.proofs.Common.{◌≡◌, refl, sym, ◌∙◌, ap, subst, inl, inr, ⊎_elim, ℕ, ◌+◌, ◌*◌, ◌<◌, ◌≤◌, Bool, true, false, List, [], ◌∷◌, ◌++◌, length, map, cond, arith}
+use Rattle.std.proofs.Common.{◌≡◌, refl, sym, ◌∙◌, ap, subst, inl, inr, ⊎_elim, ℕ, ◌+◌, ◌<◌, ◌≤◌, Bool, true, false, List, [], ◌∷◌, ◌++◌, length, map, cond, arith, None, Some}
 use Rattle.std.specs.Prelude.{◌⊎◌, ◌==◌, nat_lt, suc}
-use Rattle.std.specs.BTreeMap.{BTreeMap, IsEmpty, IsOrdered, btree_map_len, insert_entry, keys}
+use Rattle.std.specs.BTreeMap.{BTreeMap, IsEmpty, IsOrdered, btree_map_len, get, insert_entry, keys}
 use Rattle.std.specs.List.Sorted.{IsStrictlySortedBy}
-use Rattle.std.specs.Map.{keys_of}
-use Rattle.std.specs.Ordering.{match_ordering, nat_cmp}
+use Rattle.std.specs.Map.{keys_of, lookup}
+use Rattle.std.specs.Ordering.{is_eq, match_ordering, nat_cmp}
 use Rattle.std.specs.declared.cmp.Ordering.{Ordering}
 use Rattle.std.specs.declared.cmp.Ordering.TheVariants.{Less, Equal, Greater}
+use Rattle.std.proofs.lemmas.Bool.{eq-eqb}
 use Rattle.std.proofs.lemmas.List.{length-map, map-append}
 use Rattle.std.proofs.lemmas.Map.Keys.{IsStrictlyIncreasing-from_sorted}
+use Rattle.udfs_lattice.specs.TableLaws.{eq_by_cmp-nat}
 use Rattle.udfs_lattice.specs.Volumes.{Includes, ascending, insert_once}
 use Rattle.udfs_lattice.proofs.PublicLaws.{ascending_includes}
 use Rattle.udfs_volume.specs.Seen.{IsRising}
 use Rattle.udfs_volume.proofs.PublicLaws.{ascending_rises}
 use Rattle.udfs_tag.specs.declared.layouts.LongAd.{LongAd}
 use Rattle.udfs_space.specs.Places.{View}
-use Rattle.udfs_walk.specs.Bare.{full_node}
 use Rattle.udfs_walk.specs.Frames.{FrameFields}
 use Rattle.udfs_walk.specs.Counting.{AreWithin, IsCounted, icb_key, icbs_of}
 use Rattle.udfs_walk.specs.NodeFields.{NodeFields}
 use Rattle.udfs_file.specs.declared.directories.DirEntry.{DirEntry}
-use Rattle.udfs_walk.specs.declared.memos.Known.{Known}
+use Rattle.udfs_walk.specs.declared.memos.Kept.{Kept}
 use Rattle.udfs_walk.specs.declared.memos.Memo.{Memo}
 use Rattle.udfs_walk.proofs.Owed.{IsWalking, left_in, left_last}
 use Rattle.udfs_walk.proofs.Rising.{increasing_rises}
@@ -43,26 +44,13 @@ module _ {X : Type 0} where
       ⊎_elim (λ is. subst (Includes icbs) is at) (w n) (inserted old.entries k x n (subst (λ es. Includes (keys_of es) n) e i))
 
 -- what a walk found is kept
-pub counted_word : (start : ℕ) (icbs : List ℕ) (old new : Memo) (k before after : ℕ) (x : Known) → Includes icbs k → new.words.entries ≡ insert_entry nat_cmp old.words.entries k x
-    → btree_map_len new.words ≡ btree_map_len old.words + 1 → IsOrdered nat_cmp new.words → new.lists ≡ old.lists → after ≡ before + 1
+pub counted_kept : (start : ℕ) (icbs : List ℕ) (old new : Memo) (k before after : ℕ) (x : Kept) → Includes icbs k → new.kept.entries ≡ insert_entry nat_cmp old.kept.entries k x
+    → btree_map_len new.kept ≡ btree_map_len old.kept + 1 → IsOrdered nat_cmp new.kept → after ≡ before + 1
     → IsCounted start icbs old before → IsCounted start icbs new after
-counted_word start icbs old new k before after x at e more o same one c = record {
-  count = let lists : btree_map_len new.lists ≡ btree_map_len old.lists = ap btree_map_len same in let count = c.count in omega (arith, lists, count, more, one);
-  words_once = o;
-  lists_once = subst (IsOrdered nat_cmp) (sym same) c.lists_once;
-  words = keys_within old.words new.words k x icbs e at c.words;
-  lists = subst (λ m. AreWithin (keys m) icbs) (sym same) c.lists;
-}
-
-pub counted_list : (start : ℕ) (icbs : List ℕ) (old new : Memo) (k before after : ℕ) (x : _) → Includes icbs k → new.lists.entries ≡ insert_entry nat_cmp old.lists.entries k x
-    → btree_map_len new.lists ≡ btree_map_len old.lists + 1 → IsOrdered nat_cmp new.lists → new.words ≡ old.words → after ≡ before + 1
-    → IsCounted start icbs old before → IsCounted start icbs new after
-counted_list start icbs old new k before after x at e more o same one c = record {
-  count = let words : btree_map_len new.words ≡ btree_map_len old.words = ap btree_map_len same in let count = c.count in omega (arith, words, count, more, one);
-  words_once = subst (IsOrdered nat_cmp) (sym same) c.words_once;
-  lists_once = o;
-  words = subst (λ m. AreWithin (keys m) icbs) (sym same) c.words;
-  lists = keys_within old.lists new.lists k x icbs e at c.lists;
+counted_kept start icbs old new k before after x at e more o one c = record {
+  count = let count = c.count in omega (arith, count, more, one);
+  once = o;
+  within = keys_within old.kept new.kept k x icbs e at c.within;
 }
 
 -- ---- no more are kept than there are
@@ -82,6 +70,27 @@ rising_within (x ∷ xs) (z ∷ zs) r s w = go (rising_within xs zs r.1 s.1) (ri
         let rest : (n : ℕ) → Includes (x ∷ xs) n → Includes zs n = λ n i.
         ⊎_elim (λ same. absurd (⊎_elim (λ is. let none : ⊥ = omega (arith, low, same, is) in none) (λ j. let above : x < n = r.0 n j in let none : ⊥ = omega (arith, low, same, above) in none) i)) (λ j. j) (w n i) in
         let fewer : length (x ∷ xs) ≤ length zs = all rest in
+        omega (arith, fewer)
+
+-- there are fewer where one is missing
+rising_fewer : (xs zs : List ℕ) (k : ℕ) → IsRising xs → IsRising zs → AreWithin xs zs → Includes zs k → (Includes xs k → ⊥) → length xs < length zs
+rising_fewer xs [] k r s w at none = absurd at
+rising_fewer [] (z ∷ zs) k r s w at none = omega arith
+rising_fewer (x ∷ xs) (z ∷ zs) k r s w at none = go (λ rest later. rising_fewer xs zs k r.1 s.1 rest later (λ i. none (inr i))) (w x (inl refl))
+  where
+    rest : z ≡ x → (n : ℕ) → Includes xs n → Includes zs n
+    rest e n i = ⊎_elim (λ same. absurd (let above : x < n = r.0 n i in let no : ⊥ = omega (arith, above, same, e) in no)) (λ j. j) (w n (inr i))
+
+    all : z < x → (n : ℕ) → Includes (x ∷ xs) n → Includes zs n
+    all low n i = ⊎_elim (λ same. absurd (⊎_elim (λ is. let no : ⊥ = omega (arith, low, same, is) in no) (λ j. let above : x < n = r.0 n j in let no : ⊥ = omega (arith, low, same, above) in no) i)) (λ j. j) (w n i)
+
+    go : (AreWithin xs zs → Includes zs k → length xs < length zs) → Includes (z ∷ zs) x → length (x ∷ xs) < length (z ∷ zs)
+    go behind (inl e) =
+        let later : Includes zs k = ⊎_elim (λ first. absurd (none (inl (sym e ∙ first)))) (λ j. j) at in
+        let fewer : length xs < length zs = behind (rest e) later in
+        omega (arith, fewer)
+    go behind (inr later) =
+        let fewer : length (x ∷ xs) ≤ length zs = rising_within (x ∷ xs) zs r s.1 (all (s.0 x later)) in
         omega (arith, fewer)
 
 inserted_length : (n : ℕ) (ms : List ℕ) → length (insert_once n ms) ≤ length ms + 1
@@ -107,49 +116,83 @@ few_keys m icbs o w =
     let same : length (keys m) ≡ btree_map_len m = length-map m.entries (λ e. e.0) in
     omega (arith, few, same)
 
--- two walks at most for each information control block
-pub counted_twice : (start : ℕ) (nodes : List NodeFields) (memo : Memo) (walks : ℕ) → IsCounted start (map icb_key nodes) memo walks → walks ≤ start + 2 * length (icbs_of nodes)
-counted_twice start nodes memo walks c =
-    let words : btree_map_len memo.words ≤ length (icbs_of nodes) = few_keys memo.words (map icb_key nodes) c.words_once c.words in
-    let lists : btree_map_len memo.lists ≤ length (icbs_of nodes) = few_keys memo.lists (map icb_key nodes) c.lists_once c.lists in
-    let count = c.count in
-    omega (arith, words, lists, count)
+same_number : (x y : ℕ) → x ≡ y → is_eq (nat_cmp x y) ≡ true
+same_number x y e = eq_by_cmp-nat x y ∙ eq-eqb x y e
 
--- and for each node
-pub counted_few : (start : ℕ) (nodes : List NodeFields) (memo : Memo) (walks : ℕ) → IsCounted start (map icb_key nodes) memo walks → walks ≤ start + 2 * length nodes
-counted_few start nodes memo walks c =
-    let twice : walks ≤ start + 2 * length (icbs_of nodes) = counted_twice start nodes memo walks c in
+-- what is not found is not kept
+module _ {X : Type 0} where
+  not_found : (es : List (ℕ × X)) (k : ℕ) → lookup (λ q. is_eq (nat_cmp k q)) es ≡ None → Includes (keys_of es) k → ⊥
+  not_found [] k none i = i
+  not_found (e ∷ es) k none i = go (λ n j. not_found es k n j) (is_eq (nat_cmp k e.0)) refl none i
+    where
+      go : (lookup (λ q. is_eq (nat_cmp k q)) es ≡ None → Includes (keys_of es) k → ⊥)
+          → (b : Bool) → is_eq (nat_cmp k e.0) ≡ b → cond b (Some e.1) (lookup (λ q. is_eq (nat_cmp k q)) es) ≡ None → (e.0 ≡ k) ⊎ Includes (keys_of es) k → ⊥
+      go later true is n j = (let z : ⊥ = cc in z)
+      go later false is n (inl same) = (let z : true ≡ false = sym (same_number k e.0 (sym same)) ∙ is in let w : ⊥ = cc in w)
+      go later false is n (inr j) = later n j
+
+fewer_keys : {X : Type 0} (m : BTreeMap ℕ X) (icbs : List ℕ) (k : ℕ) → IsOrdered nat_cmp m → AreWithin (keys m) icbs → Includes icbs k → get nat_cmp m k ≡ None → btree_map_len m < length (ascending icbs)
+fewer_keys m icbs k o w at none =
+    let r : IsRising (keys m) = increasing_rises (keys m) (IsStrictlyIncreasing-from_sorted (keys m) o) in
+    let few : length (keys m) < length (ascending icbs) = rising_fewer (keys m) (ascending icbs) k r (ascending_rises icbs) (λ n i. (ascending_includes icbs n).1 (w n i))
+    ((ascending_includes icbs k).1 at) (not_found m.entries k none) in
+    let same : length (keys m) ≡ btree_map_len m = length-map m.entries (λ e. e.0) in
+    omega (arith, few, same)
+
+-- one walk at most for each information control block
+pub counted_once : (start : ℕ) (icbs : List ℕ) (memo : Memo) (walks : ℕ) → IsCounted start icbs memo walks → walks ≤ start + length (ascending icbs)
+counted_once start icbs memo walks c =
+    let once : btree_map_len memo.kept ≤ length (ascending icbs) = few_keys memo.kept icbs c.once c.within in
+    let count = c.count in
+    omega (arith, once, count)
+
+-- and one fewer where one of them is not kept
+pub counted_new : (start : ℕ) (icbs : List ℕ) (memo : Memo) (walks k : ℕ) → IsCounted start icbs memo walks → Includes icbs k → get nat_cmp memo.kept k ≡ None
+    → walks + 1 ≤ start + length (ascending icbs)
+counted_new start icbs memo walks k c at none =
+    let fewer : btree_map_len memo.kept < length (ascending icbs) = fewer_keys memo.kept icbs k c.once c.within at none in
+    let count = c.count in
+    omega (arith, fewer, count)
+
+-- there are no more information control blocks than nodes
+pub few_icbs : (nodes : List NodeFields) → length (icbs_of nodes) ≤ length nodes
+few_icbs nodes =
     let once : length (icbs_of nodes) ≤ length (map icb_key nodes) = ascending_length (map icb_key nodes) in
     let same : length (map icb_key nodes) ≡ length nodes = length-map nodes icb_key in
-    omega (arith, twice, once, same)
+    omega (arith, once, same)
 
--- so never more than twice the limit of nodes
+-- so there is one walk at most for each node
+counted_few : (start : ℕ) (nodes : List NodeFields) (memo : Memo) (walks : ℕ) → IsCounted start (map icb_key nodes) memo walks → walks ≤ start + length nodes
+counted_few start nodes memo walks c =
+    let once : walks ≤ start + length (icbs_of nodes) = counted_once start (map icb_key nodes) memo walks c in
+    let few : length (icbs_of nodes) ≤ length nodes = few_icbs nodes in
+    omega (arith, once, few)
+
+-- never more than the limit of nodes
 pub counted_walking : (v : View) (root : LongAd) (start : ℕ) (nodes : List NodeFields) (memo : Memo) (walks room : ℕ) (frames : List FrameFields)
-    → IsWalking v root (map (full_node v) nodes) frames room → IsCounted start (map icb_key nodes) memo walks → walks ≤ start + 131072
+    → IsWalking v root nodes frames room → IsCounted start (map icb_key nodes) memo walks → walks ≤ start + 65536
 counted_walking v root start nodes memo walks room frames w c =
-    let twice : walks ≤ start + 2 * length nodes = counted_few start nodes memo walks c in
-    let same : length (map (full_node v) nodes) ≡ length nodes = length-map nodes (full_node v) in
+    let once : walks ≤ start + length nodes = counted_few start nodes memo walks c in
     let few = w.few in
-    omega (arith, twice, same, few)
+    omega (arith, once, few)
 
 -- nor while one more is gone to
 pub counted_step : (v : View) (root : LongAd) (start : ℕ) (nodes : List NodeFields) (memo : Memo) (walks room after : ℕ) (frames rest : List FrameFields) (f : FrameFields)
-    → IsWalking v root (map (full_node v) nodes) frames room → IsCounted start (map icb_key nodes) memo walks → frames ≡ rest ++ f ∷ []
-    → (f.left ≡ [] → after ≡ walks) → after ≤ walks + 2 → after ≤ start + 131072
-counted_step v root start nodes memo walks room after frames rest f w c e idle two = go f.left refl
+    → IsWalking v root nodes frames room → IsCounted start (map icb_key nodes) memo walks → frames ≡ rest ++ f ∷ []
+    → (f.left ≡ [] → after ≡ walks) → after ≤ walks + 1 → after ≤ start + 65536
+counted_step v root start nodes memo walks room after frames rest f w c e idle one_more = go f.left refl
   where
-    go : (es : List DirEntry) → f.left ≡ es → after ≤ start + 131072
+    go : (es : List DirEntry) → f.left ≡ es → after ≤ start + 65536
     go [] none =
         let same : after ≡ walks = idle none in
-        let few : walks ≤ start + 131072 = counted_walking v root start nodes memo walks room frames w c in
+        let few : walks ≤ start + 65536 = counted_walking v root start nodes memo walks room frames w c in
         omega (arith, same, few)
     go (entry ∷ es) some =
-        let twice : walks ≤ start + 2 * length nodes = counted_few start nodes memo walks c in
-        let same : length (map (full_node v) nodes) ≡ length nodes = length-map nodes (full_node v) in
+        let once : walks ≤ start + length nodes = counted_few start nodes memo walks c in
         let left : left_in frames ≡ left_in rest + length f.left = ap left_in e ∙ left_last rest f in
         let one : length f.left ≡ suc (length es) = ap length some in
         let few = w.few in
-        omega (arith, twice, same, left, one, few, two)
+        omega (arith, once, left, one, few, one_more)
 
 -- ---- one node more
 includes_front : (xs ys : List ℕ) (n : ℕ) → Includes xs n → Includes (xs ++ ys) n
@@ -164,10 +207,8 @@ includes_last (x ∷ xs) y = inr (includes_last xs y)
 counted_wider : (start : ℕ) (icbs more : List ℕ) (memo : Memo) (walks : ℕ) → AreWithin icbs more → IsCounted start icbs memo walks → IsCounted start more memo walks
 counted_wider start icbs more memo walks w c = record {
   count = c.count;
-  words_once = c.words_once;
-  lists_once = c.lists_once;
-  words = λ n i. w n (c.words n i);
-  lists = λ n i. w n (c.lists n i);
+  once = c.once;
+  within = λ n i. w n (c.within n i);
 }
 
 icbs_more : (nodes more : List NodeFields) (node : NodeFields) → more ≡ nodes ++ node ∷ [] → map icb_key more ≡ map icb_key nodes ++ icb_key node ∷ []
@@ -190,11 +231,9 @@ empty_ordered m e = subst (λ es. IsStrictlySortedBy nat_cmp (keys_of es)) (sym 
 empty_within : {X : Type 0} (m : BTreeMap ℕ X) (icbs : List ℕ) → IsEmpty m → AreWithin (keys m) icbs
 empty_within m icbs e n i = absurd (subst (λ es. Includes (keys_of es) n) e i)
 
-pub counted_none : (start : ℕ) (memo : Memo) → IsEmpty memo.words → IsEmpty memo.lists → IsCounted start [] memo start
-counted_none start memo w l = record {
-  count = let words : btree_map_len memo.words ≡ 0 = ap length w in let lists : btree_map_len memo.lists ≡ 0 = ap length l in omega (arith, words, lists);
-  words_once = empty_ordered memo.words w;
-  lists_once = empty_ordered memo.lists l;
-  words = empty_within memo.words [] w;
-  lists = empty_within memo.lists [] l;
+pub counted_none : (start : ℕ) (memo : Memo) → IsEmpty memo.kept → IsCounted start [] memo start
+counted_none start memo e = record {
+  count = let none : btree_map_len memo.kept ≡ 0 = ap length e in omega (arith, none);
+  once = empty_ordered memo.kept e;
+  within = empty_within memo.kept [] e;
 }

@@ -15,5 +15,6 @@ pub mod BlockOrder
 pub mod BareNodes
 pub mod BareRereads
 pub mod MemoLemmas
+pub mod SettleLemmas
 pub mod FirstGaps
 pub mod CountLemmas

@@ -21,9 +21,10 @@ use Rattle.udfs_file.specs.declared.faults.Kind.TheVariants as kind
 use Rattle.udfs_file.specs.declared.faults.NodeFault.{NodeFault}
 use Rattle.udfs_file.specs.declared.faults.NodeFault.TheVariants.{Depth}
 use Rattle.udfs_walk.specs.Bare.{bare_standing}
-use Rattle.udfs_walk.specs.Memos.{AreKept, deep_word, known_of, known_standing, standing_of, word_of}
+use Rattle.udfs_walk.specs.Memos.{AreKept, HasWords, IsMemo, deep_word, known_of, known_standing, standing_of, word_of}
 use Rattle.udfs_walk.specs.Standings.{body_standing, cells_standing, depth_or, missing_blocks, runs_from, standing_or_fault, torn_or_whole}
 use Rattle.udfs_walk.specs.Targets.{Icb}
+use Rattle.udfs_walk.specs.declared.memos.Memo.{Memo}
 use Rattle.udfs_walk.specs.declared.memos.Word.TheVariants as word
 use Rattle.udfs_walk.specs.declared.standings.Standing.{Standing}
 use Rattle.udfs_walk.specs.declared.standings.Standing.TheVariants.{Whole, Torn, Loop, Fault}
@@ -122,3 +123,7 @@ kept_more {X} v P old new icb bytes x h st is u a = λ d xs y l at g. go d xs y 
         let z : bytes ≡ xs = same_bytes v icb.reference icb.block bytes xs st (subst (λ (p : Icb). IsStanding v p.reference p.block xs) (sym same) at) in
         subst (P d xs) (some_is x y found) (subst (λ (p : Icb × List ℕ). P p.0 p.1 x) (λ i. (same i, z i)) is)
     go d xs y l at g false e = a d xs y l at (sym (u.0 (number_of d) ∙ ap (λ t. cond t (Some x) (get nat_cmp old (number_of d))) e) ∙ g)
+
+-- what is known of entries stays known where what they list is no longer asked for
+pub words_of : (v : View) (memo : Memo) → IsMemo v memo → HasWords v memo
+words_of v memo m = λ icb bytes x h st g. (m icb bytes x h st g).0

@@ -10,10 +10,10 @@ use Rattle.udfs_file.specs.declared.directories.DirEntry.{DirEntry}
 use Rattle.udfs_walk.specs.NodeFields.{NodeFields}
 use Rattle.udfs_walk.specs.Targets.{Icb, icb_of}
 use Rattle.udfs_walk.specs.Routes.{Walked, at_root, inside, entries_below, HasMoreRoutes}
-use Rattle.udfs_walk.specs.Nodes.{node}
+use Rattle.udfs_walk.specs.Unsettled.{AreUnsettled, unsettled}
 use Rattle.udfs_walk.specs.Visits.{AreRefused, end_at}
 use Rattle.udfs_walk.specs.Frames.{FrameFields, HasManyBelow, IsFrameOf, IsStepRefused, count_left, frame_at, IsNextTaken, frames_with}
-use Rattle.udfs_walk.specs.Walks.{AreNodes, IsNodesRefused}
+use Rattle.udfs_walk.specs.Walks.{IsNodesRefused}
 use Rattle.udfs_walk.specs.declared.answers.NodesError.{NodesError}
 use Rattle.udfs_walk.specs.declared.answers.NodesError.TheVariants.{TooManyPaths, OutOfMemory}
 use Rattle.udfs_walk.proofs.Trees.{tree, tree-is, tree_walk, tree_more}
@@ -34,7 +34,7 @@ left_in (f ∷ fs) = left_in fs + length f.left
 
 -- and there is room for so many nodes more
 pub record IsWalking (v : View) (root : LongAd) (nodes : List NodeFields) (frames : List FrameFields) (room : ℕ) : Type 0 where
-  pub all : map (node v) (tree v (at_root root)) ≡ nodes ++ map (node v) (owed v frames)
+  pub all : map (unsettled v) (tree v (at_root root)) ≡ nodes ++ map (unsettled v) (owed v frames)
   pub few : length nodes + left_in frames + room ≡ 65536
 
 owed_last : (v : View) (fs : List FrameFields) (f : FrameFields) → owed v (fs ++ f ∷ []) ≡ owed_frame v f ++ owed v fs
@@ -59,21 +59,21 @@ left_kept fs None = omega arith
 left_kept fs (Some f) = left_last fs f
 
 pub walk_start : (v : View) (root : LongAd) (n : NodeFields) (f : Option FrameFields) (path : List (List ℕ)) (above : List Icb) (nodes : List NodeFields) (frames : List FrameFields) (room : ℕ)
-    → path ≡ [] → above ≡ [] → n ≡ node v (end_at root path above false) → IsFrameOf f (frame_at v (end_at root path above false)) → nodes ≡ n ∷ [] → frames ≡ frames_with [] f
+    → path ≡ [] → above ≡ [] → n ≡ unsettled v (end_at root path above false) → IsFrameOf f (frame_at v (end_at root path above false)) → nodes ≡ n ∷ [] → frames ≡ frames_with [] f
     → count_left f + room ≡ 65535 → IsWalking v root nodes frames room
 walk_start v root n f path above nodes frames room p a en ef ns fs h = record {
-  all = ap (map (node v)) (tree_frame v (at_root root))
-      ∙ (λ i. node v (end_at root (sym p i) (sym a i) false) ∷ map (node v) (owed_frame v (frame_at v (end_at root (sym p i) (sym a i) false))))
-      ∙ (λ i. sym en i ∷ map (node v) (sym (append-nil (owed_frame v (frame_at v (end_at root path above false)))) i))
-      ∙ ap (λ x. n ∷ map (node v) x) (kept_owed v [] f (frame_at v (end_at root path above false)) ef)
-      ∙ (λ i. sym ns i ++ map (node v) (owed v (sym fs i)));
+  all = ap (map (unsettled v)) (tree_frame v (at_root root))
+      ∙ (λ i. unsettled v (end_at root (sym p i) (sym a i) false) ∷ map (unsettled v) (owed_frame v (frame_at v (end_at root (sym p i) (sym a i) false))))
+      ∙ (λ i. sym en i ∷ map (unsettled v) (sym (append-nil (owed_frame v (frame_at v (end_at root path above false)))) i))
+      ∙ ap (λ x. n ∷ map (unsettled v) x) (kept_owed v [] f (frame_at v (end_at root path above false)) ef)
+      ∙ (λ i. sym ns i ++ map (unsettled v) (owed v (sym fs i)));
   few = let l : left_in frames ≡ 0 + count_left f = ap left_in fs ∙ left_kept [] f in let one : length nodes ≡ 1 = ap length ns in omega (arith, h, l, one);
 }
 
 pub walk_none : (v : View) (root : LongAd) (nodes : List NodeFields) (frames rest : List FrameFields) (f : FrameFields) (room : ℕ) → IsWalking v root nodes frames room
     → frames ≡ rest ++ f ∷ [] → f.left ≡ [] → IsWalking v root nodes rest room
 walk_none v root nodes frames rest f room w e l = record {
-  all = w.all ∙ ap (λ x. nodes ++ map (node v) x)
+  all = w.all ∙ ap (λ x. nodes ++ map (unsettled v) x)
       (ap (owed v) e ∙ owed_last v rest f ∙ ap (λ es. flat_map (λ e. tree v (inside f.path f.above e)) es ++ owed v rest) l);
   few = let a : left_in frames ≡ left_in rest + length f.left = ap left_in e ∙ left_last rest f in let z : length f.left ≡ 0 = ap length l in let h = w.few in omega (arith, a, z, h);
 }
@@ -109,10 +109,10 @@ pub walk_some : (v : View) (root : LongAd) (nodes more : List NodeFields) (frame
     → IsWalking v root nodes frames room → frames ≡ rest ++ f ∷ [] → IsNextTaken v f g n b
     → more ≡ nodes ++ n ∷ [] → next ≡ frames_with (rest ++ g ∷ []) b → count_left b + less ≡ room → IsWalking v root more next less
 walk_some v root nodes more frames rest next f g n b room less w e t em en h = record {
-  all = w.all ∙ ap (λ x. nodes ++ map (node v) x) (taken_owed v frames rest f g n b e t)
-      ∙ (λ i. nodes ++ (sym t.node i ∷ map (node v) (owed v (sym en i))))
-      ∙ sym (append_assoc nodes (n ∷ []) (map (node v) (owed v next)))
-      ∙ ap (λ x. x ++ map (node v) (owed v next)) (sym em);
+  all = w.all ∙ ap (λ x. nodes ++ map (unsettled v) x) (taken_owed v frames rest f g n b e t)
+      ∙ (λ i. nodes ++ (sym t.node i ∷ map (unsettled v) (owed v (sym en i))))
+      ∙ sym (append_assoc nodes (n ∷ []) (map (unsettled v) (owed v next)))
+      ∙ ap (λ x. x ++ map (unsettled v) (owed v next)) (sym em);
   few =
       let l : length more ≡ length nodes + 1 = ap length em ∙ length-append nodes (n ∷ []) in
       let a : left_in frames ≡ left_in rest + length g.left + 1 = taken_left v frames rest f g n b e t in
@@ -159,9 +159,9 @@ start_many v root path above p a h = tree_more v root 65536 (
 pub walk_below : (v : View) (root : LongAd) (nodes : List NodeFields) (frames rest : List FrameFields) (f : FrameFields) (room : ℕ) → IsWalking v root nodes frames room
     → frames ≡ rest ++ f ∷ [] → HasManyBelow v room f → HasMoreRoutes v root 65536
 walk_below v root nodes frames rest f room w e b = tree_more v root 65536 (
-    let all : length (map (node v) (tree v (at_root root))) ≡ length (tree v (at_root root)) = length-map (tree v (at_root root)) (node v) in
-    let sum : length (map (node v) (tree v (at_root root))) ≡ length nodes + length (map (node v) (owed v frames)) = ap length w.all ∙ length-append nodes (map (node v) (owed v frames)) in
-    let left : length (map (node v) (owed v frames)) ≡ length (owed v frames) = length-map (owed v frames) (node v) in
+    let all : length (map (unsettled v) (tree v (at_root root))) ≡ length (tree v (at_root root)) = length-map (tree v (at_root root)) (unsettled v) in
+    let sum : length (map (unsettled v) (tree v (at_root root))) ≡ length nodes + length (map (unsettled v) (owed v frames)) = ap length w.all ∙ length-append nodes (map (unsettled v) (owed v frames)) in
+    let left : length (map (unsettled v) (owed v frames)) ≡ length (owed v frames) = length-map (owed v frames) (unsettled v) in
     let first : length (owed v frames) ≡ length (owed_below b.entry ++ flat_map owed_below b.rest) + length (owed v rest)
     = ap length (ap (owed v) e ∙ owed_last v rest f ∙ ap (λ es. flat_map owed_below es ++ owed v rest) b.first) ∙ length-append (owed_below b.entry ++ flat_map owed_below b.rest) (owed v rest) in
     let one : length (owed_below b.entry ++ flat_map owed_below b.rest) ≡ length (owed_below b.entry) + length (flat_map owed_below b.rest) = length-append (owed_below b.entry) (flat_map owed_below b.rest) in
@@ -214,13 +214,13 @@ none_left : (xs : List FrameFields) → length xs ≡ 0 → xs ≡ []
 none_left [] h = refl
 none_left (x ∷ xs) h = absurd (let z : ⊥ = omega (arith, h) in z)
 
-pub walk_done : (v : View) (root : LongAd) (nodes : List NodeFields) (frames : List FrameFields) (room : ℕ) → IsWalking v root nodes frames room → length frames ≡ 0 → AreNodes v root nodes
+pub walk_done : (v : View) (root : LongAd) (nodes : List NodeFields) (frames : List FrameFields) (room : ℕ) → IsWalking v root nodes frames room → length frames ≡ 0 → AreUnsettled v root nodes
 walk_done v root nodes frames room w n =
     let e : frames ≡ [] = none_left frames n in
-    let is : map (node v) (tree v (at_root root)) ≡ nodes = w.all ∙ ap (λ fs. nodes ++ map (node v) (owed v fs)) e ∙ append-nil nodes in
+    let is : map (unsettled v) (tree v (at_root root)) ≡ nodes = w.all ∙ ap (λ fs. nodes ++ map (unsettled v) (owed v fs)) e ∙ append-nil nodes in
     record {
       walks = tree v (at_root root);
       walk = tree_walk v root;
-      few = let l : length (tree v (at_root root)) ≡ length nodes = sym (length-map (tree v (at_root root)) (node v)) ∙ ap length is in let h = w.few in omega (arith, l, h);
+      few = let l : length (tree v (at_root root)) ≡ length nodes = sym (length-map (tree v (at_root root)) (unsettled v)) ∙ ap length is in let h = w.few in omega (arith, l, h);
       is = sym is;
     }

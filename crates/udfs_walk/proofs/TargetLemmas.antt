@@ -8,9 +8,9 @@ use Rattle.udfs_file.specs.Addresses.{address_fault}
 use Rattle.udfs_file.specs.Entries.{entry_fault, entry_of}
 use Rattle.udfs_file.specs.declared.faults.NodeFault.{NodeFault}
 use Rattle.udfs_file.specs.declared.faults.NodeFault.TheVariants.{Range}
-use Rattle.udfs_walk.specs.Nodes.{node, node_at}
 use Rattle.udfs_walk.specs.Routes.{Walked}
 use Rattle.udfs_walk.specs.Targets.{Target, bad, unread, entry, entry_unless, target_in, target_at, target}
+use Rattle.udfs_walk.specs.Unsettled.{unsettled, unsettled_at}
 
 target_is : (v : View) (a : LongAd) (f : Option NodeFault) (o : Option (ℕ × State)) → address_fault v a ≡ f → block_at v a.reference a.block ≡ o → target v a ≡ target_at f a.block o
 unfolding target
@@ -33,26 +33,26 @@ pub fault_target : (v : View) (a : LongAd) (n : ℕ) (bytes : List ℕ) (fault :
     → entry_fault bytes a.block ≡ Some fault → bad fault ≡ target v a
 fault_target v a n bytes fault e h f = ap (λ o. entry_unless o (entry_of bytes)) (sym f) ∙ block_target v a n (Known bytes) e h
 
-pub node_is : (v : View) (w : Walked) (t : Target) → t ≡ target v w.address → node_at v w t ≡ node v w
-unfolding node
-node_is v w t e = ap (node_at v w) e
+pub unsettled_is : (v : View) (w : Walked) (t : Target) → t ≡ target v w.address → unsettled_at v w t ≡ unsettled v w
+unfolding unsettled
+unsettled_is v w t e = ap (unsettled_at v w) e
 
 -- a node stands at the end of its route
-pub node_path : (v : View) (w : Walked) → (node v w).path ≡ w.path
-unfolding node
-node_path v w = go (target v w.address)
+pub unsettled_path : (v : View) (w : Walked) → (unsettled v w).path ≡ w.path
+unfolding unsettled
+unsettled_path v w = go (target v w.address)
   where
-    go : (t : Target) → (node_at v w t).path ≡ w.path
+    go : (t : Target) → (unsettled_at v w t).path ≡ w.path
     go (bad f) = refl
     go (unread n) = refl
     go (entry e) = refl
 
 -- and has the address that leads there
-pub node_address : (v : View) (w : Walked) → (node v w).icb ≡ w.address
-unfolding node
-node_address v w = go (target v w.address)
+pub unsettled_address : (v : View) (w : Walked) → (unsettled v w).icb ≡ w.address
+unfolding unsettled
+unsettled_address v w = go (target v w.address)
   where
-    go : (t : Target) → (node_at v w t).icb ≡ w.address
+    go : (t : Target) → (unsettled_at v w t).icb ≡ w.address
     go (bad f) = refl
     go (unread n) = refl
     go (entry e) = refl

@@ -23,13 +23,11 @@ icbs_of nodes = ascending (map icb_key nodes)
 abbrev pub AreWithin : List ℕ → List ℕ → Type 0
 AreWithin ns icbs = (n : ℕ) → Includes ns n → Includes icbs n
 
--- as many walks were made since the start as words and lists are kept, each at one of these information control blocks
+-- as many walks were made since the start as entries are kept, each at one of these information control blocks
 pub record IsCounted (start : ℕ) (icbs : List ℕ) (memo : Memo) (walks : ℕ) : Type 0 where
-  pub count : walks ≡ start + btree_map_len memo.words + btree_map_len memo.lists
-  pub words_once : IsOrdered nat_cmp memo.words
-  pub lists_once : IsOrdered nat_cmp memo.lists
-  pub words : AreWithin (keys memo.words) icbs
-  pub lists : AreWithin (keys memo.lists) icbs
+  pub count : walks ≡ start + btree_map_len memo.kept
+  pub once : IsOrdered nat_cmp memo.kept
+  pub within : AreWithin (keys memo.kept) icbs
 
 -- the node that was gone to, if one was, has one of these information control blocks
 abbrev pub IsWithinTaken : {F : Type 0} → List ℕ → Option (NodeFields × F) → Type 0

@@ -8,11 +8,10 @@
 use Rattle.std.specs.Prelude.{◌≡◌, ◌<◌, ℕ, ⊤, List, [], ◌∷◌, ◌++◌, length, Option, Some, None}
 use Rattle.udfs_space.specs.Places.{View}
 use Rattle.udfs_file.specs.declared.directories.DirEntry.{DirEntry}
-use Rattle.udfs_walk.specs.Bare.{full_node}
 use Rattle.udfs_walk.specs.NodeFields.{NodeFields}
 use Rattle.udfs_walk.specs.Targets.{Icb, icb_of}
 use Rattle.udfs_walk.specs.Routes.{Walked, inside, entries_below}
-use Rattle.udfs_walk.specs.Nodes.{node}
+use Rattle.udfs_walk.specs.Unsettled.{unsettled}
 use Rattle.udfs_walk.specs.declared.answers.NodesError.{NodesError}
 use Rattle.udfs_walk.specs.declared.answers.NodesError.TheVariants.{TooManyPaths, OutOfMemory}
 
@@ -42,13 +41,13 @@ pub record IsNextTaken (view : View) (old new : FrameFields) (n : NodeFields) (b
   pub first : old.left ≡ entry ∷ new.left
   pub path : new.path ≡ old.path
   pub above : new.above ≡ old.above
-  pub node : n ≡ node view (inside old.path old.above entry)
+  pub node : n ≡ unsettled view (inside old.path old.above entry)
   pub frame : IsFrameOf below (frame_at view (inside old.path old.above entry))
 
--- the next entry of a frame was taken, its node without the blocks and the holes, or none was left
+-- the next entry of a frame was taken, its node not yet settled, or none was left
 abbrev pub IsEntryTaken : View → FrameFields → Option (NodeFields × Option FrameFields) → FrameFields → Type 0
 IsEntryTaken view old None new = old.left ≡ []
-IsEntryTaken view old (Some taken) new = IsNextTaken view old new (full_node view taken.0) taken.1
+IsEntryTaken view old (Some taken) new = IsNextTaken view old new taken.0 taken.1
 
 -- an entry is left, and more than so many entries stand below the first
 pub record HasManyBelow (view : View) (most : ℕ) (f : FrameFields) : Type 0 where

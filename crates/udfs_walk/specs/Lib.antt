@@ -8,6 +8,7 @@ pub mod Paths
 pub mod Targets
 pub mod Routes
 pub mod Nodes
+pub mod Unsettled
 pub mod Visits
 pub mod Frames
 pub mod Walks

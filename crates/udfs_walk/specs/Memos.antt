@@ -2,10 +2,9 @@
 --     word_of standing, standing_of word     a standing without its blocks and holes, in a word and again
 --     known_of kind body                     what is kept of an entry of this kind with this body
 --     known_standing is_deep known           the standing that is kept
---     IsMemo view memo                       what is kept is told by what stands there
+--     HasWords view memo                     what is known is told by what stands there
+--     IsMemo view memo                       and so is what is kept of what it lists
 use Rattle.std.specs.Prelude.{◌≡◌, ℕ, ◌<◌, Bool, true, false, ◌&&◌, List, length, nat_lt, Some}
-use Rattle.std.specs.declared.rc.Rc.{Rc}
-use Rattle.std.specs.declared.vec.Vec.{Vec}
 use Rattle.std.specs.BTreeMap.{BTreeMap, get}
 use Rattle.std.specs.Ordering.{nat_cmp}
 use Rattle.udfs_tag.specs.Fields.{number_of}
@@ -13,13 +12,14 @@ use Rattle.udfs_space.specs.Places.{View}
 use Rattle.udfs_file.specs.Bodies.{Body, body}
 use Rattle.udfs_file.specs.Entries.{entry_of}
 use Rattle.udfs_file.specs.Stretches.{IsStanding}
-use Rattle.udfs_file.specs.declared.directories.DirEntry.{DirEntry}
 use Rattle.udfs_file.specs.declared.faults.Kind.{Kind}
 use Rattle.udfs_file.specs.declared.faults.NodeFault.TheVariants.{Depth}
 use Rattle.udfs_walk.specs.Bare.{no_lists}
 use Rattle.udfs_walk.specs.Routes.{kind_entries}
 use Rattle.udfs_walk.specs.Standings.{body_standing}
 use Rattle.udfs_walk.specs.Targets.{Icb}
+use Rattle.udfs_walk.specs.Visits.{AreListed}
+use Rattle.udfs_walk.specs.declared.memos.Kept.{Kept}
 use Rattle.udfs_walk.specs.declared.memos.Known.{Known}
 use Rattle.udfs_walk.specs.declared.memos.Memo.{Memo}
 use Rattle.udfs_walk.specs.declared.memos.Word.{Word}
@@ -62,14 +62,18 @@ abbrev pub AreKept : {X : Type 0} → View → (Icb → List ℕ → X → Type 
 AreKept view IsSo kept = (icb : Icb) (bytes : List ℕ) (x : _) → icb.block < 4294967296 → IsStanding view icb.reference icb.block bytes
     → get nat_cmp kept (number_of icb) ≡ Some x → IsSo icb bytes x
 
--- what the body tells of the entry there
-abbrev pub IsWordOf : View → Icb → List ℕ → Known → Type 0
-IsWordOf view icb bytes known = known ≡ known_of (entry_of bytes).kind (body view icb.reference icb.block (entry_of bytes))
+-- what is known is what the body tells of the entry there
+abbrev pub IsWordOf : View → Icb → List ℕ → Kept → Type 0
+IsWordOf view icb bytes kept = kept.known ≡ known_of (entry_of bytes).kind (body view icb.reference icb.block (entry_of bytes))
 
--- what the entry there lists
-abbrev pub IsListOf : {Y Z : Type 0} → View → Icb → List ℕ → Rc (Vec DirEntry Y) Z → Type 0
-IsListOf view icb bytes entries = entries.value.items ≡ kind_entries (entry_of bytes).kind (body view icb.reference icb.block (entry_of bytes))
+-- and what is kept of what the entry there lists is all of it
+abbrev pub IsToldOf : View → Icb → List ℕ → Kept → Type 0
+IsToldOf view icb bytes kept = IsWordOf view icb bytes kept × AreListed kept.entries (kind_entries (entry_of bytes).kind (body view icb.reference icb.block (entry_of bytes)))
 
--- all that is kept is told by what stands there
+-- what is known is told by what stands there
+abbrev pub HasWords : View → Memo → Type 0
+HasWords view memo = AreKept view (IsWordOf view) memo.kept
+
+-- and so is what is kept of what it lists
 abbrev pub IsMemo : View → Memo → Type 0
-IsMemo view memo = AreKept view (IsWordOf view) memo.words × AreKept view (IsListOf view) memo.lists
+IsMemo view memo = AreKept view (IsToldOf view) memo.kept

@@ -1,6 +1,7 @@
 //! The entries of a directory, which all routes through it share.
 
 ghost use Rattle.std.specs.Prelude.{◌≡◌, IfOk};
+ghost use Rattle.udfs_walk.specs.Visits.{AreListed};
 
 use std::alloc::{AllocError, Global};
 use std::marker::Model;
@@ -37,14 +38,20 @@ fn shared_entry(alloc: Global, entry: DirEntry) -> Result<Child, AllocError>
     Ok(Child { name, icb, marks })
 }
 
-/// Entries that can be shared.
-pub(crate) fn shared_entries(alloc: Global, entries: Vec<DirEntry>) -> Result<Children, AllocError>
-    ensures { IfOk result (λ children. children.value.items ≡ entries.items) }
+/// Entries that can be shared, if there are any: none take no memory.
+pub(crate) fn shared_entries(
+    alloc: Global,
+    entries: Vec<DirEntry>,
+) -> Result<Option<Children>, AllocError>
+    ensures { IfOk result (λ children. AreListed children entries.items) }
 {
+    if entries.is_empty() {
+        return Ok(None);
+    }
     let mut children = Vec::with_capacity(alloc, entries.len())?;
     for entry in entries {
         children.push(shared_entry(alloc, entry)?)?;
     }
     let children = Rc::new(alloc, children)?;
-    Ok(children)
+    Ok(Some(children))
 }

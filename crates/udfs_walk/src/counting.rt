@@ -11,7 +11,7 @@ ghost use Rattle.udfs_walk.specs.Routes.{kind_entries};
 ghost use Rattle.udfs_walk.specs.Visits.{AreRefused};
 
 use crate::answers::NodesError;
-use crate::told::{Told, body_told, entries_told};
+use crate::told::{Told, body_entered, body_told};
 use std::alloc::{AllocError, Global};
 use std::marker::Model;
 use std::sync::ledger::{Blank, Book, Ledger, Share};
@@ -75,23 +75,28 @@ pub(crate) fn body_walked<L: Ledger>(
     body_told(alloc, view, entry, address)
 }
 
-/// The entries that an entry lists which stands at an address, as [`entries_told`] has them, which walks over its body.
-pub(crate) fn entries_walked<L: Ledger>(
+/// What the body of an entry tells that stands at an address, and what the entry lists, as [`body_entered`] has both, which
+/// walks over it once.
+pub(crate) fn entered_walked<L: Ledger>(
     alloc: Global,
     view: View<'_>,
     entry: &Entry<'_>,
     address: LbAddr,
     most: usize,
     walks: &mut Walks<L>,
-) -> Result<Vec<DirEntry>, NodesError>
+) -> Result<(Told, Vec<DirEntry>), NodesError>
     requires { IsStanding (view_now view) address.reference address.block entry.now }
-    ensures entries { IfOk result (λ entries. entries.items ≡ kind_entries (entry_of entry.now).kind
+    ensures standing { IfOk result (λ entered. entered.0.standing ≡ bare_standing (body_standing (entry_of entry.now).kind false
+        (body (view_now view.entry) address.reference address.block (entry_of entry.now)))) }
+    ensures lists { IfOk result (λ entered. entered.0.lists ≡ nat_lt 0 (length (kind_entries (entry_of entry.now).kind
+        (body (view_now view.entry) address.reference address.block (entry_of entry.now))))) }
+    ensures entries { IfOk result (λ entered. entered.1.items ≡ kind_entries (entry_of entry.now).kind
         (body (view_now view.entry) address.reference address.block (entry_of entry.now))) }
-    ensures few { IfOk result (λ entries. length entries.items ≤ most) }
+    ensures few { IfOk result (λ entered. length entered.1.items ≤ most) }
     ensures refused { IfErr result (AreRefused most (kind_entries (entry_of entry.now).kind
         (body (view_now view.entry) address.reference address.block (entry_of entry.now)))) }
     ensures walks { walks.new ≡ walks.old + 1 }
 {
     walks.count();
-    entries_told(alloc, view, entry, address, most)
+    body_entered(alloc, view, entry, address, most)
 }

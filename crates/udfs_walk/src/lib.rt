@@ -15,6 +15,7 @@ mod memos;
 mod node_bodies;
 pub mod paths;
 mod rereads;
+mod settling;
 pub mod standings;
 mod targets;
 mod told;

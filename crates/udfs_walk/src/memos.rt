@@ -1,6 +1,6 @@
 //! What the bodies of entries tell, each found once for its information control block, whichever routes lead there.
 
-ghost use Rattle.std.specs.Prelude.{◌≡◌, ◌≤◌, ◌+◌, ℕ, List, IfErr, IfOk, IsSome, None, OnOk, Some, length};
+ghost use Rattle.std.specs.Prelude.{◌≡◌, ◌≤◌, ◌+◌, ℕ, List, IfErr, IfOk, IsSome, None, OnOk, Some, false, length};
 ghost use Rattle.std.specs.BTreeMap.{IsEmpty, IsOrdered, Updates, btree_map_len, get, insert_entry};
 ghost use Rattle.std.specs.Ordering.{nat_cmp};
 ghost use Rattle.udfs_tag.specs.Fields.{number_of};
@@ -8,17 +8,21 @@ ghost use Rattle.udfs_space.specs.Views.{view_now};
 ghost use Rattle.udfs_file.specs.Stretches.{IsStanding};
 ghost use Rattle.udfs_file.specs.Entries.{entry_of};
 ghost use Rattle.udfs_file.specs.Bodies.{body};
+ghost use Rattle.udfs_file.specs.declared.directories.DirEntry.{DirEntry};
+ghost use Rattle.udfs_walk.specs.Bare.{bare_standing};
 ghost use Rattle.udfs_walk.specs.Routes.{kind_entries};
-ghost use Rattle.udfs_lattice.specs.Volumes.{Includes};
-ghost use Rattle.udfs_walk.specs.Visits.{AreRefused};
+ghost use Rattle.udfs_walk.specs.Standings.{body_standing};
+ghost use Rattle.udfs_lattice.specs.Volumes.{Includes, ascending};
+ghost use Rattle.udfs_walk.specs.Visits.{AreListed, AreRefused, count_listed};
 ghost use Rattle.udfs_walk.specs.Counting.{IsCounted};
-ghost use Rattle.udfs_walk.specs.Memos.{IsMemo, deep_word, known_of, known_standing, standing_of, word_of};
+ghost use Rattle.udfs_walk.specs.Memos.{HasWords, IsMemo, deep_word, known_of, known_standing, standing_of, word_of};
 
 use crate::answers::NodesError;
 use crate::bare::no_lists;
 use crate::children::{Children, shared_entries};
-use crate::counting::{Walks, body_walked, entries_walked};
+use crate::counting::{Walks, body_walked, entered_walked};
 use crate::standings::Standing;
+use crate::told::Told;
 use std::alloc::{AllocError, Global};
 use std::collections::BTreeMap;
 use std::sync::ledger::Ledger;
@@ -64,13 +68,24 @@ fn deep(word: Word, is_deep: bool) -> Word
     }
 }
 
-/// What is kept of an entry.
+/// What the body of an entry tells.
 #[derive(Clone, Copy)]
 pub(crate) struct Known {
-    /// How whole it is, where it is no loop and fewer than 64 names lead to it.
+    /// How whole the entry is, where it is no loop and fewer than 64 names lead to it.
     word: Word,
     /// Whether it lists entries, as a directory.
-    pub(crate) lists: bool,
+    lists: bool,
+}
+
+/// What is known by what was told.
+fn known_by(told: &Told) -> Known
+    ensures word { result.word ≡ word_of told.now.standing }
+    ensures lists { result.lists ≡ told.now.lists }
+{
+    Known {
+        word: in_a_word(&told.standing),
+        lists: told.lists,
+    }
 }
 
 impl Known {
@@ -87,28 +102,96 @@ impl Known {
     }
 }
 
+/// What is kept of an entry.
+#[derive(Drop)]
+struct Kept {
+    /// What its body tells.
+    known: Known,
+    /// What it lists, if it lists entries and a route went on to them.
+    entries: Option<Children>,
+}
+
+impl Kept {
+    /// The standing of the entry and what it lists, if these are at most so many entries, where it is no loop and fewer than
+    /// 64 names lead to it.
+    fn told(&self, alloc: Global, most: usize) -> Result<(Standing, Option<Children>), NodesError>
+        ensures standing { IfOk result (λ told. told.0 ≡ known_standing false self.now.known) }
+        ensures entries { IfOk result (λ told. (es : List DirEntry) → AreListed self.now.entries es → AreListed told.1 es) }
+        ensures few { IfOk result (λ told. count_listed told.1 ≤ most) }
+        ensures refused { IfErr result (λ error. (es : List DirEntry) → AreListed self.now.entries es → AreRefused most es error) }
+    {
+        let standing = self.known.standing(alloc, false);
+        match &self.entries {
+            None => Ok((standing, None)),
+            Some(entries) => {
+                if entries.len() > most {
+                    return Err(NodesError::TooManyPaths);
+                }
+                let entries = entries.clone()?;
+                Ok((standing, Some(entries)))
+            }
+        }
+    }
+}
+
 /// What was told of entries, by the numbers of their information control blocks.
 #[derive(Drop)]
 pub(crate) struct Memo {
-    /// What their bodies tell.
-    words: BTreeMap<u64, Known>,
-    /// What those list through which a route went.
-    lists: BTreeMap<u64, Children>,
+    kept: BTreeMap<u64, Kept>,
 }
 
 impl Memo {
     /// Nothing was told.
     pub(crate) fn new(alloc: Global) -> Memo
-        ensures words { IsEmpty result.words }
-        ensures lists { IsEmpty result.lists }
+        ensures { IsEmpty result.kept }
     {
         Memo {
-            words: BTreeMap::new(alloc),
-            lists: BTreeMap::new(alloc),
+            kept: BTreeMap::new(alloc),
         }
     }
 
-    /// What the body of an entry tells that stands at an address. It is found once: where it is kept, no body is walked.
+    /// What the body of an entry tells that stands at an address, and the entries that it lists; there are at most so many.
+    /// It is found once: where it is kept, no body is walked.
+    pub(crate) fn entered<L: Ledger>(
+        &mut self,
+        alloc: Global,
+        view: View<'_>,
+        entry: &Entry<'_>,
+        address: LbAddr,
+        most: usize,
+        walks: &mut Walks<L>,
+    ) -> Result<(Standing, Option<Children>), NodesError>
+        requires stands { IsStanding (view_now view) address.reference address.block entry.now }
+        requires memo { IsMemo (view_now view) self.old }
+        ensures standing { IfOk result (λ told. told.0 ≡ bare_standing (body_standing (entry_of entry.now).kind false
+            (body (view_now view.entry) address.reference address.block (entry_of entry.now)))) }
+        ensures entries { IfOk result (λ told. AreListed told.1 (kind_entries (entry_of entry.now).kind
+            (body (view_now view.entry) address.reference address.block (entry_of entry.now)))) }
+        ensures few { IfOk result (λ told. count_listed told.1 ≤ most) }
+        ensures refused { IfErr result (AreRefused most (kind_entries (entry_of entry.now).kind
+            (body (view_now view.entry) address.reference address.block (entry_of entry.now)))) }
+        ensures memo { IfOk result (λ told. IsMemo (view_now view.entry) self.new) }
+        ensures again { IsSome (get nat_cmp self.old.kept (number_of address)) → walks.new ≡ walks.old }
+        ensures once { walks.new ≤ walks.old + 1 }
+        ensures counted { IfOk result (λ told. (start : ℕ) (icbs : List ℕ) → Includes icbs (number_of address)
+            → IsCounted start icbs self.old walks.old → IsCounted start icbs self.new walks.new) }
+    {
+        let number = address.number();
+        if let Some(before) = self.kept.get(&number) {
+            return before.told(alloc, most);
+        }
+        let (told, entries) = entered_walked(alloc, view, entry, address, most, walks)?;
+        let kept = Kept {
+            known: known_by(&told),
+            entries: shared_entries(alloc, entries)?,
+        };
+        let told = kept.told(alloc, most)?;
+        keep(&mut self.kept, number, kept)?;
+        Ok(told)
+    }
+
+    /// What the body of an entry tells that stands at an address, where no route goes on to what the entry lists. It is found
+    /// once: where it is kept, no body is walked, and else no entry of a directory is kept.
     pub(crate) fn known<L: Ledger>(
         &mut self,
         alloc: Global,
@@ -118,77 +201,35 @@ impl Memo {
         walks: &mut Walks<L>,
     ) -> Result<Known, AllocError>
         requires stands { IsStanding (view_now view) address.reference address.block entry.now }
-        requires memo { IsMemo (view_now view) self.old }
+        requires words { HasWords (view_now view) self.old }
         ensures known { IfOk result (λ known. known ≡ known_of (entry_of entry.now).kind
             (body (view_now view.entry) address.reference address.block (entry_of entry.now))) }
-        ensures memo { IfOk result (λ known. IsMemo (view_now view.entry) self.new) }
-        ensures again { IsSome (get nat_cmp self.old.words (number_of address)) → walks.new ≡ walks.old }
-        ensures once { walks.new ≤ walks.old + 1 }
+        ensures words { IfOk result (λ known. HasWords (view_now view.entry) self.new) }
+        ensures again { IsSome (get nat_cmp self.old.kept (number_of address)) → walks.new ≡ walks.old }
         ensures counted { IfOk result (λ known. (start : ℕ) (icbs : List ℕ) → Includes icbs (number_of address)
             → IsCounted start icbs self.old walks.old → IsCounted start icbs self.new walks.new) }
+        ensures within { (start : ℕ) (icbs : List ℕ) → Includes icbs (number_of address)
+            → IsCounted start icbs self.old walks.old → walks.new ≤ start + length (ascending icbs) }
     {
         let number = address.number();
-        if let Some(known) = self.words.get(&number) {
-            return Ok(*known);
+        if let Some(kept) = self.kept.get(&number) {
+            return Ok(kept.known);
         }
         let told = body_walked(alloc, view, entry, address, walks)?;
-        let known = Known {
-            word: in_a_word(&told.standing),
-            lists: told.lists,
-        };
-        self.words.insert(number, known)?;
+        let known = known_by(&told);
+        let entries = None;
+        keep(&mut self.kept, number, Kept { known, entries })?;
         Ok(known)
-    }
-
-    /// The entries that an entry lists which stands at an address; there are at most so many. They are found once: where they
-    /// are kept, no body is walked.
-    pub(crate) fn entries<L: Ledger>(
-        &mut self,
-        alloc: Global,
-        view: View<'_>,
-        entry: &Entry<'_>,
-        address: LbAddr,
-        most: usize,
-        walks: &mut Walks<L>,
-    ) -> Result<Children, NodesError>
-        requires stands { IsStanding (view_now view) address.reference address.block entry.now }
-        requires memo { IsMemo (view_now view) self.old }
-        ensures entries { IfOk result (λ entries. entries.value.items ≡ kind_entries (entry_of entry.now).kind
-            (body (view_now view.entry) address.reference address.block (entry_of entry.now))) }
-        ensures few { IfOk result (λ entries. length entries.value.items ≤ most) }
-        ensures refused { IfErr result (AreRefused most (kind_entries (entry_of entry.now).kind
-            (body (view_now view.entry) address.reference address.block (entry_of entry.now)))) }
-        ensures memo { IfOk result (λ entries. IsMemo (view_now view.entry) self.new) }
-        ensures again { IsSome (get nat_cmp self.old.lists (number_of address)) → walks.new ≡ walks.old }
-        ensures once { walks.new ≤ walks.old + 1 }
-        ensures counted { IfOk result (λ entries. (start : ℕ) (icbs : List ℕ) → Includes icbs (number_of address)
-            → IsCounted start icbs self.old walks.old → IsCounted start icbs self.new walks.new) }
-    {
-        let number = address.number();
-        if let Some(entries) = self.lists.get(&number) {
-            if entries.len() > most {
-                return Err(NodesError::TooManyPaths);
-            }
-            return Ok(entries.clone()?);
-        }
-        let entries = entries_walked(alloc, view, entry, address, most, walks)?;
-        let entries = shared_entries(alloc, entries)?;
-        keep(&mut self.lists, number, entries.clone()?)?;
-        Ok(entries)
     }
 }
 
-/// Keeps what a directory lists.
-fn keep(
-    lists: &mut BTreeMap<u64, Children>,
-    number: u64,
-    entries: Children,
-) -> Result<(), AllocError>
-    ensures updates { OnOk result (Updates nat_cmp lists.old lists.new number (Some entries)) }
-    ensures entries { OnOk result (lists.new.entries ≡ insert_entry nat_cmp lists.old.entries number entries) }
-    ensures count { OnOk result (get nat_cmp lists.old number ≡ None → btree_map_len lists.new ≡ btree_map_len lists.old + 1) }
-    ensures ordered { OnOk result (IsOrdered nat_cmp lists.new) }
+/// Keeps what is told of an entry.
+fn keep(memo: &mut BTreeMap<u64, Kept>, number: u64, kept: Kept) -> Result<(), AllocError>
+    ensures updates { OnOk result (Updates nat_cmp memo.old memo.new number (Some kept)) }
+    ensures entries { OnOk result (memo.new.entries ≡ insert_entry nat_cmp memo.old.entries number kept) }
+    ensures count { OnOk result (get nat_cmp memo.old number ≡ None → btree_map_len memo.new ≡ btree_map_len memo.old + 1) }
+    ensures ordered { OnOk result (IsOrdered nat_cmp memo.new) }
 {
-    lists.insert(number, entries)?;
+    memo.insert(number, kept)?;
     Ok(())
 }

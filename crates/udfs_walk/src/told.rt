@@ -5,7 +5,7 @@ ghost use Rattle.udfs_space.specs.Views.{view_now};
 ghost use Rattle.udfs_file.specs.Stretches.{IsStanding, cells_of};
 ghost use Rattle.udfs_file.specs.Entries.{entry_of};
 ghost use Rattle.udfs_file.specs.Bodies.{body, cells};
-ghost use Rattle.udfs_file.specs.Fronts.{IsEndOf, directory, directory_entries, fault_in};
+ghost use Rattle.udfs_file.specs.Fronts.{IsEndOf, IsFrontOf, directory, directory_entries, fault_in};
 ghost use Rattle.udfs_file.specs.declared.cells.Cell.{Cell};
 ghost use Rattle.udfs_walk.specs.Bare.{bare_standing};
 ghost use Rattle.udfs_walk.specs.Standings.{body_standing, kind_standing, standing_or_fault};
@@ -90,43 +90,69 @@ pub(crate) fn body_told(
     }
 }
 
-/// The entries of a body's front, of which there are at most so many.
-fn body_entries(
+/// What ends a directory of which this is the front.
+fn end_of(front: &DirFront) -> DirEnd
+    ensures { (cs : List Cell) → IsFrontOf front.now cs → IsEndOf result cs }
+{
+    DirEnd {
+        lists: front.entries.len() > 0,
+        missing: front.missing,
+        fault: front.fault,
+    }
+}
+
+/// What a body tells of an entry of this kind, and what the entry lists: at most so many entries.
+fn kind_entered(
     alloc: Global,
     view: View<'_>,
     kind: Kind,
     body: &Body,
     most: usize,
-) -> Result<Vec<DirEntry>, NodesError>
-    ensures entries { IfOk result (λ entries. entries.items ≡ kind_entries kind (cells (cells_of (view_now view.entry) body.now))) }
-    ensures few { IfOk result (λ entries. length entries.items ≤ most) }
+) -> Result<(Told, Vec<DirEntry>), NodesError>
+    ensures standing { IfOk result (λ entered. entered.0.standing ≡ bare_standing (kind_standing kind false (cells_of (view_now view.entry) body.now))) }
+    ensures lists { IfOk result (λ entered. entered.0.lists ≡ nat_lt 0 (length (kind_entries kind (cells (cells_of (view_now view.entry) body.now))))) }
+    ensures entries { IfOk result (λ entered. entered.1.items ≡ kind_entries kind (cells (cells_of (view_now view.entry) body.now))) }
+    ensures few { IfOk result (λ entered. length entered.1.items ≤ most) }
     ensures refused { IfErr result (AreRefused most (kind_entries kind (cells (cells_of (view_now view.entry) body.now)))) }
 {
+    let cells = bare_cells_standing(alloc, view, body);
     match kind {
         Kind::Directory => match Dir::front_within(alloc, view, body, most) {
             Ok(front) => {
+                let told = ended(end_of(&front), cells);
                 let DirFront { entries, .. } = front;
-                Ok(entries)
+                Ok((told, entries))
             }
             Err(FrontError::TooMany) => Err(NodesError::TooManyPaths),
             Err(FrontError::OutOfMemory) => Err(NodesError::OutOfMemory),
         },
-        _ => Ok(Vec::new(alloc)),
+        _ => {
+            let told = Told {
+                standing: cells,
+                lists: false,
+            };
+            Ok((told, Vec::new(alloc)))
+        }
     }
 }
 
-/// The entries that an entry lists which stands at an address; there are at most so many.
-pub(crate) fn entries_told(
+/// What the body of an entry tells that stands at an address, and what the entry lists: at most so many entries. Both are
+/// found by one walk.
+pub(crate) fn body_entered(
     alloc: Global,
     view: View<'_>,
     entry: &Entry<'_>,
     address: LbAddr,
     most: usize,
-) -> Result<Vec<DirEntry>, NodesError>
+) -> Result<(Told, Vec<DirEntry>), NodesError>
     requires { IsStanding (view_now view) address.reference address.block entry.now }
-    ensures entries { IfOk result (λ entries. entries.items ≡ kind_entries (entry_of entry.now).kind
+    ensures standing { IfOk result (λ entered. entered.0.standing ≡ bare_standing (body_standing (entry_of entry.now).kind false
+        (body (view_now view.entry) address.reference address.block (entry_of entry.now)))) }
+    ensures lists { IfOk result (λ entered. entered.0.lists ≡ nat_lt 0 (length (kind_entries (entry_of entry.now).kind
+        (body (view_now view.entry) address.reference address.block (entry_of entry.now))))) }
+    ensures entries { IfOk result (λ entered. entered.1.items ≡ kind_entries (entry_of entry.now).kind
         (body (view_now view.entry) address.reference address.block (entry_of entry.now))) }
-    ensures few { IfOk result (λ entries. length entries.items ≤ most) }
+    ensures few { IfOk result (λ entered. length entered.1.items ≤ most) }
     ensures refused { IfErr result (AreRefused most (kind_entries (entry_of entry.now).kind
         (body (view_now view.entry) address.reference address.block (entry_of entry.now)))) }
 {
@@ -139,10 +165,16 @@ pub(crate) fn entries_told(
         address.block,
     ) {
         Err(WalkError::OutOfMemory) => Err(NodesError::OutOfMemory),
-        Err(WalkError::Fault(_)) => Ok(Vec::new(alloc)),
+        Err(WalkError::Fault(fault)) => {
+            let told = Told {
+                standing: Standing::Fault(fault),
+                lists: false,
+            };
+            Ok((told, Vec::new(alloc)))
+        }
         Ok(body) => {
-            let entries = body_entries(alloc, view, entry.kind(), &body, most)?;
-            Ok(entries)
+            let entered = kind_entered(alloc, view, entry.kind(), &body, most)?;
+            Ok(entered)
         }
     }
 }

@@ -1,6 +1,6 @@
 //! One node: what stands at the end of a route.
 
-ghost use Rattle.std.specs.Prelude.{◌≤◌, ◌≡◌, [], ◌+◌, ◌||◌, ℕ, IfErr, IfOk, List, cond, length};
+ghost use Rattle.std.specs.Prelude.{◌≤◌, ◌≡◌, [], ◌+◌, ◌||◌, ℕ, IfErr, IfOk, List, cond, false, length};
 ghost use Rattle.std.specs.List.{list_any};
 ghost use Rattle.udfs_tag.specs.Fields.{number_of};
 ghost use Rattle.udfs_space.specs.Views.{view_now};
@@ -8,13 +8,14 @@ ghost use Rattle.udfs_file.specs.Stretches.{IsStanding};
 ghost use Rattle.udfs_file.specs.Entries.{entry_of};
 ghost use Rattle.udfs_file.specs.Bodies.{body};
 ghost use Rattle.udfs_lattice.specs.Volumes.{Includes};
-ghost use Rattle.udfs_walk.specs.Bare.{bare_node, bare_standing};
+ghost use Rattle.udfs_walk.specs.Bare.{bare_standing};
 ghost use Rattle.udfs_walk.specs.Counting.{IsCounted};
 ghost use Rattle.udfs_walk.specs.Memos.{IsMemo};
 ghost use Rattle.udfs_walk.specs.Standings.{body_standing};
 ghost use Rattle.udfs_walk.specs.Targets.{Icb, icb_of, is_icb};
 ghost use Rattle.udfs_walk.specs.Routes.{kind_entries, entries_below};
-ghost use Rattle.udfs_walk.specs.Nodes.{node, told, untold};
+ghost use Rattle.udfs_walk.specs.Nodes.{told, untold};
+ghost use Rattle.udfs_walk.specs.Unsettled.{unsettled};
 ghost use Rattle.udfs_walk.specs.Visits.{AreListed, AreRefused, count_listed, end_at};
 
 use crate::answers::{Node, NodesError};
@@ -32,7 +33,7 @@ use udfs_space::View;
 use udfs_tag::{LbAddr, LongAd};
 
 /// A directory with so many names in its path is not entered.
-const MOST_NAMES: usize = 64;
+pub(crate) const MOST_NAMES: usize = 64;
 
 /// Whether an ICB is one of these.
 fn is_loop(address: LbAddr, above: &[LbAddr]) -> bool
@@ -47,7 +48,8 @@ fn is_loop(address: LbAddr, above: &[LbAddr]) -> bool
 }
 
 /// What an entry tells at the end of a route: its standing, without the blocks and the holes, and the entries to which a
-/// route goes on. Of a loop, and below 64 names, there are none.
+/// route goes on. Of a loop, and below 64 names, there are none; with 64 names the entry stands as whole until its node is
+/// settled, and no body is walked.
 fn entry_told<L: Ledger>(
     alloc: Global,
     view: View<'_>,
@@ -61,13 +63,13 @@ fn entry_told<L: Ledger>(
 ) -> Result<(Standing, Option<Children>), NodesError>
     requires stands { IsStanding (view_now view) address.reference address.block entry.now }
     requires memo { IsMemo (view_now view) memo.old }
-    ensures standing { IfOk result (λ told. told.0 ≡ bare_standing (cond is_loop Standing.Loop (body_standing (entry_of entry.now).kind is_deep
-        (body (view_now view.entry) address.reference address.block (entry_of entry.now))))) }
+    ensures standing { IfOk result (λ told. told.0 ≡ cond is_loop Standing.Loop (cond is_deep Standing.Whole (bare_standing (body_standing (entry_of entry.now).kind false
+        (body (view_now view.entry) address.reference address.block (entry_of entry.now)))))) }
     ensures entries { IfOk result (λ told. AreListed told.1 (cond (is_loop || is_deep) [] (kind_entries (entry_of entry.now).kind
         (body (view_now view.entry) address.reference address.block (entry_of entry.now))))) }
     ensures few { IfOk result (λ told. count_listed told.1 ≤ most) }
     ensures memo { IfOk result (λ told. IsMemo (view_now view.entry) memo.new) }
-    ensures twice { walks.new ≤ walks.old + 2 }
+    ensures once { walks.new ≤ walks.old + 1 }
     ensures counted { IfOk result (λ told. (start : ℕ) (icbs : List ℕ) → Includes icbs (number_of address)
         → IsCounted start icbs memo.old walks.old → IsCounted start icbs memo.new walks.new) }
     ensures refused { IfErr result (AreRefused most (cond (is_loop || is_deep) [] (kind_entries (entry_of entry.now).kind
@@ -76,13 +78,11 @@ fn entry_told<L: Ledger>(
     if is_loop {
         return Ok((Standing::Loop, None));
     }
-    let known = memo.known(alloc, view, entry, address, walks)?;
-    let standing = known.standing(alloc, is_deep);
-    if is_deep || !known.lists {
-        return Ok((standing, None));
+    if is_deep {
+        return Ok((Standing::Whole, None));
     }
-    let entries = memo.entries(alloc, view, entry, address, most, walks)?;
-    Ok((standing, Some(entries)))
+    let told = memo.entered(alloc, view, entry, address, most, walks)?;
+    Ok(told)
 }
 
 /// What stands at the end of a route: its node, and the entries to which a route goes on.
@@ -122,8 +122,8 @@ fn read(entry: &Entry<'_>, address: LongAd, path: Path, hidden: bool, standing: 
     }
 }
 
-/// What stands at the end of a route: the node is without the blocks and the holes.
-#[tactic(auto, unfolding(crate::specs::Nodes::node, crate::specs::Routes::entries_below))]
+/// What stands at the end of a route: the node is without the blocks and the holes, and not yet settled.
+#[tactic(auto, unfolding(crate::specs::Unsettled::unsettled, crate::specs::Routes::entries_below))]
 pub(crate) fn visited<L: Ledger>(
     alloc: Global,
     view: View<'_>,
@@ -136,11 +136,11 @@ pub(crate) fn visited<L: Ledger>(
     walks: &mut Walks<L>,
 ) -> Result<Visit, NodesError>
     requires { IsMemo (view_now view) memo.old }
-    ensures node { IfOk result (λ visit. visit.node ≡ bare_node (node (view_now view.entry) (end_at address path above.now hidden))) }
+    ensures node { IfOk result (λ visit. visit.node ≡ unsettled (view_now view.entry) (end_at address path above.now hidden)) }
     ensures entries { IfOk result (λ visit. AreListed visit.entries (entries_below (view_now view.entry) (end_at address path above.now hidden))) }
     ensures few { IfOk result (λ visit. count_listed visit.entries ≤ most) }
     ensures memo { IfOk result (λ visit. IsMemo (view_now view.entry) memo.new) }
-    ensures twice { walks.new ≤ walks.old + 2 }
+    ensures once { walks.new ≤ walks.old + 1 }
     ensures counted { IfOk result (λ visit. (start : ℕ) (icbs : List ℕ) → Includes icbs (number_of (icb_of address))
         → IsCounted start icbs memo.old walks.old → IsCounted start icbs memo.new walks.new) }
     ensures refused { IfErr result (AreRefused most (entries_below (view_now view.entry) (end_at address path above.now hidden))) }

@@ -1,14 +1,14 @@
 //! The walk over all routes, in the order of words.
 
-ghost use Rattle.std.specs.Prelude.{◌≡◌, ◌+◌, ◌≤◌, ◌*◌, ◌∷◌, ℕ, List, [], ◌++◌, IfErr, IfOk, MatchOption, MatchResult, length, map};
+ghost use Rattle.std.specs.Prelude.{◌≡◌, ◌+◌, ◌≤◌, ◌∷◌, ℕ, List, [], ◌++◌, IfErr, IfOk, MatchOption, MatchResult, length, map};
 ghost use Rattle.udfs_lattice.specs.Tables.{state_of};
 ghost use Rattle.udfs_space.specs.Places.{view};
 ghost use Rattle.udfs_space.specs.Views.{view_now};
 ghost use Rattle.udfs_lattice.specs.Volumes.{Includes};
-ghost use Rattle.udfs_walk.specs.Bare.{bare_node, full_node};
+ghost use Rattle.udfs_walk.specs.Bare.{full_node};
 ghost use Rattle.udfs_walk.specs.Counting.{IsCounted, IsWithinTaken, icb_key, icbs_of};
 ghost use Rattle.udfs_walk.specs.Memos.{IsMemo};
-ghost use Rattle.udfs_walk.specs.Nodes.{node};
+ghost use Rattle.udfs_walk.specs.Unsettled.{AreUnsettled, unsettled};
 ghost use Rattle.udfs_walk.specs.Visits.{AreRefused, end_at};
 ghost use Rattle.udfs_walk.specs.Walks.{AreNodes, IsNodesRefused};
 ghost use Rattle.udfs_walk.specs.Routes.{entries_below};
@@ -20,6 +20,7 @@ use crate::children::Children;
 use crate::counting::Walks;
 use crate::memos::Memo;
 use crate::paths::{Names, Path};
+use crate::settling::settle_all;
 use crate::visits::{Visit, visited};
 use bitflags::Flags;
 use std::alloc::{AllocError, Global};
@@ -67,8 +68,7 @@ fn with_icb(alloc: Global, above: &[LbAddr], address: LbAddr) -> Result<Vec<LbAd
 }
 
 impl Frame {
-    /// Goes to what stands at the end of a route: its node, without the blocks and the holes, and itself as a directory,
-    /// where a route goes on.
+    /// Goes to what stands at the end of a route: its node, not yet settled, and itself as a directory, where a route goes on.
     fn enter<L: Ledger>(
         alloc: Global,
         view: View<'_>,
@@ -81,11 +81,11 @@ impl Frame {
         walks: &mut Walks<L>,
     ) -> Result<(Node, Option<Frame>), NodesError>
         requires { IsMemo (view_now view) memo.old }
-        ensures node { IfOk result (λ entered. entered.0 ≡ bare_node (node (view_now view.entry) (end_at address path above.now hidden))) }
+        ensures node { IfOk result (λ entered. entered.0 ≡ unsettled (view_now view.entry) (end_at address path above.now hidden)) }
         ensures frame { IfOk result (λ entered. IsFrameOf entered.1 (frame_at (view_now view.entry) (end_at address path above.now hidden))) }
         ensures few { IfOk result (λ entered. count_left entered.1 ≤ most) }
         ensures memo { IfOk result (λ entered. IsMemo (view_now view.entry) memo.new) }
-        ensures twice { walks.new ≤ walks.old + 2 }
+        ensures once { walks.new ≤ walks.old + 1 }
         ensures counted { IfOk result (λ entered. (start : ℕ) (icbs : List ℕ) → Includes icbs (icb_key entered.0)
             → IsCounted start icbs memo.old walks.old → IsCounted start icbs memo.new walks.new) }
         ensures refused { IfErr result (AreRefused most (entries_below (view_now view.entry) (end_at address path above.now hidden))) }
@@ -118,7 +118,7 @@ impl Frame {
         ensures taken { IfOk result (λ taken. IsEntryTaken (view_now view.entry) self.old taken self.new) }
         ensures few { IfOk result (λ taken. MatchOption taken (Unit {0}) (λ entered. count_left entered.1 ≤ most)) }
         ensures memo { IfOk result (λ taken. IsMemo (view_now view.entry) memo.new) }
-        ensures twice { walks.new ≤ walks.old + 2 }
+        ensures once { walks.new ≤ walks.old + 1 }
         ensures idle { self.old.left ≡ [] → walks.new ≡ walks.old }
         ensures counted { IfOk result (λ taken. (start : ℕ) (icbs : List ℕ) → IsWithinTaken icbs taken
             → IsCounted start icbs memo.old walks.old → IsCounted start icbs memo.new walks.new) }
@@ -231,22 +231,18 @@ fn begun_nodes<L: Ledger>(
     found
 }
 
-/// The nodes as [`bare_nodes`] lists them, with a count of the walks over bodies that this takes: at most two for each
-/// information control block, however many routes lead there, and never more than 131,072.
-///
-/// # Errors
-///
-/// As those of [`nodes`].
-pub fn counted_nodes<L: Ledger>(
+/// The nodes of a volume, not yet settled, and what was told of their bodies.
+fn unsettled_nodes<L: Ledger>(
     alloc: Global,
     view: View<'_>,
     root: LongAd,
     walks: &mut Walks<L>,
-) -> Result<Vec<Node>, NodesError>
-    ensures nodes { MatchResult result (λ found. AreNodes (view_now view.entry) root (map (full_node (view_now view.entry)) found.items))
+) -> Result<(Vec<Node>, Memo), NodesError>
+    ensures nodes { MatchResult result (λ found. AreUnsettled (view_now view.entry) root found.0.items)
         (IsNodesRefused (view_now view.entry) root) }
-    ensures twice { IfOk result (λ found. walks.new ≤ walks.old + 2 * length (icbs_of found.items)) }
-    ensures few { walks.new ≤ walks.old + 131072 }
+    ensures memo { IfOk result (λ found. IsMemo (view_now view.entry) found.1) }
+    ensures counted { IfOk result (λ found. IsCounted walks.old (map icb_key found.0.items) found.1 walks.new) }
+    ensures few { walks.new ≤ walks.old + 65536 }
 {
     let path = Path::root(alloc)?;
     // So many nodes may still be found behind those that were, and behind the entries that are left.
@@ -268,5 +264,27 @@ pub fn counted_nodes<L: Ledger>(
         keep(&mut frames, Some(frame))?;
         keep(&mut frames, below)?;
     }
+    Ok((nodes, memo))
+}
+
+/// The nodes as [`bare_nodes`] lists them, with a count of the walks over bodies that this takes: at most one for each
+/// information control block, however many routes lead there, and never more than 65,536.
+///
+/// # Errors
+///
+/// As those of [`nodes`].
+pub fn counted_nodes<L: Ledger>(
+    alloc: Global,
+    view: View<'_>,
+    root: LongAd,
+    walks: &mut Walks<L>,
+) -> Result<Vec<Node>, NodesError>
+    ensures nodes { MatchResult result (λ found. AreNodes (view_now view.entry) root (map (full_node (view_now view.entry)) found.items))
+        (IsNodesRefused (view_now view.entry) root) }
+    ensures once { IfOk result (λ found. walks.new ≤ walks.old + length (icbs_of found.items)) }
+    ensures few { walks.new ≤ walks.old + 65536 }
+{
+    let (mut nodes, mut memo) = unsettled_nodes(alloc, view, root, walks)?;
+    settle_all(alloc, view, &mut nodes, &mut memo, walks)?;
     Ok(nodes)
 }

@@ -1,4 +1,4 @@
-use Rattle.std.proofs.Common.{◌∙◌, ap, cond, nat_le, subst, sym}
+use Rattle.std.proofs.Common.{◌∙◌, ap, cond, false, nat_le, subst, sym}
 use Rattle.std.specs.List.{list_any}
 use Rattle.udfs_lattice.specs.Volumes.{Includes}
 use Rattle.udfs_tag.specs.Fields.{number_of}
@@ -6,25 +6,25 @@ use Rattle.udfs_tag.specs.declared.layouts.LbAddr.{LbAddr}
 use Rattle.udfs_space.specs.Views.{view_now}
 use Rattle.udfs_file.specs.Bodies.{body}
 use Rattle.udfs_file.specs.Entries.{entry_of}
-use Rattle.udfs_walk.specs.Bare.{bare_node, bare_standing}
+use Rattle.udfs_walk.specs.Bare.{bare_standing}
 use Rattle.udfs_walk.specs.Standings.{body_standing}
 use Rattle.udfs_walk.specs.Nodes.{told, untold}
 use Rattle.udfs_walk.specs.Targets.{bad, entry, is_icb, unread}
 use Rattle.udfs_walk.specs.Visits.{end_at}
-use Rattle.udfs_walk.specs.declared.standings.Standing.TheVariants.{Loop, Torn}
-use Rattle.udfs_walk.proofs.TargetLemmas.{node_is}
+use Rattle.udfs_walk.specs.declared.standings.Standing.TheVariants.{Loop, Torn, Whole}
+use Rattle.udfs_walk.proofs.TargetLemmas.{unsettled_is}
 use Rattle.udfs_walk.proofs.visits.visited.Goals as goal
 
 pub returns-in-Fault-clause-node : goal.returns-in-Fault-clause-node
 returns-in-Fault-clause-node g c =
     let w = end_at c.args.address c.args.path c.args.above.now c.args.hidden in
-    c.unread.ensures c.args.above.now ∙ ap bare_node (node_is (view_now c.args.view) w (bad c.in-Fault.fault) c.in-Fault.ensures.value)
+    c.unread.ensures c.args.above.now ∙ unsettled_is (view_now c.args.view) w (bad c.in-Fault.fault) c.in-Fault.ensures.value
 
 pub returns-in-Unread-clause-node : goal.returns-in-Unread-clause-node
 returns-in-Unread-clause-node g c =
     let w = end_at c.args.address c.args.path c.args.above.now c.args.hidden in
     c.unread-in-Unread.ensures c.args.above.now ∙ ap (λ lists. untold w (Torn lists)) c.no_lists.ensures
-    ∙ ap bare_node (node_is (view_now c.args.view) w (unread c.in-Unread.field-0) c.in-Unread.ensures.value)
+    ∙ unsettled_is (view_now c.args.view) w (unread c.in-Unread.field-0) c.in-Unread.ensures.value
 
 pub returns-in_ok-standing-in-Entry-clause-node : goal.returns-in_ok-standing-in-Entry-clause-node
 returns-in_ok-standing-in-Entry-clause-node g c =
@@ -35,8 +35,8 @@ returns-in_ok-standing-in-Entry-clause-node g c =
     let icb = c.address-icb.ensures in
     let loop = c.is_loop-is_loop.ensures ∙ ap (λ a. list_any (is_icb a) c.args.above.now) icb in
     c.read.ensures c.args.above.now ∙ ap (told w e) c.in_ok-standing-in-Entry.ensures.standing
-    ∙ (λ i. told w e (bare_standing (cond (loop i) Loop (body_standing e.kind (nat_le 64 (n i)) (body v (icb i).reference (icb i).block e)))))
-    ∙ ap bare_node (node_is v w (entry e) c.in-Entry.ensures.value)
+    ∙ (λ i. told w e (cond (loop i) Loop (cond (nat_le 64 (n i)) Whole (bare_standing (body_standing e.kind false (body v (icb i).reference (icb i).block e))))))
+    ∙ unsettled_is v w (entry e) c.in-Entry.ensures.value
 
 pub returns-in_ok-standing-in-Entry-clause-counted : goal.returns-in_ok-standing-in-Entry-clause-counted
 returns-in_ok-standing-in-Entry-clause-counted g c start icbs at counted =

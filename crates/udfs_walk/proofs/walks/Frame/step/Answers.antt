@@ -1,10 +1,9 @@
 use Rattle.std.proofs.Common.{◌≡◌, ◌∙◌, ◌+◌, ap, subst, sym, drop, ◌++◌, ◌∷◌, []}
 use Rattle.udfs_space.specs.Views.{view_now}
 use Rattle.udfs_walk.specs.Frames.{IsFrameOf, frame_at}
-use Rattle.udfs_walk.specs.Nodes.{node}
 use Rattle.udfs_walk.specs.Routes.{inside}
+use Rattle.udfs_walk.specs.Unsettled.{unsettled}
 use Rattle.udfs_walk.specs.Visits.{end_at}
-use Rattle.udfs_walk.proofs.BareNodes.{full_is}
 use Rattle.udfs_walk.proofs.Owed.{drop_next, some_left, step_refused}
 use Rattle.udfs_walk.proofs.walks.Frame.step.Goals as goal
 
@@ -25,7 +24,7 @@ returns-clause-taken g c =
           ∙ drop_next c.deref-2.result.now c.self.inside.passed e c.in-Some.ensures.lookup.3.0 c.in-Some.ensures.lookup.1 ∙ (λ i. e ∷ drop (c.self.inside.passed + 1) (slice i));
       path = ap (λ f. f.path) c.self.view_is;
       above = ap (λ f. f.above) c.self.view_is;
-      node = full_is v _ c.in_ok-entered.entered.0 c.in_ok-entered.ensures.node ∙ ap (node v) walk;
+      node = c.in_ok-entered.ensures.node ∙ ap (unsettled v) walk;
       frame = subst (λ w. IsFrameOf c.in_ok-entered.entered.1 (frame_at v w)) walk c.in_ok-entered.ensures.frame;
     }
 

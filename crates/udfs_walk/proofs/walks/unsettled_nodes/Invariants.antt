@@ -1,13 +1,12 @@
 use Rattle.std.proofs.Common.{◌+◌, ◌-◌, ◌*◌, length, map}
 use Rattle.udfs_space.specs.Views.{view_now}
-use Rattle.udfs_walk.specs.Bare.{full_node}
 use Rattle.udfs_walk.specs.Counting.{IsCounted, icb_key}
 use Rattle.udfs_walk.specs.Memos.{IsMemo}
 use Rattle.udfs_walk.proofs.Owed.{IsWalking}
-use Rattle.udfs_walk.proofs.walks.counted_nodes.Given as goal
+use Rattle.udfs_walk.proofs.walks.unsettled_nodes.Given as goal
 
 abbrev pub invariant-walk : goal.invariant-walk
-invariant-walk g l = IsWalking (view_now l.view) l.fn.root (map (full_node (view_now l.view)) l.nodes.items) l.frames.items l.room
+invariant-walk g l = IsWalking (view_now l.view) l.fn.root l.nodes.items l.frames.items l.room
     × IsMemo (view_now l.view) l.memo
     × IsCounted l.fn.walks (map icb_key l.nodes.items) l.memo l.walks
 

@@ -1,0 +1,73 @@
+//! The nodes to which 64 names lead, told last of all: a shorter route may have led to the same bodies before.
+
+ghost use Rattle.std.specs.Prelude.{◌≡◌, ◌≤◌, ◌+◌, ℕ, List, OnOk, length, map};
+ghost use Rattle.udfs_lattice.specs.Volumes.{Includes, ascending};
+ghost use Rattle.udfs_space.specs.Views.{view_now};
+ghost use Rattle.udfs_walk.specs.Counting.{IsCounted, icb_key, icbs_of};
+ghost use Rattle.udfs_walk.specs.Memos.{HasWords};
+ghost use Rattle.udfs_walk.specs.Unsettled.{settled, waits};
+
+use crate::answers::Node;
+use crate::counting::Walks;
+use crate::memos::Memo;
+use crate::standings::Standing;
+use crate::targets::{Target, target_at};
+use crate::visits::MOST_NAMES;
+use std::alloc::{AllocError, Global};
+use std::sync::ledger::Ledger;
+use udfs_space::View;
+
+/// Whether a node is to be settled: it stands as whole, and 64 names lead to it.
+fn waits(node: &Node) -> bool
+    ensures { result ≡ waits node.now }
+{
+    node.path.len() >= MOST_NAMES && matches!(&node.standing, Standing::Whole)
+}
+
+/// Settles a node: its body is walked over only if that was not done before, for whichever route.
+fn settle<L: Ledger>(
+    alloc: Global,
+    view: View<'_>,
+    node: &mut Node,
+    memo: &mut Memo,
+    walks: &mut Walks<L>,
+) -> Result<(), AllocError>
+    requires { HasWords (view_now view) memo.old }
+    ensures settled { OnOk result (node.new ≡ settled (view_now view.entry) node.old) }
+    ensures words { OnOk result (HasWords (view_now view.entry) memo.new) }
+    ensures counted { OnOk result ((start : ℕ) (icbs : List ℕ) → Includes icbs (icb_key node.old)
+        → IsCounted start icbs memo.old walks.old → IsCounted start icbs memo.new walks.new) }
+    ensures within { (start : ℕ) (icbs : List ℕ) → Includes icbs (icb_key node.old)
+        → IsCounted start icbs memo.old walks.old → walks.new ≤ start + length (ascending icbs) }
+{
+    if !waits(node) {
+        return Ok(());
+    }
+    match target_at(view, node.icb) {
+        Target::Entry(entry) => {
+            let known = memo.known(alloc, view, &entry, node.icb.address(), walks)?;
+            node.standing = known.standing(alloc, true);
+            Ok(())
+        }
+        Target::Fault(_) => Ok(()),
+        Target::Unread(_) => Ok(()),
+    }
+}
+
+/// Settles all nodes, each information control block by one walk at most.
+pub(crate) fn settle_all<L: Ledger>(
+    alloc: Global,
+    view: View<'_>,
+    nodes: &mut [Node],
+    memo: &mut Memo,
+    walks: &mut Walks<L>,
+) -> Result<(), AllocError>
+    requires { HasWords (view_now view) memo.old }
+    ensures settled { OnOk result (nodes.new ≡ map (settled (view_now view.entry)) nodes.old) }
+    ensures within { (start : ℕ) → IsCounted start (map icb_key nodes.old) memo.old walks.old → walks.new ≤ start + length (icbs_of nodes.old) }
+{
+    for node in nodes.iter_mut() {
+        settle(alloc, view, node, memo, walks)?;
+    }
+    Ok(())
+}
