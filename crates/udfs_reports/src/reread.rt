@@ -64,7 +64,7 @@ impl Telling for Numbers {
         };
         let blocks = match reread_blocks(alloc, &listing) {
             Ok(blocks) => blocks,
-            Err(error) => return Err(Refusal::from(error)),
+            Err(error) => return Err(refused_report(error)),
         };
         match write_numbers(&blocks, out) {
             Ok(()) => {

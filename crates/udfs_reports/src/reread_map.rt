@@ -20,6 +20,7 @@ use udfs_common::sources::AnySource;
 use udfs_files::{Content, Stage};
 use udfs_lattice::BlockTable;
 use udfs_reading::{Sink, Source, WriteFault, write_all};
+use udfs_remarks::no_reports::refused_report;
 use udfs_remarks::remarks::remark_on_listing;
 use udfs_rescue::write_domain;
 use udfs_salvage::reread_blocks;
@@ -159,7 +160,7 @@ fn map_of<F: Files, O: Sink>(
     };
     let blocks = match reread_blocks(alloc, &listing) {
         Ok(blocks) => blocks,
-        Err(error) => return Err(Refusal::from(error)),
+        Err(error) => return Err(refused_report(error)),
     };
     match put_domain(alloc, &blocks, last, path, files, out) {
         Ok(()) => {}
