@@ -22,10 +22,11 @@ use std::alloc::{AllocError, Global};
 use udfs_common::files::Files;
 use udfs_common::inputs::joined;
 use udfs_common::refusal::Refusal;
-use udfs_remarks::remarks::remark_on_listing;
 use udfs_common::sources::AnySource;
 use udfs_files::Stage;
 use udfs_reading::{Sink, Source};
+use udfs_remarks::no_reports::{refused_report, refused_run};
+use udfs_remarks::remarks::remark_on_listing;
 use udfs_salvage::{Fill, Listing, Volume, list_volume_by, write_volume_line};
 use udfs_volume::Profile;
 use udfs_words::input_path::InputPath;
@@ -200,7 +201,9 @@ pub fn put_report<F: Files, O: Sink>(
             })
         }
         _ => {
-            write_volume_line(&listing.volume, out)?;
+            if let Err(error) = write_volume_line(&listing.volume, out) {
+                return Err(refused_run(error));
+            }
             remark_on_listing(alloc, listing, files);
             Ok(Made {
                 good: false,
@@ -238,7 +241,10 @@ pub fn extract<F: Files, O: Sink>(
 {
     let table = joined(alloc, inputs, files)?;
     files.begin(Stage::Walking);
-    let listing = list_volume_by(alloc, &table, last, profile)?;
+    let listing = match list_volume_by(alloc, &table, last, profile) {
+        Ok(listing) => listing,
+        Err(error) => return Err(refused_report(error)),
+    };
     files.begin(Stage::Writing);
     let made = put_report(
         alloc, &listing, only, fill, short, false, folder, files, out,

@@ -18,6 +18,7 @@ use udfs_common::refusal::Refusal;
 use udfs_common::sources::AnySource;
 use udfs_files::{JobError, ReplaceError, Stage, replace_by_job};
 use udfs_reading::{Sink, Source};
+use udfs_remarks::no_reports::refused_report;
 use udfs_salvage::{Fill, Listing, list_volume_by};
 use udfs_volume::Profile;
 use udfs_words::input_path::InputPath;
@@ -128,7 +129,10 @@ pub fn extract_listed<F: Files, O: Sink>(
         Err(refusal) => return Err(refusal),
     };
     files.begin(Stage::Walking);
-    let listing = list_volume_by(alloc, &table, last, profile)?;
+    let listing = match list_volume_by(alloc, &table, last, profile) {
+        Ok(listing) => listing,
+        Err(error) => return Err(refused_report(error)),
+    };
     files.begin(Stage::Writing);
     match list_report(
         alloc, &listing, only, fill, short, folder, place, files, out,

@@ -19,6 +19,7 @@ use udfs_common::refusal::Refusal;
 use udfs_common::sources::AnySource;
 use udfs_files::Stage;
 use udfs_reading::{Sink, Source};
+use udfs_remarks::no_reports::refused_report;
 use udfs_salvage::{Fill, list_unnamed, list_volume_by};
 use udfs_volume::Profile;
 use udfs_words::input_path::InputPath;
@@ -59,8 +60,14 @@ pub fn extract_with_lost<F: Files, O: Sink>(
         Err(refusal) => return Err(refusal),
     };
     files.begin(Stage::Walking);
-    let listing = list_volume_by(alloc, &table, last, profile)?;
-    let entries = list_unnamed(alloc, &listing)?;
+    let listing = match list_volume_by(alloc, &table, last, profile) {
+        Ok(listing) => listing,
+        Err(error) => return Err(refused_report(error)),
+    };
+    let entries = match list_unnamed(alloc, &listing) {
+        Ok(entries) => entries,
+        Err(error) => return Err(refused_report(error)),
+    };
     files.begin(Stage::Writing);
     let made = match put_report(
         alloc, &listing, only, fill, short, false, folder, files, out,
@@ -112,8 +119,14 @@ pub fn extract_listed_with_lost<F: Files, O: Sink>(
         Err(refusal) => return Err(refusal),
     };
     files.begin(Stage::Walking);
-    let listing = list_volume_by(alloc, &table, last, profile)?;
-    let entries = list_unnamed(alloc, &listing)?;
+    let listing = match list_volume_by(alloc, &table, last, profile) {
+        Ok(listing) => listing,
+        Err(error) => return Err(refused_report(error)),
+    };
+    let entries = match list_unnamed(alloc, &listing) {
+        Ok(entries) => entries,
+        Err(error) => return Err(refused_report(error)),
+    };
     files.begin(Stage::Writing);
     let made = match list_report(
         alloc, &listing, only, fill, short, folder, place, files, out,
