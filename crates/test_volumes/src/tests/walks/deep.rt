@@ -5,7 +5,7 @@ use crate::tests::assert_same;
 use std::test::Fail;
 use udfs_file::NodeFault;
 use udfs_samples::Disc;
-use udfs_walk::answers::NodesError;
+use udfs_walk::answers::{Node, NodesError};
 use udfs_walk::standings::Standing;
 
 /// A chain of directories: each has one name, and the last has none. The root stands at logical block 1.
@@ -42,6 +42,63 @@ fn names_64_deep(rt: HostRuntime) -> Result<(), Fail> {
             is_deep,
         );
         assert_same(&rt, matches!(&last.standing, Standing::Whole), !is_deep);
+    }
+    Ok(())
+}
+
+/// A chain of 64 names whose last directory has one name more, and one name of the root that leads to that directory too:
+/// before the chain or behind it.
+fn crossing(rt: &HostRuntime, is_behind: bool) -> Result<Disc, Fail> {
+    let mut disc = chain(rt, 65)?;
+    if is_behind {
+        disc.write_directory(272, 1, &[(b"\x08D", 3), (b"\x08Z", 129)])?;
+    } else {
+        disc.write_directory(272, 1, &[(b"\x08A", 129), (b"\x08D", 3)])?;
+    }
+    Ok(disc)
+}
+
+/// What is told of the node at this place: how many names lead to it, and in a word how whole it is.
+fn told_at(nodes: &[Node], at: usize) -> (usize, &'static str) {
+    let Some(node) = nodes.get(at) else {
+        return (0, "none");
+    };
+    let word = match &node.standing {
+        Standing::Whole => "whole",
+        Standing::Torn(_) => "torn",
+        Standing::Loop => "loop",
+        Standing::Fault(NodeFault::Depth) => "deep",
+        Standing::Fault(_) => "faulty",
+    };
+    (node.path.len(), word)
+}
+
+/// 64 names lead to a directory with a name on one route, and one name on another, which is gone before that route or behind
+/// it: it is told as too deep on the one, and entered on the other. Where its body is not known it is torn on both.
+#[test]
+fn deep_on_one_route_alone(rt: HostRuntime) -> Result<(), Fail> {
+    let alloc = rt.alloc();
+    for is_behind in [false, true] {
+        let disc = crossing(&rt, is_behind)?;
+        let table = disc.known_but(alloc, &[])?;
+        let Some(Ok(nodes)) = nodes_of(alloc, &table)? else {
+            assert!(rt; false);
+            return Ok(());
+        };
+        let (deep, near) = if is_behind { (64, 65) } else { (66, 1) };
+        assert_same(&rt, nodes.len(), 67);
+        assert_same(&rt, told_at(&nodes, deep), (64, "deep"));
+        assert_same(&rt, told_at(&nodes, near), (1, "whole"));
+        assert_same(&rt, told_at(&nodes, near + 1), (2, "whole"));
+        let table = disc.known_but(alloc, &[402])?;
+        let Some(Ok(nodes)) = nodes_of(alloc, &table)? else {
+            assert!(rt; false);
+            return Ok(());
+        };
+        let (deep, near) = if is_behind { (64, 65) } else { (65, 1) };
+        assert_same(&rt, nodes.len(), 66);
+        assert_same(&rt, told_at(&nodes, deep), (64, "torn"));
+        assert_same(&rt, told_at(&nodes, near), (1, "torn"));
     }
     Ok(())
 }
