@@ -164,10 +164,7 @@ pub fn extract_by<W: Sink>(
         Volume::Open(opened) => {
             let byte = fill_byte(fill);
             let mut out = Outgoing::new();
-            let view = View {
-                table: report.table,
-                space: &opened.space,
-            };
+            let view = opened.view(report.table);
             write_at(alloc, view, node.icb, byte, &mut out, sink)
         }
         _ => Err(ExtractError::NotWhole),

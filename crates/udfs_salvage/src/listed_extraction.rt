@@ -19,7 +19,6 @@ use crate::unnamed_extraction::is_lost_file;
 use crate::volumes::Volume;
 use std::alloc::Global;
 use udfs_reading::{Outgoing, Sink};
-use udfs_space::View;
 use udfs_walk::Unnamed;
 
 /// Writes the bytes of the node at this index, counted from 0 and below the number of nodes, of a listing that [`list_volume_by`](crate::list_volume_by)
@@ -66,10 +65,7 @@ pub fn write_node<W: Sink>(
     match &listing.volume {
         Volume::Open(opened) => {
             let byte = fill_byte(fill);
-            let view = View {
-                table: listing.table,
-                space: &opened.space,
-            };
+            let view = opened.view(listing.table);
             write_at(alloc, view, node.icb, byte, out, sink)
         }
         _ => Err(ExtractError::NotWhole),
@@ -112,10 +108,7 @@ pub fn write_lost<W: Sink>(
     match &listing.volume {
         Volume::Open(opened) => {
             let address = entry.icb();
-            let view = View {
-                table: listing.table,
-                space: &opened.space,
-            };
+            let view = opened.view(listing.table);
             write_at(alloc, view, address, 0, out, sink)
         }
         _ => Err(ExtractError::NotWhole),

@@ -16,7 +16,6 @@ use crate::surveys::list;
 use crate::volumes::{OpenVolume, Volume, open};
 use std::alloc::Global;
 use udfs_lattice::BlockTable;
-use udfs_space::View;
 use udfs_volume::{Profile, Seen};
 use udfs_walk::unnamed_entries::bare_unnamed;
 use udfs_walk::{Node, Unnamed, bare_reread};
@@ -150,10 +149,7 @@ pub fn list_unnamed(alloc: Global, listing: &Listing<'_>) -> Result<Vec<Unnamed>
 {
     match &listing.volume {
         Volume::Open(opened) => {
-            let view = View {
-                table: listing.table,
-                space: &opened.space,
-            };
+            let view = opened.view(listing.table);
             let entries = bare_unnamed(alloc, view, &listing.nodes)?;
             Ok(entries)
         }
@@ -173,10 +169,7 @@ pub fn reread_blocks(alloc: Global, listing: &Listing<'_>) -> Result<Vec<u32>, S
 {
     match &listing.volume {
         Volume::Open(opened) => {
-            let view = View {
-                table: listing.table,
-                space: &opened.space,
-            };
+            let view = opened.view(listing.table);
             let blocks = bare_reread(alloc, view, &listing.nodes)?;
             Ok(blocks)
         }

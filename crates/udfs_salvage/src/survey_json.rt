@@ -211,10 +211,7 @@ fn put_survey_nodes<W: Sink>(
 {
     match &survey.volume {
         Volume::Open(opened) => {
-            let view = View {
-                table: survey.table,
-                space: &opened.space,
-            };
+            let view = opened.view(survey.table);
             put_nodes(alloc, text, sink, view, &survey.nodes)
         }
         _ => {
@@ -237,10 +234,7 @@ fn put_survey_entries<W: Sink>(
     let two = has_two(&survey.volume);
     match &survey.volume {
         Volume::Open(opened) => {
-            let view = View {
-                table: survey.table,
-                space: &opened.space,
-            };
+            let view = opened.view(survey.table);
             put_entries(alloc, text, sink, view, two, &survey.unnamed)
         }
         _ => {

@@ -15,7 +15,6 @@ use crate::volumes::Volume;
 use std::alloc::{AllocError, Global};
 use udfs_printing::Printer;
 use udfs_reading::Sink;
-use udfs_space::View;
 
 /// The lines of the nodes.
 fn put_survey_nodes<W: Sink>(
@@ -29,10 +28,7 @@ fn put_survey_nodes<W: Sink>(
 {
     match &survey.volume {
         Volume::Open(opened) => {
-            let view = View {
-                table: survey.table,
-                space: &opened.space,
-            };
+            let view = opened.view(survey.table);
             put_full_nodes(alloc, out, sink, view, &survey.nodes)
         }
         _ => {
@@ -55,10 +51,7 @@ fn put_survey_entries<W: Sink>(
     let two = has_two(&survey.volume);
     match &survey.volume {
         Volume::Open(opened) => {
-            let view = View {
-                table: survey.table,
-                space: &opened.space,
-            };
+            let view = opened.view(survey.table);
             put_full_entries(alloc, out, sink, view, two, &survey.unnamed)
         }
         _ => {

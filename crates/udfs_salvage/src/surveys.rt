@@ -19,7 +19,6 @@ use crate::reports::{Report, all_whole, judge_last};
 use crate::volumes::{OpenVolume, Volume, open};
 use std::alloc::{AllocError, Global};
 use udfs_lattice::BlockTable;
-use udfs_space::View;
 use udfs_volume::{Profile, Seen};
 use udfs_walk::unnamed_entries::bare_unnamed;
 use udfs_walk::{Node, NodesError, Unnamed, bare_nodes, bare_reread, full_entries, full_nodes};
@@ -62,10 +61,7 @@ pub(crate) fn list(
     ensures nodes { IfOk result (λ listed. AreNodes (view (state_of table.now) opened.now.space) opened.now.root (map (full_node (view (state_of table.now) opened.now.space)) listed.items)) }
     ensures refused { IfErr result (IsWalkRefused (state_of table.now) (found_now opened.now)) }
 {
-    let view = View {
-        table,
-        space: &opened.space,
-    };
+    let view = opened.view(table);
     match bare_nodes(alloc, view, opened.root) {
         Ok(listed) => Ok(listed),
         Err(NodesError::TooManyPaths) => Err(SalvageError::TooManyPaths),
@@ -90,10 +86,7 @@ fn survey_open<'a>(
     ensures refused { IfErr result (IsWalkRefused (state_of table.now) (found_now opened)) }
 {
     let listed = list(alloc, table, &opened)?;
-    let view = View {
-        table,
-        space: &opened.space,
-    };
+    let view = opened.view(table);
     let unnamed = bare_unnamed(alloc, view, &listed)?;
     let reread = bare_reread(alloc, view, &listed)?;
     Ok(Survey {
@@ -186,10 +179,7 @@ fn filled<'a>(alloc: Global, survey: Survey<'a>) -> Result<Report<'a>, SalvageEr
     } = survey;
     match volume {
         Volume::Open(opened) => {
-            let view = View {
-                table,
-                space: &opened.space,
-            };
+            let view = opened.view(table);
             let nodes = full_nodes(alloc, view, nodes)?;
             let unnamed = full_entries(alloc, view, unnamed)?;
             Ok(Report {

@@ -18,7 +18,6 @@ use crate::volumes::Volume;
 use std::alloc::Global;
 use udfs_file::Kind;
 use udfs_reading::{Outgoing, Sink};
-use udfs_space::View;
 use udfs_walk::Unnamed;
 
 /// Whether an entry that no name leads to is a lost file: a file with data that is whole.
@@ -73,10 +72,7 @@ pub fn extract_unnamed_by<W: Sink>(
         Volume::Open(opened) => {
             let address = entry.icb();
             let mut out = Outgoing::new();
-            let view = View {
-                table: report.table,
-                space: &opened.space,
-            };
+            let view = opened.view(report.table);
             write_at(alloc, view, address, 0, &mut out, sink)
         }
         _ => Err(ExtractError::NotWhole),

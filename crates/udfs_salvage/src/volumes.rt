@@ -12,7 +12,7 @@ ghost use Rattle.udfs_salvage.specs.Found.{found_now, placed, rooted, volume_by}
 use std::alloc::Global;
 use udfs_file::file_set;
 use udfs_lattice::BlockTable;
-use udfs_space::Space;
+use udfs_space::{Space, View};
 use udfs_tag::LongAd;
 use udfs_volume::layouts::layout_by;
 use udfs_volume::{Profile, Seen, VolumeFault, VolumeParts};
@@ -26,6 +26,22 @@ pub struct OpenVolume {
     pub space: Space,
     /// Where the information control block of the root directory is said to stand.
     pub root: LongAd,
+}
+
+impl OpenVolume {
+    ghost use Rattle.udfs_space.specs.Places.{view};
+    ghost use Rattle.udfs_space.specs.Views.{view_now};
+
+    /// The volume as its files are looked for: what a table knows, and where the blocks of the partitions stand. It takes no memory.
+    pub fn view<'a>(&'a self, table: &'a BlockTable) -> View<'a>
+        ensures value { view_now result ≡ view (state_of table.now) self.now.space }
+        ensures space { result.space.now ≡ self.now.space }
+    {
+        View {
+            table,
+            space: &self.space,
+        }
+    }
 }
 
 /// What is found of a volume before its files are looked at.

@@ -22,7 +22,7 @@ returns-in-Open-clause-cells g c = λ profile last n is at offered.
       k.0,
       k.1,
       subst (λ x. Extracts (W.stream c.args.sink.now) (W.stream c.write_at.new.sink) (filled x k.0) c.write_at.result) c.fill_byte-byte.ensures
-          (c.write_at.ensures.cells k.0 (subst (λ a. HasCells v a k.0) (sym icb) k.2)),
+          (c.write_at.ensures.cells k.0 (subst (λ w. HasCells w c.node.inside.icb k.0) (sym c.view-view.ensures.value) (subst (λ a. HasCells v a k.0) (sym icb) k.2))),
     )
 
 pub returns-in-Open-clause-not_whole : goal.returns-in-Open-clause-not_whole
@@ -44,7 +44,7 @@ returns-in-Open-clause-stated g c = λ f n cs opens at offered has.
     let icb : c.node.inside.icb ≡ n.icb = ap (λ m. m.icb) (c.node.view_is ∙ same) in
     let opened : found_now c.in-Open.opened ≡ f = found_same _ _ (sym (ap volume_now c.in-Open.is) ∙ opens) in
     subst (λ x. Extracts (W.stream c.args.sink.now) (W.stream c.write_at.new.sink) (filled x cs) c.write_at.result) c.fill_byte-byte.ensures
-    (c.write_at.ensures.cells cs (subst (λ a. HasCells (view b c.in-Open.opened.space) a cs) (sym icb) (subst (λ h. HasCells (view b h.space) n.icb cs) (sym opened) has)))
+    (c.write_at.ensures.cells cs (subst (λ v. HasCells v c.node.inside.icb cs) (sym c.view-view.ensures.value) (subst (λ a. HasCells (view b c.in-Open.opened.space) a cs) (sym icb) (subst (λ h. HasCells (view b h.space) n.icb cs) (sym opened) has))))
 
 pub returns-in-Open-clause-wanted : goal.returns-in-Open-clause-wanted
 returns-in-Open-clause-wanted g c = λ f n opens at refused.
@@ -53,7 +53,7 @@ returns-in-Open-clause-wanted g c = λ f n opens at refused.
     let same = same_node r.nodes.items c.args.index n c.index-node.result.now at c.index-node.ensures in
     let icb : c.node.inside.icb ≡ n.icb = ap (λ m. m.icb) (c.node.view_is ∙ same) in
     let opened : found_now c.in-Open.opened ≡ f = found_same _ _ (sym (ap volume_now c.in-Open.is) ∙ opens) in
-    subst (λ h. MayTakeMemory (view b h.space) n.icb) opened (subst (λ a. MayTakeMemory (view b c.in-Open.opened.space) a) icb (c.write_at.ensures.wanted refused))
+    subst (λ h. MayTakeMemory (view b h.space) n.icb) opened (subst (λ a. MayTakeMemory (view b c.in-Open.opened.space) a) icb (subst (λ v. MayTakeMemory v c.node.inside.icb) c.view-view.ensures.value (c.write_at.ensures.wanted refused)))
 
 pub returns-in-Open-clause-tree : goal.returns-in-Open-clause-tree
 returns-in-Open-clause-tree g c = λ profile last n is at whole.

@@ -23,7 +23,7 @@ returns-in-Open-clause-cells g c = λ profile last u is are at lost.
     let address : c.icb-address.result ≡ address_of (icb_at u.reference u.block) = c.icb-address.ensures ∙ ap (λ (w : Unnamed). address_of (icb_at w.reference w.block)) same in (
       k.0,
       k.1,
-      c.write_at.ensures.cells k.0 (subst (λ a. HasCells (view b c.in-Open.opened.space) a k.0) (sym address) k.2),
+      c.write_at.ensures.cells k.0 (subst (λ v. HasCells v c.icb-address.result k.0) (sym c.view-view.ensures.value) (subst (λ a. HasCells (view b c.in-Open.opened.space) a k.0) (sym address) k.2)),
     )
 
 pub returns-in-Open-clause-not_whole : goal.returns-in-Open-clause-not_whole

@@ -22,7 +22,7 @@ returns-in-Open-clause-cells g c = λ profile last n is at offered.
       k.0,
       k.1,
       subst (λ x. Extracts (W.stream c.args.sink.now) (W.stream c.write_at.new.sink) (filled x k.0) c.write_at.result) c.fill_byte-byte.ensures
-          (c.write_at.ensures.cells k.0 (subst (λ a. HasCells v a k.0) (sym icb) k.2)),
+          (c.write_at.ensures.cells k.0 (subst (λ w. HasCells w c.node.inside.icb k.0) (sym c.view-view.ensures.value) (subst (λ a. HasCells v a k.0) (sym icb) k.2))),
     )
 
 pub returns-in-Open-clause-not_whole : goal.returns-in-Open-clause-not_whole
