@@ -1,5 +1,5 @@
--- What a command says of an input that could not be read.
-use Rattle.std.specs.Prelude.{ℕ, Option, Some, None, alloc_error}
+-- What a command says of an input that could not be read, and of an output that was not put.
+use Rattle.std.specs.Prelude.{◌≡◌, ◌⊎◌, ℕ, Option, Some, None, alloc_error}
 use Rattle.udfs_reading.specs.declared.inputs.InputError.{InputError}
 use Rattle.udfs_reading.specs.declared.error.ReadingFault.{ReadingFault}
 use Rattle.udfs_reading.specs.declared.error.ReadingFault.TheVariants.{OutOfMemory}
@@ -10,7 +10,7 @@ use Rattle.udfs_salvage.specs.declared.errors.RunError.TheVariants as run
 use Rattle.udfs_salvage.specs.declared.errors.SalvageError.{SalvageError}
 use Rattle.udfs_salvage.specs.declared.errors.SalvageError.TheVariants as salvage
 use Rattle.udfs_common.specs.declared.refusal.Refusal.{Refusal}
-use Rattle.udfs_common.specs.declared.refusal.Refusal.TheVariants.{Input, Mapfile, ImageEnds, Output, LastRange, PastEnd, TooManyPaths, Memory}
+use Rattle.udfs_common.specs.declared.refusal.Refusal.TheVariants.{Input, Mapfile, ImageEnds, Output, Unkept, LastRange, PastEnd, TooManyPaths, Memory}
 use Rattle.udfs_common.specs.declared.sources.AnySource.{AnySource}
 use Rattle.udfs_common.specs.declared.sources.AnySource.TheVariants.{File, Paired, Refused}
 
@@ -50,3 +50,7 @@ run_refusal_of (run.Reading error) = refusal_of error
 run_refusal_of (run.Salvage error) = salvage_refusal_of error
 run_refusal_of run.Write = Output
 run_refusal_of run.OutOfMemory = Memory alloc_error
+
+-- an output was not put: memory was refused, or a call failed
+abbrev pub IsUnput : Type 0 → Refusal → Type 0
+IsUnput Failed refusal = (refusal ≡ Memory alloc_error) ⊎ (((refusal ≡ Output) ⊎ (refusal ≡ Unkept)) × Failed)
