@@ -1,12 +1,12 @@
--- What a command says of an input that could not be read.
-use Rattle.std.specs.Prelude.{ℕ, Option, Some, None, alloc_error}
+-- What a command says of an input that could not be read, and of an output that was not put.
+use Rattle.std.specs.Prelude.{◌≡◌, ◌⊎◌, ℕ, Option, Some, None, alloc_error}
 use Rattle.udfs_reading.specs.declared.inputs.InputError.{InputError}
 use Rattle.udfs_reading.specs.declared.error.ReadingFault.{ReadingFault}
 use Rattle.udfs_reading.specs.declared.error.ReadingFault.TheVariants.{OutOfMemory}
 use Rattle.udfs_rescue.specs.declared.opening.PairFault.{PairFault}
 use Rattle.udfs_rescue.specs.declared.opening.PairFault.TheVariants as pair
 use Rattle.udfs_common.specs.declared.refusal.Refusal.{Refusal}
-use Rattle.udfs_common.specs.declared.refusal.Refusal.TheVariants.{Input, Mapfile, ImageEnds, Memory}
+use Rattle.udfs_common.specs.declared.refusal.Refusal.TheVariants.{Input, Mapfile, ImageEnds, Output, Unkept, Memory}
 use Rattle.udfs_common.specs.declared.sources.AnySource.{AnySource}
 use Rattle.udfs_common.specs.declared.sources.AnySource.TheVariants.{File, Paired, Refused}
 
@@ -32,3 +32,7 @@ refusal_for (Some (Refused fault count)) error = refused_pair error.input fault
 refusal_for (Some (File source)) error = refusal_of error
 refusal_for (Some (Paired source)) error = refusal_of error
 refusal_for None error = refusal_of error
+
+-- an output was not put: memory was refused, or a call failed
+abbrev pub IsUnput : Type 0 → Refusal → Type 0
+IsUnput Failed refusal = (refusal ≡ Memory alloc_error) ⊎ (((refusal ≡ Output) ⊎ (refusal ≡ Unkept)) × Failed)

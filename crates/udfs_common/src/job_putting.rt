@@ -1,9 +1,10 @@
 //! What a job writes is put at a path, or written to what is there and is no file.
 
-ghost use Rattle.std.specs.Prelude.{◌≡◌, ◌≢◌, ◌⊎◌, ℕ, List, [], Some, IfOk, IfErr, OnOk, OnErr, IsErrOf, alloc_error};
+ghost use Rattle.std.specs.Prelude.{◌≡◌, ◌≢◌, ◌⊎◌, ℕ, List, [], Some, IfOk, IfErr, OnOk, OnErr, IsErrOf};
 ghost use Rattle.udfs_files.specs.Disk.{Disk, After, IsOwn, Replaced, Fails, SinkFails};
 ghost use Rattle.udfs_common.specs.Jobs.{AreOnly, IsDone};
 ghost use Rattle.udfs_common.specs.Keeping.{FailedOut, IsKept, RefusedOut};
+ghost use Rattle.udfs_common.specs.Refusing.{IsUnput};
 
 use crate::files::Files;
 use crate::refusal::Refusal;
@@ -40,7 +41,7 @@ pub fn put_job<F: Files, J: Job>(
     ensures left { OnErr result ((bytes : List ℕ) → (F.tells → AreOnly (λ b. J.wrote job.now (Some []) (Some b)) bytes) →
         RefusedOut F.tells F.holds F.real F.in_place (F.shut files.old out.now ⊎ Fails F.faults ⊎ SinkFails F.Output.stream) out.now files.old files.new (λ Put. Put bytes)) }
     ensures told { IfErr result (λ refusal. refusal ≢ Refusal.Spared) }
-    ensures why { IfErr result (λ refusal. (refusal ≡ Refusal.Memory alloc_error) ⊎ (((refusal ≡ Refusal.Output) ⊎ (refusal ≡ Refusal.Unkept)) × (F.shut files.old out.now ⊎ Fails F.faults ⊎ SinkFails F.Output.stream))) }
+    ensures why { IfErr result (IsUnput (F.shut files.old out.now ⊎ Fails F.faults ⊎ SinkFails F.Output.stream)) }
 {
     files.begin(Stage::Writing);
     let target = match files.resolve(alloc, out) {

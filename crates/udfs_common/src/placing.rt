@@ -3,7 +3,7 @@
 ghost use Rattle.std.specs.Prelude.{◌≡◌, ◌≢◌, ◌⊎◌, ◌++◌, ◌≤◌, ℕ, List, true, false, Some, None, IfOk, IfErr, OnOk, IsErrOf, length, map, string_bytes, alloc_error};
 ghost use Rattle.udfs_files.specs.Disk.{Fails, IsOwn};
 ghost use Rattle.udfs_files.specs.declared.files.Kind.{Kind};
-ghost use Rattle.udfs_common.specs.Guarding.{AreInTheWay, HaveNoPlace, NoneLeads, IsApart, IsFreePair, IsSparedPair, SomeLeads};
+ghost use Rattle.udfs_common.specs.Guarding.{AreInTheWay, HaveNoPlace, NoneLeads, IsApart, IsFreePair, IsSparedPair, SomeLeads, SomeShut};
 
 use crate::files::Files;
 use crate::guard::is_among;
@@ -117,6 +117,7 @@ fn none_leads<F: Files>(
     ensures none { OnOk result (F.tells → NoneLeads (F.real files.now) place.now (map (λ path. path.now) paths.now)) }
     ensures some { IsErrOf result Refusal.Spared → F.tells → SomeLeads (F.real files.now) place.now (map (λ path. path.now) paths.now) }
     ensures told { IfErr result (λ refusal. (refusal ≡ Refusal.Output) ⊎ (refusal ≡ Refusal.Spared) ⊎ (refusal ≡ Refusal.Memory alloc_error)) }
+    ensures cause { IsErrOf result Refusal.Output → SomeShut (F.shut files.now) (map (λ path. path.now) paths.now) }
 {
     match is_among(alloc, paths, place, files) {
         Ok(Ok(false)) => Ok(()),
@@ -138,6 +139,7 @@ pub fn is_no_input<F: Files>(
     ensures parts { OnOk result (F.tells → NoneLeads (F.real files.now) place.now (map (λ path. path.now) parts.now)) }
     ensures some { IsErrOf result Refusal.Spared → F.tells → SomeLeads (F.real files.now) place.now (map (λ path. path.now) parts.now) ⊎ SomeLeads (F.real files.now) place.now (map (λ path. path.now) inputs.now) }
     ensures told { IfErr result (λ refusal. (refusal ≡ Refusal.Output) ⊎ (refusal ≡ Refusal.Spared) ⊎ (refusal ≡ Refusal.Memory alloc_error)) }
+    ensures cause { IsErrOf result Refusal.Output → SomeShut (F.shut files.now) (map (λ path. path.now) parts.now) ⊎ SomeShut (F.shut files.now) (map (λ path. path.now) inputs.now) }
 {
     match none_leads(alloc, parts, place, files) {
         Ok(()) => {}
@@ -163,6 +165,7 @@ pub fn look_at_both<F: Files>(
     ensures free { OnOk result (F.tells → IsFreePair (F.holds files.now) (F.real files.now) (map (λ path. path.now) inputs.now) (map (λ path. path.now) parts.now) force image.now mapfile.now) }
     ensures spared { IsErrOf result Refusal.Spared → F.tells → IsSparedPair (F.real files.now) (F.in_place files.now) (map (λ path. path.now) inputs.now) (map (λ path. path.now) parts.now) force image.now mapfile.now }
     ensures told { IfErr result (λ refusal. (refusal ≡ Refusal.Output) ⊎ (refusal ≡ Refusal.Spared) ⊎ (refusal ≡ Refusal.Memory alloc_error)) }
+    ensures cause { IsErrOf result Refusal.Output → F.shut files.now image.now ⊎ F.shut files.now mapfile.now ⊎ SomeShut (F.shut files.now) (map (λ path. path.now) parts.now) ⊎ SomeShut (F.shut files.now) (map (λ path. path.now) inputs.now) }
 {
     let places = match find_places(alloc, image, mapfile, force, files) {
         Ok(places) => places,

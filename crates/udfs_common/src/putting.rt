@@ -1,8 +1,9 @@
 //! A file is put at a path, or written to what is there and is no file.
 
-ghost use Rattle.std.specs.Prelude.{◌≡◌, ◌≢◌, ◌⊎◌, ℕ, List, Some, IfErr, OnOk, OnErr, IsErrOf, alloc_error};
+ghost use Rattle.std.specs.Prelude.{◌≡◌, ◌≢◌, ◌⊎◌, ℕ, List, Some, IfErr, OnOk, OnErr, IsErrOf};
 ghost use Rattle.udfs_files.specs.Disk.{Disk, After, IsOwn, Replaced, Fails, SinkFails};
 ghost use Rattle.udfs_common.specs.Keeping.{IsKept, IsTaken, RefusedOut};
+ghost use Rattle.udfs_common.specs.Refusing.{IsUnput};
 
 use crate::files::Files;
 use crate::refusal::Refusal;
@@ -31,7 +32,7 @@ pub fn put_file<F: Files, C: Content>(
     // A refusal leaves all as it was; or a call failed, and then the path holds what it held or the new file, whole.
     ensures left { OnErr result (RefusedOut F.tells F.holds F.real F.in_place (F.shut files.old out.now ⊎ Fails F.faults ⊎ SinkFails F.Output.stream) out.now files.old files.new (λ Put. Put (C.bytes content.now))) }
     ensures told { IfErr result (λ refusal. refusal ≢ Refusal.Spared) }
-    ensures why { IfErr result (λ refusal. (refusal ≡ Refusal.Memory alloc_error) ⊎ (((refusal ≡ Refusal.Output) ⊎ (refusal ≡ Refusal.Unkept)) × (F.shut files.old out.now ⊎ Fails F.faults ⊎ SinkFails F.Output.stream))) }
+    ensures why { IfErr result (IsUnput (F.shut files.old out.now ⊎ Fails F.faults ⊎ SinkFails F.Output.stream)) }
 {
     files.begin(Stage::Writing);
     let target = match files.resolve(alloc, out) {

@@ -10,11 +10,12 @@ use Rattle.udfs_salvage.specs.TreeReports.{IsOfNoLawfulBy}
 use Rattle.udfs_salvage.specs.declared.errors.RunError.{RunError}
 use Rattle.udfs_salvage.specs.declared.errors.SalvageError.{SalvageError}
 use Rattle.udfs_salvage.specs.declared.errors.SalvageError.TheVariants.{LastRange, OutOfMemory, PastEnd, TooManyPaths}
+use Rattle.udfs_common.specs.Refusing.{IsUnput}
 use Rattle.udfs_remarks.specs.NoReports.{run_refusal_of, salvage_refusal_of}
 use Rattle.udfs_common.specs.declared.refusal.Refusal.{Refusal}
 use Rattle.udfs_common.specs.declared.refusal.Refusal.TheVariants.{Memory, Output}
 use Rattle.udfs_reports.specs.Rereading.{IsRefusedDomain, domain_line}
-use Rattle.udfs_reports.specs.Telling.{IsRefusedTelling, IsUnput, IsUntold}
+use Rattle.udfs_reports.specs.Telling.{IsRefusedTelling, IsUntold}
 
 pub untold : (profile : Profile) (table : Table) (last : ℕ) (e : SalvageError) → (e ≡ LastRange → IsOutOfRange last) → ((n : ℕ) → e ≡ PastEnd n → (¬ IsOutOfRange last) × IsPastEnd (state_of table) last n) →
     (e ≡ TooManyPaths → (¬ IsOutOfRange last) × IsNothingPast (state_of table) last × HasTooManyPathsBy profile (state_of table) last) → IsOfNoLawfulBy profile (state_of table) last e → IsUntold profile last (salvage_refusal_of e) table

@@ -3,7 +3,6 @@
 --     HasNoReport          the table has no report, and this is said of it
 --     IsUntold             the same, or memory was refused
 --     IsRefusedTelling     a text of the table's report was not printed, or a beginning of it, and why
---     IsUnput              a file was not put, because a call failed or memory was refused
 --     IsRefusedPut         the file of the table's report was not put, and why
 --     OfPathsRefused       the inputs of some paths were not joined, and why; or this holds of their join
 --     EndOrPathsRefused    the same where the words tell the last block and the rules, or there is no last block
@@ -25,9 +24,10 @@ use Rattle.udfs_words.specs.Asking.{Asked, IsLast, IsProfile, asked_for}
 use Rattle.udfs_words.specs.declared.input_path.InputPath.{InputPath}
 use Rattle.udfs_common.specs.Blaming.{EndRefused, InputsRefused}
 use Rattle.udfs_common.specs.Keeping.{OfPaths}
+use Rattle.udfs_common.specs.Refusing.{IsUnput}
 use Rattle.udfs_remarks.specs.NoReports.{run_refusal_of, salvage_refusal_of}
 use Rattle.udfs_common.specs.declared.refusal.Refusal.{Refusal}
-use Rattle.udfs_common.specs.declared.refusal.Refusal.TheVariants.{Memory, Output, Unkept}
+use Rattle.udfs_common.specs.declared.refusal.Refusal.TheVariants.{Memory}
 use Rattle.udfs_common.specs.declared.sources.AnySource.{AnySource}
 
 -- a text of the table's report was printed, of which all holds that is promised of reports, and the answer is whether there are nodes and all are whole
@@ -59,10 +59,6 @@ pub record StopsTelling (text : Profile → Table → ℕ → Report → List �
 -- nothing was printed, or a beginning
 abbrev pub IsRefusedTelling : (Profile → Table → ℕ → Report → List ℕ) → Profile → ℕ → Stream → Stream → Refusal → Table → Type 0
 IsRefusedTelling text profile last old new refusal table = ((new ≡ old) × IsUntold profile last refusal table) ⊎ StopsTelling text profile last old new refusal table
-
--- a call that puts a file failed, or memory was refused
-abbrev pub IsUnput : Type 0 → Refusal → Type 0
-IsUnput Failed refusal = (refusal ≡ Memory alloc_error) ⊎ (((refusal ≡ Output) ⊎ (refusal ≡ Unkept)) × Failed)
 
 -- there was no report whose file could be put, or it was not put
 abbrev pub IsRefusedPut : Type 0 → Profile → ℕ → Refusal → Table → Type 0

@@ -7,7 +7,8 @@ ghost use Rattle.udfs_reading.specs.Writing.{Failed, Wrote};
 ghost use Rattle.udfs_rescue.specs.Writing.{domain_text};
 ghost use Rattle.udfs_common.specs.Keeping.{IsKept, IsTaken, OfPaths, RefusedOut};
 ghost use Rattle.udfs_reports.specs.Rereading.{IsDomain, IsRefusedDomain, MayDomain, MayDomainOf, PrintsDomain, breaks, domain_line, runs_in};
-ghost use Rattle.udfs_reports.specs.Telling.{IsUnput, OfPathsRefused};
+ghost use Rattle.udfs_reports.specs.Telling.{OfPathsRefused};
+ghost use Rattle.udfs_common.specs.Refusing.{IsUnput};
 ghost use Rattle.udfs_common.specs.declared.sources.AnySource.{AnySource};
 
 use crate::reread::listed;

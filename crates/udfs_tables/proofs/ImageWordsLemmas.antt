@@ -6,12 +6,11 @@ use Rattle.udfs_files.specs.Disk.{Disk}
 use Rattle.udfs_words.specs.Asking.{IsLast, asked_for, asked_streams, mapfile_text, out_text}
 use Rattle.udfs_common.specs.Keeping.{OfPaths}
 use Rattle.udfs_lattice.specs.Tables.{Table}
-use Rattle.udfs_common.specs.Blaming.{InputsRefused}
 use Rattle.udfs_common.specs.declared.refusal.Refusal.{Refusal}
 use Rattle.udfs_common.specs.declared.refusal.Refusal.TheVariants.{Memory, Output, Spared}
 use Rattle.udfs_common.specs.declared.sources.AnySource.{AnySource}
 use Rattle.udfs_tables.specs.Imaging.{HasImage, ImageAskedRefused, ImageRefused, ImageUnput, MayImage, MayImageAsked, WritesImage}
-use Rattle.udfs_tables.specs.Refused.{IsUnput}
+use Rattle.udfs_common.specs.Refusing.{IsUnput}
 use Rattle.udfs_words.specs.declared.input_path.InputPath.{InputPath}
 
 pub may_image : {R : Type 0} (found : List ℕ → Option (Option (List ℕ))) (remaining : R → Option (List ℕ)) (real : List ℕ → List ℕ) (words : Found) (inputs : List InputPath) (last : ℕ) (d c : Disk) →

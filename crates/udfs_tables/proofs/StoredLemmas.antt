@@ -11,7 +11,7 @@ use Rattle.udfs_reading.specs.Answers.{GivesFault, RefusesFaulty}
 use Rattle.udfs_reading.specs.Inputs.{inputs}
 use Rattle.udfs_reading.specs.Several.{HasTable, InputFails, TablesAre}
 use Rattle.udfs_reading.specs.declared.inputs.InputError.{InputError}
-use Rattle.udfs_common.specs.Blaming.{AreJudged, AreJudgedFor, BlamesInput, InputsRefused, IsJudged, IsJudgedFor, IsPathRefused, IsShut, source_reason, stored_reason}
+use Rattle.udfs_common.specs.Blaming.{AreJudgedFor, BlamesInput, InputsRefused, IsJudged, IsJudgedFor, IsShut, source_reason, stored_reason}
 use Rattle.udfs_common.specs.Keeping.{FailedOut, Joined, Opens, RefusedOut}
 use Rattle.udfs_common.specs.Refusing.{refusal_for}
 use Rattle.udfs_common.specs.Sources.{IsPathOpened, left_in}

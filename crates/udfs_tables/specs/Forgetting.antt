@@ -21,7 +21,7 @@ use Rattle.udfs_common.specs.Spelling.{table_file}
 use Rattle.udfs_common.specs.declared.refusal.Refusal.{Refusal}
 use Rattle.udfs_common.specs.declared.refusal.Refusal.TheVariants.{ListLine, ListOpen, ListRead, Memory}
 use Rattle.udfs_common.specs.declared.sources.AnySource.{AnySource}
-use Rattle.udfs_tables.specs.Refused.{IsUnput}
+use Rattle.udfs_common.specs.Refusing.{IsUnput}
 use Rattle.udfs_words.specs.declared.forms.Version.TheVariants.{Two}
 use Rattle.udfs_words.specs.declared.input_path.InputPath.{InputPath}
 

@@ -21,7 +21,7 @@ use Rattle.udfs_common.specs.Keeping.{OfPaths}
 use Rattle.udfs_common.specs.declared.refusal.Refusal.{Refusal}
 use Rattle.udfs_common.specs.declared.refusal.Refusal.TheVariants.{LastRange, PastEnd, Spared}
 use Rattle.udfs_common.specs.declared.sources.AnySource.{AnySource}
-use Rattle.udfs_tables.specs.Refused.{IsUnput}
+use Rattle.udfs_common.specs.Refusing.{IsUnput}
 use Rattle.udfs_words.specs.declared.input_path.InputPath.{InputPath}
 
 -- where an image a and a mapfile b were, are x and y: as they were; or no mapfile, beside the old image or the new one; or the new image and the new mapfile

@@ -3,3 +3,4 @@ pub mod Leaving
 pub mod Indexing
 pub mod Imaging
 pub mod Refused
+pub mod Merging

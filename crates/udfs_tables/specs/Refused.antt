@@ -7,7 +7,6 @@
 --     IsUncompared, IsUnread         bytes of one of so many inputs could not be read again, to be compared or to be written
 --     StoredRefused                  so many inputs that are read at positions were not taken, and why
 --     MergeRefused                   the inputs of some paths were not merged, and why
---     IsUnput                        an output was not put, because a call failed or memory was refused
 --     WordsRefused                   a command was refused by its words, and why
 use Rattle.std.specs.Prelude.{◌≡◌, ◌⊎◌, ◌<◌, ◌+◌, ℕ, List, ◌∷◌, ◌++◌, Option, None, Some, Err, alloc_error, length, map}
 use Rattle.udfs_lattice.specs.Tables.{Table}
@@ -81,10 +80,6 @@ StoredRefused content reason stored r = (r ≡ refusal.Memory alloc_error) ⊎ B
 -- memory was refused; or one of the paths is shut, and it is named; or what it leads to has no table, and why; or bytes of an input could not be read again
 pub record MergeRefused {R I : Type 0} (found : List ℕ → Option (Option (List ℕ))) (shut : List ℕ → Type 0) (remaining : AnySource R I → Option (List ℕ)) (paths : List InputPath) (refused : Refusal) : Type 0 where
   pub why : (refused ≡ refusal.Memory alloc_error) ⊎ IsShut shut paths refused ⊎ BlamesPath found remaining source_reason paths refused ⊎ IsUncompared (length paths) refused ⊎ IsUnread (length paths) refused
-
--- the output is said to have failed only where a call did
-abbrev pub IsUnput : Type 0 → Refusal → Type 0
-IsUnput Failed r = (r ≡ refusal.Memory alloc_error) ⊎ (((r ≡ refusal.Output) ⊎ (r ≡ refusal.Unkept)) × Failed)
 
 -- memory was refused; or the output would take the place of what is to stay; or it could not be looked at; or this is said of the inputs that the words ask for
 abbrev pub WordsRefused : Type 0 → List Asked → (List InputPath → Refusal → Type 0) → Refusal → Type 0

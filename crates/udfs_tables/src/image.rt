@@ -8,7 +8,7 @@ ghost use Rattle.udfs_rescue.specs.Images.{image_bytes};
 ghost use Rattle.udfs_rescue.specs.Writing.{map_text, table_status};
 ghost use Rattle.udfs_salvage.specs.Reports.{IsNothingPast, IsOutOfRange, IsPastEnd};
 ghost use Rattle.udfs_tables.specs.Imaging.{BothReplaced, HasImage, ImageRefused, ImageUnput, MayImage, Stands};
-ghost use Rattle.udfs_tables.specs.Refused.{IsUnput};
+ghost use Rattle.udfs_common.specs.Refusing.{IsUnput};
 ghost use Rattle.udfs_common.specs.Guarding.{HaveNoPlace, IsApart};
 ghost use Rattle.udfs_common.specs.Keeping.{IsKept, OfPaths};
 ghost use Rattle.udfs_common.specs.declared.sources.AnySource.{AnySource};

@@ -1,10 +1,10 @@
 //! What the words after `image` ask for.
 
-ghost use Rattle.std.specs.Prelude.{◌≡◌, ◌⊎◌, ⊤, Bool, true, false, IfErr, IsErrOf, OnOk, alloc_error, codes};
+ghost use Rattle.std.specs.Prelude.{◌≡◌, ◌⊎◌, Bool, true, false, IfErr, IsErrOf, OnOk, alloc_error, codes};
 ghost use Rattle.clap.specs.Matches.{found_of};
 ghost use Rattle.udfs_files.specs.Disk.{Fails, SinkFails};
 ghost use Rattle.udfs_words.specs.Asking.{IsPicked, asked_streams, input_texts, mapfile_text, out_text, pair_texts};
-ghost use Rattle.udfs_common.specs.Guarding.{IsFreePair, IsSparedPair};
+ghost use Rattle.udfs_common.specs.Guarding.{IsFreePair, IsSparedPair, SomeShut};
 ghost use Rattle.udfs_tables.specs.Imaging.{ImageAskedRefused, ReplacesPair, WritesImage};
 ghost use Rattle.udfs_tables.specs.Refused.{WordsRefused};
 ghost use Rattle.udfs_common.specs.Keeping.{IsKept};
@@ -46,6 +46,7 @@ fn look_at_asked<F: Files>(
     ensures free { OnOk result (F.tells → IsFreePair (F.holds files.now) (F.real files.now) (input_texts (found_of words.now)) (pair_texts (found_of words.now)) outputs.entry.force outputs.entry.image.now outputs.entry.mapfile.now) }
     ensures spared { IsErrOf result Refusal.Spared → F.tells → IsSparedPair (F.real files.now) (F.in_place files.now) (input_texts (found_of words.now)) (pair_texts (found_of words.now)) outputs.entry.force outputs.entry.image.now outputs.entry.mapfile.now }
     ensures told { IfErr result (λ refusal. (refusal ≡ Refusal.Output) ⊎ (refusal ≡ Refusal.Spared) ⊎ (refusal ≡ Refusal.Memory alloc_error)) }
+    ensures cause { IsErrOf result Refusal.Output → F.shut files.now outputs.entry.image.now ⊎ F.shut files.now outputs.entry.mapfile.now ⊎ SomeShut (F.shut files.now) (pair_texts (found_of words.now)) ⊎ SomeShut (F.shut files.now) (input_texts (found_of words.now)) }
 {
     let inputs = words.get_strs(INPUTS).unwrap_or(&[]);
     let parts = words.get_strs(PAIRS).unwrap_or(&[]);
@@ -81,7 +82,7 @@ pub fn image_words<F: Files>(
     ensures spared { IsErrOf result Refusal.Spared → (force : Bool) × IsPicked (found_of words.now) (codes "force") true false force × (F.tells → IsSparedPair (F.real files.old) (F.in_place files.old) (input_texts (found_of words.now)) (pair_texts (found_of words.now)) force (out_text (found_of words.now)) (mapfile_text (found_of words.now))) }
     // Why it is refused: the outputs are spared or could not be looked at, or the last block or the inputs are to blame, or the last block is out of range, or something is known behind it,
     // or the image or its mapfile was not put.
-    ensures why { IfErr result (WordsRefused ⊤ (asked_streams (found_of words.now))
+    ensures why { IfErr result (WordsRefused (F.shut files.old (out_text (found_of words.now)) ⊎ F.shut files.old (mapfile_text (found_of words.now)) ⊎ SomeShut (F.shut files.old) (pair_texts (found_of words.now)) ⊎ SomeShut (F.shut files.old) (input_texts (found_of words.now))) (asked_streams (found_of words.now))
         (ImageAskedRefused (λ path. F.holds files.old (F.real files.old path)) (F.shut files.old) (⟦<AnySource<F::Input, F::Image> as Source>⟧.remaining) (⟦<AnySource<F::Input, F::Image> as Source>⟧.faults) (F.shut files.old (out_text (found_of words.now)) ⊎ F.shut files.old (mapfile_text (found_of words.now)) ⊎ Fails F.faults ⊎ SinkFails F.Output.stream) (found_of words.now))) }
 {
     let Ok(inputs) = asked_streams(alloc, words) else {

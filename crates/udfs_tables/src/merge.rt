@@ -1,15 +1,13 @@
 //! The command `merge`: readings and table files in, one table file out.
 
-ghost use Rattle.std.specs.Prelude.{◌≡◌, ◌≢◌, ◌⊎◌, ◌<◌, ℕ, List, Some, IfOk, IfErr, OnErr, OnOk, IsErrOf};
-ghost use Rattle.udfs_files.specs.Disk.{Disk, After, IsOwn, Fails, SinkFails};
-ghost use Rattle.udfs_lattice.specs.Tables.{Table};
-ghost use Rattle.udfs_lattice.specs.Records.{join_all};
+ghost use Rattle.std.specs.Prelude.{◌≡◌, ◌≢◌, ◌⊎◌, IfOk, IfErr, OnErr, OnOk, IsErrOf};
 ghost use Rattle.udfs_reading.specs.Writing.{Writes};
 ghost use Rattle.udfs_common.specs.Blaming.{InputsRefused};
-ghost use Rattle.udfs_common.specs.Keeping.{Joined, IsKept, IsTaken, MayReplace, OfPaths, RefusedOut};
+ghost use Rattle.udfs_common.specs.Keeping.{OfPaths};
+ghost use Rattle.udfs_common.specs.Refusing.{IsUnput};
 ghost use Rattle.udfs_common.specs.Spelling.{table_file};
 ghost use Rattle.udfs_tables.specs.Indexing.{IsReread};
-ghost use Rattle.udfs_tables.specs.Refused.{IsUnput, MergeRefused};
+ghost use Rattle.udfs_tables.specs.Merging.{CrashesMerged, IsMerged, IsUnmerged, KeepsOthers, KeepsOut, LeavesMerge, PutFails, StandsMerged};
 
 use crate::closing::remark_on_merge;
 use crate::merge_stored::merge_stored;
@@ -71,22 +69,18 @@ fn merge_held<F: Files>(
     version: Version,
     files: &mut F,
 ) -> Result<(), Refusal>
-    ensures written { OnOk result ((tables : List Table) × Joined (λ path. F.holds files.old (F.real files.old path)) (⟦<AnySource<F::Input, F::Image> as Source>⟧.remaining) inputs.now tables ×
-        ((F.tells → IsKept (F.holds files.new) (F.may_leave files.new) (F.real files.old out.now) (table_file version (join_all tables)))
-        ⊎ (F.in_place files.old out.now × IsTaken F.Output.stream (table_file version (join_all tables))))) }
-    ensures any_moment { F.tells → (F.in_place files.old out.now → ⊥) → (c : Disk) → F.left_since files.new (F.moment files.old) c →
-        After (F.may_leave files.old) (MayReplace (λ path. F.holds files.old (F.real files.old path)) (⟦<AnySource<F::Input, F::Image> as Source>⟧.remaining) inputs.now version (F.real files.old out.now)) c }
+    ensures written { OnOk result (IsMerged F.Files F.Output.stream (⟦<AnySource<F::Input, F::Image> as Source>⟧.remaining) inputs.now out.now version files.old files.new) }
+    ensures any_moment { CrashesMerged F.Files F.Output.stream (⟦<AnySource<F::Input, F::Image> as Source>⟧.remaining) inputs.now out.now version files.old files.new }
     ensures untouched { IfErr result (λ refusal. refusal ≢ Refusal.Output → refusal ≢ Refusal.Unkept → files.new ≡ files.old) }
-    ensures refused { IsErrOf result Refusal.Output → F.tells → (F.in_place files.old out.now → ⊥) → F.holds files.new (F.real files.old out.now) ≡ F.holds files.old (F.real files.old out.now) }
-    ensures unkept { IsErrOf result Refusal.Unkept → F.tells → (tables : List Table) × Joined (λ path. F.holds files.old (F.real files.old path)) (⟦<AnySource<F::Input, F::Image> as Source>⟧.remaining) inputs.now tables ×
-        (F.holds files.new (F.real files.old out.now) ≡ Some (Some (table_file version (join_all tables)))) }
-    ensures elsewhere { F.tells → (F.in_place files.old out.now → ⊥) → (q : List ℕ) → q ≢ F.real files.old out.now → (¬ IsOwn (F.real files.old out.now) q) → F.holds files.new q ≡ F.holds files.old q }
-    ensures cause { IfErr result (λ refusal. (refusal ≡ Refusal.Output) ⊎ (refusal ≡ Refusal.Unkept) → F.shut files.old out.now ⊎ Fails F.faults ⊎ SinkFails F.Output.stream) }
-    ensures left { OnErr result (RefusedOut F.tells F.holds F.real F.in_place (F.shut files.old out.now ⊎ Fails F.faults ⊎ SinkFails F.Output.stream) out.now files.old files.new
-        (λ Put. (tables : List Table) × Joined (λ path. F.holds files.old (F.real files.old path)) (⟦<AnySource<F::Input, F::Image> as Source>⟧.remaining) inputs.now tables × Put (table_file version (join_all tables)))) }
+    ensures refused { IsErrOf result Refusal.Output → KeepsOut F.Files out.now files.old files.new }
+    ensures unkept { IsErrOf result Refusal.Unkept → StandsMerged F.Files F.Output.stream (⟦<AnySource<F::Input, F::Image> as Source>⟧.remaining) inputs.now out.now version files.old files.new }
+    ensures elsewhere { KeepsOthers F.Files out.now files.old files.new }
+    ensures cause { IfErr result (λ refusal. (refusal ≡ Refusal.Output) ⊎ (refusal ≡ Refusal.Unkept) → PutFails F.Files F.Output.stream out.now files.old) }
+    ensures left { OnErr result (LeavesMerge F.Files F.Output.stream (⟦<AnySource<F::Input, F::Image> as Source>⟧.remaining) inputs.now out.now version files.old files.new) }
     ensures told { IfErr result (λ refusal. refusal ≢ Refusal.Spared) }
-    ensures blamed { IfErr result (λ refusal. InputsRefused (λ path. F.holds files.old (F.real files.old path)) (F.shut files.old) (⟦<AnySource<F::Input, F::Image> as Source>⟧.remaining) (⟦<AnySource<F::Input, F::Image> as Source>⟧.faults) inputs.now refusal ⊎ IsUnput (F.shut files.old out.now ⊎ Fails F.faults ⊎ SinkFails F.Output.stream) refusal) }
-    ensures why { IfErr result (λ refusal. MergeRefused (λ path. F.holds files.old (F.real files.old path)) (F.shut files.old) (⟦<AnySource<F::Input, F::Image> as Source>⟧.remaining) inputs.now refusal ⊎ IsUnput (F.shut files.old out.now ⊎ Fails F.faults ⊎ SinkFails F.Output.stream) refusal) }
+    ensures blamed { IfErr result (λ refusal. InputsRefused (λ path. F.holds files.old (F.real files.old path)) (F.shut files.old) (⟦<AnySource<F::Input, F::Image> as Source>⟧.remaining) (⟦<AnySource<F::Input, F::Image> as Source>⟧.faults) inputs.now refusal ⊎
+        IsUnput (PutFails F.Files F.Output.stream out.now files.old) refusal) }
+    ensures why { IfErr result (IsUnmerged F.Files F.Output.stream (⟦<AnySource<F::Input, F::Image> as Source>⟧.remaining) inputs.now out.now version files.old files.new) }
 {
     let mut tally = match tallied(alloc, inputs, files) {
         Ok(tally) => tally,
@@ -119,30 +113,25 @@ pub fn merge<F: Files>(
     files: &mut F,
 ) -> Result<(), Refusal>
     // At `Ok` a file at the output's path holds the table file of the join of what the input paths held, and from now on each crash leaves it.
-    ensures written { OnOk result ((tables : List Table) × Joined (λ path. F.holds files.old (F.real files.old path)) (⟦<AnySource<F::Input, F::Image> as Source>⟧.remaining) inputs.now tables ×
-        ((F.tells → IsKept (F.holds files.new) (F.may_leave files.new) (F.real files.old out.now) (table_file version (join_all tables)))
-        ⊎ (F.in_place files.old out.now × IsTaken F.Output.stream (table_file version (join_all tables))))) }
+    ensures written { OnOk result (IsMerged F.Files F.Output.stream (⟦<AnySource<F::Input, F::Image> as Source>⟧.remaining) inputs.now out.now version files.old files.new) }
     // A crash at any moment of the call leaves all as it was, or with the output in its place, whole.
-    ensures any_moment { F.tells → (F.in_place files.old out.now → ⊥) → (c : Disk) → F.left_since files.new (F.moment files.old) c →
-        After (F.may_leave files.old) (MayReplace (λ path. F.holds files.old (F.real files.old path)) (⟦<AnySource<F::Input, F::Image> as Source>⟧.remaining) inputs.now version (F.real files.old out.now)) c }
+    ensures any_moment { CrashesMerged F.Files F.Output.stream (⟦<AnySource<F::Input, F::Image> as Source>⟧.remaining) inputs.now out.now version files.old files.new }
     // Any other refusal leaves all files as they were. An input that could not be read a second time was found so when a new file was begun, which is
     // removed again.
     ensures untouched { IfErr result (λ refusal. refusal ≢ Refusal.Output → refusal ≢ Refusal.Unkept → (¬ IsReread refusal) → files.new ≡ files.old) }
     // A refused output leaves what its path held.
-    ensures refused { IsErrOf result Refusal.Output → F.tells → (F.in_place files.old out.now → ⊥) → F.holds files.new (F.real files.old out.now) ≡ F.holds files.old (F.real files.old out.now) }
+    ensures refused { IsErrOf result Refusal.Output → KeepsOut F.Files out.now files.old files.new }
     // The table file is in its place where only the folder could not be synced.
-    ensures unkept { IsErrOf result Refusal.Unkept → F.tells → (tables : List Table) × Joined (λ path. F.holds files.old (F.real files.old path)) (⟦<AnySource<F::Input, F::Image> as Source>⟧.remaining) inputs.now tables ×
-        (F.holds files.new (F.real files.old out.now) ≡ Some (Some (table_file version (join_all tables)))) }
+    ensures unkept { IsErrOf result Refusal.Unkept → StandsMerged F.Files F.Output.stream (⟦<AnySource<F::Input, F::Image> as Source>⟧.remaining) inputs.now out.now version files.old files.new }
     // No other path changes, but for those of new files that are to go in its place.
-    ensures elsewhere { F.tells → (F.in_place files.old out.now → ⊥) → (q : List ℕ) → q ≢ F.real files.old out.now → (¬ IsOwn (F.real files.old out.now) q) → F.holds files.new q ≡ F.holds files.old q }
+    ensures elsewhere { KeepsOthers F.Files out.now files.old files.new }
     // It is refused only for a fault.
-    ensures cause { IfErr result (λ refusal. (refusal ≡ Refusal.Output) ⊎ (refusal ≡ Refusal.Unkept) → F.shut files.old out.now ⊎ Fails F.faults ⊎ SinkFails F.Output.stream) }
+    ensures cause { IfErr result (λ refusal. (refusal ≡ Refusal.Output) ⊎ (refusal ≡ Refusal.Unkept) → PutFails F.Files F.Output.stream out.now files.old) }
     // A refusal leaves all as it was; or a call failed, and then the path holds what it held or the new file, whole.
-    ensures left { OnErr result (RefusedOut F.tells F.holds F.real F.in_place (F.shut files.old out.now ⊎ Fails F.faults ⊎ SinkFails F.Output.stream) out.now files.old files.new
-        (λ Put. (tables : List Table) × Joined (λ path. F.holds files.old (F.real files.old path)) (⟦<AnySource<F::Input, F::Image> as Source>⟧.remaining) inputs.now tables × Put (table_file version (join_all tables)))) }
+    ensures left { OnErr result (LeavesMerge F.Files F.Output.stream (⟦<AnySource<F::Input, F::Image> as Source>⟧.remaining) inputs.now out.now version files.old files.new) }
     ensures told { IfErr result (λ refusal. refusal ≢ Refusal.Spared) }
     // The inputs were not joined, and why, or their table file was not put.
-    ensures why { IfErr result (λ refusal. MergeRefused (λ path. F.holds files.old (F.real files.old path)) (F.shut files.old) (⟦<AnySource<F::Input, F::Image> as Source>⟧.remaining) inputs.now refusal ⊎ IsUnput (F.shut files.old out.now ⊎ Fails F.faults ⊎ SinkFails F.Output.stream) refusal) }
+    ensures why { IfErr result (IsUnmerged F.Files F.Output.stream (⟦<AnySource<F::Input, F::Image> as Source>⟧.remaining) inputs.now out.now version files.old files.new) }
 {
     // Where there is no input, nothing is read again.
     if inputs.is_empty() {

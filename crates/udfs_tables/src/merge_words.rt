@@ -9,7 +9,8 @@ ghost use Rattle.udfs_common.specs.Keeping.{IsKept, IsTaken, RefusedOut};
 ghost use Rattle.udfs_common.specs.declared.sources.AnySource.{AnySource};
 ghost use Rattle.udfs_tables.specs.Indexing.{IsReread};
 ghost use Rattle.udfs_tables.specs.Leaving.{MayMerge, PutsJoin};
-ghost use Rattle.udfs_tables.specs.Refused.{IsUnput, MergeRefused, WordsRefused};
+ghost use Rattle.udfs_tables.specs.Refused.{MergeRefused, WordsRefused};
+ghost use Rattle.udfs_common.specs.Refusing.{IsUnput};
 
 use crate::merge::merge;
 use clap::ArgMatches;

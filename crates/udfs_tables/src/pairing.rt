@@ -5,7 +5,7 @@ ghost use Rattle.udfs_files.specs.Disk.{Disk, Fails, SinkFails, Goes, Gone, IsOw
 ghost use Rattle.udfs_files.specs.declared.files.Kind.{Kind};
 ghost use Rattle.udfs_tables.specs.Imaging.{BothReplaced, Stands};
 ghost use Rattle.udfs_common.specs.Guarding.{IsApart};
-ghost use Rattle.udfs_tables.specs.Refused.{IsUnput};
+ghost use Rattle.udfs_common.specs.Refusing.{IsUnput};
 
 use std::alloc::{AllocError, Global};
 use udfs_common::files::Files;

@@ -1,4 +1,5 @@
-use Rattle.std.proofs.Common.{inl, inr, rules, ⊎_elim}
+use Rattle.std.specs.Prelude.{Err}
+use Rattle.std.proofs.Common.{ap, inl, inr, rules, ⊎_elim}
 use Rattle.clap.specs.Matches.{found_of}
 use Rattle.udfs_tables.proofs.ImageWordsLemmas.{image_asked, may_image, may_stand}
 use Rattle.udfs_tables.proofs.image_words.image_words.Goals as goal
@@ -44,10 +45,15 @@ returns-in-Err-asked_end-clause-why g c = inr (inr (inr (c.as_slice-paths.result
 
 pub returns-in-Err-Output-clause-why : goal.returns-in-Err-Output-clause-why
 returns-in-Err-Output-clause-why g c =
-    ⊎_elim (λ out. inr (inr (inl (out, tt)))) (λ h. inr (inr (inr (c.as_slice-paths.result.now, search rules, inr (inl h))))) c.unwritten.ensures.blamed
+    let image = rw c.asked_outputs-outputs.ensures.image at c.in-Err-Output.ensures.cause in
+    let both = rw c.asked_outputs-outputs.ensures.mapfile at image in
+    ⊎_elim (λ out. inr (inr (inl (out, both (search rules))))) (λ h. inr (inr (inr (c.as_slice-paths.result.now, search rules, inr (inl h))))) c.unwritten.ensures.blamed
 
 pub returns-in-Err-clause-why : goal.returns-in-Err-clause-why
-returns-in-Err-clause-why g c = ⊎_elim (λ out. inr (inr (inl (out, tt)))) (λ other. ⊎_elim (λ is. inr (inl is)) (λ memory. inl memory) other) c.in-Err.ensures.told
+returns-in-Err-clause-why g c =
+    let image = rw c.asked_outputs-outputs.ensures.image at c.in-Err.ensures.cause in
+    let both = rw c.asked_outputs-outputs.ensures.mapfile at image in
+    ⊎_elim (λ out. inr (inr (inl (out, both (ap (λ x. Err x) out))))) (λ other. ⊎_elim (λ is. inr (inl is)) (λ memory. inl memory) other) c.in-Err.ensures.told
 
 pub returns-in-Err-clause-spared : goal.returns-in-Err-clause-spared
 returns-in-Err-clause-spared g c is =

@@ -85,56 +85,5 @@ pub returns-in-Ok-Err-Input-clause-why : goal.returns-in-Ok-Err-Input-clause-why
 returns-in-Ok-Err-Input-clause-why g c =
     inl (of_unread _ _ _ c.args.inputs.now (length c.args.stored.now) _ c.requires.each (c.reread.ensures.named (subst (λ n. 0 < n) (sym c.requires.each) c.requires.some)))
 
-pub returns-in-Err-Output-clause-any_moment : goal.returns-in-Err-Output-clause-any_moment
-returns-in-Err-Output-clause-any_moment g c tells place disk since =
-    let F = g.F.Files in
-    let t = c.in-Ok.ensures.table in
-    let bytes = table_file c.args.version (join_all t.0) in
-    let taken = c.index.ensures (join_all t.0) t.2 in
-    let a = c.in-Err-Output.ensures.any_moment bytes (λ tells other wrote. wrote (join_all t.0) taken.0 (any_told g.F.Stored.Stored.content (g.met.F.Files.stored_told tells)) taken.1) tells place disk since in
-    (a.0, a.1, inr (t.0, (joined_by (sources_for_any g.F.Input.Source.remaining g.F.Image.Image.bytes g.F.Stored.Stored.content g.met.F.Files.stored_as_input g.met.F.Files.stored_as_image) _ c.args.inputs.now c.args.stored.now t.0 c.requires.opened c.requires.each t.1), a.2))
-
-pub returns-in-Err-Output-clause-cause : goal.returns-in-Err-Output-clause-cause
-returns-in-Err-Output-clause-cause g c which = c.in-Err-Output.ensures.cause (inl c.in-Err-Output.field-0-is)
-
-pub returns-in-Err-Output-clause-left : goal.returns-in-Err-Output-clause-left
-returns-in-Err-Output-clause-left g c =
-    let F = g.F.Files in
-    let t = c.in-Ok.ensures.table in
-    let bytes = table_file c.args.version (join_all t.0) in
-    let taken = c.index.ensures (join_all t.0) t.2 in
-    left_wider _ _ (λ Put put. (t.0, (joined_by (sources_for_any g.F.Input.Source.remaining g.F.Image.Image.bytes g.F.Stored.Stored.content g.met.F.Files.stored_as_input g.met.F.Files.stored_as_image) _ c.args.inputs.now c.args.stored.now t.0 c.requires.opened c.requires.each t.1), put)) (c.in-Err-Output.ensures.left bytes (λ tells other wrote. wrote (join_all t.0) taken.0 (any_told g.F.Stored.Stored.content (g.met.F.Files.stored_told tells)) taken.1))
-
-pub returns-in-Err-Output-clause-why : goal.returns-in-Err-Output-clause-why
-returns-in-Err-Output-clause-why g c = inr (inr (inl refl, c.in-Err-Output.ensures.cause (inl c.in-Err-Output.field-0-is)))
-
-pub returns-in-Err-Unkept-clause-any_moment : goal.returns-in-Err-Unkept-clause-any_moment
-returns-in-Err-Unkept-clause-any_moment g c tells place disk since =
-    let F = g.F.Files in
-    let t = c.in-Ok.ensures.table in
-    let bytes = table_file c.args.version (join_all t.0) in
-    let taken = c.index.ensures (join_all t.0) t.2 in
-    let a = c.in-Err-Unkept.ensures.any_moment bytes (λ tells other wrote. wrote (join_all t.0) taken.0 (any_told g.F.Stored.Stored.content (g.met.F.Files.stored_told tells)) taken.1) tells place disk since in
-    (a.0, a.1, inr (t.0, (joined_by (sources_for_any g.F.Input.Source.remaining g.F.Image.Image.bytes g.F.Stored.Stored.content g.met.F.Files.stored_as_input g.met.F.Files.stored_as_image) _ c.args.inputs.now c.args.stored.now t.0 c.requires.opened c.requires.each t.1), a.2))
-
-pub returns-in-Err-Unkept-clause-cause : goal.returns-in-Err-Unkept-clause-cause
-returns-in-Err-Unkept-clause-cause g c which = c.in-Err-Unkept.ensures.cause (inr c.in-Err-Unkept.field-0-is)
-
-pub returns-in-Err-Unkept-clause-left : goal.returns-in-Err-Unkept-clause-left
-returns-in-Err-Unkept-clause-left g c =
-    let F = g.F.Files in
-    let t = c.in-Ok.ensures.table in
-    let bytes = table_file c.args.version (join_all t.0) in
-    let taken = c.index.ensures (join_all t.0) t.2 in
-    left_wider _ _ (λ Put put. (t.0, (joined_by (sources_for_any g.F.Input.Source.remaining g.F.Image.Image.bytes g.F.Stored.Stored.content g.met.F.Files.stored_as_input g.met.F.Files.stored_as_image) _ c.args.inputs.now c.args.stored.now t.0 c.requires.opened c.requires.each t.1), put)) (c.in-Err-Unkept.ensures.left bytes (λ tells other wrote. wrote (join_all t.0) taken.0 (any_told g.F.Stored.Stored.content (g.met.F.Files.stored_told tells)) taken.1))
-
-pub returns-in-Err-Unkept-clause-why : goal.returns-in-Err-Unkept-clause-why
-returns-in-Err-Unkept-clause-why g c = inr (inr (inr refl, c.in-Err-Unkept.ensures.cause (inr c.in-Err-Unkept.field-0-is)))
-
-pub returns-in-Err-Unkept-clause-unkept : goal.returns-in-Err-Unkept-clause-unkept
-returns-in-Err-Unkept-clause-unkept g c is tells =
-    let F = g.F.Files in
-    let t = c.in-Ok.ensures.table in
-    let bytes = table_file c.args.version (join_all t.0) in
-    let taken = c.index.ensures (join_all t.0) t.2 in
-    (t.0, (joined_by (sources_for_any g.F.Input.Source.remaining g.F.Image.Image.bytes g.F.Stored.Stored.content g.met.F.Files.stored_as_input g.met.F.Files.stored_as_image) _ c.args.inputs.now c.args.stored.now t.0 c.requires.opened c.requires.each t.1), c.in-Err-Unkept.ensures.unkept (search rules) tells bytes (λ other wrote. wrote (join_all t.0) taken.0 (any_told g.F.Stored.Stored.content (g.met.F.Files.stored_told tells)) taken.1))
+pub returns-clause-why : goal.returns-clause-why
+returns-clause-why g c = inr c.in-Err-put_job.ensures.why
