@@ -2,7 +2,7 @@
 use Rattle.std.proofs.Common.{◌≡◌, ◌∙◌, ℕ, zero, suc, ◌+◌, ◌<◌, Bool, List, [], ◌∷◌, ◌++◌, Some, None, ap, append_assoc, arith, length, refl, slice_get, sym, take}
 use Rattle.std.specs.Prelude.{unwrap_or}
 use Rattle.std.proofs.lemmas.List.{append-nil}
-use Rattle.udfs_tag.specs.declared.layouts.LongAd.{LongAd}
+use Rattle.udfs_tag.specs.declared.layouts.LbAddr.{LbAddr}
 use Rattle.udfs_salvage.specs.NodeTexts.{name_text, names_text}
 use Rattle.udfs_extraction.specs.ShortNames.{parts, shortened}
 
@@ -15,7 +15,7 @@ pub names_more : (names : List (List ℕ)) (name : List ℕ) → names_text (nam
 names_more [] name = append-nil (name_text name)
 names_more (m ∷ names) name = ap (λ t. name_text m ++ t) (names_more names name) ∙ sym (append_assoc (name_text m) (names_text names) (name_text name))
 
-next : (two : Bool) (icb : ℕ → LongAd) (d i k : ℕ) (path : List (List ℕ)) (name : List ℕ) → slice_get path i ≡ Some name → k ≡ d + i
+next : (two : Bool) (icb : ℕ → LbAddr) (d i k : ℕ) (path : List (List ℕ)) (name : List ℕ) → slice_get path i ≡ Some name → k ≡ d + i
     → names_text (parts two icb d (take (suc i) path)) ≡ names_text (parts two icb d (take i path)) ++ name_text (unwrap_or (shortened two (icb k) name) name)
 next two icb d i k [] name at is = let bad : None ≡ Some name = at in absurd (let no : ⊥ = cc in no)
 next two icb d zero k (m ∷ path) name at is =
@@ -27,6 +27,6 @@ next two icb d (suc i) k (m ∷ path) name at is =
     ∙ sym (append_assoc (name_text (unwrap_or (shortened two (icb d) m) m)) (names_text (parts two icb (suc d) (take i path))) (name_text (unwrap_or (shortened two (icb k) name) name)))
 
 -- one name more
-pub parts_next : (two : Bool) (icb : ℕ → LongAd) (i : ℕ) (path : List (List ℕ)) (name : List ℕ) → slice_get path i ≡ Some name
+pub parts_next : (two : Bool) (icb : ℕ → LbAddr) (i : ℕ) (path : List (List ℕ)) (name : List ℕ) → slice_get path i ≡ Some name
     → names_text (parts two icb 1 (take (i + 1) path)) ≡ names_text (parts two icb 1 (take i path)) ++ name_text (unwrap_or (shortened two (icb (i + 1)) name) name)
 parts_next two icb i path name at = ap (λ n. names_text (parts two icb 1 (take n path))) (let e : i + 1 ≡ suc i = omega arith in e) ∙ next two icb 1 i (i + 1) path name at (omega arith)

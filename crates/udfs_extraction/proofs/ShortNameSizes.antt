@@ -14,7 +14,7 @@ use Rattle.std.proofs.Math.Bool.{and-false}
 use Rattle.std.proofs.lemmas.Bool.Decides.{nat_tests}
 use Rattle.udfs_osta.specs.Escapes.{escape, escaped, is_dots, must_escape, shown, shown_unit}
 use Rattle.udfs_osta.proofs.PublicLaws.{escaped_name_is_path_part}
-use Rattle.udfs_tag.specs.declared.layouts.LongAd.{LongAd}
+use Rattle.udfs_tag.specs.declared.layouts.LbAddr.{LbAddr}
 use Rattle.udfs_extraction.specs.ShortNames.{IsFileName, IsShortOf, front_count, icb_number, short_end, short_name, unit_bytes, unit_size}
 use Rattle.udfs_extraction.proofs.ShortNameLemmas.{plain_size, reads_back}
 
@@ -221,13 +221,13 @@ decimal_shown : (n : ℕ) → n < 2 ^ 64 → AllShown (decimal n)
 decimal_shown n small = digits_shown (decimal n) (digits_decimal (numerals_by_value (λ ds. all_ascii_digits ds ≡ true) tells_all_ascii_digits) n small)
 
 -- it is of ASCII, of which nothing is escaped, and has at most 17 bytes
-pub end_shown : (two : Bool) (icb : LongAd) → icb.block < 2 ^ 32 → icb.reference < 2 ^ 16 → AllShown (short_end two icb)
+pub end_shown : (two : Bool) (icb : LbAddr) → icb.block < 2 ^ 32 → icb.reference < 2 ^ 16 → AllShown (short_end two icb)
 end_shown true icb block reference =
     let front : AllShown (decimal icb.reference ++ 45 ∷ []) = shown_more (decimal icb.reference) (45 ∷ []) (decimal_shown icb.reference (omega (arith, reference))) (omega arith, refl, tt) in
     (omega arith, refl, shown_more (decimal icb.reference ++ 45 ∷ []) (decimal icb.block) front (decimal_shown icb.block (omega (arith, block))))
 end_shown false icb block reference = (omega arith, refl, decimal_shown icb.block (omega (arith, block)))
 
-pub end_length : (two : Bool) (icb : LongAd) → icb.block < 2 ^ 32 → icb.reference < 2 ^ 16 → length (short_end two icb) ≤ 17
+pub end_length : (two : Bool) (icb : LbAddr) → icb.block < 2 ^ 32 → icb.reference < 2 ^ 16 → length (short_end two icb) ≤ 17
 end_length true icb block reference =
     let front : length (decimal icb.reference) ≤ 5 = length-decimal-le 5 icb.reference (omega arith) (omega (arith, reference)) (omega (arith, reference)) in
     let back : length (decimal icb.block) ≤ 10 = length-decimal-le 10 icb.block (omega arith) (omega (arith, block)) (omega (arith, block)) in
@@ -253,7 +253,7 @@ unfolding escaped
 escaped_size xs ys = ap (λ b. length (encode_utf8_all (cond b (flat_map escape (xs ++ 126 ∷ ys)) (shown (xs ++ 126 ∷ ys))))) (is_name xs ys)
 
 -- a short name is one that file systems take
-pub short_fits : (two : Bool) (icb : LongAd) (name : List ℕ) → icb.block < 2 ^ 32 → icb.reference < 2 ^ 16 → IsFileName (short_name two icb name)
+pub short_fits : (two : Bool) (icb : LbAddr) (name : List ℕ) → icb.block < 2 ^ 32 → icb.reference < 2 ^ 16 → IsFileName (short_name two icb name)
 short_fits two icb name block reference =
     let end = short_end two icb in
     let room = 255 - length end in
@@ -267,7 +267,7 @@ short_fits two icb name block reference =
     }
 
 -- and no longer one is
-pub is_short_of : (two : Bool) (icb : LongAd) (name : List ℕ) → icb.block < 2 ^ 32 → icb.reference < 2 ^ 16 → IsShortOf name (short_end two icb) (short_name two icb name)
+pub is_short_of : (two : Bool) (icb : LbAddr) (name : List ℕ) → icb.block < 2 ^ 32 → icb.reference < 2 ^ 16 → IsShortOf name (short_end two icb) (short_name two icb name)
 is_short_of two icb name block reference =
     let end = short_end two icb in
     let few : length end ≤ 17 = end_length two icb block reference in

@@ -13,8 +13,9 @@ use Rattle.std.specs.Char.Utf16.{is_high_surrogate, is_low_surrogate}
 use Rattle.udfs_osta.specs.Escapes.{escaped, shown_unit}
 use Rattle.udfs_osta.specs.Fronts.{begins_with_pair}
 use Rattle.udfs_osta.specs.Parts.{IsPathPart}
-use Rattle.udfs_tag.specs.declared.layouts.LongAd.{LongAd}
+use Rattle.udfs_tag.specs.declared.layouts.LbAddr.{LbAddr}
 use Rattle.udfs_walk.specs.NodeFields.{NodeFields}
+use Rattle.udfs_walk.specs.Targets.{icb_of}
 use Rattle.udfs_salvage.specs.Reports.{Report}
 use Rattle.udfs_salvage.specs.Texts.{has_two}
 
@@ -50,11 +51,11 @@ front_count room (u ∷ v ∷ us) =
     else (if nat_le (unit_size u) room then 1 + front_count (room - unit_size u) (v ∷ us) else 0)
 
 -- what stands behind the beginning
-abbrev pub short_end : Bool → LongAd → List ℕ
+abbrev pub short_end : Bool → LbAddr → List ℕ
 short_end two icb = codes "~" ++ icb_number two icb.reference icb.block
 
 -- the beginning, as far as both have at most 255 bytes, and the end
-abbrev pub short_name : Bool → LongAd → List ℕ → List ℕ
+abbrev pub short_name : Bool → LbAddr → List ℕ → List ℕ
 short_name two icb name = take (front_count (255 - length (short_end two icb)) name) name ++ short_end two icb
 
 -- A beginning of a name with this end behind it, which file systems take. No longer beginning has room.
@@ -65,7 +66,7 @@ pub record IsShortOf (name end short : List ℕ) : Type 0 where
   pub longest : (more : ℕ) → count < more → more ≤ length name → 255 < length (escaped (take more name ++ end))
 
 -- the short one of a name that is too long
-abbrev pub shortened : Bool → LongAd → List ℕ → Option (List ℕ)
+abbrev pub shortened : Bool → LbAddr → List ℕ → Option (List ℕ)
 shortened two icb name = if is_too_long name then Some (short_name two icb name) else None
 
 -- each unit in two bytes, the high one first
@@ -89,11 +90,11 @@ abbrev pub IsWay : List NodeFields → ℕ → List ℕ → Type 0
 IsWay nodes index way = (depth : ℕ) → unwrap_or (slice_get way depth) 0 ≡ above nodes depth index
 
 -- the information control block of that node
-abbrev pub icb_above : List NodeFields → ℕ → NodeFields → ℕ → LongAd
-icb_above nodes index n depth = unwrap_or (option_map (λ m. m.icb) (slice_get nodes (above nodes depth index))) n.icb
+abbrev pub icb_above : List NodeFields → ℕ → NodeFields → ℕ → LbAddr
+icb_above nodes index n depth = unwrap_or (option_map (λ m. icb_of m.icb) (slice_get nodes (above nodes depth index))) (icb_of n.icb)
 
 -- each name, or the short one of a name that is too long, of which the first has this depth
-abbrev pub parts : Bool → (ℕ → LongAd) → ℕ → List (List ℕ) → List (List ℕ)
+abbrev pub parts : Bool → (ℕ → LbAddr) → ℕ → List (List ℕ) → List (List ℕ)
 parts two icb depth [] = []
 parts two icb depth (name ∷ names) = unwrap_or (shortened two (icb depth) name) name ∷ parts two icb (suc depth) names
 
@@ -102,10 +103,10 @@ abbrev pub placed : Bool → Report → ℕ → NodeFields → List (List ℕ)
 placed short report index n = cond short (parts (has_two report.volume) (icb_above report.nodes index n) 1 n.path) n.path
 
 -- the short one of the last name
-abbrev pub last_shortened : Bool → LongAd → Option (List ℕ) → Option (List ℕ)
+abbrev pub last_shortened : Bool → LbAddr → Option (List ℕ) → Option (List ℕ)
 last_shortened two icb None = None
 last_shortened two icb (Some name) = shortened two icb name
 
 -- the short name of a node, where short ones are asked for and its own is too long
 abbrev pub own_name : Bool → Report → NodeFields → Option (List ℕ)
-own_name short report n = cond short (last_shortened (has_two report.volume) n.icb (slice_get n.path (length n.path - 1))) None
+own_name short report n = cond short (last_shortened (has_two report.volume) (icb_of n.icb) (slice_get n.path (length n.path - 1))) None

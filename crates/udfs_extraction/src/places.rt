@@ -13,7 +13,7 @@ use crate::short_names::shortened;
 use std::alloc::{AllocError, Global};
 use udfs_osta::Name;
 use udfs_salvage::{Listing, has_two_partitions, push_names};
-use udfs_tag::LongAd;
+use udfs_tag::LbAddr;
 
 /// Makes a list of so many numbers and one more, by zeros behind those that it has.
 fn lengthen(way: &mut Vec<usize>, depth: usize) -> Result<(), AllocError>
@@ -38,15 +38,15 @@ fn enter(way: &mut Vec<usize>, listing: &Listing<'_>, index: usize) -> Result<()
 }
 
 /// The information control block of the last node up to this index whose path has so many names.
-fn icb_at(listing: &Listing<'_>, way: &[usize], index: usize, depth: usize) -> LongAd
+fn icb_at(listing: &Listing<'_>, way: &[usize], index: usize, depth: usize) -> LbAddr
     requires { index < length listing.now.nodes.items }
     ensures { (n : NodeFields) → slice_get (listing_now listing.now).nodes index ≡ Some n → IsWay (listing_now listing.now).nodes index way.now → result ≡ icb_above (listing_now listing.now).nodes index n depth }
 {
     let above = if depth < way.len() { way[depth] } else { 0 };
     if above < listing.nodes.len() {
-        node_at(listing, above).icb
+        node_at(listing, above).icb.address()
     } else {
-        node_at(listing, index).icb
+        node_at(listing, index).icb.address()
     }
 }
 
@@ -55,7 +55,7 @@ fn push_part(
     alloc: Global,
     text: &mut String,
     two: bool,
-    icb: LongAd,
+    icb: LbAddr,
     name: &Name,
 ) -> Result<(), AllocError>
     ensures { OnOk result (string_bytes text.new ≡ string_bytes text.old ++ name_text (unwrap_or (shortened two icb name.now) name.now)) }
@@ -135,8 +135,9 @@ fn own_name(
         return Ok(None);
     }
     let node = node_at(listing, index);
+    let two = has_two_partitions(&listing.volume);
     match node.path.last() {
-        Some(name) => shortened(alloc, has_two_partitions(&listing.volume), node.icb, name),
+        Some(name) => shortened(alloc, two, node.icb.address(), name),
         None => Ok(None),
     }
 }

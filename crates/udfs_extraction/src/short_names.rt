@@ -8,20 +8,16 @@ ghost use Rattle.udfs_extraction.specs.ShortNames.{IsFileName, IsShortOf, front_
 use std::alloc::{AllocError, Global};
 use std::fmt::Write;
 use udfs_osta::Name;
-use udfs_tag::LongAd;
+use udfs_tag::LbAddr;
 
 /// The most bytes of a name that the file systems of Linux take.
 const NAME_MAX: usize = 255;
 
 /// Appends the number of an information control block: its logical block, with the partition reference in front where there are two partitions.
-pub fn push_icb_number(
-    text: &mut String,
-    two: bool,
-    reference: u16,
-    block: u32,
-) -> Result<(), AllocError>
-    ensures { OnOk result (string_bytes text.new ≡ string_bytes text.old ++ icb_number two reference block) }
+pub fn push_icb_number(text: &mut String, two: bool, address: LbAddr) -> Result<(), AllocError>
+    ensures { OnOk result (string_bytes text.new ≡ string_bytes text.old ++ icb_number two address.reference address.block) }
 {
+    let LbAddr { block, reference } = address;
     if two {
         return write!(text, "{reference}-{block}");
     }
@@ -111,16 +107,16 @@ fn push_ascii(bytes: &mut Vec<u8>, text: &[u8]) -> Result<(), AllocError>
 }
 
 /// What stands behind the beginning of a short name: `~`, and the number of the information control block.
-fn short_end(alloc: Global, two: bool, icb: LongAd) -> Result<String, AllocError>
+fn short_end(alloc: Global, two: bool, icb: LbAddr) -> Result<String, AllocError>
     ensures { IfOk result (λ end. string_bytes end ≡ short_end two icb) }
 {
     let mut end = String::from_str(alloc, "~")?;
-    push_icb_number(&mut end, two, icb.reference, icb.block)?;
+    push_icb_number(&mut end, two, icb)?;
     Ok(end)
 }
 
 /// The short one of a name: as much of its beginning as fits with what stands behind it.
-fn short_name(alloc: Global, two: bool, icb: LongAd, name: &Name) -> Result<Name, AllocError>
+fn short_name(alloc: Global, two: bool, icb: LbAddr, name: &Name) -> Result<Name, AllocError>
     ensures name { IfOk result (λ short. short ≡ short_name two icb name.now) }
     ensures longest { IfOk result (λ short. IsShortOf name.now (short_end two icb) short) }
 {
@@ -142,7 +138,7 @@ fn short_name(alloc: Global, two: bool, icb: LongAd, name: &Name) -> Result<Name
 pub fn shortened(
     alloc: Global,
     two: bool,
-    icb: LongAd,
+    icb: LbAddr,
     name: &Name,
 ) -> Result<Option<Name>, AllocError>
     ensures name { IfOk result (λ short. short ≡ shortened two icb name.now) }

@@ -35,7 +35,7 @@ use udfs_walk::Unnamed;
 pub fn push_lost_name(text: &mut String, two: bool, entry: &Unnamed) -> Result<(), AllocError>
     ensures { OnOk result (string_bytes text.new ≡ string_bytes text.old ++ lost_name two entry.now) }
 {
-    push_icb_number(text, two, entry.reference, entry.block)
+    push_icb_number(text, two, entry.address())
 }
 
 /// The path of the file of an entry in a folder.
