@@ -11,6 +11,7 @@ mod Rounding
 mod SafeParts
 mod SafeShowing
 mod SafeTelling
+mod SeenNodes
 mod SpareCopies
 mod SpareLaws
 mod Streaming

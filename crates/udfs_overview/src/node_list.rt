@@ -200,10 +200,7 @@ fn put_list<W: Sink>(
 {
     match &survey.volume {
         Volume::Open(opened) => {
-            let view = View {
-                table: survey.table,
-                space: &opened.space,
-            };
+            let view = opened.view(survey.table);
             put_full_all(alloc, text, sink, view, form, &survey.nodes)
         }
         _ => put_all(text, sink, form, &survey.nodes),

@@ -105,10 +105,7 @@ pub fn count_streams(survey: &Survey<'_>) -> usize
 {
     match &survey.volume {
         Volume::Open(opened) => {
-            let view = View {
-                table: survey.table,
-                space: &opened.space,
-            };
+            let view = opened.view(survey.table);
             count_named(view, &survey.nodes) + count_nameless(view, &survey.unnamed)
         }
         _ => 0,

@@ -181,10 +181,7 @@ fn push_torn_if_open(
 {
     match &survey.volume {
         Volume::Open(opened) => {
-            let view = View {
-                table: survey.table,
-                space: &opened.space,
-            };
+            let view = opened.view(survey.table);
             push_top(alloc, text, view, &survey.nodes)
         }
         _ => Ok(()),

@@ -224,10 +224,7 @@ fn survey_lost(alloc: Global, sort: NodeSort, survey: &Survey<'_>) -> Result<u12
 {
     match &survey.volume {
         Volume::Open(opened) => {
-            let view = View {
-                table: survey.table,
-                space: &opened.space,
-            };
+            let view = opened.view(survey.table);
             full_lost_in(alloc, sort, view, &survey.nodes)
         }
         _ => Ok(lost_in(sort, &survey.nodes)),

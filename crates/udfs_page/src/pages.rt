@@ -105,10 +105,7 @@ fn put_about_files<W: Sink>(
 {
     match &survey.volume {
         Volume::Open(opened) => {
-            let view = View {
-                table: survey.table,
-                space: &opened.space,
-            };
+            let view = opened.view(survey.table);
             put_about_nodes(alloc, text, sink, view, &survey.nodes)
         }
         _ => Ok(()),
