@@ -25,9 +25,10 @@ use udfs_common::refusal::Refusal;
 use udfs_common::sources::AnySource;
 use udfs_files::Stage;
 use udfs_reading::{Sink, Source};
-use udfs_remarks::no_reports::{refused_report, refused_run};
+use udfs_remarks::looking::listed;
+use udfs_remarks::no_reports::refused_run;
 use udfs_remarks::remarks::remark_on_listing;
-use udfs_salvage::{Fill, Listing, Volume, list_volume_by, write_volume_line};
+use udfs_salvage::{Fill, Listing, Volume, write_volume_line};
 use udfs_volume::Profile;
 use udfs_words::input_path::InputPath;
 
@@ -241,10 +242,7 @@ pub fn extract<F: Files, O: Sink>(
 {
     let table = joined(alloc, inputs, files)?;
     files.begin(Stage::Walking);
-    let listing = match list_volume_by(alloc, &table, last, profile) {
-        Ok(listing) => listing,
-        Err(error) => return Err(refused_report(error)),
-    };
+    let listing = listed(alloc, &table, last, profile)?;
     files.begin(Stage::Writing);
     let made = put_report(
         alloc, &listing, only, fill, short, false, folder, files, out,

@@ -18,8 +18,8 @@ use udfs_common::refusal::Refusal;
 use udfs_common::sources::AnySource;
 use udfs_files::{JobError, ReplaceError, Stage, replace_by_job};
 use udfs_reading::{Sink, Source};
-use udfs_remarks::no_reports::refused_report;
-use udfs_salvage::{Fill, Listing, list_volume_by};
+use udfs_remarks::looking::listed;
+use udfs_salvage::{Fill, Listing};
 use udfs_volume::Profile;
 use udfs_words::input_path::InputPath;
 
@@ -129,9 +129,9 @@ pub fn extract_listed<F: Files, O: Sink>(
         Err(refusal) => return Err(refusal),
     };
     files.begin(Stage::Walking);
-    let listing = match list_volume_by(alloc, &table, last, profile) {
+    let listing = match listed(alloc, &table, last, profile) {
         Ok(listing) => listing,
-        Err(error) => return Err(refused_report(error)),
+        Err(refusal) => return Err(refusal),
     };
     files.begin(Stage::Writing);
     match list_report(

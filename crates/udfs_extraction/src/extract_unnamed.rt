@@ -19,8 +19,9 @@ use udfs_common::refusal::Refusal;
 use udfs_common::sources::AnySource;
 use udfs_files::Stage;
 use udfs_reading::{Sink, Source};
+use udfs_remarks::looking::listed;
 use udfs_remarks::no_reports::refused_report;
-use udfs_salvage::{Fill, list_unnamed, list_volume_by};
+use udfs_salvage::{Fill, list_unnamed};
 use udfs_volume::Profile;
 use udfs_words::input_path::InputPath;
 
@@ -60,9 +61,9 @@ pub fn extract_with_lost<F: Files, O: Sink>(
         Err(refusal) => return Err(refusal),
     };
     files.begin(Stage::Walking);
-    let listing = match list_volume_by(alloc, &table, last, profile) {
+    let listing = match listed(alloc, &table, last, profile) {
         Ok(listing) => listing,
-        Err(error) => return Err(refused_report(error)),
+        Err(refusal) => return Err(refusal),
     };
     let entries = match list_unnamed(alloc, &listing) {
         Ok(entries) => entries,
@@ -119,9 +120,9 @@ pub fn extract_listed_with_lost<F: Files, O: Sink>(
         Err(refusal) => return Err(refusal),
     };
     files.begin(Stage::Walking);
-    let listing = match list_volume_by(alloc, &table, last, profile) {
+    let listing = match listed(alloc, &table, last, profile) {
         Ok(listing) => listing,
-        Err(error) => return Err(refused_report(error)),
+        Err(refusal) => return Err(refusal),
     };
     let entries = match list_unnamed(alloc, &listing) {
         Ok(entries) => entries,

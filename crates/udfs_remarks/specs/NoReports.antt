@@ -1,5 +1,9 @@
 -- What a command says where a table has no report, or its report was not printed.
-use Rattle.std.specs.Prelude.{alloc_error}
+use Rattle.std.specs.Prelude.{◌≡◌, ◌⊎◌, ℕ, alloc_error}
+use Rattle.udfs_lattice.specs.Tables.{Table, state_of}
+use Rattle.udfs_volume.specs.declared.profiles.Profile.{Profile}
+use Rattle.udfs_salvage.specs.Running.{IsRefusedForBy}
+use Rattle.udfs_salvage.specs.TreeReports.{AgreesWithNoneBy}
 use Rattle.udfs_salvage.specs.declared.errors.RunError.{RunError}
 use Rattle.udfs_salvage.specs.declared.errors.RunError.TheVariants as run
 use Rattle.udfs_salvage.specs.declared.errors.SalvageError.{SalvageError}
@@ -21,3 +25,14 @@ run_refusal_of (run.Reading error) = refusal_of error
 run_refusal_of (run.Salvage error) = salvage_refusal_of error
 run_refusal_of run.Write = Output
 run_refusal_of run.OutOfMemory = Memory alloc_error
+
+-- the table has no report by the rules of a profile, no lawful volume agrees with it, and this is said of it
+pub record HasNoReport (profile : Profile) (last : ℕ) (refusal : Refusal) (table : Table) : Type 0 where
+  pub why : SalvageError
+  pub because : IsRefusedForBy profile table last why
+  pub no_lawful : AgreesWithNoneBy profile (state_of table) last
+  pub told : refusal ≡ salvage_refusal_of why
+
+-- it has none, or memory was refused before there was one
+abbrev pub IsUntold : Profile → ℕ → Refusal → Table → Type 0
+IsUntold profile last refusal table = (refusal ≡ Memory alloc_error) ⊎ HasNoReport profile last refusal table

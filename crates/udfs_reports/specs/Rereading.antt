@@ -24,7 +24,8 @@ use Rattle.udfs_common.specs.declared.refusal.Refusal.{Refusal}
 use Rattle.udfs_common.specs.declared.refusal.Refusal.TheVariants.{Output}
 use Rattle.udfs_words.specs.declared.input_path.InputPath.{InputPath}
 use Rattle.udfs_reading.specs.Device.{Stream}
-use Rattle.udfs_reports.specs.Telling.{IsUntold, Tells}
+use Rattle.udfs_remarks.specs.NoReports.{IsUntold}
+use Rattle.udfs_reports.specs.Telling.{Tells}
 use Rattle.udfs_common.specs.Refusing.{IsUnput}
 
 -- the lines of the numbers of a report's blocks to read again

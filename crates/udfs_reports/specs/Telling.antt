@@ -1,13 +1,11 @@
 -- What the commands that tell of a volume print of it, and why they refuse.
 --     Tells                a text of the table's report was printed
---     HasNoReport          the table has no report, and this is said of it
---     IsUntold             the same, or memory was refused
 --     IsRefusedTelling     a text of the table's report was not printed, or a beginning of it, and why
 --     IsRefusedPut         the file of the table's report was not put, and why
 --     OfPathsRefused       the inputs of some paths were not joined, and why; or this holds of their join
 --     EndOrPathsRefused    the same where the words tell the last block and the rules, or there is no last block
 --     AskedRefused         the same of the inputs that words ask for
-use Rattle.std.specs.Prelude.{◌≡◌, ◌⊎◌, ℕ, Bool, List, Option, alloc_error, map}
+use Rattle.std.specs.Prelude.{◌≡◌, ◌⊎◌, ℕ, Bool, List, Option, map}
 use Rattle.clap.specs.declared.parser.matches.Found.{Found}
 use Rattle.udfs_lattice.specs.Tables.{Table, state_of}
 use Rattle.udfs_reading.specs.Device.{Stream}
@@ -16,19 +14,15 @@ use Rattle.udfs_volume.specs.declared.profiles.Profile.{Profile}
 use Rattle.udfs_salvage.specs.Headline.{HeadlineBy}
 use Rattle.udfs_salvage.specs.Printing.{Stopped}
 use Rattle.udfs_salvage.specs.Reports.{Report, IsReportBy, all_whole}
-use Rattle.udfs_salvage.specs.Running.{IsRefusedForBy}
-use Rattle.udfs_salvage.specs.TreeReports.{AgreesWithNoneBy}
 use Rattle.udfs_salvage.specs.declared.errors.RunError.{RunError}
-use Rattle.udfs_salvage.specs.declared.errors.SalvageError.{SalvageError}
 use Rattle.udfs_words.specs.Asking.{Asked, IsLast, IsProfile, asked_for}
 use Rattle.udfs_words.specs.declared.input_path.InputPath.{InputPath}
 use Rattle.udfs_common.specs.Blaming.{EndRefused, InputsRefused}
 use Rattle.udfs_common.specs.Keeping.{OfPaths}
 use Rattle.udfs_common.specs.Refusing.{IsUnput}
-use Rattle.udfs_remarks.specs.NoReports.{run_refusal_of, salvage_refusal_of}
 use Rattle.udfs_common.specs.declared.refusal.Refusal.{Refusal}
-use Rattle.udfs_common.specs.declared.refusal.Refusal.TheVariants.{Memory}
 use Rattle.udfs_common.specs.declared.sources.AnySource.{AnySource}
+use Rattle.udfs_remarks.specs.NoReports.{IsUntold, run_refusal_of}
 
 -- a text of the table's report was printed, of which all holds that is promised of reports, and the answer is whether there are nodes and all are whole
 pub record Tells (text : Profile → Table → ℕ → Report → List ℕ) (profile : Profile) (last : ℕ) (old new : Stream) (whole : Bool) (table : Table) : Type 0 where
@@ -36,17 +30,6 @@ pub record Tells (text : Profile → Table → ℕ → Report → List ℕ) (pro
   pub headline : HeadlineBy profile (state_of table) last report
   pub prints : Wrote old new (text profile table last report)
   pub says : whole ≡ all_whole report.nodes
-
--- the table has no report by the rules of a profile, no lawful volume agrees with it, and this is said of it
-pub record HasNoReport (profile : Profile) (last : ℕ) (refusal : Refusal) (table : Table) : Type 0 where
-  pub why : SalvageError
-  pub because : IsRefusedForBy profile table last why
-  pub no_lawful : AgreesWithNoneBy profile (state_of table) last
-  pub told : refusal ≡ salvage_refusal_of why
-
--- it has none, or memory was refused before there was one
-abbrev pub IsUntold : Profile → ℕ → Refusal → Table → Type 0
-IsUntold profile last refusal table = (refusal ≡ Memory alloc_error) ⊎ HasNoReport profile last refusal table
 
 -- a beginning of a text of the table's report was printed, and then the sink failed or memory was refused
 pub record StopsTelling (text : Profile → Table → ℕ → Report → List ℕ) (profile : Profile) (last : ℕ) (old new : Stream) (refusal : Refusal) (table : Table) : Type 0 where

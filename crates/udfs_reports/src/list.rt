@@ -4,7 +4,7 @@ ghost use Rattle.std.specs.Prelude.{true, false};
 ghost use Rattle.clap.specs.Matches.{found_of};
 ghost use Rattle.udfs_reports.specs.Listing.{IsListForm, list_of};
 
-use crate::telling::{Telling, surveyed};
+use crate::telling::Telling;
 use clap::ArgMatches;
 use std::alloc::Global;
 use udfs_common::files::Files;
@@ -13,6 +13,7 @@ use udfs_files::Stage;
 use udfs_lattice::BlockTable;
 use udfs_overview::{ListForm, write_list};
 use udfs_reading::Sink;
+use udfs_remarks::looking::surveyed;
 use udfs_remarks::no_reports::refused_run;
 use udfs_remarks::remarks::remark_on;
 use udfs_volume::Profile;

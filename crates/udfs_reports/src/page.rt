@@ -12,7 +12,6 @@ ghost use Rattle.udfs_reports.specs.Telling.{IsRefusedPut, OfPathsRefused};
 ghost use Rattle.udfs_common.specs.Refusing.{IsUnput};
 ghost use Rattle.udfs_common.specs.declared.sources.AnySource.{AnySource};
 
-use crate::telling::surveyed;
 use std::alloc::{AllocError, Global};
 use udfs_common::files::Files;
 use udfs_common::guard::{Outlook, look_at_own};
@@ -24,6 +23,7 @@ use udfs_files::{Job, Stage};
 use udfs_lattice::BlockTable;
 use udfs_page::write_page;
 use udfs_reading::{Sink, Source};
+use udfs_remarks::looking::surveyed;
 use udfs_salvage::{RunError, Survey};
 use udfs_volume::Profile;
 use udfs_words::input_path::InputPath;

@@ -4,13 +4,14 @@ ghost use Rattle.udfs_salvage.specs.Printing.{Prints};
 ghost use Rattle.udfs_salvage.specs.Surveys.{survey_now};
 ghost use Rattle.udfs_reports.specs.Reporting.{form_text};
 
-use crate::telling::{Telling, surveyed};
+use crate::telling::Telling;
 use std::alloc::Global;
 use udfs_common::files::Files;
 use udfs_common::refusal::Refusal;
 use udfs_files::Stage;
 use udfs_lattice::BlockTable;
 use udfs_reading::Sink;
+use udfs_remarks::looking::surveyed;
 use udfs_remarks::no_reports::refused_run;
 use udfs_remarks::remarks::remark_on;
 use udfs_salvage::{RunError, Survey, write_json, write_survey};

@@ -1,13 +1,6 @@
 //! What `reread` prints: the numbers of the blocks to read again.
 
-ghost use Rattle.std.specs.Prelude.{◌≡◌, IfOk, IfErr};
-ghost use Rattle.udfs_lattice.specs.Tables.{state_of};
-ghost use Rattle.udfs_volume.specs.Seen.{IsRising};
-ghost use Rattle.udfs_salvage.specs.Headline.{HeadlineBy};
-ghost use Rattle.udfs_salvage.specs.Listings.{listing_now};
-ghost use Rattle.udfs_salvage.specs.Reports.{IsReportBy};
 ghost use Rattle.udfs_reports.specs.Rereading.{numbers_of};
-ghost use Rattle.udfs_reports.specs.Telling.{IsUntold};
 
 use crate::telling::Telling;
 use std::alloc::Global;
@@ -16,30 +9,11 @@ use udfs_common::refusal::Refusal;
 use udfs_files::Stage;
 use udfs_lattice::BlockTable;
 use udfs_reading::{Sink, WriteFault};
+use udfs_remarks::looking::listed;
 use udfs_remarks::no_reports::refused_report;
 use udfs_remarks::remarks::remark_on_listing;
-use udfs_salvage::{Listing, list_volume_by, reread_blocks, write_numbers};
+use udfs_salvage::{reread_blocks, write_numbers};
 use udfs_volume::Profile;
-
-/// The listing of a table's volume by the rules of a profile, where `last` is its last block, or why the table has no report.
-pub fn listed<'a>(
-    alloc: Global,
-    table: &'a BlockTable,
-    last: u32,
-    profile: Profile,
-) -> Result<Listing<'a>, Refusal>
-    ensures headline { IfOk result (λ listing. HeadlineBy profile (state_of table.now) last (listing_now listing)) }
-    ensures report { IfOk result (λ listing. IsReportBy profile (state_of table.now) last (listing_now listing)) }
-    ensures rising { IfOk result (λ listing. IsRising (listing_now listing).reread) }
-    ensures rules { IfOk result (λ listing. listing.profile ≡ profile) }
-    ensures of { IfOk result (λ listing. (listing.table.now ≡ table.now) × (listing.last ≡ last)) }
-    ensures refused { IfErr result (λ refusal. IsUntold profile last refusal table.now) }
-{
-    match list_volume_by(alloc, table, last, profile) {
-        Ok(listing) => Ok(listing),
-        Err(error) => Err(refused_report(error)),
-    }
-}
 
 /// The numbers of the blocks of a volume that are worth reading again.
 #[derive(Clone, Copy)]

@@ -11,7 +11,6 @@ ghost use Rattle.udfs_reports.specs.Telling.{OfPathsRefused};
 ghost use Rattle.udfs_common.specs.Refusing.{IsUnput};
 ghost use Rattle.udfs_common.specs.declared.sources.AnySource.{AnySource};
 
-use crate::reread::listed;
 use std::alloc::{AllocError, Global};
 use udfs_common::files::Files;
 use udfs_common::inputs::joined;
@@ -21,6 +20,7 @@ use udfs_common::sources::AnySource;
 use udfs_files::{Content, Stage};
 use udfs_lattice::BlockTable;
 use udfs_reading::{Sink, Source, WriteFault, write_all};
+use udfs_remarks::looking::listed;
 use udfs_remarks::no_reports::refused_report;
 use udfs_remarks::remarks::remark_on_listing;
 use udfs_rescue::write_domain;

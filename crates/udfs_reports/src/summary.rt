@@ -2,7 +2,7 @@
 
 ghost use Rattle.udfs_overview.specs.Summaries.{summary_text};
 
-use crate::telling::{Telling, surveyed};
+use crate::telling::Telling;
 use std::alloc::Global;
 use udfs_common::files::Files;
 use udfs_common::refusal::Refusal;
@@ -10,6 +10,7 @@ use udfs_files::Stage;
 use udfs_lattice::BlockTable;
 use udfs_overview::write_summary;
 use udfs_reading::Sink;
+use udfs_remarks::looking::surveyed;
 use udfs_remarks::no_reports::refused_run;
 use udfs_volume::Profile;
 

@@ -2,16 +2,13 @@
 
 ghost use Rattle.std.specs.Prelude.{◌≡◌, ℕ, List, IfOk, IfErr};
 ghost use Rattle.clap.specs.Matches.{found_of};
-ghost use Rattle.udfs_lattice.specs.Tables.{Table, state_of};
-ghost use Rattle.udfs_volume.specs.Seen.{IsRising};
+ghost use Rattle.udfs_lattice.specs.Tables.{Table};
 ghost use Rattle.udfs_volume.specs.declared.profiles.Profile.{Profile};
 ghost use Rattle.udfs_words.specs.Asking.{IsLast, IsProfile};
-ghost use Rattle.udfs_salvage.specs.Headline.{HeadlineBy};
-ghost use Rattle.udfs_salvage.specs.Reports.{IsReportBy, Report};
-ghost use Rattle.udfs_salvage.specs.Surveys.{survey_now};
+ghost use Rattle.udfs_salvage.specs.Reports.{Report};
 ghost use Rattle.udfs_common.specs.Keeping.{OfPaths};
 ghost use Rattle.udfs_common.specs.declared.sources.AnySource.{AnySource};
-ghost use Rattle.udfs_reports.specs.Telling.{EndOrPathsRefused, IsRefusedTelling, IsUntold, OfPathsRefused, Tells};
+ghost use Rattle.udfs_reports.specs.Telling.{EndOrPathsRefused, IsRefusedTelling, OfPathsRefused, Tells};
 
 use clap::ArgMatches;
 use std::alloc::Global;
@@ -22,8 +19,6 @@ use udfs_common::refusal::Refusal;
 use udfs_common::sources::AnySource;
 use udfs_lattice::BlockTable;
 use udfs_reading::{Sink, Source};
-use udfs_remarks::no_reports::refused_report;
-use udfs_salvage::{Survey, survey_volume_by};
 use udfs_volume::Profile;
 use udfs_words::input_path::InputPath;
 use udfs_words::profile::asked_profile;
@@ -51,26 +46,6 @@ pub trait Telling {
     ) -> Result<bool, Refusal>
         ensures printed { IfOk result (λ whole. Tells (text self.now) profile last (O.stream out.old) (O.stream out.new) whole table.now) }
         ensures refused { IfErr result (λ refusal. IsRefusedTelling (text self.now) profile last (O.stream out.old) (O.stream out.new) refusal table.now) };
-}
-
-/// The survey of a table's volume by the rules of a profile, where `last` is its last block, or why the table has no report.
-pub fn surveyed<'a>(
-    alloc: Global,
-    table: &'a BlockTable,
-    last: u32,
-    profile: Profile,
-) -> Result<Survey<'a>, Refusal>
-    ensures headline { IfOk result (λ survey. HeadlineBy profile (state_of table.now) last (survey_now survey)) }
-    ensures report { IfOk result (λ survey. IsReportBy profile (state_of table.now) last (survey_now survey)) }
-    ensures rising { IfOk result (λ survey. IsRising survey.reread.items) }
-    ensures rules { IfOk result (λ survey. survey.profile ≡ profile) }
-    ensures of { IfOk result (λ survey. (survey.table.now ≡ table.now) × (survey.last ≡ last)) }
-    ensures refused { IfErr result (λ refusal. IsUntold profile last refusal table.now) }
-{
-    match survey_volume_by(alloc, table, last, profile) {
-        Ok(survey) => Ok(survey),
-        Err(error) => Err(refused_report(error)),
-    }
 }
 
 /// Joins the inputs, and prints what is told of their volume by the rules of a profile, where `last` is its last block. It answers whether there are files

@@ -5,8 +5,8 @@ use Rattle.udfs_extraction.proofs.extract_manifest.extract_listed.Goals as goal
 pub returns-in-Err-clause-spares : goal.returns-in-Err-clause-spares
 returns-in-Err-clause-spares g c = nothing_listed _ _ _ _ _ _ _ _ _
 
-pub returns-in-Err-list_volume_by-clause-spares : goal.returns-in-Err-list_volume_by-clause-spares
-returns-in-Err-list_volume_by-clause-spares g c = nothing_listed _ _ _ _ _ _ _ _ _
+pub returns-in-Err-listed-clause-spares : goal.returns-in-Err-listed-clause-spares
+returns-in-Err-listed-clause-spares g c = nothing_listed _ _ _ _ _ _ _ _ _
 
 pub returns-in-Ok-list_report-clause-listed : goal.returns-in-Ok-list_report-clause-listed
 returns-in-Ok-list_report-clause-listed g c =
@@ -14,5 +14,5 @@ returns-in-Ok-list_report-clause-listed g c =
     let l = c.in-Ok-list_report.ensures.listed in (
       of.0,
       of.1,
-      lists_chosen _ _ _ _ _ _ _ _ _ _ _ _ _ _ _ _ _ l.0 (listing_now c.in-Ok-list_volume_by.listing) c.in-Ok-list_volume_by.ensures.of.0 of.2 c.in-Ok-list_volume_by.ensures.report l.1 l.2,
+      lists_chosen _ _ _ _ _ _ _ _ _ _ _ _ _ _ _ _ _ l.0 (listing_now c.in-Ok-listed.listing) c.in-Ok-listed.ensures.of.0 of.2 c.in-Ok-listed.ensures.report l.1 l.2,
     )

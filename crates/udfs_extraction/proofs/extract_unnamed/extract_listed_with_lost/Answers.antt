@@ -6,8 +6,8 @@ use Rattle.udfs_extraction.proofs.extract_unnamed.extract_listed_with_lost.Goals
 pub returns-in-Err-clause-spares : goal.returns-in-Err-clause-spares
 returns-in-Err-clause-spares g c = (c.args.files.now, nothing_listed _ _ _ _ _ _ _ _ _, nothing_lost _ _ _ _ _ _ _)
 
-pub returns-in-Err-list_volume_by-clause-spares : goal.returns-in-Err-list_volume_by-clause-spares
-returns-in-Err-list_volume_by-clause-spares g c = (c.args.files.now, nothing_listed _ _ _ _ _ _ _ _ _, nothing_lost _ _ _ _ _ _ _)
+pub returns-in-Err-listed-clause-spares : goal.returns-in-Err-listed-clause-spares
+returns-in-Err-listed-clause-spares g c = (c.args.files.now, nothing_listed _ _ _ _ _ _ _ _ _, nothing_lost _ _ _ _ _ _ _)
 
 pub returns-in-Err-list_unnamed-clause-spares : goal.returns-in-Err-list_unnamed-clause-spares
 returns-in-Err-list_unnamed-clause-spares g c = (c.args.files.now, nothing_listed _ _ _ _ _ _ _ _ _, nothing_lost _ _ _ _ _ _ _)
@@ -24,7 +24,7 @@ returns-clause-spares g c = (c.list_report.new.files, c.list_report.ensures.spar
 pub returns-in-Ok-put_lost-clause-added : goal.returns-in-Ok-put_lost-clause-added
 returns-in-Ok-put_lost-clause-added g c =
     let of = c.in-Ok.ensures.by_path in
-    let told = listing_now c.in-Ok-list_volume_by.listing in
+    let told = listing_now c.in-Ok-listed.listing in
     let l = c.in-Ok-list_report.ensures.listed in (
       of.0,
       of.1,
@@ -33,8 +33,8 @@ returns-in-Ok-put_lost-clause-added g c =
         between = c.list_report.new.out;
         nodes_good = c.in-Ok-list_report.made;
         lost_good = c.in-Ok-put_lost.good;
-        nodes = lists_chosen _ _ _ _ _ _ _ _ _ _ _ _ _ _ _ _ _ l.0 told c.in-Ok-list_volume_by.ensures.of.0 of.2 c.in-Ok-list_volume_by.ensures.report l.1 l.2;
-        lost = lost_of _ _ _ _ _ _ _ _ _ _ told c.in-Ok-list_volume_by.ensures.of.0 of.2 c.in-Ok-list_volume_by.ensures.report c.in-Ok-put_lost.ensures.put c.put_lost.ensures.spares;
+        nodes = lists_chosen _ _ _ _ _ _ _ _ _ _ _ _ _ _ _ _ _ l.0 told c.in-Ok-listed.ensures.of.0 of.2 c.in-Ok-listed.ensures.report l.1 l.2;
+        lost = lost_of _ _ _ _ _ _ _ _ _ _ told c.in-Ok-listed.ensures.of.0 of.2 c.in-Ok-listed.ensures.report c.in-Ok-put_lost.ensures.put c.put_lost.ensures.spares;
         says = c.is_all_good.ensures;
       },
     )

@@ -8,8 +8,8 @@ use Rattle.udfs_extraction.proofs.extract_unnamed.extract_with_lost.Goals as goa
 pub returns-in-Err-clause-spares : goal.returns-in-Err-clause-spares
 returns-in-Err-clause-spares g c = (c.args.files.now, λ told q bytes is. is, λ q out. refl, λ told. spares_nothing _ _ _ _ _ _, nothing_lost _ _ _ _ _ _ _)
 
-pub returns-in-Err-list_volume_by-clause-spares : goal.returns-in-Err-list_volume_by-clause-spares
-returns-in-Err-list_volume_by-clause-spares g c = (c.args.files.now, λ told q bytes is. is, λ q out. refl, λ told. spares_nothing _ _ _ _ _ _, nothing_lost _ _ _ _ _ _ _)
+pub returns-in-Err-listed-clause-spares : goal.returns-in-Err-listed-clause-spares
+returns-in-Err-listed-clause-spares g c = (c.args.files.now, λ told q bytes is. is, λ q out. refl, λ told. spares_nothing _ _ _ _ _ _, nothing_lost _ _ _ _ _ _ _)
 
 pub returns-in-Err-list_unnamed-clause-spares : goal.returns-in-Err-list_unnamed-clause-spares
 returns-in-Err-list_unnamed-clause-spares g c = (c.args.files.now, λ told q bytes is. is, λ q out. refl, λ told. spares_nothing _ _ _ _ _ _, nothing_lost _ _ _ _ _ _ _)
@@ -26,7 +26,7 @@ returns-clause-spares g c = (c.put_report.new.files, c.put_report.ensures.stays,
 pub returns-in-Ok-put_lost-clause-added : goal.returns-in-Ok-put_lost-clause-added
 returns-in-Ok-put_lost-clause-added g c =
     let of = c.in-Ok.ensures.by_path in
-    let told = listing_now c.in-Ok-list_volume_by.listing in (
+    let told = listing_now c.in-Ok-listed.listing in (
       of.0,
       of.1,
       record {
@@ -34,8 +34,8 @@ returns-in-Ok-put_lost-clause-added g c =
         between = c.put_report.new.out;
         nodes_good = c.in-Ok-put_report.made.good;
         lost_good = c.in-Ok-put_lost.good;
-        nodes = chosen_of _ _ _ (λ r fates text. false ≡ true → g.F.Files.tells → IsManifest (g.F.Files.holds c.put_report.new.files) c.args.folder.now c.args.short r fates text) _ _ _ _ _ _ _ _ _ (option_map (λ m. notes_text c.args.short told m.items) c.in-Ok-put_report.made.manifest) _ _ _ told c.in-Ok-list_volume_by.ensures.of.0 of.2 c.in-Ok-list_volume_by.ensures.report c.in-Ok-put_report.ensures.put c.put_report.ensures.elsewhere;
-        lost = lost_of _ _ _ _ _ _ _ _ _ _ told c.in-Ok-list_volume_by.ensures.of.0 of.2 c.in-Ok-list_volume_by.ensures.report c.in-Ok-put_lost.ensures.put c.put_lost.ensures.spares;
+        nodes = chosen_of _ _ _ (λ r fates text. false ≡ true → g.F.Files.tells → IsManifest (g.F.Files.holds c.put_report.new.files) c.args.folder.now c.args.short r fates text) _ _ _ _ _ _ _ _ _ (option_map (λ m. notes_text c.args.short told m.items) c.in-Ok-put_report.made.manifest) _ _ _ told c.in-Ok-listed.ensures.of.0 of.2 c.in-Ok-listed.ensures.report c.in-Ok-put_report.ensures.put c.put_report.ensures.elsewhere;
+        lost = lost_of _ _ _ _ _ _ _ _ _ _ told c.in-Ok-listed.ensures.of.0 of.2 c.in-Ok-listed.ensures.report c.in-Ok-put_lost.ensures.put c.put_lost.ensures.spares;
         says = c.is_all_good.ensures;
       },
     )

@@ -1,8 +1,8 @@
 use Rattle.std.proofs.Common.{◌≡◌, ap, rules}
 use Rattle.std.specs.Prelude.{Err}
 use Rattle.udfs_remarks.specs.NoReports.{salvage_refusal_of}
-use Rattle.udfs_reports.proofs.TellingLemmas.{untold}
-use Rattle.udfs_reports.proofs.reread.listed.Goals as goal
+use Rattle.udfs_remarks.proofs.Untold.{untold}
+use Rattle.udfs_remarks.proofs.looking.listed.Goals as goal
 
 pub returns-in-Err-clause-refused : goal.returns-in-Err-clause-refused
 returns-in-Err-clause-refused c =

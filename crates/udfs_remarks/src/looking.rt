@@ -1,0 +1,57 @@
+//! What is found in the volume of a table, or why the table has no report.
+
+ghost use Rattle.std.specs.Prelude.{◌≡◌, IfOk, IfErr};
+ghost use Rattle.udfs_lattice.specs.Tables.{state_of};
+ghost use Rattle.udfs_volume.specs.Seen.{IsRising};
+ghost use Rattle.udfs_salvage.specs.Headline.{HeadlineBy};
+ghost use Rattle.udfs_salvage.specs.Listings.{listing_now};
+ghost use Rattle.udfs_salvage.specs.Reports.{IsReportBy};
+ghost use Rattle.udfs_salvage.specs.Surveys.{survey_now};
+ghost use Rattle.udfs_remarks.specs.NoReports.{IsUntold};
+
+use crate::no_reports::refused_report;
+use std::alloc::Global;
+use udfs_common::refusal::Refusal;
+use udfs_lattice::BlockTable;
+use udfs_salvage::{Listing, Survey, list_volume_by, survey_volume_by};
+use udfs_volume::Profile;
+
+/// The listing of a table's volume by the rules of a profile, where `last` is its last block, or why the table has no report.
+pub fn listed<'a>(
+    alloc: Global,
+    table: &'a BlockTable,
+    last: u32,
+    profile: Profile,
+) -> Result<Listing<'a>, Refusal>
+    ensures headline { IfOk result (λ listing. HeadlineBy profile (state_of table.now) last (listing_now listing)) }
+    ensures report { IfOk result (λ listing. IsReportBy profile (state_of table.now) last (listing_now listing)) }
+    ensures rising { IfOk result (λ listing. IsRising (listing_now listing).reread) }
+    ensures rules { IfOk result (λ listing. listing.profile ≡ profile) }
+    ensures of { IfOk result (λ listing. (listing.table.now ≡ table.now) × (listing.last ≡ last)) }
+    ensures refused { IfErr result (λ refusal. IsUntold profile last refusal table.now) }
+{
+    match list_volume_by(alloc, table, last, profile) {
+        Ok(listing) => Ok(listing),
+        Err(error) => Err(refused_report(error)),
+    }
+}
+
+/// The survey of a table's volume by the rules of a profile, where `last` is its last block, or why the table has no report.
+pub fn surveyed<'a>(
+    alloc: Global,
+    table: &'a BlockTable,
+    last: u32,
+    profile: Profile,
+) -> Result<Survey<'a>, Refusal>
+    ensures headline { IfOk result (λ survey. HeadlineBy profile (state_of table.now) last (survey_now survey)) }
+    ensures report { IfOk result (λ survey. IsReportBy profile (state_of table.now) last (survey_now survey)) }
+    ensures rising { IfOk result (λ survey. IsRising survey.reread.items) }
+    ensures rules { IfOk result (λ survey. survey.profile ≡ profile) }
+    ensures of { IfOk result (λ survey. (survey.table.now ≡ table.now) × (survey.last ≡ last)) }
+    ensures refused { IfErr result (λ refusal. IsUntold profile last refusal table.now) }
+{
+    match survey_volume_by(alloc, table, last, profile) {
+        Ok(survey) => Ok(survey),
+        Err(why) => Err(refused_report(why)),
+    }
+}
