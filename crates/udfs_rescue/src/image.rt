@@ -1,6 +1,6 @@
 //! An image, which is read at any position.
 
-ghost use Rattle.std.specs.Prelude.{◌≡◌, ℕ, ◌+◌, ◌^◌, ◌≤◌, ◌<◌, List, Option, length, take, drop, true, IfOk, IfSome};
+ghost use Rattle.std.specs.Prelude.{◌≡◌, ℕ, ◌+◌, ◌^◌, ◌≤◌, ◌<◌, List, Option, length, take, drop, true, false, IfOk, IfSome};
 ghost use Rattle.std.specs.Io.KnownBytes.{Keeps};
 ghost use Rattle.udfs_reading.specs.Device.{CountsFault};
 
@@ -43,6 +43,7 @@ pub trait Image {
 pub fn fill<I: Image>(image: &mut I, at: u64, buf: &mut [u8]) -> Result<bool, DeviceFault>
     requires { at + length buf.old < 2 ^ 64 }
     ensures value { IfOk result (λ whole. whole ≡ true → IfSome (I.bytes image.old) (λ all. buf.new ≡ take (length buf.new) (drop at all))) }
+    ensures short { IfOk result (λ whole. whole ≡ false → IfSome (I.bytes image.old) (λ all. length all < at + length buf.old)) }
     ensures same { Keeps (I.bytes image.old) (I.bytes image.new) }
     ensures count { CountsFault (I.faults image.old) (I.faults image.new) result }
 {
