@@ -1,7 +1,7 @@
 # The words to type here:
 #   make            proves the program and all that it stands on, builds it, and says where it lies
 #   make demo       the same, and then runs it on the readings of examples/
-#   make test       judges the whole repository from nothing, as the gate does, and then tries what make hostile and make try try, and each
+#   make test       judges the whole repository as the gate does (what was proved here before is kept), and then tries what make hostile and make try try, and each
 #                   command that the documents show; the last line is 'N passed, M failed'
 #   make hostile    refuses each allocation of many runs in turn, makes each system call of the program's runs fail or ends it there,
 #                   and changes each byte of the sample discs' descriptors
@@ -26,7 +26,7 @@ PROGRAM = crates/udfsalvage/out/udfsalvage
 TRIES = crates/try_samples/out/try_samples
 
 all: have-rt
-	@$(MAKE) -s --no-print-directory -j$(JOBS) $(PROGRAM)
+	@$(MAKE) -s --no-print-directory $(PROGRAM)
 	@echo "The program is $(PROGRAM)"
 
 have-rt:
@@ -39,28 +39,24 @@ below = $(foreach name,$(shell sed -n 's/^$(1)\( [^:]*\)\{0,1\}:\([^\#]*\).*/\2/
 
 sources = $(shell find crates/$(1)/src crates/$(1)/specs crates/$(1)/proofs -name '*.rt' -o -name '*.antt' 2> /dev/null)
 
-# A crate is proved once those below it are. Nothing is proved again unless a source changed.
+# Where a source of a crate or of one below it changed. Nothing is proved again unless one did.
 define crate-rule
-crates/$(1)/out/proved: crates.txt $(call sources,$(1)) $(foreach name,$(call below,$(1)),crates/$(name)/out/proved)
-	@echo "proving $(1)"
+crates/$(1)/out/changed: crates.txt $(call sources,$(1)) $(foreach name,$(call below,$(1)),crates/$(name)/out/changed)
 	@mkdir -p crates/$(1)/out
-	@cd crates/$(1) && $(RT) check > out/proving.log 2>&1 || { cat out/proving.log; exit 1; }
-	@echo "proved  $(1)"
 	@touch $$@
 endef
 
 $(foreach name,$(notdir $(wildcard crates/*)),$(eval $(call crate-rule,$(name))))
 
-# Only a proved program is built. rt run also runs it once.
-$(PROGRAM): crates/udfsalvage/out/proved
-	@echo "building udfsalvage"
-	@cd crates/udfsalvage && $(RT) run -- --version > /dev/null 2> out/building.log || { cat out/building.log; exit 1; }
-	@touch $@
+# Only a proved program is built. It is run once.
+define program-rule
+crates/$(1)/out/$(1): crates/$(1)/out/changed
+	@echo "proving $(1) and all that it stands on"
+	@tools/prove $$(RT) $(1)
+	@touch $$@
+endef
 
-$(TRIES): crates/try_samples/out/proved
-	@echo "building try_samples"
-	@cd crates/try_samples && $(RT) run -- salvage type1 > /dev/null 2> out/building.log || { cat out/building.log; exit 1; }
-	@touch $@
+$(foreach name,udfsalvage try_samples bench_crc bench_table bench_space,$(eval $(call program-rule,$(name))))
 
 demo: all
 	@mkdir -p out
