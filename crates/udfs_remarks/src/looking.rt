@@ -1,10 +1,10 @@
 //! What is found in the volume of a table, or why the table has no report.
 
-ghost use Rattle.std.specs.Prelude.{◌≡◌, IfOk, IfErr};
+ghost use Rattle.std.specs.Prelude.{◌≡◌, IfOk, IfErr, alloc_error};
 ghost use Rattle.udfs_lattice.specs.Tables.{state_of};
 ghost use Rattle.udfs_volume.specs.Seen.{IsRising};
 ghost use Rattle.udfs_salvage.specs.Headline.{HeadlineBy};
-ghost use Rattle.udfs_salvage.specs.Listings.{listing_now};
+ghost use Rattle.udfs_salvage.specs.Listings.{AreUnnamed, listing_now};
 ghost use Rattle.udfs_salvage.specs.Reports.{IsReportBy};
 ghost use Rattle.udfs_salvage.specs.Surveys.{survey_now};
 ghost use Rattle.udfs_remarks.specs.NoReports.{IsUntold};
@@ -13,8 +13,11 @@ use crate::no_reports::refused_report;
 use std::alloc::Global;
 use udfs_common::refusal::Refusal;
 use udfs_lattice::BlockTable;
-use udfs_salvage::{Listing, Survey, list_volume_by, survey_volume_by};
+use udfs_salvage::{
+    Listing, Survey, list_unnamed, list_volume_by, reread_blocks, survey_volume_by,
+};
 use udfs_volume::Profile;
+use udfs_walk::Unnamed;
 
 /// The listing of a table's volume by the rules of a profile, where `last` is its last block, or why the table has no report.
 pub fn listed<'a>(
@@ -53,5 +56,27 @@ pub fn surveyed<'a>(
     match survey_volume_by(alloc, table, last, profile) {
         Ok(survey) => Ok(survey),
         Err(why) => Err(refused_report(why)),
+    }
+}
+
+/// The entries of a listing that no name leads to, or want of memory.
+pub fn unnamed_in(alloc: Global, listing: &Listing<'_>) -> Result<Vec<Unnamed>, Refusal>
+    ensures entries { IfOk result (λ entries. AreUnnamed listing.now entries.items) }
+    ensures refused { IfErr result (λ refusal. refusal ≡ Refusal.Memory alloc_error) }
+{
+    match list_unnamed(alloc, listing) {
+        Ok(entries) => Ok(entries),
+        Err(error) => Err(refused_report(error)),
+    }
+}
+
+/// The blocks of a listing that are worth reading again, or want of memory.
+pub fn rereads_in(alloc: Global, listing: &Listing<'_>) -> Result<Vec<u32>, Refusal>
+    ensures blocks { IfOk result (λ blocks. blocks.items ≡ (listing_now listing.now).reread) }
+    ensures refused { IfErr result (λ refusal. refusal ≡ Refusal.Memory alloc_error) }
+{
+    match reread_blocks(alloc, listing) {
+        Ok(blocks) => Ok(blocks),
+        Err(error) => Err(refused_report(error)),
     }
 }

@@ -8,7 +8,8 @@ ghost use Rattle.udfs_salvage.specs.Surveys.{survey_now};
 ghost use Rattle.udfs_common.specs.Keeping.{IsKept, IsTaken, OfPaths, RefusedOut};
 ghost use Rattle.udfs_common.specs.Guarding.{MayNotBeSeen};
 ghost use Rattle.udfs_reports.specs.Paging.{IsFreePage, IsPage, IsSparedPage, MayPage, MayPageOf, PutsPage};
-ghost use Rattle.udfs_reports.specs.Telling.{IsRefusedPut, OfPathsRefused};
+ghost use Rattle.udfs_reports.specs.Telling.{IsRefusedPut};
+ghost use Rattle.udfs_remarks.specs.PathsRefused.{OfPathsRefused};
 ghost use Rattle.udfs_common.specs.Refusing.{IsUnput};
 ghost use Rattle.udfs_common.specs.declared.sources.AnySource.{AnySource};
 

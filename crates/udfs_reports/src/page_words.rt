@@ -7,7 +7,8 @@ ghost use Rattle.udfs_words.specs.Asking.{asked_streams, input_texts, pair_texts
 ghost use Rattle.udfs_common.specs.Guarding.{MayNotBeSeen};
 ghost use Rattle.udfs_common.specs.Keeping.{IsKept, IsTaken, RefusedOut};
 ghost use Rattle.udfs_reports.specs.Paging.{IsFreePage, IsSparedPage, MayPageAsked, PageAsked, WritesPage, page_path};
-ghost use Rattle.udfs_reports.specs.Telling.{AskedRefused, IsRefusedPut};
+ghost use Rattle.udfs_reports.specs.Telling.{IsRefusedPut};
+ghost use Rattle.udfs_remarks.specs.PathsRefused.{AskedRefused};
 ghost use Rattle.udfs_common.specs.declared.sources.AnySource.{AnySource};
 
 use crate::page::{look_at_page, page};

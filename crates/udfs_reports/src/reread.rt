@@ -9,10 +9,9 @@ use udfs_common::refusal::Refusal;
 use udfs_files::Stage;
 use udfs_lattice::BlockTable;
 use udfs_reading::{Sink, WriteFault};
-use udfs_remarks::looking::listed;
-use udfs_remarks::no_reports::refused_report;
+use udfs_remarks::looking::{listed, rereads_in};
 use udfs_remarks::remarks::remark_on_listing;
-use udfs_salvage::{reread_blocks, write_numbers};
+use udfs_salvage::write_numbers;
 use udfs_volume::Profile;
 
 /// The numbers of the blocks of a volume that are worth reading again.
@@ -36,9 +35,9 @@ impl Telling for Numbers {
             Ok(listing) => listing,
             Err(refusal) => return Err(refusal),
         };
-        let blocks = match reread_blocks(alloc, &listing) {
+        let blocks = match rereads_in(alloc, &listing) {
             Ok(blocks) => blocks,
-            Err(error) => return Err(refused_report(error)),
+            Err(refusal) => return Err(refusal),
         };
         match write_numbers(&blocks, out) {
             Ok(()) => {

@@ -7,7 +7,7 @@ ghost use Rattle.udfs_reading.specs.Writing.{Failed, Wrote};
 ghost use Rattle.udfs_rescue.specs.Writing.{domain_text};
 ghost use Rattle.udfs_common.specs.Keeping.{IsKept, IsTaken, OfPaths, RefusedOut};
 ghost use Rattle.udfs_reports.specs.Rereading.{IsDomain, IsRefusedDomain, MayDomain, MayDomainOf, PrintsDomain, breaks, domain_line, runs_in};
-ghost use Rattle.udfs_reports.specs.Telling.{OfPathsRefused};
+ghost use Rattle.udfs_remarks.specs.PathsRefused.{OfPathsRefused};
 ghost use Rattle.udfs_common.specs.Refusing.{IsUnput};
 ghost use Rattle.udfs_common.specs.declared.sources.AnySource.{AnySource};
 
@@ -20,11 +20,9 @@ use udfs_common::sources::AnySource;
 use udfs_files::{Content, Stage};
 use udfs_lattice::BlockTable;
 use udfs_reading::{Sink, Source, WriteFault, write_all};
-use udfs_remarks::looking::listed;
-use udfs_remarks::no_reports::refused_report;
+use udfs_remarks::looking::{listed, rereads_in};
 use udfs_remarks::remarks::remark_on_listing;
 use udfs_rescue::write_domain;
-use udfs_salvage::reread_blocks;
 use udfs_volume::Profile;
 use udfs_words::input_path::InputPath;
 
@@ -159,9 +157,9 @@ fn map_of<F: Files, O: Sink>(
         Ok(listing) => listing,
         Err(refusal) => return Err(refusal),
     };
-    let blocks = match reread_blocks(alloc, &listing) {
+    let blocks = match rereads_in(alloc, &listing) {
         Ok(blocks) => blocks,
-        Err(error) => return Err(refused_report(error)),
+        Err(refusal) => return Err(refusal),
     };
     match put_domain(alloc, &blocks, last, path, files, out) {
         Ok(()) => {}

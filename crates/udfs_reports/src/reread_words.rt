@@ -10,7 +10,8 @@ ghost use Rattle.udfs_common.specs.Keeping.{IsKept, IsTaken, OfPaths, RefusedOut
 ghost use Rattle.udfs_common.specs.declared.sources.AnySource.{AnySource};
 ghost use Rattle.udfs_words.specs.declared.input_path.InputPath.{InputPath};
 ghost use Rattle.udfs_reports.specs.Rereading.{DomainAsked, IsRefusedDomain, PrintsNumbers, WritesDomain, MayDomainAsked, numbers_of};
-ghost use Rattle.udfs_reports.specs.Telling.{AskedRefused, IsRefusedTelling};
+ghost use Rattle.udfs_reports.specs.Telling.{IsRefusedTelling};
+ghost use Rattle.udfs_remarks.specs.PathsRefused.{AskedRefused};
 
 use crate::reread::Numbers;
 use crate::reread_map::reread_map;

@@ -8,7 +8,8 @@ ghost use Rattle.udfs_words.specs.Asking.{IsLast, IsProfile};
 ghost use Rattle.udfs_salvage.specs.Reports.{Report};
 ghost use Rattle.udfs_common.specs.Keeping.{OfPaths};
 ghost use Rattle.udfs_common.specs.declared.sources.AnySource.{AnySource};
-ghost use Rattle.udfs_reports.specs.Telling.{EndOrPathsRefused, IsRefusedTelling, OfPathsRefused, Tells};
+ghost use Rattle.udfs_reports.specs.Telling.{IsRefusedTelling, Tells};
+ghost use Rattle.udfs_remarks.specs.PathsRefused.{EndOrPathsRefused, OfPathsRefused};
 
 use clap::ArgMatches;
 use std::alloc::Global;
