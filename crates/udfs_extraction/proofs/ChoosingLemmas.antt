@@ -2,8 +2,9 @@
 use Rattle.std.proofs.lemmas.Bool.{cases_Bool}
 use Rattle.std.proofs.lemmas.List.{append_cancel_left, take-append-drop}
 use Rattle.std.proofs.lemmas.Slice.Eq.{bytes_eq-Decides}
-use Rattle.std.proofs.Common.{◌≡◌, inl, inr, ◌++◌, ◌∷◌, [], ℕ, suc, Bool, true, false, List, Some, None, ap, arith, drop, length, nat_eq, slice_get, slice_index_or, map, Bor, ◌==◌, refl, sym, ◌∙◌, subst, take, append_assoc}
-use Rattle.std.specs.Prelude.{zero}
+use Rattle.std.proofs.Common.{◌≡◌, ◌<◌, inl, inr, ◌++◌, ◌∷◌, [], ℕ, suc, Bool, true, false, List, Some, None, ap, arith, drop, length, nat_eq, slice_get, slice_index_or, map, Bor, ◌==◌, refl, sym, ◌∙◌, subst, take, append_assoc}
+use Rattle.std.specs.Prelude.{◌&&◌, zero}
+use Rattle.std.specs.List.{list_all}
 use Rattle.std.specs.Str.{bytes_eq}
 use Rattle.udfs_extraction.specs.Choosing.{goes_on}
 
@@ -55,3 +56,14 @@ pub word_at : (words : List (Bor (List ℕ))) (k : ℕ) (other : Bor (List ℕ))
 word_at [] k other word at = let bad : None ≡ Some word = at in absurd (let z : ⊥ = cc in z)
 word_at (w ∷ words) zero other word at = let same : w.now ≡ word = cc in same
 word_at (w ∷ words) (suc k) other word at = word_at words k other word at
+
+-- a word at a place, and that it was given there
+pub word_there : (words : List (Bor (List ℕ))) (k : ℕ) (other : Bor (List ℕ)) → k < length words → (word : List ℕ) × (slice_get (map (λ (w : Bor (List ℕ)). w.now) words) k ≡ Some word) × ((slice_index_or words k other).now ≡ word)
+word_there [] k other below = absurd (omega (arith, below))
+word_there (w ∷ words) zero other below = (w.now, refl, refl)
+word_there (w ∷ words) (suc k) other below = word_there words k other (omega (arith, below))
+
+-- what holds of the word at each place holds of all
+pub all_by : (P : List ℕ → Bool) (words : List (List ℕ)) → ((k : ℕ) (word : List ℕ) → k < length words → slice_get words k ≡ Some word → P word ≡ true) → list_all P words ≡ true
+all_by P [] each = refl
+all_by P (word ∷ words) each = λ i. each zero word (omega arith) refl i && all_by P words (λ k other less at. each (suc k) other (omega (arith, less)) at) i

@@ -9,4 +9,5 @@ mod ShortNameLemmas
 mod ShortNameSizes
 mod PlaceLemmas
 mod ListedLemmas
+mod RefusedLemmas
 pub mod ManifestJob

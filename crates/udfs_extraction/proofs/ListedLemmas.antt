@@ -81,7 +81,7 @@ at_index f (x ∷ xs) (suc i) m below is = at_index f xs i m (omega (arith, belo
 
 -- ---- which nodes are asked for
 
-same_node : (M : Blocks) (a : Answer Found) (ns : List NodeFields) (word : List ℕ) → is_node (map (full_in M a) ns) word ≡ is_node ns word
+pub same_node : (M : Blocks) (a : Answer Found) (ns : List NodeFields) (word : List ℕ) → is_node (map (full_in M a) ns) word ≡ is_node ns word
 same_node M a [] word = refl
 same_node M a (n ∷ ns) word = ap (λ b. bytes_eq (path_name n.path) word || b) (same_node M a ns word)
 

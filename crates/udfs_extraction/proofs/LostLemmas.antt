@@ -1,5 +1,5 @@
 -- How the entries that no name leads to are gone through, and what was written stays.
-use Rattle.std.proofs.Common.{◌≡◌, ◌≢◌, inl, inr, ⊎_elim, ℕ, ◌++◌, ◌≤◌, List, [], ◌∷◌, Option, Some, None, refl, sym, ◌∙◌, subst, arith, length, ap, slice_get, append_assoc, rules, Bool, true, false, cond, codes}
+use Rattle.std.proofs.Common.{◌≡◌, ◌≢◌, inl, ⊎_elim, ℕ, ◌++◌, ◌≤◌, List, [], ◌∷◌, Option, Some, None, refl, sym, ◌∙◌, subst, arith, length, ap, slice_get, append_assoc, rules, Bool, true, false, cond, codes}
 use Rattle.udfs_files.specs.Disk.{Disk, Same, SameBut, Goes}
 use Rattle.udfs_lattice.specs.Tables.{Table, state_of}
 use Rattle.udfs_volume.specs.declared.profiles.Profile.{Profile}

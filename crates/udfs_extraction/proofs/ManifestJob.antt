@@ -1,5 +1,5 @@
 -- The lines of a manifest, one after another; and that a file with them is put.
-use Rattle.std.proofs.Common.{◌≡◌, ◌⊎◌, ◌∙◌, ◌+◌, ◌<◌, ◌≤◌, ℕ, zero, suc, List, [], ◌∷◌, ◌++◌, Bool, Option, Some, None, ap, append_assoc, arith, get_or, inl, inr, length, map, refl, slice_get, sym, take, ⊎_elim}
+use Rattle.std.proofs.Common.{◌≡◌, ◌∙◌, ◌+◌, ◌<◌, ◌≤◌, ℕ, zero, suc, List, [], ◌∷◌, ◌++◌, Bool, Option, Some, None, ap, append_assoc, arith, get_or, inl, inr, length, map, refl, slice_get, sym, take, ⊎_elim}
 use Rattle.std.specs.Io.KnownBytes.{Appends}
 use Rattle.std.proofs.lemmas.List.{append-nil, take_more}
 use Rattle.udfs_files.specs.Disk.{Disk, Goes, Replaced}

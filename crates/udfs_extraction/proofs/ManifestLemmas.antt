@@ -3,7 +3,7 @@ use Rattle.std.proofs.lemmas.List.{append-nil}
 use Rattle.std.proofs.lemmas.List.Concat.{flat_map-append}
 use Rattle.sha2.specs.Sha256.{sha256}
 use Rattle.std.proofs.Common.{◌≡◌, ◌≢◌, ◌⊎◌, inl, inr, ⊎_elim, ℕ, suc, ◌+◌, arith, ◌++◌, List, [], ◌∷◌, Bool, true, false, Option, Some, None, refl, sym, ◌∙◌, subst, length, ap, slice_get, drop, append_assoc, codes}
-use Rattle.udfs_files.specs.Disk.{Disk, IsOwn}
+use Rattle.udfs_files.specs.Disk.{Disk}
 use Rattle.std.specs.Prelude.{◌&&◌}
 use Rattle.std.specs.List.{list_all}
 use Rattle.udfs_lattice.specs.Tables.{Table, state_of}
@@ -16,7 +16,7 @@ use Rattle.udfs_salvage.specs.declared.volumes.Volume as code_volume
 use Rattle.udfs_salvage.specs.NodeTexts.{names_text}
 use Rattle.udfs_salvage.specs.Reports.{IsReportBy, Report, is_whole}
 use Rattle.udfs_extraction.specs.Choosing.{chosen, goes_on, is_node}
-use Rattle.udfs_extraction.specs.Extracting.{IsDone, IsElsewhere, IsIn, Puts, PutsBy, Stay, all_good, path_below}
+use Rattle.udfs_extraction.specs.Extracting.{IsDone, IsElsewhere, Puts, PutsBy, Stay, all_good, path_below}
 use Rattle.udfs_extraction.specs.Manifests.{AreLines, IsBeside, IsLine, IsNoted, ListsChosen, ListsOf, MayPutLast, PutsListed, PutsWith, SparesListed, digest_line, note_text, notes_of, notes_text}
 use Rattle.udfs_extraction.specs.ShortNames.{placed}
 use Rattle.udfs_extraction.specs.declared.extract.Fate.{Fate}

@@ -8,3 +8,4 @@ pub mod LostFiles
 pub mod Timing
 pub mod ShortNames
 pub mod Sparing
+pub mod Refused

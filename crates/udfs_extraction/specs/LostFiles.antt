@@ -8,7 +8,7 @@
 --     WritesLost                       what is made and told of the entries of the report of a table
 --     AddsLost                         the nodes are written and told as without `--unnamed`, and then the lost files
 --     IsNewFolder                      nothing is where the folder is to be, and other paths do not lead there
-use Rattle.std.specs.Prelude.{◌≡◌, ◌≢◌, ℕ, Bool, true, false, List, [], ◌∷◌, ◌++◌, ⊤, ◌&&◌, Option, Some, None, cond, codes, length, map}
+use Rattle.std.specs.Prelude.{◌≡◌, ℕ, Bool, false, List, [], ◌∷◌, ◌++◌, ⊤, ◌&&◌, Option, Some, None, cond, codes, length}
 use Rattle.udfs_file.specs.declared.cells.Cell.{Cell}
 use Rattle.udfs_files.specs.Disk.{Disk, Goes}
 use Rattle.udfs_reading.specs.Writing.{Wrote}

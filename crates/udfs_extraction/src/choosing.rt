@@ -1,11 +1,12 @@
 //! Which nodes of a volume are asked for by their paths, as the report prints them.
 
-ghost use Rattle.std.specs.Prelude.{◌≡◌, ◌<◌, ◌-◌, ℕ, List, Some, IfOk, IsErrOf, OnOk, false, true, map, slice_get, string_bytes};
+ghost use Rattle.std.specs.Prelude.{◌≡◌, ◌<◌, ◌-◌, ◌⊎◌, ℕ, List, Some, IfOk, IfErr, IsErrOf, OnOk, alloc_error, false, true, map, slice_get, string_bytes};
 ghost use Rattle.std.specs.List.{list_all, list_any};
 ghost use Rattle.std.specs.Str.{bytes_eq};
 ghost use Rattle.udfs_salvage.specs.NodeTexts.{path_name};
 ghost use Rattle.udfs_salvage.specs.Reports.{is_whole};
 ghost use Rattle.udfs_extraction.specs.Choosing.{AsksByNames, chosen, goes_on, is_chosen, is_node, is_under};
+ghost use Rattle.udfs_extraction.specs.Refused.{NamesNoNode};
 
 use std::alloc::{AllocError, Global};
 use udfs_common::refusal::Refusal;
@@ -116,6 +117,7 @@ fn is_node(alloc: Global, nodes: &[Node], word: &str) -> Result<bool, AllocError
 /// That each of these words is the path of a node; or which is the first that is none, counted from 1.
 pub fn all_are_nodes(alloc: Global, only: &[&str], nodes: &[Node]) -> Result<(), Refusal>
     ensures all { OnOk result (list_all (is_node nodes.now) (map (λ word. word.now) only.now) ≡ true) }
+    ensures why { IfErr result (λ refusal. (refusal ≡ Refusal.Memory alloc_error) ⊎ NamesNoNode (map (λ word. word.now) only.now) nodes.now refusal) }
     ensures none { (i : ℕ) → IsErrOf result (Refusal.NoNode i) → (0 < i) × ((word : List ℕ) → slice_get (map (λ word. word.now) only.now) (i - 1) ≡ Some word → is_node nodes.now word ≡ false) }
 {
     for (index, word) in only.iter().enumerate() {

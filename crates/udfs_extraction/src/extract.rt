@@ -8,6 +8,8 @@ ghost use Rattle.udfs_extraction.specs.Extracting.{ExtractsChosen, IsDone, IsEls
 ghost use Rattle.udfs_common.specs.Keeping.{OfPaths};
 ghost use Rattle.udfs_extraction.specs.Manifests.{IsManifest, PutsNoted, notes_text};
 ghost use Rattle.udfs_extraction.specs.ShortNames.{own_name};
+ghost use Rattle.udfs_extraction.specs.Refused.{IsRefusedMaking, NodesStop};
+ghost use Rattle.udfs_remarks.specs.PathsRefused.{OfPathsRefused};
 ghost use Rattle.udfs_common.specs.declared.sources.AnySource.{AnySource};
 
 use crate::choosing::{all_are_nodes, chosen_are_whole};
@@ -174,6 +176,7 @@ pub fn put_report<F: Files, O: Sink>(
         (λ told. IsPut F.tells (Fails F.faults ⊎ SinkFails F.Output.stream) listing.now.table.now told fill short folder.now (F.holds files.new) (F.moment files.new) (F.left_since files.new))
         (λ told fates text. digest ≡ true → F.tells → IsManifest (F.holds files.new) folder.now short told fates text)
         files.old files.new (listing_now listing.now) (O.stream out.old) (O.stream out.new) made.good (option_map (λ m. notes_text short (listing_now listing.now) m.items) made.manifest)) }
+    ensures why { IfErr result (NodesStop F.Files F.Output.stream (map (λ word. word.now) only.now) folder.now fill short files.old files.new (O.stream out.old) (O.stream out.new) listing.now.table.now (listing_now listing.now)) }
     ensures no_node { IfErr result (λ refusal. (i : ℕ) → refusal ≡ Refusal.NoNode i → files.new ≡ files.old) }
     ensures stays { F.tells → Stay (F.holds files.old) (F.holds files.new) }
     ensures outside { (q : List ℕ) → (¬ IsIn folder.now q) → F.holds files.new q ≡ F.holds files.old q }
@@ -182,8 +185,14 @@ pub fn put_report<F: Files, O: Sink>(
 {
     match &listing.volume {
         Volume::Open(_) => {
-            all_are_nodes(alloc, only, &listing.nodes)?;
-            let whole = chosen_are_whole(alloc, only, &listing.nodes)?;
+            match all_are_nodes(alloc, only, &listing.nodes) {
+                Ok(()) => {}
+                Err(refusal) => return Err(refusal),
+            }
+            let whole = match chosen_are_whole(alloc, only, &listing.nodes) {
+                Ok(whole) => whole,
+                Err(AllocError) => return Err(Refusal::Memory(AllocError)),
+            };
             if put_folder(folder, files) != Fate::Made {
                 return Err(Refusal::Folder);
             }
@@ -233,6 +242,10 @@ pub fn extract<F: Files, O: Sink>(
     ensures chosen { IfOk result (λ good. OfPaths (λ path. F.holds files.old (F.real files.old path)) (⟦<AnySource<F::Input, F::Image> as Source>⟧.remaining) inputs.now
         (ExtractsChosen (map (λ word. word.now) only.now) short (λ table told. IsPut F.tells (Fails F.faults ⊎ SinkFails F.Output.stream) table told fill short folder.now (F.holds files.new) (F.moment files.new) (F.left_since files.new))
         F.holds folder.now files.old files.new profile last (O.stream out.old) (O.stream out.new) good)) }
+    // Why it is refused, and what was made and told by then.
+    ensures why { IfErr result (OfPathsRefused (λ path. F.holds files.old (F.real files.old path)) (F.shut files.old) (⟦<AnySource<F::Input, F::Image> as Source>⟧.remaining) (⟦<AnySource<F::Input, F::Image> as Source>⟧.faults) inputs.now
+        ((files.new ≡ files.old) × (O.stream out.new ≡ O.stream out.old)) (IsRefusedMaking ((files.new ≡ files.old) × (O.stream out.new ≡ O.stream out.old)) profile last
+        (NodesStop F.Files F.Output.stream (map (λ word. word.now) only.now) folder.now fill short files.old files.new (O.stream out.old) (O.stream out.new)))) }
     // A path that is no node's is refused before anything is made.
     ensures no_node { IfErr result (λ refusal. (i : ℕ) → refusal ≡ Refusal.NoNode i → files.new ≡ files.old) }
     // Whatever the answer, no file that was there is changed, and nothing outside of the folder; nor by a crash at any moment.
@@ -240,12 +253,20 @@ pub fn extract<F: Files, O: Sink>(
     ensures outside { (q : List ℕ) → (¬ IsIn folder.now q) → F.holds files.new q ≡ F.holds files.old q }
     ensures crash { F.tells → Goes F.moment F.may_leave F.left_since files.old files.new (Spares folder.now (F.holds files.old)) }
 {
-    let table = joined(alloc, inputs, files)?;
+    let table = match joined(alloc, inputs, files) {
+        Ok(table) => table,
+        Err(refusal) => return Err(refusal),
+    };
     files.begin(Stage::Walking);
-    let listing = listed(alloc, &table, last, profile)?;
+    let listing = match listed(alloc, &table, last, profile) {
+        Ok(listing) => listing,
+        Err(refusal) => return Err(refusal),
+    };
     files.begin(Stage::Writing);
-    let made = put_report(
+    match put_report(
         alloc, &listing, only, fill, short, false, folder, files, out,
-    )?;
-    Ok(made.good)
+    ) {
+        Ok(made) => Ok(made.good),
+        Err(refusal) => Err(refusal),
+    }
 }

@@ -1,12 +1,15 @@
 //! The command `extract --manifest`: the files of a volume out into a new folder, and then a manifest of them.
 
-ghost use Rattle.std.specs.Prelude.{◌≡◌, ◌≢◌, ◌⊎◌, ℕ, List, Some, IfOk, IfErr, OnOk, map};
+ghost use Rattle.std.specs.Prelude.{◌≡◌, ◌≢◌, ◌⊎◌, ℕ, List, Some, IfOk, IfErr, OnOk, alloc_error, map};
 ghost use Rattle.udfs_files.specs.Disk.{Fails, SinkFails, Goes, IsOwn, Replaced};
 ghost use Rattle.udfs_salvage.specs.Listings.{listing_now};
 ghost use Rattle.udfs_extraction.specs.Extracting.{IsElsewhere, IsPut};
 ghost use Rattle.udfs_common.specs.Keeping.{IsKept, OfPaths};
 ghost use Rattle.udfs_extraction.specs.Manifests.{IsManifest, IsPutLast, ListsChosen, ListsOf, SparesListed, notes_text};
+ghost use Rattle.udfs_common.specs.Refusing.{IsUnput};
 ghost use Rattle.udfs_common.specs.declared.sources.AnySource.{AnySource};
+ghost use Rattle.udfs_extraction.specs.Refused.{IsRefusedMaking, ListStops};
+ghost use Rattle.udfs_remarks.specs.PathsRefused.{OfPathsRefused};
 
 use crate::extract::put_report;
 use crate::manifest::Noted;
@@ -25,7 +28,8 @@ use udfs_words::input_path::InputPath;
 
 /// Why a manifest was not put.
 fn unput(error: JobError<TextError>) -> Refusal
-    ensures { (i : ℕ) → result ≢ Refusal.NoNode i }
+    ensures no_node { (i : ℕ) → result ≢ Refusal.NoNode i }
+    ensures told { (result ≡ Refusal.Memory alloc_error) ⊎ (((result ≡ Refusal.Output) ⊎ (result ≡ Refusal.Unkept)) × ((error ≢ JobError.Files ReplaceError.OutOfMemory) × (error ≢ JobError.Refused TextError.OutOfMemory))) }
 {
     match error {
         JobError::Files(ReplaceError::OutOfMemory) => Refusal::Memory(AllocError),
@@ -48,6 +52,7 @@ fn put_manifest<F: Files>(
     ensures crash { F.tells → Goes F.moment F.may_leave F.left_since files.old files.new (Replaced place.now (notes_text short (listing_now listing.now) noted.now)) }
     ensures elsewhere { (q : List ℕ) → q ≢ place.now → (¬ IsOwn place.now q) → F.holds files.new q ≡ F.holds files.old q }
     ensures no_node { IfErr result (λ refusal. (i : ℕ) → refusal ≢ Refusal.NoNode i) }
+    ensures why { IfErr result (IsUnput (Fails F.faults ⊎ SinkFails F.Output.stream)) }
 {
     let text = ManifestText {
         alloc,
@@ -80,6 +85,7 @@ pub fn list_report<F: Files, O: Sink>(
         (λ f text. F.tells → IsPutLast F.holds F.may_leave F.moment F.left_since place.now f files.new text)
         files.old mid files.new (listing_now listing.now) (O.stream out.old) (O.stream out.new) good
         × ((q : List ℕ) → IsElsewhere (map (λ word. word.now) only.now) short (listing_now listing.now) folder.now q → F.holds mid q ≡ F.holds files.old q)) }
+    ensures why { IfErr result (ListStops F.Files F.Output.stream (map (λ word. word.now) only.now) folder.now fill short files.old files.new (O.stream out.old) (O.stream out.new) listing.now.table.now (listing_now listing.now)) }
     ensures no_node { IfErr result (λ refusal. (i : ℕ) → refusal ≡ Refusal.NoNode i → files.new ≡ files.old) }
     ensures spares { SparesListed F.tells F.holds F.may_leave F.moment F.left_since short folder.now place.now files.old files.new }
 {
@@ -119,6 +125,10 @@ pub fn extract_listed<F: Files, O: Sink>(
         (λ f told fates text. F.tells → IsManifest (F.holds f) folder.now short told fates text)
         (λ f text. F.tells → IsPutLast F.holds F.may_leave F.moment F.left_since place.now f files.new text)
         F.holds folder.now files.old files.new profile last (O.stream out.old) (O.stream out.new) good)) }
+    // Why it is refused, and what was made and told by then.
+    ensures why { IfErr result (OfPathsRefused (λ path. F.holds files.old (F.real files.old path)) (F.shut files.old) (⟦<AnySource<F::Input, F::Image> as Source>⟧.remaining) (⟦<AnySource<F::Input, F::Image> as Source>⟧.faults) inputs.now
+        ((files.new ≡ files.old) × (O.stream out.new ≡ O.stream out.old)) (IsRefusedMaking ((files.new ≡ files.old) × (O.stream out.new ≡ O.stream out.old)) profile last
+        (ListStops F.Files F.Output.stream (map (λ word. word.now) only.now) folder.now fill short files.old files.new (O.stream out.old) (O.stream out.new)))) }
     // A path that is no node's is refused before anything is made.
     ensures no_node { IfErr result (λ refusal. (i : ℕ) → refusal ≡ Refusal.NoNode i → files.new ≡ files.old) }
     // Whatever the answer, no file that was there is changed, and nothing outside of the folder, but at the manifest's place; nor by a crash at any moment.

@@ -8,6 +8,8 @@ ghost use Rattle.udfs_common.specs.Keeping.{OfPaths};
 ghost use Rattle.udfs_extraction.specs.LostFiles.{AddsLost, IsLostPut, SparesLost, WritesLost};
 ghost use Rattle.udfs_extraction.specs.Manifests.{IsManifest, IsPutLast, ListsChosen, SparesListed};
 ghost use Rattle.udfs_common.specs.declared.sources.AnySource.{AnySource};
+ghost use Rattle.udfs_extraction.specs.Refused.{AddStops, IsRefusedMaking, ListAddStops};
+ghost use Rattle.udfs_remarks.specs.PathsRefused.{OfPathsRefused};
 
 use crate::extract::{is_all_good, put_report};
 use crate::extract_manifest::list_report;
@@ -19,9 +21,8 @@ use udfs_common::refusal::Refusal;
 use udfs_common::sources::AnySource;
 use udfs_files::Stage;
 use udfs_reading::{Sink, Source};
-use udfs_remarks::looking::listed;
-use udfs_remarks::no_reports::refused_report;
-use udfs_salvage::{Fill, list_unnamed};
+use udfs_remarks::looking::{listed, unnamed_in};
+use udfs_salvage::Fill;
 use udfs_volume::Profile;
 use udfs_words::input_path::InputPath;
 
@@ -50,6 +51,10 @@ pub fn extract_with_lost<F: Files, O: Sink>(
         (SparesLost F.tells F.holds F.may_leave F.moment F.left_since lost.now mid files.new)
         profile last (O.stream between) (O.stream out.new) lost_good)
         good)) }
+    // Why it is refused, and what was made and told by then.
+    ensures why { IfErr result (OfPathsRefused (λ path. F.holds files.old (F.real files.old path)) (F.shut files.old) (⟦<AnySource<F::Input, F::Image> as Source>⟧.remaining) (⟦<AnySource<F::Input, F::Image> as Source>⟧.faults) inputs.now
+        ((files.new ≡ files.old) × (O.stream out.new ≡ O.stream out.old)) (IsRefusedMaking ((files.new ≡ files.old) × (O.stream out.new ≡ O.stream out.old)) profile last
+        (AddStops F.Files F.Output.stream (map (λ word. word.now) only.now) folder.now fill short O.stream lost.now files.old files.new out.old out.new))) }
     // A path that is no node's is refused before anything is made.
     ensures no_node { IfErr result (λ refusal. (i : ℕ) → refusal ≡ Refusal.NoNode i → files.new ≡ files.old) }
     // Whatever the answer, no file that was there is changed, and nothing outside of the two folders; nor by a crash at any moment.
@@ -65,9 +70,9 @@ pub fn extract_with_lost<F: Files, O: Sink>(
         Ok(listing) => listing,
         Err(refusal) => return Err(refusal),
     };
-    let entries = match list_unnamed(alloc, &listing) {
+    let entries = match unnamed_in(alloc, &listing) {
         Ok(entries) => entries,
-        Err(error) => return Err(refused_report(error)),
+        Err(refusal) => return Err(refusal),
     };
     files.begin(Stage::Writing);
     let made = match put_report(
@@ -110,6 +115,10 @@ pub fn extract_listed_with_lost<F: Files, O: Sink>(
         (SparesLost F.tells F.holds F.may_leave F.moment F.left_since lost.now mid files.new)
         profile last (O.stream between) (O.stream out.new) lost_good)
         good)) }
+    // Why it is refused, and what was made and told by then.
+    ensures why { IfErr result (OfPathsRefused (λ path. F.holds files.old (F.real files.old path)) (F.shut files.old) (⟦<AnySource<F::Input, F::Image> as Source>⟧.remaining) (⟦<AnySource<F::Input, F::Image> as Source>⟧.faults) inputs.now
+        ((files.new ≡ files.old) × (O.stream out.new ≡ O.stream out.old)) (IsRefusedMaking ((files.new ≡ files.old) × (O.stream out.new ≡ O.stream out.old)) profile last
+        (ListAddStops F.Files F.Output.stream (map (λ word. word.now) only.now) folder.now fill short O.stream lost.now place.now files.old files.new out.old out.new))) }
     // A path that is no node's is refused before anything is made.
     ensures no_node { IfErr result (λ refusal. (i : ℕ) → refusal ≡ Refusal.NoNode i → files.new ≡ files.old) }
     // Whatever the answer, no file that was there is changed, and nothing outside of the two folders, but at the manifest's place; nor by a crash at any moment.
@@ -124,9 +133,9 @@ pub fn extract_listed_with_lost<F: Files, O: Sink>(
         Ok(listing) => listing,
         Err(refusal) => return Err(refusal),
     };
-    let entries = match list_unnamed(alloc, &listing) {
+    let entries = match unnamed_in(alloc, &listing) {
         Ok(entries) => entries,
-        Err(error) => return Err(refused_report(error)),
+        Err(refusal) => return Err(refusal),
     };
     files.begin(Stage::Writing);
     let made = match list_report(

@@ -1,21 +1,23 @@
 //! What the words after `extract` ask for.
 
-ghost use Rattle.std.specs.Prelude.{◌≡◌, ℕ, Bool, List, true, false, None, Some, IfOk, IfErr, OnOk, codes, string_bytes};
+ghost use Rattle.std.specs.Prelude.{◌≡◌, ◌⊎◌, ℕ, Bool, List, true, false, None, Some, IfOk, IfErr, IsErrOf, OnOk, alloc_error, codes, string_bytes};
 ghost use Rattle.clap.specs.Matches.{found_of, one_text};
-ghost use Rattle.udfs_files.specs.Disk.{Goes};
+ghost use Rattle.udfs_files.specs.Disk.{Fails, Goes};
 ghost use Rattle.udfs_salvage.specs.declared.extraction.Fill.{Fill};
-ghost use Rattle.udfs_words.specs.Asking.{IsPicked, folder_text, has_manifest, has_only, manifest_text};
+ghost use Rattle.udfs_words.specs.Asking.{IsPicked, folder_text, has_manifest, has_only, input_texts, manifest_text, pair_texts};
+ghost use Rattle.udfs_common.specs.Guarding.{MayNotBeSeen};
 ghost use Rattle.udfs_extraction.specs.Extracting.{IsIn, Spares, Stay};
 ghost use Rattle.udfs_extraction.specs.Manifests.{SparesListed};
 ghost use Rattle.udfs_extraction.specs.ByWords.{HasFreeManifest, ListsAsked, ExtractsAsked, ExtractsAllAsked};
 ghost use Rattle.udfs_common.specs.declared.sources.AnySource.{AnySource};
+ghost use Rattle.udfs_extraction.specs.Refused.{ListRefused, NodesRefused};
 
 use crate::choosing::ALL;
 use crate::extract::extract;
 use crate::extract_manifest::extract_listed;
 use crate::manifest_place::find_manifest;
 use clap::ArgMatches;
-use std::alloc::Global;
+use std::alloc::{AllocError, Global};
 use udfs_common::ends::asked_end;
 use udfs_common::files::Files;
 use udfs_common::inputs::unwritten;
@@ -57,15 +59,23 @@ fn extract_words<F: Files, O: Sink>(
         ExtractsAllAsked F.Files F.Output.stream (found_of words.now) (⟦<AnySource<F::Input, F::Image> as Source>⟧.remaining) O.stream files.old files.new out.old out.new good) }
     // With `--only` or without: only what is asked for is made, told and judged.
     ensures chosen { IfOk result (λ good. ExtractsAsked F.Files F.Output.stream (found_of words.now) (⟦<AnySource<F::Input, F::Image> as Source>⟧.remaining) O.stream files.old files.new out.old out.new good) }
+    // Why it is refused, and what was made and told by then.
+    ensures why { IfErr result (NodesRefused F.Files F.Output.stream (found_of words.now) (⟦<AnySource<F::Input, F::Image> as Source>⟧.remaining) (⟦<AnySource<F::Input, F::Image> as Source>⟧.faults) O.stream files.old files.new out.old out.new) }
     // A path that is no node's is refused before anything is made.
     ensures no_node { IfErr result (λ refusal. (i : ℕ) → refusal ≡ Refusal.NoNode i → files.new ≡ files.old) }
     ensures stays { F.tells → Stay (F.holds files.old) (F.holds files.new) }
     ensures outside { (q : List ℕ) → (¬ IsIn (folder_text (found_of words.now)) q) → F.holds files.new q ≡ F.holds files.old q }
     ensures crash { F.tells → Goes F.moment F.may_leave F.left_since files.old files.new (Spares (folder_text (found_of words.now)) (F.holds files.old)) }
 {
-    let inputs = asked_inputs(alloc, words)?;
+    let inputs = match asked_inputs(alloc, words) {
+        Ok(inputs) => inputs,
+        Err(AllocError) => return Err(Refusal::Memory(AllocError)),
+    };
     let paths = inputs.as_slice();
-    let last = asked_end(alloc, words, paths, files)?;
+    let last = match asked_end(alloc, words, paths, files) {
+        Ok(last) => last,
+        Err(refusal) => return Err(refusal),
+    };
     let profile = asked_profile(words);
     let only = words.get_strs(ONLY).unwrap_or(&[ALL]);
     let fill = asked_fill(words);
@@ -87,6 +97,8 @@ pub fn asked_place<F: Files>(
 ) -> Result<String, Refusal>
     ensures leads { IfOk result (λ place. F.tells → string_bytes place ≡ F.real files.now (manifest_text (found_of words.now))) }
     ensures free { OnOk result (HasFreeManifest F.Files (found_of words.now) files.now) }
+    ensures told { IfErr result (λ refusal. (refusal ≡ Refusal.Output) ⊎ (refusal ≡ Refusal.Spared) ⊎ (refusal ≡ Refusal.Memory alloc_error)) }
+    ensures cause { IsErrOf result Refusal.Output → MayNotBeSeen (F.shut files.now) (Fails F.Input.faults) (input_texts (found_of words.now)) (pair_texts (found_of words.now)) (manifest_text (found_of words.now)) }
 {
     let inputs = words.get_strs(INPUTS).unwrap_or(&[]);
     let parts = words.get_strs(PAIRS).unwrap_or(&[]);
@@ -107,19 +119,27 @@ fn manifest_words<F: Files, O: Sink>(
     ensures listed { IfOk result (λ good. ListsAsked F.Files F.Output.stream (found_of words.now) (⟦<AnySource<F::Input, F::Image> as Source>⟧.remaining) O.stream files.old files.new out.old out.new good) }
     // It takes the place of no file but a manifest, and never that of an input, nor of a file that is written.
     ensures free { OnOk result (HasFreeManifest F.Files (found_of words.now) files.old) }
+    // Why it is refused, and what was made and told by then.
+    ensures why { IfErr result (ListRefused F.Files F.Output.stream (found_of words.now) (⟦<AnySource<F::Input, F::Image> as Source>⟧.remaining) (⟦<AnySource<F::Input, F::Image> as Source>⟧.faults) O.stream files.old files.new out.old out.new (Fails F.Input.faults)) }
     // A path that is no node's is refused before anything is made.
     ensures no_node { IfErr result (λ refusal. (i : ℕ) → refusal ≡ Refusal.NoNode i → files.new ≡ files.old) }
     ensures spares { (short : Bool) × IsPicked (found_of words.now) (codes "short-names") true false short × SparesListed F.tells F.holds F.may_leave F.moment F.left_since short (folder_text (found_of words.now)) (F.real files.old (manifest_text (found_of words.now))) files.old files.new }
 {
     let short = asked_short(words);
-    let inputs = asked_inputs(alloc, words)?;
+    let inputs = match asked_inputs(alloc, words) {
+        Ok(inputs) => inputs,
+        Err(AllocError) => return Err(Refusal::Memory(AllocError)),
+    };
     let paths = inputs.as_slice();
     let place = match asked_place(alloc, words, files) {
         Ok(place) => place,
         Err(Refusal::Output) => return Err(unwritten(alloc, paths, files)),
         Err(refusal) => return Err(refusal),
     };
-    let last = asked_end(alloc, words, paths, files)?;
+    let last = match asked_end(alloc, words, paths, files) {
+        Ok(last) => last,
+        Err(refusal) => return Err(refusal),
+    };
     let profile = asked_profile(words);
     let only = words.get_strs(ONLY).unwrap_or(&[ALL]);
     let fill = asked_fill(words);
@@ -157,6 +177,9 @@ pub fn extract_as<F: Files, O: Sink>(
     // With `--manifest` the same, and then the manifest is put.
     ensures listed { IfOk result (λ good. has_manifest (found_of words.now) ≡ true →
         ListsAsked F.Files F.Output.stream (found_of words.now) (⟦<AnySource<F::Input, F::Image> as Source>⟧.remaining) O.stream files.old files.new out.old out.new good × HasFreeManifest F.Files (found_of words.now) files.old) }
+    // Why it is refused, and what was made and told by then.
+    ensures why { IfErr result (λ refusal. has_manifest (found_of words.now) ≡ false → NodesRefused F.Files F.Output.stream (found_of words.now) (⟦<AnySource<F::Input, F::Image> as Source>⟧.remaining) (⟦<AnySource<F::Input, F::Image> as Source>⟧.faults) O.stream files.old files.new out.old out.new refusal) }
+    ensures why_listed { IfErr result (λ refusal. has_manifest (found_of words.now) ≡ true → ListRefused F.Files F.Output.stream (found_of words.now) (⟦<AnySource<F::Input, F::Image> as Source>⟧.remaining) (⟦<AnySource<F::Input, F::Image> as Source>⟧.faults) O.stream files.old files.new out.old out.new (Fails F.Input.faults) refusal) }
     // A path that is no node's is refused before anything is made.
     ensures no_node { IfErr result (λ refusal. (i : ℕ) → refusal ≡ Refusal.NoNode i → files.new ≡ files.old) }
     ensures stays { has_manifest (found_of words.now) ≡ false → F.tells → Stay (F.holds files.old) (F.holds files.new) }

@@ -1,6 +1,7 @@
 //! Where a manifest goes: to a path that is none of the files that are written, and takes the place of nothing but a manifest.
 
-ghost use Rattle.std.specs.Prelude.{◌≡◌, ◌⊎◌, ◌∷◌, ◌++◌, ℕ, List, Some, true, IfOk, IfErr, OnErr, codes, map, string_bytes, alloc_error};
+ghost use Rattle.std.specs.Prelude.{◌≡◌, ◌⊎◌, ◌∷◌, ◌++◌, ℕ, List, Some, true, IfOk, IfErr, IsErrOf, OnErr, codes, map, string_bytes, alloc_error};
+ghost use Rattle.udfs_common.specs.Guarding.{MayNotBeSeen};
 ghost use Rattle.udfs_files.specs.Disk.{Fails};
 ghost use Rattle.udfs_extraction.specs.Manifests.{IsBeside, IsFreeManifest};
 ghost use Rattle.udfs_extraction.specs.SumLines.{begins_as_sums, begins_by, fits, is_digit};
@@ -59,6 +60,7 @@ fn begins_by<R: Source>(source: &mut R, signs: &[u8]) -> Result<bool, DeviceFaul
 /// Whether this byte, and behind it what a source has left, begin as a manifest's line does.
 fn begins_behind<R: Source>(first: u8, source: &mut R) -> Result<bool, DeviceFault>
     ensures begins { IfOk result (λ so. (rest : List ℕ) → R.remaining source.old ≡ Some rest → so ≡ begins_as_sums (first ∷ rest)) }
+    ensures fault { OnErr result (Fails R.faults) }
 {
     if first == b'\\' {
         return begins_by(source, SUM);
@@ -72,6 +74,7 @@ fn begins_behind<R: Source>(first: u8, source: &mut R) -> Result<bool, DeviceFau
 /// Whether what a source has left begins as a manifest does, or is nothing at all.
 fn begins_as_sums<R: Source>(source: &mut R) -> Result<bool, DeviceFault>
     ensures begins { IfOk result (λ so. (bytes : List ℕ) → R.remaining source.old ≡ Some bytes → so ≡ begins_as_sums bytes) }
+    ensures fault { OnErr result (Fails R.faults) }
 {
     let mut byte = [0u8; 1];
     match source.read(&mut byte) {
@@ -84,6 +87,7 @@ fn begins_as_sums<R: Source>(source: &mut R) -> Result<bool, DeviceFault>
 /// Whether the file at a path begins as a manifest does, or is empty.
 fn is_manifest<F: Files>(path: &str, files: &F) -> Result<bool, DeviceFault>
     ensures yes { IfOk result (λ so. so ≡ true → (bytes : List ℕ) → F.holds files.now (F.real files.now path.now) ≡ Some (Some bytes) → begins_as_sums bytes ≡ true) }
+    ensures fault { OnErr result (F.shut files.now path.now ⊎ Fails F.Input.faults) }
 {
     match files.open(path) {
         Ok(mut file) => match begins_as_sums(&mut file) {
@@ -133,6 +137,7 @@ pub fn find_manifest<F: Files>(
     ensures leads { IfOk result (λ place. F.tells → string_bytes place ≡ F.real files.now out.now) }
     ensures free { IfOk result (λ place. F.tells → IsFreeManifest (F.holds files.now) (F.real files.now) (map (λ path. path.now) inputs.now) (map (λ path. path.now) parts.now) folder.now out.now) }
     ensures told { IfErr result (λ refusal. (refusal ≡ Refusal.Output) ⊎ (refusal ≡ Refusal.Spared) ⊎ (refusal ≡ Refusal.Memory alloc_error)) }
+    ensures cause { IsErrOf result Refusal.Output → MayNotBeSeen (F.shut files.now) (Fails F.Input.faults) (map (λ path. path.now) inputs.now) (map (λ path. path.now) parts.now) out.now }
 {
     let target = match files.resolve(alloc, out) {
         Ok(Ok(target)) => target,

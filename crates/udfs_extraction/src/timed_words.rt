@@ -1,6 +1,7 @@
 //! What the words after `extract` ask for, with the times of what is made or without.
 
 ghost use Rattle.clap.specs.Matches.{found_of};
+ghost use Rattle.udfs_files.specs.Disk.{Fails};
 ghost use Rattle.std.specs.Prelude.{◌≡◌, ℕ, Bool, true, false, IfOk, IfErr};
 ghost use Rattle.udfs_words.specs.Asking.{has_lost, has_manifest, has_only};
 ghost use Rattle.udfs_extraction.specs.Sparing.{ExtractSpares};
@@ -8,6 +9,7 @@ ghost use Rattle.udfs_extraction.specs.LostFiles.{lost_others};
 ghost use Rattle.udfs_extraction.specs.Timing.{IsTold};
 ghost use Rattle.udfs_extraction.specs.ByWords.{HasFreeManifest, HasNewFolder, ListsAsked, ListsAddsAsked, ExtractsAsked, AddsAsked, ExtractsAllAsked};
 ghost use Rattle.udfs_common.specs.declared.sources.AnySource.{AnySource};
+ghost use Rattle.udfs_extraction.specs.Refused.{ExtractRefused};
 
 use crate::times::told_good;
 use crate::unnamed_words::extract_asked;
@@ -41,6 +43,8 @@ pub fn extract_timed<F: Files, O: Sink>(
     // Their folder may not be there yet, nor the manifest where something else is.
     ensures free { IfOk result (λ all. (has_lost (found_of words.now) ≡ true → HasNewFolder F.Files (found_of words.now) (lost_others (found_of words.now)) files.old) ×
         (has_lost (found_of words.now) ≡ true → has_manifest (found_of words.now) ≡ true → HasFreeManifest F.Files (found_of words.now) files.old)) }
+    // Why it is refused, and what was made and told by then.
+    ensures why { IfErr result (ExtractRefused F.Files F.Output.stream (found_of words.now) (⟦<AnySource<F::Input, F::Image> as Source>⟧.remaining) (⟦<AnySource<F::Input, F::Image> as Source>⟧.faults) O.stream files.old files.new out.old out.new (Fails F.Input.faults)) }
     // A path that is no node's is refused before anything is made.
     ensures no_node { IfErr result (λ refusal. (i : ℕ) → refusal ≡ Refusal.NoNode i → files.new ≡ files.old) }
     ensures spares { ExtractSpares F.tells F.holds F.real F.may_leave F.moment F.left_since (found_of words.now) files.old files.new }

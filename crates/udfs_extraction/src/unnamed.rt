@@ -1,6 +1,6 @@
 //! Lost files, which are written to a folder of their own: whole files with data that no name leads to.
 
-ghost use Rattle.std.specs.Prelude.{◌≡◌, ◌≢◌, ◌<◌, ◌⊎◌, ◌++◌, ℕ, true, List, [], Some, None, IfOk, IfErr, OnOk, OnErr, length, slice_get, string_bytes};
+ghost use Rattle.std.specs.Prelude.{◌≡◌, ◌≢◌, ◌<◌, ◌⊎◌, ◌++◌, ℕ, Bool, false, true, List, [], Some, None, IfOk, IfErr, OnOk, OnErr, length, slice_get, string_bytes};
 ghost use Rattle.std.specs.Io.KnownBytes.{Appends};
 ghost use Rattle.udfs_file.specs.declared.cells.Cell.{Cell};
 ghost use Rattle.udfs_files.specs.Disk.{Same, SameBut, Goes, Fails, SinkFails};
@@ -16,6 +16,7 @@ ghost use Rattle.udfs_salvage.specs.Texts.{has_two, line};
 ghost use Rattle.udfs_salvage.specs.UnnamedExtraction.{HasUnnamedCellsBy, is_lost_file};
 ghost use Rattle.udfs_extraction.specs.Extracting.{IsFateOf, TellsLines, TellsOn, all_good};
 ghost use Rattle.udfs_common.specs.Keeping.{IsKept};
+ghost use Rattle.udfs_extraction.specs.Refused.{LostStops};
 ghost use Rattle.udfs_extraction.specs.LostFiles.{EachLost, IsLostPut, PutsLost, SparesLost, lost_line, lost_lines, lost_name, lost_path};
 
 use crate::extract::{Deed, Fate, still_good};
@@ -257,9 +258,9 @@ fn put_entries<F: Files, O: Sink>(
     out: &mut O,
 ) -> Result<ToldLost, AllocError>
     requires { AreUnnamed listing.now entries.now }
-    ensures put { IfOk result (λ told. (fates : List Fate) × EachLost (IsLostPut F.tells (Fails F.faults ⊎ SinkFails F.Output.stream) listing.now.table.now (listing_now listing.now) folder.now two (F.holds files.new) (F.moment files.new) (F.left_since files.new)) (listing_now listing.now).unnamed fates ×
-        TellsLines told.heard (O.stream out.old) (O.stream out.new) (lost_lines two (listing_now listing.now).unnamed fates) ×
-        (length fates ≡ length (listing_now listing.now).unnamed) × (told.good ≡ all_good fates)) }
+    ensures put { (heard : Bool) × (fates : List Fate) × EachLost (IsLostPut F.tells (Fails F.faults ⊎ SinkFails F.Output.stream) listing.now.table.now (listing_now listing.now) folder.now two (F.holds files.new) (F.moment files.new) (F.left_since files.new)) (listing_now listing.now).unnamed fates ×
+        TellsLines heard (O.stream out.old) (O.stream out.new) (lost_lines two (listing_now listing.now).unnamed fates) ×
+        IfOk result (λ told. (length fates ≡ length (listing_now listing.now).unnamed) × (told.heard ≡ heard) × (told.good ≡ all_good fates)) }
     ensures spares { SparesLost F.tells F.holds F.may_leave F.moment F.left_since folder.now files.old files.new }
 {
     let spare = Spare::new();
@@ -277,6 +278,7 @@ fn put_entries<F: Files, O: Sink>(
 
 /// Makes a folder, and brings its name to the disk, where the volume opens. It answers whether that was done, or was not to be done.
 fn make_if_open<F: Files>(volume: &Volume, folder: &str, files: &mut F) -> bool
+    ensures cause { result ≡ false → Fails F.faults }
     ensures others { (q : List ℕ) → F.holds files.new q ≡ F.holds files.old q }
     ensures crash { Goes F.moment F.may_leave F.left_since files.old files.new Same }
 {
@@ -298,6 +300,7 @@ pub fn put_lost<F: Files, O: Sink>(
     requires { AreUnnamed listing.now entries.now }
     ensures put { IfOk result (λ good. PutsLost (IsLostPut F.tells (Fails F.faults ⊎ SinkFails F.Output.stream) listing.now.table.now (listing_now listing.now) folder.now (has_two (volume_now listing.now.volume)) (F.holds files.new) (F.moment files.new) (F.left_since files.new))
         (has_two (volume_now listing.now.volume)) (listing_now listing.now).unnamed (O.stream out.old) (O.stream out.new) good) }
+    ensures why { IfErr result (LostStops F.Files F.Output.stream folder.now files.new (O.stream out.old) (O.stream out.new) listing.now.table.now (listing_now listing.now)) }
     ensures spares { SparesLost F.tells F.holds F.may_leave F.moment F.left_since folder.now files.old files.new }
     ensures no_node { IfErr result (λ refusal. (i : ℕ) → refusal ≢ Refusal.NoNode i) }
 {

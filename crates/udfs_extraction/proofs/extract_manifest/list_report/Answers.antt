@@ -1,7 +1,7 @@
-use Rattle.std.proofs.Common.{inl, refl, rules}
+use Rattle.std.proofs.Common.{inl, refl, rules, inr}
 use Rattle.udfs_salvage.specs.Listings.{listing_now}
 use Rattle.udfs_extraction.specs.Manifests.{notes_text}
-use Rattle.udfs_extraction.proofs.ManifestLemmas.{listed_by, unlisted_by}
+use Rattle.udfs_extraction.proofs.ManifestLemmas.{listed_by, unlisted_by, by_both}
 use Rattle.udfs_extraction.proofs.extract_manifest.list_report.Goals as goal
 
 pub returns-in-Err-clause-spares : goal.returns-in-Err-clause-spares
@@ -27,3 +27,11 @@ returns-clause-listed g c = (
   unlisted_by _ _ _ _ _ _ _ _ _ _ _ _ _ c.in-Ok.ensures.put (search rules) (λ n. (n, refl)),
   c.put_report.ensures.elsewhere,
 )
+
+pub returns-in-Some-clause-why : goal.returns-in-Some-clause-why
+returns-in-Some-clause-why g c = inr (record {
+  mid = c.put_report.new.files;
+  good = c.in-Ok.made.good;
+  puts = by_both (listing_now c.args.listing.now).volume _ _ _ _ (λ p. p.puts) (λ n. n.0) c.in-Ok.ensures.put;
+  unput = c.in-Err-put_manifest.ensures.why;
+})

@@ -25,6 +25,29 @@ returns-in_err-fate-clause-spares g c = lost_on _ _ _ _ _ c.args.folder.now _ _ 
 pub returns-in_err-heard-clause-spares : goal.returns-in_err-heard-clause-spares
 returns-in_err-heard-clause-spares g c = lost_on _ _ _ _ _ c.args.folder.now _ _ _ c.loop-index.invariant.spares c.put_entry.ensures.spares
 
+pub returns-in_err-fate-clause-put : goal.returns-in_err-fate-clause-put
+returns-in_err-fate-clause-put g c =
+    let F = g.F.Files in
+    let put = c.loop-index.invariant.put in (
+      c.loop-index.heard,
+      put.0,
+      each_lost_map _ _ (λ w f. lost_still F.tells F.holds F.may_leave F.moment F.left_since (Fails F.faults ⊎ SinkFails g.F.Output.Sink.stream) c.args.listing.now.table.now (listing_now c.args.listing.now) c.args.folder.now c.args.two c.loop-index.files c.put_entry.new.files (g.met.F.Files.counts_now c.loop-index.files) c.put_entry.ensures.spares w f) _ put.0 put.1,
+      put.2,
+      search rules,
+    )
+
+pub returns-in_err-heard-clause-put : goal.returns-in_err-heard-clause-put
+returns-in_err-heard-clause-put g c =
+    let F = g.F.Files in
+    let S = g.O.Sink in
+    let put = c.loop-index.invariant.put in (
+      c.loop-index.heard,
+      put.0,
+      each_lost_map _ _ (λ w f. lost_still F.tells F.holds F.may_leave F.moment F.left_since (Fails F.faults ⊎ SinkFails g.F.Output.Sink.stream) c.args.listing.now.table.now (listing_now c.args.listing.now) c.args.folder.now c.args.two c.loop-index.files c.put_entry.new.files (g.met.F.Files.counts_now c.loop-index.files) c.put_entry.ensures.spares w f) _ put.0 put.1,
+      subst (λ o. TellsLines c.loop-index.heard (S.stream c.args.out.now) (S.stream o) (lost_lines c.args.two (listing_now c.args.listing.now).unnamed put.0)) (sym c.in_err-heard.ensures.memory) put.2,
+      search rules,
+    )
+
 pub loop-index-preserved : goal.loop-index-preserved
 loop-index-preserved g c =
     let F = g.F.Files in
@@ -64,4 +87,4 @@ returns-clause-put g c =
     let put = c.loop-index.invariant.put in
     let all : length put.0 ≡ length c.args.entries.now = search rules in
     let same : length c.args.entries.now ≡ length (listing_now l).unnamed = sym (length-map c.args.entries.now (full_entry_in (state_of l.table.now) (volume_now l.volume))) ∙ ap (λ (us : List Unnamed). length us) c.requires in
-    (put.0, put.1, put.2, all ∙ same, put.4)
+    (c.loop-index.heard, put.0, put.1, put.2, (all ∙ same, refl, put.4))

@@ -1,4 +1,4 @@
-use Rattle.std.proofs.Common.{◌≡◌, rules, true}
+use Rattle.std.proofs.Common.{◌≡◌, rules, true, false, inl, inr, refl, sym, ◌∙◌}
 use Rattle.udfs_extraction.proofs.LostLemmas.{lost_on, lost_same, puts_lost}
 use Rattle.udfs_extraction.proofs.unnamed.put_lost.Goals as goal
 
@@ -21,4 +21,18 @@ pub returns-clause-put : goal.returns-clause-put
 returns-clause-put g c =
     let put = rw c.has_two_partitions-two.ensures at c.in-Ok.ensures.put in
     let heard : c.in-Ok.told.heard ≡ true = search rules in
-    puts_lost _ _ _ _ _ _ _ heard put
+    puts_lost _ _ _ _ _ _ _ (sym put.4.1 ∙ heard) (put.1, put.2, put.3, put.4.0, put.4.2)
+
+pub returns-then-not-make_if_open-clause-why : goal.returns-then-not-make_if_open-clause-why
+returns-then-not-make_if_open-clause-why g c = inl (refl, refl, c.make_if_open.ensures.cause (search rules))
+
+pub returns-in-Err-clause-why : goal.returns-in-Err-clause-why
+returns-in-Err-clause-why g c =
+    let put = rw c.has_two_partitions-two.ensures at c.put_entries.ensures.put in
+    inr (put.0, put.1, put.2, put.3, inl (search rules))
+
+pub returns-then-not-told-clause-why : goal.returns-then-not-told-clause-why
+returns-then-not-told-clause-why g c =
+    let put = rw c.has_two_partitions-two.ensures at c.in-Ok.ensures.put in
+    let unheard : c.in-Ok.told.heard ≡ false = search rules in
+    inr (put.0, put.1, put.2, put.3, inr (refl, sym put.4.1 ∙ unheard, put.4.0))

@@ -1,26 +1,28 @@
-use Rattle.std.proofs.Common.{◌≡◌, ◌∷◌, Bor, List, ℕ, [], codes, map, refl, rules, subst}
+use Rattle.std.proofs.Common.{◌≡◌, ◌∷◌, Bor, List, ℕ, [], codes, map, refl, rules, subst, inl, inr, ⊎_elim}
 use Rattle.clap.specs.Matches.{found_of}
-use Rattle.udfs_words.specs.Asking.{manifest_text, only_texts}
+use Rattle.udfs_words.specs.Asking.{manifest_text, only_texts, folder_text, lost_text}
 use Rattle.udfs_extraction.specs.Manifests.{IsPutLast}
 use Rattle.udfs_words.proofs.AskingLemmas.{paths_or}
 use Rattle.udfs_extraction.proofs.LostLemmas.{adds_by, nothing_lost}
 use Rattle.udfs_extraction.proofs.ManifestLemmas.{lists_by, nothing_listed, spares_at_place}
+use Rattle.udfs_extraction.proofs.RefusedLemmas.{stops_asked, list_adds_at}
+use Rattle.udfs_extraction.specs.Refused.{ListAddStops}
 use Rattle.udfs_extraction.proofs.unnamed_words.listed_with_lost_words.Goals as goal
-
-pub returns-in_err-inputs-clause-spares : goal.returns-in_err-inputs-clause-spares
-returns-in_err-inputs-clause-spares g c = (c.args.files.now, (c.asked_short-short.result, c.asked_short-short.ensures, nothing_listed _ _ _ _ _ _ _ _ _), nothing_lost _ _ _ _ _ _ _)
-
-pub returns-in-Err-Output-clause-spares : goal.returns-in-Err-Output-clause-spares
-returns-in-Err-Output-clause-spares g c = (c.args.files.now, (c.asked_short-short.result, c.asked_short-short.ensures, nothing_listed _ _ _ _ _ _ _ _ _), nothing_lost _ _ _ _ _ _ _)
 
 pub returns-in-Err-clause-spares : goal.returns-in-Err-clause-spares
 returns-in-Err-clause-spares g c = (c.args.files.now, (c.asked_short-short.result, c.asked_short-short.ensures, nothing_listed _ _ _ _ _ _ _ _ _), nothing_lost _ _ _ _ _ _ _)
 
+pub returns-in-Err-Output-clause-spares : goal.returns-in-Err-Output-clause-spares
+returns-in-Err-Output-clause-spares g c = (c.args.files.now, (c.asked_short-short.result, c.asked_short-short.ensures, nothing_listed _ _ _ _ _ _ _ _ _), nothing_lost _ _ _ _ _ _ _)
+
+pub returns-in-Err-asked_place-clause-spares : goal.returns-in-Err-asked_place-clause-spares
+returns-in-Err-asked_place-clause-spares g c = (c.args.files.now, (c.asked_short-short.result, c.asked_short-short.ensures, nothing_listed _ _ _ _ _ _ _ _ _), nothing_lost _ _ _ _ _ _ _)
+
 pub returns-in-Err-find_new_folder-clause-spares : goal.returns-in-Err-find_new_folder-clause-spares
 returns-in-Err-find_new_folder-clause-spares g c = (c.args.files.now, (c.asked_short-short.result, c.asked_short-short.ensures, nothing_listed _ _ _ _ _ _ _ _ _), nothing_lost _ _ _ _ _ _ _)
 
-pub returns-in_err-last-clause-spares : goal.returns-in_err-last-clause-spares
-returns-in_err-last-clause-spares g c = (c.args.files.now, (c.asked_short-short.result, c.asked_short-short.ensures, nothing_listed _ _ _ _ _ _ _ _ _), nothing_lost _ _ _ _ _ _ _)
+pub returns-in-Err-asked_end-clause-spares : goal.returns-in-Err-asked_end-clause-spares
+returns-in-Err-asked_end-clause-spares g c = (c.args.files.now, (c.asked_short-short.result, c.asked_short-short.ensures, nothing_listed _ _ _ _ _ _ _ _ _), nothing_lost _ _ _ _ _ _ _)
 
 pub returns-in-Ok-extract_listed_with_lost-clause-added : goal.returns-in-Ok-extract_listed_with_lost-clause-added
 returns-in-Ok-extract_listed_with_lost-clause-added g c =
@@ -33,13 +35,13 @@ returns-in-Ok-extract_listed_with_lost-clause-added g c =
     record {
       fill = c.asked_fill-fill.result;
       short = c.asked_short-short.result;
-      last = c.in_ok-last.last;
+      last = c.in-Ok-asked_end.last;
       profile = c.asked_profile-profile.result;
       inputs = c.as_slice-paths.result.now;
       are_inputs = search rules;
       is_fill = record { with_flag = c.asked_fill-fill.ensures.with; without_flag = c.asked_fill-fill.ensures.without; unknown_flag = c.asked_fill-fill.ensures.unset };
       is_short = c.asked_short-short.ensures;
-      is_last = c.in_ok-last.ensures.last;
+      is_last = c.in-Ok-asked_end.ensures.last;
       is_profile = c.asked_profile-profile.ensures;
       of_inputs = (
         added.0,
@@ -62,3 +64,42 @@ returns-clause-spares g c =
     let at : F.tells → c.as_str.result.now ≡ F.real c.args.files.now (manifest_text (found_of c.args.words.now)) = λ told. search rules in
     let s = rw c.asked_folder-folder.ensures at (rw c.asked_lost_folder-lost.ensures at c.extract_listed_with_lost.ensures.spares) in
     (s.0, (c.asked_short-short.result, c.asked_short-short.ensures, spares_at_place _ _ _ _ _ _ _ _ _ _ _ at s.1), s.2)
+
+pub returns-in-Err-clause-why : goal.returns-in-Err-clause-why
+returns-in-Err-clause-why g c = inl ((refl, refl), inl (search rules))
+
+pub returns-in-Err-Output-clause-why : goal.returns-in-Err-Output-clause-why
+returns-in-Err-Output-clause-why g c =
+    ⊎_elim (λ output. inl ((refl, refl), inr (inr (output, c.in-Err-Output.ensures.cause (search rules)))))
+    (λ blamed. inr (inr (inr (c.as_slice-paths.result.now, search rules, inr (inl ((refl, refl), blamed)))))) c.unwritten.ensures.blamed
+
+pub returns-in-Err-asked_place-clause-why : goal.returns-in-Err-asked_place-clause-why
+returns-in-Err-asked_place-clause-why g c = inl ((refl, refl), search rules)
+
+pub returns-in-Err-find_new_folder-clause-why : goal.returns-in-Err-find_new_folder-clause-why
+returns-in-Err-find_new_folder-clause-why g c = ⊎_elim (λ taken. inr (inl ((refl, refl), taken))) (λ memory. inr (inr (inl ((refl, refl), memory)))) c.in-Err-find_new_folder.ensures.told
+
+pub returns-in-Err-asked_end-clause-why : goal.returns-in-Err-asked_end-clause-why
+returns-in-Err-asked_end-clause-why g c = inr (inr (inr (c.as_slice-paths.result.now, search rules, inl ((refl, refl), search rules))))
+
+pub returns-clause-why : goal.returns-clause-why
+returns-clause-why g c =
+    let F = g.F.Files in
+    let at : F.tells → c.as_str.result.now ≡ F.real c.args.files.now (manifest_text (found_of c.args.words.now)) = λ told. search rules in
+    let only : map (λ (p : Bor (List ℕ)). p.now) c.unwrap_or-only.result.now ≡ only_texts (found_of c.args.words.now) = paths_or _ _ _ _ (codes "/" ∷ []) c.get_strs.ensures refl c.unwrap_or-only.ensures in
+    let of_nodes = rw only at c.in-Err-extract_listed_with_lost.ensures.why in
+    let to_folder = rw c.asked_folder-folder.ensures at of_nodes in
+    let why = rw c.asked_lost_folder-lost.ensures at to_folder in
+    inr (inr (inr (
+      c.as_slice-paths.result.now,
+      search rules,
+      inr (inr (
+        c.asked_profile-profile.result,
+        c.in-Ok-asked_end.last,
+        c.asked_profile-profile.ensures,
+        c.in-Ok-asked_end.ensures.last,
+        stops_asked _ _ _ _ _ _ _ _ (found_of c.args.words.now) (λ table report why. ListAddStops g.F.Files g.F.Output.Sink.stream (only_texts (found_of c.args.words.now)) (folder_text (found_of c.args.words.now)) c.asked_fill-fill.result c.asked_short-short.result g.O.Sink.stream (lost_text (found_of c.args.words.now)) c.as_str.result.now c.args.files.now c.extract_listed_with_lost.new.files c.args.out.now c.extract_listed_with_lost.new.out table report why)
+            (λ fill short table report why. ListAddStops g.F.Files g.F.Output.Sink.stream (only_texts (found_of c.args.words.now)) (folder_text (found_of c.args.words.now)) fill short g.O.Sink.stream (lost_text (found_of c.args.words.now)) (F.real c.args.files.now (manifest_text (found_of c.args.words.now))) c.args.files.now c.extract_listed_with_lost.new.files c.args.out.now c.extract_listed_with_lost.new.out table report why)
+            c.asked_fill-fill.result c.asked_short-short.result _ (record { with_flag = c.asked_fill-fill.ensures.with; without_flag = c.asked_fill-fill.ensures.without; unknown_flag = c.asked_fill-fill.ensures.unset }) c.asked_short-short.ensures (λ t report stops. list_adds_at g.F.Files g.F.Output.Sink.stream _ _ _ _ g.O.Sink.stream _ _ _ _ _ _ _ t report _ at stops) why,
+      )),
+    )))

@@ -1,7 +1,6 @@
-use Rattle.std.proofs.Common.{◌≡◌, rules, subst, sym, true, false}
+use Rattle.std.proofs.Common.{◌≡◌, rules, true, false}
 use Rattle.clap.specs.Matches.{found_of}
-use Rattle.udfs_words.specs.Asking.{has_manifest, lost_text}
-use Rattle.udfs_extraction.specs.LostFiles.{IsNewFolder}
+use Rattle.udfs_words.specs.Asking.{has_manifest}
 use Rattle.udfs_extraction.proofs.LostLemmas.{listed_spare, others_with, others_without, plain_spare}
 use Rattle.udfs_extraction.proofs.unnamed_words.lost_words.Goals as goal
 

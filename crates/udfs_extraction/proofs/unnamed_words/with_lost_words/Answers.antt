@@ -1,19 +1,21 @@
-use Rattle.std.proofs.Common.{◌≡◌, ◌∷◌, Bor, List, ℕ, [], codes, map, inl, inr, refl, rules}
+use Rattle.std.proofs.Common.{◌≡◌, ◌∷◌, Bor, List, ℕ, [], codes, map, inl, inr, refl, rules, ⊎_elim}
 use Rattle.clap.specs.Matches.{found_of}
-use Rattle.udfs_words.specs.Asking.{only_texts}
+use Rattle.udfs_words.specs.Asking.{only_texts, folder_text, lost_text}
 use Rattle.udfs_words.proofs.AskingLemmas.{paths_or}
 use Rattle.udfs_extraction.proofs.LostLemmas.{nothing_lost}
 use Rattle.udfs_extraction.proofs.PutNodes.{spares_nothing}
+use Rattle.udfs_extraction.proofs.RefusedLemmas.{stops_asked}
+use Rattle.udfs_extraction.specs.Refused.{AddStops}
 use Rattle.udfs_extraction.proofs.unnamed_words.with_lost_words.Goals as goal
-
-pub returns-in_err-inputs-clause-spares : goal.returns-in_err-inputs-clause-spares
-returns-in_err-inputs-clause-spares g c = (c.args.files.now, λ told q bytes is. is, λ q out. refl, λ told. spares_nothing _ _ _ _ _ _, nothing_lost _ _ _ _ _ _ _)
 
 pub returns-in-Err-clause-spares : goal.returns-in-Err-clause-spares
 returns-in-Err-clause-spares g c = (c.args.files.now, λ told q bytes is. is, λ q out. refl, λ told. spares_nothing _ _ _ _ _ _, nothing_lost _ _ _ _ _ _ _)
 
-pub returns-in_err-last-clause-spares : goal.returns-in_err-last-clause-spares
-returns-in_err-last-clause-spares g c = (c.args.files.now, λ told q bytes is. is, λ q out. refl, λ told. spares_nothing _ _ _ _ _ _, nothing_lost _ _ _ _ _ _ _)
+pub returns-in-Err-find_new_folder-clause-spares : goal.returns-in-Err-find_new_folder-clause-spares
+returns-in-Err-find_new_folder-clause-spares g c = (c.args.files.now, λ told q bytes is. is, λ q out. refl, λ told. spares_nothing _ _ _ _ _ _, nothing_lost _ _ _ _ _ _ _)
+
+pub returns-in-Err-asked_end-clause-spares : goal.returns-in-Err-asked_end-clause-spares
+returns-in-Err-asked_end-clause-spares g c = (c.args.files.now, λ told q bytes is. is, λ q out. refl, λ told. spares_nothing _ _ _ _ _ _, nothing_lost _ _ _ _ _ _ _)
 
 pub returns-in-Ok-extract_with_lost-clause-added : goal.returns-in-Ok-extract_with_lost-clause-added
 returns-in-Ok-extract_with_lost-clause-added g c =
@@ -24,13 +26,13 @@ returns-in-Ok-extract_with_lost-clause-added g c =
     record {
       fill = c.asked_fill-fill.result;
       short = c.asked_short-short.result;
-      last = c.in_ok-last.last;
+      last = c.in-Ok-asked_end.last;
       profile = c.asked_profile-profile.result;
       inputs = c.as_slice-paths.result.now;
       are_inputs = search rules;
       is_fill = record { with_flag = c.asked_fill-fill.ensures.with; without_flag = c.asked_fill-fill.ensures.without; unknown_flag = c.asked_fill-fill.ensures.unset };
       is_short = c.asked_short-short.ensures;
-      is_last = c.in_ok-last.ensures.last;
+      is_last = c.in-Ok-asked_end.ensures.last;
       is_profile = c.asked_profile-profile.ensures;
       of_inputs = added;
     }
@@ -40,3 +42,32 @@ returns-in-Ok-extract_with_lost-clause-spares g c = rw (← c.asked_folder-folde
 
 pub returns-clause-spares : goal.returns-clause-spares
 returns-clause-spares g c = rw (← c.asked_folder-folder.ensures) (rw (← c.asked_lost_folder-lost.ensures) c.extract_with_lost.ensures.spares)
+
+pub returns-in-Err-clause-why : goal.returns-in-Err-clause-why
+returns-in-Err-clause-why g c = inr (inl ((refl, refl), search rules))
+
+pub returns-in-Err-find_new_folder-clause-why : goal.returns-in-Err-find_new_folder-clause-why
+returns-in-Err-find_new_folder-clause-why g c = ⊎_elim (λ taken. inl ((refl, refl), taken)) (λ memory. inr (inl ((refl, refl), memory))) c.in-Err-find_new_folder.ensures.told
+
+pub returns-in-Err-asked_end-clause-why : goal.returns-in-Err-asked_end-clause-why
+returns-in-Err-asked_end-clause-why g c = inr (inr (c.as_slice-paths.result.now, search rules, inl ((refl, refl), search rules)))
+
+pub returns-clause-why : goal.returns-clause-why
+returns-clause-why g c =
+    let only : map (λ (p : Bor (List ℕ)). p.now) c.unwrap_or-only.result.now ≡ only_texts (found_of c.args.words.now) = paths_or _ _ _ _ (codes "/" ∷ []) c.get_strs.ensures refl c.unwrap_or-only.ensures in
+    let of_nodes = rw only at c.in-Err-extract_with_lost.ensures.why in
+    let to_folder = rw c.asked_folder-folder.ensures at of_nodes in
+    let why = rw c.asked_lost_folder-lost.ensures at to_folder in
+    inr (inr (
+      c.as_slice-paths.result.now,
+      search rules,
+      inr (inr (
+        c.asked_profile-profile.result,
+        c.in-Ok-asked_end.last,
+        c.asked_profile-profile.ensures,
+        c.in-Ok-asked_end.ensures.last,
+        stops_asked _ _ _ _ _ _ _ _ (found_of c.args.words.now) (λ table report why. AddStops g.F.Files g.F.Output.Sink.stream (only_texts (found_of c.args.words.now)) (folder_text (found_of c.args.words.now)) c.asked_fill-fill.result c.asked_short-short.result g.O.Sink.stream (lost_text (found_of c.args.words.now)) c.args.files.now c.extract_with_lost.new.files c.args.out.now c.extract_with_lost.new.out table report why)
+            (λ fill short table report why. AddStops g.F.Files g.F.Output.Sink.stream (only_texts (found_of c.args.words.now)) (folder_text (found_of c.args.words.now)) fill short g.O.Sink.stream (lost_text (found_of c.args.words.now)) c.args.files.now c.extract_with_lost.new.files c.args.out.now c.extract_with_lost.new.out table report why)
+            c.asked_fill-fill.result c.asked_short-short.result _ (record { with_flag = c.asked_fill-fill.ensures.with; without_flag = c.asked_fill-fill.ensures.without; unknown_flag = c.asked_fill-fill.ensures.unset }) c.asked_short-short.ensures (λ t report stops. stops) why,
+      )),
+    ))
