@@ -19,7 +19,7 @@ use Rattle.udfs_salvage.specs.declared.extraction.Fill.{Fill}
 use Rattle.udfs_words.specs.declared.input_path.InputPath.{InputPath}
 use Rattle.udfs_common.specs.Refusing.{IsUnput}
 use Rattle.udfs_common.specs.declared.refusal.Refusal.{Refusal}
-use Rattle.udfs_common.specs.declared.refusal.Refusal.TheVariants.{Memory, Output, Unkept}
+use Rattle.udfs_common.specs.declared.refusal.Refusal.TheVariants.{Memory, Output, Unkept, Spared}
 use Rattle.udfs_common.specs.declared.sources.AnySource.{AnySource}
 use Rattle.udfs_remarks.specs.NoReports.{IsUntold}
 use Rattle.udfs_remarks.specs.PathsRefused.{OfPathsRefused}
@@ -47,6 +47,13 @@ named_so M a only ns refusal x = record {
 
 pub unnamed_before : (Failed : Type 0) (M : Blocks) (a : Answer Found) (only : List (List ℕ)) (ns : List NodeFields) (s : Stream) (refusal : Refusal) → (refusal ≡ Memory alloc_error) ⊎ NamesNoNode only ns refusal → StopsBefore Failed only (map (full_in M a) ns) s s refusal
 unnamed_before Failed M a only ns s refusal why = (refl, ⊎_elim (λ memory. inl memory) (λ none. inr (inl (named_so M a only ns refusal none))) why)
+
+-- a manifest has no place
+pub unplaced : (Before Spares Unseen : Type 0) (refusal : Refusal) → Before → (refusal ≡ Output) ⊎ (refusal ≡ Spared) ⊎ (refusal ≡ Memory alloc_error) → (refusal ≡ Spared → Spares) → (refusal ≡ Output → Unseen)
+    → Before × ((refusal ≡ Memory alloc_error) ⊎ ((refusal ≡ Spared) × Spares) ⊎ ((refusal ≡ Output) × Unseen))
+unplaced Before Spares Unseen refusal before (inl output) spares unseen = (before, inr (inr (output, unseen output)))
+unplaced Before Spares Unseen refusal before (inr (inl spared)) spares unseen = (before, inr (inl (spared, spares spared)))
+unplaced Before Spares Unseen refusal before (inr (inr memory)) spares unseen = (before, inl memory)
 
 -- ---- a manifest that was not put
 

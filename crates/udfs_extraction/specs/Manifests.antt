@@ -7,7 +7,8 @@
 --     ListsChosen                             the same of the report of a table, and the manifest is put after the files
 --     SparesListed                            what is left as it was, whatever is answered
 --     IsFreeManifest                          a manifest takes the place of no file but a manifest, of none of the inputs, and of none that is written
-use Rattle.std.specs.Prelude.{◌≡◌, ◌≢◌, ◌⊎◌, ℕ, Bool, true, List, [], ◌∷◌, ◌++◌, suc, Option, Some, None, drop, flat_map, slice_get}
+--     IsSparedManifest                        why its place is refused
+use Rattle.std.specs.Prelude.{◌≡◌, ◌≢◌, ◌⊎◌, ℕ, Bool, true, false, List, [], ◌∷◌, ◌++◌, suc, Option, Some, None, codes, drop, flat_map, slice_get}
 use Rattle.sha2.specs.Sha256.{sha256}
 use Rattle.udfs_files.specs.Disk.{Disk, Goes, IsOwn, Replaced}
 use Rattle.udfs_lattice.specs.Tables.{Table, state_of}
@@ -15,8 +16,9 @@ use Rattle.udfs_volume.specs.declared.profiles.Profile.{Profile}
 use Rattle.udfs_walk.specs.NodeFields.{NodeFields}
 use Rattle.udfs_salvage.specs.NodeTexts.{names_text}
 use Rattle.udfs_salvage.specs.Reports.{Report, IsReportBy}
+use Rattle.udfs_extraction.specs.Choosing.{goes_on}
 use Rattle.udfs_extraction.specs.Extracting.{IsElsewhere, IsIn, PutsBy, PutsChosen, PutsNone, Spares, Stay, path_below}
-use Rattle.udfs_common.specs.Guarding.{NoneLeads}
+use Rattle.udfs_common.specs.Guarding.{NoneLeads, SomeLeads}
 use Rattle.udfs_common.specs.Keeping.{IsKept}
 use Rattle.udfs_extraction.specs.ShortNames.{own_name, placed}
 use Rattle.udfs_extraction.specs.SumLines.{begins_as_sums, sum_line}
@@ -147,3 +149,16 @@ pub record IsFreeManifest (holds : List ℕ → Option (Option (List ℕ))) (rea
   pub apart : NoneLeads real (real out) parts
   pub beside : IsBeside folder (real out)
   pub of_kind : (bytes : List ℕ) → holds (real out) ≡ Some (Some bytes) → begins_as_sums bytes ≡ true
+
+-- it is the folder or in it, or a new file that is to go there may be, whose name begins with this
+abbrev pub IsNear : List ℕ → List ℕ → List ℕ → Type 0
+IsNear folder place own = (folder ≡ place) ⊎ (goes_on folder place ≡ true) ⊎ (goes_on folder own ≡ true) ⊎ ((more : List ℕ) × (folder ≡ own ++ more))
+
+-- something is there that does not begin as a manifest
+abbrev pub IsNoManifest : Option (Option (List ℕ)) → Type 0
+IsNoManifest held = (held ≢ Some None) × ((bytes : List ℕ) → held ≡ Some (Some bytes) → begins_as_sums bytes ≡ false)
+
+-- an input leads there, or it is near the folder, or what is no file may be there, or a file that does not begin as a manifest is
+abbrev pub IsSparedManifest : (List ℕ → Option (Option (List ℕ))) → (List ℕ → List ℕ) → (List ℕ → Type 0) → List (List ℕ) → List (List ℕ) → List ℕ → List ℕ → Type 0
+IsSparedManifest holds real in_place files parts folder out = SomeLeads real (real out) parts ⊎ SomeLeads real (real out) files ⊎ IsNear folder (real out) (real out ++ codes ".unfinished") ⊎ in_place out ⊎
+    IsNoManifest (holds (real out))

@@ -40,7 +40,7 @@ use Rattle.udfs_extraction.specs.ByWords.{held_at}
 use Rattle.udfs_extraction.specs.Choosing.{is_node}
 use Rattle.udfs_extraction.specs.Extracting.{IsDone, IsPut, Puts, PutsBy, PutsOf, TellsLines}
 use Rattle.udfs_extraction.specs.LostFiles.{EachLost, IsLostPut, lost_lines}
-use Rattle.udfs_extraction.specs.Manifests.{IsManifest, IsPutLast, ListsOf}
+use Rattle.udfs_extraction.specs.Manifests.{IsManifest, IsPutLast, IsSparedManifest, ListsOf}
 use Rattle.udfs_extraction.specs.ShortNames.{own_name}
 use Rattle.udfs_extraction.specs.declared.extract.Fate.{Fate}
 
@@ -110,9 +110,9 @@ abbrev pub MakingRefused : {R I : Type 0} → (List ℕ → Option (Option (List
 MakingRefused found shut remaining faults words Before Stops refusal = (Before × (refusal ≡ Memory alloc_error)) ⊎ AskedRefused found shut remaining faults words (asked_inputs words) Before (λ profile last. IsRefusedMaking Before profile last
     (λ table report why. (fill : Fill) × (short : Bool) × IsPicked words (codes "fill") (Byte 0) Refuse fill × IsPicked words (codes "short-names") true false short × Stops fill short table report why)) refusal
 
--- before an input was opened, what is at the manifest's place was spared, or could not be seen, or memory was refused; or this is so
-abbrev pub UnseenOr : Type 0 → Type 0 → (Refusal → Type 0) → Refusal → Type 0
-UnseenOr Before Unseen Refused refusal = (Before × ((refusal ≡ Memory alloc_error) ⊎ (refusal ≡ Spared) ⊎ ((refusal ≡ Output) × Unseen))) ⊎ Refused refusal
+-- before an input was opened, the manifest's place was spared for this reason, or could not be seen, or memory was refused; or this is so
+abbrev pub UnseenOr : Type 0 → Type 0 → Type 0 → (Refusal → Type 0) → Refusal → Type 0
+UnseenOr Before Spares Unseen Refused refusal = (Before × ((refusal ≡ Memory alloc_error) ⊎ ((refusal ≡ Spared) × Spares) ⊎ ((refusal ≡ Output) × Unseen))) ⊎ Refused refusal
 
 -- before an input was opened, the place of the folder for lost files was found to be taken; or this is so
 abbrev pub TakenOr : Type 0 → (Refusal → Type 0) → Refusal → Type 0
@@ -164,6 +164,10 @@ module _ {F I M S W R J O : Type 0} (files : Ghosts F I M S W) (output : W → S
   abbrev OfWords : (Fill → Bool → Table → Report → Refusal → Type 0) → Refusal → Type 0
   OfWords = MakingRefused (held_at files old) (files.shut old) remaining faults words Untouched
 
+  -- why the manifest's place was spared
+  abbrev Spares : Type 0
+  Spares = files.tells → IsSparedManifest (files.holds old) (files.real old) (files.in_place old) (input_texts words) (pair_texts words) (folder_text words) (manifest_text words)
+
   -- what is at the manifest's place could not be seen; `Unread` says that an input's device failed
   abbrev Unseen : Type 0 → Type 0
   Unseen Unread = MayNotBeSeen (files.shut old) Unread (input_texts words) (pair_texts words) (manifest_text words)
@@ -172,13 +176,13 @@ module _ {F I M S W R J O : Type 0} (files : Ghosts F I M S W) (output : W → S
   NodesRefused = OfWords (λ fill short. NodesStop files output (only_texts words) (folder_text words) fill short old new (stream before) (stream after))
 
   abbrev pub ListRefused : Type 0 → Refusal → Type 0
-  ListRefused Unread = UnseenOr Untouched (Unseen Unread) (OfWords (λ fill short. ListStops files output (only_texts words) (folder_text words) fill short old new (stream before) (stream after)))
+  ListRefused Unread = UnseenOr Untouched Spares (Unseen Unread) (OfWords (λ fill short. ListStops files output (only_texts words) (folder_text words) fill short old new (stream before) (stream after)))
 
   abbrev pub AddRefused : Refusal → Type 0
   AddRefused = TakenOr Untouched (OfWords (λ fill short. AddStops files output (only_texts words) (folder_text words) fill short stream (lost_text words) old new before after))
 
   abbrev pub ListAddRefused : Type 0 → Refusal → Type 0
-  ListAddRefused Unread = UnseenOr Untouched (Unseen Unread) (TakenOr Untouched (OfWords (λ fill short. ListAddStops files output (only_texts words) (folder_text words) fill short stream (lost_text words) (files.real old (manifest_text words)) old new before after)))
+  ListAddRefused Unread = UnseenOr Untouched Spares (Unseen Unread) (TakenOr Untouched (OfWords (λ fill short. ListAddStops files output (only_texts words) (folder_text words) fill short stream (lost_text words) (files.real old (manifest_text words)) old new before after)))
 
   abbrev pub ExtractRefused : Type 0 → Refusal → Type 0
   ExtractRefused Unread refusal = (has_lost words ≡ false → (has_manifest words ≡ false → NodesRefused refusal) × (has_manifest words ≡ true → ListRefused Unread refusal)) ×

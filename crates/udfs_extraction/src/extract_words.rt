@@ -7,7 +7,7 @@ ghost use Rattle.udfs_salvage.specs.declared.extraction.Fill.{Fill};
 ghost use Rattle.udfs_words.specs.Asking.{IsPicked, folder_text, has_manifest, has_only, input_texts, manifest_text, pair_texts};
 ghost use Rattle.udfs_common.specs.Guarding.{MayNotBeSeen};
 ghost use Rattle.udfs_extraction.specs.Extracting.{IsIn, Spares, Stay};
-ghost use Rattle.udfs_extraction.specs.Manifests.{SparesListed};
+ghost use Rattle.udfs_extraction.specs.Manifests.{IsSparedManifest, SparesListed};
 ghost use Rattle.udfs_extraction.specs.ByWords.{HasFreeManifest, ListsAsked, ExtractsAsked, ExtractsAllAsked};
 ghost use Rattle.udfs_common.specs.declared.sources.AnySource.{AnySource};
 ghost use Rattle.udfs_extraction.specs.Refused.{ListRefused, NodesRefused};
@@ -98,6 +98,7 @@ pub fn asked_place<F: Files>(
     ensures leads { IfOk result (λ place. F.tells → string_bytes place ≡ F.real files.now (manifest_text (found_of words.now))) }
     ensures free { OnOk result (HasFreeManifest F.Files (found_of words.now) files.now) }
     ensures told { IfErr result (λ refusal. (refusal ≡ Refusal.Output) ⊎ (refusal ≡ Refusal.Spared) ⊎ (refusal ≡ Refusal.Memory alloc_error)) }
+    ensures spared { IsErrOf result Refusal.Spared → F.tells → IsSparedManifest (F.holds files.now) (F.real files.now) (F.in_place files.now) (input_texts (found_of words.now)) (pair_texts (found_of words.now)) (folder_text (found_of words.now)) (manifest_text (found_of words.now)) }
     ensures cause { IsErrOf result Refusal.Output → MayNotBeSeen (F.shut files.now) (Fails F.Input.faults) (input_texts (found_of words.now)) (pair_texts (found_of words.now)) (manifest_text (found_of words.now)) }
 {
     let inputs = words.get_strs(INPUTS).unwrap_or(&[]);

@@ -1,9 +1,9 @@
 //! Where a manifest goes: to a path that is none of the files that are written, and takes the place of nothing but a manifest.
 
-ghost use Rattle.std.specs.Prelude.{◌≡◌, ◌⊎◌, ◌∷◌, ◌++◌, ℕ, List, Some, true, IfOk, IfErr, IsErrOf, OnErr, codes, map, string_bytes, alloc_error};
+ghost use Rattle.std.specs.Prelude.{◌≡◌, ◌⊎◌, ◌∷◌, ◌++◌, ℕ, List, Some, true, false, IfOk, IfErr, IsErrOf, OnErr, codes, map, string_bytes, alloc_error};
 ghost use Rattle.udfs_common.specs.Guarding.{MayNotBeSeen};
 ghost use Rattle.udfs_files.specs.Disk.{Fails};
-ghost use Rattle.udfs_extraction.specs.Manifests.{IsBeside, IsFreeManifest};
+ghost use Rattle.udfs_extraction.specs.Manifests.{IsBeside, IsFreeManifest, IsNear, IsNoManifest, IsSparedManifest};
 ghost use Rattle.udfs_extraction.specs.SumLines.{begins_as_sums, begins_by, fits, is_digit};
 
 use crate::choosing::goes_on;
@@ -87,6 +87,7 @@ fn begins_as_sums<R: Source>(source: &mut R) -> Result<bool, DeviceFault>
 /// Whether the file at a path begins as a manifest does, or is empty.
 fn is_manifest<F: Files>(path: &str, files: &F) -> Result<bool, DeviceFault>
     ensures yes { IfOk result (λ so. so ≡ true → (bytes : List ℕ) → F.holds files.now (F.real files.now path.now) ≡ Some (Some bytes) → begins_as_sums bytes ≡ true) }
+    ensures no { IfOk result (λ so. so ≡ false → IsNoManifest (F.holds files.now (F.real files.now path.now))) }
     ensures fault { OnErr result (F.shut files.now path.now ⊎ Fails F.Input.faults) }
 {
     match files.open(path) {
@@ -109,7 +110,8 @@ fn own_name(alloc: Global, place: &str) -> Result<String, AllocError>
 
 /// That no path in a folder is this place, nor may be that of a new file that is to go there.
 fn is_beside(alloc: Global, folder: &str, place: &str) -> Result<bool, AllocError>
-    ensures { IfOk result (λ so. so ≡ true → IsBeside folder.now place.now) }
+    ensures beside { IfOk result (λ so. so ≡ true → IsBeside folder.now place.now) }
+    ensures near { IfOk result (λ so. so ≡ false → IsNear folder.now place.now (place.now ++ codes ".unfinished")) }
 {
     if folder == place {
         return Ok(false);
@@ -137,6 +139,7 @@ pub fn find_manifest<F: Files>(
     ensures leads { IfOk result (λ place. F.tells → string_bytes place ≡ F.real files.now out.now) }
     ensures free { IfOk result (λ place. F.tells → IsFreeManifest (F.holds files.now) (F.real files.now) (map (λ path. path.now) inputs.now) (map (λ path. path.now) parts.now) folder.now out.now) }
     ensures told { IfErr result (λ refusal. (refusal ≡ Refusal.Output) ⊎ (refusal ≡ Refusal.Spared) ⊎ (refusal ≡ Refusal.Memory alloc_error)) }
+    ensures spared { IsErrOf result Refusal.Spared → F.tells → IsSparedManifest (F.holds files.now) (F.real files.now) (F.in_place files.now) (map (λ path. path.now) inputs.now) (map (λ path. path.now) parts.now) folder.now out.now }
     ensures cause { IsErrOf result Refusal.Output → MayNotBeSeen (F.shut files.now) (Fails F.Input.faults) (map (λ path. path.now) inputs.now) (map (λ path. path.now) parts.now) out.now }
 {
     let target = match files.resolve(alloc, out) {

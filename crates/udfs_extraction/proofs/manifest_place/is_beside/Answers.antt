@@ -3,8 +3,8 @@ use Rattle.udfs_extraction.specs.Choosing.{goes_on}
 use Rattle.udfs_extraction.proofs.ManifestLemmas.{beside}
 use Rattle.udfs_extraction.proofs.manifest_place.is_beside.Goals as goal
 
-pub returns : goal.returns
-returns c so =
+pub returns-clause-beside : goal.returns-clause-beside
+returns-clause-beside c so =
     let is : c.as_str.result.now ≡ c.args.place.now ++ codes ".unfinished" = search rules in
     let other : c.args.folder.now ≢ c.args.place.now = search rules in
     let off : goes_on c.args.folder.now c.args.place.now ≡ false = search rules in

@@ -1,11 +1,11 @@
-use Rattle.std.proofs.Common.{◌≡◌, ◌∷◌, Bor, List, ℕ, [], codes, map, refl, rules, subst, inl, inr, ⊎_elim}
+use Rattle.std.proofs.Common.{◌≡◌, ◌∷◌, Bor, List, ℕ, [], codes, map, refl, rules, subst, inl, inr, ⊎_elim, Err, ap}
 use Rattle.clap.specs.Matches.{found_of}
 use Rattle.udfs_words.specs.Asking.{manifest_text, only_texts, folder_text, lost_text}
 use Rattle.udfs_extraction.specs.Manifests.{IsPutLast}
 use Rattle.udfs_words.proofs.AskingLemmas.{paths_or}
 use Rattle.udfs_extraction.proofs.LostLemmas.{adds_by, nothing_lost}
 use Rattle.udfs_extraction.proofs.ManifestLemmas.{lists_by, nothing_listed, spares_at_place}
-use Rattle.udfs_extraction.proofs.RefusedLemmas.{stops_asked, list_adds_at}
+use Rattle.udfs_extraction.proofs.RefusedLemmas.{stops_asked, list_adds_at, unplaced}
 use Rattle.udfs_extraction.specs.Refused.{ListAddStops}
 use Rattle.udfs_extraction.proofs.unnamed_words.listed_with_lost_words.Goals as goal
 
@@ -74,7 +74,9 @@ returns-in-Err-Output-clause-why g c =
     (λ blamed. inr (inr (inr (c.as_slice-paths.result.now, search rules, inr (inl ((refl, refl), blamed)))))) c.unwritten.ensures.blamed
 
 pub returns-in-Err-asked_place-clause-why : goal.returns-in-Err-asked_place-clause-why
-returns-in-Err-asked_place-clause-why g c = inl ((refl, refl), search rules)
+returns-in-Err-asked_place-clause-why g c =
+    let e = c.in-Err-asked_place.ensures in
+    inl (unplaced _ _ _ _ (refl, refl) e.told (λ is. e.spared (ap Err is)) (λ is. e.cause (ap Err is)))
 
 pub returns-in-Err-find_new_folder-clause-why : goal.returns-in-Err-find_new_folder-clause-why
 returns-in-Err-find_new_folder-clause-why g c = ⊎_elim (λ taken. inr (inl ((refl, refl), taken))) (λ memory. inr (inr (inl ((refl, refl), memory)))) c.in-Err-find_new_folder.ensures.told
