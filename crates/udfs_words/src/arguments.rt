@@ -19,7 +19,7 @@ pub fn verbose<'a>(alloc: Global) -> Arg<'a>
         .short('v')
         .long("verbose")
         .help(
-            "Say more on standard error, as on a terminal: beneath a refusal, why and what to do next",
+            "Print more on standard error, as on a terminal: after an error, why and what to do next",
         )
         .action(ArgAction::SetTrue)
 }
@@ -31,7 +31,7 @@ pub fn quiet<'a>(alloc: Global) -> Arg<'a>
     Arg::new(alloc, QUIET)
         .short('q')
         .long("quiet")
-        .help("Say no more than that on standard error, also on a terminal")
+        .help("Print an error's own line alone on standard error, also on a terminal")
         .action(ArgAction::SetTrue)
 }
 

@@ -174,7 +174,7 @@ fn report<'a>(alloc: Global, given: Given) -> Result<Command<'a>, AllocError>
     ensures { IfOk result (λ command. app_of command ≡ report_app given) }
 {
     let command = Command::new(alloc, "report")
-        .about("Prints what the inputs tell of the volume, and which blocks to read again")
+        .about("Prints what is known of the volume, file by file, and which blocks to read again")
         .override_usage("udfsalvage report [OPTIONS] [--last <N> | --size <BYTES>] <IN>...")
         .arg(last(alloc, given.needs_last))?
         .arg(disc_size(alloc))?

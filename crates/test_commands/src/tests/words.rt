@@ -39,7 +39,7 @@ out-begins Joins readings and table files into one table file
 out-has <IN>...
 
 $ report --help
-out-begins Prints what the inputs tell of the volume
+out-begins Prints what is known of the volume, file by file
 out-has --last <N>
 
 $ reread --help
