@@ -2,12 +2,16 @@
 
 ghost use Rattle.std.specs.Prelude.{◌≡◌, ◌<◌, ◌↔◌, ℕ, Bool, true, false, List, [], Some, length, slice_get, IsErrOf, OnOk};
 ghost use Rattle.udfs_lattice.specs.Tables.{state_of};
+ghost use Rattle.udfs_space.specs.Places.{view};
 ghost use Rattle.udfs_file.specs.declared.cells.Cell.{Cell};
+ghost use Rattle.udfs_volume.specs.Answers.{found};
 ghost use Rattle.udfs_volume.specs.declared.profiles.Profile.{Profile};
+ghost use Rattle.udfs_walk.specs.NodeBodies.{MayTakeMemory};
 ghost use Rattle.udfs_walk.specs.NodeFields.{NodeFields};
 ghost use Rattle.udfs_walk.specs.declared.answers.Unnamed.{Unnamed};
 ghost use Rattle.udfs_walk.specs.declared.standings.Standing.TheVariants.{Whole};
 ghost use Rattle.udfs_salvage.specs.Extraction.{Extracts, HasCellsInBy, fill_byte, filled, is_offered};
+ghost use Rattle.udfs_salvage.specs.Found.{Found, volume_now};
 ghost use Rattle.udfs_salvage.specs.Listings.{AreUnnamed, listing_now};
 ghost use Rattle.udfs_salvage.specs.Reports.{IsReportBy};
 ghost use Rattle.udfs_salvage.specs.TreeReports.{FillsFileBy, WritesFileBy};
@@ -56,6 +60,9 @@ pub fn write_node<W: Sink>(
         (λ bytes. Extracts (W.stream sink.old) (W.stream sink.new) bytes result) }
     ensures nothing { IsErrOf result ExtractError.NotWhole → sink.new ≡ sink.old }
     ensures memory { IsErrOf result ExtractError.OutOfMemory → sink.new ≡ sink.old }
+    // Memory is wanted only where the body at the node's address is embedded or has a byte.
+    ensures wanted { (f : Found) (n : NodeFields) → volume_now listing.now.volume ≡ found f → slice_get (listing_now listing.now).nodes index ≡ Some n →
+        IsErrOf result ExtractError.OutOfMemory → MayTakeMemory (view (state_of listing.now.table.now) f.space) n.icb }
     ensures empty { OnOk result (out.new ≡ []) }
 {
     let node = &listing.nodes[index];

@@ -1,11 +1,12 @@
 use Rattle.std.proofs.Common.{◌≡◌, ◌∙◌, sym, ap, subst, true}
 use Rattle.udfs_lattice.specs.Tables.{state_of}
 use Rattle.udfs_space.specs.Places.{view}
-use Rattle.udfs_walk.specs.NodeBodies.{HasCells}
+use Rattle.udfs_walk.specs.NodeBodies.{HasCells, MayTakeMemory}
 use Rattle.udfs_salvage.specs.Found.{found_now, volume_now}
 use Rattle.udfs_salvage.specs.Listings.{full_in, listing_now}
 use Rattle.udfs_salvage.specs.Extraction.{Extracts, fill_byte, filled, is_offered}
 use Rattle.udfs_salvage.proofs.Extracting.{report_cells, not_refused, true_false}
+use Rattle.udfs_salvage.proofs.Founds.{found_same}
 use Rattle.udfs_salvage.proofs.ListedNodes.{same_full, same_offered}
 use Rattle.udfs_salvage.proofs.TreeBytes.{fills_file, writes_file}
 use Rattle.udfs_salvage.proofs.listed_extraction.write_node.Goals as goal
@@ -35,6 +36,15 @@ returns-in-Open-clause-not_whole g c = λ profile last n is at.
     ap (λ m. is_offered m.standing m.size c.args.fill) (sym same) ∙ same_offered b (volume_now r.volume) c.index-node.result.now.icb c.index-node.result.now.standing c.index-node.result.now.size c.args.fill ∙ sym c.is_offered.ensures ∙ c.if-not-is_offered.false in
     let written = returns-in-Open-clause-cells g c profile last n is at offered in
     (λ e. absurd (not_refused (W.stream c.args.sink.now) (W.stream c.write_at.new.sink) (filled (fill_byte c.args.fill) written.0) c.write_at.result written.2 e), λ e. absurd (true_false (is_offered n.standing n.size c.args.fill) offered e))
+
+pub returns-in-Open-clause-wanted : goal.returns-in-Open-clause-wanted
+returns-in-Open-clause-wanted g c = λ f n opens at refused.
+    let r = c.args.listing.now in
+    let b = state_of r.table.now in
+    let same = same_full (full_in b (volume_now r.volume)) r.nodes.items c.args.index n c.index-node.result.now at c.index-node.ensures in
+    let icb : c.node.inside.icb ≡ n.icb = ap (λ m. m.icb) c.node.view_is ∙ ap (λ m. m.icb) same in
+    let opened : found_now c.in-Open.opened ≡ f = found_same _ _ (sym (ap volume_now c.in-Open.is) ∙ opens) in
+    subst (λ h. MayTakeMemory (view b h.space) n.icb) opened (subst (λ a. MayTakeMemory (view b c.in-Open.opened.space) a) icb (subst (λ v. MayTakeMemory v c.node.inside.icb) c.view-view.ensures.value (c.write_at.ensures.wanted refused)))
 
 pub returns-in-Open-clause-tree : goal.returns-in-Open-clause-tree
 returns-in-Open-clause-tree g c = λ profile last n is at whole.
