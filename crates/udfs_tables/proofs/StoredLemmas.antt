@@ -27,7 +27,7 @@ use Rattle.udfs_reading.specs.Reading.{magic}
 use Rattle.udfs_rescue.specs.Blocks.{left_bytes, reading_known, reading_of, records_of}
 use Rattle.udfs_rescue.specs.declared.known.BlockRange.{BlockRange}
 use Rattle.udfs_rescue.specs.declared.opening.PairFault.{PairFault}
-use Rattle.udfs_tables.specs.Refused.{BlamesOne, BlamesPath, IsUncompared, IsUnread, MergeRefused, OneFails, StoredRefused, refusal_with, refused_in}
+use Rattle.udfs_tables.specs.Refused.{BlamesOne, BlamesPath, IsUncompared, IsRereadOf, MergeRefused, OneFails, StoredRefused, refusal_with, refused_in}
 use Rattle.udfs_words.specs.declared.input_path.InputPath.{InputPath}
 
 -- for each thing that is stored there is a source that has left what it holds
@@ -268,8 +268,8 @@ of_stored have same found shut paths ss r many opened judged (inr (inl blames)) 
 of_stored have same found shut paths ss r many opened judged (inr (inr unread)) = record { why = inr (inr (inr (inl (subst (λ (n : ℕ). IsUncompared n r) many unread)))) }
 
 -- nor were those that could not be read a second time
-pub of_unread : {R I : Type 0} (found : List ℕ → Option (Option (List ℕ))) (shut : List ℕ → Type 0) (remaining : AnySource R I → Option (List ℕ)) (paths : List InputPath) (count : ℕ) (r : Refusal) → count ≡ length paths → IsUnread count r → MergeRefused found shut remaining paths r
-of_unread found shut remaining paths count r many unread = record { why = inr (inr (inr (inr (subst (λ (n : ℕ). IsUnread n r) many unread)))) }
+pub of_unread : {R I : Type 0} (found : List ℕ → Option (Option (List ℕ))) (shut : List ℕ → Type 0) (remaining : AnySource R I → Option (List ℕ)) (paths : List InputPath) (count : ℕ) (r : Refusal) → count ≡ length paths → IsRereadOf count r → MergeRefused found shut remaining paths r
+of_unread found shut remaining paths count r many unread = record { why = inr (inr (inr (inr (subst (λ (n : ℕ). IsRereadOf n r) many unread)))) }
 
 -- nor those that are shut
 pub of_shut : {R I : Type 0} (found : List ℕ → Option (Option (List ℕ))) (shut : List ℕ → Type 0) (remaining : AnySource R I → Option (List ℕ)) (paths : List InputPath) (r : Refusal) → (r ≡ Memory alloc_error) ⊎ IsShut shut paths r → MergeRefused found shut remaining paths r

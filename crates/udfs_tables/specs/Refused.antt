@@ -4,7 +4,7 @@
 --     OneFails                       one of some inputs has this error
 --     BlamesOne                      one of them was not taken, and what is said of it
 --     BlamesPath                     the same of the inputs of some paths
---     IsUncompared, IsUnread         bytes of one of so many inputs could not be read again, to be compared or to be written
+--     IsUncompared, IsRereadOf         bytes of one of so many inputs could not be read again, to be compared or to be written
 --     StoredRefused                  so many inputs that are read at positions were not taken, and why
 --     MergeRefused                   the inputs of some paths were not merged, and why
 --     WordsRefused                   a command was refused by its words, and why
@@ -70,8 +70,8 @@ abbrev pub IsUncompared : ℕ → Refusal → Type 0
 IsUncompared count r = (place : ℕ) × (number : ℕ) × (place < count) × (r ≡ refusal.Input (place + 1) (record { fault = Io; number = number }))
 
 -- or it has changed since it was begun
-abbrev pub IsUnread : ℕ → Refusal → Type 0
-IsUnread count r = (place : ℕ) × (number : ℕ) × (place < count) × (r ≡ refusal.Reread (place + 1) number)
+abbrev pub IsRereadOf : ℕ → Refusal → Type 0
+IsRereadOf count r = (place : ℕ) × (number : ℕ) × (place < count) × (r ≡ refusal.Reread (place + 1) number)
 
 -- memory was refused, or one of them was not taken, or its bytes could not be compared with those of another
 abbrev pub StoredRefused : {S : Type 0} → (S → Option (List ℕ)) → (S → Option PairFault) → List S → Refusal → Type 0
@@ -79,7 +79,7 @@ StoredRefused content reason stored r = (r ≡ refusal.Memory alloc_error) ⊎ B
 
 -- memory was refused; or one of the paths is shut, and it is named; or what it leads to has no table, and why; or bytes of an input could not be read again
 pub record MergeRefused {R I : Type 0} (found : List ℕ → Option (Option (List ℕ))) (shut : List ℕ → Type 0) (remaining : AnySource R I → Option (List ℕ)) (paths : List InputPath) (refused : Refusal) : Type 0 where
-  pub why : (refused ≡ refusal.Memory alloc_error) ⊎ IsShut shut paths refused ⊎ BlamesPath found remaining source_reason paths refused ⊎ IsUncompared (length paths) refused ⊎ IsUnread (length paths) refused
+  pub why : (refused ≡ refusal.Memory alloc_error) ⊎ IsShut shut paths refused ⊎ BlamesPath found remaining source_reason paths refused ⊎ IsUncompared (length paths) refused ⊎ IsRereadOf (length paths) refused
 
 -- memory was refused; or the output would take the place of what is to stay; or it could not be looked at; or this is said of the inputs that the words ask for
 abbrev pub WordsRefused : Type 0 → List Asked → (List InputPath → Refusal → Type 0) → Refusal → Type 0

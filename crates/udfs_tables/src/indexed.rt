@@ -10,7 +10,7 @@ ghost use Rattle.udfs_common.specs.Spelling.{table_file};
 ghost use Rattle.udfs_common.specs.Blaming.{stored_reason};
 ghost use Rattle.udfs_common.specs.Refusing.{refused_pair};
 ghost use Rattle.udfs_tables.specs.Indexing.{IsReread, IsSinkFault};
-ghost use Rattle.udfs_tables.specs.Refused.{IsUncompared, IsUnread, StoredRefused, refusal_with, refused_in};
+ghost use Rattle.udfs_tables.specs.Refused.{IsUncompared, IsRereadOf, StoredRefused, refusal_with, refused_in};
 
 use crate::index_tally::IndexTally;
 use std::alloc::{AllocError, Global};
@@ -75,7 +75,7 @@ impl<'i, 'a, S: Stored> IndexedFile<'i, 'a, S> {
     /// What is said of bytes of an input that could not be read a second time when they were to be written, or of one that has changed.
     pub fn reread(&self, unread: Unread) -> Refusal
         ensures reread { IsReread result }
-        ensures named { 0 < length self.now.stored.now → IsUnread (length self.now.stored.now) result }
+        ensures named { 0 < length self.now.stored.now → IsRereadOf (length self.now.stored.now) result }
     {
         let number = record_of(self.stored, unread);
         let place = unread.input.min(self.stored.len().saturating_sub(1));

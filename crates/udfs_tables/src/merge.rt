@@ -119,6 +119,8 @@ pub fn merge<F: Files>(
     // Any other refusal leaves all files as they were. An input that could not be read a second time was found so when a new file was begun, which is
     // removed again.
     ensures untouched { IfErr result (λ refusal. refusal ≢ Refusal.Output → refusal ≢ Refusal.Unkept → (¬ IsReread refusal) → files.new ≡ files.old) }
+    // Then the output's path holds what it held.
+    ensures reread { IfErr result (λ refusal. IsReread refusal → KeepsOut F.Files out.now files.old files.new) }
     // A refused output leaves what its path held.
     ensures refused { IsErrOf result Refusal.Output → KeepsOut F.Files out.now files.old files.new }
     // The table file is in its place where only the folder could not be synced.

@@ -36,6 +36,7 @@ pub fn merge_stored<F: Files>(
     ensures written { OnOk result (IsMerged F.Files F.Output.stream (⟦<AnySource<F::Input, F::Image> as Source>⟧.remaining) inputs.now out.now version files.old files.new) }
     ensures any_moment { CrashesMerged F.Files F.Output.stream (⟦<AnySource<F::Input, F::Image> as Source>⟧.remaining) inputs.now out.now version files.old files.new }
     ensures untouched { IfErr result (λ refusal. refusal ≢ Refusal.Output → refusal ≢ Refusal.Unkept → (¬ IsReread refusal) → files.new ≡ files.old) }
+    ensures reread { IfErr result (λ refusal. IsReread refusal → KeepsOut F.Files out.now files.old files.new) }
     ensures refused { IsErrOf result Refusal.Output → KeepsOut F.Files out.now files.old files.new }
     ensures unkept { IsErrOf result Refusal.Unkept → StandsMerged F.Files F.Output.stream (⟦<AnySource<F::Input, F::Image> as Source>⟧.remaining) inputs.now out.now version files.old files.new }
     ensures elsewhere { KeepsOthers F.Files out.now files.old files.new }

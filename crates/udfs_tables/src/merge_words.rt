@@ -53,6 +53,8 @@ pub fn merge_words<F: Files>(
     ensures any_moment { F.tells → (F.in_place files.old (out_text (found_of words.now)) → ⊥) → (c : Disk) → F.left_since files.new (F.moment files.old) c →
         After (F.may_leave files.old) (MayMerge (λ path. F.holds files.old (F.real files.old path)) (⟦<AnySource<F::Input, F::Image> as Source>⟧.remaining) (F.real files.old) (found_of words.now)) c }
     ensures untouched { IfErr result (λ refusal. refusal ≢ Refusal.Output → refusal ≢ Refusal.Unkept → (¬ IsReread refusal) → files.new ≡ files.old) }
+    // Where an input could not be read a second time, the output's path holds what it held.
+    ensures reread { IfErr result (λ refusal. IsReread refusal → F.tells → (F.in_place files.old (out_text (found_of words.now)) → ⊥) → F.holds files.new (F.real files.old (out_text (found_of words.now))) ≡ F.holds files.old (F.real files.old (out_text (found_of words.now)))) }
     // A refused output leaves what its path held.
     ensures refused { IsErrOf result Refusal.Output → F.tells → (F.in_place files.old (out_text (found_of words.now)) → ⊥) → F.holds files.new (F.real files.old (out_text (found_of words.now))) ≡ F.holds files.old (F.real files.old (out_text (found_of words.now))) }
     // The table file is in its place where only the folder could not be synced.
