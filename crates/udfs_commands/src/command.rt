@@ -26,7 +26,7 @@ ghost use Rattle.udfs_reports.specs.Summarizing.{PrintsSummary};
 ghost use Rattle.udfs_words.specs.Obeying.{Asks, GrammarTakes, IsAsked, given_in};
 ghost use Rattle.udfs_words.specs.Grammar.{program_app};
 ghost use Rattle.udfs_overview.specs.declared.node_list.ListForm.{ListForm};
-ghost use Rattle.udfs_extraction.specs.Timing.{IsTold};
+ghost use Rattle.udfs_extraction.specs.Timing.{IsGoodWithTimes};
 ghost use Rattle.udfs_words.specs.declared.forms.Form.{Form};
 
 use crate::printing::send;
@@ -85,16 +85,16 @@ pub fn run<F: Files, O: Sink, E: Sink>(
         (F.tells → IsFreeMap (F.holds files.old) (F.real files.old) (F.in_place files.old) (pair_texts found) (mapfile_text found))) }
     // Where `--times` asks for times, one that could not be set is lacking too.
     ensures extract { GrammarTakes (map string_bytes words.now) → Asks (map string_bytes words.now) (codes "extract") → result ≢ 2 → (all : Bool) × (result ≡ cond all 0 1) × (found : Found) × IsAsked (map string_bytes words.now) (codes "extract") found ×
-        ((good : Bool) × IsTold found good all × (has_lost found ≡ false → has_manifest found ≡ false → has_only found ≡ false → ExtractsAllAsked F.Files F.Output.stream found (⟦<AnySource<F::Input, F::Image> as Source>⟧.remaining) O.stream files.old files.new out.old out.new good)) }
+        ((good : Bool) × IsGoodWithTimes found good all × (has_lost found ≡ false → has_manifest found ≡ false → has_only found ≡ false → ExtractsAllAsked F.Files F.Output.stream found (⟦<AnySource<F::Input, F::Image> as Source>⟧.remaining) O.stream files.old files.new out.old out.new good)) }
     ensures chosen { GrammarTakes (map string_bytes words.now) → Asks (map string_bytes words.now) (codes "extract") → result ≢ 2 → (all : Bool) × (result ≡ cond all 0 1) × (found : Found) × IsAsked (map string_bytes words.now) (codes "extract") found ×
-        ((good : Bool) × IsTold found good all × (has_lost found ≡ false → has_manifest found ≡ false → ExtractsAsked F.Files F.Output.stream found (⟦<AnySource<F::Input, F::Image> as Source>⟧.remaining) O.stream files.old files.new out.old out.new good)) }
+        ((good : Bool) × IsGoodWithTimes found good all × (has_lost found ≡ false → has_manifest found ≡ false → ExtractsAsked F.Files F.Output.stream found (⟦<AnySource<F::Input, F::Image> as Source>⟧.remaining) O.stream files.old files.new out.old out.new good)) }
     ensures listed { GrammarTakes (map string_bytes words.now) → Asks (map string_bytes words.now) (codes "extract") → result ≢ 2 → (all : Bool) × (result ≡ cond all 0 1) × (found : Found) × IsAsked (map string_bytes words.now) (codes "extract") found ×
-        ((good : Bool) × IsTold found good all × (has_lost found ≡ false → has_manifest found ≡ true → ListsAsked F.Files F.Output.stream found (⟦<AnySource<F::Input, F::Image> as Source>⟧.remaining) O.stream files.old files.new out.old out.new good × HasFreeManifest F.Files found files.old)) }
+        ((good : Bool) × IsGoodWithTimes found good all × (has_lost found ≡ false → has_manifest found ≡ true → ListsAsked F.Files F.Output.stream found (⟦<AnySource<F::Input, F::Image> as Source>⟧.remaining) O.stream files.old files.new out.old out.new good × HasFreeManifest F.Files found files.old)) }
     // With `--unnamed` the same, and then the lost files are written, into a folder that was not there.
     ensures lost { GrammarTakes (map string_bytes words.now) → Asks (map string_bytes words.now) (codes "extract") → result ≢ 2 → (all : Bool) × (result ≡ cond all 0 1) × (found : Found) × IsAsked (map string_bytes words.now) (codes "extract") found ×
-        ((good : Bool) × IsTold found good all × (has_lost found ≡ true → has_manifest found ≡ false → AddsAsked F.Files F.Output.stream found (⟦<AnySource<F::Input, F::Image> as Source>⟧.remaining) O.stream files.old files.new out.old out.new good)) }
+        ((good : Bool) × IsGoodWithTimes found good all × (has_lost found ≡ true → has_manifest found ≡ false → AddsAsked F.Files F.Output.stream found (⟦<AnySource<F::Input, F::Image> as Source>⟧.remaining) O.stream files.old files.new out.old out.new good)) }
     ensures listed_lost { GrammarTakes (map string_bytes words.now) → Asks (map string_bytes words.now) (codes "extract") → result ≢ 2 → (all : Bool) × (result ≡ cond all 0 1) × (found : Found) × IsAsked (map string_bytes words.now) (codes "extract") found ×
-        ((good : Bool) × IsTold found good all × (has_lost found ≡ true → has_manifest found ≡ true → ListsAddsAsked F.Files F.Output.stream found (⟦<AnySource<F::Input, F::Image> as Source>⟧.remaining) O.stream files.old files.new out.old out.new good)) }
+        ((good : Bool) × IsGoodWithTimes found good all × (has_lost found ≡ true → has_manifest found ≡ true → ListsAddsAsked F.Files F.Output.stream found (⟦<AnySource<F::Input, F::Image> as Source>⟧.remaining) O.stream files.old files.new out.old out.new good)) }
     ensures free_lost { GrammarTakes (map string_bytes words.now) → Asks (map string_bytes words.now) (codes "extract") → result ≢ 2 → (good : Bool) × (result ≡ cond good 0 1) × (found : Found) × IsAsked (map string_bytes words.now) (codes "extract") found ×
         ((has_lost found ≡ true → HasNewFolder F.Files found (lost_others found) files.old) × (has_lost found ≡ true → has_manifest found ≡ true → HasFreeManifest F.Files found files.old)) }
     ensures forget { GrammarTakes (map string_bytes words.now) → Asks (map string_bytes words.now) (codes "forget") → result ≢ 2 → (result ≡ 0) × (found : Found) × IsAsked (map string_bytes words.now) (codes "forget") found ×
@@ -216,15 +216,15 @@ fn obey<F: Files, O: Sink>(
     ensures reread { name.now ≡ codes "reread" → IfSome result (λ outcome. IfOk outcome (λ whole. is_mapped (found_of words.now) ≡ false → (last : ℕ) × (profile : Profile) × (inputs : List InputPath) × (map asked_for inputs ≡ asked_inputs (found_of words.now)) ×
         IsLast (λ path. F.holds files.old (F.real files.old path)) inputs (found_of words.now) last × IsProfile (found_of words.now) profile × OfPaths (λ path. F.holds files.old (F.real files.old path)) (⟦<AnySource<F::Input, F::Image> as Source>⟧.remaining) inputs
         (PrintsNumbers profile last (O.stream out.old) (O.stream out.new) whole))) }
-    ensures extract { name.now ≡ codes "extract" → IfSome result (λ outcome. IfOk outcome (λ all. (good : Bool) × IsTold (found_of words.now) good all ×
+    ensures extract { name.now ≡ codes "extract" → IfSome result (λ outcome. IfOk outcome (λ all. (good : Bool) × IsGoodWithTimes (found_of words.now) good all ×
         (has_lost (found_of words.now) ≡ false → has_manifest (found_of words.now) ≡ false → has_only (found_of words.now) ≡ false → ExtractsAllAsked F.Files F.Output.stream (found_of words.now) (⟦<AnySource<F::Input, F::Image> as Source>⟧.remaining) O.stream files.old files.new out.old out.new good))) }
-    ensures chosen { name.now ≡ codes "extract" → IfSome result (λ outcome. IfOk outcome (λ all. (good : Bool) × IsTold (found_of words.now) good all ×
+    ensures chosen { name.now ≡ codes "extract" → IfSome result (λ outcome. IfOk outcome (λ all. (good : Bool) × IsGoodWithTimes (found_of words.now) good all ×
         (has_lost (found_of words.now) ≡ false → has_manifest (found_of words.now) ≡ false → ExtractsAsked F.Files F.Output.stream (found_of words.now) (⟦<AnySource<F::Input, F::Image> as Source>⟧.remaining) O.stream files.old files.new out.old out.new good))) }
-    ensures listed { name.now ≡ codes "extract" → IfSome result (λ outcome. IfOk outcome (λ all. (good : Bool) × IsTold (found_of words.now) good all ×
+    ensures listed { name.now ≡ codes "extract" → IfSome result (λ outcome. IfOk outcome (λ all. (good : Bool) × IsGoodWithTimes (found_of words.now) good all ×
         (has_lost (found_of words.now) ≡ false → has_manifest (found_of words.now) ≡ true → ListsAsked F.Files F.Output.stream (found_of words.now) (⟦<AnySource<F::Input, F::Image> as Source>⟧.remaining) O.stream files.old files.new out.old out.new good × HasFreeManifest F.Files (found_of words.now) files.old))) }
-    ensures lost { name.now ≡ codes "extract" → IfSome result (λ outcome. IfOk outcome (λ all. (good : Bool) × IsTold (found_of words.now) good all ×
+    ensures lost { name.now ≡ codes "extract" → IfSome result (λ outcome. IfOk outcome (λ all. (good : Bool) × IsGoodWithTimes (found_of words.now) good all ×
         (has_lost (found_of words.now) ≡ true → has_manifest (found_of words.now) ≡ false → AddsAsked F.Files F.Output.stream (found_of words.now) (⟦<AnySource<F::Input, F::Image> as Source>⟧.remaining) O.stream files.old files.new out.old out.new good))) }
-    ensures listed_lost { name.now ≡ codes "extract" → IfSome result (λ outcome. IfOk outcome (λ all. (good : Bool) × IsTold (found_of words.now) good all ×
+    ensures listed_lost { name.now ≡ codes "extract" → IfSome result (λ outcome. IfOk outcome (λ all. (good : Bool) × IsGoodWithTimes (found_of words.now) good all ×
         (has_lost (found_of words.now) ≡ true → has_manifest (found_of words.now) ≡ true → ListsAddsAsked F.Files F.Output.stream (found_of words.now) (⟦<AnySource<F::Input, F::Image> as Source>⟧.remaining) O.stream files.old files.new out.old out.new good))) }
     ensures free_lost { name.now ≡ codes "extract" → IfSome result (λ outcome. IfOk outcome (λ good.
         (has_lost (found_of words.now) ≡ true → HasNewFolder F.Files (found_of words.now) (lost_others (found_of words.now)) files.old) × (has_lost (found_of words.now) ≡ true → has_manifest (found_of words.now) ≡ true → HasFreeManifest F.Files (found_of words.now) files.old))) }

@@ -8,6 +8,7 @@ use Rattle.udfs_volume.specs.Answers.{Answer, found, holes, faulty}
 use Rattle.udfs_walk.specs.NodeFields.{NodeFields}
 use Rattle.udfs_salvage.specs.Found.{Found}
 use Rattle.udfs_salvage.specs.Reports.{Report, all_whole, is_whole}
+use Rattle.udfs_salvage.specs.declared.extraction.Fill.{Fill}
 use Rattle.udfs_extraction.specs.Choosing.{chosen, is_node}
 use Rattle.udfs_extraction.specs.Extracting.{ExtractsAll, ExtractsChosen, PutsAll, PutsBy, PutsChosen, all_good}
 use Rattle.udfs_extraction.specs.ShortNames.{own_name}
@@ -41,9 +42,9 @@ by_volume (found f) A B N to puts = to puts
 by_volume (holes blocks) A B N to puts = puts
 by_volume (faulty fault) A B N to puts = puts
 
-pub extracts_all : {F : Type 0} (short : Bool) (P : Table → Report → ℕ → NodeFields → Fate → Type 0) (holds : F → List ℕ → Option (Option (List ℕ))) (folder : List ℕ) (before after : F) (profile : Profile) (last : ℕ) (old new : Stream) (good : Bool) (table : Table)
-    → ExtractsChosen (codes "/" ∷ []) short P holds folder before after profile last old new good table → ExtractsAll short P before after profile last old new good table
-extracts_all short P holds folder before after profile last old new good table x = record {
+pub extracts_all : {F : Type 0} (fill : Fill) (short : Bool) (P : Table → Report → ℕ → NodeFields → Fate → Type 0) (holds : F → List ℕ → Option (Option (List ℕ))) (folder : List ℕ) (before after : F) (profile : Profile) (last : ℕ) (old new : Stream) (good : Bool) (table : Table)
+    → ExtractsChosen (codes "/" ∷ []) fill short P holds folder before after profile last old new good table → ExtractsAll short P before after profile last old new good table
+extracts_all fill short P holds folder before after profile last old new good table x = record {
   report = x.report;
   is_report = x.is_report;
   puts = by_volume x.report.volume _ _ _ (puts_all (own_name short x.report) (P table x.report) x.report.nodes old new good) x.puts;

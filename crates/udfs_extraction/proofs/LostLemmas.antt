@@ -7,6 +7,7 @@ use Rattle.udfs_walk.specs.NodeFields.{NodeFields}
 use Rattle.udfs_walk.specs.declared.answers.Unnamed.{Unnamed}
 use Rattle.udfs_salvage.specs.Reports.{Report, IsReportBy}
 use Rattle.udfs_salvage.specs.Texts.{has_two}
+use Rattle.udfs_salvage.specs.declared.extraction.Fill.{Fill}
 use Rattle.clap.specs.declared.parser.matches.Found.{Found}
 use Rattle.udfs_words.specs.Asking.{IsPicked, folder_text, has_manifest, lost_text, manifest_text}
 use Rattle.udfs_extraction.specs.Extracting.{ExtractsChosen, IsElsewhere, IsIn, IsSafe, PutsOf, Spares, Stay, TellsLines, all_good}
@@ -141,11 +142,11 @@ puts_lost P two us old new heard good is put = record {
 -- ---- of the report of a table
 
 -- what is made and told of nodes
-pub chosen_of : {F : Type 0} (only : List (List ℕ)) (short : Bool) (P : Table → Report → ℕ → NodeFields → Fate → Type 0) (Is : Report → List Fate → List ℕ → Type 0) (holds : F → Held) (folder : List ℕ) (before after : F) (profile : Profile) (last : ℕ) (old new : Stream) (good : Bool) (manifest : Option (List ℕ))
-    (r t u : Table) (report : Report) → r ≡ t → t ≡ u → IsReportBy profile (state_of t) last report → PutsNoted only short (P r) Is before after report old new good manifest → ((q : List ℕ) → IsElsewhere only short report folder q → holds after q ≡ holds before q)
-    → ExtractsChosen only short P holds folder before after profile last old new good u
-chosen_of only short P Is holds folder before after profile last old new good manifest r t u report one two is_report puts elsewhere =
-    subst (λ x. ExtractsChosen only short P holds folder before after profile last old new good x) two (record {
+pub chosen_of : {F : Type 0} (only : List (List ℕ)) (fill : Fill) (short : Bool) (P : Table → Report → ℕ → NodeFields → Fate → Type 0) (Is : Report → List Fate → List ℕ → Type 0) (holds : F → Held) (folder : List ℕ) (before after : F) (profile : Profile) (last : ℕ) (old new : Stream) (good : Bool) (manifest : Option (List ℕ))
+    (r t u : Table) (report : Report) → r ≡ t → t ≡ u → IsReportBy profile (state_of t) last report → PutsNoted only short (P r) Is before after report old new good manifest → ((q : List ℕ) → IsElsewhere only fill short report folder q → holds after q ≡ holds before q)
+    → ExtractsChosen only fill short P holds folder before after profile last old new good u
+chosen_of only fill short P Is holds folder before after profile last old new good manifest r t u report one two is_report puts elsewhere =
+    subst (λ x. ExtractsChosen only fill short P holds folder before after profile last old new good x) two (record {
       report = report;
       is_report = is_report;
       puts = subst (λ x. PutsOf only short (P x) before after report old new good) one (by_both report.volume _ _ _ _ (λ p. p.puts) (λ n. n.0) puts);

@@ -15,6 +15,7 @@ use Rattle.udfs_salvage.specs.Found.{Found, volume_now}
 use Rattle.udfs_salvage.specs.declared.volumes.Volume as code_volume
 use Rattle.udfs_salvage.specs.NodeTexts.{names_text}
 use Rattle.udfs_salvage.specs.Reports.{IsReportBy, Report, is_whole}
+use Rattle.udfs_salvage.specs.declared.extraction.Fill.{Fill}
 use Rattle.udfs_extraction.specs.Choosing.{chosen, goes_on, is_node}
 use Rattle.udfs_extraction.specs.Extracting.{IsDone, IsElsewhere, Puts, PutsBy, Stay, all_good, path_below}
 use Rattle.udfs_extraction.specs.Manifests.{AreLines, IsBeside, IsLine, IsNoted, ListsChosen, ListsOf, MayPutLast, PutsListed, PutsWith, SparesListed, digest_line, note_text, notes_of, notes_text}
@@ -140,11 +141,11 @@ puts_with only own P Is nodes old new good fates heard nothing_failed whole text
 }
 
 -- of the report of a table
-pub lists_chosen : {F : Type 0} (only : List (List ℕ)) (short : Bool) (P : F → Table → Report → ℕ → NodeFields → Fate → Type 0) (Is : F → Report → List Fate → List ℕ → Type 0) (Put : F → List ℕ → Type 0) (holds : F → Held) (folder : List ℕ) (before after : F) (profile : Profile) (last : ℕ) (old new : Stream) (good : Bool)
-    (r t u : Table) (mid : F) (report : Report) → r ≡ t → t ≡ u → IsReportBy profile (state_of t) last report → ListsOf only short (λ f. P f r) Is Put before mid after report old new good → ((q : List ℕ) → IsElsewhere only short report folder q → holds mid q ≡ holds before q)
-    → ListsChosen only short P Is Put holds folder before after profile last old new good u
-lists_chosen only short P Is Put holds folder before after profile last old new good r t u mid report one two is_report puts elsewhere =
-    subst (λ x. ListsChosen only short P Is Put holds folder before after profile last old new good x) two (record {
+pub lists_chosen : {F : Type 0} (only : List (List ℕ)) (fill : Fill) (short : Bool) (P : F → Table → Report → ℕ → NodeFields → Fate → Type 0) (Is : F → Report → List Fate → List ℕ → Type 0) (Put : F → List ℕ → Type 0) (holds : F → Held) (folder : List ℕ) (before after : F) (profile : Profile) (last : ℕ) (old new : Stream) (good : Bool)
+    (r t u : Table) (mid : F) (report : Report) → r ≡ t → t ≡ u → IsReportBy profile (state_of t) last report → ListsOf only short (λ f. P f r) Is Put before mid after report old new good → ((q : List ℕ) → IsElsewhere only fill short report folder q → holds mid q ≡ holds before q)
+    → ListsChosen only fill short P Is Put holds folder before after profile last old new good u
+lists_chosen only fill short P Is Put holds folder before after profile last old new good r t u mid report one two is_report puts elsewhere =
+    subst (λ x. ListsChosen only fill short P Is Put holds folder before after profile last old new good x) two (record {
       mid = mid;
       report = report;
       is_report = is_report;
@@ -153,9 +154,9 @@ lists_chosen only short P Is Put holds folder before after profile last old new 
     })
 
 -- what is known of the text that is put may be told otherwise
-pub lists_by : {F : Type 0} (only : List (List ℕ)) (short : Bool) (P : F → Table → Report → ℕ → NodeFields → Fate → Type 0) (Is : F → Report → List Fate → List ℕ → Type 0) (Put Put' : F → List ℕ → Type 0) (holds : F → Held) (folder : List ℕ) (before after : F) (profile : Profile) (last : ℕ) (old new : Stream) (good : Bool) (table : Table)
-    → ((f : F) (text : List ℕ) → Put f text → Put' f text) → ListsChosen only short P Is Put holds folder before after profile last old new good table → ListsChosen only short P Is Put' holds folder before after profile last old new good table
-lists_by only short P Is Put Put' holds folder before after profile last old new good table to x = record {
+pub lists_by : {F : Type 0} (only : List (List ℕ)) (fill : Fill) (short : Bool) (P : F → Table → Report → ℕ → NodeFields → Fate → Type 0) (Is : F → Report → List Fate → List ℕ → Type 0) (Put Put' : F → List ℕ → Type 0) (holds : F → Held) (folder : List ℕ) (before after : F) (profile : Profile) (last : ℕ) (old new : Stream) (good : Bool) (table : Table)
+    → ((f : F) (text : List ℕ) → Put f text → Put' f text) → ListsChosen only fill short P Is Put holds folder before after profile last old new good table → ListsChosen only fill short P Is Put' holds folder before after profile last old new good table
+lists_by only fill short P Is Put Put' holds folder before after profile last old new good table to x = record {
   mid = x.mid;
   report = x.report;
   is_report = x.is_report;

@@ -58,12 +58,12 @@ module _ {F I M S W : Type 0} (files : Ghosts F I M S W) (output : W → Stream)
 
   -- the nodes that the words ask for are made and told, and no other
   abbrev pub ExtractsNodes : Fill → Bool → ℕ → Profile → F → F → Stream → Stream → Bool → Table → Type 0
-  ExtractsNodes fill short last profile old new before after good = ExtractsChosen (only_texts words) short (IsNodePut fill short new) files.holds (folder_text words) old new profile last before after good
+  ExtractsNodes fill short last profile old new before after good = ExtractsChosen (only_texts words) fill short (IsNodePut fill short new) files.holds (folder_text words) old new profile last before after good
 
   -- at some moment they are, and then the manifest of these files is put where the words say
   abbrev pub ListsNodes : Fill → Bool → ℕ → Profile → F → F → Stream → Stream → Bool → Table → Type 0
   ListsNodes fill short last profile old new before after good =
-      ListsChosen (only_texts words) short (IsNodePut fill short)
+      ListsChosen (only_texts words) fill short (IsNodePut fill short)
       (λ at report fates text. files.tells → IsManifest (files.holds at) (folder_text words) short report fates text)
       (λ at text. files.tells → IsPutLast files.holds files.may_leave files.moment files.left_since (files.real old (manifest_text words)) at new text)
       files.holds (folder_text words) old new profile last before after good

@@ -188,14 +188,14 @@ pub record PutsChosen (only : List (List ℕ)) (own : NodeFields → Option (Lis
 abbrev pub PutsOf : {F : Type 0} → List (List ℕ) → Bool → (Report → ℕ → NodeFields → Fate → Type 0) → F → F → Report → Stream → Stream → Bool → Type 0
 PutsOf only short P before after report old new good = PutsBy report.volume (PutsChosen only (own_name short report) (P report) report.nodes old new good) (PutsNone before after report.volume old new good)
 
--- no node that is asked for has its file at this path
-abbrev pub IsElsewhere : List (List ℕ) → Bool → Report → List ℕ → List ℕ → Type 0
-IsElsewhere only short report folder q = (k : ℕ) (n : NodeFields) → slice_get report.nodes k ≡ Some n → is_chosen only n.path ≡ true → q ≢ path_below folder (placed short report k n)
+-- no node that is asked for, and of which a file is to be written, has its file at this path
+abbrev pub IsElsewhere : List (List ℕ) → Fill → Bool → Report → List ℕ → List ℕ → Type 0
+IsElsewhere only fill short report folder q = (k : ℕ) (n : NodeFields) → slice_get report.nodes k ≡ Some n → is_chosen only n.path ≡ true → deed n.kind n.standing n.size fill ≡ File → q ≢ path_below folder (placed short report k n)
 
--- of the report of the table by the rules of a profile; and no path changes but those of nodes that are asked for
-pub record ExtractsChosen {F : Type 0} (only : List (List ℕ)) (short : Bool) (P : Table → Report → ℕ → NodeFields → Fate → Type 0) (holds : F → List ℕ → Option (Option (List ℕ))) (folder : List ℕ) (before after : F) (profile : Profile) (last : ℕ)
+-- of the report of the table by the rules of a profile; and no path changes but those of nodes that are asked for and of which a file is to be written
+pub record ExtractsChosen {F : Type 0} (only : List (List ℕ)) (fill : Fill) (short : Bool) (P : Table → Report → ℕ → NodeFields → Fate → Type 0) (holds : F → List ℕ → Option (Option (List ℕ))) (folder : List ℕ) (before after : F) (profile : Profile) (last : ℕ)
     (old new : Stream) (good : Bool) (table : Table) : Type 0 where
   pub report : Report
   pub is_report : IsReportBy profile (state_of table) last report
   pub puts : PutsOf only short (P table) before after report old new good
-  pub elsewhere : (q : List ℕ) → IsElsewhere only short report folder q → holds after q ≡ holds before q
+  pub elsewhere : (q : List ℕ) → IsElsewhere only fill short report folder q → holds after q ≡ holds before q

@@ -16,6 +16,7 @@ use Rattle.udfs_volume.specs.declared.profiles.Profile.{Profile}
 use Rattle.udfs_walk.specs.NodeFields.{NodeFields}
 use Rattle.udfs_salvage.specs.NodeTexts.{names_text}
 use Rattle.udfs_salvage.specs.Reports.{Report, IsReportBy}
+use Rattle.udfs_salvage.specs.declared.extraction.Fill.{Fill}
 use Rattle.udfs_extraction.specs.Choosing.{goes_on}
 use Rattle.udfs_extraction.specs.Extracting.{IsElsewhere, IsIn, PutsBy, PutsChosen, PutsNone, Spares, Stay, path_below}
 use Rattle.udfs_common.specs.Guarding.{NoneLeads, SomeLeads}
@@ -109,14 +110,14 @@ abbrev pub ListsOf : {F : Type 0} → List (List ℕ) → Bool → (F → Report
 ListsOf only short P Is Put before mid after report old new good =
     PutsBy report.volume (PutsListed only (own_name short report) (P mid report) (Is mid report) (Put mid) report.nodes old new good) (PutsNone before mid report.volume old new good × (after ≡ mid))
 
--- the same of the report of a table by the rules of a profile; and until the manifest is put no path changes but those of nodes that are asked for
-pub record ListsChosen {F : Type 0} (only : List (List ℕ)) (short : Bool) (P : F → Table → Report → ℕ → NodeFields → Fate → Type 0) (Is : F → Report → List Fate → List ℕ → Type 0) (Put : F → List ℕ → Type 0) (holds : F → List ℕ → Option (Option (List ℕ))) (folder : List ℕ)
+-- the same of the report of a table by the rules of a profile; and until the manifest is put no path changes but those of nodes that are asked for and of which a file is to be written
+pub record ListsChosen {F : Type 0} (only : List (List ℕ)) (fill : Fill) (short : Bool) (P : F → Table → Report → ℕ → NodeFields → Fate → Type 0) (Is : F → Report → List Fate → List ℕ → Type 0) (Put : F → List ℕ → Type 0) (holds : F → List ℕ → Option (Option (List ℕ))) (folder : List ℕ)
     (before after : F) (profile : Profile) (last : ℕ) (old new : Stream) (good : Bool) (table : Table) : Type 0 where
   pub mid : F
   pub report : Report
   pub is_report : IsReportBy profile (state_of table) last report
   pub puts : ListsOf only short (λ f. P f table) Is Put before mid after report old new good
-  pub elsewhere : (q : List ℕ) → IsElsewhere only short report folder q → holds mid q ≡ holds before q
+  pub elsewhere : (q : List ℕ) → IsElsewhere only fill short report folder q → holds mid q ≡ holds before q
 
 -- ---- what is left as it was
 

@@ -165,8 +165,8 @@ module _ {F I M S W R J O : Type 0} (files : Ghosts F I M S W) (output : W → S
   OfWords = MakingRefused (held_at files old) (files.shut old) remaining faults words Untouched
 
   -- why the manifest's place was spared
-  abbrev Spares : Type 0
-  Spares = files.tells → IsSparedManifest (files.holds old) (files.real old) (files.in_place old) (input_texts words) (pair_texts words) (folder_text words) (manifest_text words)
+  abbrev SparesManifest : Type 0
+  SparesManifest = files.tells → IsSparedManifest (files.holds old) (files.real old) (files.in_place old) (input_texts words) (pair_texts words) (folder_text words) (manifest_text words)
 
   -- what is at the manifest's place could not be seen; `Unread` says that an input's device failed
   abbrev Unseen : Type 0 → Type 0
@@ -176,13 +176,13 @@ module _ {F I M S W R J O : Type 0} (files : Ghosts F I M S W) (output : W → S
   NodesRefused = OfWords (λ fill short. NodesStop files output (only_texts words) (folder_text words) fill short old new (stream before) (stream after))
 
   abbrev pub ListRefused : Type 0 → Refusal → Type 0
-  ListRefused Unread = UnseenOr Untouched Spares (Unseen Unread) (OfWords (λ fill short. ListStops files output (only_texts words) (folder_text words) fill short old new (stream before) (stream after)))
+  ListRefused Unread = UnseenOr Untouched SparesManifest (Unseen Unread) (OfWords (λ fill short. ListStops files output (only_texts words) (folder_text words) fill short old new (stream before) (stream after)))
 
   abbrev pub AddRefused : Refusal → Type 0
   AddRefused = TakenOr Untouched (OfWords (λ fill short. AddStops files output (only_texts words) (folder_text words) fill short stream (lost_text words) old new before after))
 
   abbrev pub ListAddRefused : Type 0 → Refusal → Type 0
-  ListAddRefused Unread = UnseenOr Untouched Spares (Unseen Unread) (TakenOr Untouched (OfWords (λ fill short. ListAddStops files output (only_texts words) (folder_text words) fill short stream (lost_text words) (files.real old (manifest_text words)) old new before after)))
+  ListAddRefused Unread = UnseenOr Untouched SparesManifest (Unseen Unread) (TakenOr Untouched (OfWords (λ fill short. ListAddStops files output (only_texts words) (folder_text words) fill short stream (lost_text words) (files.real old (manifest_text words)) old new before after)))
 
   abbrev pub ExtractRefused : Type 0 → Refusal → Type 0
   ExtractRefused Unread refusal = (has_lost words ≡ false → (has_manifest words ≡ false → NodesRefused refusal) × (has_manifest words ≡ true → ListRefused Unread refusal)) ×

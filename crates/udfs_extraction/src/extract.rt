@@ -111,7 +111,7 @@ fn put_nodes<F: Files, O: Sink>(
         (digest ≡ true → F.tells → IsManifest (F.holds files.new) folder.now short (listing_now listing.now) fates (notes_text short (listing_now listing.now) told.manifest.items))) }
     ensures stays { F.tells → Stay (F.holds files.old) (F.holds files.new) }
     ensures outside { (q : List ℕ) → (¬ IsIn folder.now q) → F.holds files.new q ≡ F.holds files.old q }
-    ensures elsewhere { (q : List ℕ) → IsElsewhere (map (λ word. word.now) only.now) short (listing_now listing.now) folder.now q → F.holds files.new q ≡ F.holds files.old q }
+    ensures elsewhere { (q : List ℕ) → IsElsewhere (map (λ word. word.now) only.now) fill short (listing_now listing.now) folder.now q → F.holds files.new q ≡ F.holds files.old q }
     ensures crash { F.tells → Goes F.moment F.may_leave F.left_since files.old files.new (Spares folder.now (F.holds files.old)) }
 {
     let spare = Spare::new();
@@ -180,7 +180,7 @@ pub fn put_report<F: Files, O: Sink>(
     ensures no_node { IfErr result (λ refusal. (i : ℕ) → refusal ≡ Refusal.NoNode i → files.new ≡ files.old) }
     ensures stays { F.tells → Stay (F.holds files.old) (F.holds files.new) }
     ensures outside { (q : List ℕ) → (¬ IsIn folder.now q) → F.holds files.new q ≡ F.holds files.old q }
-    ensures elsewhere { (q : List ℕ) → IsElsewhere (map (λ word. word.now) only.now) short (listing_now listing.now) folder.now q → F.holds files.new q ≡ F.holds files.old q }
+    ensures elsewhere { (q : List ℕ) → IsElsewhere (map (λ word. word.now) only.now) fill short (listing_now listing.now) folder.now q → F.holds files.new q ≡ F.holds files.old q }
     ensures crash { F.tells → Goes F.moment F.may_leave F.left_since files.old files.new (Spares folder.now (F.holds files.old)) }
 {
     match &listing.volume {
@@ -238,9 +238,9 @@ pub fn extract<F: Files, O: Sink>(
     files: &mut F,
     out: &mut O,
 ) -> Result<bool, Refusal>
-    // At `Ok` each node behind the root that is asked for has its line, and each file that is told as written is there, whole, and each crash since then leaves it. No path changes but theirs.
+    // At `Ok` each node behind the root that is asked for has its line, and each file that is told as written is there, whole, and each crash since then leaves it. No path changes but those at which a file is to be written.
     ensures chosen { IfOk result (λ good. OfPaths (λ path. F.holds files.old (F.real files.old path)) (⟦<AnySource<F::Input, F::Image> as Source>⟧.remaining) inputs.now
-        (ExtractsChosen (map (λ word. word.now) only.now) short (λ table told. IsPut F.tells (Fails F.faults ⊎ SinkFails F.Output.stream) table told fill short folder.now (F.holds files.new) (F.moment files.new) (F.left_since files.new))
+        (ExtractsChosen (map (λ word. word.now) only.now) fill short (λ table told. IsPut F.tells (Fails F.faults ⊎ SinkFails F.Output.stream) table told fill short folder.now (F.holds files.new) (F.moment files.new) (F.left_since files.new))
         F.holds folder.now files.old files.new profile last (O.stream out.old) (O.stream out.new) good)) }
     // Why it is refused, and what was made and told by then.
     ensures why { IfErr result (OfPathsRefused (λ path. F.holds files.old (F.real files.old path)) (F.shut files.old) (⟦<AnySource<F::Input, F::Image> as Source>⟧.remaining) (⟦<AnySource<F::Input, F::Image> as Source>⟧.faults) inputs.now

@@ -84,7 +84,7 @@ pub fn list_report<F: Files, O: Sink>(
         (λ f told fates text. F.tells → IsManifest (F.holds f) folder.now short told fates text)
         (λ f text. F.tells → IsPutLast F.holds F.may_leave F.moment F.left_since place.now f files.new text)
         files.old mid files.new (listing_now listing.now) (O.stream out.old) (O.stream out.new) good
-        × ((q : List ℕ) → IsElsewhere (map (λ word. word.now) only.now) short (listing_now listing.now) folder.now q → F.holds mid q ≡ F.holds files.old q)) }
+        × ((q : List ℕ) → IsElsewhere (map (λ word. word.now) only.now) fill short (listing_now listing.now) folder.now q → F.holds mid q ≡ F.holds files.old q)) }
     ensures why { IfErr result (ListStops F.Files F.Output.stream (map (λ word. word.now) only.now) folder.now fill short files.old files.new (O.stream out.old) (O.stream out.new) listing.now.table.now (listing_now listing.now)) }
     ensures no_node { IfErr result (λ refusal. (i : ℕ) → refusal ≡ Refusal.NoNode i → files.new ≡ files.old) }
     ensures spares { SparesListed F.tells F.holds F.may_leave F.moment F.left_since short folder.now place.now files.old files.new }
@@ -120,7 +120,7 @@ pub fn extract_listed<F: Files, O: Sink>(
     // At `Ok` all was made and told as without a manifest, at some moment; and since then the manifest was put, and nothing else: for each file that is told as written, in order, the digest of what its
     // path held then.
     ensures listed { IfOk result (λ good. OfPaths (λ path. F.holds files.old (F.real files.old path)) (⟦<AnySource<F::Input, F::Image> as Source>⟧.remaining) inputs.now
-        (ListsChosen (map (λ word. word.now) only.now) short
+        (ListsChosen (map (λ word. word.now) only.now) fill short
         (λ f table told. IsPut F.tells (Fails F.faults ⊎ SinkFails F.Output.stream) table told fill short folder.now (F.holds f) (F.moment f) (F.left_since f))
         (λ f told fates text. F.tells → IsManifest (F.holds f) folder.now short told fates text)
         (λ f text. F.tells → IsPutLast F.holds F.may_leave F.moment F.left_since place.now f files.new text)

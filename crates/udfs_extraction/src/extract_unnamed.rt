@@ -43,7 +43,7 @@ pub fn extract_with_lost<F: Files, O: Sink>(
 ) -> Result<bool, Refusal>
     // At `Ok` all was made and told as without lost files, at some moment; and since then each lost file has its line, and each that is told as written is there, and each crash since then leaves it.
     ensures added { IfOk result (λ good. OfPaths (λ path. F.holds files.old (F.real files.old path)) (⟦<AnySource<F::Input, F::Image> as Source>⟧.remaining) inputs.now
-        (AddsLost (λ (mid : F) (between : O) nodes_good. ExtractsChosen (map (λ word. word.now) only.now) short
+        (AddsLost (λ (mid : F) (between : O) nodes_good. ExtractsChosen (map (λ word. word.now) only.now) fill short
         (λ table told. IsPut F.tells (Fails F.faults ⊎ SinkFails F.Output.stream) table told fill short folder.now (F.holds mid) (F.moment mid) (F.left_since mid))
         F.holds folder.now files.old mid profile last (O.stream out.old) (O.stream between) nodes_good)
         (λ (mid : F) (between : O) lost_good. WritesLost
@@ -105,7 +105,7 @@ pub fn extract_listed_with_lost<F: Files, O: Sink>(
 ) -> Result<bool, Refusal>
     // At `Ok` all was made and told as without lost files, at some moment; and since then each lost file has its line, and each that is told as written is there, and each crash since then leaves it.
     ensures added { IfOk result (λ good. OfPaths (λ path. F.holds files.old (F.real files.old path)) (⟦<AnySource<F::Input, F::Image> as Source>⟧.remaining) inputs.now
-        (AddsLost (λ (mid : F) (between : O) nodes_good. ListsChosen (map (λ word. word.now) only.now) short
+        (AddsLost (λ (mid : F) (between : O) nodes_good. ListsChosen (map (λ word. word.now) only.now) fill short
         (λ f table told. IsPut F.tells (Fails F.faults ⊎ SinkFails F.Output.stream) table told fill short folder.now (F.holds f) (F.moment f) (F.left_since f))
         (λ f told fates text. F.tells → IsManifest (F.holds f) folder.now short told fates text)
         (λ f text. F.tells → IsPutLast F.holds F.may_leave F.moment F.left_since place.now f mid text)

@@ -266,6 +266,7 @@ fn put_at<F: Files>(
     ensures digest { IfOk result (λ done. IsNoted digest F.tells (F.holds files.new) path.now done.fate done.digest) }
     ensures stays { F.tells → Stay (F.holds files.old) (F.holds files.new) }
     ensures others { (q : List ℕ) → q ≢ path.now → F.holds files.new q ≡ F.holds files.old q }
+    ensures elsewhere { (q : List ℕ) → ((n : NodeFields) → slice_get (listing_now listing.now).nodes index ≡ Some n → deed n.kind n.standing n.size fill ≡ Deed.File → q ≢ path.now) → F.holds files.new q ≡ F.holds files.old q }
     ensures crash { F.tells → (folder : List ℕ) → IsIn folder path.now → Goes F.moment F.may_leave F.left_since files.old files.new (Spares folder (F.holds files.old)) }
 {
     match deed_for(node_at(listing, index), fill) {
@@ -303,7 +304,7 @@ fn put_node<F: Files>(
     ensures digest { IfOk result (λ done. IsNoted digest F.tells (F.holds files.new) (folder.now ++ place.now) done.fate done.digest) }
     ensures stays { F.tells → Stay (F.holds files.old) (F.holds files.new) }
     ensures outside { (q : List ℕ) → (¬ IsIn folder.now q) → F.holds files.new q ≡ F.holds files.old q }
-    ensures elsewhere { (q : List ℕ) → q ≢ folder.now ++ place.now → F.holds files.new q ≡ F.holds files.old q }
+    ensures elsewhere { (q : List ℕ) → ((n : NodeFields) → slice_get (listing_now listing.now).nodes index ≡ Some n → deed n.kind n.standing n.size fill ≡ Deed.File → q ≢ folder.now ++ place.now) → F.holds files.new q ≡ F.holds files.old q }
     ensures crash { F.tells → Goes F.moment F.may_leave F.left_since files.old files.new (Spares folder.now (F.holds files.old)) }
 {
     let path = path_in(alloc, folder, place)?;
@@ -361,7 +362,7 @@ pub fn put_chosen<F: Files>(
     ensures digest { IfOk result (λ done. IsNoted digest F.tells (F.holds files.new) (folder.now ++ place.now) done.fate done.digest) }
     ensures stays { F.tells → Stay (F.holds files.old) (F.holds files.new) }
     ensures outside { (q : List ℕ) → (¬ IsIn folder.now q) → F.holds files.new q ≡ F.holds files.old q }
-    ensures elsewhere { (q : List ℕ) → ((n : NodeFields) → slice_get (listing_now listing.now).nodes index ≡ Some n → is_chosen (map (λ word. word.now) only.now) n.path ≡ true → q ≢ folder.now ++ place.now) → F.holds files.new q ≡ F.holds files.old q }
+    ensures elsewhere { (q : List ℕ) → ((n : NodeFields) → slice_get (listing_now listing.now).nodes index ≡ Some n → is_chosen (map (λ word. word.now) only.now) n.path ≡ true → deed n.kind n.standing n.size fill ≡ Deed.File → q ≢ folder.now ++ place.now) → F.holds files.new q ≡ F.holds files.old q }
     ensures crash { F.tells → Goes F.moment F.may_leave F.left_since files.old files.new (Spares folder.now (F.holds files.old)) }
 {
     let node = node_at(listing, index);

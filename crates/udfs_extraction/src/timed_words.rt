@@ -6,7 +6,7 @@ ghost use Rattle.std.specs.Prelude.{◌≡◌, ℕ, Bool, true, false, IfOk, IfE
 ghost use Rattle.udfs_words.specs.Asking.{has_lost, has_manifest, has_only};
 ghost use Rattle.udfs_extraction.specs.Sparing.{ExtractSpares};
 ghost use Rattle.udfs_extraction.specs.LostFiles.{lost_others};
-ghost use Rattle.udfs_extraction.specs.Timing.{IsTold};
+ghost use Rattle.udfs_extraction.specs.Timing.{IsGoodWithTimes};
 ghost use Rattle.udfs_extraction.specs.ByWords.{HasFreeManifest, HasNewFolder, ListsAsked, ListsAddsAsked, ExtractsAsked, AddsAsked, ExtractsAllAsked};
 ghost use Rattle.udfs_common.specs.declared.sources.AnySource.{AnySource};
 ghost use Rattle.udfs_extraction.specs.Refused.{ExtractRefused};
@@ -27,18 +27,18 @@ pub fn extract_timed<F: Files, O: Sink>(
     files: &mut F,
     out: &mut O,
 ) -> Result<bool, Refusal>
-    ensures extracted { IfOk result (λ all. (good : Bool) × IsTold (found_of words.now) good all × (has_lost (found_of words.now) ≡ false → has_manifest (found_of words.now) ≡ false → has_only (found_of words.now) ≡ false →
+    ensures extracted { IfOk result (λ all. (good : Bool) × IsGoodWithTimes (found_of words.now) good all × (has_lost (found_of words.now) ≡ false → has_manifest (found_of words.now) ≡ false → has_only (found_of words.now) ≡ false →
         ExtractsAllAsked F.Files F.Output.stream (found_of words.now) (⟦<AnySource<F::Input, F::Image> as Source>⟧.remaining) O.stream files.old files.new out.old out.new good)) }
     // With `--only` or without: only what is asked for is made, told and judged.
-    ensures chosen { IfOk result (λ all. (good : Bool) × IsTold (found_of words.now) good all × (has_lost (found_of words.now) ≡ false → has_manifest (found_of words.now) ≡ false →
+    ensures chosen { IfOk result (λ all. (good : Bool) × IsGoodWithTimes (found_of words.now) good all × (has_lost (found_of words.now) ≡ false → has_manifest (found_of words.now) ≡ false →
         ExtractsAsked F.Files F.Output.stream (found_of words.now) (⟦<AnySource<F::Input, F::Image> as Source>⟧.remaining) O.stream files.old files.new out.old out.new good)) }
     // With `--manifest` the same, and then the manifest is put.
-    ensures listed { IfOk result (λ all. (good : Bool) × IsTold (found_of words.now) good all × (has_lost (found_of words.now) ≡ false → has_manifest (found_of words.now) ≡ true →
+    ensures listed { IfOk result (λ all. (good : Bool) × IsGoodWithTimes (found_of words.now) good all × (has_lost (found_of words.now) ≡ false → has_manifest (found_of words.now) ≡ true →
         ListsAsked F.Files F.Output.stream (found_of words.now) (⟦<AnySource<F::Input, F::Image> as Source>⟧.remaining) O.stream files.old files.new out.old out.new good × HasFreeManifest F.Files (found_of words.now) files.old)) }
     // With `--unnamed` the same, and then the lost files are written.
-    ensures added { IfOk result (λ all. (good : Bool) × IsTold (found_of words.now) good all × (has_lost (found_of words.now) ≡ true → has_manifest (found_of words.now) ≡ false →
+    ensures added { IfOk result (λ all. (good : Bool) × IsGoodWithTimes (found_of words.now) good all × (has_lost (found_of words.now) ≡ true → has_manifest (found_of words.now) ≡ false →
         AddsAsked F.Files F.Output.stream (found_of words.now) (⟦<AnySource<F::Input, F::Image> as Source>⟧.remaining) O.stream files.old files.new out.old out.new good)) }
-    ensures listed_added { IfOk result (λ all. (good : Bool) × IsTold (found_of words.now) good all × (has_lost (found_of words.now) ≡ true → has_manifest (found_of words.now) ≡ true →
+    ensures listed_added { IfOk result (λ all. (good : Bool) × IsGoodWithTimes (found_of words.now) good all × (has_lost (found_of words.now) ≡ true → has_manifest (found_of words.now) ≡ true →
         ListsAddsAsked F.Files F.Output.stream (found_of words.now) (⟦<AnySource<F::Input, F::Image> as Source>⟧.remaining) O.stream files.old files.new out.old out.new good)) }
     // Their folder may not be there yet, nor the manifest where something else is.
     ensures free { IfOk result (λ all. (has_lost (found_of words.now) ≡ true → HasNewFolder F.Files (found_of words.now) (lost_others (found_of words.now)) files.old) ×

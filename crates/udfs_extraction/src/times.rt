@@ -3,7 +3,7 @@
 ghost use Rattle.std.specs.Prelude.{◌≡◌, true, false, codes};
 ghost use Rattle.clap.specs.Matches.{found_of};
 ghost use Rattle.udfs_words.specs.Asking.{IsPicked};
-ghost use Rattle.udfs_extraction.specs.Timing.{IsTold};
+ghost use Rattle.udfs_extraction.specs.Timing.{IsGoodWithTimes};
 
 use crate::choosing::is_above;
 use crate::extract::Fate;
@@ -39,7 +39,7 @@ pub fn keep_times<F: Files>(words: &ArgMatches<'_>, files: &F) -> Result<(), All
 
 /// Whether all is good where this is: where times are to be set, one that could not be set is lacking too.
 pub fn told_good<F: Files>(good: bool, words: &ArgMatches<'_>, files: &F) -> bool
-    ensures { IsTold (found_of words.now) good result }
+    ensures { IsGoodWithTimes (found_of words.now) good result }
 {
     let times = asked_times(words);
     if times && files.times().are_lacking() {

@@ -55,7 +55,7 @@ returns-in_err-done-clause-elsewhere g c q other =
     let is : c.as_str-place.result.now ≡ string_bytes c.in_ok-target.target.text = search rules in
     let there : (m : NodeFields) → slice_get (listing_now c.args.listing.now).nodes c.loop-index.index ≡ Some m → c.as_str-place.result.now ≡ names_text (placed c.args.short (listing_now c.args.listing.now) c.loop-index.index m)
     = λ m at. is ∙ target.text m (length inv.put.0) at (sym after) (inv.way (length inv.put.0) (sym after)) in
-    c.put_chosen.ensures.elsewhere q (λ m at chosen e. other c.loop-index.index m at chosen (e ∙ ap (λ t. c.args.folder.now ++ t) (there m at))) ∙ inv.elsewhere q other
+    c.put_chosen.ensures.elsewhere q (λ m at chosen made e. other c.loop-index.index m at chosen made (e ∙ ap (λ t. c.args.folder.now ++ t) (there m at))) ∙ inv.elsewhere q other
 
 pub returns-in_err-note-clause-put : goal.returns-in_err-note-clause-put
 returns-in_err-note-clause-put g c =
@@ -86,7 +86,7 @@ returns-in_err-note-clause-elsewhere g c q other =
     let is : c.as_str-place.result.now ≡ string_bytes c.in_ok-target.target.text = search rules in
     let there : (m : NodeFields) → slice_get (listing_now c.args.listing.now).nodes c.loop-index.index ≡ Some m → c.as_str-place.result.now ≡ names_text (placed c.args.short (listing_now c.args.listing.now) c.loop-index.index m)
     = λ m at. is ∙ target.text m (length inv.put.0) at (sym after) (inv.way (length inv.put.0) (sym after)) in
-    c.put_chosen.ensures.elsewhere q (λ m at chosen e. other c.loop-index.index m at chosen (e ∙ ap (λ t. c.args.folder.now ++ t) (there m at))) ∙ inv.elsewhere q other
+    c.put_chosen.ensures.elsewhere q (λ m at chosen made e. other c.loop-index.index m at chosen made (e ∙ ap (λ t. c.args.folder.now ++ t) (there m at))) ∙ inv.elsewhere q other
 
 pub returns-in_err-heard-clause-put : goal.returns-in_err-heard-clause-put
 returns-in_err-heard-clause-put g c =
@@ -118,7 +118,7 @@ returns-in_err-heard-clause-elsewhere g c q other =
     let is : c.as_str-place.result.now ≡ string_bytes c.in_ok-target.target.text = search rules in
     let there : (m : NodeFields) → slice_get (listing_now c.args.listing.now).nodes c.loop-index.index ≡ Some m → c.as_str-place.result.now ≡ names_text (placed c.args.short (listing_now c.args.listing.now) c.loop-index.index m)
     = λ m at. is ∙ target.text m (length inv.put.0) at (sym after) (inv.way (length inv.put.0) (sym after)) in
-    c.put_chosen.ensures.elsewhere q (λ m at chosen e. other c.loop-index.index m at chosen (e ∙ ap (λ t. c.args.folder.now ++ t) (there m at))) ∙ inv.elsewhere q other
+    c.put_chosen.ensures.elsewhere q (λ m at chosen made e. other c.loop-index.index m at chosen made (e ∙ ap (λ t. c.args.folder.now ++ t) (there m at))) ∙ inv.elsewhere q other
 
 pub loop-index-preserved : goal.loop-index-preserved
 loop-index-preserved g c =
@@ -178,7 +178,7 @@ loop-index-preserved g c =
           subst (λ x. IsWay nodes x c.place_of.new.way.items) (sym e) (target.way (length fates) (sym after) (inv.way (length fates) (sym after)));
       stays = λ told q bytes is. step.stays told q bytes (inv.stays told q bytes is);
       outside = λ q out. step.outside q out ∙ inv.outside q out;
-      elsewhere = λ q other. step.elsewhere q (λ m at chosen e. other index m at chosen (e ∙ ap (λ t. c.args.folder.now ++ t) (there m at))) ∙ inv.elsewhere q other;
+      elsewhere = λ q other. step.elsewhere q (λ m at chosen made e. other index m at chosen made (e ∙ ap (λ t. c.args.folder.now ++ t) (there m at))) ∙ inv.elsewhere q other;
       crash = λ told. spares_on F.moment F.may_leave F.left_since c.args.files.now c.loop-index.files c.put_chosen.new.files c.args.folder.now (F.holds c.args.files.now) (F.holds c.loop-index.files) (inv.stays told) (inv.crash told) (step.crash told);
     }
 

@@ -19,6 +19,6 @@ invariant-loop-index g l =
       way : (k : ℕ) → suc k ≡ l.index → IsWay (listing_now l.listing).nodes k l.way.items;
       stays : F.tells → Stay (F.holds l.initial.files) (F.holds l.files);
       outside : (q : List ℕ) → (¬ IsIn l.folder q) → F.holds l.files q ≡ F.holds l.initial.files q;
-      elsewhere : (q : List ℕ) → IsElsewhere (map (λ (word : Bor (List ℕ)). word.now) l.only) l.short (listing_now l.listing) l.folder q → F.holds l.files q ≡ F.holds l.initial.files q;
+      elsewhere : (q : List ℕ) → IsElsewhere (map (λ (word : Bor (List ℕ)). word.now) l.only) l.fill l.short (listing_now l.listing) l.folder q → F.holds l.files q ≡ F.holds l.initial.files q;
       crash : F.tells → Goes F.moment F.may_leave F.left_since l.initial.files l.files (Spares l.folder (F.holds l.initial.files));
     }

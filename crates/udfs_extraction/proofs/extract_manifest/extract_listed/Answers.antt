@@ -17,7 +17,7 @@ returns-in-Ok-list_report-clause-listed g c =
     let l = c.in-Ok-list_report.ensures.listed in (
       of.0,
       of.1,
-      lists_chosen _ _ _ _ _ _ _ _ _ _ _ _ _ _ _ _ _ l.0 (listing_now c.in-Ok-listed.listing) c.in-Ok-listed.ensures.of.0 of.2 c.in-Ok-listed.ensures.report l.1 l.2,
+      lists_chosen _ _ _ _ _ _ _ _ _ _ _ _ _ _ _ _ _ _ l.0 (listing_now c.in-Ok-listed.listing) c.in-Ok-listed.ensures.of.0 of.2 c.in-Ok-listed.ensures.report l.1 l.2,
     )
 
 pub returns-in-Err-clause-why : goal.returns-in-Err-clause-why

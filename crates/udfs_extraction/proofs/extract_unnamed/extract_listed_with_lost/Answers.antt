@@ -36,7 +36,7 @@ returns-in-Ok-put_lost-clause-added g c =
         between = c.list_report.new.out;
         nodes_good = c.in-Ok-list_report.made;
         lost_good = c.in-Ok-put_lost.good;
-        nodes = lists_chosen _ _ _ _ _ _ _ _ _ _ _ _ _ _ _ _ _ l.0 told c.in-Ok-listed.ensures.of.0 of.2 c.in-Ok-listed.ensures.report l.1 l.2;
+        nodes = lists_chosen _ _ _ _ _ _ _ _ _ _ _ _ _ _ _ _ _ _ l.0 told c.in-Ok-listed.ensures.of.0 of.2 c.in-Ok-listed.ensures.report l.1 l.2;
         lost = lost_of _ _ _ _ _ _ _ _ _ _ told c.in-Ok-listed.ensures.of.0 of.2 c.in-Ok-listed.ensures.report c.in-Ok-put_lost.ensures.put c.put_lost.ensures.spares;
         says = c.is_all_good.ensures;
       },

@@ -37,7 +37,7 @@ returns-in-Ok-put_lost-clause-added g c =
         between = c.put_report.new.out;
         nodes_good = c.in-Ok-put_report.made.good;
         lost_good = c.in-Ok-put_lost.good;
-        nodes = chosen_of _ _ _ (λ r fates text. false ≡ true → g.F.Files.tells → IsManifest (g.F.Files.holds c.put_report.new.files) c.args.folder.now c.args.short r fates text) _ _ _ _ _ _ _ _ _ (option_map (λ m. notes_text c.args.short told m.items) c.in-Ok-put_report.made.manifest) _ _ _ told c.in-Ok-listed.ensures.of.0 of.2 c.in-Ok-listed.ensures.report c.in-Ok-put_report.ensures.put c.put_report.ensures.elsewhere;
+        nodes = chosen_of _ _ _ _ (λ r fates text. false ≡ true → g.F.Files.tells → IsManifest (g.F.Files.holds c.put_report.new.files) c.args.folder.now c.args.short r fates text) _ _ _ _ _ _ _ _ _ (option_map (λ m. notes_text c.args.short told m.items) c.in-Ok-put_report.made.manifest) _ _ _ told c.in-Ok-listed.ensures.of.0 of.2 c.in-Ok-listed.ensures.report c.in-Ok-put_report.ensures.put c.put_report.ensures.elsewhere;
         lost = lost_of _ _ _ _ _ _ _ _ _ _ told c.in-Ok-listed.ensures.of.0 of.2 c.in-Ok-listed.ensures.report c.in-Ok-put_lost.ensures.put c.put_lost.ensures.spares;
         says = c.is_all_good.ensures;
       },

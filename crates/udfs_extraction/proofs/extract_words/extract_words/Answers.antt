@@ -43,7 +43,7 @@ returns-in-Ok-extract-clause-extracted g c none =
       is_short = c.asked_short-short.ensures;
       is_last = c.in-Ok-asked_end.ensures.last;
       is_profile = c.asked_profile-profile.ensures;
-      of_inputs = (done.0, done.1, extracts_all _ _ _ _ _ _ _ _ _ _ _ _ done.2);
+      of_inputs = (done.0, done.1, extracts_all _ _ _ _ _ _ _ _ _ _ _ _ _ done.2);
     }
 
 pub returns-in-Err-clause-why : goal.returns-in-Err-clause-why

@@ -40,7 +40,7 @@ returns-in-Ok-extract_listed-clause-listed g c =
       of_inputs = (
         listed.0,
         listed.1,
-        lists_by _ _ _ _ _ _ _ _ _ _ _ _ _ _ _ _ (λ f text put told. subst (λ p. IsPutLast F.holds F.may_leave F.moment F.left_since p f c.extract_listed.new.files text) (at told) (put told)) listed.2,
+        lists_by _ _ _ _ _ _ _ _ _ _ _ _ _ _ _ _ _ (λ f text put told. subst (λ p. IsPutLast F.holds F.may_leave F.moment F.left_since p f c.extract_listed.new.files text) (at told) (put told)) listed.2,
       );
     }
 

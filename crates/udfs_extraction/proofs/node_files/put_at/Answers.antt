@@ -70,3 +70,19 @@ returns-in-Skip-clause-put g c n short folder at path =
       written = λ written told profile last reported. let bad : Skipped ≡ Written = written in cc;
       failed = λ bad profile last reported. let no_fate : true ≡ false = bad in cc;
     }
+
+pub returns-in_err-done-in-File-clause-elsewhere : goal.returns-in_err-done-in-File-clause-elsewhere
+returns-in_err-done-in-File-clause-elsewhere g c q other =
+    let l = c.args.listing.now in
+    let m = c.node_at.result.now in
+    let n = full_in (state_of l.table.now) (volume_now l.volume) m in
+    let made : deed n.kind n.standing n.size c.args.fill ≡ File = same_deed (state_of l.table.now) (volume_now l.volume) m.icb m.kind m.standing m.size c.args.fill ∙ sym c.deed_for.ensures ∙ c.in-File.is in
+    c.write_file.ensures.others q (other n c.node_at.ensures made)
+
+pub returns-in_ok-done-in-File-clause-elsewhere : goal.returns-in_ok-done-in-File-clause-elsewhere
+returns-in_ok-done-in-File-clause-elsewhere g c q other =
+    let l = c.args.listing.now in
+    let m = c.node_at.result.now in
+    let n = full_in (state_of l.table.now) (volume_now l.volume) m in
+    let made : deed n.kind n.standing n.size c.args.fill ≡ File = same_deed (state_of l.table.now) (volume_now l.volume) m.icb m.kind m.standing m.size c.args.fill ∙ sym c.deed_for.ensures ∙ c.in-File.is in
+    c.write_file.ensures.others q (other n c.node_at.ensures made)

@@ -23,13 +23,17 @@ returns-in-Ok-clause-elsewhere g c q other =
     let l = c.args.listing.now in
     let only = map (λ (word : Bor (List ℕ)). word.now) c.args.only.now in
     let seen : c.node.inside.path ≡ c.node_at-node.result.now.path = search rules in
-    let asked : is_chosen only c.node_at-node.result.now.path ≡ true = subst (λ (p : List (List ℕ)). is_chosen only p ≡ true) seen (sym c.in_ok-is_chosen.ensures ∙ c.if-branch.true) in
-    c.put_node.ensures.elsewhere q (other (full_in (state_of l.table.now) (volume_now l.volume) c.node_at-node.result.now) c.node_at-node.ensures asked)
+    c.put_node.ensures.elsewhere q (λ n at made.
+    let same : full_in (state_of l.table.now) (volume_now l.volume) c.node_at-node.result.now ≡ n = let e = sym c.node_at-node.ensures ∙ at in cc in
+    let asked : is_chosen only n.path ≡ true = subst (λ (p : List (List ℕ)). is_chosen only p ≡ true) (seen ∙ ap (λ (m : NodeFields). m.path) same) (sym c.in_ok-is_chosen.ensures ∙ c.if-branch.true) in
+    other n at asked made)
 
 pub returns-in-Err-clause-elsewhere : goal.returns-in-Err-clause-elsewhere
 returns-in-Err-clause-elsewhere g c q other =
     let l = c.args.listing.now in
     let only = map (λ (word : Bor (List ℕ)). word.now) c.args.only.now in
     let seen : c.node.inside.path ≡ c.node_at-node.result.now.path = search rules in
-    let asked : is_chosen only c.node_at-node.result.now.path ≡ true = subst (λ (p : List (List ℕ)). is_chosen only p ≡ true) seen (sym c.in_ok-is_chosen.ensures ∙ c.if-branch.true) in
-    c.put_node.ensures.elsewhere q (other (full_in (state_of l.table.now) (volume_now l.volume) c.node_at-node.result.now) c.node_at-node.ensures asked)
+    c.put_node.ensures.elsewhere q (λ n at made.
+    let same : full_in (state_of l.table.now) (volume_now l.volume) c.node_at-node.result.now ≡ n = let e = sym c.node_at-node.ensures ∙ at in cc in
+    let asked : is_chosen only n.path ≡ true = subst (λ (p : List (List ℕ)). is_chosen only p ≡ true) (seen ∙ ap (λ (m : NodeFields). m.path) same) (sym c.in_ok-is_chosen.ensures ∙ c.if-branch.true) in
+    other n at asked made)

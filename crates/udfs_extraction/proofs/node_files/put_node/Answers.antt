@@ -31,3 +31,13 @@ pub returns-clause-outside : goal.returns-clause-outside
 returns-clause-outside g c q out =
     let is : c.as_str.result.now ≡ c.args.folder.now ++ c.args.place.now = search rules in
     c.put_at.ensures.others q (λ e. out (c.requires.names.0, e ∙ is ∙ ap (λ t. c.args.folder.now ++ t) c.requires.names.1))
+
+pub returns-in_err-done-clause-elsewhere : goal.returns-in_err-done-clause-elsewhere
+returns-in_err-done-clause-elsewhere g c q other =
+    let is : c.as_str.result.now ≡ c.args.folder.now ++ c.args.place.now = search rules in
+    c.put_at.ensures.elsewhere q (λ n at made e. other n at made (e ∙ is))
+
+pub returns-clause-elsewhere : goal.returns-clause-elsewhere
+returns-clause-elsewhere g c q other =
+    let is : c.as_str.result.now ≡ c.args.folder.now ++ c.args.place.now = search rules in
+    c.put_at.ensures.elsewhere q (λ n at made e. other n at made (e ∙ is))

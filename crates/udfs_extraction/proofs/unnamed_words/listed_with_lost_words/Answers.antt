@@ -46,7 +46,7 @@ returns-in-Ok-extract_listed_with_lost-clause-added g c =
       of_inputs = (
         added.0,
         added.1,
-        adds_by _ _ _ _ _ (λ mid between good listed. lists_by _ _ _ _ _ _ _ _ _ _ _ _ _ _ _ _
+        adds_by _ _ _ _ _ (λ mid between good listed. lists_by _ _ _ _ _ _ _ _ _ _ _ _ _ _ _ _ _
             (λ f text put told. subst (λ p. IsPutLast F.holds F.may_leave F.moment F.left_since p f mid text) (at told) (put told)) listed) added.2,
       );
     }
