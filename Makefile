@@ -1,8 +1,9 @@
-# The words to type here:
-#   make            proves the program and all that it stands on, builds it, and says where it lies
+# What to type here:
+#   make            proves the program and all that it stands on, builds it, and says where it is
 #   make demo       the same, and then runs it on the readings of examples/
-#   make test       judges the whole repository as the gate does (what was proved here before is kept), and then tries what make hostile and make try try, and each
-#                   command that the documents show; the last line is 'N passed, M failed'
+#   make test       judges the whole repository as the gate does, and then tries what make hostile and make try try, the demonstration, and the
+#                   commands of ddrescue, ddrescuelog and udfsalvage and make install as README.md and docs/READING.md show them (not make, make demo, make test
+#                   and make deb, nor what needs a tool that is not installed); the last line is 'N passed, M failed'
 #   make hostile    refuses each allocation of many runs in turn, makes each system call of the program's runs fail or ends it there,
 #                   and changes each byte of the sample discs' descriptors
 #   make try        tries the built program on this machine's own files and devices and on a terminal, and with GNU ddrescue where it is installed
@@ -39,18 +40,19 @@ below = $(foreach name,$(shell sed -n 's/^$(1)\( [^:]*\)\{0,1\}:\([^\#]*\).*/\2/
 
 sources = $(shell find crates/$(1)/src crates/$(1)/specs crates/$(1)/proofs -name '*.rt' -o -name '*.antt' 2> /dev/null)
 
-# Where a source of a crate or of one below it changed. Nothing is proved again unless one did.
+# When a source of a crate or of one below it changed last. Nothing is proved again unless one did, or out/ was removed: the marks are there, since `rt ci`
+# removes what is in crates/*/out.
 define crate-rule
-crates/$(1)/out/changed: crates.txt $(call sources,$(1)) $(foreach name,$(call below,$(1)),crates/$(name)/out/changed)
-	@mkdir -p crates/$(1)/out
+out/marks/$(1): crates.txt $(call sources,$(1)) $(foreach name,$(call below,$(1)),out/marks/$(name))
+	@mkdir -p out/marks
 	@touch $$@
 endef
 
 $(foreach name,$(notdir $(wildcard crates/*)),$(eval $(call crate-rule,$(name))))
 
-# Only a proved program is built. It is run once.
+# Only a proved program is built. `rt ci` leaves it here too, so after `make test` it is not proved again.
 define program-rule
-crates/$(1)/out/$(1): crates/$(1)/out/changed
+crates/$(1)/out/$(1): out/marks/$(1)
 	@echo "proving $(1) and all that it stands on"
 	@tools/prove $$(RT) $(1)
 	@touch $$@
@@ -64,7 +66,8 @@ demo: all
 	@cat out/demo.txt
 	@tools/check-readme README.md out/demo.txt
 
-test: have-rt
+# The marks are set before, so that a source that is changed meanwhile is newer than they are.
+test: have-rt $(addprefix out/marks/,$(notdir $(wildcard crates/*)))
 	@RT_JOBS=$(JOBS) tools/test $(RT)
 
 hostile: all
