@@ -1,12 +1,17 @@
 -- What `merge` and `forget` may leave by their arguments is what they may leave by their words.
-use Rattle.std.proofs.Common.{◌≡◌, ◌⊎◌, ℕ, Bool, true, false, List, Option, codes, inl, inr, map, subst, ⊎_elim}
+use Rattle.std.proofs.Common.{◌≡◌, ◌≢◌, ◌∙◌, ◌⊎◌, ℕ, Bool, true, false, IfErr, List, Option, Result, Ok, Err, ap, codes, inl, inr, map, subst, sym, ⊎_elim}
 use Rattle.clap.specs.declared.parser.matches.Found.{Found}
 use Rattle.udfs_files.specs.Disk.{Disk}
+use Rattle.udfs_files.specs.declared.files.Files.{Ghosts}
 use Rattle.udfs_words.specs.Asking.{IsPicked, asked_for, asked_inputs, asked_streams, list_texts, out_text}
 use Rattle.udfs_tables.specs.Forgetting.{IsForgottenJoin, MayForget}
 use Rattle.udfs_common.specs.Guarding.{MayNotBeSeen, SomeShut}
 use Rattle.udfs_common.specs.Keeping.{MayReplace, RefusedOut}
+use Rattle.udfs_common.specs.declared.refusal.Refusal.{Refusal}
+use Rattle.udfs_common.specs.declared.refusal.Refusal.TheVariants as refusal
+use Rattle.udfs_tables.specs.Indexing.{IsReread}
 use Rattle.udfs_tables.specs.Leaving.{MayForgetAsked, MayMerge}
+use Rattle.udfs_tables.specs.Merging.{KeepsOut}
 use Rattle.udfs_words.specs.declared.input_path.InputPath.{InputPath}
 use Rattle.udfs_words.specs.declared.forms.Version.{Version}
 use Rattle.udfs_words.specs.declared.forms.Version.TheVariants.{One, Two}
@@ -48,3 +53,9 @@ unseen shut Failed files parts out (inl own) = inl own
 unseen shut Failed files parts out (inr (inl some)) = inr (inr (inl some))
 unseen shut Failed files parts out (inr (inr (inl some))) = inr (inl some)
 unseen shut Failed files parts out (inr (inr (inr failed))) = inr (inr (inr failed))
+
+-- an error that leaves all as it was, but where the output failed, leaves the output's path as it was where an input could not be read a second time
+pub reread_keeps : {A F I M S W : Type 0} (files : Ghosts F I M S W) (out : List ℕ) (old new : F) (result : Result A Refusal) → IfErr result (λ r. r ≢ refusal.Output → r ≢ refusal.Unkept → new ≡ old) → IfErr result (λ r. IsReread r → KeepsOut files out old new)
+reread_keeps {F = F} files out old new (Ok a) left = tt
+reread_keeps {F = F} files out old new (Err r) left = λ is tells place. ap (λ (f : F). files.holds f (files.real old out))
+    (left (λ e. let bad : refusal.Reread is.0 is.1 ≡ refusal.Output = sym is.2 ∙ e in cc) (λ e. let bad : refusal.Reread is.0 is.1 ≡ refusal.Unkept = sym is.2 ∙ e in cc))
