@@ -16,6 +16,7 @@ use Rattle.std.specs.Prelude.{◌≡◌, ◌≢◌, ◌⊎◌, ⊤, ℕ, List, [
 use Rattle.udfs_rescue.specs.Writing.{made_by, mark_line}
 use Rattle.udfs_files.specs.Disk.{IsOwn}
 
+-- whether the second list starts with all bytes of the first
 abbrev pub begins : List ℕ → List ℕ → Bool
 begins [] bytes = true
 begins (k ∷ kind) [] = false
@@ -29,14 +30,17 @@ MayBegin kind held = IfSome held (λ file. (bytes : List ℕ) × (file ≡ Some 
 abbrev pub BeginsOtherwise : List ℕ → Option (Option (List ℕ)) → Type 0
 BeginsOtherwise kind held = (bytes : List ℕ) → held ≡ Some (Some bytes) → begins kind bytes ≡ false
 
+-- at least one of the paths leads to this place
 abbrev pub SomeLeads : (List ℕ → List ℕ) → List ℕ → List (List ℕ) → Type 0
 SomeLeads real place [] = ⊥
 SomeLeads real place (path ∷ paths) = (real path ≡ place) ⊎ SomeLeads real place paths
 
+-- each of the paths leads to some other place
 abbrev pub NoneLeads : (List ℕ → List ℕ) → List ℕ → List (List ℕ) → Type 0
 NoneLeads real place [] = ⊤
 NoneLeads real place (path ∷ paths) = (real path ≢ place) × NoneLeads real place paths
 
+-- opening at least one of the paths may fail
 abbrev pub SomeShut : (List ℕ → Type 0) → List (List ℕ) → Type 0
 SomeShut shut [] = ⊥
 SomeShut shut (path ∷ paths) = shut path ⊎ SomeShut shut paths
@@ -56,6 +60,7 @@ pub record IsOtherReading (holds : List ℕ → Option (Option (List ℕ))) (rea
   pub no_input : NoneLeads real (real out) files
   pub reading : MayBegin reading_kind (holds (real out))
 
+-- why an output is not written: an image or a mapfile of the inputs is there, or, without force, possibly a reading that is no input
 abbrev pub IsSpared : (List ℕ → Option (Option (List ℕ))) → (List ℕ → List ℕ) → List (List ℕ) → List (List ℕ) → Bool → List ℕ → Type 0
 IsSpared holds real files parts force out = SomeLeads real (real out) parts ⊎ IsOtherReading holds real files force out
 
@@ -81,6 +86,7 @@ MayNotBeSeen shut Failed files parts out = shut out ⊎ SomeShut shut files ⊎ 
 abbrev pub IsFreeMap : (List ℕ → Option (Option (List ℕ))) → (List ℕ → List ℕ) → (List ℕ → Type 0) → List (List ℕ) → List ℕ → Type 0
 IsFreeMap holds real in_place parts out = IsFreeOwn domain_kind holds real in_place [] parts out
 
+-- why a map of blocks to read again is not written: an image or a mapfile of the inputs is there, or no such map is
 abbrev pub IsSparedMap : (List ℕ → Option (Option (List ℕ))) → (List ℕ → List ℕ) → List (List ℕ) → List ℕ → Type 0
 IsSparedMap holds real parts out = IsSparedOwn domain_kind holds real [] parts out
 

@@ -73,6 +73,7 @@ fate_line Left path own = line (codes "failed " ++ names_text path)
 fate_line Skipped path own = line (codes "skipped " ++ names_text path)
 fate_line Passed path own = []
 
+-- the lines of the nodes in order, as far as there are both nodes and fates
 abbrev pub fate_lines : (NodeFields → Option (List ℕ)) → List NodeFields → List Fate → List ℕ
 fate_lines own ns [] = []
 fate_lines own [] (fate ∷ fates) = []
@@ -87,6 +88,7 @@ is_good Left = false
 is_good Skipped = true
 is_good Passed = true
 
+-- none of the fates is that of a file or a folder that failed
 abbrev pub all_good : List Fate → Bool
 all_good [] = true
 all_good (fate ∷ fates) = if is_good fate then all_good fates else false
@@ -95,6 +97,7 @@ all_good (fate ∷ fates) = if is_good fate then all_good fates else false
 abbrev pub path_below : List ℕ → List (List ℕ) → List ℕ
 path_below folder names = folder ++ names_text names
 
+-- the path is that of the folder, followed by any number of names in their escaped form
 abbrev pub IsIn : List ℕ → List ℕ → Type 0
 IsIn folder q = (names : List (List ℕ)) × (q ≡ path_below folder names)
 
@@ -156,6 +159,7 @@ pub record PutsNone {F : Type 0} (before after : F) (volume : Answer Found) (old
   pub line : Wrote old new (volume_line volume)
   pub lacks : good ≡ false
 
+-- which of two statements is made of a volume: the first where it opens, and else the second
 abbrev pub PutsBy : Answer Found → Type 0 → Type 0 → Type 0
 PutsBy (found f) opens does_not = opens
 PutsBy (holes listed) opens does_not = does_not

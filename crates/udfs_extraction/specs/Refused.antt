@@ -74,6 +74,7 @@ pub record StopsLine {F : Type 0} (before after : F) (volume : Answer Found) (ol
   pub begun : WriteFailed old new (volume_line volume)
   pub told : refusal ≡ Output
 
+-- extracting the nodes ended with this error; of a volume that does not open, printing its line did
 abbrev pub StopsPutting : {F : Type 0} → Type 0 → List (List ℕ) → Bool → (Report → ℕ → NodeFields → Fate → Type 0) → F → F → Report → Stream → Stream → Refusal → Type 0
 StopsPutting Failed only short P before after report old new refusal =
     PutsBy report.volume (StopsBefore Failed only report.nodes old new refusal ⊎ StopsNodes (own_name short report) (IsDone only (P report)) report.nodes old new refusal) (StopsLine before after report.volume old new refusal)
@@ -85,6 +86,7 @@ pub record Unlisted {F : Type 0} (Failed : Type 0) (only : List (List ℕ)) (sho
   pub puts : PutsOf only short (P mid) before mid report old new good
   pub unput : IsUnput Failed refusal
 
+-- with a manifest: extracting the nodes ended with this error, or all was done but the manifest was not written
 abbrev pub StopsListing : {F : Type 0} → Type 0 → Type 0 → List (List ℕ) → Bool → (F → Report → ℕ → NodeFields → Fate → Type 0) → F → F → Report → Stream → Stream → Refusal → Type 0
 StopsListing Unmade Unput only short P before after report old new refusal = StopsPutting Unmade only short (P after) before after report old new refusal ⊎ Unlisted Unput only short P before report old new refusal
 
@@ -132,13 +134,16 @@ module _ {F I M S W : Type 0} (files : Ghosts F I M S W) (output : W → Stream)
     abbrev pub IsPutAt : F → Table → Report → ℕ → NodeFields → Fate → Type 0
     IsPutAt at table report = IsPut files.tells (Fails files.faults ⊎ SinkFails output) table report fill short folder (files.holds at) (files.moment at) (files.left_since at)
 
+    -- without a manifest and a folder for lost files: extracting the nodes ended with this error
     abbrev pub NodesStop : F → F → Stream → Stream → Table → Report → Refusal → Type 0
     NodesStop old new before after table report refusal = StopsPutting (Fails files.faults) only short (IsPutAt new table) old new report before after refusal
 
+    -- with a manifest only: extracting the nodes or writing the manifest ended with this error
     abbrev pub ListStops : F → F → Stream → Stream → Table → Report → Refusal → Type 0
     ListStops old new before after table report refusal = StopsListing (Fails files.faults) (Fails files.faults ⊎ SinkFails output) only short (λ at. IsPutAt at table) old new report before after refusal
 
     module _ {O : Type 0} (stream : O → Stream) (lost : List ℕ) where
+      -- with a folder for lost files only: extracting the nodes, or after them the lost files, ended with this error
       abbrev pub AddStops : F → F → O → O → Table → Report → Refusal → Type 0
       AddStops old new before after table report refusal = NodesStop old new (stream before) (stream after) table report refusal ⊎
           StopsAdding (λ mid (between : O) good. PutsOf only short (IsPutAt mid table) old mid report (stream before) (stream between) good)
@@ -172,18 +177,23 @@ module _ {F I M S W R J O : Type 0} (files : Ghosts F I M S W) (output : W → S
   abbrev Unseen : Type 0 → Type 0
   Unseen Unread = MayNotBeSeen (files.shut old) Unread (input_texts words) (pair_texts words) (manifest_text words)
 
+  -- the error of a command that asks for neither a manifest nor lost files
   abbrev pub NodesRefused : Refusal → Type 0
   NodesRefused = OfWords (λ fill short. NodesStop files output (only_texts words) (folder_text words) fill short old new (stream before) (stream after))
 
+  -- the error of a command that asks for a manifest, but not for lost files
   abbrev pub ListRefused : Type 0 → Refusal → Type 0
   ListRefused Unread = UnseenOr Untouched SparesManifest (Unseen Unread) (OfWords (λ fill short. ListStops files output (only_texts words) (folder_text words) fill short old new (stream before) (stream after)))
 
+  -- the error of a command that asks for lost files, but not for a manifest
   abbrev pub AddRefused : Refusal → Type 0
   AddRefused = TakenOr Untouched (OfWords (λ fill short. AddStops files output (only_texts words) (folder_text words) fill short stream (lost_text words) old new before after))
 
+  -- the error of a command that asks for a manifest and for lost files
   abbrev pub ListAddRefused : Type 0 → Refusal → Type 0
   ListAddRefused Unread = UnseenOr Untouched SparesManifest (Unseen Unread) (TakenOr Untouched (OfWords (λ fill short. ListAddStops files output (only_texts words) (folder_text words) fill short stream (lost_text words) (files.real old (manifest_text words)) old new before after)))
 
+  -- the error of any extraction, by whether its arguments ask for a manifest and for lost files
   abbrev pub ExtractRefused : Type 0 → Refusal → Type 0
   ExtractRefused Unread refusal = (has_lost words ≡ false → (has_manifest words ≡ false → NodesRefused refusal) × (has_manifest words ≡ true → ListRefused Unread refusal)) ×
       (has_lost words ≡ true → (has_manifest words ≡ false → AddRefused refusal) × (has_manifest words ≡ true → ListAddRefused Unread refusal))

@@ -19,6 +19,7 @@ path_byte b =
     else if b == 13 then 92 ∷ 114 ∷ []
     else b ∷ []
 
+-- a path in which each backslash, line feed and carriage return is escaped
 abbrev pub path_text : List ℕ → List ℕ
 path_text path = flat_map path_byte path
 

@@ -126,6 +126,7 @@ abbrev pub directory_entries : List Cell → List DirEntry
 directory_entries cells = listed_entries (directory cells).identifiers
 
 -- ---- what code tells of a directory
+-- the missing block that ended a directory, if one did
 abbrev pub missing_in : Rest → Option ℕ
 missing_in Nothing = None
 missing_in (Stopped n) = Some n

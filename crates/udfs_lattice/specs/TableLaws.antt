@@ -27,6 +27,7 @@ fact_found-injective (Some (Some a)) (Some (Some b)) e = cc
 pub same_table : (t u : Table) → ((n : ℕ) → state_of t n ≡ state_of u n) → t ≡ u
 same_table t u h = fin.same_map nat_cmp_total fin.nat_cmp-IsAntisymmetric t u (λ q. fact_found-injective _ _ (h q))
 
+-- comparing two numbers by their order finds them equal exactly where they are equal
 pub eq_by_cmp-nat : (q k : ℕ) → eq_by_cmp nat_cmp q k ≡ (q == k)
 eq_by_cmp-nat q k = grind (arith, nat_tests)
 
@@ -37,9 +38,11 @@ state_of-insert t n h q =
     ∙ ap (λ b. fact_found (cond b (Some h) (fin.get t q))) (eq_by_cmp-nat q n)
     ∙ elim (q == n) as (λ b. fact_found (cond b (Some h) (fin.get t q)) ≡ cond b (fact_held h) (state_of t q)) [ true ↦ refl | false ↦ refl ]
 
+-- each block of the empty table is Unknown
 pub state_of-empty : (n : ℕ) → state_of empty_table n ≡ Unknown
 state_of-empty n = ap fact_found (fin.get-empty nat_cmp n)
 
+-- joining what a table holds is joining the states that it means
 fact_held-join_held : (o : Option Held) (h : Held) → fact_held (join_held o h) ≡ join_of (fact_found o) (fact_held h)
 fact_held-join_held None h = refl
 fact_held-join_held (Some None) h = refl
@@ -51,6 +54,7 @@ joined_in : (t : Table) (e : ℕ × Held) (es : List (ℕ × Held)) (q : ℕ) �
 joined_in t e es q rest true is = fact_held-join_held (fin.get t e.0) e.1 ∙ ap (λ k. join_of (state_of t k) (fact_held e.1)) (sym (eqb-true q e.0 is))
 joined_in t e es q rest false is = rest
 
+-- after entries are joined in, a state is the old one joined to that of the entry for its block, if there is one
 state_of-join_entries : (t : Table) (es : List (ℕ × Held)) (q : ℕ) → state_of (join_entries t es) q ≡ join_of (state_of t q) (fact_found (fin.find nat_cmp q es))
 state_of-join_entries t [] q = sym (join_of-unknown (state_of t q))
 state_of-join_entries t (e ∷ es) q =
@@ -63,9 +67,11 @@ pub state_of-join_tables : (t u : Table) (q : ℕ) → state_of (join_tables t u
 unfolding join_tables
 state_of-join_tables t u q = state_of-join_entries t (fin.entries u) q ∙ ap (λ o. join_of (state_of t q) (fact_found o)) (sym (fin.get-entries u q))
 
+-- the join of tables is commutative
 pub join_tables-comm : (t u : Table) → join_tables t u ≡ join_tables u t
 join_tables-comm t u = same_table _ _ (λ n. state_of-join_tables t u n ∙ join_of-comm (state_of t n) (state_of u n) ∙ sym (state_of-join_tables u t n))
 
+-- the join of tables is associative
 pub join_tables-assoc : (t u v : Table) → join_tables (join_tables t u) v ≡ join_tables t (join_tables u v)
 join_tables-assoc t u v = same_table _ _ (λ n.
     state_of-join_tables (join_tables t u) v n
@@ -74,12 +80,15 @@ join_tables-assoc t u v = same_table _ _ (λ n.
     ∙ ap (join_of (state_of t n)) (sym (state_of-join_tables u v n))
     ∙ sym (state_of-join_tables t (join_tables u v) n))
 
+-- joining a table to itself changes nothing
 pub join_tables-idem : (t : Table) → join_tables t t ≡ t
 join_tables-idem t = same_table _ _ (λ n. state_of-join_tables t t n ∙ join_of-idem (state_of t n))
 
+-- a table lies below its join with any other table
 pub IsTableBelow-join_tables : (t u : Table) → IsTableBelow t (join_tables t u)
 IsTableBelow-join_tables t u n = subst (IsBelow (state_of t n)) (sym (state_of-join_tables t u n)) (IsBelow-join_of (state_of t n) (state_of u n))
 
+-- the join of two tables lies below each table that both of them lie below
 pub join_tables-least : (t u v : Table) → IsTableBelow t v → IsTableBelow u v → IsTableBelow (join_tables t u) v
 join_tables-least t u v p q n = subst (λ s. IsBelow s (state_of v n)) (sym (state_of-join_tables t u n)) (join_of-least (state_of t n) (state_of u n) (state_of v n) (p n) (q n))
 
@@ -91,18 +100,22 @@ join_tables-between t u v p q = same_table _ _ (λ n.
     ∙ sym (state_of-join_tables t u n))
 
 -- ---- one record
+-- the table of one record knows its block with these bytes, and no other block
 pub state_of-one_record : (n : ℕ) (bytes : List ℕ) (q : ℕ) → state_of (one_record n bytes) q ≡ cond (q == n) (Known bytes) Unknown
 state_of-one_record n bytes q = state_of-insert empty_table n (Some bytes) q ∙ ap (cond (q == n) (Known bytes)) (state_of-empty q)
 
+-- a choice between a state and itself is that state
 either_same : (b : Bool) (s : State) → s ≡ cond b s s
 either_same true s = refl
 either_same false s = refl
 
+-- in the table of one entry its block has this state, and each other block is Unknown
 pub state_of-one_entry : (n : ℕ) (s : State) (q : ℕ) → state_of (one_entry n s) q ≡ cond (q == n) s Unknown
 state_of-one_entry n Unknown q = state_of-empty q ∙ either_same (q == n) Unknown
 state_of-one_entry n (Known bytes) q = state_of-one_record n bytes q
 state_of-one_entry n Conflict q = state_of-insert empty_table n None q ∙ ap (cond (q == n) Conflict) (state_of-empty q)
 
+-- joining a state to one block only is joining it there, and Unknown at each other block
 one_joined : (t : Table) (n : ℕ) (s : State) (q : ℕ) (b : Bool) → (q == n) ≡ b → cond b (join_of (state_of t n) s) (state_of t q) ≡ join_of (state_of t q) (cond b s Unknown)
 one_joined t n s q true is = ap (λ k. join_of (state_of t k) s) (sym (eqb-true q n is))
 one_joined t n s q false is = sym (join_of-unknown (state_of t q))
@@ -114,6 +127,7 @@ join_tables-from_added t n s u added = same_table _ _ (λ q.
     ∙ ap (join_of (state_of t q)) (sym (state_of-one_entry n s q))
     ∙ sym (state_of-join_tables t (one_entry n s) q))
 
+-- two tables that lie below each other are equal
 pub IsTableBelow-antisym : (t u : Table) → IsTableBelow t u → IsTableBelow u t → t ≡ u
 IsTableBelow-antisym t u p q = same_table t u (λ n. IsBelow-antisym (state_of t n) (state_of u n) (p n) (q n))
 
@@ -121,8 +135,10 @@ IsTableBelow-antisym t u p q = same_table t u (λ n. IsBelow-antisym (state_of t
 pub IsTableBelow-second : (t u : Table) → IsTableBelow u (join_tables t u)
 IsTableBelow-second t u n = subst (IsBelow (state_of u n)) (join_of-comm (state_of u n) (state_of t n) ∙ sym (state_of-join_tables t u n)) (IsBelow-join_of (state_of u n) (state_of t n))
 
+-- joining a table to the empty one gives that table
 pub join_tables-empty : (t : Table) → join_tables empty_table t ≡ t
 join_tables-empty t = same_table (join_tables empty_table t) t (λ n. state_of-join_tables empty_table t n ∙ ap (λ s. join_of s (state_of t n)) (state_of-empty n))
 
+-- joining the empty table to a table changes nothing
 pub join_tables-empty_right : (t : Table) → join_tables t empty_table ≡ t
 join_tables-empty_right t = join_tables-comm t empty_table ∙ join_tables-empty t

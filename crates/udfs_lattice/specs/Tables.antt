@@ -58,6 +58,7 @@ IsStateAt n Unknown = Unit {0}
 IsStateAt n (Known bytes) = (n ≤ 4194303) × IsBlock bytes
 IsStateAt n Conflict = n ≤ 4194303
 
+-- the join of two states that a block may have is a state that it may have
 pub IsStateAt-join_of : (n : ℕ) (x y : State) → IsStateAt n x → IsStateAt n y → IsStateAt n (join_of x y)
 IsStateAt-join_of n Unknown y p q = q
 IsStateAt-join_of n (Known a) Unknown p q = p
@@ -103,10 +104,12 @@ join_entries t (e ∷ es) = fin.insert (join_entries t es) e.0 (join_held (fin.g
 unfoldable pub join_tables : Table → Table → Table
 join_tables t u = join_entries t (fin.entries u)
 
+-- where a state that a block may have is joined to it, each block of the table has a state that it may have
 sound_at : (t : Table) (n : ℕ) (s : State) (q : ℕ) → IsTable t → IsStateAt n s → (b : Bool) → (q == n) ≡ b → IsStateAt q (cond b (join_of (state_of t n) s) (state_of t q))
 sound_at t n s q sound fits true is = subst (λ k. IsStateAt k (join_of (state_of t n) s)) (sym (eqb-true q n is)) (IsStateAt-join_of n (state_of t n) s (sound n) fits)
 sound_at t n s q sound fits false is = sound q
 
+-- a table in which a state that a block may have was joined to it is still one of the tables that there are
 pub IsTable-added : (t : Table) (n : ℕ) (s : State) (u : Table) → IsTable t → IsStateAt n s → IsAdded t n s u → IsTable u
 IsTable-added t n s u sound fits added q = subst (IsStateAt q) (sym (added q)) (sound_at t n s q sound fits (q == n) refl)
 

@@ -35,15 +35,19 @@ lost (Renamed from to ∷ es) p = lost es p
 lost (Removed q ∷ es) p = lost es p
 lost (Named q ∷ es) p = brought (beside q.items) (λ r. or_none (held es r)) (lost es) p
 
+-- nothing is both true and false
 is_false : (b : Bool) → b ≡ true → b ≡ false → ⊥
 is_false b t f = let e : true ≡ false = sym t ∙ f in cc
 
+-- two paths are equal or different, and comparing their bytes says which
 decide : (p q : List ℕ) → ((bytes_eq p q ≡ true) × (p ≡ q)) ⊎ ((bytes_eq p q ≡ false) × (p ≢ q))
 decide p q = ⊎_elim (λ t. inl (t, (bytes_eq-Decides p q).0 t)) (λ f. inr (f, λ is. is_false (bytes_eq p q) ((bytes_eq-Decides p q).1 is) f)) (cases_Bool (bytes_eq p q))
 
+-- all that the paths hold; a file that is being written is not there
 abbrev best : List Event → Disk
 best es p = or_none (held es p)
 
+-- what is held at a path is something that a crash may leave of it; so is no file where one is being written
 kept_best : (es : List Event) (p : List ℕ) → may_be_kept es p (best es p)
 kept_best [] p = refl
 kept_best (Begun q ∷ es) p = elim (decide p q.items) [
@@ -67,9 +71,11 @@ kept_best (Removed q ∷ es) p = elim (decide p q.items) [
 ]
 kept_best (Named q ∷ es) p = kept_best es p
 
+-- at one of these paths is what was brought
 there : (these : List ℕ → Bool) (h d : Disk) (p : List ℕ) → these p ≡ true → brought these h d p ≡ h p
 there these h d p is = ap (λ b. if b then h p else d p) is
 
+-- at any other path is what was there before
 elsewhere : (these : List ℕ → Bool) (h d : Disk) (p : List ℕ) → these p ≡ false → brought these h d p ≡ d p
 elsewhere these h d p is = ap (λ b. if b then h p else d p) is
 
@@ -85,6 +91,7 @@ commit_past es these own v is earlier d left = (
   ],
 )
 
+-- where a crash may leave a disk, it may also leave that disk with what these paths hold put in place
 commit : (es : List Event) (these : List ℕ → Bool) (d : Disk) → crash_outcome es d → crash_outcome es (brought these (best es) d)
 commit [] these d left = λ p. elim (cases_Bool (these p)) [ inl here ↦ there these (best []) d p here | inr far ↦ elsewhere these (best []) d p far ∙ left p ]
 commit (Begun own ∷ es) these d left = commit_past es these own.items (best (Begun own ∷ es)) (λ q other. elim (decide q own.items) [ inl hit ↦ absurd (other hit.1) | inr miss ↦ ap (λ b. or_none (if b then None else held es q)) miss.0 ]) (commit es these) d left
@@ -139,6 +146,7 @@ commit (Named own ∷ es) these d left = (
   ],
 )
 
+-- the disk that the harshest crash leaves is one of those that a crash may leave
 pub lost_may_be : (es : List Event) → crash_outcome es (lost es)
 lost_may_be [] = λ p. refl
 lost_may_be (Begun q ∷ es) = (lost es, lost_may_be es, λ p other. refl)

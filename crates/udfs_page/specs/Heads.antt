@@ -45,9 +45,11 @@ style_tree =
 abbrev pub before_title : List ℕ
 before_title = codes "<html lang=en>\n<head>\n<meta charset=utf-8>\n<meta name=viewport content='width=device-width, initial-scale=1'>\n<title>"
 
+-- what ends the title and begins the style
 abbrev pub behind_title : List ℕ
 behind_title = codes "</title>\n<style>\n"
 
+-- what ends the style and the head, and begins the body with its heading
 abbrev pub behind_style : List ℕ
 behind_style = codes "</style>\n</head>\n<body>\n<h1>What can be salvaged</h1>\n"
 
@@ -55,6 +57,7 @@ behind_style = codes "</style>\n</head>\n<body>\n<h1>What can be salvaged</h1>\n
 abbrev pub head_front : List ℕ
 head_front = markup page_mark ++ markup before_title
 
+-- all that follows the title: the end of its tag, the style, and what begins the body
 abbrev pub head_back : List ℕ
 head_back = markup behind_title ++ (style_base ++ style_text ++ style_picture ++ style_tree) ++ markup behind_style
 

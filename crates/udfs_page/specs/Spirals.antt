@@ -19,6 +19,7 @@ root (suc n) = if nat_le ((root n + 1) * (root n + 1)) (suc n) then root n + 1 e
 abbrev pub inner_square : ℕ
 inner_square = 240000 * 240000
 
+-- the square of the outer radius, which is 58 mm
 abbrev pub outer_square : ℕ
 outer_square = 580000 * 580000
 

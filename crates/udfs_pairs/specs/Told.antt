@@ -10,6 +10,7 @@ abbrev pub HasSize : Option (List ℕ) → ℕ → Type 0
 HasSize None size = ⊤
 HasSize (Some all) size = size ≡ length all
 
+-- any two proofs that an image has a size are equal
 pub HasSize-prop : (image : Option (List ℕ)) (size : ℕ) → IsProp (HasSize image size)
 HasSize-prop None size = Unit-prop
 HasSize-prop (Some all) size = ℕ_set size (length all)

@@ -56,6 +56,7 @@ pub record EndsInside (image map : Option (List ℕ)) (block : ℕ) : Type 0 whe
   pub known : AreKnownOf map ranges
   pub outside : IfSome image (λ all. IsFirstOutside ranges (length all) block)
 
+-- what each fault says of the image and its mapfile; running out of memory says nothing of them
 abbrev pub PairFails : Option (List ℕ) → Option (List ℕ) → PairFault → Type 0
 PairFails image map (pair.Line fault) = IfSome map (λ bytes. outcome bytes ≡ Err fault)
 PairFails image map (pair.Reading e) = ((e.fault ≡ Io) × (e.number ≡ 0)) ⊎ KnownFailsOf map (λ runs. KnownFails runs e.fault e.number)

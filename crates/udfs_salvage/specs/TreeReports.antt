@@ -150,6 +150,7 @@ abbrev pub SomeLawfulBy : Profile → Type 0
 SomeLawfulBy profile = (maps : Maps) → IsLawfulWithBy profile (sample_partitions maps)
 
 -- ---- the bytes that are written
+-- the bytes of a file, without the blocks in which they are recorded
 abbrev pub file_bytes : TreeFile → List ℕ
 file_bytes file = map (λ x. x.0) file.body
 

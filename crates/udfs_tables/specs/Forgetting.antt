@@ -34,6 +34,7 @@ abbrev pub Lists : (List ℕ → Option (Option (List ℕ))) → List (List ℕ)
 Lists found [] blocks = blocks ≡ []
 Lists found (path ∷ paths) blocks = (first : List ℕ) × (others : List ℕ) × HasList (found (stream_path path)) first × Lists found paths others × (blocks ≡ first ++ others)
 
+-- in the second table these blocks are Unknown, and where `conflicts` is set also those in conflict; all others are as in the first
 abbrev pub Forgets : Bool → List ℕ → Table → Table → Type 0
 Forgets conflicts blocks t u = (n : ℕ) → state_of u n ≡ cond (is_named blocks n) Unknown (cond conflicts (without_conflict (state_of t n)) (state_of t n))
 
@@ -61,6 +62,7 @@ pub record PutsForgotten {R : Type 0} (found : List ℕ → Option (Option (List
 abbrev pub HasListFault : Option (Option (List ℕ)) → ℕ → Type 0
 HasListFault held line = IfSome held (λ file. IfSome file (λ bytes. list_outcome bytes ≡ Err line))
 
+-- two states of a source differ in their count of faults, so some read of it failed
 abbrev pub SomeFault : {R : Type 0} → (R → ℕ) → Type 0
 SomeFault {R} faults = (before : R) × (after : R) × (faults after ≢ faults before)
 

@@ -59,9 +59,11 @@ MayImageAsked found remaining real words d c = Same d c ⊎ WritesImage found re
 abbrev pub ImageUnput : Type 0 → Type 0 → ℕ → Refusal → Table → Type 0
 ImageUnput Spares Failed last refusal t = ((refusal ≡ LastRange) × IsOutOfRange last) ⊎ ((n : ℕ) × (refusal ≡ PastEnd n) × (¬ IsOutOfRange last) × IsPastEnd (state_of t) last n) ⊎ ((refusal ≡ Spared) × Spares) ⊎ IsUnput Failed refusal
 
+-- with this last block: the inputs were not joined, or the image of their join was not written
 abbrev pub ImageRefused : {R I : Type 0} → (List ℕ → Option (Option (List ℕ))) → (List ℕ → Type 0) → (AnySource R I → Option (List ℕ)) → (AnySource R I → ℕ) → Type 0 → Type 0 → ℕ → List InputPath → Refusal → Type 0
 ImageRefused found shut remaining faults Spares Failed last inputs refusal = InputsRefused found shut remaining faults inputs refusal ⊎ OfPaths found remaining inputs (ImageUnput Spares Failed last refusal)
 
+-- by the arguments: no last block is known, or the inputs were not joined, or their image up to the last block was not written
 abbrev pub ImageAskedRefused : {R I : Type 0} → (List ℕ → Option (Option (List ℕ))) → (List ℕ → Type 0) → (AnySource R I → Option (List ℕ)) → (AnySource R I → ℕ) → Type 0 → Found → List InputPath → Refusal → Type 0
 ImageAskedRefused found shut remaining faults Failed words inputs refusal = EndRefused found shut remaining faults inputs words refusal ⊎ InputsRefused found shut remaining faults inputs refusal ⊎
     ((last : ℕ) × IsLast found inputs words last × ImageRefused found shut remaining faults ⊤ Failed last inputs refusal)

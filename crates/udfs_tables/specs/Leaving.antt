@@ -21,6 +21,7 @@ abbrev pub PutsJoin : {R : Type 0} → (List ℕ → Option (Option (List ℕ)))
 PutsJoin found remaining words Put = (version : Version) × (inputs : List InputPath) × (tables : List Table) × IsPicked words (codes "v1") One Two version × (map asked_for inputs ≡ asked_inputs words) ×
     Joined found remaining inputs tables × Put (table_file version (join_all tables))
 
+-- the disk is as it was, or the table file that the arguments ask for may be in the place of what was at the output's path
 abbrev pub MayMerge : {R : Type 0} → (List ℕ → Option (Option (List ℕ))) → (R → Option (List ℕ)) → (List ℕ → List ℕ) → Found → Disk → Disk → Type 0
 MayMerge found remaining real words d c = Same d c ⊎ PutsJoin found remaining words (λ bytes. Replaced (real (out_text words)) bytes d c)
 

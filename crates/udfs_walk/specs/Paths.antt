@@ -6,9 +6,11 @@ use Rattle.std.specs.Rc.{rc_value}
 use Rattle.std.specs.declared.rc.Rc.{Rc}
 
 module _ {X Z : Type 0} where
+  -- the names of the directory, without the counted references in which they are kept
   abbrev pub shared : List (Rc X Z) → List X
   shared names = map rc_value names
 
+  -- a list of the last name alone, or no name where there is none
   abbrev pub own : Option (Rc X Z) → List X
   own None = []
   own (Some name) = rc_value name ∷ []

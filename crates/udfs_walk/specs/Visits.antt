@@ -41,10 +41,12 @@ AreRefused most entries OutOfMemory = ⊤
 
 -- ---- the entries to which a route goes on, kept for all routes; where there are none they need not be kept
 module _ {Y Z : Type 0} where
+  -- these are the entries that were kept; where nothing was kept there is none
   abbrev pub AreListed : Option (Rc (Vec DirEntry Y) Z) → List DirEntry → Type 0
   AreListed None entries = entries ≡ []
   AreListed (Some kept) entries = kept.value.items ≡ entries
 
+  -- how many entries were kept
   abbrev pub count_listed : Option (Rc (Vec DirEntry Y) Z) → ℕ
   count_listed None = 0
   count_listed (Some kept) = length kept.value.items

@@ -52,6 +52,7 @@ pub data Asked : Type 0 where
   AskedFile : List ℕ → Asked
   AskedPair : List ℕ → List ℕ → Asked
 
+-- an input path as plain bytes: those of a file, or those of an image and its mapfile
 abbrev pub asked_for : InputPath → Asked
 asked_for (path.File p) = AskedFile p.now
 asked_for (path.Pair image map) = AskedPair image.now map.now
@@ -66,6 +67,7 @@ pairs_of (image ∷ map ∷ rest) = AskedPair image map ∷ pairs_of rest
 abbrev pub pair_texts : Found → List (List ℕ)
 pair_texts words = unwrap_or (option_map raw_values (matched_of words (codes "ddrescue"))) []
 
+-- all inputs that the arguments give: first the files in order, then the pairs in order
 abbrev pub asked_inputs : Found → List Asked
 asked_inputs words = map AskedFile (input_texts words) ++ pairs_of (pair_texts words)
 
