@@ -49,7 +49,7 @@ SomeShut shut (path ∷ paths) = shut path ⊎ SomeShut shut paths
 abbrev pub reading_kind : List ℕ
 reading_kind = codes "UDFREAD1"
 
--- `files` are the inputs that are files, and `parts` the images and mapfiles among the inputs
+-- an output takes the place of no image or mapfile of the inputs (`parts`); and, without force, unless what is there may be no file (`in_place`), of no reading but an input (`files`)
 pub record IsFree (holds : List ℕ → Option (Option (List ℕ))) (real : List ℕ → List ℕ) (in_place : List ℕ → Type 0) (files parts : List (List ℕ)) (force : Bool) (out : List ℕ) : Type 0 where
   pub apart : NoneLeads real (real out) parts
   pub no_pass : force ≡ false → (in_place out → ⊥) → SomeLeads real (real out) files ⊎ BeginsOtherwise reading_kind (holds (real out))
@@ -68,13 +68,13 @@ IsSpared holds real files parts force out = SomeLeads real (real out) parts ⊎ 
 unfoldable pub domain_kind : List ℕ
 domain_kind = made_by ++ mark_line
 
--- an output takes the place of no file but one that begins so, and of none of the inputs: `files` are those that are files, and `parts` the images and mapfiles among them
+-- an output takes the place of no input (`files`, and `parts`: the images and mapfiles among them), and, unless what is there may be no file (`in_place`), of no file but one that begins so
 pub record IsFreeOwn (kind : List ℕ) (holds : List ℕ → Option (Option (List ℕ))) (real : List ℕ → List ℕ) (in_place : List ℕ → Type 0) (files parts : List (List ℕ)) (out : List ℕ) : Type 0 where
   pub no_input : NoneLeads real (real out) files
   pub apart : NoneLeads real (real out) parts
   pub of_kind : (in_place out → ⊥) → (bytes : List ℕ) → holds (real out) ≡ Some (Some bytes) → begins kind bytes ≡ true
 
--- one of the inputs is there, or no file that begins so is
+-- why such an output is not written: one of the inputs is there, or no file that begins so is
 abbrev pub IsSparedOwn : List ℕ → (List ℕ → Option (Option (List ℕ))) → (List ℕ → List ℕ) → List (List ℕ) → List (List ℕ) → List ℕ → Type 0
 IsSparedOwn kind holds real files parts out = SomeLeads real (real out) files ⊎ SomeLeads real (real out) parts ⊎ BeginsOtherwise kind (holds (real out))
 
@@ -82,7 +82,7 @@ IsSparedOwn kind holds real files parts out = SomeLeads real (real out) files �
 abbrev pub MayNotBeSeen : (List ℕ → Type 0) → Type 0 → List (List ℕ) → List (List ℕ) → List ℕ → Type 0
 MayNotBeSeen shut Failed files parts out = shut out ⊎ SomeShut shut files ⊎ SomeShut shut parts ⊎ Failed
 
--- `parts` are the images and mapfiles among the inputs
+-- a map of blocks to read again takes the place of no image or mapfile of the inputs (`parts`), and, unless what is there may be no file (`in_place`), of no file but such a map
 abbrev pub IsFreeMap : (List ℕ → Option (Option (List ℕ))) → (List ℕ → List ℕ) → (List ℕ → Type 0) → List (List ℕ) → List ℕ → Type 0
 IsFreeMap holds real in_place parts out = IsFreeOwn domain_kind holds real in_place [] parts out
 
@@ -114,7 +114,7 @@ pub record IsFreePair (holds : List ℕ → Option (Option (List ℕ))) (real : 
 abbrev pub HaveNoPlace : (List ℕ → List ℕ) → (List ℕ → Type 0) → Bool → List ℕ → List ℕ → Type 0
 HaveNoPlace real in_place force image mapfile = (force ≡ false) ⊎ in_place image ⊎ in_place mapfile ⊎ AreInTheWay (real image) (real mapfile)
 
--- or one of them is one of the inputs
+-- why a pair is not written: it has no place, or one of its two paths is that of an input
 abbrev pub IsSparedPair : (List ℕ → List ℕ) → (List ℕ → Type 0) → List (List ℕ) → List (List ℕ) → Bool → List ℕ → List ℕ → Type 0
 IsSparedPair real in_place files parts force image mapfile = HaveNoPlace real in_place force image mapfile ⊎
     SomeLeads real (real image) parts ⊎ SomeLeads real (real image) files ⊎ SomeLeads real (real mapfile) parts ⊎ SomeLeads real (real mapfile) files

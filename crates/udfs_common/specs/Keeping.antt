@@ -52,6 +52,6 @@ pub record FailedOut {F : Type 0} (tells : Type 0) (holds : F → List ℕ → O
   pub stands : tells → (in_place old out → ⊥) → (holds new (real old out) ≡ holds old (real old out)) ⊎ Puts (λ bytes. holds new (real old out) ≡ Some (Some bytes))
   pub elsewhere : tells → (in_place old out → ⊥) → (q : List ℕ) → q ≢ real old out → (¬ IsOwn (real old out) q) → holds new q ≡ holds old q
 
--- after an error: nothing has changed, or a call failed and left of the output what FailedOut says
+-- after an error: nothing has changed, or a call failed and left of the output what `FailedOut` says
 abbrev pub RefusedOut : {F : Type 0} → Type 0 → (F → List ℕ → Option (Option (List ℕ))) → (F → List ℕ → List ℕ) → (F → List ℕ → Type 0) → Type 0 → List ℕ → F → F → ((List ℕ → Type 0) → Type 0) → Type 0
 RefusedOut tells holds real in_place Failed out old new Puts = (new ≡ old) ⊎ FailedOut tells holds real in_place Failed out old new Puts

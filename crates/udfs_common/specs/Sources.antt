@@ -29,7 +29,7 @@ pub record IsOpenedPair (found : List ℕ → Option (Option (List ℕ))) (image
   pub map_found : IfSome (found map) (λ held. map_has ≡ held)
   pub reads : IsReadingOf image_has map_has left ⊎ (left ≡ Some [])
 
--- by the path's kind: what is left of a file is what it holds, where that is known; of a pair, what IsOpenedPair says
+-- by the path's kind: what is left of a file is what it holds, where that is known; of a pair, what `IsOpenedPair` says
 abbrev pub HasItsPath : (List ℕ → Option (Option (List ℕ))) → InputPath → Option (List ℕ) → Type 0
 HasItsPath found (path.File p) left = IfSome (found p.now) (λ held. left ≡ held)
 HasItsPath found (path.Pair image map) left = IsOpenedPair found image.now map.now left

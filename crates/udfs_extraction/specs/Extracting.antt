@@ -38,14 +38,14 @@ use Rattle.udfs_extraction.specs.declared.extract.Fate.{Fate}
 use Rattle.udfs_extraction.specs.declared.extract.Fate.TheVariants.{Made, Written, Failed, Left, Skipped, Passed}
 use Rattle.udfs_reading.specs.Device.{Stream}
 
--- a loop is a directory that is not entered
+-- a directory is made, unless it is a loop
 abbrev pub directory_deed : Standing → Deed
 directory_deed standing.Whole = Folder
 directory_deed (standing.Torn torn) = Folder
 directory_deed standing.Loop = Skip
 directory_deed (standing.Fault f) = Folder
 
--- a file is written as `extract` would, and nothing else is made
+-- a directory that is no loop is made, a file is written where `is_offered` says so, and nothing is made of any other node
 abbrev pub deed : Kind → Standing → Option ℕ → Fill → Deed
 deed kind.Directory s size fill = directory_deed s
 deed kind.File s size fill = cond (is_offered s size fill) File Skip

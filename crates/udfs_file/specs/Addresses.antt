@@ -14,7 +14,7 @@ use Rattle.udfs_space.specs.Places.{View, block_at}
 use Rattle.udfs_file.specs.declared.faults.NodeFault.{NodeFault}
 use Rattle.udfs_file.specs.declared.faults.NodeFault.TheVariants.{Reference, Range}
 
--- it is not a recorded extent, it is empty, or there is no such partition
+-- whether an address is not a recorded extent, is empty, or refers to no partition that there is
 abbrev pub is_no_reference : View → LongAd → Bool
 is_no_reference view a = not (a.kind == 0) || (a.length == 0) || nat_le view.partitions a.reference
 
@@ -26,7 +26,7 @@ address_fault view a = first_fault (
     ∷ (is_none (view.place a.reference a.block), Range)
     ∷ [])
 
--- what the block at physical block n, where the address leads, says
+-- the root's address, by what is known of block n, to which the file set's address leads
 abbrev pub file_set_in : LongAd → ℕ → State → Answer LongAd
 file_set_in a n Unknown = holes (n ∷ [])
 file_set_in a n (Known bytes) = cond (is_valid bytes a.block 256) (found (long_ad_at bytes 400)) (faulty FileSet)

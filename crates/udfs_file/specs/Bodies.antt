@@ -1,5 +1,5 @@
--- The body of an entry (ECMA-167 4/14.5, 4/14.14): its allocation allocation_descriptors, and the cells that they give.
---     chain view form r left area       all allocation_descriptors, area after area
+-- The body of an entry (ECMA-167 4/14.5, 4/14.14): its allocation descriptors, and the cells that they give.
+--     chain tail view form r left area  all allocation descriptors, area after area
 --     used size ds                      those that are taken, each with its first cell
 --     in_whole_blocks d                 the last extent of a list, where its tail is taken
 --     body view r b entry               the cells, or the fault
@@ -22,7 +22,7 @@ use Rattle.udfs_file.specs.declared.cells.Cell.TheVariants.{Byte, Gap}
 use Rattle.udfs_file.specs.declared.faults.NodeFault.{NodeFault}
 use Rattle.udfs_file.specs.declared.faults.NodeFault.TheVariants.{Reference, Range, Short, Chain, Odd}
 
--- a short descriptor speaks of the partition in which the entry stands
+-- a short descriptor refers to the partition that the entry is in
 abbrev pub long_of : ℕ → ShortAd → LongAd
 long_of r s = record { kind = s.kind; length = s.length; block = s.block; reference = r }
 
@@ -30,11 +30,11 @@ long_of r s = record { kind = s.kind; length = s.length; block = s.block; refere
 abbrev pub recorded_at : ℕ → ℕ → List ℕ → ℕ → LongAd
 recorded_at form r area i = cond (form == 0) (long_of r (short_ad_at area (8 * i))) (long_ad_at area (16 * i))
 
--- how many there are
+-- how many descriptors an area has
 abbrev pub descriptor_count : ℕ → List ℕ → ℕ
 descriptor_count form area = length area / descriptor_size form
 
--- no other extent is behind descriptor i of an area: there is no descriptor, or one of length 0
+-- whether no other extent is after descriptor i of an area: there is no descriptor, or one of length 0
 abbrev pub is_last_at : ℕ → ℕ → List ℕ → ℕ → Bool
 is_last_at form r area i = nat_le (descriptor_count form area) (i + 1) || ((recorded_at form r area (i + 1)).length == 0)
 
@@ -46,11 +46,11 @@ in_whole_blocks d = record { kind = d.kind; length = cond (d.kind == 3) d.length
 abbrev pub descriptor_at : Bool → ℕ → ℕ → List ℕ → ℕ → LongAd
 descriptor_at tail form r area i = cond (tail && is_last_at form r area i) (in_whole_blocks (recorded_at form r area i)) (recorded_at form r area i)
 
--- the allocation_descriptors in an area
+-- the allocation descriptors in an area
 abbrev pub descriptors_in : Bool → ℕ → ℕ → List ℕ → List LongAd
 descriptors_in tail form r area = map (descriptor_at tail form r area) (range_with_len 0 (descriptor_count form area))
 
--- What stands behind the allocation_descriptors of an area: nothing, another area, a block that is not known, or a fault.
+-- What is after the allocation descriptors of an area: nothing, another area, a block that is not known, or a fault.
 pub data Next : Type 0 where
   no_more : Next
   area_at : List ℕ → Next
@@ -62,7 +62,7 @@ abbrev pub is_extent : ℕ → ℕ → List ℕ → Bool
 is_extent form b bytes =
     is_valid bytes b 258 && nat_le (24 + uint32_at bytes 20) 2048 && (uint32_at bytes 20 % descriptor_size form == 0)
 
--- the area in it
+-- the area in block n, if it is known and an allocation extent descriptor at logical block b
 abbrev pub next_area : ℕ → ℕ → ℕ → State → Next
 next_area form b n Unknown = unread_at n
 next_area form b n (Known bytes) = cond (is_extent form b bytes) (area_at (part bytes 24 (uint32_at bytes 20))) (broken Chain)
@@ -74,7 +74,7 @@ next_if form b (Some fault) block = broken fault
 next_if form b None None = broken Range
 next_if form b None (Some block) = next_area form b block.0 block.1
 
--- the descriptor's reference, place, length and count are judged before its block is looked at
+-- the fault of a continuation before its block is looked at: its reference, its place, then its length or that it is one too many
 abbrev pub continuation_fault : View → Bool → LongAd → Option NodeFault
 continuation_fault view is_last d = first_fault (
     (nat_le view.partitions d.reference, Reference)
@@ -91,12 +91,12 @@ abbrev pub next_of : View → ℕ → Bool → Option LongAd → Next
 next_of view form is_last None = no_more
 next_of view form is_last (Some d) = next_by view form is_last d
 
--- All allocation_descriptors of an entry, and what stands behind the last.
+-- All allocation descriptors of an entry, and what is after the last.
 pub record Descriptors : Type 0 where
   pub all : List LongAd
   pub behind : Next
 
--- an area counts up to its first descriptor of type 3
+-- the descriptors of an area up to the first of type 3, and with it
 abbrev pub up_to_next : List LongAd → List LongAd
 up_to_next ds = take (length (take_while (λ d. not (d.kind == 3)) ds) + 1) ds
 
@@ -104,25 +104,25 @@ up_to_next ds = take (length (take_while (λ d. not (d.kind == 3)) ds) + 1) ds
 abbrev pub next_descriptor : List LongAd → Option LongAd
 next_descriptor ds = slice_get ds (length (take_while (λ d. not (d.kind == 3)) ds))
 
--- the allocation_descriptors of an area and of those that it is continued in
+-- the allocation descriptors of an area and of those that it is continued in
 abbrev pub joined : List LongAd → Next → (List ℕ → Descriptors) → Descriptors
 joined ds no_more later = record { all = ds; behind = no_more }
 joined ds (area_at area) later = let rest = later area in record { all = ds ++ rest.all; behind = rest.behind }
 joined ds (unread_at n) later = record { all = ds; behind = unread_at n }
 joined ds (broken fault) later = record { all = ds; behind = broken fault }
 
--- no descriptor, and nothing behind
+-- no descriptor, and nothing after it
 abbrev pub no_descriptors : Descriptors
 no_descriptors = record { all = []; behind = no_more }
 
--- the areas of an entry joined, with at most so many continuations
+-- the descriptors of an area and of its continuations, of which there may be this many
 abbrev pub chain : Bool → View → ℕ → ℕ → ℕ → List ℕ → Descriptors
 chain tail view form r zero area = let ds = descriptors_in tail form r area in
     joined (up_to_next ds) (next_of view form true (next_descriptor ds)) (λ a. no_descriptors)
 chain tail view form r (suc left) area = let ds = descriptors_in tail form r area in
     joined (up_to_next ds) (next_of view form false (next_descriptor ds)) (λ a. chain tail view form r left a)
 
--- the allocation allocation_descriptors of an entry, with those of at most 256 continuations
+-- the allocation descriptors of an entry, with those of at most 256 continuations
 unfoldable pub allocation_descriptors : View → ℕ → EntryFields → Descriptors
 allocation_descriptors view r entry = chain view.takes_tail view entry.form r 256 entry.area
 
@@ -144,15 +144,15 @@ used size ds = take_while (λ e. nat_lt e.0 size && nat_lt 0 e.1.length) (with_s
 abbrev pub cells_in : ℕ → ℕ × LongAd → ℕ
 cells_in size e = min (covers e.1) (size - e.0)
 
--- only recorded extents have a partition and blocks, and only the blocks that hold cells of the body count
+-- whether a recorded extent refers to no partition that there is
 abbrev pub is_misreferred : View → LongAd → Bool
 is_misreferred view d = (d.kind == 0) && nat_le view.partitions d.reference
 
--- whether a recorded extent passes the end of its partition
+-- whether one of the blocks that hold the first `count` bytes of a recorded extent has no place
 abbrev pub is_misplaced : View → LongAd → ℕ → Bool
 is_misplaced view d count = (d.kind == 0) && is_past view.place d.reference d.block (blocks_in count)
 
--- an extent that ends before the body does fills its blocks
+-- whether an extent that ends before the body does leaves a block unfilled
 abbrev pub is_odd : ℕ → ℕ → LongAd → Bool
 is_odd size c d = not (d.kind == 3) && nat_lt (c + d.length) size && not (d.length % 2048 == 0)
 
@@ -164,22 +164,22 @@ extent_fault view size e = first_fault (
     ∷ (is_odd size e.0 e.1, Odd)
     ∷ [])
 
--- A cell of a body: a byte with the logical block that holds it, if one does, or the block that is missing.
+-- byte i of logical block b, which is block n with this state: the byte, or that block n is missing
 abbrev pub cell_in : ℕ → ℕ → ℕ → State → Cell
 cell_in b n i Unknown = Gap n
 cell_in b n i (Known bytes) = Byte (slice_index bytes i) (Some b)
 cell_in b n i Conflict = Gap n
 
--- byte i of logical block b; of a block that is not recorded it is 0
+-- byte i of logical block b; it would be 0 if the block had no place
 abbrev pub cell_at : ℕ → ℕ → Option (ℕ × State) → Cell
 cell_at b i None = Byte 0 None
 cell_at b i (Some block) = cell_in b block.0 i block.1
 
--- the cell at offset i from the beginning of logical block b
+-- the cell at offset i from the beginning of logical block b of partition r
 abbrev pub recorded_cell : View → ℕ → ℕ → ℕ → Cell
 recorded_cell view r b i = cell_at (b + i / 2048) (i % 2048) (block_at view r (b + i / 2048))
 
--- consecutive logical blocks, or zeros where nothing is recorded
+-- the cells of an extent: those of consecutive logical blocks, or zeros where nothing is recorded
 abbrev pub extent_cells : View → ℕ → ℕ × LongAd → List Cell
 extent_cells view size e = cond (e.1.kind == 0)
     (map (recorded_cell view e.1.reference e.1.block) (range_with_len 0 (cells_in size e)))
@@ -196,7 +196,7 @@ first_of_all [] = None
 first_of_all (None ∷ faults) = first_of_all faults
 first_of_all (Some fault ∷ faults) = Some fault
 
--- the body of taken extents where cells are left behind them
+-- the body whose taken extents have these cells, where more are left after them
 abbrev pub ended_body : ℕ → Next → List Cell → Body
 ended_body left no_more front = faulty_body Short
 ended_body left (area_at area) front = faulty_body Short
@@ -213,13 +213,13 @@ abbrev pub all_covered : List (ℕ × LongAd) → ℕ
 all_covered [] = 0
 all_covered (e ∷ es) = covers e.1 + all_covered es
 
--- all cells are covered, or a descriptor of length 0 ends the list, or all allocation_descriptors are taken
+-- the body, by case: all cells are covered, or a descriptor of length 0 ends the list, or all allocation descriptors are taken
 abbrev pub covered_body : ℕ → List (ℕ × LongAd) → Descriptors → List Cell → Body
 covered_body size taken ds front = let covered = all_covered taken in
     cond (nat_le size covered) (cells front)
     (cond (nat_lt (length taken) (length ds.all)) (faulty_body Short) (ended_body (size - covered) ds.behind front))
 
--- the body that allocation allocation_descriptors describe
+-- the body that allocation descriptors describe
 abbrev pub extents_body : View → ℕ → Descriptors → Body
 extents_body view size ds = let taken = used size ds.all in
     body_unless (first_of_all (map (extent_fault view size) taken))
@@ -234,12 +234,12 @@ abbrev pub or_body : Body → Body → Body
 or_body (cells cs) other = cells cs
 or_body (faulty_body fault) other = other
 
--- the same with the tail, where it is taken and gives a body; else without it
+-- the body with the tail of the last extent, where the view takes it and it gives a body; else without the tail
 unfoldable pub extents_body_by : View → ℕ → ℕ → ℕ → List ℕ → Body
 extents_body_by view form r size area = cond view.takes_tail (or_body (listed_body true view form r size area) (listed_body false view form r size area))
     (listed_body false view form r size area)
 
--- the body that stands in its entry (ECMA-167 4/14.6.8)
+-- the body that is embedded in its entry (ECMA-167 4/14.6.8)
 abbrev pub embedded_body : ℕ → EntryFields → Body
 embedded_body b entry = cond (nat_le entry.size (length entry.area))
     (cells (map (λ x. Byte x (Some b)) (take entry.size entry.area))) (faulty_body Short)
@@ -249,7 +249,7 @@ unfoldable pub body : View → ℕ → ℕ → EntryFields → Body
 body view r b entry = cond (entry.form == 3) (embedded_body b entry)
     (extents_body_by view entry.form r entry.size entry.area)
 
--- block n holds cell k, or it holds the continuation that is followed at or before cell k
+-- block n holds cell k of the body, in a recorded extent that is taken
 pub record IsRecordedFor (view : View) (size : ℕ) (taken : List (ℕ × LongAd)) (k n : ℕ) : Type 0 where
   pub extent : ℕ × LongAd
   pub is_taken : Includes taken extent
@@ -258,7 +258,7 @@ pub record IsRecordedFor (view : View) (size : ℕ) (taken : List (ℕ × LongAd
   pub to : k < extent.0 + cells_in size extent
   pub place : view.place extent.1.reference (extent.1.block + (k - extent.0) / 2048) ≡ Some n
 
--- block n is read only to go on in the list of extents: a continuation there, whose extent begins at or before byte k
+-- block n holds a continuation of the list of descriptors that comes in it at or before cell k
 pub record IsContinuedFor (view : View) (taken : List (ℕ × LongAd)) (k n : ℕ) : Type 0 where
   pub extent : ℕ × LongAd
   pub is_taken : Includes taken extent

@@ -13,7 +13,7 @@ use Rattle.udfs_file.specs.declared.faults.Kind.TheVariants.{Directory, File, Li
 use Rattle.udfs_file.specs.declared.faults.NodeFault.{NodeFault}
 use Rattle.udfs_file.specs.declared.faults.NodeFault.TheVariants.{Tag, Strategy, Descriptors, Lengths}
 
--- what stands before the extended attributes: 176 bytes, or 216 in an extended file entry
+-- how many bytes are before the extended attributes: 176, or 216 in an extended file entry
 abbrev pub fixed_part : List ℕ → ℕ
 fixed_part bytes = cond (uint16_at bytes 0 == 261) 176 216
 
@@ -37,7 +37,7 @@ descriptor_size form = cond (form == 0) 8 16
 abbrev pub area_start : List ℕ → ℕ
 area_start bytes = fixed_part bytes + attributes_length bytes
 
--- a file entry or an extended file entry, at logical block b
+-- whether the bytes are a valid file entry or extended file entry at logical block b
 abbrev pub is_entry : List ℕ → ℕ → Bool
 is_entry bytes b = is_valid bytes b 261 || is_valid bytes b 266
 
@@ -45,7 +45,7 @@ is_entry bytes b = is_valid bytes b 261 || is_valid bytes b 266
 abbrev pub is_strange_form : ℕ → Bool
 is_strange_form form = (form == 2) || nat_le 4 form
 
--- the descriptors are whole ones, or embedded bytes
+-- whether this many bytes end inside a descriptor of this form; embedded bytes never do
 abbrev pub is_cut_form : ℕ → ℕ → Bool
 is_cut_form form count = not (form == 3) && not (count % descriptor_size form == 0)
 
@@ -57,7 +57,7 @@ is_too_long bytes = nat_lt 2048 (area_start bytes + descriptors_length bytes)
 abbrev pub has_bad_lengths : List ℕ → Bool
 has_bad_lengths bytes = is_too_long bytes || is_cut_form (descriptor_form bytes) (descriptors_length bytes)
 
--- the first rule that a file entry breaks (ECMA-167 4/14.9 and 14.17)
+-- the first rule that a file entry or extended file entry breaks (ECMA-167 4/14.9, 4/14.17)
 unfoldable pub entry_fault : List ℕ → ℕ → Option NodeFault
 entry_fault bytes b = first_fault (
     (not (is_entry bytes b), Tag)
@@ -93,6 +93,6 @@ abbrev pub IsEntryRead : Result (List ℕ) NodeFault → List ℕ → ℕ → Ty
 IsEntryRead (Ok entry) bytes b = (entry ≡ bytes) × (entry_fault bytes b ≡ None)
 IsEntryRead (Err fault) bytes b = entry_fault bytes b ≡ Some fault
 
--- its descriptors lie within it
+-- the allocation descriptors lie within the block
 abbrev pub FitsBlock : List ℕ → Type 0
 FitsBlock bytes = area_start bytes + descriptors_length bytes ≤ 2048

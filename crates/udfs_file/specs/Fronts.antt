@@ -50,7 +50,7 @@ abbrev pub or_stop : Option ℕ → Step → Step
 or_stop None step = step
 or_stop (Some n) step = AtRest (Stopped n)
 
--- bits 2 and 3 of the characteristics: deleted, parent
+-- whether a descriptor is neither deleted nor the parent's: bits 2 and 3 of its characteristics are 0 (4/14.4.3)
 abbrev pub is_listed : List ℕ → Bool
 is_listed bytes = uint8_at bytes 18 / 4 % 4 == 0
 
@@ -150,7 +150,7 @@ pub record IsEndOf (end : DirEnd) (cells : List Cell) : Type 0 where
   pub missing : end.missing ≡ missing_in (directory cells).rest
   pub fault : end.fault ≡ fault_in (directory cells).rest
 
--- too many entries are told only where there are more than so many, and memory is refused only where there is one
+-- too many entries are told only where there are more than `most`, and out of memory only where there is one at least
 abbrev pub IsFrontRefused : ℕ → List Cell → FrontError → Type 0
 IsFrontRefused most cells front_error.TooMany = most < length (directory_entries cells)
 IsFrontRefused most cells front_error.OutOfMemory = 0 < length (directory_entries cells)

@@ -25,7 +25,7 @@ abbrev pub IsPieceOf : Piece → List Cell → Type 0
 IsPieceOf (piece.Bytes bytes holder) cells = cells ≡ byte_cells holder bytes.now
 IsPieceOf (piece.Gap n) cells = (rest : List Cell) × (cells ≡ Gap n ∷ rest)
 
--- a piece without a missing cell has so many bytes
+-- a piece without a missing cell has `count` bytes
 abbrev pub FitsPiece : Piece → ℕ → Type 0
 FitsPiece (piece.Bytes bytes holder) count = length bytes.now ≡ count
 FitsPiece (piece.Gap n) count = ⊤

@@ -35,16 +35,16 @@ pub record IsFileSetAt (blocks : PartitionBlocks) (a root : LongAd) : Type 0 whe
 abbrev pub Located : Type 0
 Located = ℕ × Option ℕ
 
--- bytes with the block that holds them
+-- each byte with the logical block that holds it
 abbrev pub located : ℕ → Bytes → List Located
 located b bytes = map (λ x. (x, Some b)) bytes
 
--- the bytes of a block with the block that holds them
+-- the bytes of a block, each with the logical block that holds it; none if there is no such block
 abbrev pub block_bytes : ℕ → Option Bytes → List Located
 block_bytes b None = []
 block_bytes b (Some bytes) = located b bytes
 
--- consecutive blocks, or zeros where nothing is recorded
+-- the bytes of an extent: those of consecutive blocks, or zeros where nothing is recorded
 abbrev pub extent_bytes : PartitionBlocks → LongAd → List Located
 extent_bytes blocks d = cond (nat_eq d.kind 0)
     (take d.length (flat_map (λ b. block_bytes b (blocks.at d.reference b)) (range_with_len d.block (blocks_in d.length))))
@@ -98,7 +98,7 @@ pub record IsExtentsBody (blocks : PartitionBlocks) (r : ℕ) (e : EntryFields) 
   pub enough : e.size ≤ length bytes
   pub is : body ≡ take e.size bytes
 
--- or the first embedded bytes
+-- an embedded body is the first bytes of the entry's own area, which has enough (4/14.6.8)
 pub record IsEmbeddedBody (b : ℕ) (e : EntryFields) (body : List Located) : Type 0 where
   pub enough : e.size ≤ length e.area
   pub is : body ≡ located b (take e.size e.area)
@@ -107,7 +107,7 @@ pub record IsEmbeddedBody (b : ℕ) (e : EntryFields) (body : List Located) : Ty
 abbrev pub IsBodyOf : PartitionBlocks → ℕ → ℕ → EntryFields → List Located → Type 0
 IsBodyOf blocks r b e body = cond (nat_eq e.form 3) (IsEmbeddedBody b e body) (IsExtentsBody blocks r e body)
 
--- these bytes are one valid file identifier descriptor
+-- these bytes are one valid file identifier descriptor (4/14.4), whose tag has the location of the block that holds its first byte
 pub record IsIdentifierIn (piece : List Located) (id : Identifier) : Type 0 where
   pub bytes : Bytes
   pub bytes_are : bytes ≡ map (λ x. x.0) piece
@@ -118,7 +118,7 @@ pub record IsIdentifierIn (piece : List Located) (id : Identifier) : Type 0 wher
   pub valid : is_valid bytes block 257 ≡ true
   pub is : identifier_in (length piece) bytes ≡ One id
 
--- a directory's body is a list of them and nothing else
+-- a directory's body is a list of file identifier descriptors and nothing else (4/14.4)
 abbrev pub IsDirectoryBody : List Located → List Identifier → Type 0
 IsDirectoryBody body [] = body ≡ []
 IsDirectoryBody body (id ∷ ids) = (piece : List Located) × (rest : List Located) × (body ≡ piece ++ rest)

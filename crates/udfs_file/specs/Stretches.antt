@@ -47,7 +47,7 @@ FillsBlocks (Recorded run count) = (run.offset ≡ 0) × (count % 2048 ≡ 0)
 FillsBlocks (Zeros count) = count % 2048 ≡ 0
 FillsBlocks (Missing n count) = ⊥
 
--- so at most 2048 bytes side by side lie in one block, or in the end of one and the beginning of the next
+-- each stretch before the last begins a block, fills its blocks and lacks no byte; the last begins a block, or lies in one
 abbrev pub LieInBlocks : List Stretch → Type 0
 LieInBlocks [] = ⊤
 LieInBlocks (s ∷ []) = IsLastStretch s
@@ -66,7 +66,7 @@ abbrev pub IsExtentRead : Result Stretch NodeFault → View → ℕ → ℕ → 
 IsExtentRead (Ok s) view size c d = IsExtent view size c d s
 IsExtentRead (Err fault) view size c d = extent_fault view size (c, d) ≡ Some fault
 
--- what follows an area, as it reads behind a reference
+-- what follows an area, as it reads through a reference
 abbrev pub next_now : Follow → Next
 next_now (Area bytes) = area_at bytes.now
 next_now (Unread n) = unread_at n

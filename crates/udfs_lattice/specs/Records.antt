@@ -15,7 +15,7 @@ IsStateOf rs n Unknown = (bytes : List ℕ) → ¬ (Includes rs (n, bytes))
 IsStateOf rs n (Known bytes) = Includes rs (n, bytes) × ((other : List ℕ) → Includes rs (n, other) → other ≡ bytes)
 IsStateOf rs n Conflict = (a : List ℕ) × (b : List ℕ) × Includes rs (n, a) × Includes rs (n, b) × (a ≢ b)
 
--- the table of the records
+-- at each block the table says what the records say
 abbrev pub IsTableOf : List Record → Table → Type 0
 IsTableOf rs t = (n : ℕ) → IsStateOf rs n (state_of t n)
 
@@ -41,7 +41,7 @@ IsEntry n Unknown = ⊥
 IsEntry n (Known bytes) = (n ≤ 4194303) × IsBlock bytes
 IsEntry n Conflict = n ≤ 4194303
 
--- the block numbers rise strictly, the first of them from `low` on
+-- the block numbers rise strictly from `low` on, and each state is one that a table can have there, not Unknown
 abbrev pub RisesFrom : ℕ → List (ℕ × State) → Type 0
 RisesFrom low [] = Unit {0}
 RisesFrom low (e ∷ es) = (low ≤ e.0) × IsEntry e.0 e.1 × RisesFrom (e.0 + 1) es

@@ -48,11 +48,11 @@ known_count t = count_by (λ e. is_known e.1) (entries_of t)
 abbrev pub conflict_count : Table → ℕ
 conflict_count t = count_by (λ e. is_conflict e.1) (entries_of t)
 
--- block by block
+-- at each block the state in t is below the state in u
 abbrev pub IsTableBelow : Table → Table → Type 0
 IsTableBelow t u = (n : ℕ) → IsBelow (state_of t n) (state_of u n)
 
--- what a state of block n may be
+-- the states that block n may have: Unknown, and up to block 4,194,303 also Known with the bytes of one block, or Conflict
 abbrev pub IsStateAt : ℕ → State → Type 0
 IsStateAt n Unknown = Unit {0}
 IsStateAt n (Known bytes) = (n ≤ 4194303) × IsBlock bytes
@@ -74,11 +74,11 @@ IsTable t = (n : ℕ) → IsStateAt n (state_of t n)
 abbrev pub empty_table : Table
 empty_table = fin.empty
 
--- one block is known
+-- this block is known, and no other
 abbrev pub one_record : ℕ → List ℕ → Table
 one_record n bytes = fin.insert fin.empty n (Some bytes)
 
--- one block has this state
+-- this block has this state, and every other one is Unknown
 abbrev pub one_entry : ℕ → State → Table
 one_entry n Unknown = empty_table
 one_entry n (Known bytes) = one_record n bytes
@@ -88,14 +88,14 @@ one_entry n Conflict = fin.insert fin.empty n None
 abbrev pub IsAdded : Table → ℕ → State → Table → Type 0
 IsAdded t n s u = (q : ℕ) → state_of u q ≡ cond (q == n) (join_of (state_of t n) s) (state_of t q)
 
--- what is held, and a held state beside it
+-- the join of what is held of a block, if anything, and of another held state
 abbrev pub join_held : Option Held → Held → Held
 join_held None h = h
 join_held (Some None) h = None
 join_held (Some (Some a)) None = None
 join_held (Some (Some a)) (Some b) = cond (bytes_eq a b) (Some a) None
 
--- t with the entries joined in: at a block that is in the list, its first entry beside what t holds
+-- t with the entries joined in: at a block that is in the list, its first entry is joined to what t holds
 abbrev pub join_entries : Table → List (ℕ × Held) → Table
 join_entries t [] = t
 join_entries t (e ∷ es) = fin.insert (join_entries t es) e.0 (join_held (fin.get t e.0) e.1)
@@ -113,7 +113,7 @@ sound_at t n s q sound fits false is = sound q
 pub IsTable-added : (t : Table) (n : ℕ) (s : State) (u : Table) → IsTable t → IsStateAt n s → IsAdded t n s u → IsTable u
 IsTable-added t n s u sound fits added q = subst (IsStateAt q) (sym (added q)) (sound_at t n s q sound fits (q == n) refl)
 
--- where the join of tables is the join of one record
+-- two tables that are both t with the state of block n joined to s have the same state at every block
 pub IsAdded-same : (t u v : Table) (n : ℕ) (s : State) → IsAdded t n s u → IsAdded t n s v → (q : ℕ) → state_of u q ≡ state_of v q
 IsAdded-same t u v n s a b q = a q ∙ sym (b q)
 
@@ -121,7 +121,7 @@ IsAdded-same t u v n s a b q = a q ∙ sym (b q)
 abbrev pub IsForgotten : Table → ℕ → Table → Type 0
 IsForgotten t n u = (q : ℕ) → state_of u q ≡ cond (q == n) Unknown (state_of t q)
 
--- the block is one of these
+-- whether the block is one of these
 abbrev pub is_named : List ℕ → ℕ → Bool
 is_named [] q = false
 is_named (n ∷ ns) q = (q == n) || is_named ns q
@@ -130,12 +130,12 @@ is_named (n ∷ ns) q = (q == n) || is_named ns q
 abbrev pub AreForgotten : Table → List ℕ → Table → Type 0
 AreForgotten t ns u = (q : ℕ) → state_of u q ≡ cond (is_named ns q) Unknown (state_of t q)
 
--- a state that is not in conflict
+-- the state itself, but Unknown for Conflict
 abbrev pub without_conflict : State → State
 without_conflict Unknown = Unknown
 without_conflict (Known bytes) = Known bytes
 without_conflict Conflict = Unknown
 
--- u is t without its conflicts
+-- u is t with Unknown at each block that is in Conflict
 abbrev pub IsWithoutConflicts : Table → Table → Type 0
 IsWithoutConflicts t u = (q : ℕ) → state_of u q ≡ without_conflict (state_of t q)

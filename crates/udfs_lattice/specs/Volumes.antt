@@ -4,7 +4,7 @@ use Rattle.std.specs.Prelude.{◌≡◌, ◌⊎◌, ℕ, ◌<◌, ◌≤◌, Lis
 use Rattle.udfs_lattice.specs.declared.facts.Fact.TheVariants.{Unknown, Known, Conflict}
 use Rattle.udfs_lattice.specs.States.{State, IsBlock, is_known}
 
--- to each block its state
+-- a state for each block number
 abbrev pub Blocks : Type 0
 Blocks = ℕ → State
 
@@ -19,13 +19,13 @@ Includes (y ∷ ys) x = (y ≡ x) ⊎ Includes ys x
 abbrev pub Volume : Type 0
 Volume = ℕ → List ℕ
 
--- each block up to the last one has its bytes
+-- the last block is 513 to 4,194,303, and each block up to it has 2048 bytes
 pub record IsVolume (volume : Volume) (last : ℕ) : Type 0 where
   pub from : 513 ≤ last
   pub to : last ≤ 4194303
   pub each : (n : ℕ) → n ≤ last → IsBlock (volume n)
 
--- all blocks up to the last one known
+-- each block up to the last one is Known with the volume's bytes, and each block above it is Unknown
 abbrev pub complete : Volume → ℕ → Blocks
 complete volume last n = cond (nat_le n last) (Known (volume n)) Unknown
 
@@ -47,7 +47,7 @@ abbrev pub first_known : Blocks → List ℕ → Option (ℕ × List ℕ)
 first_known blocks [] = None
 first_known blocks (n ∷ ns) = first_known_by n (blocks n) (first_known blocks ns)
 
--- those of these blocks that are not known
+-- those of these blocks that are not Known: they are Unknown or in Conflict
 abbrev pub not_known : Blocks → List ℕ → List ℕ
 not_known blocks ns = filter (λ n. not (is_known (blocks n))) ns
 
@@ -55,7 +55,7 @@ not_known blocks ns = filter (λ n. not (is_known (blocks n))) ns
 abbrev pub IsKnownAt : Blocks → ℕ → Type 0
 IsKnownAt blocks n = (bytes : List ℕ) × (blocks n ≡ Known bytes)
 
--- none of these blocks is known
+-- none of these blocks is Known: each is Unknown or in Conflict
 abbrev pub IsUnread : Blocks → List ℕ → Type 0
 IsUnread blocks group = (n : ℕ) → Includes group n → is_known (blocks n) ≡ false
 

@@ -16,6 +16,6 @@ only_now [] c left = left
 only_now (e ∷ es) c (inl now) = now
 only_now (e ∷ es) c (inr before) = absurd (omega (arith, before.0))
 
--- there are none at least
+-- the length of a list is at least 0
 pub least : (xs : List ℕ) → 0 ≤ length xs
 least xs = omega arith

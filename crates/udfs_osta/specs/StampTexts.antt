@@ -34,7 +34,7 @@ civil_date days = date_in_years 9999 0 days
 abbrev pub days_before_1970 : ℕ
 days_before_1970 = 719_528
 
--- a number below 100 in two digits, below 10,000 in four and below 1,000,000 in six
+-- a number below 100 in two decimal digits
 abbrev pub two_digits : ℕ → List ℕ
 two_digits n = (48 + n / 10) ∷ (48 + n % 10) ∷ []
 

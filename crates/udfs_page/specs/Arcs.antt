@@ -22,7 +22,7 @@ first_block count blocks i = i * blocks / count
 abbrev pub arc_length : ℕ → ℕ → ℕ → ℕ
 arc_length count blocks i = first_block count blocks (i + 1) - first_block count blocks i
 
--- the arc of block n: the one for which first_block of it is at most n, and first_block of the next is more
+-- the arc of block n: its first block is at most n, and the first block of the next arc is more
 abbrev pub arc_of : ℕ → ℕ → ℕ → ℕ
 arc_of count blocks n = ((n + 1) * count - 1) / blocks
 

@@ -41,7 +41,7 @@ style_tree =
     ++ markup (codes "@media print{body{max-width:none;padding:0;font-size:9pt}h2{break-after:avoid}figure,tr,pre{break-inside:avoid}\n")
     ++ markup (codes "figure>svg{width:11cm;print-color-adjust:exact}details::details-content{content-visibility:visible;block-size:auto}}\n")
 
--- what stands before the title, behind it, and behind the style
+-- what begins the head, up to its title
 abbrev pub before_title : List ℕ
 before_title = codes "<html lang=en>\n<head>\n<meta charset=utf-8>\n<meta name=viewport content='width=device-width, initial-scale=1'>\n<title>"
 
@@ -53,7 +53,7 @@ behind_title = codes "</title>\n<style>\n"
 abbrev pub behind_style : List ℕ
 behind_style = codes "</style>\n</head>\n<body>\n<h1>What can be salvaged</h1>\n"
 
--- what stands before the title of a page, and behind it
+-- all that precedes the title: the first bytes of every page, and what begins the head
 abbrev pub head_front : List ℕ
 head_front = markup page_mark ++ markup before_title
 

@@ -5,7 +5,7 @@
 use Rattle.std.specs.Prelude.{ℕ, List, ◌++◌, codes, decimal}
 use Rattle.udfs_page.specs.Escapes.{html_text}
 
--- what the page itself says; what a disc says is html_text
+-- what the page itself says; what a disc says goes through `html_text`
 unfoldable pub markup : List ℕ → List ℕ
 markup words = words
 

@@ -15,11 +15,11 @@ unfoldable pub root : ℕ → ℕ
 root zero = 0
 root (suc n) = if nat_le ((root n + 1) * (root n + 1)) (suc n) then root n + 1 else root n
 
--- the squares of the inner and the outer radius, in ten-thousandths of a millimetre
+-- the square of the inner radius, which is 24 mm, in ten-thousandths of a millimetre
 abbrev pub inner_square : ℕ
 inner_square = 240000 * 240000
 
--- the square of the outer radius, which is 58 mm
+-- the square of the outer radius, which is 58 mm, in ten-thousandths of a millimetre
 abbrev pub outer_square : ℕ
 outer_square = 580000 * 580000
 

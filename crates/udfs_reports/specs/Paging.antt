@@ -62,11 +62,11 @@ PageAsked found remaining words Holds = (profile : Profile) × (last : ℕ) × (
 abbrev pub MayPageAsked : {R : Type 0} → (List ℕ → Option (Option (List ℕ))) → (R → Option (List ℕ)) → (List ℕ → List ℕ) → Found → Disk → Disk → Type 0
 MayPageAsked found remaining real words d c = Same d c ⊎ PageAsked found remaining words (λ bytes. Replaced (real (page_path words)) bytes d c)
 
--- `files` are the inputs that are files, and `parts` the images and mapfiles among the inputs
+-- a page takes the place of no input (`files`, and `parts`: the images and mapfiles among them), and, unless what is there may be no file (`in_place`), of no file but a page
 abbrev pub IsFreePage : (List ℕ → Option (Option (List ℕ))) → (List ℕ → List ℕ) → (List ℕ → Type 0) → List (List ℕ) → List (List ℕ) → List ℕ → Type 0
 IsFreePage holds real in_place files parts out = IsFreeOwn page_mark holds real in_place files parts out
 
--- one of the inputs is there, or no page is
+-- why a page is not written: one of the inputs is there, or no page is
 abbrev pub IsSparedPage : (List ℕ → Option (Option (List ℕ))) → (List ℕ → List ℕ) → List (List ℕ) → List (List ℕ) → List ℕ → Type 0
 IsSparedPage holds real files parts out = IsSparedOwn page_mark holds real files parts out
 

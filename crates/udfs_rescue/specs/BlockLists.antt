@@ -70,7 +70,7 @@ ReadsList (Err e) says = ListFails e says
 
 -- ---- a list that comes byte by byte (internal)
 
--- of a number above the last block only that is number_kept
+-- a number as it is kept: of one above the last block only that it is above
 abbrev pub number_kept : Option ℕ → Option ℕ
 number_kept None = None
 number_kept (Some n) = Some (min n 4194304)
@@ -79,7 +79,7 @@ number_kept (Some n) = Some (min n 4194304)
 abbrev pub TellsLineBody : Bool → Option ℕ → List ℕ → Type 0
 TellsLineBody empty number body = (empty ≡ (length body == 0)) × (number ≡ number_kept (digits_from 10 0 body))
 
--- what is number_kept of a line: the same without the CR at its end, and whether there is one
+-- what is kept of a line: the same of it without the CR at its end, and whether there is one
 pub record TellsLine (empty : Bool) (number : Option ℕ) (returned : Bool) (line : List ℕ) : Type 0 where
   pub body : TellsLineBody empty number (without_return line)
   pub whole : line ≡ without_return line ++ cond returned (13 ∷ []) []

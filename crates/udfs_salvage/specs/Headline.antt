@@ -2,8 +2,8 @@
 --     HeadlineBy profile blocks last report    by the rules of a profile it is the only report of the table; and for each lawful volume that agrees
 --                                      with the table, it tells of the volume and its tree, what is known enough is whole and stays so, and the
 --                                      list to read again is right
---     OneReportBy, SomeReportBy        a table has one report; under agreement with a lawful volume it has one
---     OneTextBy                        and one text
+--     OneReportBy, SomeReportBy        a table has at most one report; one that agrees with a lawful volume has one
+--     OneTextBy                        and at most one text
 -- The same names without By are these by the strict rules.
 use Rattle.std.specs.Prelude.{◌≡◌, ℕ, List}
 use Rattle.udfs_volume.specs.declared.profiles.Profile.{Profile}
@@ -30,17 +30,17 @@ pub record HeadlineBy (profile : Profile) (blocks : Blocks) (last : ℕ) (report
   -- The rest is said of each lawful volume with which the table agrees.
   -- The volume that is found is that one, or all blocks of a needed group of which none is known are named.
   pub volume : TellsLawfulBy profile blocks last report.volume
-  -- Each node is one of the volume's tree at its path, no fault and no loop, with the tree's bytes outside its holes; if it is whole, with
-  -- its kind, size, stamp and all its bytes, and of each group of blocks that it needs one is known. No path has two nodes.
+  -- Each node is one of the volume's tree at its path, no fault and no loop. Nothing is told of it, or it has the tree's kind, size and stamp, and
+  -- the tree's bytes outside its holes; if it is whole, all bytes, and of each group of blocks that it needs one is known. No path has two nodes.
   pub tree : TellsTreeBy profile blocks last report
   -- Where all of the volume is known, the nodes are those of its tree, each once and all whole.
   pub whole_tree : TellsWholeTreeBy profile blocks last report
   -- What is in the tree, and of each needed group of which a block is known, is whole.
   pub met : MetIsReported profile blocks last report
-  -- What is whole stays whole, at its path and with its bytes, for each table that knows more and disputes nothing of it.
+  -- What is whole stays whole, at its path and with its bytes, for each table that agrees with the volume too, knows more and disputes nothing of it.
   pub stays : StaysWhole profile blocks last report
-  -- The list to read again is empty exactly if all of the tree is whole. None of it is known, each of it is needed, and of each node that is
-  -- not whole it holds a needed group of which none is known: so a pass that reads none of it makes no further node whole.
+  -- The list to read again is empty exactly if all of the tree is whole. None of it is known; each is needed, or an anchor place while no valid anchor is
+  -- known; and of each node that is not whole it holds a needed group of which none is known: so a pass that reads none of it makes no further node whole.
   pub rereads : RereadsSuffice profile blocks last report
 
 -- the same by the strict rules
@@ -63,7 +63,7 @@ SomeReportBy profile = (blocks : Blocks) (volume : Volume) (last : ℕ) → IsLa
 abbrev pub SomeReport : Type 0
 SomeReport = SomeReportBy Strict
 
--- and its text is one
+-- a table has at most one report text
 abbrev pub OneTextBy : Profile → Type 0
 OneTextBy profile = (table : Table) (last : ℕ) (report other : Report) → IsReportBy profile (state_of table) last report → IsReportBy profile (state_of table) last other
     → report_text_by profile table last other ≡ report_text_by profile table last report
@@ -72,7 +72,7 @@ OneTextBy profile = (table : Table) (last : ℕ) (report other : Report) → IsR
 abbrev pub OneText : Type 0
 OneText = OneTextBy Strict
 
--- of every report this is so
+-- of every report of a table the headline holds
 abbrev pub ReportsKeepItBy : Profile → Type 0
 ReportsKeepItBy profile = (blocks : Blocks) (last : ℕ) (report : Report) → IsReportBy profile blocks last report → HeadlineBy profile blocks last report
 

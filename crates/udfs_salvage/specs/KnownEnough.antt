@@ -36,7 +36,7 @@ pub record KnowsMore (blocks more : Blocks) : Type 0 where
   pub below : (n : ℕ) → IsBelow (blocks n) (more n)
   pub undisputed : (n : ℕ) → IsKnownAt blocks n → more n ≢ Conflict
 
--- what is whole is whole, with the same path and bytes, in the report of each table that knows more
+-- what is whole is whole, with the same path and bytes, in the report of each table that agrees with the volume too and knows more
 abbrev pub StaysWhole : Profile → Blocks → ℕ → Report → Type 0
 StaysWhole profile blocks last report = ForLawful profile blocks last (λ volume. (more : Blocks) (other : Report) → Agrees more volume last → IsReportBy profile more last other
     → KnowsMore blocks more → (path : List (List ℕ)) (file : TreeFile) → IsReportedWhole blocks report path file → IsReportedWhole more other path file)

@@ -22,7 +22,7 @@ pub record IsLawfulVolumeBy (profile : Profile) (volume : Volume) (last : ℕ) :
   pub layout : IsLawfulLayoutBy profile volume last
   pub sparing : IsLawfulSparing volume last found_is.layout
 
--- the blocks of the layout, of the sparing tables, and that of the file set
+-- a group of blocks of which one has to be known: one of the layout, one of the sparing tables, or the file set's block
 abbrev pub IsVolumeGroup : Volume → ℕ → Found → List ℕ → Type 0
 IsVolumeGroup volume last f group = IsSequenceGroup volume last group ⊎ IsSparingGroup f.layout.partitions group
     ⊎ ((n : ℕ) × (place f.space f.layout.file_set.reference f.layout.file_set.block ≡ Some n) × (group ≡ n ∷ []))
@@ -38,14 +38,14 @@ pub record IsFoundOf (volume : Volume) (blocks : Blocks) (last : ℕ) (all got :
   pub same : got ≡ all
   pub known : (group : List ℕ) → IsVolumeGroup volume last all group → (n : ℕ) × Includes group n × IsKnownAt blocks n
 
--- a lawful volume has no fault
+-- what is found is the volume's, or the listed blocks hold a group of which none is known; no fault is told
 abbrev pub IsToldOf : Volume → Blocks → ℕ → Found → Answer Found → Type 0
 IsToldOf volume blocks last all (found got) = IsFoundOf volume blocks last all got
 IsToldOf volume blocks last all (holes listed) =
     ListsGroup blocks (valid_anchors volume last) (anchor_places last) (IsVolumeGroup volume last all) listed
 IsToldOf volume blocks last all (faulty fault) = ⊥
 
--- of every lawful volume that agrees: what is found of it, or all blocks of a group of which none is known
+-- of every lawful volume that agrees: what is found is what is found with all known, or all blocks of a group of which none is known are listed
 abbrev pub TellsLawfulBy : Profile → Blocks → ℕ → Answer Found → Type 0
 TellsLawfulBy profile blocks last told = (volume : Volume) (lawful : IsLawfulVolumeBy profile volume last) → Agrees blocks volume last
     → IsToldOf volume blocks last lawful.found_is told

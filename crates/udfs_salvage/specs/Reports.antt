@@ -1,7 +1,7 @@
 -- What is reported of a volume.
 --     IsReportBy profile blocks last report    what is found of it by the rules of a profile, its nodes, and the blocks to read again
 --     IsReport blocks last report          the same by the strict rules
---     IsPastEnd blocks last n              the least block behind the last one of which something is known
+--     IsPastEnd blocks last n              the least block above the last one of which something is known
 --     HasTooManyPathsBy profile blocks last    it has more nodes than there may be
 use Rattle.std.specs.Prelude.{◌≡◌, ◌≢◌, ◌⊎◌, ⊤, ℕ, ◌<◌, ◌≤◌, Bool, true, false, List, [], ◌∷◌}
 use Rattle.std.specs.List.{list_all}
@@ -39,7 +39,7 @@ pub record ReportsNodes (blocks : Blocks) (f : Found) (report : Report) : Type 0
   pub unnamed_is : report.unnamed ≡ unnamed (view blocks f.space) f.space report.nodes
   pub reread_is : report.reread ≡ reread report.nodes
 
--- no nodes, and what has to be read before there are any
+-- no nodes, and only the blocks listed are to be read again
 pub record ReportsNone (listed : List ℕ) (report : Report) : Type 0 where
   pub no_nodes : report.nodes ≡ []
   pub no_unnamed : report.unnamed ≡ []
@@ -51,15 +51,15 @@ ReportsBy blocks (found f) report = ReportsNodes blocks f report
 ReportsBy blocks (holes listed) report = ReportsNone listed report
 ReportsBy blocks (faulty fault) report = ReportsNone [] report
 
--- nothing is known behind the last block
+-- nothing is known of any block above the last one
 abbrev pub IsNothingPast : Blocks → ℕ → Type 0
 IsNothingPast blocks last = (n : ℕ) → last < n → blocks n ≡ Unknown
 
--- the last block of a volume is none of these
+-- no volume has this last block: it is below 513 or above 4,194,303
 abbrev pub IsOutOfRange : ℕ → Type 0
 IsOutOfRange last = (last < 513) ⊎ (4194303 < last)
 
--- There is a report only of a last block in range, behind which nothing is known: it says what is found of the volume, and
+-- There is a report only of a last block in range, above which nothing is known: it says what is found of the volume, and
 -- of a volume that opens its nodes, of which there are at most 65,536.
 pub record IsReportBy (profile : Profile) (blocks : Blocks) (last : ℕ) (report : Report) : Type 0 where
   pub in_range : ¬ IsOutOfRange last
@@ -71,7 +71,7 @@ pub record IsReportBy (profile : Profile) (blocks : Blocks) (last : ℕ) (report
 abbrev pub IsReport : Blocks → ℕ → Report → Type 0
 IsReport = IsReportBy Strict
 
--- n is the least block behind the last one of which something is known
+-- n is the least block above the last one of which something is known
 pub record IsPastEnd (blocks : Blocks) (last n : ℕ) : Type 0 where
   pub past : last < n
   pub not_unknown : blocks n ≢ Unknown
@@ -101,14 +101,14 @@ all_whole (n ∷ ns) = list_all (λ n. is_whole n.standing) (n ∷ ns)
 abbrev pub report_now : code_report.Report → Report
 report_now r = record { volume = volume_now r.volume; nodes = r.nodes.items; unnamed = r.unnamed.items; reread = r.reread.items }
 
--- why nodes are not listed: there are too many, or memory was refused
+-- why nodes are not listed: there are too many, or memory ran out
 abbrev pub IsWalkRefused : Blocks → Found → SalvageError → Type 0
 IsWalkRefused blocks f errors.LastRange = ⊥
 IsWalkRefused blocks f (errors.PastEnd n) = ⊥
 IsWalkRefused blocks f errors.TooManyPaths = HasMoreRoutes (view blocks f.space) f.root 65536
 IsWalkRefused blocks f errors.OutOfMemory = ⊤
 
--- a volume without an anchor, or with wrong extents, is reported whatever memory there is
+-- memory may run out, but not over a volume without an anchor or with wrong extents: that is reported whatever memory there is
 abbrev pub MayWantMemoryBy : Profile → Blocks → ℕ → Type 0
 MayWantMemoryBy profile blocks last = (layout_by profile blocks last ≢ faulty NoAnchor) × (layout_by profile blocks last ≢ faulty Extents)
 
@@ -116,14 +116,14 @@ MayWantMemoryBy profile blocks last = (layout_by profile blocks last ≢ faulty 
 abbrev pub MayWantMemory : Blocks → ℕ → Type 0
 MayWantMemory = MayWantMemoryBy Strict
 
--- why a table can not be told of a volume with this last block: there is no such volume, or something is known behind it
+-- why a table has no report for this last block: no volume has it, or something is known above it
 abbrev pub IsUnfit : Blocks → ℕ → SalvageError → Type 0
 IsUnfit blocks last errors.LastRange = IsOutOfRange last
 IsUnfit blocks last (errors.PastEnd n) = (¬ IsOutOfRange last) × IsPastEnd blocks last n
 IsUnfit blocks last errors.TooManyPaths = ⊥
 IsUnfit blocks last errors.OutOfMemory = ⊥
 
--- why a volume within its last block has no report: too many paths, or want of memory where it may come
+-- why a table that fits its last block has no report: too many paths, or out of memory where that can be
 abbrev pub IsLookRefused : Profile → Blocks → ℕ → SalvageError → Type 0
 IsLookRefused profile blocks last errors.LastRange = ⊥
 IsLookRefused profile blocks last (errors.PastEnd n) = ⊥

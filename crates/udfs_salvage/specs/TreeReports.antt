@@ -1,7 +1,7 @@
 -- What a report says of every volume that is lawful by the rules of a profile and agrees with the table.
 --     TellsTreeBy profile blocks last report        each node is one of the volume's tree, and what is whole is the tree's
 --     TellsWholeTreeBy profile blocks last report   where all of the volume is known, the nodes are its tree, all whole
---     IsOfNoLawfulBy profile blocks last e   there is no report only where no lawful volume agrees, or for want of memory
+--     IsOfNoLawfulBy profile blocks last e   there is no report only where no lawful volume agrees, or memory ran out
 --     WritesFileBy profile blocks last report i n   what is done with the bytes of a whole node is done with the tree's
 --     FillsFileBy profile blocks last n fill        what is done with the bytes of a node that is filled is done with the tree's, its holes filled
 --     OpensOnceBy, OneFileAtBy               the standard opens a lawful volume in one way, and a path leads to one file
@@ -87,7 +87,7 @@ AgreesWithNoneBy profile blocks last = (volume : Volume) → IsLawfulBy profile 
 abbrev pub AgreesWithNone : Blocks → ℕ → Type 0
 AgreesWithNone = AgreesWithNoneBy Strict
 
--- any other error than want of memory is told only where no lawful volume agrees with the table
+-- an error other than out of memory is told only where no lawful volume agrees with the table
 abbrev pub IsOfNoLawfulBy : Profile → Blocks → ℕ → SalvageError → Type 0
 IsOfNoLawfulBy profile blocks last errors.LastRange = AgreesWithNoneBy profile blocks last
 IsOfNoLawfulBy profile blocks last (errors.PastEnd n) = AgreesWithNoneBy profile blocks last
@@ -107,7 +107,7 @@ OpensOnceBy profile = (volume : Volume) (last : ℕ) → IsLawfulBy profile volu
 abbrev pub OpensOnce : Type 0
 OpensOnce = OpensOnceBy Strict
 
--- and a path leads to one file
+-- in a lawful volume a path leads to at most one file
 abbrev pub OneFileAtBy : Profile → Type 0
 OneFileAtBy profile = (volume : Volume) (last : ℕ) → IsLawfulBy profile volume last → (path : List (List ℕ)) (file other : TreeFile)
     → IsInVolumeBy profile volume last path file → IsInVolumeBy profile volume last path other → other ≡ file
@@ -116,7 +116,7 @@ OneFileAtBy profile = (volume : Volume) (last : ℕ) → IsLawfulBy profile volu
 abbrev pub OneFileAt : Type 0
 OneFileAt = OneFileAtBy Strict
 
--- the same for whoever has a report and not the call
+-- every report of a table tells this of every lawful volume that agrees with it, and of every one that it knows whole
 abbrev pub ReportsTellTreeBy : Profile → Type 0
 ReportsTellTreeBy profile = (blocks : Blocks) (last : ℕ) (report : Report) → IsReportBy profile blocks last report → TellsTreeBy profile blocks last report × TellsWholeTreeBy profile blocks last report
 
@@ -145,7 +145,7 @@ IsLawfulWith = IsLawfulWithBy Strict
 abbrev pub SomeLawful : Type 0
 SomeLawful = (maps : Maps) → IsLawfulWith (sample_partitions maps)
 
--- and the same by the rules of a profile
+-- there are such volumes by the rules of a profile
 abbrev pub SomeLawfulBy : Profile → Type 0
 SomeLawfulBy profile = (maps : Maps) → IsLawfulWithBy profile (sample_partitions maps)
 

@@ -3,7 +3,7 @@
 --     IsOpenedBy profile volume last opened     what the standard opens, by the rules of a profile
 --     IsInVolumeBy profile volume last path file   the path leads from the root to this file
 --     IsLawfulBy profile volume last            what is asked of a volume, in the standard's words
---     LawfulIsWholeBy profile                   it is asked exactly that all nodes of the complete volume are whole
+--     LawfulIsWholeBy profile                   the same by the nodes of the complete volume: exactly then all are whole
 --     IsNeededIn profile volume last path group    blocks of which one has to be known for the node of this path
 --     IsMetBy profile blocks volume last path   one of each is known
 -- IsOpened, IsInVolume, IsLawful and LawfulIsWhole are these by the strict rules.
@@ -31,7 +31,7 @@ pub record Opened : Type 0 where
   pub blocks : PartitionBlocks
   pub root : LongAd
 
--- the layout of the main sequence behind the first valid anchor; each logical block is the block that holds it by the
+-- the layout of the main sequence that the first valid anchor names; each logical block is the block that holds it by the
 -- first sparing table; last extents are read as the layout says; and the root is named by the file set
 pub record IsOpenedBy (profile : Profile) (volume : Volume) (last : ℕ) (opened : Opened) : Type 0 where
   pub anchor : ℕ
@@ -55,7 +55,7 @@ abbrev pub IsInVolume : Volume → ℕ → List (List ℕ) → TreeFile → Type
 IsInVolume = IsInVolumeBy Strict
 
 -- Anchors and copies say the same; and the tree of what the standard opens is sound: each path leads to a file, each directory is a list
--- of descriptors, none lies in itself, the names of each differ, and there are at most 65,536 paths of at most 64 names.
+-- of descriptors of at most 2048 bytes, none lies in itself, the names of each differ, and there are at most 65,536 paths of at most 64 names.
 pub record IsLawfulBy (profile : Profile) (volume : Volume) (last : ℕ) : Type 0 where
   pub is_volume : IsLawfulVolumeBy profile volume last
   pub opened : Opened
@@ -66,12 +66,13 @@ pub record IsLawfulBy (profile : Profile) (volume : Volume) (last : ℕ) : Type 
 abbrev pub IsLawful : Volume → ℕ → Type 0
 IsLawful = IsLawfulBy Strict
 
--- The same by what is told of the complete volume: each of its nodes is whole.
+-- Anchors and copies say the same; and the complete volume has no fault, each of its nodes is whole, the names in each directory differ, and at most
+-- 65,536 routes lead anywhere.
 pub record AllIsWhole (profile : Profile) (volume : Volume) (last : ℕ) : Type 0 where
   pub is_volume : IsLawfulVolumeBy profile volume last
   pub tree : IsLawfulTree (view (complete volume last) is_volume.found_is.space) is_volume.found_is.root
 
--- a volume is lawful exactly if, with all of it known, every node is whole
+-- a volume is lawful exactly if it is as `AllIsWhole` says of the nodes with all of it known
 abbrev pub LawfulIsWholeBy : Profile → Type 0
 LawfulIsWholeBy profile = (volume : Volume) (last : ℕ) → IsLawfulBy profile volume last ↔ AllIsWhole profile volume last
 

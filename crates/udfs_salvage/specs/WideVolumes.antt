@@ -14,7 +14,7 @@ pub record IsTakenByWide (volume : Volume) (last : ℕ) : Type 0 where
   pub lawful : IsLawfulBy Wide volume last
   pub files : (path : List (List ℕ)) (file : TreeFile) → IsInVolumeBy Strict volume last path file ↔ IsInVolumeBy Wide volume last path file
 
--- so it is with every volume that is lawful by the strict rules
+-- every volume that is lawful by the strict rules is taken so by the wide ones
 abbrev pub WideTakesStrict : Type 0
 WideTakesStrict = (volume : Volume) (last : ℕ) → IsLawfulBy Strict volume last → IsTakenByWide volume last
 
@@ -29,6 +29,6 @@ pub record IsOfWideAlone (volume : Volume) (last : ℕ) : Type 0 where
   pub file : TreeFile
   pub in_volume : IsInVolumeBy Wide volume last (name ∷ []) file
 
--- there is one
+-- there is a volume of revision 2.00, with a file below its root, that is lawful by the wide rules and not by the strict ones
 abbrev pub WideTakesMore : Type 0
 WideTakesMore = (volume : Volume) × (last : ℕ) × IsOfWideAlone volume last

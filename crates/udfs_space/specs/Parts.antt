@@ -34,7 +34,7 @@ pub record AreSound (packet : ℕ) (es : Spared) : Type 0 where
   pub each : All (IsSoundEntry packet) es
   pub rises : OriginalsRise es
 
--- A partition is not empty and ends where blocks may end.
+-- A partition is not empty and ends where blocks may end, its packets are not empty, and its spared packets are sound.
 pub record IsSound (s : Span) : Type 0 where
   pub not_empty : 0 < s.size
   pub ends : s.start + s.size ≤ 4194304

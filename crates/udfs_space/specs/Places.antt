@@ -20,26 +20,26 @@ use Rattle.udfs_space.specs.Sparing.{Space, Span}
 abbrev pub sparing_entry_at : Span → ℕ → Option SparingEntry
 sparing_entry_at span first = find (λ e. nat_eq e.original first) span.spared
 
--- where a block stands: in the packet that its own was mapped to, or directly
+-- where a block is: in the packet that its own was mapped to, or directly
 abbrev pub placed_at : Option SparingEntry → ℕ → ℕ → ℕ
 placed_at None direct offset = direct
 placed_at (Some e) direct offset = e.mapped + offset
 
--- a block of a spared packet stands where the packet is mapped, and every other one behind the start
+-- the block that holds logical block b, if the partition has it: in a spared packet by where that is mapped, else counted from the partition's start
 abbrev pub place_in : Span → ℕ → Option ℕ
 place_in span b = let offset = b % span.packet in cond (nat_lt b span.size)
     (Some (placed_at (sparing_entry_at span (b - offset)) (span.start + b) offset)) None
 
--- where a block of a partition stands, if there is such a partition
+-- the block that holds logical block b of a partition, if there is such a partition and it has this block
 abbrev pub place_by : Option Span → ℕ → Option ℕ
 place_by None b = None
 place_by (Some span) b = place_in span b
 
--- A logical address is a partition reference and a logical block.
+-- the block that holds logical block b of the partition with this reference, if there is such a partition and it has this block
 unfoldable pub place : Space → ℕ → ℕ → Option ℕ
 place space reference b = place_by (slice_get space.spans reference) b
 
--- the block lies in the packet of the entry
+-- logical block b is in the packet of this entry, which is one of the spared packets
 abbrev pub IsSparedBy : Span → ℕ → SparingEntry → Type 0
 IsSparedBy span b e = Includes span.spared e × (e.original ≤ b) × (b < e.original + span.packet)
 
@@ -79,11 +79,11 @@ view blocks space = record { partitions = length space.spans; place = place spac
 abbrev pub block_at : View → ℕ → ℕ → Option (ℕ × State)
 block_at view r b = option_map (λ n. (n, view.blocks n)) (view.place r b)
 
--- so many logical blocks from one on stand one behind the other, if the first has a place
+-- `count` logical blocks from b on are in consecutive blocks, if the first has a place
 abbrev pub StandBeside : (ℕ → Option ℕ) → ℕ → ℕ → Type 0
 StandBeside places b count = (j n : ℕ) → j < count → places b ≡ Some n → places (b + j) ≡ Some (n + j)
 
--- one of so many consecutive logical blocks has no place
+-- whether one of `count` consecutive logical blocks has no place
 abbrev pub is_past : (ℕ → ℕ → Option ℕ) → ℕ → ℕ → ℕ → Bool
 is_past places r b count = list_any (λ j. is_none (places r (b + j))) (range_with_len 0 count)
 
@@ -96,7 +96,7 @@ pub record IsPartOf (some all : View) : Type 0 where
   pub complete : (r b n : ℕ) → all.place r b ≡ Some n → (bytes : Bytes) × (all.blocks n ≡ Known bytes)
   pub agrees : (r b n : ℕ) (bytes : Bytes) → all.place r b ≡ Some n → some.blocks n ≡ Known bytes → all.blocks n ≡ Known bytes
 
--- a block as it reads behind a reference, with its number
+-- a block as it reads through a reference, with its number
 abbrev pub block_now : Option (ℕ × Fact (Bor (List ℕ))) → Option (ℕ × State)
 block_now None = None
 block_now (Some e) = Some (e.0, fact_now e.1)

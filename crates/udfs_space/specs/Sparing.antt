@@ -70,35 +70,35 @@ sparing_entry_of bytes = record { original = uint32_at bytes 0; mapped = uint32_
 abbrev pub entries : Bytes → List SparingEntry
 entries content = map (λ i. sparing_entry_of (drop (bp (56 + 8 * i)) content)) (range_with_len 0 (entry_count content))
 
--- below FFFFFFF0 stands a packet, FFFFFFF0 is defective and FFFFFFFF available
+-- whether an entry is used: its original is below FFFFFFF0; FFFFFFF0 is a defective packet, and FFFFFFFF an available one
 abbrev pub is_used : SparingEntry → Bool
 is_used e = nat_lt e.original 0xFFFF_FFF0
 
--- a number that is none of these, or no first block of a packet
+-- whether an original is a number from FFFFFFF1 to FFFFFFFE, or a used one that is no first block of a packet
 abbrev pub is_bad_original : ℕ → SparingEntry → Bool
 is_bad_original packet e =
     is_within 0xFFFF_FFF1 0xFFFF_FFFE e.original || is_used e && not (nat_eq (e.original % packet) 0)
 
--- the next original is less, or the same while a packet stands there
+-- whether the next original is less, or the same while this entry is used
 abbrev pub breaks_order : SparingEntry → SparingEntry → Bool
 breaks_order e next = nat_lt next.original e.original || is_used e && nat_eq next.original e.original
 
--- the originals fall somewhere, or two used ones are equal
+-- whether some original is less than the one before it, or the same as it while that one is used
 abbrev pub is_out_of_order : List SparingEntry → Bool
 is_out_of_order [] = false
 is_out_of_order (e ∷ []) = false
 is_out_of_order (e ∷ f ∷ rest) = breaks_order e f || is_out_of_order (f ∷ rest)
 
--- the identifier of a sparing table stands behind the tag, which is valid
+-- whether the tag is valid and the identifier of a sparing table is after it
 abbrev pub is_sparing_table : Bool → Bytes → Bool
 is_sparing_table valid content = valid && bytes_eq (regid_at content (bp 16)).name (zero_filled 23 (codes "*UDF Sparing Table"))
 
--- the entries pass the size, or an original is none that there may be
+-- whether the entries pass the size of the table, or some original is a bad one
 abbrev pub is_misshapen : ℕ → ℕ → Bytes → Bool
 is_misshapen packet size content =
     nat_lt size (56 + 8 * entry_count content) || list_any (is_bad_original packet) (entries content)
 
--- a packet is mapped to blocks of which one lies behind the last
+-- whether a used entry maps its packet to blocks of which one is above the last
 abbrev pub passes_end : ℕ → ℕ → SparingEntry → Bool
 passes_end last packet e = is_used e && nat_lt (last + 1) (e.mapped + packet)
 
@@ -153,6 +153,6 @@ abbrev pub spans : Blocks → ℕ → List Partition → Answer Spans
 spans blocks last [] = found []
 spans blocks last (p ∷ ps) = and_then (span blocks last p) (λ s. and_then (spans blocks last ps) (λ ss. found (s ∷ ss)))
 
--- one map at most is sparable, so there is no order among faults or holes of several tables
+-- the places of all partitions' blocks; one map at most is sparable, so there is no order among faults or holes of several tables
 unfoldable pub space : Blocks → Layout → Answer Space
 space blocks layout = and_then (spans blocks layout.last layout.partitions) (λ ss. found (record { spans = ss; takes_tail = layout.takes_tail }))

@@ -7,7 +7,7 @@ use Rattle.udfs_lattice.specs.Volumes.{Volume}
 use Rattle.udfs_volume.specs.Layout.{Layout, PartitionMap, type1, sparable, blocks_in}
 use Rattle.udfs_space.specs.Sparing.{Space, Spared, spared_in, span_of}
 
--- the bytes of one copy
+-- the bytes of the copy of a sparing table that begins at this block
 abbrev pub table_at : Volume → ℕ → ℕ → Bytes
 table_at volume size place = take size (flat_map volume (range_with_len place (blocks_in size)))
 

@@ -24,7 +24,7 @@ pub record IsSpaceOf (volume : Volume) (last : ℕ) (blocks : Blocks) (l : Layou
   pub known : (group : List ℕ) → IsSparingGroup l.partitions group → (n : ℕ) × Includes group n × IsKnownAt blocks n
   pub part : IsPartOf (view blocks got) (view (complete volume last) got)
 
--- a lawful volume has no fault
+-- what a call returned is the volume's places, or the listed blocks hold a group of which none is known; no fault is told, and memory may run out
 abbrev pub IsSpaceTold : Volume → ℕ → Blocks → Layout → Seen code_space.Space → Type 0
 IsSpaceTold volume last blocks l (Got got) = IsSpaceOf volume last blocks l got
 IsSpaceTold volume last blocks l (Holes listed) = ListsGroup blocks [] [] (IsSparingGroup l.partitions) listed.items

@@ -1,5 +1,5 @@
 -- The CRC of descriptors (ECMA-167 3/7.2.6): the remainder of the covered bits, the most significant first and
--- followed by 16 zero bits, in division by x^16 + x^12 + x^5 + 1 over two values.
+-- followed by 16 zero bits, in division by x^16 + x^12 + x^5 + 1 over the field of two elements.
 --     IsRemainder p r     p is a multiple of the generator plus r, and the degree of r is below 16
 --     message bytes       the polynomial of the bytes' bits, followed by 16 zero bits
 --     crc_of bytes        the remainder of the message, by long division

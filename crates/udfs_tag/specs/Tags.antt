@@ -1,10 +1,10 @@
 -- The tag at the front of a descriptor (ECMA-167 3/7.2 and 4/7.2), and its faults.
---     tag_of bytes place               the tag of bytes that stand at a place, or its first fault
+--     tag_of bytes place               the tag of bytes that are at a place, or its first fault
 --     is_sound bytes place             whether the tag has no fault there
 --     is_valid bytes place id          whether it is sound and has this identifier
---     identifier bytes                 the identifier, where the tag is sound
+--     identifier bytes                 the identifier, whether the tag is sound or not
 --     HasTagFault f bytes place           the fault holds, whatever else holds
---     IsAccepted, IsFirstFault         what `tag_of` answers, in these terms
+--     IsAccepted, IsFirstFault         what `tag_of` returns, in these terms
 use Rattle.std.specs.Prelude.{◌≡◌, ◌≢◌, ℕ, Bool, false, ◌+◌, ◌%◌, ◌<◌, ◌≤◌, ◌⊎◌, ◌==◌, ◌||◌, not, nat_lt, List, length, take, sum, Result, Ok, Err, is_ok, if◌then◌else◌}
 use Rattle.udfs_tag.specs.Crc.{crc_of, message, IsRemainder}
 use Rattle.udfs_tag.specs.Fields.{part, uint8_at, uint16_at, uint32_at}
@@ -24,11 +24,11 @@ checksum_of bytes = (sum (take 4 bytes) + sum (part bytes 5 11)) % 256
 abbrev pub covered_len : List ℕ → ℕ
 covered_len bytes = uint16_at bytes 10
 
--- those bytes
+-- the bytes that the CRC covers, as far as they are there
 abbrev pub covered : List ℕ → List ℕ
 covered bytes = part bytes 16 (covered_len bytes)
 
--- the tag of bytes that stand at a place, or its first fault
+-- the tag of bytes that are at a place, or its first fault
 unfoldable pub tag_of : List ℕ → ℕ → Result Tag TagFault
 tag_of bytes place =
     if not (uint8_at bytes 4 == checksum_of bytes) then Err Checksum
@@ -59,7 +59,7 @@ HasTagFault CrcLength bytes place = length bytes < 16 + covered_len bytes
 HasTagFault Crc bytes place = ¬ IsRemainder (message (covered bytes)) (uint16_at bytes 8)
 HasTagFault Location bytes place = uint32_at bytes 12 ≢ place
 
--- the order in which faults count
+-- the order in which `tag_of` looks for faults
 abbrev pub fault_number : TagFault → ℕ
 fault_number Checksum = 1
 fault_number Version = 2
@@ -67,7 +67,7 @@ fault_number CrcLength = 3
 fault_number Crc = 4
 fault_number Location = 5
 
--- the tag is that of the bytes, and all its sums and its place are right
+-- the tag has the identifier of the bytes, and their checksum, version, CRC length, CRC and location are right
 pub record IsAccepted (bytes : List ℕ) (place : ℕ) (tag : Tag) : Type 0 where
   pub identified : tag.identifier ≡ identifier bytes
   pub checksum : uint8_at bytes 4 ≡ checksum_of bytes

@@ -48,7 +48,7 @@ pub record IsToldAs (n : NodeFields) (file : TreeFile) : Type 0 where
   pub size : n.size ≡ Some file.fields.size
   pub stamp : n.stamp ≡ Some file.fields.stamp
 
--- nothing is told of the node but the one block that is missing
+-- the entry of the node was not read: it has no kind, no size and no stamp
 pub record IsUntold (n : NodeFields) : Type 0 where
   pub kind : n.kind ≡ Unread
   pub size : n.size ≡ None

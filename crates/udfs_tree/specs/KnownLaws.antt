@@ -52,6 +52,6 @@ pub record AreWanted (some all : View) (blocks : PartitionBlocks) (root : LongAd
   -- there are none exactly if all of the tree is listed whole
   pub none : (listed ≡ []) ↔ ((path : List (List ℕ)) (file : TreeFile) → InTree blocks root path file → IsListedWhole some root nodes path file)
 
--- each block to read again is wanted, and none else
+-- over any part of a lawful tree, the blocks that the nodes lack are as `AreWanted` asks
 abbrev pub MissingIsWanted : Type 0
 MissingIsWanted = OverParts (λ some all blocks root nodes. AreWanted some all blocks root nodes (reread nodes))

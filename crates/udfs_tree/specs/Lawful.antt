@@ -18,7 +18,7 @@ abbrev pub AreDistinct : View → LongAd → Type 0
 AreDistinct all root = (route : Route) (w : Walked) → walked all root route ≡ Some w
     → AllPairs (λ d e. d.name ≢ e.name) (entries_below all w)
 
--- nothing has a fault or is a loop, names differ, and there are at most 65,536 nodes
+-- each node is whole, the names in each directory differ, and at most 65,536 routes lead anywhere
 pub record IsLawfulTree (all : View) (root : LongAd) : Type 0 where
   pub nodes : AreWhole all root
   pub distinct : AreDistinct all root

@@ -26,7 +26,7 @@ StandOnce paths = (i j : ℕ) (path : Path) → slice_get paths i ≡ Some path 
 abbrev pub LeadsOn : PartitionBlocks → LongAd → Path → Type 0
 LeadsOn blocks root path = (a : LongAd) × Leads blocks root path a
 
--- the tree from this root is one that the standard allows, with at most 65,536 files and paths of at most 64 names
+-- the tree from this root is one that the standard allows, with names that differ, and with at most 65,536 paths of at most 64 names
 pub record IsSoundTree (blocks : PartitionBlocks) (root : LongAd) : Type 0 where
   -- each path leads to a file: an entry stands at the address, and it has a body
   pub files : (path : Path) (a : LongAd) → Leads blocks root path a → (file : TreeFile) × IsFileAt blocks a file

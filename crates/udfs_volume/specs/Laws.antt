@@ -34,7 +34,7 @@ pub record SaysTheSame (volume : Volume) (main reserve : ℕ) : Type 0 where
   pub identifiers : is_sound (volume main) main ≡ true → identifier (volume main) ≡ identifier (volume reserve)
   pub contents : is_sound (volume main) main ≡ true → drop 16 (volume main) ≡ drop 16 (volume reserve)
 
--- a volume has an anchor, its anchors name the same extents, and both copies of its descriptor sequence say the same
+-- a volume has an anchor, its anchors name the same extents, both copies of its descriptor sequence say the same, and with all known it has a layout
 pub record IsLawfulLayoutBy (profile : Profile) (volume : Volume) (last : ℕ) : Type 0 where
   pub anchored : valid_anchors volume last ≢ []
   pub anchors : (a b : ℕ) → Includes (valid_anchors volume last) a → Includes (valid_anchors volume last) b
@@ -47,7 +47,7 @@ pub record IsLawfulLayoutBy (profile : Profile) (volume : Volume) (last : ℕ) :
 abbrev pub IsLawfulLayout : Volume → ℕ → Type 0
 IsLawfulLayout = IsLawfulLayoutBy Strict
 
--- the copies of a position through the end
+-- the two copies of one position of the sequence, up to the one that ends it
 pub record IsPair (volume : Volume) (last : ℕ) (group : List ℕ) : Type 0 where
   pub extents : AnchorExtents
   pub place : ℕ

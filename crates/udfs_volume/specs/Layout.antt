@@ -1,5 +1,5 @@
 -- The layout of a volume: its prevailing descriptors (ECMA-167 3/8.4.3, 3/10.5, 3/10.6; UDF 2.2.4).
---     prevailing sequence_number ds       the first descriptor whose sequence_number no other passes
+--     prevailing ds                       the first descriptor whose sequence number no other passes
 --     layout_by profile blocks last       revision, label, partitions and the file set's address, by the rules of a profile
 --     layout blocks last                  the same by the strict rules
 use Rattle.std.specs.Prelude.{ℕ, zero, suc, ◌+◌, ◌-◌, ◌*◌, ◌/◌, Bool, true, false, not, List, [], ◌∷◌, length, drop, map, filter, cond, nat_eq, nat_le, nat_lt, ◌&&◌, ◌||◌, Option, Some, None, find, codes, is_none, option_map}
@@ -19,15 +19,15 @@ use Rattle.udfs_volume.specs.Profiles.{accepts_packet, accepts_revision, takes_t
 use Rattle.udfs_volume.specs.declared.faults.VolumeFault.{VolumeFault}
 use Rattle.udfs_volume.specs.declared.faults.VolumeFault.TheVariants.{NoLogicalVolume, Domain, BlockSize, MapCount, MapKind, NoPartition, Contents, PartitionRange}
 
--- Fields stand where the standard counts them, from the front of the descriptor; the content begins at 16.
+-- where a field is in the content: the standard counts from the front of the descriptor, and the content begins at 16
 abbrev pub bp : ℕ → ℕ
 bp position = position - 16
 
--- both descriptors have their sequence sequence_number at 16
+-- the volume descriptor sequence number, which both kinds of descriptor have at 16
 abbrev pub sequence_number : Descriptor → ℕ
 sequence_number d = uint32_at d.content (bp 16)
 
--- the first descriptor whose sequence sequence_number no other passes
+-- the first descriptor whose sequence number no other passes
 abbrev pub prevailing : List Descriptor → Option Descriptor
 prevailing ds = find (λ d. list_all (λ other. nat_le (sequence_number other) (sequence_number d)) ds) ds
 
@@ -39,11 +39,11 @@ with_identifier id ds = filter (λ d. nat_eq d.identifier id) ds
 abbrev pub logical_volume : List Descriptor → Option Descriptor
 logical_volume ds = prevailing (with_identifier 6 ds)
 
--- the sequence_number of a partition descriptor (ECMA-167 3/10.5.4)
+-- the partition number of a partition descriptor (ECMA-167 3/10.5.4)
 abbrev pub partition_number : Descriptor → ℕ
 partition_number d = uint16_at d.content (bp 22)
 
--- the prevailing partition descriptor of this sequence_number (ECMA-167 3/10.5)
+-- the prevailing partition descriptor with this partition number (ECMA-167 3/10.5)
 abbrev pub partition : ℕ → List Descriptor → Option Descriptor
 partition n ds = prevailing (filter (λ d. nat_eq (partition_number d) n) (with_identifier 5 ds))
 
@@ -59,7 +59,7 @@ pub record Partition : Type 0 where
   pub start : ℕ
   pub size : ℕ
 
--- The partitions stand in the order of their maps: a partition reference is a place among them.
+-- The layout of a volume. The partitions are in the order of their maps: a partition reference is an index into them.
 pub record Layout : Type 0 where
   pub last : ℕ
   pub revision : ℕ
@@ -69,11 +69,11 @@ pub record Layout : Type 0 where
   -- whether the last extent of a file may end inside a block that goes on
   pub takes_tail : Bool
 
--- how many blocks so many bytes take
+-- how many blocks this many bytes take
 abbrev pub blocks_in : ℕ → ℕ
 blocks_in bytes = (bytes + 2047) / 2048
 
--- the forms of a map (3/10.7.2, UDF 2.2.9)
+-- whether a partition map is one of type 1 (ECMA-167 3/10.7.2)
 abbrev pub is_type1 : Bytes → Bool
 is_type1 bytes = nat_eq (uint8_at bytes 0) 1 && nat_eq (uint8_at bytes 1) 6
 
@@ -86,7 +86,7 @@ is_sparable bytes = nat_eq (uint8_at bytes 0) 2 && nat_eq (uint8_at bytes 1) 64
 abbrev pub table_places : Bytes → List ℕ
 table_places bytes = map (λ i. uint32_at bytes (48 + 4 * i)) (range_with_len 0 (uint8_at bytes 42))
 
--- the rules of a sparable map's numbers (this project's own rule)
+-- whether a sparable map names 1 to 4 tables, of 56 to 65,536 bytes, and a packet length that is accepted (this project's own rule)
 abbrev pub has_numbers : Profile → Bytes → Bool
 has_numbers profile bytes = is_within 1 4 (uint8_at bytes 42)
     && accepts_packet profile (uint16_at bytes 40)
@@ -100,11 +100,11 @@ are_within last size places = list_all (λ place. nat_le (place + blocks_in size
 abbrev pub are_tables : Profile → ℕ → Bytes → Bool
 are_tables profile last bytes = has_numbers profile bytes && are_within last (uint32_at bytes 44) (table_places bytes)
 
--- A map and the sequence_number of its partition.
+-- A map and the number of its partition.
 abbrev pub NumberedMap : Type 0
 NumberedMap = PartitionMap × ℕ
 
--- the map at the front of these bytes, in what is left of the map table
+-- the map at the front of these bytes, of which this many are left of the map table, with its partition's number; none if it breaks a rule
 abbrev pub read_map : Profile → ℕ → ℕ → Bytes → Option NumberedMap
 read_map profile last length bytes =
     cond (is_type1 bytes && nat_le 6 length) (Some (type1, uint16_at bytes 4))
@@ -116,12 +116,12 @@ abbrev pub map_size : PartitionMap → ℕ
 map_size type1 = 6
 map_size (sparable packet size tables) = 64
 
--- a map before those that are read behind it
+-- a map before those that are read after it
 abbrev pub before_maps : Option NumberedMap → (ℕ → Option (List NumberedMap)) → Option (List NumberedMap)
 before_maps None later = None
 before_maps (Some m) later = option_map (λ ms. m ∷ ms) (later (map_size m.0))
 
--- so many maps, one after the other, in a table of that length
+-- this many maps, one after the other, in a map table of this length
 abbrev pub read_maps : Profile → ℕ → ℕ → ℕ → Bytes → Option (List NumberedMap)
 read_maps profile last zero length bytes = Some []
 read_maps profile last (suc n) length bytes =
@@ -134,17 +134,17 @@ is_kind_of type1 (sparable packet size tables) = false
 is_kind_of (sparable packet size tables) type1 = false
 is_kind_of (sparable packet size tables) (sparable packet' size' tables') = true
 
--- two maps are of one kind
+-- whether two of the maps are of one kind
 abbrev pub repeats_kind : List PartitionMap → Bool
 repeats_kind [] = false
 repeats_kind (m ∷ ms) = list_any (is_kind_of m) ms || repeats_kind ms
 
--- maps of which no two are of one kind
+-- the maps, if no two of them are of one kind
 abbrev pub unless_repeated : Option (List NumberedMap) → Option (List NumberedMap)
 unless_repeated None = None
 unless_repeated (Some ms) = cond (repeats_kind (map (λ m. m.0) ms)) None (Some ms)
 
--- how many partition maps a logical volume descriptor has (ECMA-167 3/10.6.10)
+-- how many partition maps a logical volume descriptor has (ECMA-167 3/10.6.9)
 abbrev pub map_count : Descriptor → ℕ
 map_count lv = uint32_at lv.content (bp 268)
 
@@ -156,7 +156,7 @@ the_maps profile last lv = unless_repeated (read_maps profile last (map_count lv
 abbrev pub has_domain : Descriptor → Bool
 has_domain lv = bytes_eq (regid_at lv.content (bp 216)).name (zero_filled 23 (codes "*OSTA UDF Compliant"))
 
--- whether the revision that the domain's suffix tells is accepted
+-- whether the revision that the domain's suffix gives is accepted
 abbrev pub has_revision : Profile → Descriptor → Bool
 has_revision profile lv = accepts_revision profile (uint16_at lv.content (bp 240))
 
@@ -196,7 +196,7 @@ partition_of p = record { kind = p.0; start = uint32_at (p.1).content (bp 188); 
 abbrev pub is_in_range : ℕ → Partition → Bool
 is_in_range last p = nat_lt 0 p.size && nat_le (p.start + p.size) (last + 1)
 
--- a fault of any partition counts
+-- the first rule that some partition breaks
 abbrev pub partitions_fault : ℕ → List Described → Option VolumeFault
 partitions_fault last ps = first_fault (
     (not (list_all has_contents ps), Contents)

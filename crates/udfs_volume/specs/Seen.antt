@@ -1,5 +1,5 @@
 -- What a call sees, beside what is found.
---     Sees view seen answer     the call saw that answer, or memory was refused
+--     Sees view seen answer     the call saw that answer, or memory ran out
 --     HolesRise seen            the holes that it saw are ascending, each once
 --     IfGot seen Property       what it got, if it got something, has the property
 --     ForGot seen Property     the same, as what a call needs
@@ -12,7 +12,7 @@ use Rattle.udfs_volume.specs.declared.seen.Seen.{Seen}
 use Rattle.udfs_volume.specs.declared.seen.Seen.TheVariants.{Got, Holes, Fault, OutOfMemory}
 use Rattle.udfs_volume.specs.Answers.{Answer, found, holes, faulty}
 
--- what the code answers is this answer; want of memory says nothing of it
+-- what the code returned is this answer; out of memory says nothing of it
 abbrev pub Sees : {A B : Type 0} → (A → B) → Seen A → Answer B → Type 0
 Sees view (Got x) answer = answer ≡ found (view x)
 Sees view (Holes blocks) answer = answer ≡ holes blocks.items
@@ -31,7 +31,7 @@ HolesRise (Holes blocks) = IsRising blocks.items
 HolesRise (Fault fault) = ⊤
 HolesRise OutOfMemory = ⊤
 
--- what is found has a property
+-- what a call got, if it got something, has a property
 abbrev pub IfGot : {A : Type 0} → Seen A → (A → Type 0) → Type 0
 IfGot (Got x) Property = Property x
 IfGot (Holes blocks) Property = ⊤
@@ -42,7 +42,7 @@ IfGot OutOfMemory Property = ⊤
 abbrev pub TellsFault : {A B : Type 0} → VolumeFault → Seen A → Answer B → Type 0
 TellsFault fault seen answer = answer ≡ faulty fault → seen ≡ Fault fault
 
--- what a call needs of what was got
+-- what was got, if anything was, has a property that the next call needs
 abbrev pub ForGot : {A : Type 0} → Seen A → (A → Type 0) → Type 0
 ForGot (Got x) Property = Property x
 ForGot (Holes blocks) Property = ⊤

@@ -23,7 +23,7 @@ Bytes = List ℕ
 abbrev pub anchor_places : ℕ → List ℕ
 anchor_places last = 256 ∷ (last - 256) ∷ last ∷ []
 
--- bytes 16 to 31 of an anchor
+-- the main and the reserve extent that an anchor names in its bytes 16 to 31 (ECMA-167 3/10.2)
 abbrev pub extents_of : Bytes → AnchorExtents
 extents_of bytes = let extents = part bytes 16 16 in record { main = extent_ad_at extents 0; reserve = extent_ad_at extents 8 }
 
@@ -43,7 +43,7 @@ abbrev pub first_anchor : Blocks → List ℕ → Option Bytes
 first_anchor blocks [] = None
 first_anchor blocks (n ∷ ns) = or_else (anchor_here n (blocks n)) (first_anchor blocks ns)
 
--- with no anchor, the places that are not known have to be read
+-- the extents of an anchor; without one the places that are not known have to be read, and if all are known there is none
 abbrev pub anchor_or : Option Bytes → List ℕ → Answer AnchorExtents
 anchor_or (Some bytes) unread = found (extents_of bytes)
 anchor_or None [] = faulty NoAnchor
@@ -53,12 +53,12 @@ anchor_or None (n ∷ ns) = holes (n ∷ ns)
 unfoldable pub anchor : Blocks → ℕ → Answer AnchorExtents
 anchor blocks last = anchor_or (first_anchor blocks (anchor_places last)) (not_known blocks (anchor_places last))
 
--- both extents have one length of whole blocks, from 16 to 256 of them, and none passes the last block (this
--- project's own rule; UDF 2.2.3.1 asks 16 at least)
+-- whether an extent ends at the last block or before it
 abbrev pub fits_to : ℕ → ExtentAd → Bool
 fits_to last e = nat_le (e.block + e.length / 2048) (last + 1)
 
--- whether an anchor's extents are good: of one length, whole blocks, 16 to 256 of them, and within the volume
+-- whether both extents have one length of whole blocks, from 16 to 256 of them, and none passes the last block (this
+-- project's own rule; UDF 2.2.3.1 asks 16 at least)
 abbrev pub are_extents : ℕ → AnchorExtents → Bool
 are_extents last e = nat_eq e.main.length e.reserve.length && nat_eq (e.main.length % 2048) 0
     && is_within 32768 524288 e.main.length && fits_to last e.main && fits_to last e.reserve
@@ -68,7 +68,7 @@ pub record Descriptor : Type 0 where
   pub identifier : ℕ
   pub content : Bytes
 
--- What stands at a position: neither copy is known, or the content is no descriptor at its own block, or
+-- What is at a position: neither copy is known, or the first known copy is no sound descriptor at its block, or
 -- it is one.
 pub data Position : Type 0 where
   unread : List ℕ → Position
@@ -81,7 +81,7 @@ position_of copies None = unread (ascending copies)
 position_of copies (Some known) = cond (is_sound known.1 known.0)
     (descriptor (record { identifier = identifier known.1; content = drop 16 known.1 })) invalid
 
--- of the two copies the first that is known
+-- a position of the sequence, by the first of its two copies that is known
 unfoldable pub position : Blocks → ℕ → ℕ → Position
 position blocks main reserve = position_of (main ∷ reserve ∷ []) (first_known blocks (main ∷ reserve ∷ []))
 
@@ -90,7 +90,7 @@ abbrev pub positions : Blocks → AnchorExtents → List Position
 positions blocks e =
     map (λ i. position blocks (e.main.block + i) (e.reserve.block + i)) (range_with_len 0 (e.main.length / 2048))
 
--- 8 ends a sequence, and 3 would lead to another one
+-- whether the sequence goes on after a position: it ends at what is unread or invalid, at 8 (terminating) and at 3 (a pointer)
 abbrev pub goes_on : Position → Bool
 goes_on (unread copies) = false
 goes_on invalid = false

@@ -18,7 +18,7 @@ use Rattle.udfs_volume.specs.Layout.{Layout, layout_of}
 abbrev pub standard_anchor : Volume → ℕ → Option ℕ
 standard_anchor volume last = find (λ n. is_valid (volume n) n 2) (anchor_places last)
 
--- the main extent's blocks before the first that is no descriptor there, or that ends the sequence
+-- the main extent's blocks before the first that has no sound tag at its place, or that is a terminating descriptor (8)
 abbrev pub main_blocks : Volume → AnchorExtents → List ℕ
 main_blocks volume e = take_while (λ n. is_sound (volume n) n && not (nat_eq (identifier (volume n)) 8))
     (range_with_len e.main.block (e.main.length / 2048))

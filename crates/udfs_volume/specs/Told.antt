@@ -22,7 +22,7 @@ pub record IsLayoutOf (profile : Profile) (volume : Volume) (blocks : Blocks) (l
   pub standard : (n : ℕ) × (standard_anchor volume last ≡ Some n) × (standard_layout_by profile volume last n ≡ found got)
   pub known : (group : List ℕ) → IsSequenceGroup volume last group → (n : ℕ) × Includes group n × IsKnownAt blocks n
 
--- a lawful volume has no fault
+-- what a call returned is the volume's layout, or the listed blocks hold a group of which none is known; no fault is told, and memory may run out
 abbrev pub IsLayoutTold : Profile → Volume → Blocks → ℕ → Seen VolumeParts → Type 0
 IsLayoutTold profile volume blocks last (Got parts) = IsLayoutOf profile volume blocks last (parts_now parts)
 IsLayoutTold profile volume blocks last (Holes listed) =

@@ -1,6 +1,6 @@
 -- The directories on the way that code keeps.
---     frame_at view w            the directory at the end of a route, none of whose entries was gone into
---     IsFrameOf frame f          the directory, which need not be frames_with where no entry is left
+--     frame_at view w            the directory at the end of a route, none of whose entries was gone into yet
+--     IsFrameOf frame f          the directory, which need not be kept where no entry is left
 --     frames_with frames frame          these directories and one more, if there is one
 --     IsEntryTaken view old taken new     the next entry was gone into
 --     IsStepRefused view most old error   why it was not
@@ -21,11 +21,11 @@ pub record FrameFields : Type 0 where
   pub above : List Icb
   pub left : List DirEntry
 
--- a directory that is gone through: its path, the ICBs above it, and the entries that are left
+-- the directory at the end of a route, with all its entries left
 abbrev pub frame_at : View → Walked → FrameFields
 frame_at view w = record { path = w.path; above = w.above ++ icb_of w.address ∷ []; left = entries_below view w }
 
--- a directory without entries need not be frames_with
+-- the directory is kept as it is; one in which no entry is left need not be kept
 abbrev pub IsFrameOf : Option FrameFields → FrameFields → Type 0
 IsFrameOf None f = f.left ≡ []
 IsFrameOf (Some frames_with) f = frames_with ≡ f
@@ -35,7 +35,7 @@ abbrev pub frames_with : List FrameFields → Option FrameFields → List FrameF
 frames_with frames None = frames
 frames_with frames (Some frame) = frames ++ frame ∷ []
 
--- of the entries that are left the first
+-- the first entry that was left is taken: its node, not yet settled, and its directory, which need not be kept where it has no entry
 pub record IsNextTaken (view : View) (old new : FrameFields) (n : NodeFields) (below : Option FrameFields) : Type 0 where
   pub entry : DirEntry
   pub first : old.left ≡ entry ∷ new.left
@@ -49,7 +49,7 @@ abbrev pub IsEntryTaken : View → FrameFields → Option (NodeFields × Option 
 IsEntryTaken view old None new = old.left ≡ []
 IsEntryTaken view old (Some taken) new = IsNextTaken view old new taken.0 taken.1
 
--- an entry is left, and more than so many entries stand below the first
+-- an entry is left, and more than `most` entries are below the first
 pub record HasManyBelow (view : View) (most : ℕ) (f : FrameFields) : Type 0 where
   pub entry : DirEntry
   pub rest : List DirEntry

@@ -14,13 +14,13 @@ missing_of (Torn torn) = torn.missing
 missing_of Loop = []
 missing_of (Fault f) = []
 
--- the runs of bytes that it lacks, each by its offset and length
+-- the runs of bytes that a torn standing lacks, each by its offset and length
 abbrev pub holes_of : Standing → List (ℕ × ℕ)
 holes_of Whole = []
 holes_of (Torn torn) = torn.holes
 holes_of Loop = []
 holes_of (Fault f) = []
 
--- the blocks that the nodes lack, rising and each once
+-- the blocks that the nodes lack, ascending and each once
 abbrev pub reread : List NodeFields → List ℕ
 reread nodes = ascending (flat_map (λ n. missing_of n.standing) nodes)

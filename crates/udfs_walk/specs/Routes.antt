@@ -1,8 +1,8 @@
 -- Routes from the root: at each directory the place of an entry among its entries.
---     walked view root route              what stands at the end of a route, if it leads anywhere
---     IsBefore, IsInOrder                 the order of words: a route directly before those that it begins
+--     walked view root route              what is at the end of a route, if it leads anywhere
+--     IsBefore, IsInOrder                 lexicographic order: a route comes before those that it begins
 --     IsWalk view root walks              all routes in that order
---     HasMoreRoutes view root count       more than so many routes lead anywhere
+--     HasMoreRoutes view root count       more than `count` routes lead anywhere
 use Rattle.std.specs.Prelude.{◌≡◌, ℕ, ◌<◌, bit_and, Bool, false, List, [], ◌∷◌, ◌++◌, length, cond, nat_le, ◌==◌, ◌||◌, ◌⊎◌, Option, Some, None, slice_get, IsSome, ⊤}
 use Rattle.std.specs.List.{list_any, AllZip}
 use Rattle.udfs_lattice.specs.Volumes.{Includes}
@@ -35,11 +35,11 @@ inside path above e = record { address = e.icb; path = path ++ e.name ∷ []; ab
 abbrev pub below : Walked → DirEntry → Walked
 below w e = inside w.path (w.above ++ icb_of w.address ∷ []) e
 
--- the ICB is that of a directory on the way
+-- whether the ICB is that of a directory on the way
 abbrev pub is_loop : Walked → Bool
 is_loop w = list_any (is_icb (icb_of w.address)) w.above
 
--- 64 names lead here
+-- whether 64 names or more lead here
 abbrev pub is_deep : Walked → Bool
 is_deep w = nat_le 64 (length w.path)
 
@@ -48,7 +48,7 @@ abbrev pub entries_in : Body → List DirEntry
 entries_in (cells cs) = directory_entries cs
 entries_in (faulty_body fault) = []
 
--- the entries of a directory; what is none has none
+-- the entries of a directory; a node of another kind has none
 abbrev pub kind_entries : Kind → Body → List DirEntry
 kind_entries Directory b = entries_in b
 kind_entries _ b = []
@@ -71,31 +71,31 @@ abbrev pub walk_from : View → Walked → Route → Option Walked
 walk_from view w [] = Some w
 walk_from view w (j ∷ js) = elim (slice_get (entries_below view w) j) [ None ↦ None | Some e ↦ walk_from view (below w e) js ]
 
--- what stands at the end of a route
+-- what is at the end of a route
 unfoldable pub walked : View → LongAd → Route → Option Walked
 walked view root route = walk_from view (at_root root) route
 
--- the order of words
+-- the first route comes before the second in lexicographic order: it is a shorter beginning of it, or has the smaller number where they first differ
 abbrev pub IsBefore : Route → Route → Type 0
 IsBefore [] [] = ⊥
 IsBefore [] (j ∷ js) = ⊤
 IsBefore (i ∷ is) [] = ⊥
 IsBefore (i ∷ is) (j ∷ js) = (i < j) ⊎ ((i ≡ j) × IsBefore is js)
 
--- the routes stand in the order of words, a directory before what is below it
+-- the routes are in lexicographic order, each once, a directory before what is below it
 abbrev pub IsInOrder : List Route → Type 0
 IsInOrder [] = ⊤
 IsInOrder (r ∷ []) = ⊤
 IsInOrder (r ∷ s ∷ rest) = IsBefore r s × IsInOrder (s ∷ rest)
 
--- all routes in order, and what stands at the end of each
+-- all routes that lead anywhere, in order, and what is at the end of each
 pub record IsWalk (view : View) (root : LongAd) (walks : List Walked) : Type 0 where
   pub routes : List Route
   pub in_order : IsInOrder routes
   pub all : (route : Route) → IsSome (walked view root route) → Includes routes route
   pub each : AllZip (λ route w. walked view root route ≡ Some w) routes walks
 
--- more than so many routes lead anywhere
+-- more than `count` routes lead anywhere
 pub record HasMoreRoutes (view : View) (root : LongAd) (count : ℕ) : Type 0 where
   pub routes : List Route
   pub in_order : IsInOrder routes

@@ -42,7 +42,7 @@ torn_or_whole (n ∷ ns) runs = Torn (record { missing = n ∷ ns; holes = runs 
 unfoldable pub cells_standing : List Cell → Standing
 cells_standing cs = torn_or_whole (ascending (missing_blocks cs)) (runs_from 0 cs)
 
--- a directory with 64 names in its path has no entries
+-- where a directory is too deep and lists entries it has the fault Depth; else it has this standing
 abbrev pub depth_or : Bool → List DirEntry → Standing → Standing
 depth_or true (e ∷ es) standing = Fault Depth
 depth_or true [] standing = standing

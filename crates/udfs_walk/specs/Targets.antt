@@ -25,13 +25,13 @@ abbrev pub entry_unless : Option NodeFault → EntryFields → Target
 entry_unless None e = entry e
 entry_unless (Some fault) e = bad fault
 
--- what block n says at logical block b
+-- what is at logical block b, by what is known of block n that holds it
 abbrev pub target_in : ℕ → ℕ → State → Target
 target_in b n Unknown = unread n
 target_in b n (Known bytes) = entry_unless (entry_fault bytes b) (entry_of bytes)
 target_in b n Conflict = unread n
 
--- where the address has no fault, its block has a place
+-- what an address leads to, by its fault and what is known of its block
 abbrev pub target_at : Option NodeFault → ℕ → Option (ℕ × State) → Target
 target_at (Some fault) b block = bad fault
 target_at None b None = bad Range
@@ -45,7 +45,7 @@ target view a = target_at (address_fault view a) a.block (block_at view a.refere
 abbrev pub Icb : Type 0
 Icb = LbAddr
 
--- the one at a logical block of a partition
+-- the information control block at a logical block of a partition
 abbrev pub icb_at : ℕ → ℕ → Icb
 icb_at r b = record { block = b; reference = r }
 

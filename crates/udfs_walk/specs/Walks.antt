@@ -10,7 +10,7 @@ use Rattle.udfs_walk.specs.Nodes.{node}
 use Rattle.udfs_walk.specs.declared.answers.NodesError.{NodesError}
 use Rattle.udfs_walk.specs.declared.answers.NodesError.TheVariants.{TooManyPaths, OutOfMemory}
 
--- the nodes at the ends of all routes, in the order of words, of which there are at most 65,536
+-- the nodes at the ends of all routes, in lexicographic order of the routes, of which there are at most 65,536
 pub record AreNodes (view : View) (root : LongAd) (nodes : List NodeFields) : Type 0 where
   pub walks : List Walked
   pub walk : IsWalk view root walks
