@@ -2,8 +2,8 @@
 #   make            proves the program and all that it stands on, builds it, and says where it is
 #   make demo       the same, and then runs it on the readings of examples/
 #   make test       judges the whole repository as the gate does, and then tries what make hostile and make try try, the demonstration, and the
-#                   commands of ddrescue, ddrescuelog and udfsalvage and make install as README.md and docs/READING.md show them (not make, make demo, make test
-#                   and make deb, nor what needs a tool that is not installed); the last line is 'N passed, M failed'
+#                   commands that README.md and docs/READING.md show (not make test, nor what needs a tool that is not installed); the last line is
+#                   'N passed, M failed'
 #   make hostile    refuses each allocation of many runs in turn, makes each system call of the program's runs fail or ends it there,
 #                   and changes each byte of the sample discs' descriptors
 #   make try        tries the built program on this machine's own files and devices and on a terminal, and with GNU ddrescue where it is installed
