@@ -12,7 +12,7 @@ const MEBIBYTE: usize = 1 << 20;
 
 const ROUNDS: usize = 5;
 
-/// So many bytes that look like noise.
+/// `count` bytes that look like noise.
 fn made_up(alloc: Global, count: usize) -> Result<Vec<u8>, AllocError> {
     let mut bytes = Vec::new(alloc);
     let mut state = 1u32;

@@ -72,7 +72,7 @@ fn space(alloc: Global, table: &BlockTable) -> Option<Space> {
     }
 }
 
-/// The sum of the places of so many millions of blocks in no order.
+/// The sum of the places of `millions` million blocks in no order.
 fn sum_of(space: &Space, millions: u32) -> u64 {
     let mut sum = 0u64;
     let mut state = 1u32;

@@ -115,8 +115,8 @@ fn copy_new(
     Ok(copy)
 }
 
-/// Joins the second table into the first, and tells the time of it and that of the plain copying of the
-/// blocks that are new.
+/// Joins the second table into the first. Prints how long the plain copying of the new blocks took, and how
+/// long the join took. Returns how many blocks are known then.
 fn join(
     rt: &HostRuntime,
     mut first: BlockTable,
@@ -133,7 +133,7 @@ fn join(
     Ok(first.known())
 }
 
-/// Does one piece of work, and tells how many blocks are known then.
+/// Does one piece of work, prints how long all of it took, and returns how many blocks are known then.
 fn work(rt: &HostRuntime, word: &str, count: u32) -> anyhow::Result<u32> {
     let alloc = rt.alloc();
     let start = Instant::now(rt)?;

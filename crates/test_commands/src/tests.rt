@@ -37,7 +37,7 @@ use std::process::Abort;
 use std::test::Fail;
 use test_runs::faults;
 
-/// What is told of a script is nothing: all is as it says.
+/// `told` is empty: all is as a script says.
 fn assert_nothing(rt: &impl Abort, told: String) {
     assert_eq!(rt; told.as_str(), "");
 }

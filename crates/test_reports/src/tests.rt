@@ -7,7 +7,7 @@ mod reports;
 use std::fmt::{Debug, Display};
 use std::process::Abort;
 
-/// What is told is this text.
+/// The text `told` is the expected one.
 pub fn assert_text(rt: &impl Abort, told: String, expected: &str) {
     assert_eq!(rt; told.as_str(), expected);
 }

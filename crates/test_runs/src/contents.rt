@@ -37,7 +37,7 @@ fn longer(alloc: Global, records: &[Record]) -> Result<Vec<u8>, AllocError> {
     Ok(bytes)
 }
 
-/// So many bytes from the front of a reading file.
+/// The first N bytes of the reading file of the records R, for a line `N R`.
 fn front_of(alloc: Global, names: &[Name], line: &str) -> Result<Vec<u8>, AllocError> {
     let (length, rest) = first_word(line);
     let digits = bytes_of(alloc, names, length)?;
@@ -50,8 +50,8 @@ fn front_of(alloc: Global, names: &[Name], line: &str) -> Result<Vec<u8>, AllocE
 }
 
 /// The records of a list: `300:61` is block 300 of bytes 61 hex, `0..100:61` are the blocks from 0 up to 100, which is none of them,
-/// `0..100:own` the same, each of the byte that is left of its number by 200, and `600:apart` so many blocks, each seven behind the last,
-/// of the bytes that are left of their places by 251.
+/// `0..100:own` the same, each of the byte that is its number modulo 200, and `600:apart` 600 blocks from 0 on, each seven after the last,
+/// each of the byte that is its place in that row, counted from 0, modulo 251.
 fn records_of(alloc: Global, list: &str) -> Result<Vec<Record>, AllocError> {
     let mut records = Vec::new(alloc);
     for item in list.split(' ').filter(|item| !item.is_empty()) {

@@ -6,7 +6,7 @@ use crate::texts::{first_word, number_of};
 use crate::trial::Trial;
 use std::alloc::AllocError;
 
-/// Puts what the line says, and answers whether it is a line that says what there is.
+/// Sets up what the line says, and returns whether it is a line that sets something up.
 pub fn give(trial: &mut Trial, word: &str, rest: &str) -> Result<bool, AllocError> {
     Ok(
         give_file(trial, word, rest)?
@@ -51,8 +51,8 @@ fn give_disc(trial: &mut Trial, word: &str, rest: &str) -> Result<bool, AllocErr
     Ok(true)
 }
 
-/// Devices that fail after so many bytes, or by taking none then, or that move so many at most; calls that change files and fail, from one
-/// up to another; a zone of the clock; and a path whose time can not be set.
+/// Devices that fail after a number of bytes, or take none then, or that move at most a number of bytes a call; calls that change files
+/// and fail, from the first to the last of them; a zone of the clock; and a path whose time can not be set.
 fn give_device(trial: &mut Trial, word: &str, rest: &str) -> Result<bool, AllocError> {
     match word {
         "zone" => return give_zone(trial, rest),

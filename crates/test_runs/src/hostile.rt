@@ -18,7 +18,7 @@ pub fn zeros(alloc: Global) -> Result<Disc, AllocError> {
     Ok(disc)
 }
 
-/// Writes the continuation of this number, with so many extents.
+/// Writes the continuation with the number `k`, with `count` extents that are not recorded.
 fn write_continuation(disc: &mut Disc, k: u32, count: u32) -> Result<(), AllocError> {
     let block = 301u32.wrapping_add(k);
     disc.write_tag(block, 0, 258, block.wrapping_sub(272))?;
@@ -27,7 +27,7 @@ fn write_continuation(disc: &mut Disc, k: u32, count: u32) -> Result<(), AllocEr
     write_extents(disc, block, 24, count, k.wrapping_add(30))
 }
 
-/// Writes so many extents that are not recorded, and then the continuation at a logical block.
+/// Writes `count` extents that are not recorded, and then the address of the continuation at the logical block `next`.
 fn write_extents(
     disc: &mut Disc,
     n: u32,
@@ -44,8 +44,8 @@ fn write_extents(
     disc.write_at(n, place.wrapping_add(4), &next.to_le_bytes())
 }
 
-/// Directories of two names, each of which leads to the next one: 2^16 - 1 nodes in 16 of them. So many more names of the
-/// root, 0 to 2, lead to a file.
+/// Directories of two names, each of which leads to the next one: 2^16 - 1 nodes in 16 of them. The root has `more` names
+/// besides, 0 to 2, which lead to a file.
 pub fn doubling(alloc: Global, more: usize) -> Result<Disc, AllocError> {
     let mut disc = Disc::type1(alloc)?;
     disc.write_tag(322, 0, 261, 50)?;

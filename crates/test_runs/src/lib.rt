@@ -1,5 +1,5 @@
 // SPDX-License-Identifier: MIT OR Apache-2.0
-//! Runs of the program over files in memory, whose devices can be slow or fail, as scripts tell them. For tests alone.
+//! Runs of the program over files in memory, whose devices can be slow or fail, as scripts say. For tests alone.
 #![tactic(auto)]
 
 mod contents;

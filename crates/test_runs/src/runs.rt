@@ -52,7 +52,7 @@ pub fn store_table(
     memory.store("disc.tab", file.into_inner().as_slice())
 }
 
-/// What a run answered and printed.
+/// What a run returned and printed.
 #[derive(Debug, Drop)]
 pub struct Outcome {
     pub status: u8,
@@ -156,7 +156,7 @@ pub fn store_passes(alloc: Global, memory: &mut Memory) -> Result<(), AllocError
     memory.store("c.rd", reading(alloc, &[(300, 0x63)])?.as_slice())
 }
 
-/// What is told where the words of the command line could not be had, and the status.
+/// The status, and what is printed, where the arguments were not available: memory ran out, or one of them is not text.
 pub fn words_refused(alloc: Global, wants_memory: bool) -> Result<(u8, String), AllocError> {
     let mut err = Writer::new(Vec::new(alloc));
     let status = refuse_words(wants_memory, &mut err);

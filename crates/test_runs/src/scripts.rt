@@ -54,7 +54,7 @@ fn push_expanded(all: &mut String, script: &str, paragraph: &str) -> Result<(), 
     all.push_str("\n")
 }
 
-/// The lines of a list. Where there is none of the name, it is a line that is told.
+/// The lines of the list with this name. Where there is none, it is a line that is reported as not so.
 fn list_of<'a>(script: &'a str, name: &str) -> &'a str {
     for paragraph in script.trim().split("\n\n") {
         let (first, lines) = match paragraph.split_once('\n') {
@@ -68,7 +68,7 @@ fn list_of<'a>(script: &'a str, name: &str) -> &'a str {
     "no such list"
 }
 
-/// Tells this, where it is so.
+/// Adds these texts to what is reported, where `is_so`.
 fn tell_if(told: &mut String, is_so: bool, head: &str, text: &str) -> Result<(), AllocError> {
     if is_so {
         told.push_str(head)?;
@@ -150,7 +150,7 @@ fn first_line(text: &str) -> &str {
     }
 }
 
-/// Does what a line says, or tells that it is not so, or not understood, with the number of the case and the outcome of the last run.
+/// Does what a line says, or reports that it is not so, or not understood, with the number of the case and the outcome of the last run.
 fn try_line(
     alloc: Global,
     told: &mut String,
@@ -169,8 +169,8 @@ fn try_line(
     told.push_str(outcome.as_str())
 }
 
-/// Does what a line says, or answers whether it is so. `$ WORDS` runs the words; `keep` keeps the status and what was printed on standard output,
-/// and `as-kept` says that they are those. `any LINES | LINES` says that all lines of one choice are so, which ` & ` parts.
+/// Does what a line says, or returns whether it is so. `$ WORDS` runs the program with these arguments; `keep` keeps the status and standard
+/// output, and `as-kept` says that they are those. `any LINES | LINES` says that all lines of one choice are so, which ` & ` parts.
 fn is_met(trial: &mut Trial, kept: &mut String, line: &str) -> Result<bool, AllocError> {
     let (word, rest) = first_word(line);
     match word {

@@ -70,7 +70,7 @@ fn push_repeated(
     Ok(())
 }
 
-/// Adds so many bytes that are all the same.
+/// Adds `count` bytes that are all `byte`.
 fn push_same(bytes: &mut Vec<u8>, byte: u8, count: usize) -> Result<(), AllocError> {
     let many = [byte; 2048];
     for _ in 0..count / 2048 {

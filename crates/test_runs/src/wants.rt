@@ -1,5 +1,5 @@
-//! Runs of which one allocation may be refused. Each answers whether it is done, or what it lacks is told; the files in memory and what is
-//! made ready want memory too, and where that is refused there is no answer.
+//! Runs of which one allocation may be refused. Each returns whether the run did its work, or else reported what it lacks. The files in
+//! memory and the preparation need memory too: where that is refused, the call returns an error.
 
 use crate::names::names_of;
 use crate::runs::{Outcome, ran, reading, store_table, table};
@@ -40,7 +40,7 @@ fn with_table(alloc: Global, table: Result<BlockTable, TableError>) -> Result<Me
     Ok(memory)
 }
 
-/// Runs the words, and gives no answer where the files in memory wanted memory.
+/// Runs the program with the arguments, and returns an error where the files in memory ran out of memory.
 fn ran_with_memory(alloc: Global, memory: &mut Memory, words: &str) -> Result<Outcome, AllocError> {
     let ran = ran(alloc, memory, words)?;
     if memory.wanted_memory() {
@@ -49,7 +49,7 @@ fn ran_with_memory(alloc: Global, memory: &mut Memory, words: &str) -> Result<Ou
     Ok(ran)
 }
 
-/// Whether the status is this one, or a refusal for want of memory is told as what it is.
+/// Whether standard error is empty and `is_so` holds, or the status is 2 and standard error says that memory ran out or that a folder was not made.
 fn is_told(ran: &Outcome, is_so: bool) -> bool {
     match ran.err.as_str() {
         "" => is_so,
@@ -59,12 +59,12 @@ fn is_told(ran: &Outcome, is_so: bool) -> bool {
     }
 }
 
-/// Whether a file that is told so has these bytes.
+/// Whether the file at `path` has these bytes, if standard output has the line that reports it.
 fn has_where_told(ran: &Outcome, line: &str, memory: &Memory, path: &str, bytes: &[u8]) -> bool {
     !ran.out.as_str().contains(line) || memory.has(path, bytes)
 }
 
-/// A merge of a reading of two records over an old output. It is done, or refused by the line of want of memory, and the old output stays.
+/// A merge of a reading of two records over an old output. It is done, or fails with the line that memory ran out, and the old output stays.
 pub fn merge_wants_memory(alloc: Global) -> Result<bool, AllocError> {
     let whole = table(alloc, &[(300, 0x61), (301, 0x62)])?;
     let mut memory = Memory::new(alloc);
@@ -82,7 +82,7 @@ pub fn merge_wants_memory(alloc: Global) -> Result<bool, AllocError> {
 /// An old page.
 const OLD_PAGE: &[u8] = b"<!DOCTYPE html>\n<!-- a page of udfsalvage -->\nold";
 
-/// The page of the volume with one map, of which a file is torn, over an old page. It is put, or refused by the line of want of memory, and the old page stays.
+/// The page of the volume with one map and a torn file, over an old one. It is put, or the run fails with the line that memory ran out, and the old one stays.
 pub fn page_wants_memory(alloc: Global) -> Result<bool, AllocError> {
     let table = table_but(alloc, &[278]);
     let mut memory = with_table(alloc, table)?;
@@ -96,7 +96,7 @@ pub fn page_wants_memory(alloc: Global) -> Result<bool, AllocError> {
     Ok(ran.is_refused("udfsalvage: out of memory\n") && is_old)
 }
 
-/// The files of the volume with one map. Each file that is told as written has its bytes.
+/// The files of the volume with one map. Each file that is reported as written has its bytes.
 pub fn files_want_memory(alloc: Global) -> Result<bool, AllocError> {
     let a = a_bytes(alloc)?;
     let table = table_but(alloc, &[]);
@@ -108,7 +108,7 @@ pub fn files_want_memory(alloc: Global) -> Result<bool, AllocError> {
     Ok(has_a && has_b && is_told(&ran, ran.status < 2))
 }
 
-/// The files to which no name leads. Each file that is told as written has its bytes.
+/// The files to which no name leads. Each file that is reported as written has its bytes.
 pub fn unnamed_want_memory(alloc: Global) -> Result<bool, AllocError> {
     let a = a_bytes(alloc)?;
     let table = table_but(alloc, &[274]);
@@ -133,7 +133,7 @@ pub fn times_want_memory(alloc: Global, time: Option<u64>) -> Result<bool, Alloc
     Ok(is_told(&ran, ran.status == if all { 0 } else { 1 }))
 }
 
-/// A file whose name is too long: 84 times U+4E00, which has 3 bytes, and its number. A file that is told as written has its bytes.
+/// A file whose name is too long: 84 times U+4E00, which has 3 bytes, and its number. A file that is reported as written has its bytes.
 pub fn short_names_want_memory(alloc: Global) -> Result<bool, AllocError> {
     let a = a_bytes(alloc)?;
     let mut memory = with_table(alloc, one_long_name(alloc))?;

@@ -10,12 +10,12 @@ mod walks;
 use std::fmt::{Debug, Display};
 use std::process::Abort;
 
-/// What is told is this text.
+/// The text `told` is the expected one.
 pub fn assert_text(rt: &impl Abort, told: String, expected: &str) {
     assert_eq!(rt; told.as_str(), expected);
 }
 
-/// What is told in this case is this text.
+/// The text `told` in this case is the expected one.
 pub fn assert_text_in<C: Debug + Drop>(rt: &impl Abort, told: String, expected: &str, case: C) {
     assert_eq!(rt; told.as_str(), expected, "{case:?}");
 }

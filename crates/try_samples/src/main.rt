@@ -2,7 +2,7 @@
 //! Runs over the sample discs, for `tools/refuse-memory`, which refuses one of a run's allocations, and for
 //! `tools/mutate`: `try_samples RUN DISC [UNREAD]`, where UNREAD is a block that no pass has read.
 //!
-//! Standard output has what the run tells, and the status says how it ended (`Ending`).
+//! Standard output has what the run prints, and the status says how it ended (`Ending`).
 #![tactic(auto)]
 
 mod discs;
@@ -22,13 +22,13 @@ use udfs_reading::{Sink, Writer};
 /// How a run ended.
 #[derive(Clone, Copy, Debug, PartialEq, Eq)]
 pub enum Ending {
-    /// It answered.
+    /// It gave a result.
     Done = 0,
-    /// What it answered is wrong.
+    /// Its result is wrong, it failed in another way, or there is no such run.
     Wrong = 1,
-    /// It answered want of memory.
+    /// It reported that it was out of memory.
     Refused = 3,
-    /// Want of memory came before it began.
+    /// It did not begin: memory ran out before, or the arguments could not be read.
     Unready = 4,
 }
 

@@ -33,7 +33,7 @@ struct Counts {
     faults: u32,
     /// Tables without a report, for a named reason.
     refused: u32,
-    /// Answers that are none of these.
+    /// Results that are none of these.
     wrong: u32,
 }
 

@@ -19,7 +19,7 @@ fn of_run(error: RunError) -> Ending {
     }
 }
 
-/// How a call that answers no report ended.
+/// How a call that returns no report ended.
 fn of_salvage(error: SalvageError) -> Ending {
     match error {
         SalvageError::OutOfMemory => Ending::Refused,

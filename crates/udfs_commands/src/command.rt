@@ -54,9 +54,9 @@ use udfs_words::words::{QUIET, VERBOSE, given_in, grammar};
 const TWO_STREAMS: &[u8] =
     b"error: the argument '-' cannot be used multiple times\n\nFor more information, try '--help'.\n";
 
-/// Runs the command that the words ask for, the program's name first, and answers its exit status: 0 where it is done and
-/// nothing is lacking, 1 where a volume is not whole, 2 where the command is refused. A refusal is one line on `err`, and a fault of the words is clap's text there. Help and the
-/// version go to `out`.
+/// Runs the command that the arguments ask for, the program's name first, and returns its exit status: 0 where it is done and nothing is lacking, 1 where it is
+/// done and something is lacking, as where a volume is not whole, 2 where it fails. A failure is a line on `err`, with at most one more that explains it, and a
+/// fault of the arguments is clap's text there. Help and the version go to `out`.
 pub fn run<F: Files, O: Sink, E: Sink>(
     alloc: Global,
     words: &[String],
@@ -295,7 +295,7 @@ fn obey<F: Files, O: Sink>(
     }
 }
 
-/// Says how much is to be told on standard error.
+/// Sets how much is said on standard error, by `--verbose` and `--quiet`.
 fn set_tone<F: Files>(words: &ArgMatches<'_>, files: &F) {
     if words.get_flag(VERBOSE) {
         files.speak();

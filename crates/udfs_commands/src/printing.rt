@@ -6,7 +6,7 @@ ghost use Rattle.udfs_reading.specs.Device.{CountsFault};
 
 use udfs_reading::{DeviceFault, Sink};
 
-/// Writes until all is written or a write fails, and answers how many bytes the sink took.
+/// Writes until all is written or a write fails, and returns how many bytes the sink took, and the fault if there was one.
 pub fn send<W: Sink>(bytes: &[u8], sink: &mut W) -> (usize, Result<(), DeviceFault>)
     ensures bound { result.0 ≤ length bytes.now }
     ensures all { OnOk result.1 (result.0 ≡ length bytes.now) }

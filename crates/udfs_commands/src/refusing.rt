@@ -15,7 +15,7 @@ use udfs_reading::{DeviceFault, Sink};
 use udfs_words::last::EndFault;
 use udfs_words::words::{QUIET, VERBOSE, given_in, grammar};
 
-/// The line for want of memory, which itself takes none.
+/// The line that says that memory ran out. Itself it takes no memory.
 const NO_MEMORY: &[u8] = b"udfsalvage: out of memory\n";
 
 /// How clap lists that a list of blocks is missing.
@@ -57,7 +57,7 @@ pub fn explain<F: Files, E: Sink>(
     }
 }
 
-/// Says that the words of the command line could not be had, and answers the status.
+/// Says why the command-line arguments could not be had: memory ran out where `wants_memory`, else one is not text. It returns the exit status, 2.
 pub fn refuse_words<E: Sink>(wants_memory: bool, err: &mut E) -> u8
     ensures { result ≡ 2 }
 {
@@ -84,7 +84,7 @@ pub fn show<O: Sink, E: Sink>(alloc: Global, error: &Error, out: &mut O, err: &m
     }
 }
 
-/// Shows clap's text of a fault of the words, and answers the status.
+/// Shows clap's text of a fault of the arguments, and returns the exit status, 2.
 fn show_fault<E: Sink>(alloc: Global, error: &Error, err: &mut E) -> u8
     ensures { result ≡ 2 }
 {
@@ -110,7 +110,7 @@ fn fault_text(alloc: Global, error: &Error) -> Result<String, AllocError> {
     }
 }
 
-/// Says, as clap does where nothing could tell it, that the last block has to be given, and answers the status.
+/// Says, as clap does where neither a size nor an image with its mapfile is given, that the last block has to be given, and returns the exit status, 2.
 pub fn ask_for_last<E: Sink>(alloc: Global, line: &[String], err: &mut E) -> u8
     ensures { result ≡ 2 }
 {
@@ -127,7 +127,7 @@ pub fn ask_for_last<E: Sink>(alloc: Global, line: &[String], err: &mut E) -> u8
     }
 }
 
-/// Says in clap's form what is wrong with the words that say where the disc ends, and answers the status.
+/// Says in clap's form what is wrong with the arguments that say where the disc ends, and returns the exit status, 2.
 pub fn tell<E: Sink>(alloc: Global, fault: EndFault<'_>, err: &mut E) -> u8
     ensures { result ≡ 2 }
 {
@@ -138,7 +138,7 @@ pub fn tell<E: Sink>(alloc: Global, fault: EndFault<'_>, err: &mut E) -> u8
     2
 }
 
-/// Says in clap's form that these rules are none, and answers the status.
+/// Says in clap's form that `name` names no rules, and returns the exit status, 2.
 pub fn tell_profile<E: Sink>(alloc: Global, name: &str, err: &mut E) -> u8
     ensures { result ≡ 2 }
 {
@@ -151,7 +151,7 @@ pub fn tell_profile<E: Sink>(alloc: Global, name: &str, err: &mut E) -> u8
     2
 }
 
-/// Prints a refusal's line, and answers the status. Where not even the line can be had, it is that of want of memory.
+/// Prints a refusal's line, and returns the exit status, 2. Where memory runs out for the line, it prints [`NO_MEMORY`] instead.
 pub fn refuse<E: Sink>(alloc: Global, refusal: &Refusal, err: &mut E) -> u8
     ensures { result ≡ 2 }
 {

@@ -4,8 +4,8 @@
 --     AreJudgedFor found reason paths sources     the same of sources of any kind, by the reason that each was refused for
 --     BlamesSource                      one of these sources could not be read, and what is said of it
 --     BlamesInput                       the same of the sources of some paths
---     InputsRefused                     the inputs of some paths were not joined: for want of memory, or because one of them is shut, or could not be read
---     EndRefused                        no last block is known: the words tell none, and it has to be given, or the inputs are to blame
+--     InputsRefused                     the inputs of some paths were not joined: memory ran out, or one of them is shut, or could not be read
+--     EndRefused                        no last block is known: the arguments give none, and it has to be given, or the inputs are to blame
 --     first_refused, refusal_by         how it is found which reason a pair has
 use Rattle.std.specs.Prelude.{◌≡◌, ◌⊎◌, ⊤, ℕ, ◌+◌, ◌-◌, List, [], ◌∷◌, Option, Some, None, IfSome, length, slice_get, alloc_error, nat_eq, if◌then◌else◌, false, is_some, codes}
 use Rattle.clap.specs.Matches.{matched_of}
@@ -38,7 +38,7 @@ pub record IsShut (shut : List ℕ → Type 0) (paths : List InputPath) (refusal
   pub may : MayBeShut shut path
   pub named : refusal ≡ Open (place + 1)
 
--- why an image with its mapfile has no reading, where what both paths lead to is told
+-- why an image with its mapfile has no reading, where what both paths lead to is known
 pub record IsRefusedPair (found : List ℕ → Option (Option (List ℕ))) (image map : List ℕ) (fault : PairFault) : Type 0 where
   pub image_has : Option (List ℕ)
   pub map_has : Option (List ℕ)

@@ -22,7 +22,7 @@ begins [] bytes = true
 begins (k ∷ kind) [] = false
 begins (k ∷ kind) (b ∷ bytes) = if nat_eq k b then begins kind bytes else false
 
--- what is at a path begins so, where that is told
+-- what is at a path is a file that begins so, where that is known
 abbrev pub MayBegin : List ℕ → Option (Option (List ℕ)) → Type 0
 MayBegin kind held = IfSome held (λ file. (bytes : List ℕ) × (file ≡ Some bytes) × (begins kind bytes ≡ true))
 

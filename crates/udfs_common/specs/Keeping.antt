@@ -17,7 +17,7 @@ use Rattle.udfs_words.specs.declared.input_path.InputPath.{InputPath}
 use Rattle.udfs_words.specs.declared.forms.Version.{Version}
 use Rattle.udfs_reading.specs.Device.{Stream}
 
--- the source at each place has what the path at that place leads to, where that is told
+-- the source at each place has what the path at that place leads to, where that is known
 abbrev pub Opens : {R : Type 0} → (List ℕ → Option (Option (List ℕ))) → (R → Option (List ℕ)) → List InputPath → List R → Type 0
 Opens {R} found remaining paths sources = (k : ℕ) (path : InputPath) (source : R) → slice_get paths k ≡ Some path → slice_get sources k ≡ Some source → IsPathOpened found path (remaining source)
 

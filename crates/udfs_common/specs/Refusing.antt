@@ -10,7 +10,7 @@ use Rattle.udfs_common.specs.declared.refusal.Refusal.TheVariants.{Input, Mapfil
 use Rattle.udfs_common.specs.declared.sources.AnySource.{AnySource}
 use Rattle.udfs_common.specs.declared.sources.AnySource.TheVariants.{File, Paired, Refused}
 
--- by the fault: want of memory is said as such, and any other with the input and the record
+-- by the fault: out of memory is reported as such, and any other with the input and the record
 abbrev refusal_by : InputError → ReadingFault → Refusal
 refusal_by error OutOfMemory = Memory alloc_error
 refusal_by error fault = Input error.input error.error

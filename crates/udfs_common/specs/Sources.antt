@@ -21,7 +21,7 @@ faults_in file pair (File source) = file source
 faults_in file pair (Paired source) = pair source
 faults_in file pair (Refused fault count) = count
 
--- the reading of the blocks of an image that its mapfile makes known, where what both paths lead to is told; a pair that has none is refused
+-- the reading of the blocks of an image that its mapfile makes known, where both files are known; or nothing: a pair that has none is refused
 pub record IsOpenedPair (found : List ℕ → Option (Option (List ℕ))) (image map : List ℕ) (left : Option (List ℕ)) : Type 0 where
   pub image_has : Option (List ℕ)
   pub map_has : Option (List ℕ)
@@ -34,6 +34,6 @@ abbrev pub HasItsPath : (List ℕ → Option (Option (List ℕ))) → InputPath 
 HasItsPath found (path.File p) left = IfSome (found p.now) (λ held. left ≡ held)
 HasItsPath found (path.Pair image map) left = IsOpenedPair found image.now map.now left
 
--- what is left is what the path leads to, where that is told
+-- what is left is what the path leads to, where that is known
 pub record IsPathOpened (found : List ℕ → Option (Option (List ℕ))) (path : InputPath) (left : Option (List ℕ)) : Type 0 where
   pub has : HasItsPath found path left

@@ -1,4 +1,4 @@
-//! Where a disc ends: by the words, or by the mapfiles of all inputs.
+//! Where a disc ends: by the arguments, or by the mapfiles of all inputs.
 
 ghost use Rattle.std.specs.Prelude.{◌≡◌, ◌≢◌, ◌⊎◌, ◌%◌, true, [], IfOk, IfErr, IfSome};
 ghost use Rattle.clap.specs.Matches.{found_of};
@@ -109,12 +109,12 @@ fn no_end<F: Files>(alloc: Global, inputs: &[InputPath<'_>], files: &F) -> Refus
     Refusal::NoLast
 }
 
-/// The last block: the one among the words, or that of the size among them, or else the one with which the mapfiles of all inputs end.
+/// The last block: the one among the arguments, or that of the size among them, or else the one with which the mapfiles of all inputs end.
 ///
 /// # Errors
 ///
-/// `NoLast` where neither is among the words, and the inputs are not all images whose mapfiles end at one and the same multiple of 2048 bytes; what is
-/// wrong with the images comes first. `Memory` for want of it.
+/// `NoLast` where neither is among the arguments, and the inputs are not all images whose mapfiles end at one and the same multiple of 2048 bytes; what is
+/// wrong with the images comes first. `Memory` where memory ran out.
 pub fn asked_end<F: Files>(
     alloc: Global,
     words: &ArgMatches<'_>,
@@ -123,7 +123,7 @@ pub fn asked_end<F: Files>(
 ) -> Result<u32, Refusal>
     ensures last { IfOk result (λ last. IsLast (λ path. F.holds files.now (F.real files.now path)) inputs.now (found_of words.now) last) }
     ensures told { IfErr result (λ refusal. (refusal ≢ Refusal.Output) × (refusal ≢ Refusal.Unkept) × (refusal ≢ Refusal.Spared)) }
-    // Only where the words tell no end of the disc: the last block has to be given, or the inputs are to blame.
+    // Only where the arguments give no end of the disc: the last block has to be given, or the inputs are to blame, or memory ran out.
     ensures blamed { IfErr result (EndRefused (λ path. F.holds files.now (F.real files.now path)) (F.shut files.now) (⟦<AnySource<F::Input, F::Image> as Source>⟧.remaining) (⟦<AnySource<F::Input, F::Image> as Source>⟧.faults) inputs.now (found_of words.now)) }
 {
     if words.contains_id(LAST) || words.contains_id(SIZE) {

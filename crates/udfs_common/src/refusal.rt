@@ -11,7 +11,7 @@ use udfs_rescue::LineFault;
 /// Why a command was refused: its text is the line on standard error, without the program's name.
 #[derive(Debug, Drop, Error)]
 pub enum Refusal {
-    /// An input, counted from 1, is faulty. Never for want of memory.
+    /// An input, counted from 1, is faulty. Never because memory ran out.
     #[error("input {}: fault {} {:?} at record {}", .0, .1.fault as u8, .1.fault, .1.number)]
     Input(usize, ReadingError),
 
@@ -44,7 +44,7 @@ pub enum Refusal {
     #[error("cannot write output\n  the new file is in its place, whole, but a power cut may bring the old one back")]
     Unkept,
 
-    /// The last block was not given, and the inputs do not tell it. What is said of it is clap's text of a word that is missing.
+    /// The last block was not given, and the inputs do not give it. The message is clap's, of an argument that is missing.
     #[error("the last block was not given")]
     NoLast,
 

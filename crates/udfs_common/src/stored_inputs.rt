@@ -87,8 +87,8 @@ fn open_one_stored<F: Files>(
     }
 }
 
-/// Opens all inputs in order, if each of them is a regular file by its own path, or an image and a mapfile that are, or says which is the first that
-/// cannot be opened. It answers `None` where one is a pipe or a device. An image is opened before its mapfile, which is read at once.
+/// Opens all inputs in order, if each of them is a regular file by its own path, or an image and a mapfile that are, or names the first one that
+/// cannot be opened. It returns `None` where one is a pipe or a device. An image is opened before its mapfile, which is read at once.
 pub fn open_all_stored<F: Files>(
     alloc: Global,
     paths: &[InputPath<'_>],

@@ -1,14 +1,14 @@
--- What `extract` makes and tells, as its words ask. `files` is what is known of the files, and `output` what their outputs have taken.
+-- What `extract` makes and reports, as its arguments ask. `files` is what is known of the files, and `output` what their outputs have taken.
 --     held_at files at path     what the path leads to, at some moment
---     OfAsked                   this holds of the inputs, by what the words ask for
+--     OfAsked                   this holds of the inputs, by what the arguments ask for
 --     IsNodePut                 what the fate of a node says of its file
---     ExtractsNodes             the nodes that are asked for are made and told, and no other
+--     ExtractsNodes             the nodes that are asked for are made and reported, and any other is passed over
 --     ListsNodes                the same, and then their manifest is put
---     MakesLost                 the lost files are made and told
---     ExtractsAllAsked          all nodes of the inputs' volume are made and told
---     ExtractsAsked             those that are asked for, and no other
+--     MakesLost                 the lost files are made and reported
+--     ExtractsAllAsked          all nodes of the inputs' volume are made and reported
+--     ExtractsAsked             those that are asked for are, and any other is passed over
 --     ListsAsked                the same, and then their manifest is put
---     AddsAsked                 those that are asked for are made and told, and then the lost files
+--     AddsAsked                 those that are asked for are made and reported, and then the lost files
 --     ListsAddsAsked            the same, and the manifest is put before the lost files
 --     HasFreeManifest           the manifest takes the place of nothing but a manifest
 --     HasNewFolder              the folder for lost files is not there
@@ -35,7 +35,7 @@ use Rattle.udfs_extraction.specs.declared.extract.Fate.{Fate}
 abbrev pub held_at : {F I M S W : Type 0} → Ghosts F I M S W → F → List ℕ → Option (Option (List ℕ))
 held_at files at path = files.holds at (files.real at path)
 
--- this holds of the inputs, by the last block, the profile, the fill and the names that the words ask for
+-- this holds of the inputs, by the last block, the profile, the fill and the names that the arguments ask for
 pub record OfAsked {R : Type 0} (found : List ℕ → Option (Option (List ℕ))) (remaining : R → Option (List ℕ)) (words : Found) (Holds : Fill → Bool → ℕ → Profile → Table → Type 0) : Type 0 where
   pub fill : Fill
   pub short : Bool
@@ -52,15 +52,15 @@ pub record OfAsked {R : Type 0} (found : List ℕ → Option (Option (List ℕ))
 module _ {F I M S W : Type 0} (files : Ghosts F I M S W) (output : W → Stream) (words : Found) where
   -- ---- by the last block, the profile, the fill and the names
 
-  -- what the fate of a node says of its file at some moment, in the folder that the words name
+  -- what the fate of a node says of its file at some moment, in the folder that the arguments name
   abbrev pub IsNodePut : Fill → Bool → F → Table → Report → ℕ → NodeFields → Fate → Type 0
   IsNodePut fill short at table report = IsPut files.tells (Fails files.faults ⊎ SinkFails output) table report fill short (folder_text words) (files.holds at) (files.moment at) (files.left_since at)
 
-  -- the nodes that the words ask for are made and told, and no other
+  -- the nodes that the arguments ask for are made and reported, and any other is passed over
   abbrev pub ExtractsNodes : Fill → Bool → ℕ → Profile → F → F → Stream → Stream → Bool → Table → Type 0
   ExtractsNodes fill short last profile old new before after good = ExtractsChosen (only_texts words) fill short (IsNodePut fill short new) files.holds (folder_text words) old new profile last before after good
 
-  -- at some moment they are, and then the manifest of these files is put where the words say
+  -- at some moment they are, and then the manifest of these files is put where the arguments say
   abbrev pub ListsNodes : Fill → Bool → ℕ → Profile → F → F → Stream → Stream → Bool → Table → Type 0
   ListsNodes fill short last profile old new before after good =
       ListsChosen (only_texts words) fill short (IsNodePut fill short)
@@ -68,7 +68,7 @@ module _ {F I M S W : Type 0} (files : Ghosts F I M S W) (output : W → Stream)
       (λ at text. files.tells → IsPutLast files.holds files.may_leave files.moment files.left_since (files.real old (manifest_text words)) at new text)
       files.holds (folder_text words) old new profile last before after good
 
-  -- the lost files are made and told, and nothing outside of their folder changes
+  -- the lost files are made and reported, and nothing outside of their folder changes
   abbrev pub MakesLost : ℕ → Profile → F → F → Stream → Stream → Bool → Table → Type 0
   MakesLost last profile mid new between after good =
       WritesLost (λ table report two. IsLostPut files.tells (Fails files.faults ⊎ SinkFails output) table report (lost_text words) two (files.holds new) (files.moment new) (files.left_since new))
@@ -77,12 +77,12 @@ module _ {F I M S W : Type 0} (files : Ghosts F I M S W) (output : W → Stream)
   -- ---- of the inputs
 
   module _ {R O : Type 0} (remaining : R → Option (List ℕ)) (stream : O → Stream) (old new : F) (before after : O) (good : Bool) where
-    -- all nodes are made and told
+    -- all nodes are made and reported
     abbrev pub ExtractsAllAsked : Type 0
     ExtractsAllAsked =
         OfAsked (held_at files old) remaining words (λ fill short last profile. ExtractsAll short (IsNodePut fill short new) old new profile last (stream before) (stream after) good)
 
-    -- those that the words ask for are, and no other
+    -- those that the arguments ask for are, and any other is passed over
     abbrev pub ExtractsAsked : Type 0
     ExtractsAsked =
         OfAsked (held_at files old) remaining words (λ fill short last profile. ExtractsNodes fill short last profile old new (stream before) (stream after) good)
@@ -92,7 +92,7 @@ module _ {F I M S W : Type 0} (files : Ghosts F I M S W) (output : W → Stream)
     ListsAsked =
         OfAsked (held_at files old) remaining words (λ fill short last profile. ListsNodes fill short last profile old new (stream before) (stream after) good)
 
-    -- those that the words ask for are made and told, and then the lost files
+    -- those that the arguments ask for are made and reported, and then the lost files
     abbrev pub AddsAsked : Type 0
     AddsAsked =
         OfAsked (held_at files old) remaining words (λ fill short last profile. AddsLost
@@ -108,10 +108,10 @@ module _ {F I M S W : Type 0} (files : Ghosts F I M S W) (output : W → Stream)
 
 -- ---- where they go
 
--- where files tell what they hold: the manifest takes the place of no file but a manifest, and never that of an input, nor of a file that is written
+-- where it is known what files hold: the manifest takes the place of no file but a manifest, and never that of an input, nor of a file that is written
 abbrev pub HasFreeManifest : {F I M S W : Type 0} → Ghosts F I M S W → Found → F → Type 0
 HasFreeManifest files words at = files.tells → IsFreeManifest (files.holds at) (files.real at) (input_texts words) (pair_texts words) (folder_text words) (manifest_text words)
 
--- where files tell what they hold: nothing is where the folder for lost files is to be, and these paths do not lead there
+-- where it is known what files hold: nothing is where the folder for lost files is to be, and these paths do not lead there
 abbrev pub HasNewFolder : {F I M S W : Type 0} → Ghosts F I M S W → Found → List (List ℕ) → F → Type 0
 HasNewFolder files words others at = files.tells → IsNewFolder (files.holds at) (files.real at) others (lost_text words)

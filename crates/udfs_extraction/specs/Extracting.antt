@@ -7,8 +7,8 @@
 --     IsPut .. index node fate         what the fate of a node says of its file
 --     Puts                             nodes from the first behind the root on, with their fates and lines
 --     PutsReport                       all nodes with their files and lines, or the line of a volume that does not open
---     IsDone only P index node fate    this holds of a node that is asked for, and nothing is made or told of another
---     ExtractsChosen                   what is made and told of the nodes that are asked for, and of no other
+--     IsDone only P index node fate    this holds of a node that is asked for, and any other is passed over
+--     ExtractsChosen                   what is made and reported of the nodes that are asked for, where any other is passed over
 use Rattle.std.specs.Prelude.{◌≡◌, ◌≢◌, ℕ, ◌≤◌, Bool, true, false, List, [], ◌∷◌, ◌++◌, ⊤, suc, Option, Some, None, cond, codes, drop, length, slice_get, if◌then◌else◌, ◌&&◌}
 use Rattle.std.specs.List.{list_all}
 use Rattle.udfs_file.specs.declared.cells.Cell.{Cell}
@@ -117,7 +117,7 @@ pub record IsSafe (holds : List ℕ → Option (Option (List ℕ))) (moment : �
   pub past : since ≤ moment
   pub durable : (c : Disk) → left_since since c → c path ≡ Some bytes
 
--- A file that is told as written is where its path leads, or with short names its place, and holds exactly the bytes of the node at this index of the report; and nothing fails but for a fault.
+-- A file reported as written is at its path, or with short names its place, with exactly the bytes of the node at this index; nothing fails but for a fault.
 pub record IsPut (tells fails : Type 0) (table : Table) (report : Report) (fill : Fill) (short : Bool) (folder : List ℕ) (holds : List ℕ → Option (Option (List ℕ))) (moment : ℕ) (left_since : ℕ → Disk → Type 0)
     (index : ℕ) (n : NodeFields) (fate : Fate) : Type 0 where
   pub done : IsFateOf (deed n.kind n.standing n.size fill) fate
@@ -141,7 +141,7 @@ abbrev pub TellsOn : Bool → Bool → Stream → Stream → List ℕ → Type 0
 TellsOn true still old new text = TellsLines still old new text
 TellsOn false still old new text = (still ≡ false) × (new ≡ old)
 
--- the nodes behind the root, as far as there are fates, and what was told of them
+-- the nodes after the root, as far as there are fates, and their lines as far as the sink took them
 pub record Puts (own : NodeFields → Option (List ℕ)) (P : ℕ → NodeFields → Fate → Type 0) (nodes : List NodeFields) (old new : Stream) (heard : Bool) (fates : List Fate) : Type 0 where
   pub each : Each P 1 (drop 1 nodes) fates
   pub lines : TellsLines heard old new (fate_lines own (drop 1 nodes) fates)
@@ -165,7 +165,7 @@ PutsBy (found f) opens does_not = opens
 PutsBy (holes listed) opens does_not = does_not
 PutsBy (faulty fault) opens does_not = does_not
 
--- what is made and told of a report
+-- what is made and printed for a report
 abbrev pub PutsReport : {F : Type 0} → Bool → (Report → ℕ → NodeFields → Fate → Type 0) → F → F → Report → Stream → Stream → Bool → Type 0
 PutsReport short P before after report old new good = PutsBy report.volume (PutsAll (own_name short report) (P report) report.nodes old new good) (PutsNone before after report.volume old new good)
 
@@ -175,12 +175,12 @@ pub record ExtractsAll {F : Type 0} (short : Bool) (P : Table → Report → ℕ
   pub is_report : IsReportBy profile (state_of table) last report
   pub puts : PutsReport short (P table) before after report old new good
 
--- of a node that one of the words asks for this holds, and nothing is made or told of another
+-- this holds of a node that one of the paths in `only` asks for, and any other is passed over
 pub record IsDone (only : List (List ℕ)) (P : ℕ → NodeFields → Fate → Type 0) (index : ℕ) (n : NodeFields) (fate : Fate) : Type 0 where
   pub asked : is_chosen only n.path ≡ true → P index n fate
   pub passed : is_chosen only n.path ≡ false → fate ≡ Passed
 
--- each word is the path of a node; and it is good where nothing failed and all nodes that are asked for are whole
+-- each path in `only` is that of a node; and it is good where nothing failed and all nodes that are asked for are whole
 pub record PutsChosen (only : List (List ℕ)) (own : NodeFields → Option (List ℕ)) (P : ℕ → NodeFields → Fate → Type 0) (nodes : List NodeFields) (old new : Stream) (good : Bool) : Type 0 where
   pub named : list_all (is_node nodes) only ≡ true
   pub fates : List Fate
@@ -188,7 +188,7 @@ pub record PutsChosen (only : List (List ℕ)) (own : NodeFields → Option (Lis
   pub all : length fates ≡ length (drop 1 nodes)
   pub says : good ≡ (all_good fates && list_all (λ n. is_whole n.standing) (chosen only nodes))
 
--- what is made and told of the nodes of a report that are asked for
+-- what is made and reported of the nodes of a report that are asked for
 abbrev pub PutsOf : {F : Type 0} → List (List ℕ) → Bool → (Report → ℕ → NodeFields → Fate → Type 0) → F → F → Report → Stream → Stream → Bool → Type 0
 PutsOf only short P before after report old new good = PutsBy report.volume (PutsChosen only (own_name short report) (P report) report.nodes old new good) (PutsNone before after report.volume old new good)
 

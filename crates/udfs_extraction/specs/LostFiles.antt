@@ -5,8 +5,8 @@
 --     IsLostPut .. entry fate          what the fate of an entry says of its file
 --     PutsLost                         all entries with their fates and lines
 --     SparesLost .. before after       no file that was there changes, nor anything outside of the folder, whatever crashes
---     WritesLost                       what is made and told of the entries of the report of a table
---     AddsLost                         the nodes are written and told as without `--unnamed`, and then the lost files
+--     WritesLost                       what is made and reported of the entries of the report of a table
+--     AddsLost                         the nodes are written and reported as without `--unnamed`, and then the lost files
 --     IsNewFolder                      nothing is where the folder is to be, and other paths do not lead there
 use Rattle.std.specs.Prelude.{◌≡◌, ℕ, Bool, false, List, [], ◌∷◌, ◌++◌, ⊤, ◌&&◌, Option, Some, None, cond, codes, length}
 use Rattle.udfs_file.specs.declared.cells.Cell.{Cell}
@@ -78,7 +78,7 @@ pub record SparesLost {F : Type 0} (tells : Type 0) (holds : F → List ℕ → 
 abbrev pub lost_deed : Unnamed → Deed
 lost_deed u = cond (is_lost_file u) File Skip
 
--- A file that is told as written holds exactly the bytes of the body of its entry, and each crash leaves it; and nothing fails but for a fault.
+-- A file reported as written holds exactly the bytes of the body of its entry, and from some moment on each crash leaves it; nothing fails but for a fault.
 pub record IsLostPut (tells fails : Type 0) (table : Table) (report : Report) (folder : List ℕ) (two : Bool) (holds : List ℕ → Option (Option (List ℕ))) (moment : ℕ) (left_since : ℕ → Disk → Type 0) (u : Unnamed) (fate : Fate) : Type 0 where
   pub done : IsFateOf (lost_deed u) fate
   pub written : fate ≡ Written → tells → (profile : Profile) (last : ℕ) → IsReportBy profile (state_of table) last report → (cs : List Cell) × HasUnnamedCellsBy profile (state_of table) last u cs
@@ -106,7 +106,7 @@ pub record WritesLost (P : Table → Report → Bool → Unnamed → Fate → Ty
   pub puts : PutsLost (P table report (has_two report.volume)) (has_two report.volume) report.unnamed old new good
   pub spared : spares
 
--- At some moment the nodes are made and told, as without `--unnamed`; then the lost files are. It is good where both is.
+-- At some moment the nodes are made and reported, as without `--unnamed`; then the lost files are. It is good where both are.
 pub record AddsLost {F O : Type 0} (Nodes : F → O → Bool → Table → Type 0) (Lost : F → O → Bool → Table → Type 0) (good : Bool) (table : Table) : Type 0 where
   pub mid : F
   pub between : O
@@ -118,7 +118,7 @@ pub record AddsLost {F O : Type 0} (Nodes : F → O → Bool → Table → Type 
 
 -- ---- its place
 
--- where files tell what they hold: nothing is where the folder's path leads, and these paths lead elsewhere
+-- nothing is where the folder's path leads, and these paths lead elsewhere
 pub record IsNewFolder (holds : List ℕ → Option (Option (List ℕ))) (real : List ℕ → List ℕ) (others : List (List ℕ)) (folder : List ℕ) : Type 0 where
   pub absent : holds (real folder) ≡ Some None
   pub apart : NoneLeads real (real folder) others

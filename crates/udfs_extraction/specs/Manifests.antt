@@ -3,9 +3,9 @@
 --     IsManifest holds folder short report fates     the lines of all files that were written, in order, each with the digest of what its path holds
 --     notes_of fate digest index              what is noted of a node
 --     notes_text short report noted           the lines of the files that were noted
---     PutsNoted                               what is made and told of a report, with the manifest
+--     PutsNoted                               what is made and printed for a report, with the text of the manifest
 --     ListsChosen                             the same of the report of a table, and the manifest is put after the files
---     SparesListed                            what is left as it was, whatever is answered
+--     SparesListed                            what is left as it was, whatever is returned
 --     IsFreeManifest                          a manifest takes the place of no file but a manifest, of none of the inputs, and of none that is written
 --     IsSparedManifest                        why its place is refused
 use Rattle.std.specs.Prelude.{◌≡◌, ◌≢◌, ◌⊎◌, ℕ, Bool, true, false, List, [], ◌∷◌, ◌++◌, suc, Option, Some, None, codes, drop, flat_map, slice_get}
@@ -79,14 +79,14 @@ note_text short report noted = digest_line (placed short report noted.index) not
 abbrev pub notes_text : Bool → Report → List Noted → List ℕ
 notes_text short report noted = flat_map (note_text short report) noted
 
--- what is made and told of nodes that are asked for, and a text that this holds of, with them and their fates
+-- what is made and reported of nodes that are asked for, and a text of which `Is` holds with their fates
 pub record PutsWith (only : List (List ℕ)) (own : NodeFields → Option (List ℕ)) (P : ℕ → NodeFields → Fate → Type 0) (Is : List Fate → List ℕ → Type 0) (nodes : List NodeFields) (old new : Stream) (good : Bool) (manifest : Option (List ℕ)) : Type 0 where
   pub puts : PutsChosen only own P nodes old new good
   pub text : List ℕ
   pub is_text : Is puts.fates text
   pub has : manifest ≡ Some text
 
--- what is made and told of a report, and the text
+-- what is made and printed for a report, and the text
 abbrev pub PutsNoted : {F : Type 0} → List (List ℕ) → Bool → (Report → ℕ → NodeFields → Fate → Type 0) → (Report → List Fate → List ℕ → Type 0) → F → F → Report → Stream → Stream → Bool → Option (List ℕ) → Type 0
 PutsNoted only short P Is before after report old new good manifest = PutsBy report.volume (PutsWith only (own_name short report) (P report) (Is report) report.nodes old new good manifest) (PutsNone before after report.volume old new good × (manifest ≡ None))
 
@@ -105,7 +105,7 @@ pub record PutsListed (only : List (List ℕ)) (own : NodeFields → Option (Lis
   pub is_text : Is puts.fates text
   pub put : Put text
 
--- At some moment all is made and told as without a manifest; then it is put. Of a volume that does not open, none is.
+-- At some moment all is made and reported as without a manifest; then it is put. Of a volume that does not open, none is.
 abbrev pub ListsOf : {F : Type 0} → List (List ℕ) → Bool → (F → Report → ℕ → NodeFields → Fate → Type 0) → (F → Report → List Fate → List ℕ → Type 0) → (F → List ℕ → Type 0) → F → F → F → Report → Stream → Stream → Bool → Type 0
 ListsOf only short P Is Put before mid after report old new good =
     PutsBy report.volume (PutsListed only (own_name short report) (P mid report) (Is mid report) (Put mid) report.nodes old new good) (PutsNone before mid report.volume old new good × (after ≡ mid))

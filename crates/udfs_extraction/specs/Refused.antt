@@ -1,17 +1,17 @@
--- Why `extract` refuses, and what was made and told by then.
+-- Why `extract` fails, and what was made and reported by then.
 --     NamesNoNode          a path that is asked for is no node's, and it is named
 --     StopsBehind          memory was refused, or the output failed once all were put
---     StopsNodes           nodes were put and told, and then that was so
---     StopsPutting         what a report has for the folder was not put and told, or only in part
+--     StopsNodes           nodes were put and reported, and then that was so
+--     StopsPutting         what a report has for the folder was not put and reported, or only in part
 --     StopsListing         the same, or it was, and its manifest was not put
---     StopsLost            lost files were not put and told, or only in part
---     StopsAdding          the nodes were put and told, and then lost files were not
---     IsRefusedMaking      a table has no report, and nothing was made or told; or this is said of its report
---     MakingRefused        the same of the inputs that the words ask for
+--     StopsLost            lost files were not put and reported, or only in part
+--     StopsAdding          the nodes were put and reported, and then lost files were not
+--     IsRefusedMaking      a table has no report, or memory ran out before, and nothing was made or reported; or this is said of its report
+--     MakingRefused        the same of the inputs that the arguments ask for
 --     UnseenOr, TakenOr    the place of a manifest, or of the folder for lost files, was refused; or this is so
 --     NodesStop, ListStops, AddStops, ListAddStops                which of these is said where only nodes are put, with a manifest, with lost files, and with both
---     NodesRefused, ListRefused, AddRefused, ListAddRefused       the same by the words
---     ExtractRefused       which of these the words ask for
+--     NodesRefused, ListRefused, AddRefused, ListAddRefused       the same by the arguments
+--     ExtractRefused       which of these the arguments ask for
 use Rattle.std.specs.Prelude.{◌≡◌, ◌⊎◌, ◌<◌, ◌+◌, ℕ, Bool, true, false, List, Option, Some, alloc_error, codes, drop, length, slice_get}
 use Rattle.clap.specs.declared.parser.matches.Found.{Found as Words}
 use Rattle.udfs_files.specs.Disk.{Fails, SinkFails}
@@ -64,7 +64,7 @@ pub record StopsNodes (own : NodeFields → Option (List ℕ)) (P : ℕ → Node
   pub puts : Puts own P nodes old new heard fates
   pub why : StopsBehind heard (length fates) (length (drop 1 nodes)) refusal
 
--- nothing was told: memory was refused, or a path is no node's, or the folder could not be made
+-- nothing was reported: memory ran out, or a path is no node's, or the folder could not be made
 abbrev pub StopsBefore : Type 0 → List (List ℕ) → List NodeFields → Stream → Stream → Refusal → Type 0
 StopsBefore Failed only nodes old new refusal = (new ≡ old) × ((refusal ≡ Memory alloc_error) ⊎ NamesNoNode only nodes refusal ⊎ ((refusal ≡ Folder) × Failed))
 
@@ -79,7 +79,7 @@ abbrev pub StopsPutting : {F : Type 0} → Type 0 → List (List ℕ) → Bool �
 StopsPutting Failed only short P before after report old new refusal =
     PutsBy report.volume (StopsBefore Failed only report.nodes old new refusal ⊎ StopsNodes (own_name short report) (IsDone only (P report)) report.nodes old new refusal) (StopsLine before after report.volume old new refusal)
 
--- at some moment all was put and told, but then the manifest was not put
+-- at some moment all was put and reported, but then the manifest was not put, or not kept for sure
 pub record Unlisted {F : Type 0} (Failed : Type 0) (only : List (List ℕ)) (short : Bool) (P : F → Report → ℕ → NodeFields → Fate → Type 0) (before : F) (report : Report) (old new : Stream) (refusal : Refusal) : Type 0 where
   pub mid : F
   pub good : Bool
@@ -90,12 +90,12 @@ pub record Unlisted {F : Type 0} (Failed : Type 0) (only : List (List ℕ)) (sho
 abbrev pub StopsListing : {F : Type 0} → Type 0 → Type 0 → List (List ℕ) → Bool → (F → Report → ℕ → NodeFields → Fate → Type 0) → F → F → Report → Stream → Stream → Refusal → Type 0
 StopsListing Unmade Unput only short P before after report old new refusal = StopsPutting Unmade only short (P after) before after report old new refusal ⊎ Unlisted Unput only short P before report old new refusal
 
--- nothing was told, and the folder could not be made; or entries have their fates, and their lines as far as the output took them
+-- nothing was reported, and the folder could not be made; or entries have their fates, and their lines as far as the output took them
 abbrev pub StopsLost : Type 0 → (Unnamed → Fate → Type 0) → Bool → List Unnamed → Stream → Stream → Refusal → Type 0
 StopsLost Failed P two us old new refusal = ((new ≡ old) × (refusal ≡ LostFolder) × Failed) ⊎
     ((heard : Bool) × (fates : List Fate) × EachLost P us fates × TellsLines heard old new (lost_lines two us fates) × StopsBehind heard (length fates) (length us) refusal)
 
--- at some moment the nodes were put and told
+-- at some moment the nodes were put and reported, and then putting the lost files ended with this error
 pub record StopsAdding {F O : Type 0} (Nodes : F → O → Bool → Type 0) (Lost : F → O → Refusal → Type 0) (refusal : Refusal) : Type 0 where
   pub mid : F
   pub between : O
@@ -107,7 +107,7 @@ pub record StopsAdding {F O : Type 0} (Nodes : F → O → Bool → Type 0) (Los
 abbrev pub IsRefusedMaking : Type 0 → Profile → ℕ → (Table → Report → Refusal → Type 0) → Refusal → Table → Type 0
 IsRefusedMaking Before profile last Stops refusal table = (Before × IsUntold profile last refusal table) ⊎ ((report : Report) × IsReportBy profile (state_of table) last report × Stops table report refusal)
 
--- memory was refused before an input was opened; or this is said by the fill, the names, the last block and the profile that the words ask for
+-- memory ran out before an input was opened; or this is said by the fill, the names, the last block and the profile that the arguments ask for
 abbrev pub MakingRefused : {R I : Type 0} → (List ℕ → Option (Option (List ℕ))) → (List ℕ → Type 0) → (AnySource R I → Option (List ℕ)) → (AnySource R I → ℕ) → Words → Type 0 → (Fill → Bool → Table → Report → Refusal → Type 0) → Refusal → Type 0
 MakingRefused found shut remaining faults words Before Stops refusal = (Before × (refusal ≡ Memory alloc_error)) ⊎ AskedRefused found shut remaining faults words (asked_inputs words) Before (λ profile last. IsRefusedMaking Before profile last
     (λ table report why. (fill : Fill) × (short : Bool) × IsPicked words (codes "fill") (Byte 0) Refuse fill × IsPicked words (codes "short-names") true false short × Stops fill short table report why)) refusal
@@ -158,14 +158,14 @@ module _ {F I M S W : Type 0} (files : Ghosts F I M S W) (output : W → Stream)
           old first mid report (stream before) (stream between) good)
           (λ mid (between : O) why. LostStops lost new (stream between) (stream after) table report why) refusal
 
--- ---- by the words
+-- ---- by the arguments
 
 module _ {F I M S W R J O : Type 0} (files : Ghosts F I M S W) (output : W → Stream) (words : Words) (remaining : AnySource R J → Option (List ℕ)) (faults : AnySource R J → ℕ) (stream : O → Stream) (old new : F) (before after : O) where
-  -- nothing was made or told
+  -- nothing was made or reported
   abbrev Untouched : Type 0
   Untouched = (new ≡ old) × (stream after ≡ stream before)
 
-  -- this is said of the inputs that the words ask for
+  -- this is said of the inputs that the arguments ask for
   abbrev OfWords : (Fill → Bool → Table → Report → Refusal → Type 0) → Refusal → Type 0
   OfWords = MakingRefused (held_at files old) (files.shut old) remaining faults words Untouched
 

@@ -4,7 +4,7 @@
 --     IsFileName name                   a name that each takes
 --     IsShortOf name end short          as much of its beginning as fits, and this end
 --     short_name two icb name           as much of its beginning as fits, `~`, and the number
---     above nodes depth index           the last node up to this one whose path has so many names
+--     above nodes depth index           the last node up to this one whose path has `depth` names
 --     placed short report index n        the names by which a node is written
 --     own_name short report n           the short name of a node, where it has one
 use Rattle.std.specs.Prelude.{◌≡◌, ◌<◌, ℕ, zero, suc, ◌+◌, ◌-◌, ◌≤◌, ◌/◌, ◌%◌, ◌==◌, ◌&&◌, Bool, false, nat_lt, nat_le, List, [], ◌∷◌, ◌++◌, Option, Some, None, cond, codes, decimal, length, option_map, slice_get, slice_index, take, unwrap_or, if◌then◌else◌}
@@ -42,7 +42,7 @@ unit_size unit = length (encode_utf8_all (shown_unit unit))
 abbrev pub front_bytes : List ℕ → ℕ
 front_bytes units = if begins_with_pair units then 4 else unit_size (slice_index units 0)
 
--- how many units from the front have at most so many bytes in their escaped form: a pair has four, and is not parted
+-- how many units from the front have at most `room` bytes in their escaped form: a pair has four, and is not parted
 unfoldable pub front_count : ℕ → List ℕ → ℕ
 front_count room [] = 0
 front_count room (u ∷ []) = if nat_le (unit_size u) room then 1 else 0
@@ -76,11 +76,11 @@ unit_bytes (unit ∷ units) = unit / 256 ∷ unit % 256 ∷ unit_bytes units
 
 -- ---- the names of a path
 
--- the path of the node with this index has so many names
+-- the path of the node with this index has `depth` names
 abbrev pub has_names : List NodeFields → ℕ → ℕ → Bool
 has_names nodes depth index = unwrap_or (option_map (λ n. length n.path == depth) (slice_get nodes index)) false
 
--- the last node up to this one whose path has so many names; it leads to this one, since a node stands directly before those below it
+-- the last node up to this one whose path has `depth` names; it leads to this one, since a node is directly before those below it
 abbrev pub above : List NodeFields → ℕ → ℕ → ℕ
 above nodes depth zero = 0
 above nodes depth (suc index) = if has_names nodes depth (suc index) then suc index else above nodes depth index

@@ -1,6 +1,6 @@
--- What `extract` leaves as it was, by its words.
---     NodesSpare        what `extract` leaves as it was until it writes lost files, whatever it answers
---     ExtractSpares     what `extract` leaves as it was, whatever it answers
+-- What `extract` leaves as it was, by its arguments.
+--     NodesSpare        what `extract` leaves as it was until it writes lost files, whatever it returns
+--     ExtractSpares     what `extract` leaves as it was, whatever it returns
 use Rattle.std.specs.Prelude.{◌≡◌, ◌⊎◌, ℕ, Bool, true, false, List, Option, codes}
 use Rattle.clap.specs.declared.parser.matches.Found.{Found}
 use Rattle.udfs_files.specs.Disk.{Disk, Goes}

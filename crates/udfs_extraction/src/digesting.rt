@@ -85,7 +85,7 @@ fn fill_and_digest<F: Files, J: Job>(output: F::Output, job: &J) -> Result<Fille
     }
 }
 
-/// Does a job on a new output, and answers the output, which has taken all of it, and the digest of that where it is asked for. It is taken while the bytes are written.
+/// Does a job on a new output, and returns the output, which has taken all of it, and with `digest` the digest of that, taken while the bytes are written.
 ///
 /// # Errors
 ///

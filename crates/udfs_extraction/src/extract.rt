@@ -92,7 +92,7 @@ pub fn still_good(good: bool, fate: Fate) -> bool
     }
 }
 
-/// Goes through the nodes behind the root, in order. Where the output fails, it goes on, and tells no more.
+/// Goes through the nodes after the root, in order. Where the output fails, it goes on, but prints no more.
 fn put_nodes<F: Files, O: Sink>(
     alloc: Global,
     listing: &Listing<'_>,
@@ -224,7 +224,7 @@ pub fn put_report<F: Files, O: Sink>(
 }
 
 /// Joins the inputs, and writes the files of the volume by the rules of a profile, where `last` is its last block, into a folder that is not there yet: of the nodes that `only` asks
-/// for, by their paths as the report prints them, where `/` asks for all. The folders that lead to them are made. It answers whether all of these nodes are
+/// for, by their paths as the report prints them, where `/` asks for all. The folders that lead to them are made. It returns whether all of these nodes are
 /// whole and nothing failed. All inputs are opened in order before one is read.
 pub fn extract<F: Files, O: Sink>(
     alloc: Global,
@@ -238,17 +238,18 @@ pub fn extract<F: Files, O: Sink>(
     files: &mut F,
     out: &mut O,
 ) -> Result<bool, Refusal>
-    // At `Ok` each node behind the root that is asked for has its line, and each file that is told as written is there, whole, and each crash since then leaves it. No path changes but those at which a file is to be written.
+    // At `Ok` each node after the root that is asked for has its line, but for folders that were made. Each file that is reported as written is there, whole,
+    // and from some moment on each crash leaves it. No path changes but those at which a file is to be written.
     ensures chosen { IfOk result (λ good. OfPaths (λ path. F.holds files.old (F.real files.old path)) (⟦<AnySource<F::Input, F::Image> as Source>⟧.remaining) inputs.now
         (ExtractsChosen (map (λ word. word.now) only.now) fill short (λ table told. IsPut F.tells (Fails F.faults ⊎ SinkFails F.Output.stream) table told fill short folder.now (F.holds files.new) (F.moment files.new) (F.left_since files.new))
         F.holds folder.now files.old files.new profile last (O.stream out.old) (O.stream out.new) good)) }
-    // Why it is refused, and what was made and told by then.
+    // Why it fails, and what was made and reported by then.
     ensures why { IfErr result (OfPathsRefused (λ path. F.holds files.old (F.real files.old path)) (F.shut files.old) (⟦<AnySource<F::Input, F::Image> as Source>⟧.remaining) (⟦<AnySource<F::Input, F::Image> as Source>⟧.faults) inputs.now
         ((files.new ≡ files.old) × (O.stream out.new ≡ O.stream out.old)) (IsRefusedMaking ((files.new ≡ files.old) × (O.stream out.new ≡ O.stream out.old)) profile last
         (NodesStop F.Files F.Output.stream (map (λ word. word.now) only.now) folder.now fill short files.old files.new (O.stream out.old) (O.stream out.new)))) }
-    // A path that is no node's is refused before anything is made.
+    // The error for a path that is no node's comes before anything is made.
     ensures no_node { IfErr result (λ refusal. (i : ℕ) → refusal ≡ Refusal.NoNode i → files.new ≡ files.old) }
-    // Whatever the answer, no file that was there is changed, and nothing outside of the folder; nor by a crash at any moment.
+    // Whatever the result, no file that was there is changed, and nothing outside of the folder; nor by a crash at any moment.
     ensures stays { F.tells → Stay (F.holds files.old) (F.holds files.new) }
     ensures outside { (q : List ℕ) → (¬ IsIn folder.now q) → F.holds files.new q ≡ F.holds files.old q }
     ensures crash { F.tells → Goes F.moment F.may_leave F.left_since files.old files.new (Spares folder.now (F.holds files.old)) }

@@ -103,7 +103,8 @@ pub fn list_report<F: Files, O: Sink>(
 }
 
 /// Does what [`extract`](crate::extract::extract) does, and then puts the manifest of the files that were written at a place that is none of theirs, whole or not at all: the
-/// digest of each was taken while its bytes were written. Where the volume does not open, or the command is refused, it puts none, and an old one stays.
+/// digest of each was taken while its bytes were written. Where the volume does not open, or the call fails, it puts none, and an old one stays; but at
+/// `Unkept` the new one is in its place, whole, and a crash may bring the old one back.
 pub fn extract_listed<F: Files, O: Sink>(
     alloc: Global,
     inputs: &[InputPath<'_>],
@@ -117,21 +118,21 @@ pub fn extract_listed<F: Files, O: Sink>(
     files: &mut F,
     out: &mut O,
 ) -> Result<bool, Refusal>
-    // At `Ok` all was made and told as without a manifest, at some moment; and since then the manifest was put, and nothing else: for each file that is told as written, in order, the digest of what its
-    // path held then.
+    // At `Ok`, at some moment all was made and reported as without a manifest. Since then the manifest was put, and nothing else: for each file that is
+    // reported as written, in order, the digest of what its path held at that moment.
     ensures listed { IfOk result (λ good. OfPaths (λ path. F.holds files.old (F.real files.old path)) (⟦<AnySource<F::Input, F::Image> as Source>⟧.remaining) inputs.now
         (ListsChosen (map (λ word. word.now) only.now) fill short
         (λ f table told. IsPut F.tells (Fails F.faults ⊎ SinkFails F.Output.stream) table told fill short folder.now (F.holds f) (F.moment f) (F.left_since f))
         (λ f told fates text. F.tells → IsManifest (F.holds f) folder.now short told fates text)
         (λ f text. F.tells → IsPutLast F.holds F.may_leave F.moment F.left_since place.now f files.new text)
         F.holds folder.now files.old files.new profile last (O.stream out.old) (O.stream out.new) good)) }
-    // Why it is refused, and what was made and told by then.
+    // Why it fails, and what was made and reported by then.
     ensures why { IfErr result (OfPathsRefused (λ path. F.holds files.old (F.real files.old path)) (F.shut files.old) (⟦<AnySource<F::Input, F::Image> as Source>⟧.remaining) (⟦<AnySource<F::Input, F::Image> as Source>⟧.faults) inputs.now
         ((files.new ≡ files.old) × (O.stream out.new ≡ O.stream out.old)) (IsRefusedMaking ((files.new ≡ files.old) × (O.stream out.new ≡ O.stream out.old)) profile last
         (ListStops F.Files F.Output.stream (map (λ word. word.now) only.now) folder.now fill short files.old files.new (O.stream out.old) (O.stream out.new)))) }
-    // A path that is no node's is refused before anything is made.
+    // The error for a path that is no node's comes before anything is made.
     ensures no_node { IfErr result (λ refusal. (i : ℕ) → refusal ≡ Refusal.NoNode i → files.new ≡ files.old) }
-    // Whatever the answer, no file that was there is changed, and nothing outside of the folder, but at the manifest's place; nor by a crash at any moment.
+    // Whatever the result, no file that was there is changed, and nothing outside of the folder, but at the manifest's place; nor by a crash at any moment.
     ensures spares { SparesListed F.tells F.holds F.may_leave F.moment F.left_since short folder.now place.now files.old files.new }
 {
     let table = match joined(alloc, inputs, files) {

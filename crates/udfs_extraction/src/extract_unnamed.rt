@@ -41,7 +41,8 @@ pub fn extract_with_lost<F: Files, O: Sink>(
     files: &mut F,
     out: &mut O,
 ) -> Result<bool, Refusal>
-    // At `Ok` all was made and told as without lost files, at some moment; and since then each lost file has its line, and each that is told as written is there, and each crash since then leaves it.
+    // At `Ok`, at some moment all was made and reported as without lost files. Since then each lost file has its line; each that is reported as written is
+    // there, and from some moment on each crash leaves it.
     ensures added { IfOk result (λ good. OfPaths (λ path. F.holds files.old (F.real files.old path)) (⟦<AnySource<F::Input, F::Image> as Source>⟧.remaining) inputs.now
         (AddsLost (λ (mid : F) (between : O) nodes_good. ExtractsChosen (map (λ word. word.now) only.now) fill short
         (λ table told. IsPut F.tells (Fails F.faults ⊎ SinkFails F.Output.stream) table told fill short folder.now (F.holds mid) (F.moment mid) (F.left_since mid))
@@ -51,13 +52,13 @@ pub fn extract_with_lost<F: Files, O: Sink>(
         (SparesLost F.tells F.holds F.may_leave F.moment F.left_since lost.now mid files.new)
         profile last (O.stream between) (O.stream out.new) lost_good)
         good)) }
-    // Why it is refused, and what was made and told by then.
+    // Why it fails, and what was made and reported by then.
     ensures why { IfErr result (OfPathsRefused (λ path. F.holds files.old (F.real files.old path)) (F.shut files.old) (⟦<AnySource<F::Input, F::Image> as Source>⟧.remaining) (⟦<AnySource<F::Input, F::Image> as Source>⟧.faults) inputs.now
         ((files.new ≡ files.old) × (O.stream out.new ≡ O.stream out.old)) (IsRefusedMaking ((files.new ≡ files.old) × (O.stream out.new ≡ O.stream out.old)) profile last
         (AddStops F.Files F.Output.stream (map (λ word. word.now) only.now) folder.now fill short O.stream lost.now files.old files.new out.old out.new))) }
-    // A path that is no node's is refused before anything is made.
+    // The error for a path that is no node's comes before anything is made.
     ensures no_node { IfErr result (λ refusal. (i : ℕ) → refusal ≡ Refusal.NoNode i → files.new ≡ files.old) }
-    // Whatever the answer, no file that was there is changed, and nothing outside of the two folders; nor by a crash at any moment.
+    // Whatever the result, no file that was there is changed, and nothing outside of the two folders; nor by a crash at any moment.
     ensures spares { (mid : F) × (F.tells → Stay (F.holds files.old) (F.holds mid)) × ((q : List ℕ) → (¬ IsIn folder.now q) → F.holds mid q ≡ F.holds files.old q) ×
         (F.tells → Goes F.moment F.may_leave F.left_since files.old mid (Spares folder.now (F.holds files.old))) × SparesLost F.tells F.holds F.may_leave F.moment F.left_since lost.now mid files.new }
 {
@@ -103,7 +104,8 @@ pub fn extract_listed_with_lost<F: Files, O: Sink>(
     files: &mut F,
     out: &mut O,
 ) -> Result<bool, Refusal>
-    // At `Ok` all was made and told as without lost files, at some moment; and since then each lost file has its line, and each that is told as written is there, and each crash since then leaves it.
+    // At `Ok`, at some moment all was made and reported as without lost files. Since then each lost file has its line; each that is reported as written is
+    // there, and from some moment on each crash leaves it.
     ensures added { IfOk result (λ good. OfPaths (λ path. F.holds files.old (F.real files.old path)) (⟦<AnySource<F::Input, F::Image> as Source>⟧.remaining) inputs.now
         (AddsLost (λ (mid : F) (between : O) nodes_good. ListsChosen (map (λ word. word.now) only.now) fill short
         (λ f table told. IsPut F.tells (Fails F.faults ⊎ SinkFails F.Output.stream) table told fill short folder.now (F.holds f) (F.moment f) (F.left_since f))
@@ -115,13 +117,13 @@ pub fn extract_listed_with_lost<F: Files, O: Sink>(
         (SparesLost F.tells F.holds F.may_leave F.moment F.left_since lost.now mid files.new)
         profile last (O.stream between) (O.stream out.new) lost_good)
         good)) }
-    // Why it is refused, and what was made and told by then.
+    // Why it fails, and what was made and reported by then.
     ensures why { IfErr result (OfPathsRefused (λ path. F.holds files.old (F.real files.old path)) (F.shut files.old) (⟦<AnySource<F::Input, F::Image> as Source>⟧.remaining) (⟦<AnySource<F::Input, F::Image> as Source>⟧.faults) inputs.now
         ((files.new ≡ files.old) × (O.stream out.new ≡ O.stream out.old)) (IsRefusedMaking ((files.new ≡ files.old) × (O.stream out.new ≡ O.stream out.old)) profile last
         (ListAddStops F.Files F.Output.stream (map (λ word. word.now) only.now) folder.now fill short O.stream lost.now place.now files.old files.new out.old out.new))) }
-    // A path that is no node's is refused before anything is made.
+    // The error for a path that is no node's comes before anything is made.
     ensures no_node { IfErr result (λ refusal. (i : ℕ) → refusal ≡ Refusal.NoNode i → files.new ≡ files.old) }
-    // Whatever the answer, no file that was there is changed, and nothing outside of the two folders, but at the manifest's place; nor by a crash at any moment.
+    // Whatever the result, no file that was there changes, and nothing outside of the two folders, but at the manifest's place; nor by a crash at any moment.
     ensures spares { (mid : F) × SparesListed F.tells F.holds F.may_leave F.moment F.left_since short folder.now place.now files.old mid × SparesLost F.tells F.holds F.may_leave F.moment F.left_since lost.now mid files.new }
 {
     let table = match joined(alloc, inputs, files) {

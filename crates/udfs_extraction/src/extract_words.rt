@@ -1,4 +1,4 @@
-//! What the words after `extract` ask for.
+//! What the arguments after `extract` ask for.
 
 ghost use Rattle.std.specs.Prelude.{◌≡◌, ◌⊎◌, ℕ, Bool, List, true, false, None, Some, IfOk, IfErr, IsErrOf, OnOk, alloc_error, codes, string_bytes};
 ghost use Rattle.clap.specs.Matches.{found_of, one_text};
@@ -29,7 +29,7 @@ use udfs_words::asking::{asked_folder, asked_inputs, asked_manifest};
 use udfs_words::profile::asked_profile;
 use udfs_words::words::{FILL, INPUTS, MANIFEST, ONLY, PAIRS, SHORT_NAMES};
 
-/// What the words after `extract` ask to write of torn files: zeros in the holes with `--fill`, and else nothing.
+/// What the arguments after `extract` ask to write of torn files: zeros in the holes with `--fill`, and else nothing.
 pub fn asked_fill(words: &ArgMatches<'_>) -> Fill
     ensures unset { one_text (found_of words.now) (codes "fill") ≡ None → result ≡ Fill.Refuse }
     ensures without { one_text (found_of words.now) (codes "fill") ≡ Some (codes "false") → result ≡ Fill.Refuse }
@@ -41,14 +41,14 @@ pub fn asked_fill(words: &ArgMatches<'_>) -> Fill
     Fill::Refuse
 }
 
-/// Whether the words after `extract` ask for short names in the place of those that are too long.
+/// Whether the arguments after `extract` ask for short names in the place of those that are too long.
 pub fn asked_short(words: &ArgMatches<'_>) -> bool
     ensures { IsPicked (found_of words.now) (codes "short-names") true false result }
 {
     words.get_flag(SHORT_NAMES)
 }
 
-/// Does what the words after `extract` ask for where no manifest is to be written.
+/// Does what the arguments after `extract` ask for where no manifest is to be written.
 fn extract_words<F: Files, O: Sink>(
     alloc: Global,
     words: &ArgMatches<'_>,
@@ -57,11 +57,11 @@ fn extract_words<F: Files, O: Sink>(
 ) -> Result<bool, Refusal>
     ensures extracted { IfOk result (λ good. has_only (found_of words.now) ≡ false →
         ExtractsAllAsked F.Files F.Output.stream (found_of words.now) (⟦<AnySource<F::Input, F::Image> as Source>⟧.remaining) O.stream files.old files.new out.old out.new good) }
-    // With `--only` or without: only what is asked for is made, told and judged.
+    // With `--only` or without: only what is asked for is reported and judged, and made, with the folders that lead to it.
     ensures chosen { IfOk result (λ good. ExtractsAsked F.Files F.Output.stream (found_of words.now) (⟦<AnySource<F::Input, F::Image> as Source>⟧.remaining) O.stream files.old files.new out.old out.new good) }
-    // Why it is refused, and what was made and told by then.
+    // Why it fails, and what was made and reported by then.
     ensures why { IfErr result (NodesRefused F.Files F.Output.stream (found_of words.now) (⟦<AnySource<F::Input, F::Image> as Source>⟧.remaining) (⟦<AnySource<F::Input, F::Image> as Source>⟧.faults) O.stream files.old files.new out.old out.new) }
-    // A path that is no node's is refused before anything is made.
+    // The error for a path that is no node's comes before anything is made.
     ensures no_node { IfErr result (λ refusal. (i : ℕ) → refusal ≡ Refusal.NoNode i → files.new ≡ files.old) }
     ensures stays { F.tells → Stay (F.holds files.old) (F.holds files.new) }
     ensures outside { (q : List ℕ) → (¬ IsIn (folder_text (found_of words.now)) q) → F.holds files.new q ≡ F.holds files.old q }
@@ -89,7 +89,7 @@ fn extract_words<F: Files, O: Sink>(
     }
 }
 
-/// Where the manifest that the words after `extract` ask for goes.
+/// Where the manifest that the arguments after `extract` ask for goes.
 pub fn asked_place<F: Files>(
     alloc: Global,
     words: &ArgMatches<'_>,
@@ -110,7 +110,7 @@ pub fn asked_place<F: Files>(
     }
 }
 
-/// Does what the words after `extract` ask for where a manifest is to be written.
+/// Does what the arguments after `extract` ask for where a manifest is to be written.
 fn manifest_words<F: Files, O: Sink>(
     alloc: Global,
     words: &ArgMatches<'_>,
@@ -120,9 +120,9 @@ fn manifest_words<F: Files, O: Sink>(
     ensures listed { IfOk result (λ good. ListsAsked F.Files F.Output.stream (found_of words.now) (⟦<AnySource<F::Input, F::Image> as Source>⟧.remaining) O.stream files.old files.new out.old out.new good) }
     // It takes the place of no file but a manifest, and never that of an input, nor of a file that is written.
     ensures free { OnOk result (HasFreeManifest F.Files (found_of words.now) files.old) }
-    // Why it is refused, and what was made and told by then.
+    // Why it fails, and what was made and reported by then.
     ensures why { IfErr result (ListRefused F.Files F.Output.stream (found_of words.now) (⟦<AnySource<F::Input, F::Image> as Source>⟧.remaining) (⟦<AnySource<F::Input, F::Image> as Source>⟧.faults) O.stream files.old files.new out.old out.new (Fails F.Input.faults)) }
-    // A path that is no node's is refused before anything is made.
+    // The error for a path that is no node's comes before anything is made.
     ensures no_node { IfErr result (λ refusal. (i : ℕ) → refusal ≡ Refusal.NoNode i → files.new ≡ files.old) }
     ensures spares { (short : Bool) × IsPicked (found_of words.now) (codes "short-names") true false short × SparesListed F.tells F.holds F.may_leave F.moment F.left_since short (folder_text (found_of words.now)) (F.real files.old (manifest_text (found_of words.now))) files.old files.new }
 {
@@ -163,7 +163,7 @@ fn manifest_words<F: Files, O: Sink>(
     }
 }
 
-/// Does what the words after `extract` ask for: with `--manifest` it also writes a manifest.
+/// Does what the arguments after `extract` ask for: with `--manifest` it also writes a manifest.
 pub fn extract_as<F: Files, O: Sink>(
     alloc: Global,
     words: &ArgMatches<'_>,
@@ -172,16 +172,16 @@ pub fn extract_as<F: Files, O: Sink>(
 ) -> Result<bool, Refusal>
     ensures extracted { IfOk result (λ good. has_manifest (found_of words.now) ≡ false → has_only (found_of words.now) ≡ false →
         ExtractsAllAsked F.Files F.Output.stream (found_of words.now) (⟦<AnySource<F::Input, F::Image> as Source>⟧.remaining) O.stream files.old files.new out.old out.new good) }
-    // With `--only` or without: only what is asked for is made, told and judged.
+    // With `--only` or without: only what is asked for is reported and judged, and made, with the folders that lead to it.
     ensures chosen { IfOk result (λ good. has_manifest (found_of words.now) ≡ false →
         ExtractsAsked F.Files F.Output.stream (found_of words.now) (⟦<AnySource<F::Input, F::Image> as Source>⟧.remaining) O.stream files.old files.new out.old out.new good) }
     // With `--manifest` the same, and then the manifest is put.
     ensures listed { IfOk result (λ good. has_manifest (found_of words.now) ≡ true →
         ListsAsked F.Files F.Output.stream (found_of words.now) (⟦<AnySource<F::Input, F::Image> as Source>⟧.remaining) O.stream files.old files.new out.old out.new good × HasFreeManifest F.Files (found_of words.now) files.old) }
-    // Why it is refused, and what was made and told by then.
+    // Why it fails, and what was made and reported by then.
     ensures why { IfErr result (λ refusal. has_manifest (found_of words.now) ≡ false → NodesRefused F.Files F.Output.stream (found_of words.now) (⟦<AnySource<F::Input, F::Image> as Source>⟧.remaining) (⟦<AnySource<F::Input, F::Image> as Source>⟧.faults) O.stream files.old files.new out.old out.new refusal) }
     ensures why_listed { IfErr result (λ refusal. has_manifest (found_of words.now) ≡ true → ListRefused F.Files F.Output.stream (found_of words.now) (⟦<AnySource<F::Input, F::Image> as Source>⟧.remaining) (⟦<AnySource<F::Input, F::Image> as Source>⟧.faults) O.stream files.old files.new out.old out.new (Fails F.Input.faults) refusal) }
-    // A path that is no node's is refused before anything is made.
+    // The error for a path that is no node's comes before anything is made.
     ensures no_node { IfErr result (λ refusal. (i : ℕ) → refusal ≡ Refusal.NoNode i → files.new ≡ files.old) }
     ensures stays { has_manifest (found_of words.now) ≡ false → F.tells → Stay (F.holds files.old) (F.holds files.new) }
     ensures outside { has_manifest (found_of words.now) ≡ false → (q : List ℕ) → (¬ IsIn (folder_text (found_of words.now)) q) → F.holds files.new q ≡ F.holds files.old q }

@@ -1,4 +1,4 @@
-//! What a person is told of a file or a folder that could not be written.
+//! What is shown to a person of a file or a folder that could not be written.
 
 use crate::extract::Fate;
 use std::alloc::{AllocError, Global};
@@ -19,7 +19,7 @@ fn of_failed<F: Files>(alloc: Global, path: &Path, files: &F) -> Result<String, 
     Ok(line)
 }
 
-/// Tells who watches why a file or a folder could not be written, where it could not.
+/// Shows as a remark why a file or a folder could not be written, where it could not.
 pub fn remark_on_fate<F: Files>(alloc: Global, fate: Fate, path: &Path, files: &F) {
     match fate {
         Fate::Failed | Fate::Left => {

@@ -14,7 +14,7 @@ use udfs_files::Job;
 use udfs_reading::{Sink, WriteFault, write_all};
 use udfs_salvage::Listing;
 
-/// So many bytes of lines are held, and those of one line more, before they are written.
+/// Lines are written once this many bytes of them are held: never more are held than these and one line.
 const PIECE: usize = 262_144;
 
 /// Why the text of a manifest was not written.
@@ -48,7 +48,7 @@ impl From<WriteFault> for TextError {
     }
 }
 
-/// Appends the line of a file that was noted, and answers the index of the node that was gone to: `way` has the way to the node of the index `at`, and then to that one.
+/// Appends the line of a file that was noted. `way` has the way to the node of the index `at`, and then to the node whose index is returned.
 fn push_noted(
     alloc: Global,
     listing: &Listing<'_>,

@@ -15,7 +15,7 @@ use udfs_osta::Name;
 use udfs_salvage::{Listing, has_two_partitions, push_names};
 use udfs_tag::LbAddr;
 
-/// Makes a list of so many numbers and one more, by zeros behind those that it has.
+/// Appends zeros to a list until it has more than `depth` numbers.
 fn lengthen(way: &mut Vec<usize>, depth: usize) -> Result<(), AllocError>
     ensures long { OnOk result (depth < length way.new.items) }
     ensures same { OnOk result ((d : ℕ) → unwrap_or (slice_get way.new.items d) 0 ≡ unwrap_or (slice_get way.old.items d) 0) }
@@ -37,7 +37,7 @@ fn enter(way: &mut Vec<usize>, listing: &Listing<'_>, index: usize) -> Result<()
     Ok(())
 }
 
-/// The information control block of the last node up to this index whose path has so many names.
+/// The information control block of the last node up to this index whose path has `depth` names.
 fn icb_at(listing: &Listing<'_>, way: &[usize], index: usize, depth: usize) -> LbAddr
     requires { index < length listing.now.nodes.items }
     ensures { (n : NodeFields) → slice_get (listing_now listing.now).nodes index ≡ Some n → IsWay (listing_now listing.now).nodes index way.now → result ≡ icb_above (listing_now listing.now).nodes index n depth }

@@ -63,7 +63,7 @@ fn front_size(units: &[u16]) -> (usize, usize)
     }
 }
 
-/// How many units from the front have at most so many bytes in their escaped form. No surrogate pair is parted.
+/// How many units from the front have at most `room` bytes in their escaped form. No surrogate pair is parted.
 fn front_count(units: &[u16], room: usize) -> usize
     ensures value { result ≡ front_count room units.now }
     ensures bound { result ≤ length units.now }

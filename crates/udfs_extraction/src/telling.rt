@@ -39,7 +39,7 @@ fn written_line(alloc: Global, names: &Path, own: &Option<Name>) -> Result<Strin
     }
 }
 
-/// Prints what became of a node, where the output took all before it, and answers whether it took this too. Where memory is refused, nothing is printed.
+/// Prints what became of a node, if the output took all before it, and returns whether it took this too. Where memory runs out, nothing is printed.
 pub fn tell<O: Sink>(
     alloc: Global,
     heard: bool,

@@ -1,4 +1,4 @@
-//! What the words after `extract` ask for, with the times of what is made or without.
+//! What the arguments after `extract` ask for, with the times of what is made or without.
 
 ghost use Rattle.clap.specs.Matches.{found_of};
 ghost use Rattle.udfs_files.specs.Disk.{Fails};
@@ -20,7 +20,7 @@ use udfs_common::refusal::Refusal;
 use udfs_common::sources::AnySource;
 use udfs_reading::{Sink, Source};
 
-/// Does what the words after `extract` ask for. It answers whether all is good and, with `--times`, each time could be set.
+/// Does what the arguments after `extract` ask for. Returns whether all is good and, with `--times`, each time could be set.
 pub fn extract_timed<F: Files, O: Sink>(
     alloc: Global,
     words: &ArgMatches<'_>,
@@ -29,7 +29,7 @@ pub fn extract_timed<F: Files, O: Sink>(
 ) -> Result<bool, Refusal>
     ensures extracted { IfOk result (λ all. (good : Bool) × IsGoodWithTimes (found_of words.now) good all × (has_lost (found_of words.now) ≡ false → has_manifest (found_of words.now) ≡ false → has_only (found_of words.now) ≡ false →
         ExtractsAllAsked F.Files F.Output.stream (found_of words.now) (⟦<AnySource<F::Input, F::Image> as Source>⟧.remaining) O.stream files.old files.new out.old out.new good)) }
-    // With `--only` or without: only what is asked for is made, told and judged.
+    // With `--only` or without: only what is asked for is reported and judged, and made, with the folders that lead to it.
     ensures chosen { IfOk result (λ all. (good : Bool) × IsGoodWithTimes (found_of words.now) good all × (has_lost (found_of words.now) ≡ false → has_manifest (found_of words.now) ≡ false →
         ExtractsAsked F.Files F.Output.stream (found_of words.now) (⟦<AnySource<F::Input, F::Image> as Source>⟧.remaining) O.stream files.old files.new out.old out.new good)) }
     // With `--manifest` the same, and then the manifest is put.
@@ -43,9 +43,9 @@ pub fn extract_timed<F: Files, O: Sink>(
     // Their folder may not be there yet, nor the manifest where something else is.
     ensures free { IfOk result (λ all. (has_lost (found_of words.now) ≡ true → HasNewFolder F.Files (found_of words.now) (lost_others (found_of words.now)) files.old) ×
         (has_lost (found_of words.now) ≡ true → has_manifest (found_of words.now) ≡ true → HasFreeManifest F.Files (found_of words.now) files.old)) }
-    // Why it is refused, and what was made and told by then.
+    // Why it fails, and what was made and reported by then.
     ensures why { IfErr result (ExtractRefused F.Files F.Output.stream (found_of words.now) (⟦<AnySource<F::Input, F::Image> as Source>⟧.remaining) (⟦<AnySource<F::Input, F::Image> as Source>⟧.faults) O.stream files.old files.new out.old out.new (Fails F.Input.faults)) }
-    // A path that is no node's is refused before anything is made.
+    // The error for a path that is no node's comes before anything is made.
     ensures no_node { IfErr result (λ refusal. (i : ℕ) → refusal ≡ Refusal.NoNode i → files.new ≡ files.old) }
     ensures spares { ExtractSpares F.tells F.holds F.real F.may_leave F.moment F.left_since (found_of words.now) files.old files.new }
 {

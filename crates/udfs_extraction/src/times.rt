@@ -22,14 +22,14 @@ use udfs_salvage::Listing;
 use udfs_walk::{Node, Unnamed};
 use udfs_words::words::TIMES;
 
-/// Whether the words ask that times are set.
+/// Whether the arguments ask that times are set.
 fn asked_times(words: &ArgMatches<'_>) -> bool
     ensures { IsPicked (found_of words.now) (codes "times") true false result }
 {
     words.get_flag(TIMES)
 }
 
-/// Has times set from now on where the words ask for it, by the zone of the machine's clock.
+/// Has times set from now on where the arguments ask for it, by the zone of the machine's clock.
 pub fn keep_times<F: Files>(words: &ArgMatches<'_>, files: &F) -> Result<(), AllocError> {
     if asked_times(words) {
         files.times().keep(files.zone()?);
@@ -48,7 +48,7 @@ pub fn told_good<F: Files>(good: bool, words: &ArgMatches<'_>, files: &F) -> boo
     good
 }
 
-/// A time could not be set, which a person who watches is told in this line.
+/// Notes that a time could not be set, and shows this line as a remark, unless memory ran out for it.
 fn miss<F: Files>(line: Result<String, AllocError>, files: &F) {
     files.times().lack();
     if let Ok(line) = line {
@@ -81,7 +81,7 @@ fn of_lost<F: Files>(
     Ok(line)
 }
 
-/// Sets the time of what is at a path by a stamp, if that tells a moment since 1970. It answers whether that could be done, or was not to be done.
+/// Sets the time of what is at a path by a stamp, if times are kept and it gives a moment since 1970. Returns `false` where it could not be set, else `true`.
 fn set_time<F: Files>(stamp: Stamp, path: &str, files: &F) -> bool {
     match files.times().moment(stamp) {
         Some(micros) => files.set_modified(path, micros).is_ok(),
@@ -170,8 +170,8 @@ pub fn note_time<F: Files>(
     }
 }
 
-/// Sets the time of the folder that was made for the node of this index. `way` has the way to the node of the index `at`, and then the way to this one, or none where
-/// memory was refused. It answers the index of the node to which `way` leads.
+/// Sets the time of the folder that was made for the node of this index. `way` has the way to the node of the index `at`, and then the way to this one,
+/// or none where memory ran out. Returns the index of the node to which `way` leads then.
 fn set_folder_time<F: Files>(
     alloc: Global,
     listing: &Listing<'_>,

@@ -64,7 +64,7 @@ fn line_of(alloc: Global, words: &str, two: bool, entry: &Unnamed) -> Result<Str
     Ok(text)
 }
 
-/// Prints what became of an entry, where the output took all before it, and answers whether it took this too. Where memory is refused, nothing is printed.
+/// Prints what became of an entry, if the output took all before it, and returns whether it took this too. Where memory runs out, nothing is printed.
 fn tell_lost<O: Sink>(
     alloc: Global,
     heard: bool,
@@ -247,7 +247,7 @@ struct ToldLost {
     heard: bool,
 }
 
-/// Goes through the entries that no name leads to, in order. Where the output fails, it goes on, and tells no more.
+/// Goes through the entries that no name leads to, in order. Where the output fails, it goes on, but prints no more.
 fn put_entries<F: Files, O: Sink>(
     alloc: Global,
     listing: &Listing<'_>,
@@ -276,7 +276,7 @@ fn put_entries<F: Files, O: Sink>(
     Ok(ToldLost { good, heard })
 }
 
-/// Makes a folder, and brings its name to the disk, where the volume opens. It answers whether that was done, or was not to be done.
+/// Where the volume opens, makes a folder and brings its name to the disk. Returns `false` where that failed, and else `true`.
 fn make_if_open<F: Files>(volume: &Volume, folder: &str, files: &mut F) -> bool
     ensures cause { result ≡ false → Fails F.faults }
     ensures others { (q : List ℕ) → F.holds files.new q ≡ F.holds files.old q }
@@ -288,7 +288,7 @@ fn make_if_open<F: Files>(volume: &Volume, folder: &str, files: &mut F) -> bool
     }
 }
 
-/// Makes a folder where the volume opens, and writes each lost file of the report to it, by the number of its block. It answers whether none failed.
+/// Makes a folder where the volume opens, and writes each lost file of the report to it, named by the number of its block. Returns whether none failed.
 pub fn put_lost<F: Files, O: Sink>(
     alloc: Global,
     listing: &Listing<'_>,

@@ -1,4 +1,4 @@
-//! What the words after `extract` ask for, with a folder for lost files or without.
+//! What the arguments after `extract` ask for, with a folder for lost files or without.
 
 ghost use Rattle.std.specs.Prelude.{◌≡◌, ◌⊎◌, ◌∷◌, [], ℕ, Bool, List, true, false, IfOk, IfErr, OnOk, codes};
 ghost use Rattle.clap.specs.Matches.{found_of};
@@ -28,7 +28,7 @@ use udfs_words::asking::{asked_folder, asked_inputs, asked_lost_folder, asked_ma
 use udfs_words::profile::asked_profile;
 use udfs_words::words::{MANIFEST, ONLY, UNNAMED};
 
-/// Does what the words after `extract` ask for where lost files are to be written, and no manifest is.
+/// Does what the arguments after `extract` ask for where lost files are to be written, and no manifest is.
 fn with_lost_words<F: Files, O: Sink>(
     alloc: Global,
     words: &ArgMatches<'_>,
@@ -38,9 +38,9 @@ fn with_lost_words<F: Files, O: Sink>(
     ensures added { IfOk result (λ good. AddsAsked F.Files F.Output.stream (found_of words.now) (⟦<AnySource<F::Input, F::Image> as Source>⟧.remaining) O.stream files.old files.new out.old out.new good) }
     ensures free { OnOk result (HasNewFolder F.Files (found_of words.now) (folder_text (found_of words.now) ∷ []) files.old) }
     ensures judged { F.tells → (files.new ≡ files.old) ⊎ IsNewFolder (F.holds files.old) (F.real files.old) (folder_text (found_of words.now) ∷ []) (lost_text (found_of words.now)) }
-    // Why it is refused, and what was made and told by then.
+    // Why it fails, and what was made and reported by then.
     ensures why { IfErr result (AddRefused F.Files F.Output.stream (found_of words.now) (⟦<AnySource<F::Input, F::Image> as Source>⟧.remaining) (⟦<AnySource<F::Input, F::Image> as Source>⟧.faults) O.stream files.old files.new out.old out.new) }
-    // A path that is no node's is refused before anything is made.
+    // The error for a path that is no node's comes before anything is made.
     ensures no_node { IfErr result (λ refusal. (i : ℕ) → refusal ≡ Refusal.NoNode i → files.new ≡ files.old) }
     ensures spares { (mid : F) × (F.tells → Stay (F.holds files.old) (F.holds mid)) × ((q : List ℕ) → (¬ IsIn (folder_text (found_of words.now)) q) → F.holds mid q ≡ F.holds files.old q) ×
         (F.tells → Goes F.moment F.may_leave F.left_since files.old mid (Spares (folder_text (found_of words.now)) (F.holds files.old))) × SparesLost F.tells F.holds F.may_leave F.moment F.left_since (lost_text (found_of words.now)) mid files.new }
@@ -72,7 +72,7 @@ fn with_lost_words<F: Files, O: Sink>(
     }
 }
 
-/// Does what the words after `extract` ask for where lost files are to be written, and a manifest of the others.
+/// Does what the arguments after `extract` ask for where lost files are to be written, and a manifest of the others.
 fn listed_with_lost_words<F: Files, O: Sink>(
     alloc: Global,
     words: &ArgMatches<'_>,
@@ -84,9 +84,9 @@ fn listed_with_lost_words<F: Files, O: Sink>(
     ensures judged { F.tells → (files.new ≡ files.old) ⊎ IsNewFolder (F.holds files.old) (F.real files.old) (folder_text (found_of words.now) ∷ manifest_text (found_of words.now) ∷ []) (lost_text (found_of words.now)) }
     // The manifest takes the place of no file but a manifest, and never that of an input, nor of a file that is written.
     ensures free_manifest { OnOk result (HasFreeManifest F.Files (found_of words.now) files.old) }
-    // Why it is refused, and what was made and told by then.
+    // Why it fails, and what was made and reported by then.
     ensures why { IfErr result (ListAddRefused F.Files F.Output.stream (found_of words.now) (⟦<AnySource<F::Input, F::Image> as Source>⟧.remaining) (⟦<AnySource<F::Input, F::Image> as Source>⟧.faults) O.stream files.old files.new out.old out.new (Fails F.Input.faults)) }
-    // A path that is no node's is refused before anything is made.
+    // The error for a path that is no node's comes before anything is made.
     ensures no_node { IfErr result (λ refusal. (i : ℕ) → refusal ≡ Refusal.NoNode i → files.new ≡ files.old) }
     ensures spares { (mid : F) × ((short : Bool) × IsPicked (found_of words.now) (codes "short-names") true false short × SparesListed F.tells F.holds F.may_leave F.moment F.left_since short (folder_text (found_of words.now)) (F.real files.old (manifest_text (found_of words.now))) files.old mid) ×
         SparesLost F.tells F.holds F.may_leave F.moment F.left_since (lost_text (found_of words.now)) mid files.new }
@@ -134,7 +134,7 @@ fn listed_with_lost_words<F: Files, O: Sink>(
     }
 }
 
-/// Does what the words after `extract` ask for where lost files are to be written.
+/// Does what the arguments after `extract` ask for where lost files are to be written.
 fn lost_words<F: Files, O: Sink>(
     alloc: Global,
     words: &ArgMatches<'_>,
@@ -148,10 +148,10 @@ fn lost_words<F: Files, O: Sink>(
     ensures free { OnOk result (HasNewFolder F.Files (found_of words.now) (lost_others (found_of words.now)) files.old) }
     ensures judged { F.tells → (files.new ≡ files.old) ⊎ IsNewFolder (F.holds files.old) (F.real files.old) (lost_others (found_of words.now)) (lost_text (found_of words.now)) }
     ensures free_manifest { OnOk result (has_manifest (found_of words.now) ≡ true → HasFreeManifest F.Files (found_of words.now) files.old) }
-    // Why it is refused, and what was made and told by then.
+    // Why it fails, and what was made and reported by then.
     ensures why { IfErr result (λ refusal. has_manifest (found_of words.now) ≡ false → AddRefused F.Files F.Output.stream (found_of words.now) (⟦<AnySource<F::Input, F::Image> as Source>⟧.remaining) (⟦<AnySource<F::Input, F::Image> as Source>⟧.faults) O.stream files.old files.new out.old out.new refusal) }
     ensures why_listed { IfErr result (λ refusal. has_manifest (found_of words.now) ≡ true → ListAddRefused F.Files F.Output.stream (found_of words.now) (⟦<AnySource<F::Input, F::Image> as Source>⟧.remaining) (⟦<AnySource<F::Input, F::Image> as Source>⟧.faults) O.stream files.old files.new out.old out.new (Fails F.Input.faults) refusal) }
-    // A path that is no node's is refused before anything is made.
+    // The error for a path that is no node's comes before anything is made.
     ensures no_node { IfErr result (λ refusal. (i : ℕ) → refusal ≡ Refusal.NoNode i → files.new ≡ files.old) }
     ensures spares { (mid : F) × NodesSpare F.tells F.holds F.real F.may_leave F.moment F.left_since (found_of words.now) files.old mid × SparesLost F.tells F.holds F.may_leave F.moment F.left_since (lost_text (found_of words.now)) mid files.new }
 {
@@ -167,7 +167,7 @@ fn lost_words<F: Files, O: Sink>(
     }
 }
 
-/// Does what the words after `extract` ask for: with `--manifest` it also writes a manifest, and with `--unnamed` lost files.
+/// Does what the arguments after `extract` ask for: with `--manifest` it also writes a manifest, and with `--unnamed` lost files.
 pub fn extract_asked<F: Files, O: Sink>(
     alloc: Global,
     words: &ArgMatches<'_>,
@@ -176,7 +176,7 @@ pub fn extract_asked<F: Files, O: Sink>(
 ) -> Result<bool, Refusal>
     ensures extracted { IfOk result (λ good. has_lost (found_of words.now) ≡ false → has_manifest (found_of words.now) ≡ false → has_only (found_of words.now) ≡ false →
         ExtractsAllAsked F.Files F.Output.stream (found_of words.now) (⟦<AnySource<F::Input, F::Image> as Source>⟧.remaining) O.stream files.old files.new out.old out.new good) }
-    // With `--only` or without: only what is asked for is made, told and judged.
+    // With `--only` or without: only what is asked for is reported and judged, and made, with the folders that lead to it.
     ensures chosen { IfOk result (λ good. has_lost (found_of words.now) ≡ false → has_manifest (found_of words.now) ≡ false →
         ExtractsAsked F.Files F.Output.stream (found_of words.now) (⟦<AnySource<F::Input, F::Image> as Source>⟧.remaining) O.stream files.old files.new out.old out.new good) }
     // With `--manifest` the same, and then the manifest is put.
@@ -190,9 +190,9 @@ pub fn extract_asked<F: Files, O: Sink>(
     // Their folder may not be there yet, nor the manifest where something else is.
     ensures free { IfOk result (λ good. (has_lost (found_of words.now) ≡ true → HasNewFolder F.Files (found_of words.now) (lost_others (found_of words.now)) files.old) ×
         (has_lost (found_of words.now) ≡ true → has_manifest (found_of words.now) ≡ true → HasFreeManifest F.Files (found_of words.now) files.old)) }
-    // Why it is refused, and what was made and told by then.
+    // Why it fails, and what was made and reported by then.
     ensures why { IfErr result (ExtractRefused F.Files F.Output.stream (found_of words.now) (⟦<AnySource<F::Input, F::Image> as Source>⟧.remaining) (⟦<AnySource<F::Input, F::Image> as Source>⟧.faults) O.stream files.old files.new out.old out.new (Fails F.Input.faults)) }
-    // A path that is no node's is refused before anything is made.
+    // The error for a path that is no node's comes before anything is made.
     ensures no_node { IfErr result (λ refusal. (i : ℕ) → refusal ≡ Refusal.NoNode i → files.new ≡ files.old) }
     ensures spares { ExtractSpares F.tells F.holds F.real F.may_leave F.moment F.left_since (found_of words.now) files.old files.new }
 {

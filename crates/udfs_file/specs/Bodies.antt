@@ -266,7 +266,7 @@ pub record IsContinuedFor (view : View) (taken : List (ℕ × LongAd)) (k n : �
   pub from : extent.0 ≤ k
   pub place : view.place extent.1.reference extent.1.block ≡ Some n
 
--- cell k of a body can be told only if block n is known
+-- cell k of a body can be read only if block n is known
 abbrev pub IsNeededFor : View → ℕ → EntryFields → ℕ → ℕ → Type 0
 IsNeededFor view r entry k n = let taken = used entry.size (allocation_descriptors view r entry).all in
     (k < entry.size) × (¬ (entry.form ≡ 3)) × (IsRecordedFor view entry.size taken k n ⊎ IsContinuedFor view taken k n)

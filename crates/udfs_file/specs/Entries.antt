@@ -70,7 +70,7 @@ entry_fault bytes b = first_fault (
 abbrev pub kind_of : ℕ → Kind
 kind_of t = cond (t == 4) Directory (cond (t == 5) File (cond (t == 12) Link (Other t)))
 
--- An entry: what is told of it, the form of its descriptors, and the bytes that hold them.
+-- An entry: its kind, size and time, the form of its descriptors, and the bytes that hold them.
 pub record EntryFields : Type 0 where
   pub kind : Kind
   pub size : ℕ

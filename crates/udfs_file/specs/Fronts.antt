@@ -41,7 +41,7 @@ holder_of [] = None
 holder_of (Byte x holder ∷ cells) = holder
 holder_of (Gap n ∷ cells) = None
 
--- the length of a descriptor, a multiple of 4, told by its first 38 bytes (4/14.4.9)
+-- the length of a descriptor, a multiple of 4, given by its first 38 bytes (4/14.4.9)
 abbrev pub identifier_size : List ℕ → ℕ
 identifier_size bytes = 4 * ((uint8_at bytes 19 + uint16_at bytes 36 + 41) / 4)
 
@@ -113,7 +113,7 @@ abbrev pub read_from : ℕ → List Cell → DirectoryText
 read_from zero cells = record { identifiers = []; rest = Nothing }
 read_from (suc n) cells = read_on (step cells) (λ size. read_from n (drop size cells))
 
--- the descriptors of a directory's cells, as far as they can be told
+-- the descriptors of a directory's cells, as far as they can be read, and what ends them
 unfoldable pub directory : List Cell → DirectoryText
 directory cells = read_from (length cells + 1) cells
 
@@ -121,11 +121,11 @@ directory cells = read_from (length cells + 1) cells
 abbrev pub listed_entries : List Identifier → List DirEntry
 listed_entries ids = filter_map (λ id. id.listed) ids
 
--- the entries that a directory lists, as far as they can be told
+-- the entries that a directory lists, as far as they can be read
 abbrev pub directory_entries : List Cell → List DirEntry
 directory_entries cells = listed_entries (directory cells).identifiers
 
--- ---- what code tells of a directory
+-- ---- what code reports of a directory
 -- the missing block that ended a directory, if one did
 abbrev pub missing_in : Rest → Option ℕ
 missing_in Nothing = None
@@ -150,7 +150,7 @@ pub record IsEndOf (end : DirEnd) (cells : List Cell) : Type 0 where
   pub missing : end.missing ≡ missing_in (directory cells).rest
   pub fault : end.fault ≡ fault_in (directory cells).rest
 
--- too many entries are told only where there are more than `most`, and out of memory only where there is one at least
+-- too many entries are reported only where there are more than `most`, and out of memory only where there is one at least
 abbrev pub IsFrontRefused : ℕ → List Cell → FrontError → Type 0
 IsFrontRefused most cells front_error.TooMany = most < length (directory_entries cells)
 IsFrontRefused most cells front_error.OutOfMemory = 0 < length (directory_entries cells)

@@ -29,7 +29,7 @@ portion_count (Bytes bytes) = length bytes.now
 portion_count (Zeros count) = count
 portion_count (Missing run) = run.count
 
--- the cells of so many blocks that are not known, from block n on, of each at least one
+-- the cells of this many blocks that are not known, from block n on, of each at least one
 abbrev pub AreUnread : ℕ → ℕ → List Cell → Type 0
 AreUnread n zero cs = cs ≡ []
 AreUnread n (suc k) cs = (more : ℕ) × (rest : List Cell) × (cs ≡ replicate (suc more) (Gap n) ++ rest) × AreUnread (n + 1) k rest

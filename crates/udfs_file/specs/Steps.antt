@@ -1,7 +1,7 @@
 -- Steps of a cursor through a directory.
 --     bytes_of view            the bytes of both pieces
---     StepIs told step         what is told is this step of the definition
---     IsStep before told after what stood next, and what is left behind it
+--     StepIs told step         the step of the code is this step of the definition
+--     IsStep before told after what was next, and what is left after it
 --     StepsTo before told after   the same of the list of all descriptors and what ends it
 use Rattle.std.specs.Prelude.{◌≡◌, ◌≤◌, ℕ, List, [], ◌∷◌, ◌++◌, length, drop, Option}
 use Rattle.udfs_file.specs.Fronts.{DirectoryText, identifier_in, step}
@@ -38,7 +38,7 @@ left_behind (Stop n) before = before
 left_behind (Fault fault) before = before
 left_behind End before = before
 
--- a cursor told the step of the cells before, and what is behind it is left
+-- a cursor returned the step of the cells before, and what is after it is left
 pub record IsStep (before : List Cell) (told : Step) (after : List Cell) : Type 0 where
   pub is : StepIs told (step before)
   pub behind : after ≡ left_behind told before

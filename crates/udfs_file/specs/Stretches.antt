@@ -1,8 +1,8 @@
--- What code tells of a body: stretches of cells, each by numbers alone.
+-- What code reports of a body: stretches of cells, each by numbers alone.
 --     stretch_cells view s       the cells of a stretch
 --     cells_of view ss           the cells of stretches, one after the other
 --     LieInBlocks ss             all but the last fill their blocks
---     GivesStretches view result whole    what is answered is what the definition says
+--     GivesStretches view result whole    the result is what the definition says
 use Rattle.std.specs.Prelude.{◌≡◌, ◌⊎◌, ⊤, ◌+◌, ◌%◌, ◌<◌, ◌≤◌, Bool, false, length, ℕ, List, [], ◌∷◌, map, flat_map, replicate, Some, None, Result, Ok, Err}
 use Rattle.std.specs.List.{range_with_len}
 use Rattle.udfs_tag.specs.declared.layouts.LongAd.{LongAd}
@@ -84,7 +84,7 @@ FitsArea (Area bytes) = length bytes.now ≤ 2048
 FitsArea (Unread n) = Unit {0}
 FitsArea (Broken fault) = Unit {0}
 
--- what is answered is what the definition says; memory may be wanted whatever it says
+-- the result is what the definition says; memory may run out whatever it says
 abbrev pub GivesStretches : View → Result (List Stretch) WalkError → Body → Type 0
 GivesStretches view (Ok stretches) whole = whole ≡ cells (cells_of view stretches)
 GivesStretches view (Err (Fault fault)) whole = whole ≡ faulty_body fault

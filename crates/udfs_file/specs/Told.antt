@@ -1,8 +1,8 @@
--- What the calls tell of partitions of which a part is known: of every complete view of which this one is a part.
+-- What the calls report of partitions of which a part is known: of every complete view of which this one is a part.
 --     TellsFileSet some a seen           the root of the complete file set, or its block as the one hole
 --     TellsBody some r b entry told      each cell of the complete body, or a block that is not known and that it needs
 --     TellsFront part front              the first entries of the whole directory, up to a missing cell
--- What they tell of a complete view itself is what the standard reads from its blocks, and nothing else.
+-- What they report of a complete view itself is what the standard reads from its blocks, and nothing else.
 use Rattle.std.specs.Prelude.{◌≡◌, ◌↔◌, ◌<◌, ⊤, ℕ, true, false, List, [], ◌∷◌, ◌++◌, length, slice_get, Some, None, Result, Ok, Err}
 use Rattle.std.specs.List.{AllZip}
 use Rattle.udfs_lattice.specs.States.{is_known}
@@ -30,21 +30,21 @@ use Rattle.udfs_file.specs.declared.faults.WalkError.TheVariants as walk_error
 use Rattle.udfs_file.specs.declared.stretches.Stretch.{Stretch}
 
 -- ---- the file set
--- this root, and block n is known; or block n is the one hole and is not known, as where memory is wanted for it
+-- this root, and block n is known; or block n is not known, and is the one hole or memory ran out for it
 abbrev pub IsRootOf : View → ℕ → LongAd → Seen LongAd → Type 0
 IsRootOf some n root (seen.Got got) = (got ≡ root) × (is_known (some.blocks n) ≡ true)
 IsRootOf some n root (seen.Holes listed) = (listed.items ≡ n ∷ []) × (is_known (some.blocks n) ≡ false)
 IsRootOf some n root (seen.Fault fault) = ⊥
 IsRootOf some n root seen.OutOfMemory = is_known (some.blocks n) ≡ false
 
--- what is told of a file set whose descriptor, in the complete view, stands in a block and names this root
+-- what is reported of a file set whose descriptor, in the complete view, is in a block and names this root
 pub record IsFileSetTold (some all : View) (a root : LongAd) (told : Seen LongAd) : Type 0 where
   pub block : ℕ
   pub place : all.place a.reference a.block ≡ Some block
   pub root_or_hole : IsRootOf some block root told
   pub standard : (blocks : PartitionBlocks) → IsComplete all blocks → IsReadFileSet blocks a root
 
--- over a part of each view in which the file set names a root, what is told is told of that root
+-- over a part of each view in which the file set names a root, the result is true of that root, as `IsFileSetTold` says
 abbrev pub TellsFileSet : View → LongAd → Seen LongAd → Type 0
 TellsFileSet some a told = (all : View) → IsPartOf some all → (root : LongAd) → file_set all a ≡ found root
     → IsFileSetTold some all a root told
@@ -56,13 +56,13 @@ pub record IsToldBody (some all : View) (r b : ℕ) (entry : EntryFields) (part 
   pub cells_are : ArePartOf some all r entry part whole
   pub standard : (blocks : PartitionBlocks) → IsComplete all blocks → IsReadBody blocks r b entry whole
 
--- such a body has no fault in a part of the view; memory may be wanted
+-- such a body has no fault in a part of the view; memory may run out
 abbrev pub IsBodyTold : View → View → ℕ → ℕ → EntryFields → List Cell → Result (List Stretch) WalkError → Type 0
 IsBodyTold some all r b entry whole (Ok stretches) = IsToldBody some all r b entry (cells_of some stretches) whole
 IsBodyTold some all r b entry whole (Err (walk_error.Fault fault)) = ⊥
 IsBodyTold some all r b entry whole (Err walk_error.OutOfMemory) = ⊤
 
--- over a part of each view in which the body has no fault, what is told is told of that body
+-- over a part of each view in which the body has no fault, the result is true of that body, as `IsBodyTold` says
 abbrev pub TellsBody : View → ℕ → ℕ → EntryFields → Result (List Stretch) WalkError → Type 0
 TellsBody some r b entry told = (all : View) → IsPartOf some all → (whole : List Cell) → body all r b entry ≡ cells whole
     → IsBodyTold some all r b entry whole told

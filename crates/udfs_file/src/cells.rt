@@ -28,7 +28,7 @@ pub(crate) struct Cells<'a> {
     pub(crate) passed: u64,
 }
 
-/// Whether stretches have at least so many cells.
+/// Whether stretches have at least `count` cells.
 fn hold(stretches: &[Stretch], count: u64) -> bool
     ensures { (v : places.View) → result ≡ nat_le count (length (cells_of v stretches.now)) }
 {
@@ -66,7 +66,7 @@ impl<'a> Cells<'a> {
         }
     }
 
-    /// Whether at least so many cells are left.
+    /// Whether at least `count` cells are left.
     pub(crate) fn holds(&self, count: u64) -> bool
         ensures { result ≡ nat_le count (length (cells_left self.now)) }
     {
@@ -81,7 +81,7 @@ impl<'a> Cells<'a> {
         hold(rest, count - here)
     }
 
-    /// The first cells as far as they lie in one block, and at most so many.
+    /// The first cells as far as they lie in one block, and at most `want`.
     fn first_piece(&self, want: usize) -> Piece<'a>
         requires settled { IsSettled self.now }
         requires some { 1 ≤ want }
@@ -95,7 +95,7 @@ impl<'a> Cells<'a> {
         }
     }
 
-    /// So many cells at the front, which are there.
+    /// The first `want` cells, which have to be there.
     pub(crate) fn front(&self, want: usize) -> Front<'a>
         requires some { 1 ≤ want }
         requires block { want ≤ 2048 }
@@ -127,7 +127,7 @@ impl<'a> Cells<'a> {
         }
     }
 
-    /// The cells behind so many.
+    /// The cells after the first `count`.
     pub(crate) fn behind(&self, count: usize) -> Cells<'a>
         ensures cells { cells_left result ≡ drop count (cells_left self.now) }
         ensures starts { Starts (self.now.passed + count) self.now.stretches.now → Starts result.passed result.stretches.now }

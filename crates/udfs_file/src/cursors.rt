@@ -111,7 +111,7 @@ fn is_identifier(view: &Pieces<'_>, b: u32) -> bool
     }
 }
 
-/// The bytes of a slice from one on, and at most so many.
+/// The bytes of a slice from place `at` on, at most `count` of them.
 fn slice_of(bytes: &[u8], at: usize, count: usize) -> &[u8]
     ensures { result.now ≡ take count (drop at bytes.now) }
 {
@@ -216,13 +216,13 @@ impl<'a> Cursor<'a> {
     }
 
     /// The next descriptor, which is then passed; or what ends the directory in its place, and then each further call
-    /// answers the same.
+    /// returns the same.
     ///
     /// [`Step::End`] comes where no byte is left. Faults are, of one descriptor in this order: [`NodeFault::Cut`]
     /// where fewer than 38 bytes are left; [`NodeFault::Cut`] where it takes more than 2048 bytes or passes the end;
     /// [`NodeFault::IdentifierTag`] where its tag is not that of a file identifier at the logical block that holds its first
     /// byte; [`NodeFault::Name`] where its name is none, unless the entry is deleted or the parent. [`Step::Stop`] comes
-    /// before a fault that cannot be told without the missing block.
+    /// in place of a fault that cannot be determined without the missing block.
     #[tactic(auto, using(crate::proofs::CursorSteps::goes))]
     pub fn next(&mut self) -> Step<'a>
         ensures step { IsStep self.old result self.new }

@@ -34,7 +34,7 @@ pub struct DirEntry {
     pub marks: Marks,
 }
 
-/// The entries of a directory as far as they can be told, and what ended them.
+/// The entries of a directory as far as they can be read, and what ended them.
 #[derive(Debug, Drop)]
 pub struct DirFront {
     /// The entries that are neither deleted nor the directory's parent, in their order.
@@ -45,7 +45,7 @@ pub struct DirFront {
     pub fault: Option<NodeFault>,
 }
 
-/// What ends a directory as far as it can be told, and whether it lists anything before that.
+/// What ends a directory as far as it can be read, and whether it lists anything before that.
 #[derive(Clone, Copy, Debug)]
 pub struct DirEnd {
     /// Whether an entry that is neither deleted nor the directory's parent stands before the end.
@@ -154,7 +154,7 @@ fn put(entries: &mut Vec<DirEntry>, entry: DirEntry) -> Result<(), AllocError>
 pub enum Dir {}
 
 impl Dir {
-    /// The entries of the directory that has this body, from its beginning as far as they can be told: up to
+    /// The entries of the directory that has this body, from its beginning as far as they can be read: up to
     /// its end, to a descriptor of which some cell is missing, or to a fault.
     ///
     /// The body is one of this table and space. Faults are, of one descriptor in this order:
@@ -186,11 +186,11 @@ impl Dir {
         }
     }
 
-    /// The same as [`Dir::front`], of a directory that lists at most so many entries: no more than these are kept.
+    /// The same as [`Dir::front`], of a directory that lists at most `most` entries: no more than these are kept.
     ///
     /// # Errors
     ///
-    /// [`FrontError::TooMany`] where the directory lists more entries, as far as they can be told, and
+    /// [`FrontError::TooMany`] where the directory lists more entries, as far as they can be read, and
     /// [`FrontError::OutOfMemory`] where memory was refused: never where the directory lists nothing.
     pub fn front_within(
         alloc: Global,
@@ -223,7 +223,7 @@ impl Dir {
         }
     }
 
-    /// What ends the directory that has this body, as [`Dir::front`] tells it, and whether it lists anything before that. It takes
+    /// What ends the directory that has this body, as [`Dir::front`] reports it, and whether it lists anything before that. It takes
     /// no memory.
     pub fn end(view: View<'_>, body: &Body) -> DirEnd
         ensures { IsEndOf result (cells_of (view_now view.entry) body.now) }

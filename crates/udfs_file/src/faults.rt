@@ -10,7 +10,7 @@ use std::error::Error;
 use std::fmt;
 
 /// What is wrong with a node: with the address of its information control block, its entry, its body, or, of a
-/// directory, what it lists. Of several faults of one step the one with the least number is told.
+/// directory, what it lists. Of several faults of one step the one with the least number is reported.
 #[derive(Clone, Copy, Debug, PartialEq, Eq, PartialOrd, Ord)]
 pub enum NodeFault {
     /// The block is no file entry and no extended file entry, valid at its logical block (ECMA-167 4/14.9, 4/14.17).
@@ -122,7 +122,7 @@ impl fmt::Display for WalkError {
 
 impl Error for WalkError {}
 
-/// Why the entries of a directory are not told.
+/// Why the entries of a directory are not returned.
 #[derive(Clone, Copy, Debug, PartialEq, Eq)]
 pub enum FrontError {
     /// The directory lists more entries than were asked for.

@@ -81,10 +81,10 @@ fn file_set_at(
 ///
 /// The one fault is [`VolumeFault::FileSet`]: the address is not good, as [`address_fault`] says, or its
 /// block is no file set descriptor. A block that is not known is the one hole. It takes memory for holes alone: a
-/// root and the fault are told whatever memory there is.
+/// root and the fault are returned whatever memory there is.
 ///
-/// Where the partitions are a part of complete ones, whose file set names a root as the standard reads it, this
-/// is the root that is told, and its block is known; or that block is the hole, and is not known.
+/// Where the partitions are a part of complete ones, whose file set names a root as the standard reads it, this root
+/// is returned, and the descriptor's block is known; or that block is not known, and is the hole or memory ran out.
 #[tactic(auto, unfolding(crate::specs::Addresses::file_set))]
 pub fn file_set(alloc: Global, table: &BlockTable, space: &Space, address: LongAd) -> Seen<LongAd>
     ensures value { Sees (λ a. a) result (file_set (view (state_of table.now) space.now) address) }

@@ -3,8 +3,8 @@
 //!
 //! [`file_set()`] finds the root's information control block, [`Entry::read`] reads the entry in a block,
 //! [`Body::read`] follows its allocation descriptors, and [`Dir::front`] lists what a directory's body holds. An
-//! address is a partition reference and a logical block. Where a block that is needed is not known, the answer names
-//! it, and says as much as can be told without it; nothing is guessed. The laws in [`laws`] say what that means.
+//! address is a partition reference and a logical block. Where a block that is needed is not known, the result names
+//! it, and says as much as is known without it; nothing is guessed. The laws in [`laws`] say what that means.
 #![tactic(auto)]
 
 pub mod bodies;

@@ -34,7 +34,7 @@ pub struct Pieces<'a> {
     pub holder: Option<u32>,
 }
 
-/// So many cells at the front of some.
+/// A given number of cells at the front of some.
 #[derive(Clone, Copy)]
 pub(crate) enum Front<'a> {
     /// Their bytes, of which none is missing.
@@ -43,7 +43,7 @@ pub(crate) enum Front<'a> {
     Gap(u32),
 }
 
-/// So many zeros.
+/// `count` zeros.
 pub(crate) fn zeros(count: usize) -> &'static [u8]
     requires { count ≤ 2048 }
     ensures { result.now ≡ replicate count 0 }
@@ -52,7 +52,7 @@ pub(crate) fn zeros(count: usize) -> &'static [u8]
     front
 }
 
-/// So many bytes of a block from one on.
+/// `count` bytes of a block, from place `at` on.
 pub(crate) fn bytes_at(block: &[u8; 2048], at: usize, count: usize) -> &[u8]
     requires { at + count ≤ 2048 }
     ensures value { result.now ≡ take count (drop at block.now) }
@@ -63,7 +63,7 @@ pub(crate) fn bytes_at(block: &[u8; 2048], at: usize, count: usize) -> &[u8]
     front
 }
 
-/// So many recorded cells in one block, from this place behind the run's block on.
+/// `count` recorded cells in one block, from byte `at` on, counted from the start of the run's first block.
 pub(crate) fn recorded_piece<'a>(view: View<'a>, run: Run, at: u64, count: usize) -> Piece<'a>
     requires inside { at % 2048 + count ≤ 2048 }
     requires some { 1 ≤ count }
@@ -82,7 +82,7 @@ pub(crate) fn recorded_piece<'a>(view: View<'a>, run: Run, at: u64, count: usize
     }
 }
 
-/// The cells of a stretch behind some that are passed, as far as they lie in one block, and at most so many.
+/// The cells of a stretch after the first `passed`, as far as they lie in one block, and at most `want`.
 pub(crate) fn stretch_piece<'a>(
     view: View<'a>,
     stretch: Stretch,

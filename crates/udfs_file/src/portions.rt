@@ -23,7 +23,7 @@ use udfs_tag::LbAddr;
 pub enum Portion<'a> {
     /// Known bytes, all in one block.
     Bytes(&'a [u8]),
-    /// So many zeros that are not recorded.
+    /// This many zeros that are not recorded.
     Zeros(u64),
     /// Missing bytes.
     Missing(Unread),
@@ -53,7 +53,7 @@ impl<'a> Portion<'a> {
     }
 }
 
-/// Whether the block so many behind a logical address is not known and has this number.
+/// Whether the block `behind` logical blocks after an address is not known and has the number `n`.
 fn is_unread(view: View<'_>, address: LbAddr, behind: u32, n: u32) -> bool
     ensures { result ≡ true → IsUnreadAt (block_at (view_now view.entry) address.reference (address.block + behind)) n }
 {
@@ -64,8 +64,8 @@ fn is_unread(view: View<'_>, address: LbAddr, behind: u32, n: u32) -> bool
     }
 }
 
-/// How many consecutive logical blocks, from the one so many behind an address on, are not known and stand one behind the other from
-/// this block of the volume on, as far as a step goes: several at once only where they are unknown; none only where the first is not
+/// How many consecutive logical blocks, from `behind` blocks after an address on, are not known and lie one after the other from block
+/// `n` of the volume on, as far as a step goes: several at once only where they are unknown; none only where the first is not
 /// such a block.
 fn unread_step(view: View<'_>, address: LbAddr, behind: u32, n: u32) -> u32
     ensures { (j : ℕ) → j < result → IsUnreadAt (block_at (view_now view.entry) address.reference (address.block + behind + j)) (n + j) }
@@ -81,8 +81,8 @@ fn unread_step(view: View<'_>, address: LbAddr, behind: u32, n: u32) -> u32
     u32::from(is_unread(view, address, behind, n))
 }
 
-/// How many consecutive logical blocks, from the one so many behind an address on, are not known and stand one behind the other from
-/// this block of the volume on: at most so many.
+/// How many consecutive logical blocks, from `behind` blocks after an address on, are not known and lie one after the other from block
+/// `n` of the volume on: at most `most`.
 fn unread_run(view: View<'_>, address: LbAddr, behind: u32, n: u32, most: u32) -> u32
     requires near { behind + most < 2 ^ 32 }
     requires low { n + most < 2 ^ 32 }
@@ -100,7 +100,7 @@ fn unread_run(view: View<'_>, address: LbAddr, behind: u32, n: u32, most: u32) -
     count
 }
 
-/// The missing bytes from a place behind a run's block on, of which the first is in block `n`: at most so many.
+/// The missing bytes from byte `at` on, counted from the start of the run's first block, of which the first is in block `n`: at most `left`.
 fn unread_portion<'a>(view: View<'a>, run: Run, at: u64, n: u32, left: u64) -> Portion<'a>
     requires some { 1 ≤ left }
     requires far { left < 2 ^ 32 }
@@ -121,7 +121,7 @@ fn unread_portion<'a>(view: View<'a>, run: Run, at: u64, n: u32, left: u64) -> P
     })
 }
 
-/// The recorded bytes from a place behind a run's block on, as far as one portion goes: at most so many.
+/// The recorded bytes from byte `at` on, counted from the start of the run's first block, as far as one portion goes: at most `left`.
 fn recorded_portion<'a>(view: View<'a>, run: Run, at: u64, left: u64) -> Portion<'a>
     requires some { 1 ≤ left }
     requires far { left < 2 ^ 32 }

@@ -1,4 +1,4 @@
-//! What is told of a body.
+//! What is reported of a body.
 
 ghost use Rattle.std.specs.Prelude.{◌≡◌};
 ghost use Rattle.udfs_file.specs.Stretches.{stretch_count};

@@ -18,7 +18,7 @@ use udfs_times::{Times, Zone};
 
 /// An output while it is written.
 pub trait Handle: Sink {
-    /// The path at which it was made, where it tells that.
+    /// The path at which it was made, where that is known.
     ghost place: { Self → List ℕ };
 
     /// As [`Sink::write`], and the output is still the same.
@@ -56,8 +56,8 @@ pub struct Target {
 
 /// Opens, makes, moves and removes files by their paths. The machine's are [`Machine`](crate::Machine).
 ///
-/// Where it is not said otherwise, a path is what a file is called without links: two paths are two files. What is told of a crash is told of the
-/// end of the process at any moment, and of a power cut.
+/// Unless stated otherwise, a path is the name of a file without links: two paths are two files. What is said of a crash holds for the end of the
+/// process at any moment, and for a power cut.
 pub trait Files {
     /// An opened input.
     type Input: Source + Drop;
@@ -71,10 +71,10 @@ pub trait Files {
     /// An output that was made.
     type Output: Handle + Drop;
 
-    /// Whether these files tell what they hold. The machine's do not: what the system keeps is its word.
+    /// Whether it is known what these files hold. Of the machine's it is not: no contract can say what the system keeps.
     ghost tells: { Type 0 };
 
-    /// What a path holds, where that is told: some bytes, or no file. Files that tell tell all but a file that is being written.
+    /// What a path holds, where that is known: some bytes, or no file. With `tells` it is unknown only for a file that was begun and is not synced.
     ghost holds: { Self → List ℕ → Option (Option (List ℕ)) };
 
     /// Where a path leads, every link followed.
@@ -121,8 +121,8 @@ pub trait Files {
         ensures there { OnOk result (holds self.now (real self.now path.now) ≢ Some None) }
         ensures shut { OnErr result (shut self.now path.now) };
 
-    /// Opens a file to be read at positions as often as it is wanted, which changes none. Links are followed. Answers `None`, and opens nothing,
-    /// where what is there is no regular file, as a pipe, or its kind is not told: [`open`](Self::open) opens it, or says that it cannot be opened.
+    /// Opens a file to be read at positions as often as it is wanted, which changes none. Links are followed. Returns `None`, and opens nothing,
+    /// where what is there is no regular file, as a pipe, or its kind is not known: [`open`](Self::open) opens it, or fails.
     ///
     /// # Errors
     ///
@@ -136,7 +136,7 @@ pub trait Files {
     ///
     /// # Errors
     ///
-    /// `AllocError` for want of memory. `DeviceFault` inside where the path leads nowhere that can be told, as to a folder that is not there.
+    /// `AllocError` where memory ran out. `DeviceFault` inside, only of a path that may fail to open: as where it leads into a folder that is not there.
     fn resolve(&self, alloc: Global, path: &str) -> Result<Result<Target, DeviceFault>, AllocError>
         ensures leads { IfOk result (λ found. IfOk found (λ target. tells → string_bytes target.path ≡ real self.now path.now)) }
         ensures other { IfOk result (λ found. IfOk found (λ target. target.kind ≡ Kind.Other → in_place self.now path.now)) }
@@ -183,7 +183,7 @@ pub trait Files {
     ///
     /// # Errors
     ///
-    /// `DeviceFault`, exactly where the count of faults goes up by one. What the path holds then is not told.
+    /// `DeviceFault`, exactly where the count of faults goes up by one. It is not specified what the path holds then.
     fn sync(&mut self, path: &str, output: Self::Output) -> Result<(), DeviceFault>
         requires place { tells → Self.Output.place output ≡ path.now }
         requires open { holds self.old path.now ≡ None }
@@ -243,11 +243,11 @@ pub trait Files {
     /// Gives a new file the permissions of an old one, where both are there and the system can. It changes no byte.
     fn copy_permissions(&self, from: &str, to: &str);
 
-    /// The zone of the machine's clock, by which local times are told. That it is the right one is the machine's word.
+    /// The zone of the machine's clock, by which local times are converted. That it is the right one is up to the machine.
     ///
     /// # Errors
     ///
-    /// `AllocError` for want of memory.
+    /// `AllocError` where memory ran out.
     fn zone(&self) -> Result<Zone, AllocError>;
 
     /// Whether the times of what is made are to be set, and what came of that.
@@ -289,19 +289,19 @@ pub trait Files {
     /// Whether a person reads what is said on standard error.
     fn is_watched(&self) -> bool;
 
-    /// Something else is done from now on, which who watches may be told.
+    /// The command is in this stage from now on, which may be shown to a person who watches.
     fn begin(&self, stage: Stage);
 
-    /// Who reads standard error is to be told nothing more.
+    /// No stage and no remark is to be shown on standard error from now on.
     fn hush(&self);
 
-    /// Who reads standard error is to be told more than has to be said, also where it is no terminal.
+    /// Remarks are to be shown on standard error from now on, even where it is no terminal.
     fn speak(&self);
 
-    /// Tells who watches, or is to be told more, a line of text beside what is printed.
+    /// Shows a remark, a line of text beside what is printed, where a person watches or [`speak`](Self::speak) asked for it.
     fn remark(&self, text: &str);
 
-    /// Files that tell what they hold tell it of what is read at positions.
+    /// With `tells`, the bytes of all that is read at positions are known.
     ghost stored_told: { tells → AreAllTold Self.Stored.content };
 
     /// What is read at positions can be read from its front.
@@ -310,10 +310,10 @@ pub trait Files {
     /// What is read at positions can be read as an image.
     ghost stored_as_image: { (stored : Self.Stored) → (image : Self.Image) × (Self.Image.bytes image ≡ Self.Stored.content stored) };
 
-    /// What is read at positions is told, or no output tells what was written to it.
+    /// The bytes of all that is read at positions are known, or it is known of no output what was written to it.
     ghost told_or_silent: { ToldOrSilent Self.Stored.content Self.Output.stream };
 
-    /// An output of files that tell what they hold tells what was written to it.
+    /// With `tells`, it is known of each output what was written to it.
     ghost output_told: { tells → (output : Self.Output) → (bytes : List ℕ) × ((Self.Output.stream output).contents ≡ Some bytes) };
 
     /// A crash leaves something.

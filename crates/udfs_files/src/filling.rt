@@ -55,7 +55,7 @@ pub trait Job {
     /// Why it was refused.
     type Refusal: Drop;
 
-    /// What a sink that told its contents before and after has taken.
+    /// What a sink has taken, by its contents before and after, each where it is known.
     ghost wrote: { Self → Option (List ℕ) → Option (List ℕ) → Type 0 };
 
     /// A refusal that comes only of a fault of the sink.
@@ -90,7 +90,7 @@ fn do_at<K: Place, H: Handle + Drop, J: Job>(handle: H, job: &J) -> Result<H, J:
     Ok(handle)
 }
 
-/// Does a job on an output, and answers the output, which has taken all of it.
+/// Does a job on an output, and returns the output, which has taken all of it.
 ///
 /// # Errors
 ///
@@ -121,7 +121,7 @@ impl<'a, C: Content> Job for ContentJob<'a, C> {
     }
 }
 
-/// Writes a content behind what the output has, and answers the output, which has taken all of it.
+/// Writes a content after what the output has, and returns the output, which has taken all of it.
 ///
 /// # Errors
 ///

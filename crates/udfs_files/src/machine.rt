@@ -1,4 +1,4 @@
-//! The files of the machine. What they hold is not told: no contract can say what the system keeps.
+//! The files of the machine. What they hold is not specified: no contract can say what the system keeps.
 
 ghost use Rattle.std.proofs.Common.{inr, refl};
 ghost use Rattle.udfs_reading.specs.Device.{CountsFault};
@@ -124,7 +124,7 @@ pub struct MachineFile<'a, W: Write + Seek + OpenFile, N: Watch> {
 }
 
 impl<'a, W: Write + Seek + OpenFile, N: Watch> MachineFile<'a, W, N> {
-    /// Leaves so many bytes out.
+    /// Leaves out `count` bytes at the end, as a hole.
     fn skip(&mut self, count: usize) -> Result<usize, Error>
         ensures { self.new.faults ≡ self.old.faults }
     {

@@ -1,4 +1,4 @@
-//! What a run tells the person who watches it, beside what it prints. Nothing that a command does depends on it.
+//! What a run shows to the person who watches it, beside what it prints. Nothing that a command does depends on it.
 
 ghost use Rattle.std.specs.Prelude.{◌≡◌, Ok, IfSome};
 
@@ -15,7 +15,7 @@ pub enum Stage {
     Writing,
 }
 
-/// Someone who watches a run, or nobody.
+/// Someone who watches a run, or no one.
 pub trait Watch {
     /// A call failed, and the system said why.
     fn failed(&self, error: Error);
@@ -29,13 +29,13 @@ pub trait Watch {
     /// Something else is done from now on.
     fn begin(&self, stage: Stage);
 
-    /// An input was opened, of this size in bytes where it has one. Answers its number, counted from 1.
+    /// An input was opened, of this size in bytes where it has one. Returns its number, counted from 1.
     fn opened(&self, size: Option<u64>) -> usize;
 
-    /// So many bytes were read of the input of this number.
+    /// `count` bytes were read from the input of this number.
     fn read(&self, input: usize, count: usize);
 
-    /// So many bytes were written.
+    /// `count` bytes were written.
     fn wrote(&self, count: usize);
 
     /// Nothing more is to be said.
@@ -44,11 +44,11 @@ pub trait Watch {
     /// More is to be said than has to be, whoever watches.
     fn speak(&self);
 
-    /// There is a line of text to be told, where a person watches or more is to be said.
+    /// There is a line of text to be shown, where a person watches or more is to be said.
     fn remark(&self, text: &str);
 }
 
-/// The value of a call's outcome. Why it failed is told.
+/// The value of a call's outcome. Where it failed, `watch` is given the reason.
 pub(crate) fn heeded<T: Drop, N: Watch>(watch: &N, outcome: Result<T, Error>) -> Option<T>
     ensures { IfSome result (λ value. outcome ≡ Ok value) }
 {

@@ -1,4 +1,4 @@
--- What writing a table file from an index does to a sink that tells its bytes.
+-- What writing a table file from an index does to a sink whose bytes are known.
 use Rattle.std.specs.Prelude.{◌≡◌, ℕ, ◌+◌, ◌%◌, ◌^◌, List, [], ◌++◌, Option, Some, Result, Ok, Err}
 use Rattle.std.specs.Io.KnownBytes.{Appends}
 use Rattle.udfs_lattice.specs.Tables.{Table, state_of}
@@ -10,7 +10,7 @@ use Rattle.udfs_index.specs.Slots.{slot_at}
 use Rattle.udfs_index.specs.Places.{state_by}
 use Rattle.udfs_reading.specs.Device.{Stream}
 
--- all inputs of this kind tell their bytes
+-- the bytes of all inputs of this kind are known
 abbrev pub AreAllTold : {S : Type 0} → (S → Option (List ℕ)) → Type 0
 AreAllTold {S} content = (s : S) → (bytes : List ℕ) × (content s ≡ Some bytes)
 
@@ -35,7 +35,7 @@ abbrev pub FailsBy : Stream → Stream → List ℕ → List ℕ → CopyFault �
 FailsBy old new held bytes (Sink e) = FailedPast old new held bytes
 FailsBy old new held bytes (Input n) = Stopped old new held bytes
 
--- what taking a front of these bytes did, some of which come from inputs: the result tells which front was taken
+-- what taking a front of these bytes did, some of which come from inputs: the result says which front was taken
 abbrev pub CopiesTo : {X : Type 0} → Stream → Stream → List ℕ → List ℕ → (X → List ℕ) → List ℕ → Result X CopyFault → Type 0
 CopiesTo old new held still front bytes (Ok x) = Passed old new held still (front x)
 CopiesTo old new held still front bytes (Err e) = FailsBy old new held bytes e

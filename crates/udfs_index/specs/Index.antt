@@ -6,7 +6,7 @@ use Rattle.udfs_index.specs.declared.packet.Packet.{Packet}
 use Rattle.udfs_index.specs.Slots.{slot_at}
 use Rattle.udfs_index.specs.Places.{behind, from_place, bytes_at, IsInside, Says}
 
--- what each input holds, where it tells that
+-- what each input holds, where that is known
 abbrev pub contents_of : {S : Type 0} → (S → Option (List ℕ)) → List (Bor S) → List (Option (List ℕ))
 contents_of content inputs = map (λ i. content i.now) inputs
 
@@ -15,7 +15,7 @@ abbrev pub input_by : List (Option (List ℕ)) → Option ℕ → Option (List �
 input_by contents None = None
 input_by contents (Some base) = behind base (get_or contents (length contents - 1) None)
 
--- each place is in an input, and where all inputs tell their bytes, these make the table
+-- each place is in an input, and where the bytes of all inputs are known, these make the table
 pub record Took (contents : List (Option (List ℕ))) (packets : List Packet) (t : Table) : Type 0 where
   pub inside : (n : ℕ) → IsInside (length contents) (slot_at packets n)
   pub says : Says contents packets t
@@ -28,10 +28,10 @@ pub record IsPlaceOf (inputs : ℕ) (begun : Option ℕ) (at place : ℕ) : Type
   pub input : place / 2 ^ 44 ≡ inputs - 1
   pub offset : place % 2 ^ 44 ≡ base + at
 
--- where all inputs tell their bytes, these stand there, from the place on
+-- where the bytes of all inputs are known, these are there, from the place on
 abbrev pub IsFrontAt : List (Option (List ℕ)) → ℕ → List ℕ → Type 0
 IsFrontAt contents place front = (wholes : List (List ℕ)) → contents ≡ map Some wholes → front ≡ take (length front) (from_place wholes place)
 
--- where all inputs tell their bytes, these stand at the place
+-- where the bytes of all inputs are known, these are at the place
 abbrev pub IsAtPlace : List (Option (List ℕ)) → ℕ → List ℕ → Type 0
 IsAtPlace contents place there = (wholes : List (List ℕ)) → contents ≡ map Some wholes → bytes_at wholes place ≡ there

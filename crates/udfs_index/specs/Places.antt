@@ -7,7 +7,7 @@ use Rattle.udfs_lattice.specs.Tables.{Table, state_of}
 use Rattle.udfs_index.specs.declared.packet.Packet.{Packet}
 use Rattle.udfs_index.specs.Slots.{Slot, slot_at}
 
--- what stands behind the first `at` bytes, where they are told
+-- what comes after the first `at` bytes of this content, where it is known
 abbrev pub behind : ℕ → Option (List ℕ) → Option (List ℕ)
 behind at content = option_map (drop at) content
 
@@ -19,7 +19,7 @@ from_place wholes place = drop (place % 2 ^ 44) (get_or wholes (place / 2 ^ 44) 
 abbrev pub bytes_at : List (List ℕ) → ℕ → List ℕ
 bytes_at wholes place = take 2048 (from_place wholes place)
 
--- so many bytes stand in these inputs from the place on
+-- the input of the place has `size` bytes from the place on
 abbrev pub AreHeld : List (List ℕ) → ℕ → ℕ → Type 0
 AreHeld wholes place size = place % 2 ^ 44 + size ≤ length (get_or wholes (place / 2 ^ 44) [])
 
@@ -39,12 +39,12 @@ state_by wholes Unknown = Unknown
 state_by wholes (Known place) = Known (bytes_at wholes place)
 state_by wholes Conflict = Conflict
 
--- a place is in one of so many inputs
+-- the number of the input of a place is below `inputs`
 abbrev pub IsInside : ℕ → Slot → Type 0
 IsInside inputs Unknown = Unit {0}
 IsInside inputs (Known place) = place / 2 ^ 44 < inputs
 IsInside inputs Conflict = Unit {0}
 
--- where all inputs tell their bytes, the packets say what the table does
+-- where the bytes of all inputs are known, the packets say what the table does
 abbrev pub Says : List (Option (List ℕ)) → List Packet → Table → Type 0
 Says contents packets t = (wholes : List (List ℕ)) → contents ≡ map Some wholes → (n : ℕ) → state_of t n ≡ state_by wholes (slot_at packets n)

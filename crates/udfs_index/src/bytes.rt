@@ -6,7 +6,7 @@ ghost use Rattle.udfs_reading.specs.Kind.{AreBytes};
 use crate::stored::Stored;
 use udfs_reading::DeviceFault;
 
-/// Bytes in memory as an input. It tells them, and no read of them fails.
+/// Bytes in memory as an input. Its content is known, and no read of it fails.
 #[derive(Clone, Copy)]
 pub struct StoredBytes<'a> {
     bytes: &'a [u8],

@@ -36,7 +36,7 @@ impl<'a, S: Stored> Cursor<'a, S> {
         (self.stored, self.at)
     }
 
-    /// The next byte that it reads is the one behind so many of its input. It is not looked whether there is one.
+    /// Makes the byte after the first `at` bytes of its input the next to be read, without checking that there is one.
     pub(crate) fn move_to(&mut self, at: u64)
         ensures at { self.new.at ≡ at }
         ensures stored { self.new.stored ≡ self.old.stored }

@@ -8,7 +8,7 @@ use std::os::unix::fs::FileExt;
 use std::time::SystemTime;
 use udfs_reading::DeviceFault;
 
-/// A file of the machine as an input. It does not tell what it holds: no contract can say what the system keeps.
+/// A file of the machine as an input. Its content is not specified: no contract can say what the system keeps.
 #[derive(Drop)]
 pub struct StoredFile<F: FileExt + OpenFile> {
     file: F,

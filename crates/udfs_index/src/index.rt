@@ -36,7 +36,7 @@ pub struct Index<'a, S: Stored> {
     begun: Option<u64>,
     /// What could not be looked into.
     failed: Option<Unread>,
-    /// What is told of each input where it is begun.
+    /// What was reported of each input when it was begun.
     stamps: Vec<Stamp>,
 }
 
@@ -45,7 +45,7 @@ impl<'a, S: Stored> Index<'a, S> {
     ///
     /// # Errors
     ///
-    /// `AllocError` for want of memory.
+    /// `AllocError` if memory ran out.
     pub fn new(alloc: Global) -> Result<Index<'a, S>, AllocError>
         ensures { IfOk result (λ index. ⟦<Index<'a, S> as Taker<Cursor<'a, S>>>⟧.took index empty_table) }
     {
@@ -64,7 +64,7 @@ impl<'a, S: Stored> Index<'a, S> {
     }
 
     /// The first input, from 0, that has another length or another time of its last change than when it was begun, or of which
-    /// this is no longer told.
+    /// these are no longer reported.
     pub fn changed(&self) -> Option<usize> {
         for (number, (stored, stamp)) in self.inputs.iter().zip(self.stamps.iter()).enumerate() {
             if !stamp.is_of(*stored) {
@@ -130,7 +130,7 @@ impl<'a, S: Stored> Index<'a, S> {
         ensures bytes { (t : Table) → AreAllTold S.content → ⟦<Index<'a, S> as Taker<Cursor<'a, S>>>⟧.took self.now t →
             Copies (W.stream sink.old) (W.stream sink.new) (table_bytes t) result }
         ensures count { CountsSink (W.stream sink.old).faults (W.stream sink.new).faults result }
-        // An input is blamed only where calls on one may fail, or one does not tell its bytes.
+        // An input is blamed only where calls on one may fail, or the bytes of one are not known.
         ensures reads { (t : Table) → IsTable t → AreAllTold S.content → NoneFails S.fails → ⟦<Index<'a, S> as Taker<Cursor<'a, S>>>⟧.took self.now t → BlamesNone result }
     {
         packing::write_table(&self.inputs, &self.places.packets, sink)
@@ -145,13 +145,13 @@ impl<'a, S: Stored> Index<'a, S> {
         ensures bytes { (t : Table) → IsTable t → AreAllTold S.content → ⟦<Index<'a, S> as Taker<Cursor<'a, S>>>⟧.took self.now t →
             Copies (W.stream sink.old) (W.stream sink.new) (table_bytes_v1 t) result }
         ensures count { CountsSink (W.stream sink.old).faults (W.stream sink.new).faults result }
-        // An input is blamed only where calls on one may fail, or one does not tell its bytes.
+        // An input is blamed only where calls on one may fail, or the bytes of one are not known.
         ensures reads { (t : Table) → IsTable t → AreAllTold S.content → NoneFails S.fails → ⟦<Index<'a, S> as Taker<Cursor<'a, S>>>⟧.took self.now t → BlamesNone result }
     {
         entries::write_table_v1(&self.inputs, &self.places.packets, sink)
     }
 
-    /// The place of what stands behind so many bytes of the input that is taken, if it has one.
+    /// The place of what comes after the first `at` bytes of the input that is taken, if it has one.
     fn place_of(&self, at: u64) -> Option<u64>
         ensures { IfSome result (λ place. IsPlaceOf (length self.now.inputs.items) self.now.begun at place) }
     {
@@ -181,7 +181,7 @@ impl<'a, S: Stored> Index<'a, S> {
         }
     }
 
-    /// Reads the bytes of a block, which stand behind so many bytes of the input that is taken.
+    /// Reads the bytes of a block, which are at position `at` of `stored`, the input that is taken.
     ///
     /// # Errors
     ///
@@ -240,7 +240,7 @@ impl<'a, S: Stored> Index<'a, S> {
         }
     }
 
-    /// Compares the bytes of a known block, which stand behind so many bytes of the input that is taken, with those at its place.
+    /// Compares the bytes of a known block, which come after the first `at` bytes of the input that is taken, with those at `place`.
     fn compare(
         &mut self,
         block: u32,

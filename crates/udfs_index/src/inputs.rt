@@ -20,7 +20,7 @@ pub fn read_from<S: Stored>(inputs: &[&S], place: u64, buf: &mut [u8]) -> Result
     ensures read { OnOk result (IsFrontAt (contents_of S.content inputs.now) place buf.new) }
     ensures input { IfErr result (λ unread. unread.input ≡ place / 2 ^ 44) }
     ensures at { IfErr result (λ unread. unread.at ≡ place % 2 ^ 44) }
-    // It is read where the input has so many bytes, and no input of its kind fails.
+    // It is read where the bytes of all inputs are known, this one has enough of them, some are asked for, and no input of its kind fails.
     ensures reads { (wholes : List (List ℕ)) → contents_of S.content inputs.now ≡ map Some wholes → NoneFails S.fails → 0 < length buf.old → AreHeld wholes place (length buf.old) → OnErr result ⊥ }
 {
     let input = (place / BYTES) as usize;

@@ -63,7 +63,7 @@ impl Places {
     ///
     /// # Errors
     ///
-    /// `AllocError` for want of memory.
+    /// `AllocError` if memory ran out.
     pub fn new(alloc: Global) -> Result<Places, AllocError>
         ensures { IfOk result (λ places. (q : ℕ) → slot_at places.packets.items q ≡ Unknown) }
     {
@@ -83,7 +83,7 @@ impl Places {
     ///
     /// # Errors
     ///
-    /// `AllocError` for want of memory. Of each block is said what was said.
+    /// `AllocError` if memory ran out. What is said of each block is unchanged then.
     pub fn put(&mut self, n: u32, place: u64) -> Result<(), AllocError>
         requires { n ≤ 4194303 }
         ensures ok { OnOk result (AreSlotsSet self.old.packets.items n (Known place) self.new.packets.items) }

@@ -7,7 +7,7 @@ use crate::stored::{HEADER, Stored, fill};
 use byteorder::{ByteOrder, LittleEndian};
 use udfs_reading::{NotTaken, Source, Taker, take_inputs};
 
-/// The position of nothing that an input has: what is told of it is told of the input's end.
+/// A position at which no input has a byte. What is reported at it concerns the input's end.
 pub const END: u64 = u64::MAX;
 
 /// Takes nothing, and stops at the content that stands at this position.

@@ -15,7 +15,7 @@ pub trait RecordTaker<S: Stored> {
     /// This is the table of what it took so far.
     ghost took: { Self → Table → Type 0 };
 
-    /// The bytes of the input that is being taken, where it looks into it, and it tells them.
+    /// The bytes of the input that is being taken, where the taker looks into it and its bytes are known.
     ghost input: { Self → Option (List ℕ) };
 
     /// Takes the record of this number, from 0, of the input that is being taken, which is this one. The record is of this block.

@@ -3,7 +3,7 @@
 use crate::stored::Stored;
 use std::time::SystemTime;
 
-/// What is told of an input: how many bytes it has, and when they were last changed.
+/// What is reported of an input: how many bytes it has, and when they last changed.
 #[derive(Clone, Copy, PartialEq, Eq)]
 pub struct Stamp {
     size: u64,
@@ -11,7 +11,7 @@ pub struct Stamp {
 }
 
 impl Stamp {
-    /// What is told of an input that has so many bytes.
+    /// What is reported of an input that has `size` bytes.
     pub fn new<S: Stored>(stored: &S, size: u64) -> Stamp {
         Stamp {
             size,
@@ -19,7 +19,7 @@ impl Stamp {
         }
     }
 
-    /// Whether the same is told of the input now.
+    /// Whether the same is reported of the input now.
     pub fn is_of<S: Stored>(self, stored: &S) -> bool {
         match stored.size() {
             Ok(size) => self == Stamp::new(stored, size),

@@ -22,7 +22,7 @@ pub fn block_at(number: u32) -> u64
 
 /// What is read at positions, and does not change meanwhile: a file, or bytes in memory.
 pub trait Stored {
-    /// Its bytes, where it tells them.
+    /// Its bytes, where these are known.
     ghost content: { Self → Option (List ℕ) };
 
     /// A call on it may fail.
@@ -38,20 +38,20 @@ pub trait Stored {
         ensures bytes { IfSome (content self.now) AreBytes }
         ensures fails { OnErr result (fails self.now) };
 
-    /// When its bytes were last changed, where that is told.
+    /// When its bytes were last changed, where that is known.
     fn changed(&self) -> Option<SystemTime> {
         None
     }
 
-    /// How many records it has, where it is a reading, each of another block in rising order, and tells of which blocks they are without
-    /// being read.
+    /// How many records it has, if it is a reading whose records are of different blocks, in rising order, and
+    /// [`block_of`](Self::block_of) gives these blocks without a read.
     fn records(&self) -> Option<u32>
         ensures { IfSome result (λ count. IfSome (content self.now) (λ all. HasRecords all count)) }
     {
         None
     }
 
-    /// The block of the record of this number, from 0, where that is told without a read.
+    /// The block of the record of this number, from 0, where that is known without a read.
     fn block_of(&self, number: u32) -> Option<u32>
         ensures fits { IfSome result (λ block. block ≤ 4194303) }
         ensures at { IfSome result (λ block. IfSome (content self.now) (λ all. IsRecordedAt all number block)) }
@@ -59,8 +59,8 @@ pub trait Stored {
         None
     }
 
-    /// Reads the bytes from position `at` on into the front of the buffer, and answers how many came. Into some room it
-    /// answers 0 only at or after the end.
+    /// Reads the bytes from position `at` on into the front of the buffer, and returns how many came. If the buffer is not
+    /// empty, it returns 0 only at or after the end.
     ///
     /// # Errors
     ///
@@ -72,7 +72,7 @@ pub trait Stored {
         ensures fails { OnErr result (fails self.now) };
 }
 
-/// Fills the buffer from position `at` on, and answers whether there were so many bytes.
+/// Fills the buffer from position `at` on, and returns whether there were enough bytes.
 pub fn fill<S: Stored>(stored: &S, at: u64, buf: &mut [u8]) -> Result<bool, DeviceFault>
     requires { at + length buf.old < 2 ^ 64 }
     ensures whole { IfOk result (λ whole. whole ≡ true → IfSome (S.content stored.now) (λ all. buf.new ≡ take (length buf.new) (drop at all))) }

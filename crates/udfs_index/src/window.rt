@@ -25,8 +25,8 @@ const BLOCK: u64 = 2048;
 /// and the heads of packets do.
 const GAP: u64 = 64;
 
-/// How many bytes to read from a place on, where so many were to be read, so that this block is read too if it is known, and
-/// stands behind them.
+/// How many bytes to read from `place` on, instead of `span`, so that the block of this slot is read too; `span` if it is not
+/// known. None if it is in another input, does not come at most `GAP` bytes after these, or would make it more than `LONGEST`.
 fn with(place: u64, span: u64, slot: Fact<u64>) -> Option<u64>
     requires some { 2048 ≤ span }
     requires fits { span ≤ 262144 }
@@ -104,8 +104,8 @@ impl Window {
         Some(at)
     }
 
-    /// Reads the bytes of a block, and those of the blocks that follow it, if it is not in the window, and answers where in the
-    /// window it begins. Its bytes stand at `place`.
+    /// Returns where in the window the block begins whose bytes are at `place`. If it is not in the window, reads its bytes first,
+    /// and those of the blocks that follow it.
     ///
     /// # Errors
     ///

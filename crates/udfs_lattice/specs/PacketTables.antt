@@ -10,7 +10,7 @@ use Rattle.udfs_lattice.specs.States.{State}
 use Rattle.udfs_lattice.specs.Tables.{Table, Held, state_of, empty_table, without_conflict}
 use Rattle.udfs_lattice.specs.Packets.{IsPacketTable, table_below, entries_left}
 
--- the packet that a look-up tells: where there is none, the one whose blocks are all unknown
+-- the packet that a look-up finds; where it finds none, the one whose blocks are all unknown
 abbrev pub found_packet : Option Table → Table
 found_packet None = empty_table
 found_packet (Some t) = t

@@ -65,7 +65,7 @@ listed_at i Unknown rest = rest
 listed_at i (Known bytes) rest = (i, Known bytes) ∷ rest
 listed_at i Conflict rest = (i, Conflict) ∷ rest
 
--- the entries of so many places from place i on
+-- the entries of this many places, from place i on
 unfoldable pub entries_from : Table → ℕ → ℕ → List (ℕ × State)
 entries_from t i zero = []
 entries_from t i (suc m) = listed_at i (state_of t i) (entries_from t (i + 1) m)

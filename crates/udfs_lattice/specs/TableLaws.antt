@@ -11,7 +11,7 @@ use Rattle.udfs_lattice.specs.declared.facts.Fact.TheVariants.{Unknown, Known, C
 use Rattle.udfs_lattice.specs.States.{State, IsBelow-antisym, IsBelow, join_of, join_of-comm, join_of-assoc, join_of-idem, join_of-unknown, IsBelow-join_of, join_of-least, join_of-between}
 use Rattle.udfs_lattice.specs.Tables.{Table, Held, fact_held, fact_found, state_of, join_held, join_entries, join_tables, one_record, one_entry, empty_table, IsTableBelow, IsAdded}
 
--- what is found tells what is held
+-- the state that is found determines what is held
 pub fact_found-injective : (x y : Option Held) → fact_found x ≡ fact_found y → x ≡ y
 fact_found-injective None None e = refl
 fact_found-injective None (Some None) e = cc

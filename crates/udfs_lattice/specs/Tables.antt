@@ -18,7 +18,7 @@ Held = Option (List ℕ)
 abbrev pub Table : Type 0
 Table = fin.FinMap nat_cmp Held
 
--- a table as a number, so that two tables can be told apart by computing
+-- a table as a number, so that computing can distinguish two tables
 abbrev pub table_code : Coded Table
 table_code = fin.code coded_ℕ (coded_option (coded_list coded_ℕ))
 

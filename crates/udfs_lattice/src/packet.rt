@@ -80,7 +80,7 @@ impl Packet {
         Fact::Unknown
     }
 
-    /// Makes room for the boxes of so many more blocks at once.
+    /// Makes room for the boxes of `more` more blocks at once.
     fn reserve(&mut self, more: usize) -> Result<(), AllocError>
         ensures { self.new ≡ self.old }
     {
@@ -183,8 +183,8 @@ impl Packet {
     ///
     /// # Errors
     ///
-    /// `AllocError` for want of memory, which only the bytes of an unknown block take. It leaves the packet
-    /// as it was.
+    /// `AllocError` where memory ran out. Only the bytes of an unknown block need memory. The error leaves the
+    /// packet as it was.
     pub fn add(&mut self, i: u32, fact: Fact<&[u8; 2048]>) -> Result<(), AllocError>
         requires { i < 32 }
         ensures ok { OnOk result (self.new ≡ join_tables self.old (one_entry i (fact_now fact.entry))) }

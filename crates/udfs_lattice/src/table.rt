@@ -132,8 +132,8 @@ impl BlockTable {
     ///
     /// # Errors
     ///
-    /// `BlockNumber` where `n` is above [`LAST_BLOCK`]; else `OutOfMemory` for want of memory, which a
-    /// block that is not unknown never takes. Either leaves the table as it was.
+    /// `BlockNumber` where `n` is above [`LAST_BLOCK`]; else `OutOfMemory` where memory ran out. A block
+    /// that is not unknown needs no memory. Either error leaves the table as it was.
     pub fn add(&mut self, n: u32, fact: Fact<&[u8; 2048]>) -> Result<(), TableError>
         ensures ok { OnOk result (self.new ≡ join_tables self.old (one_entry n (fact_now fact.entry))) }
         ensures block_number { IsErrOf result TableError.BlockNumber ↔ (4194303 < n) }
@@ -157,8 +157,8 @@ impl BlockTable {
     ///
     /// # Errors
     ///
-    /// `BlockNumber` where `n` is above [`LAST_BLOCK`]; else `OutOfMemory` for want of memory, which a
-    /// block that is not unknown never takes. Either leaves the table as it was.
+    /// `BlockNumber` where `n` is above [`LAST_BLOCK`]; else `OutOfMemory` where memory ran out. A block
+    /// that is not unknown needs no memory. Either error leaves the table as it was.
     pub fn put(&mut self, n: u32, bytes: &[u8; 2048]) -> Result<(), TableError>
         ensures ok { OnOk result (self.new ≡ join_tables self.old (one_record n bytes.now)) }
         ensures block_number { IsErrOf result TableError.BlockNumber ↔ (4194303 < n) }

@@ -1,4 +1,4 @@
--- What a log of calls says of files: what they hold, and what a crash may leave. The newest call stands first.
+-- What a log of calls says of files: what they hold, and what a crash may leave. The newest call is first.
 use Rattle.std.specs.Prelude.{◌≡◌, ◌≢◌, ◌⊎◌, ℕ, ◌≤◌, List, [], ◌∷◌, length, Option, Some, None, if◌then◌else◌, bytes_eq, ⊤}
 use Rattle.udfs_files.specs.Disk.{Disk, Gone, SameBut, Moved, After, folder_of}
 use Rattle.udfs_memory.specs.declared.memory.Event.{Event}
@@ -6,7 +6,7 @@ use Rattle.udfs_memory.specs.declared.memory.Event.TheVariants.{Begun, Written, 
 use Rattle.udfs_memory.specs.declared.memory.Found.{Found}
 use Rattle.udfs_memory.specs.declared.memory.Found.TheVariants.{Open, Absent, Bytes}
 
--- what a path holds: nothing is told of one that is being written
+-- what a path holds: `None`, which is not known, for a file that is being written
 abbrev pub held : List Event → List ℕ → Option (Option (List ℕ))
 held [] p = Some None
 held (Begun q ∷ es) p = if bytes_eq p q.items then None else held es p

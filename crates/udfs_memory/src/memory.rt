@@ -228,7 +228,7 @@ impl Memory {
         self.calls
     }
 
-    /// Whether these files themselves wanted memory.
+    /// Whether these files themselves ran out of memory.
     pub fn wanted_memory(&self) -> bool {
         self.wanted.get()
     }

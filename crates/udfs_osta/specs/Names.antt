@@ -40,7 +40,7 @@ abbrev pub fault_of : Result (List ℕ) NameFault → Option NameFault
 fault_of (Ok units) = None
 fault_of (Err fault) = Some fault
 
--- what is answered is what the bytes give, and memory is wanted for units alone: never where a fault is to be told
+-- the result is what the bytes give; memory can run out only where they give units, never where there is a fault to report
 abbrev pub GivesUnits : Result (List ℕ) NameFault → Result (List ℕ) NameFault → Type 0
 GivesUnits (Ok name) given = given ≡ Ok name
 GivesUnits (Err OutOfMemory) given = IsOk given

@@ -12,21 +12,21 @@ pub record CivilDate : Type 0 where
   pub month : ℕ
   pub day : ℕ
 
--- the date so many days after the first of a month: whole months are taken off, of which this many may follow
+-- the date this many days after the first of a month: whole months are taken off, at most as many as the first number says
 unfoldable pub date_in_months : ℕ → ℕ → ℕ → ℕ → CivilDate
 date_in_months zero year month days = record { year = year; month = month; day = days + 1 }
 date_in_months (suc more) year month days =
     if nat_lt days (days_in_month (pos year) month) then record { year = year; month = month; day = days + 1 }
     else date_in_months more year (month + 1) (days - days_in_month (pos year) month)
 
--- the date so many days after 1 January of a year: whole years are taken off, of which this many may follow
+-- the date this many days after 1 January of a year: whole years are taken off, at most as many as the first number says
 unfoldable pub date_in_years : ℕ → ℕ → ℕ → CivilDate
 date_in_years zero year days = date_in_months 11 year 1 days
 date_in_years (suc more) year days =
     if nat_lt days (days_in_year (pos year)) then date_in_months 11 year 1 days
     else date_in_years more (year + 1) (days - days_in_year (pos year))
 
--- the date so many days after 0000-01-01, up to the year 9999
+-- the date `days` days after 0000-01-01, up to the year 9999
 unfoldable pub civil_date : ℕ → CivilDate
 civil_date days = date_in_years 9999 0 days
 
@@ -57,7 +57,7 @@ time_text hour minute second fraction =
     two_digits hour ++ codes ":" ++ two_digits minute ++ codes ":" ++ two_digits second ++ codes "."
     ++ six_digits fraction
 
--- `HH:MM:SS.ffffff` so many microseconds after midnight
+-- `HH:MM:SS.ffffff` at `micros` microseconds after midnight
 abbrev pub clock_text : ℕ → List ℕ
 clock_text micros =
     time_text (micros / 3_600_000_000) (micros / 60_000_000 % 60) (micros / 1_000_000 % 60) (micros % 1_000_000)

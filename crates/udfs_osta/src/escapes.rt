@@ -70,7 +70,7 @@ pub fn paired_char(units: &[u16]) -> Option<char>
 ///
 /// # Errors
 ///
-/// `OutOfMemory` for want of memory. Then a beginning of the escape is appended.
+/// `OutOfMemory` where memory ran out. Then a beginning of the escape is appended.
 pub fn write_escape(unit: u16, text: &mut String) -> Result<(), OutOfMemory>
     ensures ok { OnOk result (string_bytes text.new ≡ string_bytes text.old ++ encode_utf8_all (escape unit)) }
     ensures err { OnErr result (AppendsPart (string_bytes text.old) (string_bytes text.new) (encode_utf8_all (escape unit))) }
@@ -183,7 +183,7 @@ pub(crate) fn write_units(units: &[u16], text: &mut String) -> Result<(), OutOfM
 ///
 /// # Errors
 ///
-/// `OutOfMemory` for want of memory. Then a beginning of the text is appended.
+/// `OutOfMemory` where memory ran out. Then a beginning of the text is appended.
 pub fn write_escapes(units: &[u16], text: &mut String) -> Result<(), OutOfMemory>
     ensures ok { OnOk result (string_bytes text.new ≡ string_bytes text.old ++ encode_utf8_all (flat_map escape units.now)) }
     ensures err { OnErr result (AppendsPart (string_bytes text.old) (string_bytes text.new) (encode_utf8_all (flat_map escape units.now))) }

@@ -15,7 +15,7 @@ use std::error::Error;
 use std::fmt;
 use std::marker::Model;
 
-/// Why bytes are no name (OSTA UDF 2.1.1). Of several faults the first on the way through the bytes is told.
+/// Why bytes are no name (OSTA UDF 2.1.1). Of several faults the first on the way through the bytes is reported.
 #[derive(Clone, Copy, Debug, PartialEq, Eq)]
 pub enum NameFault {
     /// There is no byte at all, or none after the first.
@@ -76,7 +76,7 @@ impl Name {
     ///
     /// The first fault in this order: no byte at all is [`NameFault::Empty`], another first byte
     /// [`NameFault::Compression`], nothing after it [`NameFault::Empty`], and an odd number of bytes after 16
-    /// [`NameFault::Odd`]. Only bytes with none of these are answered by [`NameFault::OutOfMemory`].
+    /// [`NameFault::Odd`]. [`NameFault::OutOfMemory`] comes only where the bytes have none of these.
     pub fn read(alloc: Global, bytes: &[u8]) -> Result<Name, NameFault>
         ensures value { GivesUnits result (units_of bytes.now) }
         ensures name { IfOk result (λ name. IsName name) }
@@ -106,7 +106,7 @@ impl Name {
         }
     }
 
-    /// Why the bytes of the first piece and then the second are no name: the fault that [`Name::read`] would tell, or
+    /// Why the bytes of the first piece and then the second are no name: the fault that [`Name::read`] would report, or
     /// `None` where they are one. It takes no memory.
     pub fn fault(first: &[u8], second: &[u8]) -> Option<NameFault>
         ensures { result ≡ fault_of (units_of (first.now ++ second.now)) }
@@ -160,7 +160,7 @@ impl Name {
     }
 }
 
-/// Why this first byte and so many more are no name.
+/// Why the first byte `kind` and `count` more bytes are no name, or `None` where they are one.
 fn fault_behind(kind: u8, count: usize) -> Option<NameFault>
     ensures { (rest : List ℕ) → length rest ≡ count → result ≡ fault_of (units_of (kind ∷ rest)) }
 {

@@ -19,7 +19,7 @@ use Rattle.udfs_overview.specs.declared.node_list.ListForm.{ListForm}
 abbrev pub lost_bytes : List (ℕ × ℕ) → ℕ
 lost_bytes holes = sum_by (λ (hole : ℕ × ℕ). hole.1) holes
 
--- what is lost of a torn node: its holes' bytes, but of one that was not read nobody knows
+-- what is lost of a torn node: its holes' bytes; unknown of one that was not read
 abbrev pub torn_lost : Kind → List (ℕ × ℕ) → Option ℕ
 torn_lost kind.Unread holes = None
 torn_lost kind.Directory holes = Some (lost_bytes holes)
@@ -27,7 +27,7 @@ torn_lost kind.File holes = Some (lost_bytes holes)
 torn_lost kind.Link holes = Some (lost_bytes holes)
 torn_lost (kind.Other t) holes = Some (lost_bytes holes)
 
--- what is lost of a node: nothing of a whole one; of loops and faults nobody knows
+-- what is lost of a node: nothing of a whole one; unknown of loops and faults
 abbrev pub lost_of : Standing → Kind → Option ℕ
 lost_of standing.Whole k = Some 0
 lost_of (standing.Torn torn) k = torn_lost k torn.holes

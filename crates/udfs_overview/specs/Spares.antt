@@ -2,7 +2,7 @@
 --     said_in size k bytes              what block k of a table says: its bytes behind the tag, within the table's size
 --     differ_in blocks size tables k    block k of two of the copies is known in both, and does not say the same
 --     spares_disagree blocks volume     two copies of the sparing table of a volume that opens differ so in some block
---     spares_line disagree              the line that tells it
+--     spares_line disagree              the line that says so
 use Rattle.std.specs.Prelude.{ℕ, ◌+◌, ◌-◌, ◌*◌, ◌==◌, Bool, false, not, List, [], take, drop, cond, codes}
 use Rattle.std.specs.List.{list_any, range_with_len}
 use Rattle.std.specs.Str.{bytes_eq}
@@ -53,6 +53,6 @@ spares_disagree blocks (found f) = list_any (partition_disagrees blocks) f.layou
 spares_disagree blocks (holes listed) = false
 spares_disagree blocks (faulty fault) = false
 
--- the line that tells it, if they disagree
+-- the line that says so, if they disagree
 abbrev pub spares_line : Bool → List ℕ
 spares_line disagree = cond disagree (codes "Spares     sparing copies disagree: the volume is not lawful, and files in spared packets may be old\n") []

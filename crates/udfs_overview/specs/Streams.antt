@@ -3,7 +3,7 @@
 --     has_streams view node         the node is a file, whole or torn, whose entry has one
 --     entry_has_streams view entry  the same of an entry that no name leads to
 --     stream_count blocks report    how many nodes and entries of a report these are
---     streams_line count            the line that tells it
+--     streams_line count            the line that gives this number
 use Rattle.std.specs.Prelude.{ℕ, ◌+◌, ◌==◌, ◌&&◌, ◌||◌, Bool, false, List, [], ◌++◌, nat_lt, count_by, codes, Option, Some, None, if◌then◌else◌}
 use Rattle.udfs_lattice.specs.States.{State}
 use Rattle.udfs_lattice.specs.Volumes.{Blocks}

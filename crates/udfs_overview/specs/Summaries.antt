@@ -29,7 +29,7 @@ torn_folder nodes = option_map (λ (n : NodeFields). n.path) (find (is_node_of s
 abbrev pub other_folders : ℕ → List ℕ
 other_folders n = if n == 0 then [] else codes " and " ++ grouped n ++ codes " more"
 
--- where names may be missing: the first torn directory of so many, and how many more
+-- where names may be missing: the first of this many torn directories, and how many more
 abbrev pub missing_in : ℕ → List (List ℕ) → List ℕ
 missing_in torn path = codes ": names may be missing in " ++ shown_path path ++ other_folders (torn - 1)
 
@@ -61,12 +61,12 @@ torn_lines (found f) r = torn_text (tally_of r.nodes).torn_files (by_loss (torn_
 torn_lines (holes blocks) r = []
 torn_lines (faulty f) r = []
 
--- the rules of a profile as words of a command: the strict ones need none
+-- the rules of a profile as arguments of a command: the strict ones need none
 abbrev pub rules_words : Profile → List ℕ
 rules_words profile.Strict = []
 rules_words profile.Wide = codes " --profile wide"
 
--- the command that tells which blocks to read again
+-- the command that lists the blocks to read again
 abbrev pub reread_line : Profile → ℕ → List ℕ
 reread_line rules last = codes "Next       udfsalvage reread --last " ++ decimal last ++ rules_words rules ++ codes " --mapfile want.map ...\n"
 
@@ -75,7 +75,7 @@ abbrev pub forget_lines : Profile → ℕ → List ℕ
 forget_lines rules last =
     codes "Next       udfsalvage forget --conflicts --out clean.tab ...\n           udfsalvage reread --last " ++ decimal last ++ rules_words rules ++ codes " --mapfile want.map clean.tab\n"
 
--- what to do next, where blocks are worth reading again, of which so many are in conflict
+-- what to do next, where blocks are worth reading again, of which this many are in conflict
 abbrev pub needed_lines : Profile → ℕ → ℕ → List ℕ
 needed_lines rules last disputed = if disputed == 0 then reread_line rules last else forget_lines rules last
 

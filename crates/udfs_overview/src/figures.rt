@@ -56,7 +56,7 @@ fn tenths_in(size: u128, unit: u32) -> u128
     size / bytes * 10 + (20 * rest + bytes) / (2 * bytes)
 }
 
-/// The unit in which a size is told.
+/// The unit in which a size is shown, as a power of 1000.
 fn unit_of(size: u128) -> u32
     ensures value { result ≡ unit_of size }
     ensures some { 1 ≤ result }

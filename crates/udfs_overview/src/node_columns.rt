@@ -1,4 +1,4 @@
-//! What a line of the list tells of a node. Each function appends to a text; where memory is refused, a part may be appended.
+//! What a line of the list says of a node. Each function appends to a text; where memory is refused, a part may be appended.
 
 ghost use Rattle.std.specs.Prelude.{◌≡◌, ◌++◌, ◌∷◌, [], ℕ, OnOk, Some};
 ghost use Rattle.std.specs.String.{string_bytes};
@@ -34,7 +34,7 @@ fn lost_bytes(holes: &[(u64, u64)]) -> u128
     lost
 }
 
-/// How many bytes of a node are lost: none of a whole one, and of one that was not read, a loop or a fault nobody knows.
+/// How many bytes of a node are lost: 0 of a whole one; `None`, unknown, of a torn one that was not read, a loop or a fault.
 pub fn lost_of(standing: &Standing, kind: Kind) -> Option<u128>
     ensures { result ≡ lost_of standing.now kind }
 {

@@ -45,7 +45,7 @@ fn behind(bytes: &[u8], position: usize) -> &[u8]
     after
 }
 
-/// What block `k` of a table of so many bytes says: its bytes behind the table's tag, and none behind the table's size.
+/// What block `k` of a table of `size` bytes says: its bytes after the table's tag, and none after the table's size.
 fn said_in(size: u32, k: u32, block: &[u8; 2048]) -> &[u8]
     ensures { result.now ≡ said_in size k block.now }
 {
@@ -110,7 +110,7 @@ fn differ_in(table: &BlockTable, size: u32, k: u32, places: &[u32]) -> bool
     false
 }
 
-/// The blocks of a table of so many bytes.
+/// How many blocks a table of `bytes` bytes takes.
 fn blocks_in(bytes: u32) -> u32
     ensures { result ≡ blocks_in bytes }
 {

@@ -198,7 +198,7 @@ pub fn rules_words(profile: Profile) -> &'static str
     }
 }
 
-/// The command that tells which blocks to read again.
+/// The command that lists the blocks to read again.
 fn push_reread(text: &mut String, profile: Profile, last: u32) -> Result<(), OutOfMemory>
     ensures { OnOk result (string_bytes text.new ≡ string_bytes text.old ++ reread_line profile last) }
 {
@@ -220,7 +220,7 @@ fn push_forget(text: &mut String, profile: Profile, last: u32) -> Result<(), Out
     )
 }
 
-/// What to do next, where blocks are worth reading again, of which so many are in conflict.
+/// What to do next, where blocks are worth reading again, of which `disputed` are in conflict.
 fn push_needed_lines(
     text: &mut String,
     profile: Profile,

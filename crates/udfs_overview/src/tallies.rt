@@ -231,7 +231,7 @@ fn survey_lost(alloc: Global, sort: NodeSort, survey: &Survey<'_>) -> Result<u12
     }
 }
 
-/// What a summary tells of the nodes of a report, the root among them.
+/// What a summary says of the nodes of a report, the root among them.
 #[derive(Clone, Copy, Debug, PartialEq, Eq)]
 pub struct Tally {
     /// How many files are whole.

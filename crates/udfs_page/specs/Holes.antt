@@ -1,6 +1,6 @@
 -- The lost bytes of a node, and the ends of folders.
 --     ranges_html holes        the runs of lost bytes, each by its first and its last one: the first fifty, and how many more there are
---     closings n               the ends of so many folders
+--     closings n               the ends of n folders
 use Rattle.std.specs.Prelude.{ℕ, ◌+◌, ◌-◌, ◌==◌, List, [], ◌++◌, codes, flat_map, length, take, if◌then◌else◌}
 use Rattle.std.specs.List.{range_with_len}
 use Rattle.udfs_page.specs.Markups.{figure, markup}
@@ -21,6 +21,6 @@ more_ranges n = if n == 0 then [] else markup (codes " and ") ++ figure n ++ mar
 abbrev pub ranges_html : List (ℕ × ℕ) → List ℕ
 ranges_html holes = flat_map range_html (take shown_ranges holes) ++ more_ranges (length holes - shown_ranges)
 
--- so many folders end
+-- n folders end
 unfoldable pub closings : ℕ → List ℕ
 closings n = flat_map (λ (i : ℕ). markup (codes "</details>\n")) (range_with_len 0 n)

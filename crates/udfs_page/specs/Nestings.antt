@@ -5,7 +5,7 @@ use Rattle.std.specs.Prelude.{⊤, ℕ, ◌+◌, ◌-◌, ◌≤◌, nat_lt, Lis
 use Rattle.udfs_walk.specs.NodeFields.{NodeFields}
 use Rattle.udfs_page.specs.Trees.{first_depth, with_next}
 
--- a node begins a folder, or so many end behind it
+-- how many folders are open after a node, where `before` are open before it: it begins one, or folders end after it
 abbrev pub open_behind : ℕ → NodeFields × ℕ → ℕ
 open_behind before p = if nat_lt (length p.0.path) p.1 then before + 1 else before - (length p.0.path - p.1)
 

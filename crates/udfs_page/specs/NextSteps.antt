@@ -1,5 +1,5 @@
 -- What to do next.
---     next_html volume rules last disputed reread     of a disc with this last block, and these blocks to read again, of which so many are in conflict
+--     next_html volume rules last disputed reread     of a disc with this last block, and these blocks to read again, of which `disputed` are in conflict
 use Rattle.std.specs.Prelude.{ℕ, ◌==◌, List, [], ◌∷◌, ◌++◌, codes, if◌then◌else◌}
 use Rattle.udfs_volume.specs.Answers.{Answer, found, holes, faulty}
 use Rattle.udfs_volume.specs.declared.profiles.Profile.{Profile}
@@ -7,7 +7,7 @@ use Rattle.udfs_salvage.specs.Found.{Found}
 use Rattle.udfs_overview.specs.Summaries.{rules_words}
 use Rattle.udfs_page.specs.Markups.{figure, markup}
 
--- a last block and rules, as words of a command
+-- a last block and rules, as arguments of a command
 abbrev pub end_words : Profile → ℕ → List ℕ
 end_words rules last = figure last ++ markup (rules_words rules)
 
@@ -29,7 +29,7 @@ forget_steps rules last =
     ++ end_words rules last
     ++ markup (codes " --out page.html clean.tab --ddrescue next.img next.map</pre>\n")
 
--- what to read again, of which so many blocks are in conflict
+-- what to read again, of which `disputed` blocks are in conflict
 abbrev pub needed_steps : Profile → ℕ → ℕ → List ℕ
 needed_steps rules last disputed = if disputed == 0 then reread_steps rules last else forget_steps rules last
 

@@ -32,11 +32,11 @@ next_line = markup (codes "</div>\n<div>")
 abbrev pub counted_html : ℕ → List ℕ → List ℕ
 counted_html n words = grouped n ++ markup words
 
--- of so many torn directories, how many there are beside the first
+-- of `torn` torn directories, how many there are beside the first, if any
 abbrev pub other_folders_html : ℕ → List ℕ
 other_folders_html torn = if nat_le torn 1 then [] else markup (codes " and ") ++ counted_html (torn - 1) (codes " more")
 
--- where names may be missing: the first torn directory of so many, and how many more
+-- where names may be missing: the first of `torn` torn directories, and how many more
 abbrev pub missing_html : ℕ → List (List ℕ) → List ℕ
 missing_html torn path = markup (codes ": names may be missing in ") ++ shown_name (shown_path path) ++ other_folders_html torn
 

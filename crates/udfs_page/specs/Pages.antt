@@ -23,17 +23,17 @@ use Rattle.udfs_page.specs.Trees.{tree_html}
 abbrev pub torn_of : List NodeFields → List ℕ
 torn_of nodes = torn_html (tally_of nodes).torn_files (take shown_rows (by_loss (torn_rows nodes)))
 
--- what is told of nodes
+-- what the page says of nodes
 abbrev pub nodes_of : List NodeFields → List ℕ
 nodes_of nodes = torn_of nodes ++ tree_html nodes
 
--- what is told of the nodes of a volume that opens
+-- what the page says of the nodes of a volume, if that opens
 abbrev pub files_html : Answer Found → Report → List ℕ
 files_html (found f) r = nodes_of r.nodes
 files_html (holes blocks) r = []
 files_html (faulty f) r = []
 
--- what is told of the disc: what it is, what is known of it, and what to do next
+-- what the page says of the disc: what it is, what is known of it, and what to do next
 abbrev pub disc_html : Profile → Table → ℕ → Report → List ℕ
 disc_html rules table last r =
     overview_html table last r ++ picture_html (arcs_of table r.reread last) (last + 1) ++ next_html r.volume rules last (disc_of table last r.reread).needed_in_conflict r.reread

@@ -1,5 +1,5 @@
 -- The disc as a picture, and what its marks mean.
---     picture_html marks blocks       the picture of a disc with so many blocks
+--     picture_html marks blocks       the picture of a disc with `blocks` blocks
 use Rattle.std.specs.Prelude.{ℕ, List, ◌++◌, codes}
 use Rattle.udfs_page.specs.Markups.{markup}
 use Rattle.udfs_page.specs.Spirals.{spiral_text}

@@ -75,7 +75,7 @@ blocks_text count blocks i = title_text (first_block count blocks i) (first_bloc
 unfoldable pub arc_text : ℕ → ℕ → ℕ → Mark → List ℕ
 arc_text count blocks i mark = markup (codes "<path class=") ++ markup (mark_class mark) ++ placed_text count (radius count i) ++ blocks_text count blocks i
 
--- the picture of all arcs of a disc with so many blocks
+-- the picture of all arcs of a disc with `blocks` blocks
 abbrev pub spiral_text : List Mark → ℕ → List ℕ
 spiral_text marks blocks = flat_map (λ i. arc_text (length marks) blocks i (get_or marks i Known)) (range_with_len 0 (length marks))
 

@@ -1,5 +1,5 @@
 -- The torn files of which most is lost.
---     torn_html count rows      a table of these rows of so many torn files
+--     torn_html count rows      a table of these rows of `count` torn files
 use Rattle.std.specs.Prelude.{ℕ, ◌-◌, ◌==◌, nat_le, List, [], ◌∷◌, ◌++◌, codes, flat_map, length, if◌then◌else◌}
 use Rattle.udfs_overview.specs.Figures.{grouped, percent_text, size_text}
 use Rattle.udfs_overview.specs.TornRows.{Row}
@@ -21,11 +21,11 @@ row_html r =
     ++ markup (codes "<td>") ++ size_text r.lost
     ++ markup (codes "<td>") ++ last_cell r
 
--- so many files are not shown
+-- that n files are not shown
 abbrev pub more_line : ℕ → List ℕ
 more_line n = markup (codes "<p>And ") ++ grouped n ++ markup (codes " more, each in the list of all files.</p>\n")
 
--- how many of so many files are not shown
+-- how many of `count` files are not shown, where `shown` are; nothing where all are
 abbrev pub more_html : ℕ → ℕ → List ℕ
 more_html count shown = if nat_le count shown then [] else more_line (count - shown)
 

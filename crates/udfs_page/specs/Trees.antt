@@ -1,6 +1,6 @@
 -- The files and folders, each inside its folder.
 --     class_of standing          how whole a node is, as the style knows it
---     note_html s k size         what is told of a node beside its name
+--     note_html s k size         what the page says of a node beside its name
 --     node_html n next           a node, and what begins or ends with it
 --     tree_html nodes            all nodes
 use Rattle.std.specs.Prelude.{ℕ, ◌-◌, nat_lt, List, [], ◌∷◌, ◌++◌, Option, Some, None, codes, flat_map, length, if◌then◌else◌}
@@ -17,7 +17,7 @@ use Rattle.udfs_overview.specs.SafeNames.{safe_name}
 use Rattle.udfs_page.specs.Holes.{closings, ranges_html}
 use Rattle.udfs_page.specs.Markups.{figure, markup, shown_name}
 
--- ---- what is told of a node
+-- ---- what the page says of a node
 
 -- how whole it is
 abbrev pub class_of : Standing → List ℕ
@@ -69,11 +69,11 @@ standing_html (standing.Torn torn) k = lost_html (lost_of (standing.Torn torn) k
 standing_html standing.Loop k = markup (codes ", a loop: it stands inside itself")
 standing_html (standing.Fault f) k = fault_html f
 
--- what is told beside its name
+-- what the page says beside its name
 abbrev pub note_html : Standing → Kind → Option ℕ → List ℕ
 note_html s k size = markup (codes "<small>") ++ kind_html k size ++ standing_html s k ++ markup (codes "</small>")
 
--- its name, and what is told beside it
+-- its name, and what the page says beside it
 unfoldable pub told_html : NodeFields → List ℕ
 told_html n = shown_name (own_name n.path) ++ note_html n.standing n.kind n.size
 
@@ -91,11 +91,11 @@ folder_front depth s = details_front depth ++ markup (class_of s) ++ markup (cod
 abbrev pub folder_html : NodeFields → List ℕ
 folder_html n = folder_front (length n.path) n.standing ++ told_html n ++ markup (codes "</summary>\n")
 
--- a node stands in a line
+-- what the line of a node begins with
 abbrev pub leaf_front : Standing → List ℕ
 leaf_front s = markup (codes "<div class=") ++ markup (class_of s) ++ markup (codes ">")
 
--- the node stands in a line, behind which so many folders end
+-- the line of the node, after which `ended` folders end
 abbrev pub leaf_html : NodeFields → ℕ → List ℕ
 leaf_html n ended = leaf_front n.standing ++ told_html n ++ markup (codes "</div>\n") ++ closings ended
 

@@ -216,7 +216,7 @@ fn needed_counts(
     Ok(counts)
 }
 
-/// What is shown of each of so many arcs of so many blocks.
+/// What is shown of each of the `count` arcs of a disc with `blocks` blocks.
 #[tactic(auto, using(crate::proofs::Counts::arcs_by_counts))]
 fn arcs_in(
     alloc: Global,

@@ -63,7 +63,7 @@ pub fn push_ranges(text: &mut String, holes: &[(u64, u64)]) -> Result<(), OutOfM
     push_more_ranges(text, holes.len().saturating_sub(SHOWN_RANGES))
 }
 
-/// The ends of so many folders.
+/// The ends of `count` folders.
 pub fn push_closings(text: &mut String, count: usize) -> Result<(), OutOfMemory>
     ensures { OnOk result (string_bytes text.new ≡ string_bytes text.old ++ closings count) }
 {

@@ -11,7 +11,7 @@ use udfs_overview::rules_words;
 use udfs_salvage::{Survey, Volume};
 use udfs_volume::Profile;
 
-/// A last block and rules, as words of a command.
+/// A last block and rules, as arguments of a command.
 fn push_end(text: &mut String, profile: Profile, last: u32) -> Result<(), OutOfMemory>
     ensures { OnOk result (string_bytes text.new ≡ string_bytes text.old ++ end_words profile last) }
 {
@@ -59,7 +59,7 @@ fn push_forget_steps(text: &mut String, profile: Profile, last: u32) -> Result<(
     )
 }
 
-/// What to read again, of which so many blocks are in conflict.
+/// What to read again, of which `disputed` blocks are in conflict.
 fn push_needed_steps(
     text: &mut String,
     profile: Profile,
@@ -128,7 +128,7 @@ fn push_files_steps(text: &mut String, survey: &Survey<'_>) -> Result<(), OutOfM
     }
 }
 
-/// What to do next, where so many of the blocks to read again are in conflict.
+/// What to do next, where `disputed` of the blocks to read again are in conflict.
 pub(crate) fn push_next(
     text: &mut String,
     survey: &Survey<'_>,

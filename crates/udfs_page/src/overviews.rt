@@ -90,7 +90,7 @@ fn push_counted(text: &mut String, number: usize, words: &str) -> Result<(), Out
     push_markup(text, words)
 }
 
-/// Of so many torn directories, how many there are beside the first.
+/// Of `torn` torn directories, how many there are beside the first, if any.
 fn push_other_folders(text: &mut String, torn: usize) -> Result<(), OutOfMemory>
     ensures { OnOk result (string_bytes text.new ≡ string_bytes text.old ++ other_folders_html torn) }
 {

@@ -56,7 +56,7 @@ fn push_arcs(
     push_picture(text, &marks, last as u64 + 1)
 }
 
-/// What is told of the disc.
+/// What the page says of the disc.
 fn push_about_disc(alloc: Global, text: &mut String, survey: &Survey<'_>) -> Result<(), OutOfMemory>
     ensures { OnOk result (string_bytes text.new ≡ string_bytes text.old ++ disc_html survey.now.profile survey.now.table.now survey.now.last (survey_now survey.now)) }
 {
@@ -78,7 +78,7 @@ fn push_torn_files(
     push_torn(text, torn.count, &torn.rows)
 }
 
-/// What is told of nodes that are without their blocks and holes.
+/// What the page says of nodes that are given without their blocks and holes.
 fn put_about_nodes<W: Sink>(
     alloc: Global,
     text: &mut String,
@@ -93,7 +93,7 @@ fn put_about_nodes<W: Sink>(
     put_tree(alloc, text, sink, view, nodes)
 }
 
-/// What is told of the nodes of a volume that opens.
+/// What the page says of the nodes of the volume, if that opens.
 fn put_about_files<W: Sink>(
     alloc: Global,
     text: &mut String,
@@ -112,7 +112,7 @@ fn put_about_files<W: Sink>(
     }
 }
 
-/// All before what is told of the nodes.
+/// All before what the page says of the nodes.
 fn push_front(alloc: Global, text: &mut String, survey: &Survey<'_>) -> Result<(), OutOfMemory>
     ensures { OnOk result (string_bytes text.new ≡ string_bytes text.old ++ (head_text (title_html (volume_now survey.now.volume)) ++ disc_html survey.now.profile survey.now.table.now survey.now.last (survey_now survey.now))) }
 {

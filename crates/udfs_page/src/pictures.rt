@@ -47,7 +47,7 @@ fn push_legend(text: &mut String) -> Result<(), OutOfMemory>
     push_markup(text, "</ul></figcaption>\n")
 }
 
-/// The picture of a disc with so many blocks, and what its marks mean.
+/// The picture of a disc with `blocks` blocks, and what its marks mean.
 pub(crate) fn push_picture(
     text: &mut String,
     marks: &[Mark],

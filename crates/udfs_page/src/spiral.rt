@@ -164,7 +164,7 @@ fn push_arc(
     push_blocks(text, count, blocks, index)
 }
 
-/// The picture of all arcs of a disc with so many blocks.
+/// The picture of all arcs of a disc with `blocks` blocks.
 pub(crate) fn push_spiral(text: &mut String, marks: &[Mark], blocks: u64) -> Result<(), OutOfMemory>
     requires few { length marks.now ≤ 2000 }
     requires blocks { blocks ≤ 2 ^ 32 }

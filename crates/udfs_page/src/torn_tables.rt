@@ -51,7 +51,7 @@ fn push_rows(text: &mut String, rows: &[TornRow]) -> Result<(), OutOfMemory>
     Ok(())
 }
 
-/// So many files are not shown.
+/// That `more` files are not shown.
 fn push_more_line(text: &mut String, more: usize) -> Result<(), OutOfMemory>
     ensures { OnOk result (string_bytes text.new ≡ string_bytes text.old ++ more_line more) }
 {
@@ -60,7 +60,7 @@ fn push_more_line(text: &mut String, more: usize) -> Result<(), OutOfMemory>
     push_markup(text, " more, each in the list of all files.</p>\n")
 }
 
-/// How many of so many files are not shown.
+/// How many of `count` files are not shown, where `shown` are; nothing where all are.
 fn push_more(text: &mut String, count: usize, shown: usize) -> Result<(), OutOfMemory>
     ensures { OnOk result (string_bytes text.new ≡ string_bytes text.old ++ more_html count shown) }
 {
@@ -82,7 +82,7 @@ fn push_table(text: &mut String, rows: &[TornRow]) -> Result<(), OutOfMemory>
     push_markup(text, "</table>\n")
 }
 
-/// The table of these of so many torn files, and how many more there are.
+/// The table of these rows of `count` torn files, and how many more files there are.
 fn push_some(text: &mut String, count: usize, rows: &[TornRow]) -> Result<(), OutOfMemory>
     ensures { OnOk result (string_bytes text.new ≡ string_bytes text.old ++ some_html count rows.now) }
 {
@@ -90,7 +90,7 @@ fn push_some(text: &mut String, count: usize, rows: &[TornRow]) -> Result<(), Ou
     push_more(text, count, rows.len())
 }
 
-/// The table of these of so many torn files, if there are any.
+/// The table of these rows of `count` torn files, and how many more there are; nothing where there is no row.
 pub(crate) fn push_torn(
     text: &mut String,
     count: usize,

@@ -125,7 +125,7 @@ fn push_standing(text: &mut String, standing: &Standing, kind: Kind) -> Result<(
     }
 }
 
-/// What is told of a node beside its name.
+/// What the page says of a node beside its name.
 fn push_note(
     text: &mut String,
     standing: &Standing,
@@ -140,7 +140,7 @@ fn push_note(
     push_markup(text, "</small>")
 }
 
-/// The name of a node with this standing, and what is told beside it.
+/// The name of a node with this standing, and what the page says beside it.
 #[tactic(auto, unfolding(crate::specs::Trees::told_html))]
 fn push_told(
     alloc: Global,
@@ -195,7 +195,7 @@ fn push_folder(
     push_markup(text, "</summary>\n")
 }
 
-/// A node stands in a line.
+/// What the line of a node begins with.
 fn push_leaf_front(text: &mut String, standing: &Standing) -> Result<(), OutOfMemory>
     ensures { OnOk result (string_bytes text.new ≡ string_bytes text.old ++ leaf_front standing.now) }
 {
@@ -204,7 +204,7 @@ fn push_leaf_front(text: &mut String, standing: &Standing) -> Result<(), OutOfMe
     push_markup(text, ">")
 }
 
-/// A node with this standing stands in a line, behind which so many folders end.
+/// The line of a node with this standing, after which `ended` folders end.
 fn push_leaf(
     alloc: Global,
     text: &mut String,

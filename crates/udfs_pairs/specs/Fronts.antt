@@ -9,6 +9,6 @@ abbrev pub IsFrontBehind : List ℕ → ℕ → ℕ → ℕ → ℕ → List ℕ
 IsFrontBehind all block left skip n bytes =
     2048 * (block + left) ≤ length all → (rest : List ℕ) → take n bytes ≡ take n (drop skip (flat_map record_bytes (records_from all block left) ++ rest))
 
--- a read may fail: one of the image may, or the image does not tell its bytes, or it has not all these blocks
+-- a read may fail: one of the image may, or the bytes of the image are not known, or it ends before block `end`
 abbrev pub MayFail : Option (List ℕ) → Type 0 → ℕ → Type 0
 MayFail image fails end = IfSome image (λ all. 2048 * end ≤ length all → fails)

@@ -10,7 +10,7 @@ pub record IsBeforeEach (before : List ℕ) (ranges : List BlockRange) : Type 0 
   pub each : length before ≡ length ranges
   pub many : (i : ℕ) → i < length ranges → slice_index before i ≡ block_count (take i ranges)
 
--- so many blocks come before this one, and so many of its range are from it on
+-- `number` blocks come before this one, and `left` blocks of its range are from it on
 pub record IsBlockOf (ranges : List BlockRange) (number block left : ℕ) : Type 0 where
   pub earlier : List BlockRange
   pub range : BlockRange

@@ -5,7 +5,7 @@ use Rattle.std.proofs.Math.Nat.{ℕ_set}
 use Rattle.udfs_rescue.specs.declared.known.BlockRange.{BlockRange}
 use Rattle.udfs_rescue.specs.Known.{InRanges}
 
--- the image has so many bytes, where it tells them
+-- the image has `size` bytes, where its bytes are known
 abbrev pub HasSize : Option (List ℕ) → ℕ → Type 0
 HasSize None size = ⊤
 HasSize (Some all) size = size ≡ length all
@@ -15,6 +15,6 @@ pub HasSize-prop : (image : Option (List ℕ)) (size : ℕ) → IsProp (HasSize 
 HasSize-prop None size = Unit-prop
 HasSize-prop (Some all) size = ℕ_set size (length all)
 
--- each block of the ranges ends within so many bytes
+-- each block of the ranges ends within the first `size` bytes
 abbrev pub AreInside : List BlockRange → ℕ → Type 0
 AreInside ranges size = (n : ℕ) → InRanges ranges n → 2048 * (n + 1) ≤ size

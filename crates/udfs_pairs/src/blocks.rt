@@ -75,7 +75,7 @@ impl NumberedBlocks {
     ///
     /// # Errors
     ///
-    /// `AllocError` for want of memory.
+    /// `AllocError` if memory ran out.
     pub fn new(alloc: Global, known: KnownBlocks) -> Result<NumberedBlocks, AllocError>
         ensures { IfOk result (λ blocks. blocks ≡ known) }
     {

@@ -14,7 +14,7 @@ use udfs_reading::DeviceFault;
 /// How many blocks are read at once: 256 KiB.
 const BLOCKS_AT_ONCE: usize = 128;
 
-/// Copies what stands behind the first `skip` bytes into the front of the buffer, and answers how many bytes that are.
+/// Copies the bytes after the first `skip` ones into the front of the buffer, as many as fit, and returns how many these are.
 fn give(bytes: &[u8], skip: usize, buf: &mut [u8]) -> usize
     requires { skip < length bytes.now }
     ensures bound { result ≤ length buf.new }
@@ -27,7 +27,7 @@ fn give(bytes: &[u8], skip: usize, buf: &mut [u8]) -> usize
     count
 }
 
-/// Gives of the header of a reading of so many records what stands behind its first `skip` bytes.
+/// Gives the bytes after the first `skip` ones of the header of a reading of `count` records.
 pub fn give_header(count: u32, skip: usize, buf: &mut [u8]) -> usize
     requires { skip < 16 }
     ensures bound { result ≤ length buf.new }

@@ -52,7 +52,7 @@ fn size_with<S: Stored>(image: &S, known: &KnownBlocks) -> Result<u64, PairFault
     }
 }
 
-/// Reads a mapfile, and answers the reading of the blocks that it makes known of the image, all of which are in the image.
+/// Reads a mapfile, and returns the reading of the blocks that it makes known of the image, all of which are in the image.
 ///
 /// # Errors
 ///

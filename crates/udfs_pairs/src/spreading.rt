@@ -21,7 +21,7 @@ fn put_record(buf: &mut [u8], from: usize, to: usize, block: u32)
     buf[to + 4..to + 2052].copy_from_slice(&bytes);
 }
 
-/// Spreads so many blocks at the front of the buffer, the first of this number: the last one is moved first.
+/// Spreads the `many` blocks at the front of the buffer; the first has the number `first`. The last one is moved first.
 pub fn spread(buf: &mut [u8], first: u32, many: usize)
     requires room { 2052 * many ≤ length buf.old }
     requires within { first + many ≤ 4194304 }

@@ -25,11 +25,11 @@ pub struct StoredPair<S: Stored> {
 }
 
 impl<S: Stored> StoredPair<S> {
-    /// The reading of these blocks of an image that has so many bytes.
+    /// The reading of these blocks of an image that has `size` bytes.
     ///
     /// # Errors
     ///
-    /// `AllocError` for want of memory.
+    /// `AllocError` if memory ran out.
     pub fn new(
         alloc: Global,
         image: S,

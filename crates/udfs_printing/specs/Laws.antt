@@ -13,6 +13,6 @@ PutsNone = (a : Stream) (p : Option (List ℕ)) → Puts a a p p []
 abbrev pub PutsThen : Type 0
 PutsThen = (a b c : Stream) (p q r : Option (List ℕ)) (x y : List ℕ) → Puts a b p q x → Puts b c q r y → Puts a c p r (x ++ y)
 
--- what was put behind nothing is written at the end, or a beginning of it is out and the fault is told
+-- what was put into an empty printer is written at the end, or a beginning of it is out and the fault is reported
 abbrev pub PutsAll : Type 0
 PutsAll = (a b c : Stream) (q : Option (List ℕ)) (x : List ℕ) (r : Result ⊤ WriteFault) → Puts a b (Some []) q x → Finishes b c q r → Writes a c x r

@@ -1,4 +1,4 @@
--- What a printer does to a sink that tells its bytes.
+-- What a printer does to a sink whose bytes are known.
 --     Puts old new held still text     the text was put behind what was held
 --     Finishes old new held result     all that was held was handed on
 use Rattle.std.specs.Prelude.{◌≡◌, ℕ, List, Option, Some, None, Result, Ok, Err}
@@ -21,7 +21,7 @@ PutsBy old new None None text = LeftAlone old new
 pub record Puts (old new : Stream) (held still : Option (List ℕ)) (text : List ℕ) : Type 0 where
   pub by : PutsBy old new held still text
 
--- what was held was written; and a fault from before is told, and the sink left alone
+-- what was held was written, as `Writes` says; after an earlier fault the result is an error, and the sink is left alone
 abbrev pub Finishes : {X E : Type 0} → Stream → Stream → Option (List ℕ) → Result X E → Type 0
 Finishes old new (Some held) result = Writes old new held result
 Finishes old new None (Ok x) = ⊥

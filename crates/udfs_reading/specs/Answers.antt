@@ -1,4 +1,4 @@
--- What a call that reads one file of a kind answers, by the bytes that the source tells.
+-- What a call that reads one file of a kind returns, by the bytes of the source, where these are known.
 use Rattle.std.specs.Prelude.{◌≡◌, ℕ, ◌<◌, List, ◌++◌, Option, Result, IfSome, IfOk, IfErr, MatchResult}
 use Rattle.udfs_lattice.specs.Tables.{Table}
 use Rattle.udfs_reading.specs.declared.error.ReadingError.{ReadingError}
@@ -25,12 +25,12 @@ GivesTable K told r = IfSome told (λ bytes. IfOk r (λ table. (count : ℕ) × 
 abbrev pub GivesFault : Kind → Option (List ℕ) → Result Table ReadingError → Type 0
 GivesFault K told r = IfSome told (λ bytes. IfErr r (λ e. IsOfFile e.fault → K.IsFaulty bytes e.fault e.number))
 
--- a file gives its table, and is refused by the device or for want of memory alone; never for want of memory where it has no record
+-- a file gives its table, and the only errors are Io and OutOfMemory; OutOfMemory comes only where the file has a record
 abbrev pub TakesFile : Kind → Option (List ℕ) → Result Table ReadingError → Type 0
 TakesFile K told r = IfSome told (λ bytes. (count : ℕ) (table : Table) → K.IsFile bytes count table →
     MatchResult r (λ t. t ≡ table) (λ e. (¬ IsOfFile e.fault) × (e.fault ≡ OutOfMemory → 0 < count)))
 
--- other bytes give no table, and no other fault of the file; want of memory is answered only past the header
+-- other bytes give no table, and no other fault of the file; OutOfMemory comes only past the header
 abbrev pub RefusesFaulty : Kind → Option (List ℕ) → Result Table ReadingError → Type 0
 RefusesFaulty K told r = IfSome told (λ bytes. (fault : ReadingFault) (number : ℕ) → K.IsFaulty bytes fault number →
     MatchResult r (λ _. ⊥) (λ e. (IsOfFile e.fault → (e.fault ≡ fault) × (e.number ≡ number)) × (e.fault ≡ OutOfMemory → 0 < number)))

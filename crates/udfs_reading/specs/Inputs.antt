@@ -1,4 +1,4 @@
--- An input: a reading or a table file of either version, told by its first eight bytes.
+-- An input: a reading or a table file of either version, recognized by its first eight bytes.
 use Rattle.std.specs.Prelude.{◌≡◌, ℕ, ◌<◌, ◌≤◌, Bool, true, false, cond, List, length, take}
 use Rattle.std.specs.Str.{bytes_eq}
 use Rattle.udfs_reading.specs.declared.error.ReadingFault.{ReadingFault}
@@ -29,7 +29,7 @@ named false true v2 = tables_v1
 named false false true = tables_v2
 named false false false = unnamed_kind
 
--- the kind of file that these eight bytes name; `too` tells whether readings are accepted
+-- the kind of file that these eight bytes name; `too` says whether readings are accepted
 abbrev pub kind_by : Bool → List ℕ → Kind
 kind_by too name = named (cond too (bytes_eq name magic) false) (bytes_eq name table_magic) (bytes_eq name packet_magic)
 

@@ -39,7 +39,7 @@ packed_file qs = header packet_magic (length qs) ++ flat_map packet_bytes qs
 
 -- ---- the packets of a table
 
--- the states of so many blocks, from block n on
+-- the states of this many blocks, from block n on
 unfoldable pub states_from : Table → ℕ → ℕ → List State
 states_from t n zero = []
 states_from t n (suc m) = state_of t n ∷ states_from t (n + 1) m

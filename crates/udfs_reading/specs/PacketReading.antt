@@ -157,7 +157,7 @@ packet_entries q = listed (32 * q.0) q.1
 abbrev pub table_of_packets : List Packet → Table
 table_of_packets qs = table_of_entries (flat_map packet_entries qs)
 
--- the state that the two bits of a block tell was read, and joined to that of the block
+-- the state that the two bits of a block give was read, and joined to that of the block
 pub record TakesPlace (old new : Option (List ℕ)) (block : ℕ) (known conflict : Bool) (before after : Table) : Type 0 where
   pub taken : State
   pub held : IsHeld taken
@@ -166,12 +166,12 @@ pub record TakesPlace (old new : Option (List ℕ)) (block : ℕ) (known conflic
   pub given : Consumes old new (content taken)
   pub put : after ≡ join_tables before (one_entry block taken)
 
--- it was not joined; where it is no want of memory, the bytes of a known block were cut
+-- it was not joined; unless the fault is OutOfMemory, the bytes of a known block were cut
 pub record PlaceFails (old new : Option (List ℕ)) (i j number : ℕ) (known : Bool) (e : ReadingError) : Type 0 where
   pub fails : BlockFails old new i j number e
   pub due : (e.fault ≡ fault.OutOfMemory → ⊥) → known ≡ true
 
--- the states that the masks tell were read, and joined to those of their blocks, the first of which is `block`
+-- the states that the masks give were read, and joined to those of their blocks, the first of which is `block`
 pub record TakesStates (old new : Option (List ℕ)) (block known conflict : ℕ) (before after : Table) : Type 0 where
   pub taken : List State
   pub many : length taken ≡ 32

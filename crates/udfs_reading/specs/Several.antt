@@ -15,25 +15,25 @@ use Rattle.udfs_reading.specs.Inputs.{inputs}
 abbrev pub HasTable : List ℕ → Table → Type 0
 HasTable bytes table = (count : ℕ) × inputs.IsFile bytes count table
 
--- each input that tells its bytes has its table at the same place of the list
+-- each input whose bytes are known has its table at the same place of the list
 abbrev pub TablesAre : {R : Type 0} → (R → Option (List ℕ)) → List R → List Table → Type 0
 TablesAre remaining [] [] = Unit {0}
 TablesAre remaining [] (t ∷ ts) = ⊥
 TablesAre remaining (r ∷ rs) [] = ⊥
 TablesAre remaining (r ∷ rs) (t ∷ ts) = IfSome (remaining r) (λ bytes. HasTable bytes t) × TablesAre remaining rs ts
 
--- the input tells its bytes, and they have this table
+-- the bytes of the input are known, and they have this table
 abbrev pub Tells : {R : Type 0} → (R → Option (List ℕ)) → R → Table → Type 0
 Tells remaining r t = (bytes : List ℕ) × (remaining r ≡ Some bytes) × HasTable bytes t
 
--- each input tells its bytes, and they have the table at the same place of the list
+-- the bytes of each input are known, and they have the table at the same place of the list
 abbrev pub AllTell : {R : Type 0} → (R → Option (List ℕ)) → List R → List Table → Type 0
 AllTell remaining [] [] = Unit {0}
 AllTell remaining [] (t ∷ ts) = ⊥
 AllTell remaining (r ∷ rs) [] = ⊥
 AllTell remaining (r ∷ rs) (t ∷ ts) = Tells remaining r t × AllTell remaining rs ts
 
--- each input tells its bytes, and they are the reading of the records at the same place of the list
+-- the bytes of each input are known, and they are the reading of the records at the same place of the list
 abbrev pub AllReadings : {R : Type 0} → (R → Option (List ℕ)) → List R → List (List Record) → Type 0
 AllReadings remaining [] [] = Unit {0}
 AllReadings remaining [] (rs ∷ rss) = ⊥

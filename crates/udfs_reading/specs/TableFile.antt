@@ -20,7 +20,7 @@ state_bytes Conflict = 2 ∷ []
 abbrev pub entry_bytes : ℕ × State → List ℕ
 entry_bytes e = number e.0 ++ state_bytes e.1
 
--- the header of a table file of version 1 of so many entries
+-- the header of a table file of version 1 of `count` entries
 abbrev pub table_header : ℕ → List ℕ
 table_header count = header table_magic count
 

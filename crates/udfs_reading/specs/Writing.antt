@@ -1,4 +1,4 @@
--- What writing does to a sink that tells its bytes.
+-- What writing does to a sink whose bytes are known.
 use Rattle.std.specs.Prelude.{◌≡◌, ℕ, ◌+◌, ◌%◌, ◌^◌, List, ◌++◌, Result, Ok, Err}
 use Rattle.std.specs.Io.KnownBytes.{Appends}
 use Rattle.udfs_reading.specs.Device.{Stream}
@@ -8,7 +8,7 @@ pub record Wrote (old new : Stream) (bytes : List ℕ) : Type 0 where
   pub given : Appends old.contents new.contents bytes
   pub kept : new.faults ≡ old.faults
 
--- a beginning of the bytes was written, and then the sink failed, which its count tells
+-- a beginning of the bytes was written, and then the sink failed, which its count shows
 pub record Failed (old new : Stream) (bytes : List ℕ) : Type 0 where
   pub out : List ℕ
   pub rest : List ℕ

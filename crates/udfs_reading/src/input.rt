@@ -1,4 +1,4 @@
-//! One input: a reading, a table file of either version, or any of them, told by its first eight bytes.
+//! One input: a reading, a table file of either version, or any of them, recognized by its first eight bytes.
 
 ghost use Rattle.std.specs.Prelude.{◌≡◌, ◌≢◌, ◌↔◌, ℕ, List, [], OnOk, IfOk, IfErr, IfSome, IsErrAnd, MatchResult, cond, false};
 ghost use Rattle.std.specs.Str.{bytes_eq};
@@ -154,13 +154,13 @@ fn read_accepted<R: Source>(
     Ok(table)
 }
 
-/// Reads a reading file to the end of the source, and answers the table of its records.
+/// Reads a reading file to the end of the source, and returns the table of its records.
 ///
 /// # Errors
 ///
 /// The first fault of the bytes, with the record that has it. `Io` where the source failed, with the
 /// record of the field that was being read, or the file's own count of records where only its end was
-/// still sought. `OutOfMemory` for want of memory; its record is left open. After an error there is no
+/// still sought. `OutOfMemory` if memory ran out; its record is not specified. After an error there is no
 /// table, and the source is read no further. The source is asked for more only when all whole fields
 /// so far are judged.
 pub fn read_reading<R: Source>(alloc: Global, source: &mut R) -> Result<BlockTable, ReadingError>
@@ -168,9 +168,9 @@ pub fn read_reading<R: Source>(alloc: Global, source: &mut R) -> Result<BlockTab
     ensures table { GivesTable readings (R.remaining source.old) result }
     // A fault of the file is the first one of the bytes, at its record.
     ensures fault { GivesFault readings (R.remaining source.old) result }
-    // A reading is refused only by the device or for want of memory.
+    // A reading gives its table. The only errors are `Io` and, where it has a record, `OutOfMemory`.
     ensures file { TakesFile readings (R.remaining source.old) result }
-    // Other bytes give no table and no other fault of the file, and want of memory only past the header.
+    // Other bytes give no table and no other fault of the file, and `OutOfMemory` only past the header.
     ensures faulty { RefusesFaulty readings (R.remaining source.old) result }
     // It is the source that failed exactly where its count changed.
     ensures io { IsErrAnd result (λ e. e.fault ≡ Io) ↔ (R.faults source.new ≢ R.faults source.old) }
@@ -182,7 +182,7 @@ pub fn read_reading<R: Source>(alloc: Global, source: &mut R) -> Result<BlockTab
     outcome
 }
 
-/// Reads a table file of either version to the end of the source, and answers its table.
+/// Reads a table file of either version to the end of the source, and returns its table.
 ///
 /// # Errors
 ///
@@ -192,9 +192,9 @@ pub fn read_table<R: Source>(alloc: Global, source: &mut R) -> Result<BlockTable
     ensures table { GivesTable tables (R.remaining source.old) result }
     // A fault of the file is the first one of the bytes, at its record.
     ensures fault { GivesFault tables (R.remaining source.old) result }
-    // The file of a table gives that table, and is refused only by the device or for want of memory.
+    // The file of a table gives that table. The only errors are `Io` and, where it has a record, `OutOfMemory`.
     ensures file { TakesFile tables (R.remaining source.old) result }
-    // Other bytes give no table and no other fault of the file, and want of memory only past the header.
+    // Other bytes give no table and no other fault of the file, and `OutOfMemory` only past the header.
     ensures faulty { RefusesFaulty tables (R.remaining source.old) result }
     // It is the source that failed exactly where its count changed.
     ensures io { IsErrAnd result (λ e. e.fault ≡ Io) ↔ (R.faults source.new ≢ R.faults source.old) }
@@ -211,8 +211,8 @@ pub fn read_table<R: Source>(alloc: Global, source: &mut R) -> Result<BlockTable
     outcome
 }
 
-/// Reads a reading or a table file of either version, told by its first eight bytes, to the end of the
-/// source, and answers its table.
+/// Reads a reading or a table file of either version, recognized by its first eight bytes, to the end of the
+/// source, and returns its table.
 ///
 /// # Errors
 ///
@@ -222,9 +222,9 @@ pub fn read_input<R: Source>(alloc: Global, source: &mut R) -> Result<BlockTable
     ensures table { GivesTable inputs (R.remaining source.old) result }
     // A fault of the file is the first one of the bytes, at its record.
     ensures fault { GivesFault inputs (R.remaining source.old) result }
-    // A file of any kind is refused only by the device or for want of memory.
+    // A file of any kind gives its table. The only errors are `Io` and, where it has a record, `OutOfMemory`.
     ensures file { TakesFile inputs (R.remaining source.old) result }
-    // Other bytes give no table and no other fault of the file, and want of memory only past the header.
+    // Other bytes give no table and no other fault of the file, and `OutOfMemory` only past the header.
     ensures faulty { RefusesFaulty inputs (R.remaining source.old) result }
     // It is the source that failed exactly where its count changed.
     ensures io { IsErrAnd result (λ e. e.fault ≡ Io) ↔ (R.faults source.new ≢ R.faults source.old) }

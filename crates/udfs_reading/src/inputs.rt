@@ -81,7 +81,7 @@ pub fn take_inputs<R: Source, T: Taker<R>>(
     // The inputs' tables are joined to that of the taker, and no device failed.
     ensures table { OnOk result ((ts : List Table) × TablesAre R.remaining inputs.old ts × ((t : Table) → T.took taker.old t → T.took taker.new (join_tables t (join_all ts)))) }
     ensures counts { OnOk result (map R.faults inputs.new ≡ map R.faults inputs.old) }
-    // Where each input is a good file, only a device or want of memory refuses.
+    // Where each input is a good file, the only faults are `Io` and `OutOfMemory`.
     ensures good { (ts : List Table) → AllTell R.remaining inputs.old ts →
         MatchResult result (λ _. (t : Table) → T.took taker.old t → T.took taker.new (join_tables t (join_all ts))) (λ e. ¬ IsOfFile e.error.fault) }
     // What was taken is one and the same for every order and repetition of the inputs' tables,
@@ -115,7 +115,7 @@ fn join_each<R: Source>(alloc: Global, inputs: &mut [R]) -> Result<BlockTable, I
     }
 }
 
-/// Reads all inputs, readings and table files of either version, in order, and answers the join of their tables. The
+/// Reads all inputs, readings and table files of either version, in order, and returns the join of their tables. The
 /// records go straight into that one table.
 ///
 /// # Errors
@@ -126,10 +126,10 @@ pub fn join_inputs<R: Source>(alloc: Global, inputs: &mut [R]) -> Result<BlockTa
     // The table is the join of the inputs' tables, and no device failed.
     ensures table { IfOk result (λ table. (ts : List Table) × TablesAre R.remaining inputs.old ts × (table ≡ join_all ts)) }
     ensures counts { IfOk result (λ _. map R.faults inputs.new ≡ map R.faults inputs.old) }
-    // Where each input is a good file, only a device or want of memory refuses.
+    // Where each input is a good file, the only faults are `Io` and `OutOfMemory`.
     ensures good { (ts : List Table) → AllTell R.remaining inputs.old ts →
         MatchResult result (λ table. table ≡ join_all ts) (λ e. ¬ IsOfFile e.error.fault) }
-    // The answer is one and the same for every order and repetition of the inputs' tables,
+    // The result is one and the same for every order and repetition of the inputs' tables,
     ensures any_order { (ts us : List Table) → AllTell R.remaining inputs.old ts → SameTables ts us →
         IfOk result (λ table. table ≡ join_all us) }
     // and for readings however their records are ordered, repeated and split over files.

@@ -138,7 +138,7 @@ fn read_blocks<R: Source, T: Taker<R>>(
     Ok(())
 }
 
-/// Takes a packet whose number is at least `low`, and answers the next low.
+/// Takes a packet, whose number must be at least `low`, and returns the least number of the next one.
 fn read_packet<R: Source, T: Taker<R>>(
     source: &mut R,
     window: &mut Window,

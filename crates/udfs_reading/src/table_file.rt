@@ -57,7 +57,7 @@ fn read_state<R: Source, T: Taker<R>>(
     }
 }
 
-/// Takes an entry whose block is at least `floor`, and answers the next floor.
+/// Takes an entry, whose block must be at least `floor`, and returns the least block of the next one.
 fn read_entry<R: Source, T: Taker<R>>(
     source: &mut R,
     window: &mut Window,

@@ -9,19 +9,19 @@ ghost use Rattle.udfs_reading.specs.Places.{StandsAt, HasBlockAt};
 use crate::device::Source;
 use udfs_lattice::{BlockTable, Fact};
 
-/// A taker did not take what it was told: for want of memory, or because what it looks into failed. A taker that looks into
-/// something tells itself which it was.
+/// A taker did not take what it was given, for example because memory ran out, or because what it looks into failed. A taker
+/// that looks into something reports itself which it was.
 #[derive(Clone, Copy, Debug, PartialEq, Eq)]
 pub struct NotTaken;
 
-/// What takes what inputs of the kind `R` say of blocks. It is told of each content and of each conflict in the order in which
-/// they stand in an input, and of each beginning of an input.
+/// What takes what inputs of the kind `R` say of blocks. It is given the beginning of each input, and each content and each
+/// conflict in the order of the input, unless it takes all records itself in [`take_records`](Self::take_records).
 pub trait Taker<R: Source> {
-    /// This is the table of what it took so far. Where it keeps no bytes, but looks into inputs, it says so only where these
-    /// tell what they hold.
+    /// This is the table of what it took so far. If it keeps no bytes, but looks into inputs, this is stated only where the bytes
+    /// of these are known.
     ghost took: { Self → Table → Type 0 };
 
-    /// The bytes of the input that is being taken, where it looks into it, and it tells them.
+    /// The bytes of the input that is being taken, where the taker looks into it and its bytes are known.
     ghost input: { Self → Option (List ℕ) };
 
     /// The next input begins. It is said before its first byte is read.
@@ -32,7 +32,7 @@ pub trait Taker<R: Source> {
         ensures count { R.faults source.new ≡ R.faults source.old };
 
     /// Takes all records of the input that has just begun, where it is a reading and says itself of which blocks its records
-    /// are: so none of its bytes has to be read that is not looked into. It answers whether it did.
+    /// are: so none of its bytes has to be read that is not looked into. It returns whether it did.
     ///
     /// # Errors
     ///
@@ -56,7 +56,7 @@ pub trait Taker<R: Source> {
     ///
     /// # Errors
     ///
-    /// `NotTaken` for want of memory, or because what it looks into failed. Its table is as it was then.
+    /// `NotTaken`, for example because memory ran out, or because what it looks into failed. Then its table is as it was before.
     fn put(&mut self, block: u32, bytes: &[u8; 2048], at: u64) -> Result<(), NotTaken>
         requires block { block ≤ 4194303 }
         requires at { HasBlockAt (input self.now) at bytes.now }

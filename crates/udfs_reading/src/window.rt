@@ -117,7 +117,7 @@ impl Window {
         self.at = 0;
     }
 
-    /// Asks the source once for as many more bytes as there is room for, and answers how many came.
+    /// Asks the source once for as many more bytes as there is room for, and returns how many came.
     fn more<R: Source>(&mut self, source: &mut R) -> Result<usize, DeviceFault>
         requires { length self.now.bytes < 2048 }
         ensures left { Consumes (left self.old.bytes (R.remaining source.old)) (left self.new.bytes (R.remaining source.new)) [] }
@@ -135,7 +135,7 @@ impl Window {
         Ok(count)
     }
 
-    /// Reads ahead until there are `size` bytes, and answers whether there are, or the source is at its end.
+    /// Reads ahead until there are `size` bytes, and returns whether there are. If not, the source is at its end.
     pub fn hold<R: Source>(&mut self, source: &mut R, size: usize) -> Result<bool, DeviceFault>
         requires { size ≤ 2048 }
         ensures left { Consumes (left self.old.bytes (R.remaining source.old)) (left self.new.bytes (R.remaining source.new)) [] }

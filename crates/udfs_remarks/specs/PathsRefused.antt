@@ -1,7 +1,7 @@
 -- Why a command over the inputs of some paths refuses.
 --     OfPathsRefused       the inputs of some paths were not joined, and why; or this holds of their join
---     EndOrPathsRefused    the same where the words tell the last block and the rules, or there is no last block
---     AskedRefused         the same of the inputs that words ask for
+--     EndOrPathsRefused    the same where the last block and the rules are known, or there is no last block
+--     AskedRefused         the same of the inputs that the arguments ask for
 use Rattle.std.specs.Prelude.{◌≡◌, ◌⊎◌, ℕ, List, Option, map}
 use Rattle.clap.specs.declared.parser.matches.Found.{Found}
 use Rattle.udfs_lattice.specs.Tables.{Table}
@@ -17,7 +17,7 @@ use Rattle.udfs_common.specs.declared.sources.AnySource.{AnySource}
 abbrev pub OfPathsRefused : {R I : Type 0} → (List ℕ → Option (Option (List ℕ))) → (List ℕ → Type 0) → (AnySource R I → Option (List ℕ)) → (AnySource R I → ℕ) → List InputPath → Type 0 → (Refusal → Table → Type 0) → Refusal → Type 0
 OfPathsRefused found shut remaining faults paths Before Refused refusal = (Before × InputsRefused found shut remaining faults paths refusal) ⊎ OfPaths found remaining paths (Refused refusal)
 
--- there is no last block, or the inputs were not joined, and then this is so too; or the words tell the last block and the rules, and the same of these
+-- there is no last block, or the inputs were not joined, and then `Before` holds too; or the last block and the rules are known, and the same of these
 abbrev pub EndOrPathsRefused : {R I : Type 0} → (List ℕ → Option (Option (List ℕ))) → (List ℕ → Type 0) → (AnySource R I → Option (List ℕ)) → (AnySource R I → ℕ) → Found → List InputPath → Type 0 → (Profile → ℕ → Refusal → Table → Type 0) → Refusal → Type 0
 EndOrPathsRefused found shut remaining faults words inputs Before Refused refusal = (Before × EndRefused found shut remaining faults inputs words refusal) ⊎ (Before × InputsRefused found shut remaining faults inputs refusal) ⊎
     ((profile : Profile) × (last : ℕ) × IsProfile words profile × IsLast found inputs words last × OfPathsRefused found shut remaining faults inputs Before (Refused profile last) refusal)

@@ -59,7 +59,7 @@ pub fn surveyed<'a>(
     }
 }
 
-/// The entries of a listing that no name leads to, or want of memory.
+/// The entries of a listing that no name leads to, or `Refusal::Memory` where memory ran out.
 pub fn unnamed_in(alloc: Global, listing: &Listing<'_>) -> Result<Vec<Unnamed>, Refusal>
     ensures entries { IfOk result (λ entries. AreUnnamed listing.now entries.items) }
     ensures refused { IfErr result (λ refusal. refusal ≡ Refusal.Memory alloc_error) }
@@ -70,7 +70,7 @@ pub fn unnamed_in(alloc: Global, listing: &Listing<'_>) -> Result<Vec<Unnamed>, 
     }
 }
 
-/// The blocks of a listing that are worth reading again, or want of memory.
+/// The blocks of a listing that are worth reading again, or `Refusal::Memory` where memory ran out.
 pub fn rereads_in(alloc: Global, listing: &Listing<'_>) -> Result<Vec<u32>, Refusal>
     ensures blocks { IfOk result (λ blocks. blocks.items ≡ (listing_now listing.now).reread) }
     ensures refused { IfErr result (λ refusal. refusal ≡ Refusal.Memory alloc_error) }

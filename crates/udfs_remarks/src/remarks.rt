@@ -1,4 +1,4 @@
-//! What a person is told beside what is printed.
+//! Remarks to a person, beside what is printed.
 
 use std::alloc::{AllocError, Global};
 use udfs_common::files::Files;
@@ -8,7 +8,7 @@ use udfs_salvage::{Listing, Survey, Volume};
 use udfs_volume::sequences::sequence;
 use udfs_volume::{Profile, Seen, VolumeFault};
 
-/// What is told of a volume: its table, its last block, by which rules, and what came of opening it.
+/// What remarks on a volume are made from: its table, its last block, by which rules, and what came of opening it.
 #[derive(Clone, Copy)]
 struct Told<'a> {
     table: &'a BlockTable,
@@ -97,7 +97,7 @@ fn of_closed(alloc: Global, told: Told<'_>) -> Result<String, AllocError> {
     }
 }
 
-/// Tells who watches why a volume does not open.
+/// Says in a remark why a volume does not open, where it does not.
 fn remark_closed<F: Files>(alloc: Global, told: Told<'_>, files: &F) {
     if let Volume::Open(_) = told.volume {
         return;
@@ -111,7 +111,7 @@ fn remark_closed<F: Files>(alloc: Global, told: Told<'_>, files: &F) {
 const SPARES: &str =
     "sparing copies disagree: the volume is not lawful, and files in spared packets may be old";
 
-/// Tells who watches why a volume does not open, where it does not; and of one that opens whether sparing copies disagree.
+/// Says in a remark why a volume does not open, where it does not; and of one that opens, that sparing copies disagree, where they do.
 pub fn remark_on<F: Files>(alloc: Global, survey: &Survey<'_>, files: &F) {
     if let Volume::Open(_) = &survey.volume {
         if spares_disagree(survey) {
@@ -122,7 +122,7 @@ pub fn remark_on<F: Files>(alloc: Global, survey: &Survey<'_>, files: &F) {
     remark_unopened(alloc, survey, files);
 }
 
-/// Tells who watches why the volume of a survey does not open, where it does not.
+/// Says in a remark why the volume of a survey does not open, where it does not.
 fn remark_unopened<F: Files>(alloc: Global, survey: &Survey<'_>, files: &F) {
     let told = Told {
         table: survey.table,
@@ -133,7 +133,7 @@ fn remark_unopened<F: Files>(alloc: Global, survey: &Survey<'_>, files: &F) {
     remark_closed(alloc, told, files);
 }
 
-/// Tells who watches why the volume of a listing does not open, where it does not.
+/// Says in a remark why the volume of a listing does not open, where it does not.
 pub fn remark_on_listing<F: Files>(alloc: Global, listing: &Listing<'_>, files: &F) {
     let told = Told {
         table: listing.table,

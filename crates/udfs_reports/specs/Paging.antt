@@ -6,7 +6,7 @@
 --     MayPageAsked          what a crash in the middle shows: what was there, or the page in its place
 --     IsFreePage            a page takes the place of no file but a page, and of none of the inputs
 --     IsSparedPage          why a page is refused: it would take the place of something else
---     ReplacesPage          the page replaces what is at its path, whole or not at all, and nothing else, whatever is answered
+--     ReplacesPage          the page replaces what is at its path, whole or not at all, and nothing else, whatever is returned
 use Rattle.std.specs.Prelude.{◌≡◌, ◌≢◌, ◌⊎◌, ⊤, ℕ, Bool, true, List, Option, Some, codes, map, if◌then◌else◌}
 use Rattle.std.specs.Str.{bytes_eq}
 use Rattle.clap.specs.declared.parser.matches.Found.{Found}

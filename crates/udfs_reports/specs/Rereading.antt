@@ -7,7 +7,7 @@
 --     MayDomain           what a crash in the middle shows: what was there, or the mapfile in its place
 --     DomainAsked         something holds of the mapfile that the words ask for
 --     MayDomainAsked      the same, as the words of the command ask for
---     RereadSpares        what `reread` leaves as it was, whatever it answers
+--     RereadSpares        what `reread` leaves as it was, whatever it returns
 use Rattle.std.specs.Prelude.{◌≡◌, ◌⊎◌, ℕ, ◌+◌, ◌++◌, ◌==◌, Bool, List, [], ◌∷◌, Option, codes, decimal, length, map, if◌then◌else◌, ◌≢◌, false}
 use Rattle.clap.specs.declared.parser.matches.Found.{Found}
 use Rattle.udfs_files.specs.Disk.{Disk, Same, Replaced, After, IsOwn}

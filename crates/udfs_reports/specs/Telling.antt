@@ -1,4 +1,4 @@
--- What the commands that tell of a volume print of it, and why they refuse.
+-- What the commands that report on a volume print of it, and why they fail.
 --     Tells                a text of the table's report was printed
 --     IsRefusedTelling     a text of the table's report was not printed, or a beginning of it, and why
 --     IsRefusedPut         the file of the table's report was not put, and why

@@ -1,5 +1,5 @@
 // SPDX-License-Identifier: MIT OR Apache-2.0
-//! The commands that tell of a volume: `report`, `reread`, `list`, `summary` and `page`.
+//! The commands that report on a volume: `report`, `reread`, `list`, `summary` and `page`.
 #![tactic(auto)]
 
 mod list;

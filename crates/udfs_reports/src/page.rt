@@ -63,7 +63,7 @@ impl<'a, 'r> Job for PageText<'a, 'r> {
         match write_page(self.alloc, self.survey, sink) {
             Ok(()) => Ok(()),
             Err(RunError::Write) => Err(PageError::NotWritten),
-            // It has no other error but want of memory.
+            // Its only other error is out of memory.
             Err(_) => Err(PageError::OutOfMemory),
         }
     }
@@ -141,8 +141,8 @@ fn page_of<F: Files>(
     }
 }
 
-/// Joins the inputs, and puts the page of the volume by the rules of a profile, where `last` is its last block, at a path, whole or not at all. It answers whether there are files and
-/// all of them are whole. All inputs are opened in order before one is read, and the page is begun only after that.
+/// Joins the inputs, and puts the page of the volume by the rules of a profile, where `last` is its last block, at a path, whole or not at all. It returns
+/// whether there are files and all of them are whole. All inputs are opened in order before one is read, and the page is begun only after that.
 pub fn page<F: Files>(
     alloc: Global,
     inputs: &[InputPath<'_>],

@@ -95,7 +95,7 @@ fn print_counts<O: Sink>(alloc: Global, blocks: &[u32], out: &mut O) -> Result<(
     }
 }
 
-/// Prints how many blocks are wanted, and then puts their mapfile at a path: where it cannot be told, nothing is put.
+/// Prints how many blocks are wanted, and then puts their mapfile at a path: where the count cannot be printed, nothing is put.
 fn put_domain<F: Files, O: Sink>(
     alloc: Global,
     wanted: &[u32],
@@ -170,7 +170,7 @@ fn map_of<F: Files, O: Sink>(
 }
 
 /// Joins the inputs, puts the mapfile of the blocks of the volume, of which `last` is the last, that are worth reading again by the rules of a profile at a path, whole or not at all,
-/// and prints how many they are first. It answers whether there are files and all of them are whole. All inputs are opened in order before one is read, and the
+/// and prints how many they are first. It returns whether there are files and all of them are whole. All inputs are opened in order before one is read, and the
 /// mapfile is begun only after that.
 pub fn reread_map<F: Files, O: Sink>(
     alloc: Global,
@@ -191,7 +191,7 @@ pub fn reread_map<F: Files, O: Sink>(
     // A refusal leaves all as it was; or a call failed, and then the path holds what it held or the new file, whole.
     ensures left { OnErr result (RefusedOut F.tells F.holds F.real F.in_place (F.shut files.old path.now ⊎ Fails F.faults ⊎ SinkFails F.Output.stream) path.now files.old files.new
         (λ Put. OfPaths (λ path. F.holds files.old (F.real files.old path)) (⟦<AnySource<F::Input, F::Image> as Source>⟧.remaining) inputs.now (IsDomain profile last Put))) }
-    // The inputs were not joined, or their table has no report, or the blocks were not told, or the mapfile was not put.
+    // The inputs were not joined, or memory ran out, or their table has no report, or the count was not printed, or the mapfile was not put.
     ensures refused { IfErr result (OfPathsRefused (λ path. F.holds files.old (F.real files.old path)) (F.shut files.old) (⟦<AnySource<F::Input, F::Image> as Source>⟧.remaining) (⟦<AnySource<F::Input, F::Image> as Source>⟧.faults) inputs.now
         ((files.new ≡ files.old) × (O.stream out.new ≡ O.stream out.old)) (IsRefusedDomain (F.shut files.old path.now ⊎ Fails F.faults ⊎ SinkFails F.Output.stream) profile last (O.stream out.old) (O.stream out.new))) }
 {

@@ -64,8 +64,8 @@ fn reread_map_words<F: Files, O: Sink>(
     // A refusal leaves all as it was; or a call failed, and then the path holds what it held or the new file, whole.
     ensures left { OnErr result (RefusedOut F.tells F.holds F.real F.in_place (F.shut files.old (mapfile_text (found_of words.now)) ⊎ Fails F.faults ⊎ SinkFails F.Output.stream) (mapfile_text (found_of words.now)) files.old files.new
         (DomainAsked (λ path. F.holds files.old (F.real files.old path)) (⟦<AnySource<F::Input, F::Image> as Source>⟧.remaining) (found_of words.now))) }
-    // Why it is refused: what is there is spared or could not be looked at, or the last block or the inputs are to blame, or their table has no report, or the blocks were not
-    // told, or the mapfile was not put.
+    // Why it fails: memory ran out, or what is there is spared or could not be looked at, or the last block or the inputs are to blame, or their table has no
+    // report, or the count was not printed, or the mapfile was not put.
     ensures refused { IfErr result (λ refusal. ((files.new ≡ files.old) × (O.stream out.new ≡ O.stream out.old) × (refusal ≡ Refusal.Memory alloc_error)) ⊎ ((refusal ≡ Refusal.Spared) × (F.tells → IsSparedMap (F.holds files.old) (F.real files.old) (pair_texts (found_of words.now)) (mapfile_text (found_of words.now)))) ⊎
         ((refusal ≡ Refusal.Output) × MayNotBeSeen (F.shut files.old) (Fails F.Input.faults) [] (pair_texts (found_of words.now)) (mapfile_text (found_of words.now))) ⊎
         AskedRefused (λ path. F.holds files.old (F.real files.old path)) (F.shut files.old) (⟦<AnySource<F::Input, F::Image> as Source>⟧.remaining) (⟦<AnySource<F::Input, F::Image> as Source>⟧.faults) (found_of words.now) (asked_inputs (found_of words.now)) ((files.new ≡ files.old) × (O.stream out.new ≡ O.stream out.old))

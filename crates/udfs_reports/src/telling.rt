@@ -29,7 +29,7 @@ pub trait Telling {
     /// The text of a table's report by the rules of a profile, where this is the last block.
     ghost text: { Self → Profile → Table → ℕ → Report → List ℕ };
 
-    /// Prints the text of a table's report by the rules of a profile, where `last` is the last block of the volume, and answers whether there are files
+    /// Prints the text of a table's report by the rules of a profile, where `last` is the last block of the volume, and returns whether there are files
     /// and all of them are whole.
     ///
     /// # Errors
@@ -49,9 +49,9 @@ pub trait Telling {
         ensures refused { IfErr result (λ refusal. IsRefusedTelling (text self.now) profile last (O.stream out.old) (O.stream out.new) refusal table.now) };
 }
 
-/// Joins the inputs, and prints what is told of their volume by the rules of a profile, where `last` is its last block. It answers whether there are files
-/// and all of them are whole. All inputs are opened in order before one is read. No more is held in memory than a survey of the volume, and what is missing of
-/// one node.
+/// Joins the inputs, and prints the text of their volume's report by the rules of a profile, where `last` is its last block. It returns whether there are
+/// files and all of them are whole. All inputs are opened in order before one is read. No more is held in memory than a survey of the volume, and what is
+/// missing of one node.
 pub fn tell<F: Files, O: Sink, T: Telling>(
     alloc: Global,
     inputs: &[InputPath<'_>],
@@ -77,7 +77,7 @@ pub fn tell<F: Files, O: Sink, T: Telling>(
     }
 }
 
-/// Tells of the volume of these inputs, of the last block that the words ask for, and by their rules.
+/// Does what [`tell`] does, with the last block that the arguments or the inputs give, and by the rules that the arguments ask for.
 pub fn tell_asked<F: Files, O: Sink, T: Telling>(
     alloc: Global,
     words: &ArgMatches<'_>,

@@ -45,7 +45,7 @@ pub record NoneWrongYet (got : List ℕ) : Type 0 where
   pub begun : List ℕ
   pub whatever : (rest : List ℕ) → list_outcome (got ++ rest) ≡ with_lines line so_far (onto begun (lines_of rest))
 
--- ---- what the answers say
+-- ---- what the results say
 
 -- the bytes are refused with this fault, or memory ran out
 abbrev pub RefusesList : ListError → Result (List ℕ) ℕ → Type 0
@@ -104,7 +104,7 @@ RefusesLine old errors.OutOfMemory = Unit {0}
 RefusesLine old errors.Io = ⊥
 RefusesLine old (errors.Line n) = ((line : List ℕ) → TellsLine old.line.empty old.line.number old.line.returned line → block_number (without_return line) ≡ None) × (n ≡ old.at)
 
--- why a list was not read, by what the source told and has left, and its counts of faults
+-- why a list was not read, by what the source had and has left, where that is known, and its counts of faults
 abbrev pub NoList : Option (List ℕ) → Option (List ℕ) → ℕ → ℕ → ListError → Type 0
 NoList old new i j errors.Io = (j ≡ (i + 1) % 2 ^ 64) × HadGiven old new NoneWrongYet
 NoList old new i j e = (j ≡ i) × IfSome old (λ bytes. RefusesList e (list_outcome bytes))

@@ -9,7 +9,7 @@ use Rattle.udfs_rescue.specs.declared.known.BlockRange.{BlockRange}
 abbrev pub block_of : List ℕ → ℕ → List ℕ
 block_of all n = take 2048 (drop (2048 * n) all)
 
--- so many numbers from n on
+-- this many numbers from n on
 abbrev pub count_up : ℕ → ℕ → List ℕ
 count_up n zero = []
 count_up n (suc k) = n ∷ count_up (n + 1) k
@@ -28,14 +28,14 @@ records_of all (r ∷ rs) = records_from all r.start (r.end - r.start) ++ record
 abbrev pub reading_of : List ℕ → List BlockRange → List ℕ
 reading_of all ranges = front (length (records_of all ranges)) (records_of all ranges)
 
--- where the image tells its bytes
+-- where the bytes of the image are known
 abbrev pub reading_known : Option (List ℕ) → List BlockRange → Option (List ℕ)
 reading_known None ranges = None
 reading_known (Some all) ranges = Some (reading_of all ranges)
 
 -- ---- as they are given (internal)
 
--- so many blocks, the first of this number, whose bytes stand one after another
+-- the records of this many blocks from block n on, whose bytes are one after another
 abbrev pub records_in : ℕ → ℕ → List ℕ → List Record
 records_in n zero bytes = []
 records_in n (suc k) bytes = (n, take 2048 bytes) ∷ records_in (n + 1) k (drop 2048 bytes)

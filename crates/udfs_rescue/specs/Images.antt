@@ -10,7 +10,7 @@ bytes_of_state Unknown = replicate 2048 0
 bytes_of_state (Known bytes) = bytes
 bytes_of_state Conflict = replicate 2048 0
 
--- the bytes of so many blocks from block n on
+-- the bytes of this many blocks from block n on
 abbrev pub blocks_from : Table → ℕ → ℕ → List ℕ
 blocks_from t n zero = []
 blocks_from t n (suc k) = bytes_of_state (state_of t n) ++ blocks_from t (n + 1) k

@@ -69,7 +69,7 @@ abbrev pub first_from : List BlockRange → ℕ → Option ℕ
 first_from [] w = None
 first_from (r ∷ rs) w = if nat_lt w r.end then Some (max r.start w) else first_from rs w
 
--- a count, or the number of a fault, behind so many others
+-- a count, or the number of a fault, increased by k
 abbrev pub added : ℕ → Result ℕ ℕ → Result ℕ ℕ
 added k (Ok n) = Ok (k + n)
 added k (Err n) = Err (k + n)

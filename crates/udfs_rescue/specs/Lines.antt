@@ -41,7 +41,7 @@ abbrev pub status_by : Option (List ℕ × List ℕ × List ℕ) → Option ℕ
 status_by None = None
 status_by (Some w) = if not (is_phase w.1) then None else if length w.2 == 0 then number_of w.0 else with_pass (number_of w.0) (decimal_of w.2)
 
--- the position that a status line tells, if it is one
+-- the position that a status line gives, if it is one
 abbrev pub status_of : List (List ℕ) → Option ℕ
 status_of ws = status_by (parts ws)
 
@@ -56,7 +56,7 @@ run_status_byte b =
     if b == 45 then Some BadSector else
     if b == 43 then Some Finished else None
 
--- the status that a word tells, if it does
+-- the status that a word gives, if it does
 abbrev pub run_status : List ℕ → Option RunStatus
 run_status [] = None
 run_status (b ∷ []) = run_status_byte b
@@ -69,12 +69,12 @@ run_by (Some at) None status = None
 run_by (Some at) (Some size) None = None
 run_by (Some at) (Some size) (Some status) = Some (record { at = at; size = size; status = status })
 
--- the run that three words tell
+-- the run that three words give, if they do
 abbrev pub run_in : Option (List ℕ × List ℕ × List ℕ) → Option Run
 run_in None = None
 run_in (Some w) = run_by (number_of w.0) (number_of w.1) (run_status w.2)
 
--- the run that a line's words tell
+-- the run that a line's words give, if they do
 abbrev pub run_of : List (List ℕ) → Option Run
 run_of ws = run_in (parts ws)
 

@@ -36,7 +36,7 @@ LineFails old errors.OutOfMemory = Unit {0}
 LineFails old errors.Io = ⊥
 LineFails old (errors.Line f) = (comes_to old ≡ Err f.fault) × (f.line ≡ old.line)
 
--- why a mapfile was not read, by what the source told and has left, and its counts of faults
+-- why a mapfile was not read, by what the source had and has left, where that is known, and its counts of faults
 abbrev pub MapFails : Option (List ℕ) → Option (List ℕ) → ℕ → ℕ → MapError → Type 0
 MapFails old new i j errors.Io = (j ≡ (i + 1) % 2 ^ 64) × HadGiven old new HasNoFaultYet
 MapFails old new i j e = (j ≡ i) × IfSome old (λ bytes. Refuses e (outcome bytes))

@@ -1,4 +1,4 @@
--- What the code's values stand for, and what its answers say.
+-- What the code's values stand for, and what its results say.
 use Rattle.std.specs.Prelude.{◌≡◌, List, Option, None, Some, Result, Ok, Err, min, ◌^◌}
 use Rattle.udfs_rescue.specs.declared.run.Run.{Run}
 use Rattle.udfs_rescue.specs.declared.line.StepError.{StepError}

@@ -46,14 +46,14 @@ joined_run r (s ∷ ss) = if status_byte r.status == status_byte s.status then r
 abbrev pub block_run : (ℕ → RunStatus) → ℕ → Run
 block_run status n = record { at = 2048 * n; size = 2048; status = status n }
 
--- the runs of so many blocks from block n on
+-- the runs of this many blocks from block n on
 abbrev pub runs_of_blocks : (ℕ → RunStatus) → ℕ → ℕ → List Run
 runs_of_blocks status n zero = []
 runs_of_blocks status n (suc k) = joined_run (block_run status n) (runs_of_blocks status (n + 1) k)
 
 -- ---- their text
 
--- the last so many hexadecimal digits of a number
+-- this many hexadecimal digits of a number, the last ones
 abbrev pub hex_digits : ℕ → ℕ → List ℕ
 hex_digits zero n = []
 hex_digits (suc k) n = hex_digits k (n / 16) ++ digit_glyph true (n % 16) ∷ []

@@ -9,7 +9,7 @@ use udfs_reading::DeviceFault;
 /// An image of a disc, read at positions: a file, or bytes in memory. It counts its faults, as a
 /// [`Source`](udfs_reading::Source) does. Reading changes nothing of its bytes.
 pub trait Image {
-    /// Its bytes, where it tells them.
+    /// Its bytes, where they are known.
     ghost bytes: { Self → Option (List ℕ) };
 
     /// How many of its calls were faults, modulo 2 ^ 64.
@@ -39,7 +39,7 @@ pub trait Image {
         ensures count { CountsFault (faults self.old) (faults self.new) result };
 }
 
-/// Fills the buffer from position `at` on, and returns whether the image had so many bytes.
+/// Fills the buffer from position `at` on, and returns whether the image had enough bytes to fill it.
 pub fn fill<I: Image>(image: &mut I, at: u64, buf: &mut [u8]) -> Result<bool, DeviceFault>
     requires { at + length buf.old < 2 ^ 64 }
     ensures value { IfOk result (λ whole. whole ≡ true → IfSome (I.bytes image.old) (λ all. buf.new ≡ take (length buf.new) (drop at all))) }

@@ -39,7 +39,7 @@ impl Model for Pending {
 }
 
 impl Pending {
-    /// The header of a reading of so many records.
+    /// The header of a reading of `count` records.
     pub fn header(count: u32) -> Pending
         ensures { result ≡ header magic count }
     {
@@ -161,7 +161,7 @@ impl Piece {
     }
 }
 
-/// Reads so many blocks from this one on to the front of the buffer, and returns whether the image had them.
+/// Reads `count` blocks from block `first` on to the front of the buffer, and returns whether the image had them all.
 fn read_blocks<I: Image>(
     image: &mut I,
     bytes: &mut [u8],

@@ -65,7 +65,7 @@ fn hex_digit(digit: u64) -> u8
     }
 }
 
-/// The last so many hexadecimal digits of a number.
+/// Writes the last `count` hexadecimal digits of a number.
 fn write_digits<W: Sink>(
     out: &mut Outgoing,
     sink: &mut W,

@@ -59,7 +59,7 @@ pub record HasCellsInBy (profile : Profile) (blocks : Blocks) (last index : ℕ)
 abbrev pub HasCellsIn : Blocks → ℕ → ℕ → List Cell → Type 0
 HasCellsIn = HasCellsInBy Strict
 
--- all of the bytes were written; or a beginning of them, and then the sink failed; or nothing, for want of memory
+-- all of the bytes were written; or a beginning of them, and then the sink failed; or nothing, because memory ran out
 abbrev pub Extracts : {X : Type 0} → Stream → Stream → List ℕ → Result X ExtractError → Type 0
 Extracts old new bytes (Ok x) = Wrote old new bytes
 Extracts old new bytes (Err NotWhole) = ⊥

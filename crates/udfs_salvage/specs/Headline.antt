@@ -1,6 +1,6 @@
 -- All that is promised of a report, on one page.
 --     HeadlineBy profile blocks last report    by the rules of a profile it is the only report of the table; and for each lawful volume that agrees
---                                      with the table, it tells of the volume and its tree, what is known enough is whole and stays so, and the
+--                                      with the table, it describes the volume and its tree, what is known enough is whole and stays so, and the
 --                                      list to read again is right
 --     OneReportBy, SomeReportBy        a table has at most one report; one that agrees with a lawful volume has one
 --     OneTextBy                        and at most one text
@@ -30,7 +30,7 @@ pub record HeadlineBy (profile : Profile) (blocks : Blocks) (last : ℕ) (report
   -- The rest is said of each lawful volume with which the table agrees.
   -- The volume that is found is that one, or all blocks of a needed group of which none is known are named.
   pub volume : TellsLawfulBy profile blocks last report.volume
-  -- Each node is one of the volume's tree at its path, no fault and no loop. Nothing is told of it, or it has the tree's kind, size and stamp, and
+  -- Each node is one of the volume's tree at its path, no fault and no loop. Its entry was not read, or it has the tree's kind, size and stamp, and
   -- the tree's bytes outside its holes; if it is whole, all bytes, and of each group of blocks that it needs one is known. No path has two nodes.
   pub tree : TellsTreeBy profile blocks last report
   -- Where all of the volume is known, the nodes are those of its tree, each once and all whole.

@@ -35,7 +35,7 @@ time_data (Some stamp) = string (stamp_text stamp)
 abbrev pub hole_data : ℕ × ℕ → Data
 hole_data run = array (item (count run.0) (item (count run.1) no_items))
 
--- what is told of a node and of an entry alike
+-- the members that a node and an entry without a name share
 unfoldable pub told_members : Standing → Kind → Option ℕ → Option Stamp → Members
 told_members s k size stamp =
     member (codes "holes") (list_data hole_data (holes_of s))
@@ -64,7 +64,7 @@ abbrev pub with_reference : Bool → ℕ → Members → Members
 with_reference true r ms = member (codes "reference") (count r) ms
 with_reference false r ms = ms
 
--- the object of an entry without a name; with two partitions it tells its own
+-- the object of an entry without a name; with two partitions it gives its partition reference
 unfoldable pub unnamed_data : Bool → Unnamed → Data
 unnamed_data two u = object (
     member (codes "block") (count u.block)

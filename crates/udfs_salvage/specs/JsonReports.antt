@@ -60,7 +60,7 @@ put_maps [] ms = ms
 put_maps (p ∷ []) ms = put (codes "map") (string (map_name p.kind)) ms
 put_maps (p ∷ q ∷ ps) ms = put (codes "maps") (list_data (λ x. string (map_name x.kind)) (p ∷ q ∷ ps)) ms
 
--- what is told of each volume that opens
+-- the members of every volume that opens: its revision and its state
 abbrev pub open_members : ℕ → Members
 open_members revision = member (codes "revision") (string (revision_text revision)) (member (codes "state") (string (codes "ok")) no_members)
 
@@ -74,7 +74,7 @@ volume_data (faulty f) = object (
     (member (codes "state") (string (codes "fault"))
     no_members)))
 
--- an object that tells a state alone
+-- an object that has only a state
 abbrev pub state_data : List ℕ → Data
 state_data state = object (member (codes "state") (string state) no_members)
 

@@ -1,4 +1,4 @@
--- What is told of a lawful volume of which a part is known.
+-- What a report says of a lawful volume of which a part is known.
 --     IsLawfulVolumeBy profile volume last    anchors and copies say the same, and with all known it is found, by the rules of a profile
 --     IsVolumeGroup                    blocks of which one has to be known before any file can be looked at
 --     VolumeLaw profile                what is found is the volume's, or a group is unread
@@ -38,7 +38,7 @@ pub record IsFoundOf (volume : Volume) (blocks : Blocks) (last : ℕ) (all got :
   pub same : got ≡ all
   pub known : (group : List ℕ) → IsVolumeGroup volume last all group → (n : ℕ) × Includes group n × IsKnownAt blocks n
 
--- what is found is the volume's, or the listed blocks hold a group of which none is known; no fault is told
+-- what is found is the volume's, or the listed blocks hold a group of which none is known; no fault is reported
 abbrev pub IsToldOf : Volume → Blocks → ℕ → Found → Answer Found → Type 0
 IsToldOf volume blocks last all (found got) = IsFoundOf volume blocks last all got
 IsToldOf volume blocks last all (holes listed) =

@@ -1,8 +1,8 @@
--- Listings: what a table tells of a volume and its nodes, of which the blocks and the holes of torn ones were let go.
+-- Listings: what a table says of a volume and its nodes, without the blocks and the holes of torn ones.
 --     full_in blocks volume n                  a node with what is missing of it
 --     full_entry_in blocks volume u            an entry that no name leads to, with what is missing of it
 --     listing_now listing                      the report whose nodes these are
---     AreUnnamed listing entries               these are the entries that no name leads to, of which the blocks and the holes of torn ones were let go
+--     AreUnnamed listing entries               these are the entries that no name leads to, without the blocks and the holes of torn ones
 use Rattle.std.specs.Prelude.{◌≡◌, List, [], ℕ, map}
 use Rattle.udfs_tag.specs.declared.layouts.LongAd.{LongAd}
 use Rattle.udfs_lattice.specs.Tables.{state_of}

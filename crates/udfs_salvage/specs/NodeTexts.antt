@@ -95,7 +95,7 @@ abbrev pub stamp_column : Option Stamp → List ℕ
 stamp_column None = codes " -"
 stamp_column (Some stamp) = codes " " ++ stamp_text stamp
 
--- what is told of a node and of an entry alike
+-- the columns that a node and an entry without a name share: standing, kind, size and timestamp
 unfoldable pub told_text : Standing → Kind → Option ℕ → Option Stamp → List ℕ
 told_text s k size stamp = standing_text s ++ kind_text k ++ size_text size ++ stamp_column stamp
 
@@ -141,7 +141,7 @@ nodes_text i (n ∷ ns) = node_text i n ++ nodes_text (i + 1) ns
 
 -- ---- entries that no name leads to
 
--- the partition reference is told where there are two partitions
+-- an entry's block, after its partition reference where there are two partitions
 abbrev pub place_text : Bool → Unnamed → List ℕ
 place_text two u = cond two (decimal u.reference ++ codes ":" ++ decimal u.block) (decimal u.block)
 

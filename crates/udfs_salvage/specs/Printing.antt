@@ -1,4 +1,4 @@
--- What printing does to a sink that tells its bytes.
+-- What printing does to a sink whose bytes are known.
 --     Prints old new text result      all of the text was written; or a beginning of it, and then came the error
 --     PassesOn                            the same of text that is held before it is written
 --     PutsMost                            the text was put, or a beginning of it before memory was refused
@@ -25,7 +25,7 @@ pub record Stopped (old new : Stream) (text : List ℕ) (e : RunError) : Type 0 
   pub whole : text ≡ out ++ rest
   pub count : CountsBy old.faults new.faults e
 
--- the text is out, or a beginning of it and then the sink's fault or want of memory
+-- the whole text is out; or a beginning of it, and then the sink failed or memory ran out
 abbrev pub Prints : {X : Type 0} → Stream → Stream → List ℕ → Result X RunError → Type 0
 Prints old new text (Ok x) = Wrote old new text
 Prints old new text (Err e) = Stopped old new text e

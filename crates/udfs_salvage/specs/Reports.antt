@@ -26,7 +26,7 @@ use Rattle.udfs_salvage.specs.declared.errors.SalvageError.{SalvageError}
 use Rattle.udfs_salvage.specs.declared.errors.SalvageError.TheVariants as errors
 use Rattle.udfs_salvage.specs.declared.reports.Report as code_report
 
--- what a table tells of a volume
+-- what a table says of a volume
 pub record Report : Type 0 where
   pub volume : Answer Found
   pub nodes : List NodeFields

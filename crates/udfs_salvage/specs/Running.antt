@@ -1,4 +1,4 @@
--- What a run over the inputs of a disc answers.
+-- What a run over the inputs of a disc prints and returns.
 --     PrintsOfBy profile             the text of the table's report, by the rules of a profile
 --     IsRefusedForBy profile table last e    why the table has no report
 --     Runs                           the inputs' tables, and what was printed of their join
@@ -73,7 +73,7 @@ AnswersForBy profile last old new (Err OutOfMemory) table = PrintsNothing old ne
 abbrev pub AnswersFor : ℕ → Stream → Stream → Result Bool RunError → Table → Type 0
 AnswersFor = AnswersForBy Strict
 
--- the inputs were read, as far as the answer alone tells: want of memory may have come before
+-- where the result alone shows that the inputs were read: memory may have run out before that
 abbrev pub IfRead : Result Bool RunError → Type 0 → Type 0
 IfRead (Ok x) Holds = Holds
 IfRead (Err (Reading e)) Holds = ⊤
@@ -89,7 +89,7 @@ IfNoInput (Err (Salvage e)) Holds = Holds
 IfNoInput (Err Write) Holds = Holds
 IfNoInput (Err OutOfMemory) Holds = Holds
 
--- the table has no report for this reason: it is told, or want of memory may have come before
+-- the table has no report for this reason: the error says so, unless an input could not be read or memory ran out
 abbrev pub RefusesWith : SalvageError → RunError → Type 0
 RefusesWith why (Reading e) = ⊤
 RefusesWith why (Salvage e) = e ≡ why
@@ -111,12 +111,12 @@ Names input fault number (Salvage e) = ⊥
 Names input fault number Write = ⊥
 Names input fault number OutOfMemory = ⊤
 
--- want of memory is no input's fault
+-- out of memory is no input's fault
 abbrev pub by_fault : InputError → ReadingFault → RunError
 by_fault e reading.OutOfMemory = OutOfMemory
 by_fault e fault = Reading e
 
--- an input's error, as a run answers it
+-- an input's error, as a run returns it
 abbrev pub run_error_of : InputError → RunError
 run_error_of e = by_fault e e.error.fault
 

@@ -49,7 +49,7 @@ unfoldable pub revision_text : ℕ → List ℕ
 revision_text revision = cond (nat_eq revision 0x0102) (codes "1.02") (cond (nat_eq revision 0x0150) (codes "1.50")
     (cond (nat_eq revision 0x0200) (codes "2.00") (codes "2.01")))
 
--- what is told of each volume that opens
+-- how the line of every volume that opens begins: its revision, and the word before its maps
 abbrev pub open_text : ℕ → List ℕ
 open_text revision = codes "volume ok revision " ++ revision_text revision ++ codes " map"
 

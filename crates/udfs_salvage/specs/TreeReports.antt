@@ -5,7 +5,7 @@
 --     WritesFileBy profile blocks last report i n   what is done with the bytes of a whole node is done with the tree's
 --     FillsFileBy profile blocks last n fill        what is done with the bytes of a node that is filled is done with the tree's, its holes filled
 --     OpensOnceBy, OneFileAtBy               the standard opens a lawful volume in one way, and a path leads to one file
---     ReportsTellTreeBy profile              every report of a table tells this
+--     ReportsTellTreeBy profile              every report of a table says this
 --     SomeLawfulBy profile                   there are lawful volumes with files, by the maps that a volume can have
 -- The same names without By are these by the strict rules.
 use Rattle.std.specs.Prelude.{◌≡◌, ◌⊎◌, ⊤, ℕ, List, [], ◌∷◌, length, slice_get, Some, map}
@@ -49,12 +49,12 @@ pub record IsNodeOfVolume (profile : Profile) (blocks : Blocks) (volume : Volume
   pub file : TreeFile
   pub in_volume : IsInVolumeBy profile volume last n.path file
   pub no_fault : HasNoFault n
-  -- it is told as the tree has it, with the tree's bytes outside its holes; or nothing is told of it
+  -- it is reported as the tree has it, with the tree's bytes outside its holes; or its entry was not read
   pub as_far : IsTold (view blocks opened.space) opened.root index n file
   -- if it is whole, it has all of the tree's bytes, and of each group that it needs a block is known
   pub whole : n.standing ≡ Whole → IsReportedAs blocks opened index n file × IsMetBy profile blocks volume last n.path
 
--- the report tells of this volume: each node is one of its files or directories, as it has it, and none twice
+-- the report describes this volume: each node is one of its files or directories, as it has it, and none twice
 pub record IsReportOf (profile : Profile) (blocks : Blocks) (volume : Volume) (last : ℕ) (report : Report) : Type 0 where
   pub no_fault : OpensOrHasHoles report.volume
   pub nodes : (index : ℕ) (n : NodeFields) → slice_get report.nodes index ≡ Some n → IsNodeOfVolume profile blocks volume last report.volume index n
@@ -87,7 +87,7 @@ AgreesWithNoneBy profile blocks last = (volume : Volume) → IsLawfulBy profile 
 abbrev pub AgreesWithNone : Blocks → ℕ → Type 0
 AgreesWithNone = AgreesWithNoneBy Strict
 
--- an error other than out of memory is told only where no lawful volume agrees with the table
+-- an error other than out of memory is reported only where no lawful volume agrees with the table
 abbrev pub IsOfNoLawfulBy : Profile → Blocks → ℕ → SalvageError → Type 0
 IsOfNoLawfulBy profile blocks last errors.LastRange = AgreesWithNoneBy profile blocks last
 IsOfNoLawfulBy profile blocks last (errors.PastEnd n) = AgreesWithNoneBy profile blocks last
@@ -116,7 +116,7 @@ OneFileAtBy profile = (volume : Volume) (last : ℕ) → IsLawfulBy profile volu
 abbrev pub OneFileAt : Type 0
 OneFileAt = OneFileAtBy Strict
 
--- every report of a table tells this of every lawful volume that agrees with it, and of every one that it knows whole
+-- every report of a table says this of every lawful volume that agrees with it, and of every one that it knows whole
 abbrev pub ReportsTellTreeBy : Profile → Type 0
 ReportsTellTreeBy profile = (blocks : Blocks) (last : ℕ) (report : Report) → IsReportBy profile blocks last report → TellsTreeBy profile blocks last report × TellsWholeTreeBy profile blocks last report
 

@@ -15,7 +15,7 @@ use udfs_space::View;
 /// How many bytes are handed on at once.
 const PIECE: usize = 2048;
 
-/// Writes one byte so many times.
+/// Writes one byte `count` times.
 fn push_same<W: Sink>(
     out: &mut Outgoing,
     sink: &mut W,

@@ -46,9 +46,9 @@ impl From<AllocError> for SalvageError {
 /// Why no report was printed, or only a beginning of one.
 #[derive(Clone, Copy, Debug, PartialEq, Eq)]
 pub enum RunError {
-    /// An input could not be read. Never for want of memory.
+    /// An input could not be read. Never because memory ran out.
     Reading(InputError),
-    /// The table has no report. Never for want of memory.
+    /// The table has no report. Never because memory ran out.
     Salvage(SalvageError),
     /// The sink failed.
     Write,

@@ -106,10 +106,10 @@ pub(crate) fn write_at<W: Sink>(
 }
 
 /// Writes the bytes of the node at this index, counted from 0 and below the number of nodes, of a report that
-/// [`salvage_by`] answered, by the rules of whatever profile: where the node is whole; and where it is torn, its size is known and `fill` has a byte, with this byte in place of those
-/// that are missing.
+/// [`salvage_by`] returned, by the rules of any profile: where the node is whole; and where it is torn, its size is known and `fill` has a byte, with this
+/// byte in place of those that are missing.
 ///
-/// They are the bytes of the body that stands at the end of the route to that node, whatever other node has the same path; of a whole
+/// They are the bytes of the body that is at the end of the route to that node, whatever other node has the same path; of a whole
 /// node they are those of the file at its path in every volume that is lawful by these rules and with which the table agrees, and of a torn one those
 /// outside its holes are. Nothing bounds
 /// their number but the node's size, which can be up to 2^64 - 1.
@@ -172,10 +172,10 @@ pub fn extract_by<W: Sink>(
 }
 
 /// Writes the bytes of the node at this index, counted from 0 and below the number of nodes, of a report that [`salvage`]
-/// answered: where the node is whole; and where it is torn, its size is known and `fill` has a byte, with this byte in place of those
+/// returned: where the node is whole; and where it is torn, its size is known and `fill` has a byte, with this byte in place of those
 /// that are missing.
 ///
-/// They are the bytes of the body that stands at the end of the route to that node, whatever other node has the same path; of a whole
+/// They are the bytes of the body that is at the end of the route to that node, whatever other node has the same path; of a whole
 /// node they are those of the file at its path in every lawful volume with which the table agrees, and of a torn one those
 /// outside its holes are. Nothing bounds
 /// their number but the node's size, which can be up to 2^64 - 1.

@@ -114,7 +114,7 @@ fn holes_in(alloc: Global, standing: &Standing) -> Result<Value, AllocError>
     }
 }
 
-/// What is told of a node and of an entry alike.
+/// The members that a node and an entry without a name share.
 fn told_members(
     alloc: Global,
     standing: &Standing,
@@ -162,7 +162,7 @@ pub(crate) fn nodes_value(alloc: Global, nodes: &[Node]) -> Result<Value, AllocE
     Ok(Value::Array(items))
 }
 
-/// An entry that no name leads to, its partition reference told where there are two partitions.
+/// An entry that no name leads to, with its partition reference where there are two partitions.
 fn unnamed_value(alloc: Global, two: bool, entry: &Unnamed) -> Result<Value, AllocError>
     ensures { IfOk result (λ v. view v ≡ unnamed_data two entry.now) }
 {

@@ -199,7 +199,7 @@ pub(crate) fn label_in(alloc: Global, volume: &Volume) -> Result<Value, AllocErr
     }
 }
 
-/// What is told of a block that is not known.
+/// The name of the state of a block that is not known.
 fn state_name(table: &BlockTable, block: u32) -> &'static str
     ensures { result.now ≡ state_name (state_of table.now block) }
 {

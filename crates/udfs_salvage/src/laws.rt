@@ -1,5 +1,5 @@
 //! Laws of reports, each the contract of a function that does nothing: what [`crate::salvage`] says of the report that it
-//! answers holds of every report that there is, by the strict rules and by those of any profile.
+//! returns holds of every report that there is, by the strict rules and by those of any profile.
 ghost use Rattle.udfs_volume.specs.declared.profiles.Profile.{Profile};
 ghost use Rattle.udfs_salvage.specs.Headline.{OneReport, OneReportBy, OneText, OneTextBy, ReportsKeepIt, ReportsKeepItBy, SomeReport, SomeReportBy};
 ghost use Rattle.udfs_salvage.specs.KnownEnough.{EachRereadSuffices, EachRereadSufficesBy, MetIsReportedWhole, MetIsReportedWholeBy, MoreStaysWhole, MoreStaysWholeBy};

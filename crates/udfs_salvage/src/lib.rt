@@ -1,7 +1,7 @@
 // SPDX-License-Identifier: MIT OR Apache-2.0
 //! What can be salvaged of a UDF volume of which some blocks are not known.
 //!
-//! [`salvage`] looks at a table of blocks and answers a [`Report`]: whether the volume opens, its files and directories
+//! [`salvage`] looks at a table of blocks and returns a [`Report`]: whether the volume opens, its files and directories
 //! and how whole each of them is, and which blocks are worth reading again. [`write_report`] prints it, [`extract`] writes the bytes of one
 //! file, and [`report_run`] makes and prints the report from the readings of a disc.
 #![tactic(auto)]

@@ -26,11 +26,12 @@ use udfs_reading::{Outgoing, Sink};
 use udfs_walk::Unnamed;
 
 /// Writes the bytes of the node at this index, counted from 0 and below the number of nodes, of a listing that [`list_volume_by`](crate::list_volume_by)
-/// answered, as [`extract_by`](crate::extract_by) writes those of a report's node, through a piece of outgoing bytes that holds none. After `Ok` it holds none, so that one piece serves for many nodes.
+/// returned, as [`extract_by`](crate::extract_by) writes those of a report's node. They go through `out`, which holds no bytes before the call, and none
+/// after `Ok`, so that one serves for many nodes.
 ///
 /// # Errors
 ///
-/// As those of [`extract_by`](crate::extract_by). Then the piece may hold bytes that were not written.
+/// As those of [`extract_by`](crate::extract_by). Then `out` may hold bytes that were not written.
 pub fn write_node<W: Sink>(
     alloc: Global,
     listing: &Listing<'_>,
@@ -79,12 +80,13 @@ pub fn write_node<W: Sink>(
     }
 }
 
-/// Writes the bytes of the entry at this index, counted from 0 and below their number, of those that [`list_unnamed`](crate::list_unnamed) answered of a listing, as
-/// [`extract_unnamed_by`](crate::extract_unnamed_by) writes those of a report's entry, through a piece of outgoing bytes that holds none. After `Ok` it holds none.
+/// Writes the bytes of the entry at this index, counted from 0 and below their number, of those that [`list_unnamed`](crate::list_unnamed) returned for
+/// a listing, as [`extract_unnamed_by`](crate::extract_unnamed_by) writes those of a report's entry. They go through `out`, which holds no bytes before the
+/// call, and none after `Ok`.
 ///
 /// # Errors
 ///
-/// As those of [`extract_unnamed_by`](crate::extract_unnamed_by). Then the piece may hold bytes that were not written.
+/// As those of [`extract_unnamed_by`](crate::extract_unnamed_by). Then `out` may hold bytes that were not written.
 pub fn write_lost<W: Sink>(
     alloc: Global,
     listing: &Listing<'_>,

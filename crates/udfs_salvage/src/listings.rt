@@ -1,4 +1,4 @@
-//! Listings: what a table tells of a volume and its nodes alone.
+//! Listings: what a table says of a volume and its nodes only.
 
 ghost use Rattle.std.specs.Prelude.{◌≡◌, ◌≤◌, ◌↔◌, ℕ, IfOk, IfErr, IsErrOf};
 ghost use Rattle.udfs_lattice.specs.Tables.{state_of};
@@ -20,15 +20,15 @@ use udfs_volume::{Profile, Seen};
 use udfs_walk::unnamed_entries::bare_unnamed;
 use udfs_walk::{Node, Unnamed, bare_reread};
 
-/// What a table tells of a volume and its nodes, as a [`Survey`](crate::Survey) has them. What a survey tells beyond them, the entries that no name leads to and the
-/// blocks to read again, is not looked for.
+/// What a table says of a volume and its nodes, as a [`Survey`](crate::Survey) has them. What a survey has beyond them, the entries that no name leads to
+/// and the blocks to read again, is not looked for.
 #[derive(Drop)]
 pub struct Listing<'a> {
     /// The table.
     pub table: &'a BlockTable,
     /// The last block of the volume.
     pub last: u32,
-    /// The rules by which it is told.
+    /// The rules by which the volume is read.
     pub profile: Profile,
     /// Whether the volume opens.
     pub volume: Volume,
@@ -106,9 +106,8 @@ fn look<'a>(
     }
 }
 
-/// What the table tells of the volume and its nodes, where `last` is its last block, by the rules of a profile, as [`salvage_by`](crate::salvage_by)
-/// tells it, but for
-/// the blocks and the holes of torn nodes. The entries that no name leads to and the blocks to read again are not looked for.
+/// What the table says of the volume and its nodes by the rules of a profile, where `last` is its last block: what [`salvage_by`](crate::salvage_by)
+/// returns of them, but without the blocks and the holes of torn nodes. The entries that no name leads to and the blocks to read again are not looked for.
 ///
 /// # Errors
 ///

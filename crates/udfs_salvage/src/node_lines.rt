@@ -57,7 +57,7 @@ fn put_time<W: Sink>(out: &mut Printer, sink: &mut W, stamp: Option<Stamp>)
     }
 }
 
-/// What is told of a node and of an entry alike.
+/// The columns that a node and an entry without a name share: standing, kind, size and timestamp.
 fn put_told<W: Sink>(
     out: &mut Printer,
     sink: &mut W,

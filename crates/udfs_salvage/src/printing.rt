@@ -105,7 +105,7 @@ pub fn write_report<W: Sink>(report: &Report<'_>, sink: &mut W) -> Result<(), Ru
     finish(&mut out, sink)
 }
 
-/// Writes the line of a volume in the text of a report, which tells whether the volume opens. It takes no memory.
+/// Writes the line of a volume in the text of a report, which says whether the volume opens. It allocates no memory.
 ///
 /// # Errors
 ///
@@ -120,7 +120,7 @@ pub fn write_volume_line<W: Sink>(volume: &Volume, sink: &mut W) -> Result<(), R
     finish(&mut out, sink)
 }
 
-/// Writes the volume's line of a report's text alone, which tells whether the volume opens. It takes no memory.
+/// Writes only the volume's line of a report's text, which says whether the volume opens. It allocates no memory.
 ///
 /// # Errors
 ///

@@ -20,18 +20,18 @@ use udfs_walk::{Node, Standing, Unnamed};
 /// The least last block of a volume.
 const FIRST_LAST: u32 = 513;
 
-/// What a table tells of a volume.
+/// What a table says of a volume.
 #[derive(Drop)]
 pub struct Report<'a> {
     /// The table.
     pub table: &'a BlockTable,
     /// The last block of the volume.
     pub last: u32,
-    /// The rules by which it is told.
+    /// The rules by which the volume is read.
     pub profile: Profile,
     /// Whether the volume opens.
     pub volume: Volume,
-    /// The nodes: the root, and behind each directory its entries in their order, each with all that is below it.
+    /// The nodes: the root, and after each directory its entries in their order, each with all that is below it.
     pub nodes: Vec<Node>,
     /// The entries that no name leads to, by partition reference and then by block.
     pub unnamed: Vec<Unnamed>,
@@ -70,11 +70,11 @@ fn past_end(table: &BlockTable, last: u32) -> Option<u32>
     None
 }
 
-/// Whether the table can be told of a volume of which `last` is the last block.
+/// Checks that `last` can be the last block of a volume, and that the table says nothing of a block after it.
 ///
 /// # Errors
 ///
-/// `LastRange` exactly where `last` is not from 513 to 4,194,303; else `PastEnd` exactly where something is known of a block behind the last, with the
+/// `LastRange` exactly where `last` is not from 513 to 4,194,303; else `PastEnd` exactly where something is known of a block after the last, with the
 /// least such block.
 pub(crate) fn judge_last(table: &BlockTable, last: u32) -> Result<(), SalvageError>
     ensures good { OnOk result ((¬ IsOutOfRange last) × IsNothingPast (state_of table.now) last) }
@@ -91,17 +91,17 @@ pub(crate) fn judge_last(table: &BlockTable, last: u32) -> Result<(), SalvageErr
     }
 }
 
-/// What the table tells of the volume by the rules of a profile, where `last` is its last block: whether it opens, its files and directories
+/// What the table says of the volume by the rules of a profile, where `last` is its last block: whether it opens, its files and directories
 /// and how whole they are, and which blocks are worth reading again.
 ///
-/// Of a lawful volume with which the table agrees, it tells what is found of the volume itself; or it has holes: then all
-/// blocks of some group are among them, of which one is needed and none is known. It never tells a fault. Each node is one
+/// For a lawful volume with which the table agrees, it reports what is found of the volume itself; or it has holes: then all
+/// blocks of some group are among them, of which one is needed and none is known. It never reports a fault. Each node is one
 /// of the tree that the standard reads from the volume's complete bytes, at its path, and none is a fault or a loop. What
 /// is whole has that kind, size, stamp and those bytes, and of each group of blocks that it needs one is known; of a torn
 /// node of known size each byte outside its holes is the volume's. Where the table knows all of the volume, the nodes are
-/// the tree, all whole. The only error of a table that agrees with a lawful volume is want of memory.
+/// the tree, all whole. The only error of a table that agrees with a lawful volume is `OutOfMemory`.
 ///
-/// A node of the tree is told as whole where of each group of blocks that it needs one is known, and stays whole, with the
+/// A node of the tree is reported as whole where of each group of blocks that it needs one is known, and stays whole, with the
 /// same path and bytes, for every table that knows more and disputes nothing that is known. The list to read again is
 /// empty exactly if all of the tree is whole. Each block in it is not known, and is in a needed group of which none is
 /// known, or is an anchor place while no valid anchor is known. Each node of the tree is whole, or the list holds all of
@@ -110,7 +110,7 @@ pub(crate) fn judge_last(table: &BlockTable, last: u32) -> Result<(), SalvageErr
 /// # Errors
 ///
 /// `LastRange` exactly where `last` is not from 513 to 4,194,303; else `PastEnd` exactly where something is known of a
-/// block behind the last, with the least such block; else `TooManyPaths` where more than 65,536 routes lead from the
+/// block after the last, with the least such block; else `TooManyPaths` where more than 65,536 routes lead from the
 /// root to a node; and `OutOfMemory` where memory is refused, but never where one of the first two is due, nor for a volume without
 /// an anchor or with wrong extents.
 #[tactic(auto, using(crate::proofs::TreeReports::unfit, crate::proofs::TreeReports::look_refused))]
@@ -139,7 +139,7 @@ pub fn salvage_by<'a>(
     }
 }
 
-/// What the table tells of the volume by the strict rules, of which `last` is the last block: [`salvage_by`] with
+/// What the table says of the volume by the strict rules, where `last` is its last block: [`salvage_by`] with
 /// [`Profile::Strict`].
 ///
 /// # Errors

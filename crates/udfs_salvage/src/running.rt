@@ -18,7 +18,7 @@ use udfs_lattice::BlockTable;
 use udfs_reading::{InputError, ReadingFault, Sink, Source, join_inputs};
 use udfs_volume::Profile;
 
-/// An input's error as a run tells it.
+/// An input's error as a run reports it.
 fn run_error(error: InputError) -> RunError
     ensures { result ≡ run_error_of error }
 {
@@ -28,7 +28,7 @@ fn run_error(error: InputError) -> RunError
     }
 }
 
-/// Why a table has no report as a run tells it.
+/// Why a table has no report, as a run reports it.
 fn run_refusal(error: SalvageError) -> RunError
     ensures { result ≡ salvage_run_error error }
 {
@@ -58,16 +58,16 @@ fn report_table<W: Sink>(
     }
 }
 
-/// Joins the inputs, and writes the report of the volume by the rules of a profile, where `last` is its last block. It answers whether there are
-/// files and all of them are whole.
+/// Joins the inputs, and writes the report of the volume by the rules of a profile, where `last` is its last block. It returns whether there are
+/// nodes and all of them are whole.
 ///
 /// The text is the same for every order and repetition of the inputs, and however their records are split over files. It
-/// tells of every lawful volume with which the join of the inputs agrees, as [`salvage_by`](crate::salvage_by) says.
+/// describes every lawful volume with which the join of the inputs agrees, as [`salvage_by`](crate::salvage_by) says.
 ///
 /// # Errors
 ///
-/// `Reading` where an input cannot be read, with the answer of [`join_inputs`]; else `Salvage` where [`salvage_by`](crate::salvage_by) refuses
-/// the table. Nothing is written then. `Write` exactly where the sink failed, and `OutOfMemory` for every want of memory:
+/// `Reading` where an input cannot be read, with the error of [`join_inputs`]; else `Salvage` with the error of [`salvage_by`](crate::salvage_by),
+/// where it has one other than `OutOfMemory`. Nothing is written then. `Write` exactly where the sink failed, and `OutOfMemory` wherever memory ran out:
 /// then a beginning of the text is out.
 pub fn report_run_by<R: Source, W: Sink>(
     alloc: Global,
@@ -82,10 +82,10 @@ pub fn report_run_by<R: Source, W: Sink>(
     ensures memory { result ≡ Err RunError.OutOfMemory → (sink.new ≡ sink.old) ⊎ OfJoin R.remaining inputs.old
         (AnswersForBy profile last (W.stream sink.old) (W.stream sink.new) result) }
     ensures untouched { EndsEarly result → sink.new ≡ sink.old }
-    // Where the join of the inputs' tables has no report, nothing but the reason is told, unless an input or memory was to blame before.
+    // Where the join of the inputs' tables has no report, the error is the reason, unless an input could not be read or memory ran out.
     ensures refuses { (ts : List Table) (why : SalvageError) → AllTell R.remaining inputs.old ts → IsRefusedForBy profile (join_all ts) last why →
         MatchResult result (λ _. ⊥) (RefusesWith why) }
-    // No device failed, unless an input is to blame: never where want of memory is told.
+    // No device failed, unless the error is `Reading`: in particular none where the error is `OutOfMemory`.
     ensures counts { IfNoInput result (map R.faults inputs.new ≡ map R.faults inputs.old) }
     // It is the same however the records are ordered, repeated and split over readings and table files.
     ensures any_mixture { (rss : List (List Record)) (rs : List Record) → AllTell R.remaining inputs.old (map table_of rss) →
@@ -106,16 +106,16 @@ pub fn report_run_by<R: Source, W: Sink>(
     }
 }
 
-/// Joins the inputs, and writes the report of the volume of which `last` is the last block. It answers whether there are
-/// files and all of them are whole.
+/// Joins the inputs, and writes the report of the volume of which `last` is the last block. It returns whether there are
+/// nodes and all of them are whole.
 ///
 /// The text is the same for every order and repetition of the inputs, and however their records are split over files. It
-/// tells of every lawful volume with which the join of the inputs agrees, as [`salvage`](crate::salvage) says.
+/// describes every lawful volume with which the join of the inputs agrees, as [`salvage`](crate::salvage) says.
 ///
 /// # Errors
 ///
-/// `Reading` where an input cannot be read, with the answer of [`join_inputs`]; else `Salvage` where [`salvage`](crate::salvage) refuses
-/// the table. Nothing is written then. `Write` exactly where the sink failed, and `OutOfMemory` for every want of memory:
+/// `Reading` where an input cannot be read, with the error of [`join_inputs`]; else `Salvage` with the error of [`salvage`](crate::salvage),
+/// where it has one other than `OutOfMemory`. Nothing is written then. `Write` exactly where the sink failed, and `OutOfMemory` wherever memory ran out:
 /// then a beginning of the text is out.
 pub fn report_run<R: Source, W: Sink>(
     alloc: Global,
@@ -129,10 +129,10 @@ pub fn report_run<R: Source, W: Sink>(
     ensures memory { result ≡ Err RunError.OutOfMemory → (sink.new ≡ sink.old) ⊎ OfJoin R.remaining inputs.old
         (AnswersFor last (W.stream sink.old) (W.stream sink.new) result) }
     ensures untouched { EndsEarly result → sink.new ≡ sink.old }
-    // Where the join of the inputs' tables has no report, nothing but the reason is told, unless an input or memory was to blame before.
+    // Where the join of the inputs' tables has no report, the error is the reason, unless an input could not be read or memory ran out.
     ensures refuses { (ts : List Table) (why : SalvageError) → AllTell R.remaining inputs.old ts → IsRefusedFor (join_all ts) last why →
         MatchResult result (λ _. ⊥) (RefusesWith why) }
-    // No device failed, unless an input is to blame: never where want of memory is told.
+    // No device failed, unless the error is `Reading`: in particular none where the error is `OutOfMemory`.
     ensures counts { IfNoInput result (map R.faults inputs.new ≡ map R.faults inputs.old) }
     // It is the same however the records are ordered, repeated and split over readings and table files.
     ensures any_mixture { (rss : List (List Record)) (rs : List Record) → AllTell R.remaining inputs.old (map table_of rss) →

@@ -337,7 +337,7 @@ fn put_survey<W: Sink>(
 }
 
 /// Writes the JSON of the report that a survey stands for, and a line feed: the text that [`report_json`](crate::report_json)
-/// answers for the report. The blocks and holes of one node are held at a time, and no value of the whole report.
+/// returns for the report. The blocks and holes of one node are held at a time, and no value of the whole report.
 ///
 /// # Errors
 ///

@@ -23,15 +23,15 @@ use udfs_volume::{Profile, Seen};
 use udfs_walk::unnamed_entries::bare_unnamed;
 use udfs_walk::{Node, NodesError, Unnamed, bare_nodes, bare_reread, full_entries, full_nodes};
 
-/// What a table tells of a volume, as a [`Report`] has it, but for the blocks and holes of torn nodes and entries: these
-/// are found again where they are told, so that those of one node alone are held at a time.
+/// What a table says of a volume, as a [`Report`] has it, but without the blocks and holes of torn nodes and entries: these
+/// are found again when they are needed, so that only those of one node are held at a time.
 #[derive(Drop)]
 pub struct Survey<'a> {
     /// The table.
     pub table: &'a BlockTable,
     /// The last block of the volume.
     pub last: u32,
-    /// The rules by which it is told.
+    /// The rules by which the volume is read.
     pub profile: Profile,
     /// Whether the volume opens.
     pub volume: Volume,
@@ -235,9 +235,8 @@ pub(crate) fn look_full<'a>(
     }
 }
 
-/// What the table tells of the volume, of which `last` is the last block, by the rules of a profile, as [`salvage_by`](crate::salvage_by)
-/// tells it, but for
-/// the blocks and the holes of torn nodes and entries, which are found again where they are told.
+/// What the table says of the volume by the rules of a profile, where `last` is its last block: the report that [`salvage_by`](crate::salvage_by)
+/// returns, but without the blocks and the holes of torn nodes and entries, which are found again when they are needed.
 ///
 /// # Errors
 ///
@@ -267,8 +266,8 @@ pub fn survey_volume_by<'a>(
     }
 }
 
-/// What the table tells of the volume, of which `last` is the last block, as [`salvage`](crate::salvage) tells it, but for
-/// the blocks and the holes of torn nodes and entries, which are found again where they are told.
+/// What the table says of the volume, where `last` is its last block: the report that [`salvage`](crate::salvage) returns, but without
+/// the blocks and the holes of torn nodes and entries, which are found again when they are needed.
 ///
 /// # Errors
 ///

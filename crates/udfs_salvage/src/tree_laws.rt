@@ -16,7 +16,7 @@ pub fn one_file_at()
     ensures by_profile { (profile : Profile) → OneFileAtBy profile }
 {}
 
-/// Every report of a table tells of the tree of each lawful volume that agrees with the table.
+/// Every report of a table describes the tree of each lawful volume that agrees with the table.
 pub fn reports_tell_tree()
     ensures strict { ReportsTellTree }
     ensures by_profile { (profile : Profile) → ReportsTellTreeBy profile }

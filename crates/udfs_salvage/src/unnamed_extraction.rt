@@ -38,7 +38,7 @@ pub fn has_two_partitions(volume: &Volume) -> bool
 }
 
 /// Writes the bytes of the entry at this index, counted from 0 and below their number, of those that no name leads to, of a report that
-/// [`salvage_by`](crate::salvage_by) answered, by the rules of whatever profile: where it is a lost file, as [`is_lost_file`] says.
+/// [`salvage_by`](crate::salvage_by) returned, by the rules of any profile: where it is a lost file, as [`is_lost_file`] says.
 ///
 /// They are the bytes of the body of that entry, in the table; none is missing. Whether the file was deleted long ago, nothing says. Nothing bounds their number but the
 /// entry's size, which can be up to 2^64 - 1.

@@ -26,7 +26,7 @@ impl Disc {
         self.write_directory_entry(start, entry, size)
     }
 
-    /// Writes the entry of a directory of so many bytes, which stand behind it.
+    /// Writes the entry of a directory of `size` bytes, which begin in the logical block after it.
     fn write_directory_entry(
         &mut self,
         start: u32,

@@ -33,7 +33,7 @@ abbrev pub SparingAgrees : Volume → PartitionMap → Type 0
 SparingAgrees volume type1 = ⊤
 SparingAgrees volume (sparable packet size tables) = AreTheSameTables volume size tables
 
--- the sparing tables of each partition agree, and the places of its blocks can be told
+-- the sparing tables of each partition agree, and the places of its blocks are found
 pub record IsLawfulSparing (volume : Volume) (last : ℕ) (l : Layout) : Type 0 where
   pub tables : (p : Partition) → Includes l.partitions p → SparingAgrees volume p.kind
   pub placed : (s : Space) × (space (complete volume last) l ≡ found s)
@@ -76,8 +76,8 @@ StandardSpace = (profile : Profile) (volume : Volume) (last : ℕ) (l : Layout) 
 abbrev pub PlacingLaw : Type 0
 PlacingLaw = (span : Span) (b n : ℕ) → IsSound span → ((place_in span b ≡ Some n) ↔ StandsAt span b n)
 
--- what is known of a block of a spared packet is told by the packet's new place alone: two tables that agree there
--- tell the same, whatever they say of the old place
+-- what is known of a block of a spared packet depends on the packet's new place alone: two tables that agree there
+-- say the same of the block, whatever they say of the old place
 abbrev pub OldPlaceLaw : Type 0
 OldPlaceLaw = (space : Space) (blocks other : Blocks) (reference b : ℕ) (span : Span) (e : SparingEntry)
     → slice_get space.spans reference ≡ Some span → IsSound span → b < span.size → IsSparedBy span b e

@@ -1,5 +1,5 @@
 -- What holds of the partitions of the code, whichever table they come from.
---     FitAll count places     tables of so many blocks end where blocks may end
+--     FitAll count places     tables of `count` blocks end where blocks may end
 --     IsSound span            what holds of every partition of a space
 use Rattle.std.specs.Prelude.{◌≡◌, ℕ, ◌+◌, ◌%◌, ◌<◌, ◌≤◌, List, [], ◌∷◌, length, slice_index_or, All, Option, Some, None}
 use Rattle.std.specs.List.{list_any}
@@ -10,7 +10,7 @@ use Rattle.udfs_volume.specs.declared.faults.VolumeFault.TheVariants.{SparingSha
 use Rattle.udfs_space.specs.declared.entries.SparingEntry.{SparingEntry}
 use Rattle.udfs_space.specs.Sparing.{Span, Spared, is_bad_original, is_out_of_order, passes_end}
 
--- tables of so many blocks end where blocks may end
+-- tables of `count` blocks end where blocks may end
 abbrev pub FitAll : ℕ → List ℕ → Type 0
 FitAll count places = All (λ place. place + count ≤ 4194304) places
 

@@ -1,4 +1,4 @@
--- What a call tells of a lawful volume of which a part is known.
+-- What a call reports of a lawful volume of which a part is known.
 --     IsSpaceOf volume last blocks l got    the volume's places, as the standard reads them
 --     ArePlacesUpTo last space              each place is at most the last block
 --     TellsLawfulSpace blocks l seen             of each lawful volume: its places, or all copies of an unread block
@@ -24,14 +24,14 @@ pub record IsSpaceOf (volume : Volume) (last : ℕ) (blocks : Blocks) (l : Layou
   pub known : (group : List ℕ) → IsSparingGroup l.partitions group → (n : ℕ) × Includes group n × IsKnownAt blocks n
   pub part : IsPartOf (view blocks got) (view (complete volume last) got)
 
--- what a call returned is the volume's places, or the listed blocks hold a group of which none is known; no fault is told, and memory may run out
+-- what a call returned is the volume's places, or the listed blocks hold a group of which none is known; no fault is reported, and memory may run out
 abbrev pub IsSpaceTold : Volume → ℕ → Blocks → Layout → Seen code_space.Space → Type 0
 IsSpaceTold volume last blocks l (Got got) = IsSpaceOf volume last blocks l got
 IsSpaceTold volume last blocks l (Holes listed) = ListsGroup blocks [] [] (IsSparingGroup l.partitions) listed.items
 IsSpaceTold volume last blocks l (Fault fault) = ⊥
 IsSpaceTold volume last blocks l OutOfMemory = ⊤
 
--- for each volume that is lawful by the rules of a profile and agrees with the table, what is answered is told of it
+-- for each volume that is lawful by the rules of a profile and agrees with the table, the result is true of it, as `IsSpaceTold` says
 abbrev pub TellsLawfulSpace : Blocks → Layout → Seen code_space.Space → Type 0
 TellsLawfulSpace blocks l seen = (profile : Profile) (volume : Volume) (last : ℕ) → IsVolume volume last → layout_by profile (complete volume last) last ≡ found l
     → IsLawfulSparing volume last l → Agrees blocks volume last → IsSpaceTold volume last blocks l seen

@@ -12,7 +12,7 @@ use std::alloc::{AllocError, Global};
 use udfs_lattice::{BlockTable, Fact};
 use udfs_volume::SparableMap;
 
-/// The blocks of a table of so many bytes.
+/// How many blocks a table of `bytes` bytes has.
 fn blocks_in(bytes: u32) -> u32
     ensures { result ≡ blocks_in bytes }
 {

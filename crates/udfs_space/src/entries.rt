@@ -86,7 +86,7 @@ fn is_sparing_table(bytes: &[u8], place: u32) -> bool
         && RegId::read(behind(bytes, 16)).name == *b"*UDF Sparing Table\0\0\0\0\0"
 }
 
-/// So many entries of the table whose bytes behind the tag these are.
+/// The first `count` entries of the table of which `content` is what follows the tag.
 fn entries(alloc: Global, content: &[u8], count: u16) -> Result<Vec<SparingEntry>, AllocError>
     requires { 40 + 8 * count ≤ length content.now }
     ensures { IfOk result (λ read. read.items ≡ map (λ i. sparing_entry_of (drop (bp (56 + 8 * i)) content.now)) (range_with_len 0 count)) }

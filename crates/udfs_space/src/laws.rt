@@ -31,14 +31,14 @@ pub fn placing_is_a_relation()
     ensures { PlacingLaw }
 {}
 
-/// The old place of a spared packet is never read: what is known of its blocks is told by the packet's new
+/// The old place of a spared packet is never read: what is known of its blocks depends on the packet's new
 /// place alone.
 pub fn old_places_are_not_read()
     ensures { OldPlaceLaw }
 {}
 
-/// The partitions of a layout are sound: not empty, and their spared packets are whole ones, each once. So where a
-/// block stands is told by the relation.
+/// The partitions of a layout are sound: not empty, and their spared packets are whole ones, each once. So the
+/// relation says where a block is.
 pub fn space_is_sound()
     ensures { SoundSpace }
 {}

@@ -74,9 +74,9 @@ impl Space {
     /// a number without a meaning or not the first block of a packet; `SparingOrder`, originals fall, or two
     /// packets have the same; `MappedRange`, a packet is mapped to a block behind the last one.
     ///
-    /// Of a volume that is lawful by the rules of some profile and with which the table agrees it tells the
+    /// Of a volume that is lawful by the rules of some profile and with which the table agrees it returns the
     /// volume's own places, as the standard reads them from the first sparing table, or holes: then all copies
-    /// of some block of a sparing table are among them, of which none is known.
+    /// of some block of a sparing table are among them, of which none is known; or memory runs out.
     ///
     /// The parts are those that [`udfs_volume::layouts::layout_by`] gives, or others that lie within a volume.
     pub fn build(alloc: Global, table: &BlockTable, parts: &VolumeParts) -> Seen<Space>
@@ -174,8 +174,8 @@ impl Space {
         }
     }
 
-    /// Whether one of so many consecutive logical blocks has no place. It takes no memory, and no longer for
-    /// many blocks than for one.
+    /// Whether one of `count` consecutive logical blocks from an address on has no place. It takes no memory,
+    /// and no longer for many blocks than for one.
     pub fn is_past(&self, address: LbAddr, count: u32) -> bool
         ensures { result ≡ is_past (place self.now) address.reference address.block count }
     {

@@ -29,7 +29,7 @@ impl<'a> View<'a> {
         self.block_behind(address, 0)
     }
 
-    /// The same of the logical block that stands so many behind an address in its partition. Its number may pass 32 bits, and then
+    /// The same of the logical block that is `count` blocks after an address in its partition. Its number may pass 32 bits, and then
     /// it has no place. It takes no memory.
     pub fn block_behind(self, address: LbAddr, count: u32) -> Option<(u32, Fact<&'a [u8; 2048]>)>
         ensures value { block_now result ≡ block_at (view_now self.entry) address.reference (address.block + count) }
@@ -40,9 +40,9 @@ impl<'a> View<'a> {
         self.space.block_at(self.table, address.reference, block)
     }
 
-    /// The block of the volume that holds the logical block so many behind an address, and how many logical blocks from that one on
-    /// are unknown and stand one behind the other, as far as that is told at once: up to the end of a packet of 32 blocks. It takes
-    /// no memory.
+    /// The block of the volume that holds the logical block `count` blocks after an address, and how many logical blocks from that one
+    /// on are unknown and lie one after the other in the volume, as far as one call looks: at most up to the end of a packet of 32
+    /// blocks. It takes no memory.
     pub fn unknown_ahead(self, address: LbAddr, count: u32) -> Option<(u32, u32)>
         ensures { IfSome result (λ ahead. (j : ℕ) → j < ahead.1 → block_at (view_now self.entry) address.reference (address.block + count + j) ≡ Some (ahead.0 + j, Unknown)) }
     {

@@ -25,7 +25,7 @@ use Rattle.udfs_common.specs.Refusing.{IsUnput}
 use Rattle.udfs_words.specs.declared.forms.Version.TheVariants.{Two}
 use Rattle.udfs_words.specs.declared.input_path.InputPath.{InputPath}
 
--- the numbers are those of the list that is held, where that is told
+-- the numbers are those of the list that is held, where that is known
 abbrev pub HasList : Option (Option (List ℕ)) → List ℕ → Type 0
 HasList held blocks = IfSome held (λ file. IfSome file (λ bytes. list_outcome bytes ≡ Ok blocks))
 
@@ -58,7 +58,7 @@ pub record PutsForgotten {R : Type 0} (found : List ℕ → Option (Option (List
   pub join : IsForgottenJoin found remaining inputs conflicts (list_texts words) table
   pub put : Put (table_file Two table)
 
--- the list that is held, where that is told, has its first fault in this line
+-- the list that is held, where that is known, has its first fault in this line
 abbrev pub HasListFault : Option (Option (List ℕ)) → ℕ → Type 0
 HasListFault held line = IfSome held (λ file. IfSome file (λ bytes. list_outcome bytes ≡ Err line))
 

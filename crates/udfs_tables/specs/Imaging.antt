@@ -1,13 +1,13 @@
 -- What `image` writes: the image of a table and its mapfile.
---     Stands          how an image and its mapfile stand beside what was there before
+--     Stands          what is at the paths of an image and its mapfile, beside what was there before
 --     BothReplaced    what a crash in the middle shows at their paths, and elsewhere
 --     HasImage        the table has an image up to this last block, and something holds of it and its mapfile
 --     MayImage        what a crash in the middle of the command shows
---     WritesImage     the image and the mapfile of what the words ask for
+--     WritesImage     the image and the mapfile of what the arguments ask for
 --     ImageUnput      the table's image was not put, and why
 --     ImageRefused    the same of the inputs of some paths, or they were not joined
---     ImageAskedRefused    the same where the words tell the last block, or there is no last block
---     ReplacesPair    the command replaces its outputs, and nothing else, whatever it answers
+--     ImageAskedRefused    the same with the last block by the arguments or the mapfiles, or none is known
+--     ReplacesPair    the command replaces its outputs, and nothing else, whatever it returns
 use Rattle.std.specs.Prelude.{◌≡◌, ◌≢◌, ◌⊎◌, ⊤, ℕ, List, Option, Some, None, map}
 use Rattle.clap.specs.declared.parser.matches.Found.{Found}
 use Rattle.udfs_files.specs.Disk.{After, Disk, IsOwn, Same}
@@ -43,7 +43,7 @@ pub record HasImage (last : ℕ) (Holds : List ℕ → List ℕ → Type 0) (t :
 abbrev pub MayImage : {R : Type 0} → (List ℕ → Option (Option (List ℕ))) → (R → Option (List ℕ)) → List InputPath → ℕ → List ℕ → List ℕ → Disk → Disk → Type 0
 MayImage found remaining inputs last image mapfile d c = Same d c ⊎ OfPaths found remaining inputs (HasImage last (λ bytes text. BothReplaced image mapfile bytes text d c))
 
--- of the inputs and the last block that the words ask for
+-- of the inputs and the last block that the arguments ask for
 pub record WritesImage {R : Type 0} (found : List ℕ → Option (Option (List ℕ))) (remaining : R → Option (List ℕ)) (words : Found) (Holds : List ℕ → List ℕ → Type 0) : Type 0 where
   pub last : ℕ
   pub inputs : List InputPath
@@ -51,7 +51,7 @@ pub record WritesImage {R : Type 0} (found : List ℕ → Option (Option (List �
   pub asked : map asked_for inputs ≡ asked_streams words
   pub writes : OfPaths found remaining inputs (HasImage last Holds)
 
--- the same by the words
+-- the same by the arguments
 abbrev pub MayImageAsked : {R : Type 0} → (List ℕ → Option (Option (List ℕ))) → (R → Option (List ℕ)) → (List ℕ → List ℕ) → Found → Disk → Disk → Type 0
 MayImageAsked found remaining real words d c = Same d c ⊎ WritesImage found remaining words (λ bytes text. BothReplaced (real (out_text words)) (real (mapfile_text words)) bytes text d c)
 

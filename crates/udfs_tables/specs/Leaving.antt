@@ -1,8 +1,8 @@
--- What `merge` and `forget` may leave, by their words.
---     PutsJoin          the table file of the inputs was put, as the words of `merge` ask for
---     MayMerge          what a crash in the middle of `merge` shows: what was there, or the table file that the words ask for in the place of what was at the output's path
+-- What `merge` and `forget` may leave, by their arguments.
+--     PutsJoin          the table file of the inputs was put, as the arguments of `merge` ask for
+--     MayMerge          what a crash in the middle of `merge` shows: what was there, or the table file that was asked for, at the output's path
 --     MayForgetAsked    the same of `forget`
---     ReplacesOut       a command replaces its output, whole or not at all, and nothing else, whatever it answers
+--     ReplacesOut       a command replaces its output, whole or not at all, and nothing else, whatever it returns
 use Rattle.std.specs.Prelude.{◌≡◌, ◌≢◌, ◌⊎◌, ℕ, List, Option, codes, map}
 use Rattle.clap.specs.declared.parser.matches.Found.{Found}
 use Rattle.udfs_files.specs.Disk.{Disk, After, IsOwn, Same, Replaced}
@@ -16,7 +16,7 @@ use Rattle.udfs_words.specs.declared.input_path.InputPath.{InputPath}
 use Rattle.udfs_words.specs.declared.forms.Version.{Version}
 use Rattle.udfs_words.specs.declared.forms.Version.TheVariants.{One, Two}
 
--- of the inputs that the words name, in their version, the table file was put
+-- of the inputs that the arguments name, in their version, the table file was put
 abbrev pub PutsJoin : {R : Type 0} → (List ℕ → Option (Option (List ℕ))) → (R → Option (List ℕ)) → Found → (List ℕ → Type 0) → Type 0
 PutsJoin found remaining words Put = (version : Version) × (inputs : List InputPath) × (tables : List Table) × IsPicked words (codes "v1") One Two version × (map asked_for inputs ≡ asked_inputs words) ×
     Joined found remaining inputs tables × Put (table_file version (join_all tables))

@@ -41,7 +41,7 @@ module _ {F I M S W : Type 0} (files : Ghosts F I M S W) (output : W → Stream)
   abbrev pub OfJoin : (List ℕ → Type 0) → Type 0
   OfJoin Holds = (tables : List Table) × Joined (λ path. files.holds old (files.real old path)) remaining inputs tables × Holds (table_file version (join_all tables))
 
-  -- where files tell what they hold, or where the output is a device or a pipe
+  -- where it is known what the files hold, or where the output is a device or a pipe
   abbrev pub IsMerged : Type 0
   IsMerged = OfJoin (λ bytes. (files.tells → IsKept (files.holds new) (files.may_leave new) (files.real old out) bytes) ⊎ (files.in_place old out × IsTaken output bytes))
 
@@ -50,7 +50,7 @@ module _ {F I M S W : Type 0} (files : Ghosts F I M S W) (output : W → Stream)
   CrashesMerged = files.tells → (files.in_place old out → ⊥) → (c : Disk) → files.left_since new (files.moment old) c →
       After (files.may_leave old) (MayReplace (λ path. files.holds old (files.real old path)) remaining inputs version (files.real old out)) c
 
-  -- where files tell what they hold
+  -- where it is known what the files hold
   abbrev pub StandsMerged : Type 0
   StandsMerged = files.tells → OfJoin (λ bytes. files.holds new (files.real old out) ≡ Some (Some bytes))
 

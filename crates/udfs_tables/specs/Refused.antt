@@ -4,10 +4,10 @@
 --     OneFails                       one of some inputs has this error
 --     BlamesOne                      one of them was not taken, and what is said of it
 --     BlamesPath                     the same of the inputs of some paths
---     IsUncompared, IsRereadOf         bytes of one of so many inputs could not be read again, to be compared or to be written
---     StoredRefused                  so many inputs that are read at positions were not taken, and why
+--     IsUncompared, IsRereadOf         bytes of one of this many inputs could not be read again, to be compared or to be written
+--     StoredRefused                  inputs that are read at positions were not taken, and why
 --     MergeRefused                   the inputs of some paths were not merged, and why
---     WordsRefused                   a command was refused by its words, and why
+--     WordsRefused                   a command with these arguments failed, and why
 use Rattle.std.specs.Prelude.{◌≡◌, ◌⊎◌, ◌<◌, ◌+◌, ℕ, List, ◌∷◌, ◌++◌, Option, None, Some, Err, alloc_error, length, map}
 use Rattle.udfs_lattice.specs.Tables.{Table}
 use Rattle.udfs_pairs.specs.declared.any_stored.AnyStored.{AnyStored}
@@ -39,7 +39,7 @@ abbrev pub refusal_with : Option PairFault → InputError → Refusal
 refusal_with None error = refusal_of error
 refusal_with (Some fault) error = refused_pair error.input fault
 
--- those before it have tables; a fault of its bytes, where it tells them, is their first one, and where they have one no other is said of them
+-- those before it have tables; a fault of its bytes, where they are known, is their first one, and where they have one no other is reported of them
 pub record OneFails {R : Type 0} (remaining : R → Option (List ℕ)) (all : List R) (error : InputError) : Type 0 where
   pub earlier : List R
   pub one : R
@@ -81,6 +81,6 @@ StoredRefused content reason stored r = (r ≡ refusal.Memory alloc_error) ⊎ B
 pub record MergeRefused {R I : Type 0} (found : List ℕ → Option (Option (List ℕ))) (shut : List ℕ → Type 0) (remaining : AnySource R I → Option (List ℕ)) (paths : List InputPath) (refused : Refusal) : Type 0 where
   pub why : (refused ≡ refusal.Memory alloc_error) ⊎ IsShut shut paths refused ⊎ BlamesPath found remaining source_reason paths refused ⊎ IsUncompared (length paths) refused ⊎ IsRereadOf (length paths) refused
 
--- memory was refused; or the output would take the place of what is to stay; or it could not be looked at; or this is said of the inputs that the words ask for
+-- memory was refused; or the output would take the place of what is to stay; or it could not be looked at; or this is said of the inputs that are asked for
 abbrev pub WordsRefused : Type 0 → List Asked → (List InputPath → Refusal → Type 0) → Refusal → Type 0
 WordsRefused Unseen asked Why r = (r ≡ refusal.Memory alloc_error) ⊎ (r ≡ refusal.Spared) ⊎ ((r ≡ refusal.Output) × Unseen) ⊎ ((paths : List InputPath) × (map asked_for paths ≡ asked) × Why paths r)

@@ -29,11 +29,11 @@ pub struct Beside {
 }
 
 impl Beside {
-    /// None of so many inputs is begun.
+    /// None of `inputs` inputs is begun.
     ///
     /// # Errors
     ///
-    /// `AllocError` for want of memory.
+    /// `AllocError` where memory ran out.
     pub fn new(alloc: Global, inputs: usize) -> Result<Beside, AllocError> {
         Ok(Beside {
             alloc,
@@ -55,7 +55,7 @@ impl Beside {
         self.begun == 1
     }
 
-    /// The input that was read is over, and where it is the first one, so many blocks of it are in conflict.
+    /// The input that was read is over, and where it is the first one, `conflicts` of its blocks are in conflict.
     pub fn end_input(&mut self, conflicts: u32) {
         let ended = mem::replace(&mut self.input, Said::new(self.alloc));
         match self.begun {

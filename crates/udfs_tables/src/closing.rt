@@ -1,4 +1,4 @@
-//! What a person is told when `merge` is done.
+//! The remarks of `merge` when it is done.
 
 use crate::beside::Totals;
 use crate::said::Disagreement;
@@ -14,7 +14,7 @@ fn push_counted(line: &mut String, number: u32, words: &str) -> Result<(), Alloc
     line.push_str(words)
 }
 
-/// What is said of the join of so many inputs.
+/// The remark on the join of `inputs` inputs.
 fn of_totals(alloc: Global, inputs: usize, totals: Totals) -> Result<String, AllocError> {
     let mut line = match inputs {
         1 => String::from_str(alloc, "1 input: ")?,
@@ -40,7 +40,7 @@ fn of_doubt(alloc: Global, input: usize, found: Disagreement) -> Result<String, 
     Ok(line)
 }
 
-/// Tells who watches what was joined of so many inputs, and which of them may be of another disc.
+/// Makes the remarks on the join of `inputs` inputs: what was joined, and which of them may be of another disc.
 pub fn remark_on_merge<F: Files>(
     alloc: Global,
     inputs: usize,

@@ -184,7 +184,7 @@ pub fn image<F: Files>(
     // A crash at any moment of the call leaves all as it was; or no mapfile, beside the old image or the new one; or both new.
     ensures any_moment { F.tells → (c : Disk) → F.left_since files.new (F.moment files.old) c →
         After (F.may_leave files.old) (MayImage (λ path. F.holds files.old (F.real files.old path)) (⟦<AnySource<F::Input, F::Image> as Source>⟧.remaining) inputs.now last (F.real files.old outputs.entry.image.now) (F.real files.old outputs.entry.mapfile.now)) c }
-    // And so do the paths hold it, whatever it answers.
+    // After the call, whatever its result, the two paths hold one of these too.
     ensures stand { F.tells → ((q : List ℕ) → F.holds files.new q ≡ F.holds files.old q) ⊎ OfPaths (λ path. F.holds files.old (F.real files.old path)) (⟦<AnySource<F::Input, F::Image> as Source>⟧.remaining) inputs.now
         (HasImage last (λ bytes text. Stands (Some None) (Some (Some bytes)) (Some (Some text)) (F.holds files.old (F.real files.old outputs.entry.image.now)) (F.holds files.old (F.real files.old outputs.entry.mapfile.now)) (F.holds files.new (F.real files.old outputs.entry.image.now)) (F.holds files.new (F.real files.old outputs.entry.mapfile.now)))) }
     // No other path changes, but for those of new files that are to go in their places.

@@ -70,18 +70,18 @@ pub fn image_words<F: Files>(
     words: &ArgMatches<'_>,
     files: &mut F,
 ) -> Result<(), Refusal>
-    // The image and the mapfile that the words ask for are at their paths, and each crash leaves them.
+    // The image and the mapfile that the arguments ask for are at their paths, and each crash leaves them.
     ensures written { OnOk result (WritesImage (λ path. F.holds files.old (F.real files.old path)) (⟦<AnySource<F::Input, F::Image> as Source>⟧.remaining) (found_of words.now)
         (λ bytes text. F.tells → IsKept (F.holds files.new) (F.may_leave files.new) (F.real files.old (out_text (found_of words.now))) bytes × IsKept (F.holds files.new) (F.may_leave files.new) (F.real files.old (mapfile_text (found_of words.now))) text)) }
-    // They take the place of no input, and but by force of nothing at all.
+    // They take the place of no input, and without `force` of nothing else.
     ensures free { OnOk result ((force : Bool) × IsPicked (found_of words.now) (codes "force") true false force ×
         (F.tells → IsFreePair (F.holds files.old) (F.real files.old) (input_texts (found_of words.now)) (pair_texts (found_of words.now)) force (out_text (found_of words.now)) (mapfile_text (found_of words.now)))) }
-    // Whatever it answers, and at each moment of it: a crash leaves no mapfile beside an image that lacks what it tells, and no other path changes.
+    // Whatever the result: a crash at any moment leaves no mapfile beside an image that lacks what it lists, and no other path changes but those of new files.
     ensures replaces { ReplacesPair F.tells F.holds F.real F.may_leave F.moment F.left_since (⟦<AnySource<F::Input, F::Image> as Source>⟧.remaining) (found_of words.now) files.old files.new }
     // The outputs are spared only where one of them would take the place of an input, or of something that may not be written over, or is in the way of the other.
     ensures spared { IsErrOf result Refusal.Spared → (force : Bool) × IsPicked (found_of words.now) (codes "force") true false force × (F.tells → IsSparedPair (F.real files.old) (F.in_place files.old) (input_texts (found_of words.now)) (pair_texts (found_of words.now)) force (out_text (found_of words.now)) (mapfile_text (found_of words.now))) }
-    // Why it is refused: the outputs are spared or could not be looked at, or the last block or the inputs are to blame, or the last block is out of range, or something is known behind it,
-    // or the image or its mapfile was not put.
+    // Why it fails: the outputs are spared or could not be looked at, or the last block or the inputs are to blame, or the last block is out of range,
+    // or something is known after it, or the image or its mapfile was not put.
     ensures why { IfErr result (WordsRefused (F.shut files.old (out_text (found_of words.now)) ⊎ F.shut files.old (mapfile_text (found_of words.now)) ⊎ SomeShut (F.shut files.old) (pair_texts (found_of words.now)) ⊎ SomeShut (F.shut files.old) (input_texts (found_of words.now))) (asked_streams (found_of words.now))
         (ImageAskedRefused (λ path. F.holds files.old (F.real files.old path)) (F.shut files.old) (⟦<AnySource<F::Input, F::Image> as Source>⟧.remaining) (⟦<AnySource<F::Input, F::Image> as Source>⟧.faults) (F.shut files.old (out_text (found_of words.now)) ⊎ F.shut files.old (mapfile_text (found_of words.now)) ⊎ Fails F.faults ⊎ SinkFails F.Output.stream) (found_of words.now))) }
 {

@@ -1,4 +1,4 @@
-//! The join of inputs of `merge` that are read at positions, by where its bytes stand, and what is told of it when it is done.
+//! The join of inputs of `merge` that are read at positions, by where its bytes are, and what is said of it when it is done.
 
 ghost use Rattle.std.specs.Prelude.{◌≡◌, ℕ, IfOk};
 ghost use Rattle.udfs_index.specs.Copying.{AreAllTold};
@@ -19,11 +19,11 @@ pub struct IndexTally<'a, S: Stored> {
 }
 
 impl<'a, S: Stored> IndexTally<'a, S> {
-    /// The tally of so many inputs, of which none is begun.
+    /// The tally of `inputs` inputs, of which none is begun.
     ///
     /// # Errors
     ///
-    /// `AllocError` for want of memory.
+    /// `AllocError` where memory ran out.
     pub fn new(alloc: Global, inputs: usize) -> Result<IndexTally<'a, S>, AllocError>
         ensures { IfOk result (λ tally. ⟦<IndexTally<'a, S> as Taker<Cursor<'a, S>>>⟧.took tally empty_table) }
     {

@@ -1,4 +1,4 @@
-//! The join of the inputs of `merge`, and what is told of it when it is done.
+//! The join of the inputs of `merge`, and what is said of it when it is done.
 
 ghost use Rattle.std.specs.Prelude.{◌≡◌, None, IfOk};
 ghost use Rattle.udfs_lattice.specs.Tables.{conflict_count, empty_table, known_count};
@@ -32,11 +32,11 @@ impl Model for MergeTally {
 }
 
 impl MergeTally {
-    /// The tally of so many inputs, of which none is begun.
+    /// The tally of `inputs` inputs, of which none is begun.
     ///
     /// # Errors
     ///
-    /// `AllocError` for want of memory.
+    /// `AllocError` where memory ran out.
     pub fn new(alloc: Global, inputs: usize) -> Result<MergeTally, AllocError>
         ensures { IfOk result (λ tally. tally ≡ empty_table) }
     {

@@ -1,4 +1,4 @@
-//! An image and its mapfile are put at two paths, so that at no moment a mapfile stands beside an image that lacks what it tells.
+//! An image and its mapfile are put at two paths, so that at no moment a mapfile is beside an image that lacks what it lists.
 
 ghost use Rattle.std.specs.Prelude.{◌≡◌, ◌≢◌, ◌⊎◌, ℕ, List, Option, Some, None, IfErr, OnOk, OnErr};
 ghost use Rattle.udfs_files.specs.Disk.{Disk, Fails, SinkFails, Goes, Gone, IsOwn, Replaced};

@@ -61,7 +61,7 @@ impl Said {
     ///
     /// # Errors
     ///
-    /// `AllocError` for want of memory.
+    /// `AllocError` where memory ran out.
     pub fn reach(&mut self, block: u32) -> Result<(), AllocError> {
         let place = (block / 32) as usize;
         for _ in self.packets.len()..place + 1 {

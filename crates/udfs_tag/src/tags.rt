@@ -17,7 +17,7 @@ pub struct Tag {
     pub identifier: u16,
 }
 
-/// Why a tag is not accepted. Of several faults the one with the least number is told.
+/// Why a tag is not accepted. Of several faults the one with the least number is reported.
 #[derive(Clone, Copy, Debug, PartialEq, Eq, PartialOrd, Ord)]
 pub enum TagFault {
     /// Byte 4 is not the sum modulo 256 of bytes 0 to 3 and 5 to 15 (ECMA-167 3/7.2.3).
@@ -125,7 +125,7 @@ impl Tag {
     }
 }
 
-/// The CRC of the first bytes of two pieces, if they have so many.
+/// The CRC of the first `count` bytes of two pieces, or `None` where they have fewer.
 fn crc_of_pieces(front: &[u8], back: &[u8], count: usize) -> Option<u16>
     ensures { MatchOption result (length front.now + length back.now < count)
         (λ crc. (count ≤ length front.now + length back.now) × (crc ≡ crc_of (take count (front.now ++ back.now)))) }

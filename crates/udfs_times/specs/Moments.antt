@@ -1,5 +1,5 @@
 -- Stamps as moments: microseconds since 1970-01-01T00:00:00Z, as a file system counts them.
---     IsMomentOf zone stamp moment     the moment of the stamp, where a local one's clock is in the zone; none where the stamp tells none
+--     IsMomentOf zone stamp moment     the moment of the stamp, where a local one's clock is in the zone; none where the stamp gives none
 --     IsClockOf zone clock             the zone, as the calendar takes it
 use Rattle.std.specs.Prelude.{◌≡◌, ◌⊎◌, ℕ, ℤ, pos, ◌-ℤ◌, ◌*ℤ◌, int_le, unsigned_abs, Option, Some, None, if◌then◌else◌}
 use Rattle.std.specs.Borrow.{Bor}
@@ -23,13 +23,13 @@ since_1970 micros = if int_le (pos 0) micros then Some (unsigned_abs micros) els
 abbrev pub seconds_ahead : TimeZone → DateTime → ℤ
 seconds_ahead zone shown = (compatible_offset (ambiguous_at zone shown)).seconds
 
--- the moment at which the clock of a zone shows this, so many microseconds after it showed 1970-01-01T00:00:00; none where the calendar does not go so far
+-- the moment at which the clock of a zone shows the time `micros` microseconds after 1970-01-01T00:00:00; none before 1970 or outside the calendar
 unfoldable pub IsLocalMoment : TimeZone → ℤ → Option ℕ → Type 0
 IsLocalMoment zone micros moment =
     ((shown : DateTime) × (civil_nanos shown ≡ micros *ℤ pos 1000) × (moment ≡ since_1970 (micros -ℤ seconds_ahead zone shown *ℤ pos 1_000_000)))
     ⊎ ((¬ IsCivilNanos (micros *ℤ pos 1000)) × (moment ≡ None))
 
--- the moment of a stamp: a moment at UTC is its own; bytes that tell no time have none
+-- the moment of a stamp: a moment at UTC is its own; bytes that give no time have none
 abbrev pub IsMomentOf : TimeZone → Stamp → Option ℕ → Type 0
 IsMomentOf zone (Utc micros) moment = moment ≡ since_1970 micros
 IsMomentOf zone (Local micros) moment = IsLocalMoment zone micros moment

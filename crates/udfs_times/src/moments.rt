@@ -8,7 +8,7 @@ use jiff_core::civil::DateTime;
 use jiff_tz::{AmbiguousOffset, TimeZone};
 use udfs_osta::Stamp;
 
-/// What a clock shows so many microseconds after it showed 1970-01-01T00:00:00, if the calendar goes so far.
+/// What a clock shows `micros` microseconds after it showed 1970-01-01T00:00:00, if the calendar goes so far.
 fn shown_at(micros: i64) -> Option<DateTime>
     ensures { MatchOption result (¬ IsCivilNanos (micros *ℤ pos 1000)) (λ dt. (civil_nanos dt ≡ micros *ℤ pos 1000) × IsCivilNanos (micros *ℤ pos 1000)) }
 {
@@ -32,7 +32,7 @@ fn seconds_ahead(zone: &TimeZone<'_>, shown: DateTime) -> i32
     }
 }
 
-/// What a clock shows, on one that is so many seconds behind.
+/// What a clock that is `seconds` seconds behind shows when this one shows `micros`, in microseconds.
 fn behind(micros: i64, seconds: i32) -> i64
     requires shown { IsCivilNanos (micros *ℤ pos 1000) }
     requires low { neg_ℤ (pos 93_599) ≤ℤ seconds }
@@ -52,7 +52,8 @@ fn since_1970(micros: i64) -> Option<u64>
     Some(micros as u64)
 }
 
-/// The moment at which a clock in this zone shows what it shows so many microseconds after it showed 1970-01-01T00:00:00.
+/// The moment at which a clock in this zone shows the time `micros` microseconds after 1970-01-01T00:00:00. None before 1970, or
+/// where the calendar does not go so far.
 #[tactic(auto, unfolding(crate::specs::Moments::IsLocalMoment))]
 fn local_moment(zone: &TimeZone<'_>, micros: i64) -> Option<u64>
     ensures { IsLocalMoment zone.now micros result }
@@ -64,7 +65,8 @@ fn local_moment(zone: &TimeZone<'_>, micros: i64) -> Option<u64>
 }
 
 /// The moment of a stamp in microseconds since 1970-01-01T00:00:00Z, where the clock of a local one is in this zone: the
-/// moment at which it shows the time. None before 1970, and of bytes that tell no time. It takes no memory.
+/// moment at which it shows the time. None before 1970, for a local time outside the calendar, and for bytes that give no time.
+/// It allocates no memory.
 pub fn moment_in(zone: &TimeZone<'_>, stamp: Stamp) -> Option<u64>
     ensures { IsMomentOf zone.now stamp result }
 {

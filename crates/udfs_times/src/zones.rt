@@ -77,11 +77,11 @@ impl Zone {
     }
 
     /// The zone of the machine's clock: that of the environment's `TZ`, and else that of `/etc/localtime`; UTC where
-    /// neither tells one, as other programs have it.
+    /// neither gives one, as other programs have it.
     ///
     /// # Errors
     ///
-    /// `AllocError` for want of memory.
+    /// `AllocError` if memory ran out.
     pub fn of_machine<R: Env + Files + AllocGlobal>(rt: &R) -> Result<Zone, AllocError> {
         match SystemTimeZone::read(rt) {
             Ok(SystemTimeZone::Posix(rule)) => Ok(Zone::Rule(rule)),

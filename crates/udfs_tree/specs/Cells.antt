@@ -1,7 +1,7 @@
 -- The cells of a node's body, beside the bytes of a file of the tree.
 --     HasCellsAt view root i cells     the cells of the body at the end of route i in their order
---     IsToldAs n file                  the node is told as the tree has it
---     IsTornAs n file cells            so it is, and each byte outside its holes is there
+--     IsToldAs n file                  the node has the kind, the size and the stamp of the file
+--     IsTornAs n file cells            so it has, and each byte outside its holes is the file's
 use Rattle.std.specs.Prelude.{◌≡◌, ◌≢◌, ◌↔◌, ⊤, ℕ, ◌+◌, ◌<◌, ◌≤◌, List, Some, None, slice_get}
 use Rattle.std.specs.List.{AllZip}
 use Rattle.udfs_lattice.specs.Volumes.{Includes}
@@ -58,14 +58,14 @@ pub record IsUntold (n : NodeFields) : Type 0 where
 abbrev pub IsInRuns : List (ℕ × ℕ) → ℕ → Type 0
 IsInRuns runs k = (run : ℕ × ℕ) × Includes runs run × (run.0 ≤ k) × (k < run.0 + run.1)
 
--- the node is told as the file; each of these cells is the file's byte or missing, and the node's holes are the
--- places of the missing ones
+-- the node has the file's kind, size and stamp; each of these cells is the file's byte or missing, and the node's
+-- holes are the places of the missing ones
 pub record IsTornAs (n : NodeFields) (file : TreeFile) (cs : List Cell) : Type 0 where
   pub told : IsToldAs n file
   pub bytes : AllZip IsByteOrMissing cs file.body
   pub holes : (k : ℕ) → IsMissingAt cs k ↔ IsInRuns (holes_of n.standing) k
 
--- the node is whole and told as the file, and these cells are all the file's bytes
+-- the node is whole, with the file's kind, size and stamp, and these cells are all the file's bytes
 pub record IsWholeAs (n : NodeFields) (file : TreeFile) (cs : List Cell) : Type 0 where
   pub standing : n.standing ≡ Whole
   pub told : IsToldAs n file

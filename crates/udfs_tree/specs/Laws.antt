@@ -1,4 +1,4 @@
--- Over a part of a complete view, what is told of nodes is what the tree has.
+-- Over a part of a complete view, what is reported of nodes is what the tree has.
 --     CompleteNodes     over the complete view the nodes are those of the tree, all whole
 --     PartialNodes      over a part each node is one of the tree, and what is whole is the tree's
 --     OncePerPath       and no two nodes of a part have one path
@@ -43,12 +43,12 @@ abbrev pub CompleteNodes : Type 0
 CompleteNodes = (all : View) (blocks : PartitionBlocks) → IsComplete all blocks → (root : LongAd) → IsLawfulTree all root
     → (nodes : List NodeFields) → AreNodes all root nodes → AreTheTree all blocks root nodes
 
--- nothing is told of the node, or it is told as the file, with the file's bytes outside its holes
+-- the node's entry was not read, or its kind, size and stamp are the file's, as are the bytes outside its holes
 abbrev pub IsTold : View → LongAd → ℕ → NodeFields → TreeFile → Type 0
 IsTold v root index n file = IsUntold n ⊎ ((cs : List Cell) × HasCellsAt v root index cs × IsTornAs n file cs)
 
--- Of the node at this place in the list: it is one of the tree at its path, with no fault and no loop, told as the tree
--- has it; and if it is whole, all bytes are the tree's, and each group that it needs has a known block.
+-- Of the node at this place in the list: it is one of the tree at its path, with no fault and no loop, and `IsTold` of
+-- its file; and if it is whole, all bytes are the tree's, and each group that it needs has a known block.
 pub record IsNodeOf (some all : View) (blocks : PartitionBlocks) (root : LongAd) (index : ℕ) (n : NodeFields) : Type 0 where
   pub file : TreeFile
   pub in_tree : InTree blocks root n.path file
@@ -56,7 +56,7 @@ pub record IsNodeOf (some all : View) (blocks : PartitionBlocks) (root : LongAd)
   pub told : IsTold some root index n file
   pub whole : n.standing ≡ Whole → ((cs : List Cell) × HasCellsAt some root index cs × IsWholeAs n file cs) × IsMet some all blocks root n.path
 
--- over a part of it each node is a file of the tree, told as the tree has it
+-- over a part of it each node is a file of the tree, as `IsNodeOf` says
 abbrev pub PartialNodes : Type 0
 PartialNodes = (some all : View) (blocks : PartitionBlocks) → IsPartOf some all → IsComplete all blocks → (root : LongAd) → IsLawfulTree all root
     → (nodes : List NodeFields) → AreNodes some root nodes → (index : ℕ) (n : NodeFields) → slice_get nodes index ≡ Some n → IsNodeOf some all blocks root index n

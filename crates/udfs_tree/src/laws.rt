@@ -10,8 +10,8 @@ pub fn complete_nodes()
 {}
 
 /// Over a part of a complete view with a lawful tree, each node is one of the tree at its path, with no fault and no
-/// loop, told as the tree has it, and each byte outside its holes is the tree's. What is whole has all its bytes, and
-/// of each group of blocks that it needs one is known.
+/// loop. Either its entry was not read, or its kind, size and stamp are the tree's, as is each byte outside its holes.
+/// What is whole has all its bytes, and of each group of blocks that it needs one is known.
 pub fn partial_nodes()
     ensures { PartialNodes }
 {}

@@ -7,7 +7,7 @@ use Rattle.std.specs.List.{list_any}
 use Rattle.udfs_volume.specs.declared.profiles.Profile.{Profile}
 use Rattle.udfs_volume.specs.declared.profiles.Profile.TheVariants.{Strict, Wide}
 
--- the revisions of UDF, as the domain's suffix tells them (UDF 2.1.5.3)
+-- the revisions of UDF, as the domain's suffix gives them (UDF 2.1.5.3)
 abbrev pub revisions : Profile → List ℕ
 revisions Strict = 0x0150 ∷ 0x0201 ∷ []
 revisions Wide = 0x0102 ∷ 0x0150 ∷ 0x0200 ∷ 0x0201 ∷ []

@@ -4,7 +4,7 @@
 --     IfGot seen Property       what it got, if it got something, has the property
 --     ForGot seen Property     the same, as what a call needs
 --     GoesOn seen Next result  what was got led to the result, and else the result is the same
---     TellsFault fault seen answer   it told that fault, if that is the answer, whatever memory there was
+--     TellsFault fault seen answer   it reported that fault, if that is the answer, whatever memory there was
 use Rattle.std.specs.Prelude.{◌≡◌, ⊤, ℕ, ◌<◌, List, [], ◌∷◌}
 use Rattle.udfs_lattice.specs.Volumes.{Includes}
 use Rattle.udfs_volume.specs.declared.faults.VolumeFault.{VolumeFault}
@@ -38,7 +38,7 @@ IfGot (Holes blocks) Property = ⊤
 IfGot (Fault fault) Property = ⊤
 IfGot OutOfMemory Property = ⊤
 
--- where the answer is this fault, the code tells it
+-- where the answer is this fault, the code returns it
 abbrev pub TellsFault : {A B : Type 0} → VolumeFault → Seen A → Answer B → Type 0
 TellsFault fault seen answer = answer ≡ faulty fault → seen ≡ Fault fault
 

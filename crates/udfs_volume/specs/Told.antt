@@ -1,4 +1,4 @@
--- What a call tells of a lawful volume of which a part is known.
+-- What a call reports of a lawful volume of which a part is known.
 --     IsLayoutOf profile volume blocks last got     the volume's layout, as the standard reads it
 --     TellsLawfulLayoutBy profile blocks last seen  of each lawful volume: its layout, or all of an unread group
 --     TellsLawfulLayout blocks last seen            the same by the strict rules
@@ -22,7 +22,7 @@ pub record IsLayoutOf (profile : Profile) (volume : Volume) (blocks : Blocks) (l
   pub standard : (n : ℕ) × (standard_anchor volume last ≡ Some n) × (standard_layout_by profile volume last n ≡ found got)
   pub known : (group : List ℕ) → IsSequenceGroup volume last group → (n : ℕ) × Includes group n × IsKnownAt blocks n
 
--- what a call returned is the volume's layout, or the listed blocks hold a group of which none is known; no fault is told, and memory may run out
+-- what a call returned is the volume's layout, or the listed blocks hold a group of which none is known; no fault is reported, and memory may run out
 abbrev pub IsLayoutTold : Profile → Volume → Blocks → ℕ → Seen VolumeParts → Type 0
 IsLayoutTold profile volume blocks last (Got parts) = IsLayoutOf profile volume blocks last (parts_now parts)
 IsLayoutTold profile volume blocks last (Holes listed) =
@@ -30,7 +30,7 @@ IsLayoutTold profile volume blocks last (Holes listed) =
 IsLayoutTold profile volume blocks last (Fault fault) = ⊥
 IsLayoutTold profile volume blocks last OutOfMemory = ⊤
 
--- for each lawful volume that agrees with the table, what is answered is told of it
+-- for each lawful volume that agrees with the table, the result is true of it, as `IsLayoutTold` says
 abbrev pub TellsLawfulLayoutBy : Profile → Blocks → ℕ → Seen VolumeParts → Type 0
 TellsLawfulLayoutBy profile blocks last seen = (volume : Volume) → IsVolume volume last → IsLawfulLayoutBy profile volume last → Agrees blocks volume last
     → IsLayoutTold profile volume blocks last seen

@@ -108,7 +108,7 @@ fn without_anchor(unread: Vec<u32>) -> Seen<AnchorExtents>
 /// valid there with identifier 2 (ECMA-167 3/8.4.2.1, UDF 2.2.3). Without one, those of the three that are
 /// not known are holes, and where all three are known the fault is `NoAnchor`.
 ///
-/// It takes memory for holes alone: an anchor and the fault are told whatever memory there is.
+/// It takes memory for holes alone: an anchor and the fault are returned whatever memory there is.
 pub fn anchor(alloc: Global, table: &BlockTable, last: u32) -> Seen<AnchorExtents>
     requires from { 513 ≤ last }
     requires to { last ≤ 4194303 }

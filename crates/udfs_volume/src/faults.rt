@@ -6,7 +6,7 @@ ghost use Rattle.udfs_volume.specs.FaultNames.{volume_fault_name};
 use std::error::Error;
 use std::fmt;
 
-/// Why a volume cannot be laid out. Of several faults the one with the least number is told.
+/// Why a volume cannot be laid out. Of several faults the one with the least number is reported.
 #[derive(Clone, Copy, Debug, PartialEq, Eq, PartialOrd, Ord)]
 pub enum VolumeFault {
     /// All three places of an anchor are known, and none has one (ECMA-167 3/8.4.2.1).

@@ -257,13 +257,13 @@ fn see_layout(
 
 /// The layout of a volume by the rules of a profile: the revision, the label, the partitions and the file
 /// set's address, by the logical volume descriptor and the partition descriptors that prevail in the volume
-/// descriptor sequence. Of several faults the one with the least number is told.
+/// descriptor sequence. Of several faults the one with the least number is reported.
 ///
-/// Of a volume that is lawful by these rules and with which the table agrees it tells the volume's own
+/// Of a volume that is lawful by these rules and with which the table agrees it returns the volume's own
 /// layout, as the standard reads it (ECMA-167 3/8.4), or holes: then all blocks of some group are among them,
-/// of which one is needed and none is known. A layout that is found lies within the volume.
+/// of which one is needed and none is known; or memory runs out. A layout that is found lies within the volume.
 ///
-/// A fault of the anchor is told whatever memory there is.
+/// A fault of the anchor is reported whatever memory there is.
 #[tactic(auto, using(crate::proofs::LayoutSteps::layout_faulty, crate::proofs::Early::same_fault, crate::proofs::Told::no_fault))]
 pub fn layout_by(
     alloc: Global,

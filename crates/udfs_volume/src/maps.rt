@@ -47,7 +47,7 @@ pub(crate) struct NumberedMap {
     pub(crate) partition: u16,
 }
 
-/// The blocks that so many bytes take.
+/// How many blocks `bytes` bytes take.
 fn blocks_in(bytes: u32) -> u64
     ensures { result ≡ blocks_in bytes }
 {

@@ -24,7 +24,7 @@ impl Profile {
         }
     }
 
-    /// Whether a packet of a sparable partition may have so many blocks (UDF 2.2.9). It takes no memory.
+    /// Whether a packet of a sparable partition may have `packet` blocks (UDF 2.2.9). It takes no memory.
     pub fn accepts_packet(self, packet: u16) -> bool
         ensures { result ≡ accepts_packet self packet }
     {

@@ -5,7 +5,7 @@ ghost use Rattle.udfs_volume.specs.Seen.{ForGot, GoesOn};
 
 use crate::faults::VolumeFault;
 
-/// What the blocks that are known tell of a volume.
+/// What the known blocks say of a volume.
 #[derive(Debug, Drop)]
 pub enum Seen<T> {
     /// The thing itself.

@@ -142,7 +142,7 @@ fn sequence_at<'a>(
 /// descriptor at its place, a terminating descriptor, or the end of the extent. At each position the main
 /// copy is read where it is known, else the reserve copy; where neither is known, the two are holes.
 ///
-/// It takes memory for holes and for descriptors: a fault of the anchor is told whatever memory there is.
+/// It takes memory for holes and for descriptors: a fault of the anchor is reported whatever memory there is.
 #[tactic(auto, using(crate::proofs::Walking::sequence_faulty, crate::proofs::Early::same_fault))]
 pub fn sequence<'a>(alloc: Global, table: &'a BlockTable, last: u32) -> Seen<Sequence<'a>>
     requires from { 513 ≤ last }

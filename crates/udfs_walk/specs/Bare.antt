@@ -1,4 +1,4 @@
--- Nodes and entries of which the blocks and the holes of torn ones were let go, and are found again where they are told.
+-- Nodes and entries of which the blocks and the holes of torn ones were let go, and are found again where they are reported.
 --     bare_standing standing                the standing without the blocks and the holes
 --     lists_at view a              what is missing of what an address leads to
 --     full_node view n             the node with what is missing of it

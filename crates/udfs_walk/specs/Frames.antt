@@ -56,7 +56,7 @@ pub record HasManyBelow (view : View) (most : ℕ) (f : FrameFields) : Type 0 wh
   pub first : f.left ≡ entry ∷ rest
   pub many : most < length (entries_below view (inside f.path f.above entry))
 
--- too many paths are told only where they stand below the next entry; of memory nothing is said
+-- TooManyPaths comes only where more than `most` entries are below the next one; OutOfMemory may always come
 abbrev pub IsStepRefused : View → ℕ → FrameFields → NodesError → Type 0
 IsStepRefused view most old TooManyPaths = HasManyBelow view most old
 IsStepRefused view most old OutOfMemory = ⊤

@@ -26,7 +26,7 @@ SomeWalk = (view : View) (root : LongAd) → (walks : List Walked) × IsWalk vie
 abbrev pub OnlyWalk : Type 0
 OnlyWalk = (view : View) (root : LongAd) (walks others : List Walked) → IsWalk view root walks → IsWalk view root others → walks ≡ others
 
--- where a walk has at most so many ends, no more routes lead anywhere
+-- where a walk has at most `count` ends, no more than `count` routes lead anywhere
 abbrev pub NoMoreRoutes : Type 0
 NoMoreRoutes = (view : View) (root : LongAd) (walks : List Walked) (count : ℕ) → IsWalk view root walks → length walks ≤ count → ¬ HasMoreRoutes view root count
 

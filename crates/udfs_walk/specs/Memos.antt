@@ -2,8 +2,8 @@
 --     word_of standing, standing_of word     a standing without its blocks and holes, in a word and again
 --     known_of kind body                     what is kept of an entry of this kind with this body
 --     known_standing is_deep known           the standing that is kept
---     HasWords view memo                     what is known is told by what stands there
---     IsMemo view memo                       and so is what is kept of what it lists
+--     HasWords view memo                     what is known of each entry is what its body says
+--     IsMemo view memo                       and what is kept of what it lists is all of it
 use Rattle.std.specs.Prelude.{◌≡◌, ℕ, ◌<◌, Bool, true, false, ◌&&◌, List, length, nat_lt, Some}
 use Rattle.std.specs.BTreeMap.{BTreeMap, get}
 use Rattle.std.specs.Ordering.{nat_cmp}
@@ -41,7 +41,7 @@ standing_of word.Torn = Torn no_lists
 standing_of word.Loop = Loop
 standing_of (word.Fault f) = Fault f
 
--- a directory with entries and so many names in its path is not entered, unless another fault comes first
+-- the word of a directory with entries; one too deep to be entered has the fault Depth, unless it has another
 abbrev pub deep_word : Bool → Word → Word
 deep_word true word.Whole = word.Fault Depth
 deep_word true word.Torn = word.Fault Depth
@@ -62,7 +62,7 @@ abbrev pub AreKept : {X : Type 0} → View → (Icb → List ℕ → X → Type 
 AreKept view IsSo kept = (icb : Icb) (bytes : List ℕ) (x : _) → icb.block < 4294967296 → IsStanding view icb.reference icb.block bytes
     → get nat_cmp kept (number_of icb) ≡ Some x → IsSo icb bytes x
 
--- what is known is what the body tells of the entry there
+-- what is known is what the body says of the entry there
 abbrev pub IsWordOf : View → Icb → List ℕ → Kept → Type 0
 IsWordOf view icb bytes kept = kept.known ≡ known_of (entry_of bytes).kind (body view icb.reference icb.block (entry_of bytes))
 
@@ -70,10 +70,10 @@ IsWordOf view icb bytes kept = kept.known ≡ known_of (entry_of bytes).kind (bo
 abbrev pub IsToldOf : View → Icb → List ℕ → Kept → Type 0
 IsToldOf view icb bytes kept = IsWordOf view icb bytes kept × AreListed kept.entries (kind_entries (entry_of bytes).kind (body view icb.reference icb.block (entry_of bytes)))
 
--- what is known is told by what stands there
+-- what is known of each entry is what its body says
 abbrev pub HasWords : View → Memo → Type 0
 HasWords view memo = AreKept view (IsWordOf view) memo.kept
 
--- and so is what is kept of what it lists
+-- and what is kept of what it lists is all of it
 abbrev pub IsMemo : View → Memo → Type 0
 IsMemo view memo = AreKept view (IsToldOf view) memo.kept

@@ -1,4 +1,4 @@
--- What is told of a node.
+-- What is reported of a node.
 use Rattle.std.specs.Prelude.{ℕ, Bool, List, Option}
 use Rattle.udfs_tag.specs.declared.layouts.LongAd.{LongAd}
 use Rattle.udfs_osta.specs.declared.stamps.Stamp.{Stamp}

@@ -1,4 +1,4 @@
--- What is told of the end of a route.
+-- What is reported of the end of a route.
 --     node view w                          the node
 use Rattle.std.specs.Prelude.{[], ◌∷◌, cond, Some, None}
 use Rattle.udfs_space.specs.Places.{View}

@@ -1,4 +1,4 @@
--- Standings: what is missing of a body, and what is told of a node with a body.
+-- Standings: what is missing of a body, and what is reported of a node with a body.
 --     missing_blocks cells                       the blocks that missing cells name
 --     runs_from at cells                         the maximal runs of missing cells
 --     body_standing kind is_deep body            the standing of an entry with this body

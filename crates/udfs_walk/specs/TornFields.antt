@@ -1,4 +1,4 @@
--- What is told of a body of which some bytes are missing.
+-- What is reported of a body of which some bytes are missing.
 use Rattle.std.specs.Prelude.{ℕ, List}
 
 -- the blocks that are missing, and the runs of missing bytes, each by its offset and length

@@ -1,7 +1,7 @@
 -- Nodes before those with 64 names in their paths are settled: the body of such a one is walked over last of all, and only if
 -- no shorter route leads there.
 --     unsettled view w                    the node that a walk has come to, as it is put down first
---     settled view n                      the node as it is told, without its blocks and holes
+--     settled view n                      the node as it is listed, without its blocks and holes
 --     AreUnsettled view root nodes        the nodes at the ends of all routes, not yet settled
 use Rattle.std.specs.Prelude.{◌≡◌, ◌≤◌, ◌&&◌, Bool, true, false, List, cond, length, map, nat_le}
 use Rattle.udfs_tag.specs.declared.layouts.LongAd.{LongAd}
@@ -49,7 +49,7 @@ settled_at view n (bad f) = n
 settled_at view n (unread m) = n
 settled_at view n (entry e) = node_with n (bare_standing (body_standing e.kind true (body view n.icb.reference n.icb.block e)))
 
--- the node as it is told, without its blocks and holes
+-- the node as it is listed, without its blocks and holes
 unfoldable pub settled : View → NodeFields → NodeFields
 settled view n = cond (waits n) (settled_at view n (target view n.icb)) n
 

@@ -1,6 +1,6 @@
 -- The end of a route as code has it.
 --     end_at address path above hidden       the same, put together
---     AreRefused entries error               why entries are not told
+--     AreRefused most entries error          why the entries are not returned
 --     AreListed kept entries                 the entries that are kept, if there are any
 use Rattle.std.specs.Prelude.{ℕ, ◌≡◌, ◌<◌, Bool, List, [], length, Option, Some, None, ⊤}
 use Rattle.std.specs.declared.rc.Rc.{Rc}
@@ -34,7 +34,7 @@ Stands view a (Fault f) = ⊤
 Stands view a (Unread n) = ⊤
 Stands view a (Entry bytes) = IsStanding view a.reference a.block bytes
 
--- too many paths are told only where a route goes on to more than so many entries; of memory nothing is said
+-- TooManyPaths comes only where a route goes on to more than `most` entries; OutOfMemory may always come
 abbrev pub AreRefused : ℕ → List DirEntry → NodesError → Type 0
 AreRefused most entries TooManyPaths = most < length entries
 AreRefused most entries OutOfMemory = ⊤

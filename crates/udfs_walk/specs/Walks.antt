@@ -17,7 +17,7 @@ pub record AreNodes (view : View) (root : LongAd) (nodes : List NodeFields) : Ty
   pub few : length walks ≤ 65536
   pub is : nodes ≡ map (node view) walks
 
--- too many paths are told only where there are more routes; of memory nothing is said
+-- TooManyPaths comes only where more than 65,536 routes lead anywhere; OutOfMemory may always come
 abbrev pub IsNodesRefused : View → LongAd → NodesError → Type 0
 IsNodesRefused view root TooManyPaths = HasMoreRoutes view root 65536
 IsNodesRefused view root OutOfMemory = ⊤

@@ -1,4 +1,4 @@
-//! What is told of nodes, and of entries that no name leads to.
+//! What is reported of nodes, and of entries that no name leads to.
 
 use crate::paths::Path;
 use crate::standings::Standing;
@@ -11,7 +11,7 @@ use udfs_file::Kind;
 use udfs_osta::Stamp;
 use udfs_tag::{LbAddr, LongAd};
 
-/// What is told of a node: of what stands at the end of one route from the root. Two equal names in a directory are
+/// What is reported of a node: of what is at the end of one route from the root. Two equal names in a directory are
 /// two nodes, and so is every path to a file that has several.
 #[derive(Debug, Drop)]
 pub struct Node {

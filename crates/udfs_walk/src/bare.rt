@@ -1,4 +1,4 @@
-//! Nodes and entries without the blocks and the holes of torn ones, which are found again where they are told.
+//! Nodes and entries without the blocks and the holes of torn ones, which are found again where they are reported.
 
 ghost use Rattle.std.specs.Prelude.{◌≡◌, ◌∷◌, [], IfOk, map};
 ghost use Rattle.udfs_space.specs.Views.{view_now};

@@ -56,7 +56,7 @@ impl<L: Ledger> Walks<L> {
     }
 }
 
-/// What the body of an entry tells that stands at an address, as [`body_told`] has it, which walks over it.
+/// What the body of the entry at `address` says, as [`body_told`] returns it. It counts one walk.
 pub(crate) fn body_walked<L: Ledger>(
     alloc: Global,
     view: View<'_>,
@@ -75,8 +75,8 @@ pub(crate) fn body_walked<L: Ledger>(
     body_told(alloc, view, entry, address)
 }
 
-/// What the body of an entry tells that stands at an address, and what the entry lists, as [`body_entered`] has both, which
-/// walks over it once.
+/// What the body of the entry at `address` says, and what the entry lists, as [`body_entered`] returns both. It counts one
+/// walk.
 pub(crate) fn entered_walked<L: Ledger>(
     alloc: Global,
     view: View<'_>,

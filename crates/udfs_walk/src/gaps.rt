@@ -57,7 +57,7 @@ impl Gaps {
         Ok(())
     }
 
-    /// Goes through so many known cells.
+    /// Goes through `count` known cells.
     fn pass_known(&mut self, count: u64) -> Result<(), AllocError>
         requires { self.old.start + self.old.grown + count < 2 ^ 64 }
         ensures passes { IfOk result (λ done. (cs : List Cell) → AreKnownCells cs → length cs ≡ count → Leaves cs [] self.old self.new) }

@@ -12,13 +12,13 @@ pub fn only_walk()
     ensures { OnlyWalk }
 {}
 
-/// Where the walk has at most 65,536 ends, it is not so that more routes lead anywhere: too many paths are told
-/// exactly where there are more.
+/// Where the walk has at most `count` ends, no more than `count` routes lead anywhere. So, unless memory runs out, listing the
+/// nodes fails with `TooManyPaths` exactly where more than 65,536 routes do.
 pub fn no_more_routes()
     ensures { NoMoreRoutes }
 {}
 
-/// Where the walk has more ends than so many, more routes than that lead anywhere.
+/// Where the walk has more than `count` ends, more than `count` routes lead anywhere.
 pub fn more_routes()
     ensures { MoreRoutes }
 {}

@@ -1,6 +1,6 @@
 // SPDX-License-Identifier: MIT OR Apache-2.0
-//! The nodes of a volume of which some blocks are not known: every path with what is told of it, the entries that no
-//! name leads to, and the blocks to read again.
+//! The nodes of a volume of which some blocks are not known: every path with what is known of it, the entries that
+//! no name leads to, and the blocks to read again.
 #![tactic(auto)]
 
 pub mod answers;

@@ -1,4 +1,4 @@
-//! What the bodies of entries tell, each found once for its information control block, whichever routes lead there.
+//! What the bodies of entries say, each found once for its information control block, whichever routes lead there.
 
 ghost use Rattle.std.specs.Prelude.{◌≡◌, ◌≤◌, ◌+◌, ℕ, List, IfErr, IfOk, IsSome, None, OnOk, Some, false, length};
 ghost use Rattle.std.specs.BTreeMap.{IsEmpty, IsOrdered, Updates, btree_map_len, get, insert_entry};
@@ -55,7 +55,7 @@ fn in_a_word(standing: &Standing) -> Word
     }
 }
 
-/// The word of a directory with entries, where so many names may lead to it that it is not entered.
+/// The word of a directory with entries. If it is too deep to be entered, it has the fault `Depth`, unless it has another.
 fn deep(word: Word, is_deep: bool) -> Word
     ensures { result ≡ deep_word is_deep word }
 {
@@ -68,7 +68,7 @@ fn deep(word: Word, is_deep: bool) -> Word
     }
 }
 
-/// What the body of an entry tells.
+/// What the body of an entry says.
 #[derive(Clone, Copy)]
 pub(crate) struct Known {
     /// How whole the entry is, where it is no loop and fewer than 64 names lead to it.
@@ -77,7 +77,7 @@ pub(crate) struct Known {
     lists: bool,
 }
 
-/// What is known by what was told.
+/// What is known of an entry by what its body says.
 fn known_by(told: &Told) -> Known
     ensures word { result.word ≡ word_of told.now.standing }
     ensures lists { result.lists ≡ told.now.lists }
@@ -105,15 +105,15 @@ impl Known {
 /// What is kept of an entry.
 #[derive(Drop)]
 struct Kept {
-    /// What its body tells.
+    /// What its body says.
     known: Known,
     /// What it lists, if it lists entries and a route went on to them.
     entries: Option<Children>,
 }
 
 impl Kept {
-    /// The standing of the entry and what it lists, if these are at most so many entries, where it is no loop and fewer than
-    /// 64 names lead to it.
+    /// The standing of the entry, where it is no loop and fewer than 64 names lead to it, and the kept entries that it lists. If
+    /// these are more than `most`, the error is `TooManyPaths`.
     fn told(&self, alloc: Global, most: usize) -> Result<(Standing, Option<Children>), NodesError>
         ensures standing { IfOk result (λ told. told.0 ≡ known_standing false self.now.known) }
         ensures entries { IfOk result (λ told. (es : List DirEntry) → AreListed self.now.entries es → AreListed told.1 es) }
@@ -134,14 +134,14 @@ impl Kept {
     }
 }
 
-/// What was told of entries, by the numbers of their information control blocks.
+/// What is kept of entries, by the numbers of their information control blocks.
 #[derive(Drop)]
 pub(crate) struct Memo {
     kept: BTreeMap<u64, Kept>,
 }
 
 impl Memo {
-    /// Nothing was told.
+    /// Nothing is kept.
     pub(crate) fn new(alloc: Global) -> Memo
         ensures { IsEmpty result.kept }
     {
@@ -150,8 +150,8 @@ impl Memo {
         }
     }
 
-    /// What the body of an entry tells that stands at an address, and the entries that it lists; there are at most so many.
-    /// It is found once: where it is kept, no body is walked.
+    /// What the body of the entry at `address` says, and the entries that it lists, of which there are at most `most`. It is found
+    /// once: if it is kept, no body is walked.
     pub(crate) fn entered<L: Ledger>(
         &mut self,
         alloc: Global,
@@ -190,8 +190,8 @@ impl Memo {
         Ok(told)
     }
 
-    /// What the body of an entry tells that stands at an address, where no route goes on to what the entry lists. It is found
-    /// once: where it is kept, no body is walked, and else no entry of a directory is kept.
+    /// What the body of the entry at `address` says, where no route goes on to what the entry lists. It is found once: if it is
+    /// kept, no body is walked, and otherwise no entry of a directory is kept.
     pub(crate) fn known<L: Ledger>(
         &mut self,
         alloc: Global,
@@ -223,7 +223,7 @@ impl Memo {
     }
 }
 
-/// Keeps what is told of an entry.
+/// Keeps what is known of the entry with the information control block of this number.
 fn keep(memo: &mut BTreeMap<u64, Kept>, number: u64, kept: Kept) -> Result<(), AllocError>
     ensures updates { OnOk result (Updates nat_cmp memo.old memo.new number (Some kept)) }
     ensures entries { OnOk result (memo.new.entries ≡ insert_entry nat_cmp memo.old.entries number kept) }

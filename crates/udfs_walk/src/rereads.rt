@@ -48,7 +48,7 @@ pub fn reread(alloc: Global, nodes: &[Node]) -> Result<Vec<u32>, OutOfMemory>
 /// How many blocks are gathered before those that stand twice are let go.
 const MOST_GATHERED: usize = 1_048_576;
 
-/// Lets go of blocks that stand twice, where there are many, and answers how many are many the next time.
+/// Drops repeated blocks if there are at least `most` blocks, and returns the least number at which to do so the next time.
 #[tactic(auto, using(crate::proofs::BareRereads::once_again))]
 fn settle(blocks: &mut Vec<u32>, most: usize) -> usize
     ensures { ascending blocks.new.items ≡ ascending blocks.old.items }

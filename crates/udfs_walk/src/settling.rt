@@ -1,4 +1,4 @@
-//! The nodes to which 64 names lead, told last of all: a shorter route may have led to the same bodies before.
+//! The nodes to which 64 names lead, settled last of all: a shorter route may have led to the same bodies before.
 
 ghost use Rattle.std.specs.Prelude.{◌≡◌, ◌≤◌, ◌+◌, ℕ, List, OnOk, length, map};
 ghost use Rattle.udfs_lattice.specs.Volumes.{Includes, ascending};

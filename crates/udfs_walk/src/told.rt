@@ -1,4 +1,4 @@
-//! What the body of an entry tells: how whole the entry is, and what it lists as a directory.
+//! What the body of an entry says: how whole the entry is, and what it lists as a directory.
 
 ghost use Rattle.std.specs.Prelude.{◌≤◌, ◌≡◌, IfErr, IfOk, List, false, length, nat_lt};
 ghost use Rattle.udfs_space.specs.Views.{view_now};
@@ -21,7 +21,7 @@ use udfs_file::{Body, Dir, DirEntry, Entry, FrontError, Kind, WalkError};
 use udfs_space::View;
 use udfs_tag::LbAddr;
 
-/// What the body of an entry tells, wherever in the tree the entry stands.
+/// What the body of an entry says, wherever in the tree the entry is.
 #[derive(Drop)]
 pub(crate) struct Told {
     /// How whole the entry is, where it is no loop and fewer than 64 names lead to it, without the blocks and the holes.
@@ -30,7 +30,7 @@ pub(crate) struct Told {
     pub(crate) lists: bool,
 }
 
-/// What a directory tells that ends so, where its cells alone would have this standing.
+/// What is known of a directory that ends like this, and whose cells alone have this standing.
 fn ended(end: DirEnd, standing: Standing) -> Told
     ensures standing { (cs : List Cell) → IsEndOf end cs → result.standing ≡ standing_or_fault (fault_in (directory cs).rest) standing }
     ensures lists { (cs : List Cell) → IsEndOf end cs → result.lists ≡ nat_lt 0 (length (directory_entries cs)) }
@@ -45,7 +45,7 @@ fn ended(end: DirEnd, standing: Standing) -> Told
     }
 }
 
-/// What a body tells of an entry of this kind.
+/// What a body says of an entry of this kind.
 fn kind_told(alloc: Global, view: View<'_>, kind: Kind, body: &Body) -> Told
     ensures standing { result.standing ≡ bare_standing (kind_standing kind false (cells_of (view_now view.entry) body.now)) }
     ensures lists { result.lists ≡ nat_lt 0 (length (kind_entries kind (cells (cells_of (view_now view.entry) body.now)))) }
@@ -60,7 +60,7 @@ fn kind_told(alloc: Global, view: View<'_>, kind: Kind, body: &Body) -> Told
     }
 }
 
-/// What the body of an entry tells that stands at an address. No entry of a directory is kept.
+/// What the body of the entry at `address` says. No entry of a directory is kept.
 pub(crate) fn body_told(
     alloc: Global,
     view: View<'_>,
@@ -101,7 +101,7 @@ fn end_of(front: &DirFront) -> DirEnd
     }
 }
 
-/// What a body tells of an entry of this kind, and what the entry lists: at most so many entries.
+/// What a body says of an entry of this kind, and the entries that it lists, of which there are at most `most`.
 fn kind_entered(
     alloc: Global,
     view: View<'_>,
@@ -136,7 +136,7 @@ fn kind_entered(
     }
 }
 
-/// What the body of an entry tells that stands at an address, and what the entry lists: at most so many entries. Both are
+/// What the body of the entry at `address` says, and the entries that it lists, of which there are at most `most`. Both are
 /// found by one walk.
 pub(crate) fn body_entered(
     alloc: Global,

@@ -32,7 +32,7 @@ use udfs_file::{Entry, Kind};
 use udfs_space::View;
 use udfs_tag::{LbAddr, LongAd};
 
-/// A directory with so many names in its path is not entered.
+/// A directory with this many names in its path is not entered.
 pub(crate) const MOST_NAMES: usize = 64;
 
 /// Whether an ICB is one of these.
@@ -47,9 +47,9 @@ fn is_loop(address: LbAddr, above: &[LbAddr]) -> bool
     false
 }
 
-/// What an entry tells at the end of a route: its standing, without the blocks and the holes, and the entries to which a
-/// route goes on. Of a loop, and below 64 names, there are none; with 64 names the entry stands as whole until its node is
-/// settled, and no body is walked.
+/// What is known of an entry at the end of a route: its standing, without the blocks and the holes, and the entries to which
+/// a route goes on. A loop, and an entry to which 64 names lead, has no such entries, and no body is walked for it. The latter,
+/// where it is no loop, counts as whole until its node is settled.
 fn entry_told<L: Ledger>(
     alloc: Global,
     view: View<'_>,

@@ -231,7 +231,7 @@ fn begun_nodes<L: Ledger>(
     found
 }
 
-/// The nodes of a volume, not yet settled, and what was told of their bodies.
+/// The nodes of a volume, not yet settled, and what is kept of their bodies.
 fn unsettled_nodes<L: Ledger>(
     alloc: Global,
     view: View<'_>,
@@ -245,7 +245,7 @@ fn unsettled_nodes<L: Ledger>(
     ensures few { walks.new ≤ walks.old + 65536 }
 {
     let path = Path::root(alloc)?;
-    // So many nodes may still be found behind those that were, and behind the entries that are left.
+    // `room` more nodes may still be found, besides those that were and the entries that are left.
     let mut room: usize = MOST_NODES - 1;
     let mut memo = Memo::new(alloc);
     let (node, frame) = Frame::enter(alloc, view, root, path, &[], false, room, &mut memo, walks)?;

@@ -16,12 +16,12 @@
 --     has_manifest words, manifest_text words     a manifest is asked for, and its path
 --     has_lost words, lost_text words             a folder for lost files is asked for, and its path
 --     IsOneEnd words                              the last block, or the size of a disc, and not both
---     IsEndFault words fault                      what is wrong with how the end of the disc was told
+--     IsEndFault words fault                      what is wrong with how the end of the disc was given
 --     EndsMap end bytes                           these bytes are a mapfile whose runs end here
 --     MapsEndAt found end inputs                  all inputs are images whose mapfiles end here
 --     IsLastOfSize size last                      the block with which a disc of this size ends; or 0, of which there is no report, where there is none
 --     IsToldLast words last                       the number of the last block, or of that with which a disc of the size ends; or 0, where neither is a number
---     IsLast found inputs words last              the same, or where neither is told the block with which all mapfiles end
+--     IsLast found inputs words last              the same, or where neither is given the block with which all mapfiles end
 use Rattle.std.specs.Prelude.{◌≡◌, ◌≢◌, ◌⊎◌, ℕ, ◌+◌, ◌*◌, ◌%◌, ◌^◌, ◌<◌, ◌&&◌, ◌||◌, Bool, false, is_some, List, [], ◌∷◌, ◌++◌, All, Option, Some, None, IfSome, Ok, codes, map, option_map, unwrap_or, if◌then◌else◌, true}
 use Rattle.std.specs.Str.{bytes_eq}
 use Rattle.clap.specs.Matches.{matched_of, first_value, one_text, raw_values}
@@ -159,7 +159,7 @@ lost_text words = unwrap_or (first_value words (codes "unnamed")) []
 abbrev pub IsNumber : Found → List ℕ → ℕ → Type 0
 IsNumber words id number = (text : List ℕ) × (one_text words id ≡ Some text) × (digits_value 10 (without_leading_plus text) ≡ number)
 
--- nothing was given as this that is a number of so many bits, in decimal
+-- nothing was given as this that is a number of this many bits, in decimal
 abbrev pub IsNoNumber : Found → List ℕ → ℕ → Type 0
 IsNoNumber words id bits = (text : List ℕ) → one_text words id ≡ Some text → ¬ (IsNumeral 10 (without_leading_plus text) × (digits_value 10 (without_leading_plus text) < 2 ^ bits))
 
@@ -167,7 +167,7 @@ IsNoNumber words id bits = (text : List ℕ) → one_text words id ≡ Some text
 abbrev pub IsOneEnd : Found → Type 0
 IsOneEnd words = (size : ℕ) → IsNumber words (codes "size") size → (is_some (matched_of words (codes "last")) ≡ false) × (size ≢ 0) × (size % 2048 ≡ 0)
 
--- a last block and a size were given; or a size alone that is that of no disc of whole blocks, and that is what is told
+-- a last block and a size were given; or a size alone that is that of no disc of whole blocks, and the fault names it
 abbrev pub IsEndFault : Found → EndFault → Type 0
 IsEndFault words fault.Both = (is_some (first_value words (codes "size")) ≡ true) × (is_some (matched_of words (codes "last")) ≡ true)
 IsEndFault words (fault.Size text) = (first_value words (codes "size") ≡ Some text.now) × (is_some (matched_of words (codes "last")) ≡ false) ×
@@ -177,7 +177,7 @@ IsEndFault words (fault.Size text) = (first_value words (codes "size") ≡ Some 
 abbrev pub EndsMap : ℕ → List ℕ → Type 0
 EndsMap end bytes = (runs : List Run) × (outcome bytes ≡ Ok runs) × (end_of_runs runs ≡ Some end)
 
--- an image whose mapfile, where what its path leads to is told, ends here
+-- an image whose mapfile, where what its path leads to is known, ends here
 abbrev pub EndsAt : (List ℕ → Option (Option (List ℕ))) → ℕ → InputPath → Type 0
 EndsAt found end (path.File p) = ⊥
 EndsAt found end (path.Pair image map) = IfSome (found map.now) (λ held. IfSome held (EndsMap end))
@@ -208,6 +208,6 @@ pub record IsLastOfMaps (found : List ℕ → Option (Option (List ℕ))) (input
   pub ends : MapsEndAt found size inputs
   pub is_last : IsLastOfSize size last
 
--- the last block, as the words tell it, or else as the mapfiles do
+-- the last block, as the arguments give it, or else as the mapfiles do
 abbrev pub IsLast : (List ℕ → Option (Option (List ℕ))) → List InputPath → Found → ℕ → Type 0
 IsLast found inputs words last = ((is_some (matched_of words (codes "last")) || is_some (matched_of words (codes "size")) ≡ true) × IsToldLast words last) ⊎ IsLastOfMaps found inputs words last

@@ -61,11 +61,11 @@ with_inputs command pairs = with_rule (with_rule (with_rule (with_rule command (
 abbrev pub merge_app : Bool → App
 merge_app pairs = with_inputs (with_rule (with_rule (with_rule (new_app (codes "merge")) out_rule) (flag_rule (codes "v1"))) (flag_rule (codes "force"))) pairs
 
--- a command of this name that is told where the disc ends
+-- a command of this name with arguments for where the disc ends
 abbrev pub with_last : Text → Bool → App
 with_last name needed = with_rule (with_rule (new_app name) (last_rule needed)) size_rule
 
--- a command of this name that is told where the disc ends, and by which rules it is read
+-- a command of this name with arguments for where the disc ends, and by which rules it is read
 abbrev pub with_profile : Text → Bool → App
 with_profile name size = with_rule (with_last name size) profile_rule
 

@@ -18,7 +18,7 @@ abbrev pub is_given : Text → Text → List Text → Bool
 is_given option signed [] = false
 is_given option signed (word ∷ words) = names option signed word || is_given option signed words
 
--- images with their mapfiles; that neither they nor the disc's size tell the last block, which has to be given then; and that conflicts are to be forgotten
+-- whether images with their mapfiles are given; whether the last block is needed, since neither they nor the size are; whether conflicts are to be forgotten
 abbrev pub given_in : List Text → Given
 given_in words = record { pairs = is_given (codes "--ddrescue") (codes "--ddrescue=") words; needs_last = not (is_given (codes "--size") (codes "--size=") words) && not (is_given (codes "--ddrescue") (codes "--ddrescue=") words); conflicts = is_given (codes "--conflicts") (codes "--conflicts=") words }
 

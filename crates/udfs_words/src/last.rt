@@ -8,7 +8,7 @@ use crate::words::{LAST, SIZE};
 use clap::ArgMatches;
 use std::fmt;
 
-/// What is wrong with the words that say where the disc ends.
+/// What is wrong with the arguments that say where the disc ends.
 #[derive(Clone, Copy)]
 pub enum EndFault<'a> {
     /// Both the last block and the size are given.
@@ -32,14 +32,14 @@ impl<'a> fmt::Display for EndFault<'a> {
     }
 }
 
-/// Whether some disc of whole blocks has so many bytes.
+/// Whether a disc of whole blocks can have `size` bytes: a multiple of 2048 above 0.
 pub fn is_whole(size: u64) -> bool
     ensures { IsTrue result ↔ (size ≢ 0) × (size % 2048 ≡ 0) }
 {
     size != 0 && size % 2048 == 0
 }
 
-/// What is wrong with the words that say where the disc ends.
+/// What is wrong with the arguments that say where the disc ends.
 #[tactic(auto, using(crate::proofs::AskingLemmas::no_number))]
 pub fn end_fault<'a>(words: &ArgMatches<'a>) -> Option<EndFault<'a>>
     ensures { MatchOption result (IsOneEnd (found_of words.now)) (IsEndFault (found_of words.now)) }
@@ -56,7 +56,7 @@ pub fn end_fault<'a>(words: &ArgMatches<'a>) -> Option<EndFault<'a>>
     }
 }
 
-/// The block with which a disc of so many bytes ends; 0, of which there is no report, where there is none that a number of 32 bits names.
+/// The block with which a disc of `size` bytes ends; 0, of which there is no report, where there is none that a number of 32 bits names.
 pub fn last_of_size(size: u64) -> u32
     ensures { IsLastOfSize size result }
 {

@@ -85,14 +85,14 @@ pub const VERBOSE: &str = "verbose";
 /// The id of the flag for saying no more than has to be said among the matches.
 pub const QUIET: &str = "quiet";
 
-/// What is found among the words before they are parsed: it decides what else has to be given.
+/// What is found among the arguments before they are parsed: it decides what else has to be given.
 #[derive(Clone, Copy)]
 pub struct Given {
-    /// Images with their mapfiles: then there need be no other input.
+    /// Images with their mapfiles are given: then no other input is needed.
     pub pairs: bool,
-    /// Neither the size of the disc nor images, whose mapfiles may tell it: then there has to be the last block.
+    /// Neither the size of the disc nor images, whose mapfiles may give it, are given: then the last block is needed.
     pub needs_last: bool,
-    /// That conflicts are to be forgotten: then there need be no list of blocks.
+    /// Conflicts are to be forgotten: then no list of blocks is needed.
     pub conflicts: bool,
 }
 

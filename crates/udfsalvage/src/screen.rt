@@ -17,14 +17,14 @@ const STANDS: u64 = 100;
 /// What removes the line: the cursor goes to its beginning, and the terminal clears it.
 const CLEARS: &[u8] = b"\r\x1b[K";
 
-/// A terminal, or no terminal where nobody watches.
+/// A terminal, or no terminal where no person watches.
 #[derive(Drop)]
 pub struct Screen<'a, C: Clock, W: Write + Copy> {
     alloc: Global,
     clock: &'a C,
     err: W,
     is_watched: bool,
-    /// Whether remarks are told.
+    /// Whether remarks are written.
     remarks: Cell<bool>,
     reason: Cell<Option<Error>>,
     /// When the line is written next, where it ever is.
@@ -63,7 +63,7 @@ impl<'a, C: Clock, W: Write + Copy> Screen<'a, C, W> {
         screen
     }
 
-    /// The line is written next after so many milliseconds, or never where there is no clock.
+    /// The line is written next after `milliseconds` milliseconds, or never where the clock cannot be read.
     fn wait(&self, milliseconds: u64) {
         let next = match Instant::now(self.clock) {
             Ok(now) => now.checked_add(Duration::from_millis(milliseconds)),

@@ -1,4 +1,4 @@
-//! What `merge` tells a person when it is done.
+//! What `merge` reports to a person when it is done.
 
 use crate::tests::check;
 use std::test::Fail;

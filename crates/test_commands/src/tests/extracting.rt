@@ -222,8 +222,8 @@ fn files_and_folders_are_written(rt: HostRuntime) -> Result<(), Fail> {
     check(&rt, rt.alloc(), SCRIPT)
 }
 
-/// With ample memory the files are written. Where one allocation is refused, each file that is told as written has its
-/// bytes, and a refusal is told as what it is. The folder and the files in memory want memory too, and that is told as their failure.
+/// With ample memory the files are written. Where one allocation is refused, each file that is reported as written has its bytes, and
+/// an error says that memory ran out or that the folder was not made. Where the files in memory lacked memory, nothing is checked.
 #[test]
 fn want_of_memory_is_told(rt: HostRuntime) {
     assert_case(&rt, !matches!(files_want_memory(rt.alloc()), Ok(false)), "");

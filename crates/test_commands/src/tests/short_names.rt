@@ -189,7 +189,7 @@ fn names_that_are_too_long(rt: HostRuntime) -> Result<(), Fail> {
     check(&rt, rt.alloc(), SCRIPT)
 }
 
-/// With ample memory the file is written. Where one allocation is refused, a file that is told as written has its bytes.
+/// With ample memory the file is written. Where one allocation is refused, a file that is reported as written has its bytes.
 #[test]
 fn want_of_memory_is_told(rt: HostRuntime) {
     let is_told = short_names_want_memory(rt.alloc());

@@ -1,4 +1,4 @@
-//! A printer hands on all that it takes, and tells a fault of the sink however late it is asked.
+//! A printer hands on all that it takes, and `finish` reports a fault of the sink, however late.
 
 use crate::tests::assert_same;
 use std::alloc::{AllocError, Global};
@@ -8,7 +8,7 @@ use std::test::Fail;
 use udfs_printing::Printer;
 use udfs_reading::{WriteFault, Writer};
 
-/// Takes bytes until it has taken `good`, refuses the next, and takes all behind that.
+/// Takes bytes until it has taken `good`, takes none in the next call, and takes all after that.
 #[derive(Drop)]
 struct Stumbling {
     taken: Vec<u8>,
@@ -32,7 +32,7 @@ impl Write for Stumbling {
     }
 }
 
-/// So many times a line of eleven bytes is put, and how it ended.
+/// Puts a line of eleven bytes `count` times. Returns what the sink took, and how that ended.
 fn print_lines(
     alloc: Global,
     good: usize,

@@ -1,5 +1,5 @@
-//! What is told of the files and directories of small volumes. What is expected comes from the formats'
-//! description, byte by byte.
+//! What is reported of the files and directories of small volumes. What is expected comes from the
+//! formats' description, byte by byte.
 
 mod bodies;
 mod directories;

@@ -1,4 +1,4 @@
-//! What is told of the nodes of small volumes. What is expected comes from the formats' description, byte by byte.
+//! What is reported of the nodes of small volumes, as expected from the formats' description, byte by byte.
 
 mod deep;
 mod memory;

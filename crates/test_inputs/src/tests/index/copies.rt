@@ -159,7 +159,7 @@ fn nothing_is_written_of_no_input(rt: HostRuntime) -> Result<(), Fail> {
     Ok(())
 }
 
-/// Bytes in memory of which so many reads succeed, and which end where it is said.
+/// Bytes in memory of which `reads` more reads succeed, and whose reads end at the byte `end`.
 #[derive(Drop)]
 pub(super) struct Shaky<'a> {
     pub(super) bytes: &'a [u8],
@@ -168,7 +168,7 @@ pub(super) struct Shaky<'a> {
 }
 
 impl<'a> Shaky<'a> {
-    /// All of the bytes, however often they are read.
+    /// All of the bytes, for 1,000,000 reads.
     pub(super) fn new(bytes: &'a [u8]) -> Shaky<'a> {
         Shaky {
             bytes,
@@ -264,7 +264,7 @@ fn an_input_that_ends_early_is_named(rt: HostRuntime) -> Result<(), Fail> {
     Ok(())
 }
 
-/// A sink that takes so many bytes.
+/// A sink that takes `room` bytes more and then fails. It counts its faults.
 #[derive(Drop)]
 struct Full {
     room: usize,
@@ -285,7 +285,7 @@ impl Sink for Full {
     }
 }
 
-/// A sink with so much room is at fault once in either version.
+/// In either version writing to a sink with `room` bytes of room ends with its fault, and it is at fault once.
 fn assert_full<S: Stored>(rt: &impl Abort, index: &Index<'_, S>, room: usize) {
     let mut out = Full { room, faults: 0 };
     assert_same(

@@ -77,7 +77,7 @@ fn the_bytes_that_brought_a_conflict_are_known(rt: HostRuntime) -> Result<(), Fa
     Ok(())
 }
 
-/// Bytes in memory that tell when they were changed.
+/// Bytes in memory that say when they were changed.
 #[derive(Drop)]
 struct Dated<'a> {
     bytes: &'a [u8],

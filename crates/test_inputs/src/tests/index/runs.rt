@@ -7,7 +7,7 @@ use std::alloc::Global;
 use std::test::Fail;
 use udfs_reading::{Reader, Writer, join_inputs, write_table, write_table_v1};
 
-/// A reading of so many blocks in order, from block 0 on, all bytes of each of them the block's number by 251.
+/// A reading of `count` blocks in order, from block 0 on, all bytes of each of them the block's number modulo 251.
 fn in_order(alloc: Global, count: u32) -> Result<Vec<u8>, Fail> {
     let mut records = Vec::new(alloc);
     for n in 0..count {
@@ -16,7 +16,7 @@ fn in_order(alloc: Global, count: u32) -> Result<Vec<u8>, Fail> {
     Ok(reading(alloc, records.as_slice())?)
 }
 
-/// Writes the table of one input from its index, and answers how often it was read for that.
+/// Writes the table of one input from its index. Returns the file, and how often the input was read for it.
 fn copied(alloc: Global, file: &[u8]) -> Result<(Vec<u8>, u64), Fail> {
     let stored = Shaky::new(file);
     let empty = Shaky::new(b"UDFREAD1\x00\x08\x00\x00\x00\x00\x00\x00".as_slice());

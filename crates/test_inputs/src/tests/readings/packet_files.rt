@@ -83,7 +83,7 @@ fn a_dispute_is_a_packet_of_twelve_bytes(rt: HostRuntime) -> Result<(), Fail> {
     Ok(())
 }
 
-/// The file of the known pair is read from a device that gives at most so many bytes a call.
+/// The file of the known pair is read from a device that gives at most `most` bytes a call.
 fn assert_pair_in_pieces(
     rt: &impl Abort,
     alloc: Global,
@@ -234,7 +234,7 @@ fn a_file_of_packets_is_no_reading(rt: HostRuntime) {
     assert_answer(&rt, 28, found, Some((ReadingFault::Magic, 0)));
 }
 
-/// The files together are a table with so many known blocks and conflicts.
+/// The files together are a table whose numbers of known blocks and of conflicts are `counts`.
 fn assert_counts(
     rt: &impl Abort,
     alloc: Global,
@@ -256,7 +256,7 @@ fn three_kinds_of_input_are_joined(rt: HostRuntime) -> Result<(), Fail> {
     assert_counts(&rt, alloc, &[&known, &other, DISPUTED_V2], (0, 2))
 }
 
-/// The order of the three kinds, and which of them tells of a block, decides nothing.
+/// The order of the three kinds, and which of them has a block, decides nothing.
 #[test]
 fn three_kinds_of_input_are_joined_in_any_order(rt: HostRuntime) -> Result<(), Fail> {
     let alloc = rt.alloc();
@@ -312,7 +312,7 @@ fn both_versions_read_back(rt: HostRuntime) -> Result<(), Fail> {
     assert_read_back(&rt, alloc, &second, &records, &second)
 }
 
-/// A sink that fails after so many bytes has taken exactly these of the whole file.
+/// A sink that fails after `good` bytes has taken exactly the first `good` bytes of the whole file.
 fn assert_taken(rt: &impl Abort, alloc: Global, table: &BlockTable, whole: &[u8], good: usize) {
     let mut out = Writer::new(Narrow {
         taken: Vec::new(alloc),

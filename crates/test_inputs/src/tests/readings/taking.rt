@@ -1,4 +1,4 @@
-//! What a taker is told of inputs, in which order.
+//! The calls that a taker gets for inputs, in their order.
 
 ghost use Rattle.std.specs.Prelude.{◌≡◌, None};
 
@@ -9,16 +9,16 @@ use std::test::Fail;
 use udfs_lattice::{BlockTable, Fact};
 use udfs_reading::{NotTaken, Reader, ReadingFault, Source, Taker, take_inputs};
 
-/// What a taker was told.
+/// A call that a taker got.
 #[derive(Clone, Copy, Debug, PartialEq, Eq)]
 enum Told {
     Begins,
-    /// The block, its last byte, and how many bytes of the input stand before it.
+    /// The block, its last byte, and how many bytes of the input come before its bytes.
     Bytes(u32, u8, u64),
     Conflict(u32),
 }
 
-/// A table that keeps what it was told.
+/// A table that keeps the calls that it got.
 #[derive(Drop)]
 struct Log {
     table: BlockTable,

@@ -120,24 +120,24 @@ fn assert_joined(
 /// A fault at a record, if there is one.
 pub type Answer = Option<(ReadingFault, u32)>;
 
-/// So many bytes got this answer, and are to get that one.
+/// `len` bytes got the result `found`, and are to get `answer`.
 pub fn assert_answer(rt: &impl Abort, len: usize, found: Answer, answer: Answer) {
     assert_eq!(rt; found, answer, "{len} bytes");
 }
 
-/// As a reading the bytes get this answer.
+/// As a reading the bytes get this result.
 fn assert_reading(rt: &impl Abort, alloc: Global, bytes: &[u8], answer: Answer) {
     let found = fault_of(read_reading(alloc, &mut Reader::new(bytes)));
     assert_answer(rt, bytes.len(), found, answer);
 }
 
-/// As a table file the bytes get this answer.
+/// As a table file the bytes get this result.
 pub fn assert_table_file(rt: &impl Abort, alloc: Global, bytes: &[u8], answer: Answer) {
     let found = fault_of(read_table(alloc, &mut Reader::new(bytes)));
     assert_answer(rt, bytes.len(), found, answer);
 }
 
-/// As an input of any kind the bytes get this answer.
+/// As an input of any kind the bytes get this result.
 pub fn assert_input(rt: &impl Abort, alloc: Global, bytes: &[u8], answer: Answer) {
     let found = fault_of(read_input(alloc, &mut Reader::new(bytes)));
     assert_answer(rt, bytes.len(), found, answer);
@@ -148,7 +148,7 @@ fn pair(alloc: Global) -> Result<Vec<u8>, AllocError> {
     reading(alloc, &[(300, 0x61), (301, 0x62)])
 }
 
-/// The pair is read from a device that gives at most so many bytes a call.
+/// The pair is read from a device that gives at most `most` bytes a call.
 fn assert_pair_in_pieces(
     rt: &impl Abort,
     alloc: Global,
@@ -453,7 +453,7 @@ fn files_longer_than_a_window_read_back(rt: HostRuntime) -> Result<(), Fail> {
     assert_read_back(&rt, alloc, &file, &records)
 }
 
-/// A sink that fails after so many bytes has taken exactly these of the disputed block's file.
+/// A sink that fails after `good` bytes has taken exactly the first `good` bytes of the disputed block's file.
 fn assert_taken(rt: &impl Abort, alloc: Global, table: &BlockTable, good: usize) {
     let mut out = Writer::new(Narrow {
         taken: Vec::new(alloc),
@@ -488,7 +488,7 @@ fn assert_two_known(rt: &impl Abort, table: &BlockTable) {
     assert!(rt; write_table(table, &mut out).is_ok());
 }
 
-/// With any one allocation refused (`rt try --test --fail-alloc N`) the answer is the table, or want of memory.
+/// With any one allocation refused (`rt try --test --fail-alloc N`) the result is the table, or out of memory.
 #[test]
 fn want_of_memory_is_named(rt: HostRuntime) -> Result<(), Fail> {
     let alloc = rt.alloc();
@@ -506,7 +506,7 @@ fn want_of_memory_is_named(rt: HostRuntime) -> Result<(), Fail> {
     Ok(())
 }
 
-/// A fault of the header is told whatever memory there is.
+/// A fault of the header is reported whatever memory there is.
 #[test]
 fn a_header_fault_needs_no_memory(rt: HostRuntime) {
     for bytes in [

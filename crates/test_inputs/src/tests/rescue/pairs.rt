@@ -43,7 +43,7 @@ impl<'a> Image for Narrow<'a> {
     }
 }
 
-/// An image of so many blocks, of which each byte is the number of its block, modulo 251.
+/// An image of `blocks` blocks, of which each byte is the number of its block, modulo 251.
 fn image_of(alloc: Global, blocks: u32) -> Result<Vec<u8>, Fail> {
     let mut all = Vec::new(alloc);
     for n in 0..blocks {

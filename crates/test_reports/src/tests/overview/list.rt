@@ -130,7 +130,7 @@ fn a_name_that_would_turn_the_text(rt: HostRuntime) -> Result<(), Fail> {
     )
 }
 
-/// Takes so many bytes, one in each call, and then fails.
+/// Takes `good` bytes, one in each call, and then fails.
 #[derive(Drop)]
 pub(super) struct Narrow {
     pub(super) bytes: Vec<u8>,

@@ -80,7 +80,7 @@ const THREE: [Bytes; 8] = [
     (301, 0, &[7]),
 ];
 
-/// Where one of the two blocks that differ is not known, or in conflict, nothing is told of it.
+/// A block that is not known, or is in conflict, is reported as different from no other copy of it.
 #[test]
 fn known_in_both(rt: HostRuntime) -> Result<(), Fail> {
     let alloc = rt.alloc();

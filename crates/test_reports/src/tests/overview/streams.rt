@@ -24,7 +24,7 @@ fn with_streams(alloc: Global, address: &[u8]) -> Result<Disc, Fail> {
 /// The address of a stream directory of one block, the logical block 9 of the first partition.
 const ADDRESS: [u8; 16] = [0, 8, 0, 0, 9, 0, 0, 0, 0, 0, 0, 0, 0, 0, 0, 0];
 
-/// How many files with named streams are told, where these blocks are not known.
+/// How many files with named streams are reported, where these blocks are not known.
 fn told(alloc: Global, disc: &Disc, unread: &[u32]) -> Result<usize, Fail> {
     let table = disc.known_but(alloc, unread)?;
     let survey = survey_volume(alloc, &table, LAST)?;

@@ -27,7 +27,7 @@ const FOR_A: Places = 0b1110_1000_0000;
 /// What `B` needs besides.
 const FOR_B: Places = 0b0001_0000_0000;
 
-/// What is told of one of the tables.
+/// What is reported of one of the tables.
 #[derive(Drop)]
 struct Told {
     /// Which nodes are whole.
@@ -103,7 +103,7 @@ fn told_of(alloc: Global, disc: &Disc, places: Places) -> Result<Told, Fail> {
     })
 }
 
-/// What is told of each of the 4,096 tables, in the order of their sets.
+/// What is reported of each of the 4,096 tables, in the order of their sets.
 fn all_told(alloc: Global) -> Result<Vec<Told>, Fail> {
     let disc = Disc::type1(alloc)?;
     let mut all = Vec::new(alloc);

@@ -11,7 +11,7 @@ use udfs_reading::Writer;
 use udfs_salvage::{ExtractError, Fill, extract, salvage};
 use udfs_samples::{Bytes, Disc, LAST};
 
-/// Takes so many bytes, and then fails.
+/// Takes `good` bytes, and then fails.
 #[derive(Drop)]
 pub struct Full {
     pub bytes: Vec<u8>,
@@ -34,14 +34,14 @@ impl Write for Full {
     }
 }
 
-/// What extraction of a node answers, and the bytes that are out.
+/// What the extraction of a node returns, and the bytes that it wrote.
 #[derive(Drop)]
 pub struct Outcome {
     pub outcome: Result<(), ExtractError>,
     pub bytes: Vec<u8>,
 }
 
-/// Extracts the node at this index into a sink that takes so many bytes.
+/// Extracts the node at this index into a sink that takes `good` bytes.
 fn extracted(
     alloc: Global,
     table: &BlockTable,
@@ -171,7 +171,7 @@ fn nodes_that_are_never_written(rt: HostRuntime) -> Result<(), Fail> {
     Ok(())
 }
 
-/// Two nodes that are told alike, one with the bytes of the blocks 277 to 279 and one of zeros.
+/// Two nodes that are reported alike, one with the bytes of blocks 277 to 279 and one of zeros.
 #[test]
 fn two_files_of_one_path(rt: HostRuntime) -> Result<(), Fail> {
     let alloc = rt.alloc();

@@ -13,7 +13,7 @@ use udfs_salvage::{
 };
 use udfs_samples::{Disc, LAST};
 
-/// Takes so many bytes, one in each call, and then fails, or takes none.
+/// Takes `good` bytes, one in each call, and then fails, or takes none where `takes_none`.
 #[derive(Drop)]
 struct Narrow {
     bytes: Vec<u8>,
@@ -151,7 +151,7 @@ const EMPTY: &[u8] = b"UDFREAD1\x00\x08\x00\x00\x00\x00\x00\x00";
 const NOTHING: &[u8] =
     b"UDFREPORT1 last 600\nknown 0 conflict 0\nvolume holes 256 344 600\nreread 256 unknown\nreread 344 unknown\nreread 600 unknown\nend\n";
 
-/// With any one allocation refused the answer is the report, or want of memory and a beginning of it.
+/// With any one allocation refused the result is the report, or out of memory and a beginning of the report.
 #[test]
 fn want_of_memory_is_told(rt: HostRuntime) -> Result<(), Fail> {
     let alloc = rt.alloc();

@@ -9,7 +9,7 @@ use udfs_reading::Writer;
 use udfs_salvage::{ExtractError, extract_unnamed_by, has_two_partitions, is_lost_file, salvage};
 use udfs_samples::{Bytes, Disc, LAST};
 
-/// Extracts the entry at this index into a sink that takes so many bytes.
+/// Extracts the entry at this index into a sink that takes `good` bytes.
 fn extracted(
     alloc: Global,
     table: &BlockTable,

@@ -97,7 +97,7 @@ fn longest_identifier(rt: HostRuntime) -> Result<(), Fail> {
     assert_front(&rt, alloc, &disc, &[], "front fault 12 Cut")
 }
 
-/// So many parts behind a word, and then this.
+/// A word, then `part` 51 times, and then `last`.
 fn repeated(alloc: Global, word: &str, part: &str, last: &str) -> Result<String, AllocError> {
     let mut text = String::from_str(alloc, word)?;
     for _ in 0..51 {
@@ -159,7 +159,7 @@ fn identifiers_in_two_blocks(rt: HostRuntime) -> Result<(), Fail> {
     assert_long_front(&rt, alloc, &elsewhere, &[], " fault 10 IdentifierTag")
 }
 
-/// Where at most so many entries are asked for, the root's front is this.
+/// With at most `most` entries the root's front, or the reason that there is none, is this.
 fn assert_within(
     rt: &impl Abort,
     alloc: Global,
@@ -171,7 +171,7 @@ fn assert_within(
     Ok(())
 }
 
-/// A front of at most so many entries: of 52 these all, then one fewer; and of none where the directory lists nothing.
+/// The root has 52 entries: a limit of 52 gives them all, and limits of 51 and of 0 are too low.
 #[test]
 fn fronts_within(rt: HostRuntime) -> Result<(), Fail> {
     let alloc = rt.alloc();
@@ -182,7 +182,7 @@ fn fronts_within(rt: HostRuntime) -> Result<(), Fail> {
     assert_within(&rt, alloc, &table, 0, "too many entries")
 }
 
-/// The same where the second block is not known, and where the first is not.
+/// The same where the second block is not known, which leaves 51 entries, and where the first is not, which leaves none.
 #[test]
 fn torn_fronts_within(rt: HostRuntime) -> Result<(), Fail> {
     let alloc = rt.alloc();
@@ -298,7 +298,7 @@ fn embedded_directory(rt: HostRuntime) -> Result<(), Fail> {
     Ok(())
 }
 
-/// Where these blocks of a disc are not known, so many steps through the root are 51 identifiers, and then this.
+/// Where these blocks of a disc are not known, `count` steps through the root are 51 identifiers, and then `last`.
 fn assert_steps(
     rt: &impl Abort,
     alloc: Global,
@@ -313,7 +313,7 @@ fn assert_steps(
     Ok(())
 }
 
-/// The steps of a cursor over 52 identifiers of 40 bytes: the last lies in two pieces, and what ends them is told again.
+/// The steps of a cursor over 52 identifiers of 40 bytes: the last has two pieces, and what ends them is returned again.
 #[test]
 fn steps_in_two_blocks(rt: HostRuntime) -> Result<(), Fail> {
     let alloc = rt.alloc();

@@ -1,4 +1,4 @@
-//! What is told of the files of sample volumes, as texts.
+//! What is reported of the files of sample volumes, as texts.
 
 use std::alloc::{AllocError, Global};
 use std::test::Fail;
@@ -103,7 +103,7 @@ pub fn entry(alloc: Global, table: &BlockTable, reference: u16, b: u32) -> Resul
     Ok(text)
 }
 
-/// The body of an entry, or what stands in its place.
+/// The body of an entry, or a text that says why there is none.
 fn body_of(
     alloc: Global,
     table: &BlockTable,
@@ -214,7 +214,7 @@ fn push_cells(
     Ok(())
 }
 
-/// Whether two cells are told alike.
+/// Whether two cells are printed alike: known ones by their byte, missing ones by their block.
 fn are_alike(a: Option<Cell>, b: Cell) -> bool {
     match (a, b) {
         (Some(Cell::Byte(x, _)), Cell::Byte(y, _)) => x == y,
@@ -223,7 +223,7 @@ fn are_alike(a: Option<Cell>, b: Cell) -> bool {
     }
 }
 
-/// The cell so many bytes behind the start of a run's block.
+/// The cell `at` bytes after the start of a run's block.
 fn recorded_cell(table: &BlockTable, space: &Space, run: Run, at: u64) -> Cell {
     let b = u64::from(run.address.block).wrapping_add(at / 2048);
     match space.block_at(table, run.address.reference, b) {
@@ -303,7 +303,7 @@ pub fn front(alloc: Global, table: &BlockTable, reference: u16, b: u32) -> Resul
     front_text(alloc, &Dir::front(alloc, table, &space, &body)?)
 }
 
-/// The same, where the directory lists at most so many entries, or why it is not told.
+/// The same of a directory in partition 0 with at most `most` entries, or the error of `Dir::front_within`.
 pub fn within(alloc: Global, table: &BlockTable, b: u32, most: usize) -> Result<String, Fail> {
     let Some((space, _)) = laid_out(alloc, table) else {
         return Ok(format!(in alloc; "no layout")?);
@@ -374,7 +374,7 @@ fn push_end(
     Ok(())
 }
 
-/// So many steps of a cursor through a directory: of a descriptor the sizes of its pieces, else what ends them.
+/// `count` steps of a cursor through a directory: of a descriptor the sizes of its pieces, else what ends them.
 pub fn steps(alloc: Global, table: &BlockTable, b: u32, count: usize) -> Result<String, Fail> {
     let Some((space, _)) = laid_out(alloc, table) else {
         return Ok(format!(in alloc; "no layout")?);

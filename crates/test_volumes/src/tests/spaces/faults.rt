@@ -121,7 +121,7 @@ fn two_entries(rt: HostRuntime) -> Result<(), Fail> {
     Ok(())
 }
 
-/// Of several faults the one with the least number is told.
+/// Of several faults the one with the least number is reported.
 #[test]
 fn least_fault(rt: HostRuntime) -> Result<(), Fail> {
     let alloc = rt.alloc();

@@ -113,7 +113,7 @@ fn old_place_is_not_read(rt: HostRuntime) -> Result<(), Fail> {
     Ok(())
 }
 
-/// So many blocks from a logical block on go past the partition's end, or do not.
+/// `count` blocks from a logical block on go past the partition's end, or do not.
 fn assert_past(rt: &impl Abort, space: &Space, run: (u16, u32, u32), want: bool) {
     let (reference, block, count) = run;
     let past = space.is_past(LbAddr { block, reference }, count);
@@ -173,13 +173,13 @@ fn blocks_at_wide_numbers(rt: HostRuntime) -> Result<(), Fail> {
     Ok(())
 }
 
-/// So many blocks from a logical block on stand one behind the other.
+/// From a logical block on, `want` blocks are at consecutive places, as far as `beside` counts.
 fn assert_beside(rt: &impl Abort, space: &Space, reference: u16, block: u32, want: u32) {
     let beside = space.beside(LbAddr { block, reference });
     assert_eq!(rt; beside, want, "{reference} {block}");
 }
 
-/// The logical block so many behind an address of the one partition.
+/// The place of the logical block `count` after an address of the one partition is `want`.
 fn assert_behind(rt: &impl Abort, view: View, block: u32, count: u32, want: Option<u32>) {
     let address = LbAddr {
         block,
@@ -192,7 +192,7 @@ fn assert_behind(rt: &impl Abort, view: View, block: u32, count: u32, want: Opti
     assert_eq!(rt; place, want, "{block} {count}");
 }
 
-/// Blocks behind an address. The packet at 0 stands at 400; the partition has 300 blocks.
+/// Blocks after an address. The packet at 0 is at 400; the partition has 300 blocks.
 #[test]
 fn blocks_behind_an_address(rt: HostRuntime) -> Result<(), Fail> {
     let alloc = rt.alloc();
@@ -232,7 +232,7 @@ fn blocks_behind_an_address(rt: HostRuntime) -> Result<(), Fail> {
     Ok(())
 }
 
-/// The logical block so many behind an address stands here, and so many from it on are unknown.
+/// `want` is the place of the block `count` after an address, and how many from it are unknown.
 fn assert_ahead(
     rt: &impl Abort,
     view: View,

@@ -58,7 +58,7 @@ fn crossing(rt: &HostRuntime, is_behind: bool) -> Result<Disc, Fail> {
     Ok(disc)
 }
 
-/// What is told of the node at this place: how many names lead to it, and in a word how whole it is.
+/// How many names lead to the node at this place, and a word for its standing: 0 and `none` where there is no such node.
 fn told_at(nodes: &[Node], at: usize) -> (usize, &'static str) {
     let Some(node) = nodes.get(at) else {
         return (0, "none");
@@ -73,8 +73,8 @@ fn told_at(nodes: &[Node], at: usize) -> (usize, &'static str) {
     (node.path.len(), word)
 }
 
-/// 64 names lead to a directory with a name on one route, and one name on another, which is gone before that route or behind
-/// it: it is told as too deep on the one, and entered on the other. Where its body is not known it is torn on both.
+/// 64 names lead to a directory with a name on one route, and one name on another, which is walked before that route or
+/// after it: it is reported as too deep on the one, and entered on the other. Without its body it is torn on both.
 #[test]
 fn deep_on_one_route_alone(rt: HostRuntime) -> Result<(), Fail> {
     let alloc = rt.alloc();

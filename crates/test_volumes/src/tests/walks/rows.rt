@@ -24,7 +24,7 @@ fn whole_volumes(rt: HostRuntime) -> Result<(), Fail> {
     Ok(())
 }
 
-/// The blocks that are not known, and what is told then.
+/// The blocks that are not known, and what is reported then.
 static UNREAD: [(&[u32], &str); 4] = [
     (
         &[275, 277, 278, 279],
@@ -70,7 +70,7 @@ fn a_disputed_block_is_missing(rt: HostRuntime) -> Result<(), Fail> {
     Ok(())
 }
 
-/// A change of the volume with one map, and what is told then.
+/// A change of the volume with one map, and what is reported then.
 static CHANGES: [(Bytes, &str); 4] = [
     // The name A leads to the root.
     (

@@ -1,4 +1,4 @@
-//! What is told of a sample volume, as text: a line for each node, each unnamed entry and each block to read again.
+//! What is reported of a sample volume, as text: a line for each node, unnamed entry and block to read again.
 
 use std::alloc::{AllocError, Global};
 use std::test::Fail;
@@ -131,7 +131,7 @@ fn push_others(
     Ok(())
 }
 
-/// All that is told of a table's volume.
+/// All that is reported of a table's volume, or why it has no nodes.
 pub fn told(alloc: Global, table: &BlockTable) -> Result<String, Fail> {
     let Some((space, root)) = rooted(alloc, table) else {
         return Ok(format!(in alloc; "no root")?);
