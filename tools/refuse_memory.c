@@ -1,5 +1,5 @@
-/* Loaded into a program (LD_PRELOAD), refuses one of its allocations: the one whose number, counted from 1, stands in the
-   variable REFUSE. When it is refused, a byte is written to the file descriptor whose number stands in REFUSE_FD. */
+/* Loaded into a program (LD_PRELOAD), makes one of its allocations fail: the one whose number, counted from 1, is in the
+   variable REFUSE. When it fails, a byte is written to the file descriptor whose number is in REFUSE_FD. */
 #include <errno.h>
 #include <stdlib.h>
 #include <unistd.h>

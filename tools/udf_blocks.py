@@ -12,7 +12,7 @@ def tag(identifier, location):
 
 
 def with_crc(descriptor, length):
-    """A descriptor whose tag has the CRC of so many bytes behind it."""
+    """A descriptor whose tag has the CRC of the `length` bytes after the tag."""
     crc = binascii.crc_hqx(descriptor[16 : 16 + length], 0)
     bare = descriptor[:4] + b"\0" + descriptor[5:8] + struct.pack("<HH", crc, length) + descriptor[12:16]
     return bare[:4] + bytes([sum(bare) % 256]) + bare[5:] + descriptor[16:]
@@ -50,12 +50,12 @@ def logical_volume(place):
 
 
 def partition(place, length):
-    """The partition of so many blocks that begins at block 272."""
+    """The partition of `length` blocks that begins at block 272."""
     return block((0, tag(5, place)), (16, b"\2"), (25, b"+NSR02"), (188, struct.pack("<II", 272, length)))
 
 
 def file_set(root):
-    """The file set of logical block 0, whose root stands at this logical block."""
+    """The file set of logical block 0, whose root is at this logical block."""
     return block((0, tag(256, 0)), (400, extent(2048, root)))
 
 
