@@ -25,8 +25,8 @@ const TABLE: u32 = 1_000;
 
 const ROUNDS: usize = 5;
 
-/// Writes the 8,000 entries, 32 blocks of them with the head of 56 bytes: packet `i` stands at 1,000,000
-/// and behind it, in another order than the packets.
+/// Writes the 8,000 entries, which take 32 blocks with the head of 56 bytes: the packets are spared to places from 1,000,000
+/// on, in another order than the packets.
 fn write_entries(disc: &mut Disc) -> Result<(), AllocError> {
     for i in 0..PACKETS {
         let original = i.wrapping_mul(32);

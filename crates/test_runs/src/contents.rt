@@ -5,8 +5,8 @@ use crate::texts::{Name, block_of, byte_of, bytes_of, first_word, number_of};
 use std::alloc::{AllocError, Global};
 use udfs_samples::{Disc, LAST};
 
-/// The bytes of a file that is said in a line: `text T`, `reading R`, `longer R`, which has a byte of zeros behind, `front N R`, which has
-/// the first bytes alone, `table R`, `blocks R`, the bytes of its blocks alone, or `sample`, the reading of all blocks of the volume with one map.
+/// The bytes of a file that is given in a line: `text T`, `reading R`, `longer R`, which has a byte of zeros appended, `front N R`, which has
+/// the first N bytes alone, `table R`, `blocks R`, the bytes of its blocks alone, or `sample`, the reading of all blocks of the volume with one map.
 pub fn content_of(alloc: Global, names: &[Name], line: &str) -> Result<Vec<u8>, AllocError> {
     let (kind, rest) = first_word(line);
     match kind {
@@ -30,7 +30,7 @@ fn blocks(alloc: Global, records: &[Record]) -> Result<Vec<u8>, AllocError> {
     Ok(bytes)
 }
 
-/// A reading file, and a byte of zeros behind it.
+/// A reading file with a byte of zeros appended.
 fn longer(alloc: Global, records: &[Record]) -> Result<Vec<u8>, AllocError> {
     let mut bytes = reading(alloc, records)?;
     bytes.push(0)?;
@@ -49,7 +49,7 @@ fn front_of(alloc: Global, names: &[Name], line: &str) -> Result<Vec<u8>, AllocE
     }
 }
 
-/// The records of a list: `300:61` is block 300 of bytes 61 hex, `0..100:61` are the blocks from 0 up to 100, which is none of them,
+/// The records of a list: `300:61` is block 300 of bytes 61 hex, `0..100:61` are the blocks from 0 up to 100, which is excluded,
 /// `0..100:own` the same, each of the byte that is its number modulo 200, and `600:apart` 600 blocks from 0 on, each seven after the last,
 /// each of the byte that is its place in that row, counted from 0, modulo 251.
 fn records_of(alloc: Global, list: &str) -> Result<Vec<Record>, AllocError> {

@@ -1,4 +1,4 @@
-//! The lines of a script that say what there is before words are run.
+//! The lines of a script that set up what there is before a run.
 
 use crate::contents::content_of;
 use crate::runs::store_passes;
@@ -97,7 +97,7 @@ fn give_calls(trial: &mut Trial, rest: &str) -> Result<(), AllocError> {
     Ok(())
 }
 
-/// The words of `give_limit`.
+/// The keywords of `give_limit`.
 const LIMITS: [&str; 7] = [
     "inputs-fail",
     "inputs-move",

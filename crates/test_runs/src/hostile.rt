@@ -4,7 +4,7 @@ use std::alloc::{AllocError, Global};
 use udfs_samples::{Disc, NamedEntry};
 
 /// A root of 1,024 extents that are not recorded, of 2^30 - 2048 bytes each, and one of 2^21 bytes: 2^40 bytes in all.
-/// 233 of them stand in its entry, and 252 or fewer in each of four continuations, in the blocks 301 to 304.
+/// 233 of them are in its entry, and 252 or fewer in each of four continuations, in the blocks 301 to 304.
 pub fn zeros(alloc: Global) -> Result<Disc, AllocError> {
     let mut disc = Disc::type1(alloc)?;
     disc.write_at(273, 56, &[0, 0, 0, 0, 0, 1, 0, 0])?;

@@ -28,7 +28,7 @@ const OVER: &[u8] =
 const CONTROLS: &[u8] =
     b"\x08\x01\x01\x01\x01\x01\x01\x01\x01\x01\x01\x01\x01\x01\x01\x01\x01\x01\x01\x01\x01\x01\x01\x01\x01\x01\x01\x01\x01\x01\x01\x01\x01\x01\x01\x01\x01\x01\x01\x01\x01\x01\x01\x01";
 
-/// Each name by the word for it.
+/// Each name, after the key by which lists select it.
 static NAMES: [(&str, &[u8]); 19] = [
     ("A", b"\x08A"),
     ("B", b"\x08B"),
@@ -63,7 +63,7 @@ pub fn names_of(alloc: Global, list: &str) -> Result<Vec<NamedEntry>, AllocError
     Ok(names)
 }
 
-/// The name for which a word stands.
+/// The name with this key. Fails if the key is unknown.
 fn name_of(word: &str) -> Result<&'static [u8], AllocError> {
     for (known, name) in &NAMES {
         if *known == word {

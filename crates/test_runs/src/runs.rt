@@ -66,13 +66,13 @@ impl Outcome {
         self.status == 0 && self.out.is_empty() && self.err.is_empty()
     }
 
-    /// Whether the run was refused by exactly this line.
+    /// Whether the run failed with status 2, printed exactly this line on standard error, and nothing on standard output.
     pub fn is_refused(&self, line: &str) -> bool {
         self.status == 2 && self.out.is_empty() && self.err.as_str() == line
     }
 }
 
-/// Runs the words, which single spaces part, after the program's name.
+/// Runs the program with these arguments, separated by spaces, after its name.
 pub fn ran(alloc: Global, memory: &mut Memory, words: &str) -> Result<Outcome, AllocError> {
     let mut list: Vec<String> = Vec::new(alloc);
     list.push(String::from_str(alloc, "udfsalvage")?)?;

@@ -1,9 +1,9 @@
-//! Scripts: cases, each run on files of its own, and what is not as it is said.
+//! Scripts: cases, each run on files of its own, and the report of the lines that do not hold.
 //!
-//! A script is paragraphs of lines, which empty lines part. A paragraph that begins with `= NAME` says what there is for each of the cases
-//! behind it, up to the next such one; its lines `then LINE` say what is seen in each of them besides, at its end. Each other paragraph is a
-//! case: a line for each thing that there is, `$` and the words that are run, and a line for each thing that is seen then. A line that begins with
-//! `#` says nothing. A paragraph that begins with `* NAME` is a list, and a line `* NAME` elsewhere stands for the lines of the list.
+//! A script is paragraphs of lines, separated by empty lines. A paragraph that begins with `= NAME` sets up what there is for each of the cases
+//! after it, up to the next such one; its lines `then LINE` are checked in each of them too, at its end. Each other paragraph is a
+//! case: a line for each thing to set up, `$` and the arguments of a run, and a line for each thing to check after it. A line that begins with
+//! `#` is a comment. A paragraph that begins with `* NAME` is a list, and a line `* NAME` elsewhere is replaced by the lines of the list.
 
 use crate::given::give;
 use crate::seen::see;
@@ -54,7 +54,7 @@ fn push_expanded(all: &mut String, script: &str, paragraph: &str) -> Result<(), 
     all.push_str("\n")
 }
 
-/// The lines of the list with this name. Where there is none, it is a line that is reported as not so.
+/// The lines of the list with this name. If there is no such list, a line that is reported as not so.
 fn list_of<'a>(script: &'a str, name: &str) -> &'a str {
     for paragraph in script.trim().split("\n\n") {
         let (first, lines) = match paragraph.split_once('\n') {

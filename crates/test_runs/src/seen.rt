@@ -1,4 +1,4 @@
-//! The lines of a script that say what is seen when the words were run.
+//! The lines of a script that check the outcome of a run.
 
 use crate::contents::content_of;
 use crate::runs::Outcome;
@@ -7,7 +7,7 @@ use crate::trial::Trial;
 use std::alloc::AllocError;
 use udfs_memory::Memory;
 
-/// The words behind which stands a text.
+/// The keywords that are followed by a text.
 const TEXTS: [&str; 11] = [
     "refused",
     "error",
@@ -22,10 +22,10 @@ const TEXTS: [&str; 11] = [
     "remarked",
 ];
 
-/// The words behind which stands a number, and behind some of them a text.
+/// The keywords that are followed by a number, and some of them then by a text.
 const NUMBERS: [&str; 5] = ["status", "done", "out-lines", "files", "calls"];
 
-/// The words behind which stands a path, and behind some of them what is at it.
+/// The keywords that are followed by a path, and some of them then by what is at it.
 const PATHS: [&str; 10] = [
     "absent",
     "there",
@@ -39,7 +39,7 @@ const PATHS: [&str; 10] = [
     "has-at",
 ];
 
-/// The words behind which stand a path and a text of what is there.
+/// The keywords that are followed by a path and a text of what is there.
 const PARTS: [&str; 4] = ["file-begins", "file-ends", "file-has", "file-lacks"];
 
 /// Whether it is so, or nothing where the line says nothing of the kind, or nothing was run.
@@ -63,9 +63,9 @@ pub fn see(trial: &Trial, word: &str, rest: &str) -> Result<Option<bool>, AllocE
     see_other(trial, ran, word, rest)
 }
 
-/// `refused TEXT` is a refusal by exactly this, `error TEXT` what was printed on standard error, and `error-begins TEXT` its beginning; `out TEXT`,
-/// `out-begins TEXT`, `out-ends TEXT` and `out-has TEXT` are of standard output; `line TEXT` is a line of a report, `nodes TEXT` what stands in a
-/// report behind the label `TEST`, and `nodes-have TEXT` a part of it; `remarked TEXT` are all lines that were remarked.
+/// `refused TEXT` is a run of status 2 that printed exactly this on standard error and nothing else, `error TEXT` what is there, `error-begins TEXT` its
+/// beginning; `out TEXT`, `out-begins TEXT`, `out-ends TEXT` and `out-has TEXT` are of standard output; `line TEXT` is a line of a report, `nodes TEXT`
+/// what follows the label `TEST` in a report, and `nodes-have TEXT` a part of it; `remarked TEXT` are all lines that were remarked.
 fn is_text(trial: &Trial, ran: &Outcome, word: &str, text: &str) -> bool {
     match word {
         "refused" => ran.is_refused(text),
@@ -88,7 +88,7 @@ fn is_printed(out: &str, word: &str, text: &str) -> bool {
     }
 }
 
-/// Whether a line behind the first one is this.
+/// Whether a line after the first one is this.
 fn has_line(out: &str, text: &str) -> bool {
     let mut is_there = false;
     for (place, line) in out.lines().enumerate() {
@@ -99,7 +99,7 @@ fn has_line(out: &str, text: &str) -> bool {
     is_there
 }
 
-/// What a report prints behind the label's line, which is `TEST`.
+/// What a report prints after the label's line, which is `TEST`.
 fn nodes_in(out: &str) -> &str {
     match out.split_once("\nlabel name TEST\n") {
         Some((_, nodes)) => nodes,

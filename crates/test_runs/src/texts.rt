@@ -5,14 +5,14 @@ use std::alloc::{AllocError, Global};
 /// A name that a script gave to some bytes.
 #[derive(Drop)]
 pub struct Name {
-    /// What stands between `«` and `»`.
+    /// The text between `«` and `»`.
     pub word: String,
-    /// What stands for it.
+    /// The bytes that replace it.
     pub bytes: Vec<u8>,
 }
 
-/// The bytes of a text, in which `\n`, `\r`, `\t`, `\0`, `\\` and `\x61` are escapes, `«3*ab»` stands for `ababab`, and `«NAME»` for what
-/// was named so. What is none of them is an error.
+/// The bytes of a text, in which `\n`, `\r`, `\t`, `\0`, `\\` and `\x61` are escapes, `«3*ab»` is replaced by `ababab`, and `«NAME»` by the bytes
+/// with this name. Fails if a name is unknown, a group or an escape is malformed, or memory runs out.
 pub fn bytes_of(alloc: Global, names: &[Name], text: &str) -> Result<Vec<u8>, AllocError> {
     let mut bytes = Vec::new(alloc);
     for (place, piece) in text.split('«').enumerate() {
@@ -34,7 +34,7 @@ pub fn text_of(alloc: Global, names: &[Name], text: &str) -> Result<String, Allo
     }
 }
 
-/// Adds what the group before the `»` stands for, and then what stands behind it.
+/// Appends the bytes that replace the group before the `»`, and then the text after it.
 fn push_group(
     alloc: Global,
     bytes: &mut Vec<u8>,
@@ -104,7 +104,7 @@ fn push_plain(bytes: &mut Vec<u8>, text: &str) -> Result<(), AllocError> {
     bytes.extend_from_slice(rest.as_bytes())
 }
 
-/// The byte of the escape at the front of a text, and what stands behind it.
+/// The byte of the escape at the beginning of a text, without its `\`, and the text after it.
 fn escape(text: &str) -> Result<(u8, &str), AllocError> {
     for (letter, byte) in [("n", 10u8), ("r", 13), ("t", 9), ("0", 0), ("\\", 92)] {
         if let Some(rest) = text.strip_prefix(letter) {
@@ -151,7 +151,7 @@ pub fn blocks_of(alloc: Global, list: &str) -> Result<Vec<u32>, AllocError> {
     Ok(blocks)
 }
 
-/// The first word of a text, and the rest.
+/// The text before the first space, and the rest after it.
 pub fn first_word(text: &str) -> (&str, &str) {
     match text.split_once(' ') {
         Some((word, rest)) => (word, rest),

@@ -58,7 +58,7 @@ impl Trial {
         Ok(self.names.push(Name { word, bytes })?)
     }
 
-    /// Runs the words, over the table's file if there is one.
+    /// Stores the table's file if there is a table, and runs the program with these arguments, separated by spaces.
     pub fn run(&mut self, words: &str) -> Result<(), AllocError> {
         if let Some(table) = self.table.take() {
             store_table(self.alloc, &mut self.memory, &table)?;

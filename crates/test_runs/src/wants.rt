@@ -1,5 +1,5 @@
-//! Runs of which one allocation may be refused. Each returns whether the run did its work, or else reported what it lacks. The files in
-//! memory and the preparation need memory too: where that is refused, the call returns an error.
+//! Runs in which one allocation may fail. Each returns whether the run did its work, or else reported what it lacks. The files in
+//! memory and the preparation need memory too: where that runs out, the call returns an error.
 
 use crate::names::names_of;
 use crate::runs::{Outcome, ran, reading, store_table, table};

@@ -1,5 +1,5 @@
 // SPDX-License-Identifier: MIT OR Apache-2.0
-//! Runs over the sample discs, for `tools/refuse-memory`, which refuses one of a run's allocations, and for
+//! Runs over the sample discs, for `tools/refuse-memory`, which fails one of a run's allocations, and for
 //! `tools/mutate`: `try_samples RUN DISC [UNREAD]`, where UNREAD is a block that no pass has read.
 //!
 //! Standard output has what the run prints, and the status says how it ended (`Ending`).
@@ -54,7 +54,7 @@ fn run<W: Sink>(alloc: Global, words: &[String], out: &mut W) -> Ending {
     }
 }
 
-/// The words of the command line. It fails where one of them is not text.
+/// The arguments of the command line. It fails where one of them is not text.
 fn words_of(rt: &HostRuntime, alloc: Global) -> io::Result<Vec<String>> {
     Ok(env::args(rt)?.collect(alloc)?)
 }

@@ -8,7 +8,7 @@ use udfs_reading::{Sink, Writer, write_all};
 use udfs_salvage::{Report, SalvageError, Volume, all_whole, salvage, write_report};
 use udfs_samples::{Disc, LAST};
 
-/// The blocks in which descriptors of the sample discs stand.
+/// The blocks of the sample discs that hold descriptors.
 const DESCRIPTORS: [u32; 24] = [
     256, 344, 600, 32, 33, 34, 35, 48, 49, 50, 51, 100, 200, 272, 273, 274, 275, 276, 278, 400,
     401, 402, 403, 404,
@@ -33,11 +33,11 @@ struct Counts {
     faults: u32,
     /// Tables without a report, for a named reason.
     refused: u32,
-    /// Results that are none of these.
+    /// All other results.
     wrong: u32,
 }
 
-/// Whether a text is a report's, by its first word and its last line.
+/// Whether a text is a report's, by its beginning and its last line.
 fn is_report(text: &[u8]) -> bool {
     text.starts_with(b"UDFREPORT") && text.ends_with(b"\nend\n")
 }
@@ -125,7 +125,7 @@ fn checksum(tag: &[u8]) -> u8 {
     sum
 }
 
-/// Mends the checksum of the tag in which a byte stands that is not the checksum: in the directories of the sample discs
+/// Corrects the checksum of the tag that holds a byte, unless the byte is that checksum: in the directories of the sample discs
 /// tags begin at 0, 40 and 80, elsewhere at 0.
 fn mend(disc: &mut Disc, n: u32, at: usize) -> Result<(), AllocError> {
     let is_directory = n == 274 || n == 402;

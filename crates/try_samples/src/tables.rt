@@ -1,4 +1,4 @@
-//! Two tables joined, and joined again where the first join is refused.
+//! Two tables joined, and joined again where the first join fails.
 
 use crate::Ending;
 use crate::discs::disc_named;
@@ -49,7 +49,7 @@ fn is_above(table: &BlockTable, below: &BlockTable) -> bool {
     true
 }
 
-/// Joins two passes over a disc. Where the join is refused, each state lies between its old one and that of the join, and
+/// Joins two passes over a disc. Where the join fails, each state lies between its old one and that of the join, and
 /// the same join again gives the join. The old table and the join are made anew from the records, to compare with.
 pub fn join_twice(alloc: Global, name: &str, other: u32) -> Ending {
     let Ok(disc) = disc_named(alloc, name) else {

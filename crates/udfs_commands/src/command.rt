@@ -1,4 +1,4 @@
-//! The program as a function: words and files in, a status out.
+//! The program as a function: arguments and files in, an exit status out.
 
 ghost use Rattle.std.specs.Prelude.{◌≡◌, ◌≢◌, ◌⊎◌, ℕ, List, [], Bool, true, false, None, IfOk, IfSome, OnOk, OnErr, codes, cond, map};
 ghost use Rattle.clap.specs.Matches.{found_of};
@@ -125,7 +125,8 @@ pub fn run<F: Files, O: Sink, E: Sink>(
     ensures known_profile { GrammarTakes (map string_bytes words.now) → result ≢ 2 → (name : List ℕ) × (found : Found) × IsAsked (map string_bytes words.now) name found × IsKnownProfile found }
     // Standard input is taken once, by the commands that take `-` for it.
     ensures one_stream { GrammarTakes (map string_bytes words.now) → result ≢ 2 → (name : List ℕ) × (found : Found) × IsAsked (map string_bytes words.now) name found × (are_two_streams name found ≡ false) }
-    // What is there stays, whatever the status: only `merge`, `forget`, `image`, `page`, `reread --mapfile` and `extract` change files at all, and only as their words ask.
+    // What is there stays, whatever the status: only `merge`, `forget`, `image`, `page`, `reread --mapfile` and `extract` change files at all, and only as
+    // their arguments ask.
     ensures reads { (Asks (map string_bytes words.now) (codes "merge") → ⊥) → (Asks (map string_bytes words.now) (codes "forget") → ⊥) → (Asks (map string_bytes words.now) (codes "image") → ⊥) → (Asks (map string_bytes words.now) (codes "page") → ⊥) → (Asks (map string_bytes words.now) (codes "reread") → ⊥) → (Asks (map string_bytes words.now) (codes "extract") → ⊥) → files.new ≡ files.old }
     ensures rereading { Asks (map string_bytes words.now) (codes "reread") → (files.new ≡ files.old) ⊎ ((found : Found) × IsAsked (map string_bytes words.now) (codes "reread") found ×
         RereadSpares F.tells F.holds F.real F.in_place F.may_leave F.moment F.left_since found files.old files.new
@@ -143,7 +144,7 @@ pub fn run<F: Files, O: Sink, E: Sink>(
         (MayPageAsked (λ path. F.holds files.old (F.real files.old path)) (⟦<AnySource<F::Input, F::Image> as Source>⟧.remaining) (F.real files.old) found)) }
     ensures extracting { Asks (map string_bytes words.now) (codes "extract") → (files.new ≡ files.old) ⊎ ((found : Found) × IsAsked (map string_bytes words.now) (codes "extract") found ×
         ExtractSpares F.tells F.holds F.real F.may_leave F.moment F.left_since found files.old files.new) }
-    // Words in which clap finds a fault change nothing, nor do those that ask for help.
+    // Arguments in which clap finds a fault change nothing, nor do those that ask for help.
     ensures faulty { fault_of (program_app (given_in (map string_bytes words.now))) (map string_bytes words.now) ≢ [] → files.new ≡ files.old }
     // With status 2 all is as it was; or a call failed, and then the path of the command's file holds what it held or that file, whole, and no other path changes, but those of new files for it. Of the two files of `image`, `imaging` says what is there.
     ensures merge_refused { Asks (map string_bytes words.now) (codes "merge") → result ≡ 2 → (files.new ≡ files.old) ⊎ ((found : Found) × IsAsked (map string_bytes words.now) (codes "merge") found ×
@@ -193,7 +194,7 @@ pub fn run<F: Files, O: Sink, E: Sink>(
     }
 }
 
-/// Does what the words after a command's name ask for, if there is a command of this name.
+/// Does what the arguments of the command `name` ask for; `None` where there is no command of this name.
 fn obey<F: Files, O: Sink>(
     alloc: Global,
     name: &str,
@@ -249,7 +250,7 @@ fn obey<F: Files, O: Sink>(
     ensures page { name.now ≡ codes "page" → IfSome result (λ outcome. IfOk outcome (λ whole. WritesPage (λ path. F.holds files.old (F.real files.old path)) (⟦<AnySource<F::Input, F::Image> as Source>⟧.remaining) (found_of words.now)
         (λ bytes. (F.tells → IsKept (F.holds files.new) (F.may_leave files.new) (F.real files.old (page_path (found_of words.now))) bytes) ⊎ (F.in_place files.old (page_path (found_of words.now)) × IsTaken F.Output.stream bytes)) whole ×
         (F.tells → IsFreePage (F.holds files.old) (F.real files.old) (F.in_place files.old) (input_texts (found_of words.now)) (pair_texts (found_of words.now)) (page_path (found_of words.now))))) }
-    // What is there stays, whatever the answer: only `merge`, `forget`, `image`, `page`, `reread --mapfile` and `extract` change files at all.
+    // What is there stays, whatever the result: only `merge`, `forget`, `image`, `page`, `reread --mapfile` and `extract` change files at all.
     ensures reads { (name.now ≡ codes "merge" → ⊥) → (name.now ≡ codes "forget" → ⊥) → (name.now ≡ codes "image" → ⊥) → (name.now ≡ codes "page" → ⊥) → (name.now ≡ codes "reread" → ⊥) → (name.now ≡ codes "extract" → ⊥) → files.new ≡ files.old }
     ensures rereading { name.now ≡ codes "reread" → RereadSpares F.tells F.holds F.real F.in_place F.may_leave F.moment F.left_since (found_of words.now) files.old files.new
         (MayDomainAsked (λ path. F.holds files.old (F.real files.old path)) (⟦<AnySource<F::Input, F::Image> as Source>⟧.remaining) (F.real files.old) (found_of words.now)) }
@@ -261,7 +262,7 @@ fn obey<F: Files, O: Sink>(
     ensures paging { name.now ≡ codes "page" → ReplacesPage F.tells F.holds F.real F.in_place F.may_leave F.moment F.left_since (found_of words.now) files.old files.new
         (MayPageAsked (λ path. F.holds files.old (F.real files.old path)) (⟦<AnySource<F::Input, F::Image> as Source>⟧.remaining) (F.real files.old) (found_of words.now)) }
     ensures extracting { name.now ≡ codes "extract" → ExtractSpares F.tells F.holds F.real F.may_leave F.moment F.left_since (found_of words.now) files.old files.new }
-    // What a refusal leaves.
+    // What an error leaves.
     ensures merge_refused { name.now ≡ codes "merge" → IfSome result (λ outcome. OnErr outcome (RefusedOut F.tells F.holds F.real F.in_place (F.shut files.old (out_text (found_of words.now)) ⊎ Fails F.faults ⊎ SinkFails F.Output.stream) (out_text (found_of words.now)) files.old files.new
         (PutsJoin (λ path. F.holds files.old (F.real files.old path)) (⟦<AnySource<F::Input, F::Image> as Source>⟧.remaining) (found_of words.now)))) }
     ensures forget_refused { name.now ≡ codes "forget" → IfSome result (λ outcome. OnErr outcome (RefusedOut F.tells F.holds F.real F.in_place (F.shut files.old (out_text (found_of words.now)) ⊎ Fails F.faults ⊎ SinkFails F.Output.stream) (out_text (found_of words.now)) files.old files.new
@@ -305,7 +306,8 @@ fn set_tone<F: Files>(words: &ArgMatches<'_>, files: &F) {
     }
 }
 
-/// The exit status of a command that is done, with or without something lacking, or refused.
+/// Returns the exit status of a command with this outcome: 0 where it is done and nothing is lacking, 1 where something is lacking, 2 where it failed, and then
+/// prints the error.
 fn finish<F: Files, E: Sink>(
     alloc: Global,
     outcome: Result<bool, Refusal>,

@@ -1,4 +1,4 @@
-//! The second line of a refusal, for a person: which file it is, what the system said of it, and what to do next.
+//! The second line of an error message, for a person: which file it is, what the system said of it, and what to do next.
 
 use crate::spared::why_spared;
 use clap::ArgMatches;
@@ -17,10 +17,10 @@ use udfs_words::input_path::InputPath;
 use udfs_words::last::asked_last;
 use udfs_words::words::{BLOCKS, MANIFEST, MAPFILE, ONLY, OUT, TO, UNNAMED};
 
-/// What the system says where as many files are open as it lets a program open.
+/// The system's error code where a program has as many files open as it may.
 const TOO_MANY_OPEN: i32 = 24;
 
-/// What the system says of a pipe that is to be read at a position.
+/// The system's error code of a read at a position of a pipe.
 const NO_POSITIONS: i32 = 29;
 
 /// The bytes of a header, of a reading and of a table file: its name, the size of a block, and how many records follow.
@@ -40,7 +40,7 @@ impl<'a> fmt::Display for MapBeside<'a> {
     }
 }
 
-/// The front of a file, read a byte at a time, where it is so long.
+/// The first [`HEADER`] bytes of a file, read a byte at a time; `None` where it is shorter, or a read fails.
 fn front_of<R: Source>(source: &mut R) -> Option<[u8; HEADER]> {
     let mut header = [0u8; HEADER];
     for place in &mut header {
@@ -191,7 +191,7 @@ fn of_unopened<F: Files>(
     }
 }
 
-/// What is said of a mapfile that is malformed, or is none of a pass.
+/// What is said of a mapfile that is malformed, or is not that of a pass.
 fn of_map(alloc: Global, input: InputPath<'_>, fault: MapFault) -> Result<String, AllocError> {
     match input {
         InputPath::File(path) => format!(in alloc; "{}", Shown(path)),
@@ -239,7 +239,7 @@ fn of_reread(alloc: Global, input: InputPath<'_>) -> Result<String, AllocError> 
     }
 }
 
-/// What is said of a refusal that names an input.
+/// What is said of an error that names an input; `None` of any other.
 fn of_named_input<F: Files>(
     alloc: Global,
     refusal: &Refusal,
@@ -257,7 +257,7 @@ fn of_named_input<F: Files>(
     Ok(Some(line))
 }
 
-/// The path of the file that the words ask to write, where they ask for one.
+/// The path of the file that the arguments ask to write, where they ask for one.
 fn asked_output<'a>(words: &ArgMatches<'a>) -> Option<&'a str> {
     match (words.get_str(OUT), words.get_str(MAPFILE)) {
         (Some(out), _) => Some(out),
@@ -370,7 +370,7 @@ fn of_list<F: Files>(
     format!(in alloc; "a list of --blocks: {}", Said(reason))
 }
 
-/// What is said of a refusal that names no input.
+/// What is said of an error that names no input, if anything.
 fn of_other<F: Files>(
     alloc: Global,
     refusal: &Refusal,
@@ -413,7 +413,7 @@ fn of_other<F: Files>(
     Ok(Some(line))
 }
 
-/// The number of the input that a refusal names, counted from 1.
+/// The number of the input that an error names, counted from 1; `None` where it names none.
 fn named_input(refusal: &Refusal) -> Option<usize> {
     match refusal {
         Refusal::Input(number, _)
@@ -425,8 +425,7 @@ fn named_input(refusal: &Refusal) -> Option<usize> {
     }
 }
 
-/// What there is to say to a person beneath the line of a refusal of the command that is called so, if anything: which file it is, what the system said of
-/// it, and what to do next.
+/// The line for a person beneath that of an error of `command`, if there is more to say: which file it is, what the system said of it, and what to do next.
 pub fn second_line<F: Files>(
     alloc: Global,
     refusal: &Refusal,

@@ -1,5 +1,5 @@
 // SPDX-License-Identifier: MIT OR Apache-2.0
-//! The commands of `udfsalvage`: what its words ask for, over any files.
+//! The commands of `udfsalvage`: what its arguments ask for, over any files.
 #![tactic(auto)]
 
 mod command;

@@ -1,4 +1,4 @@
-//! What is said where a command is refused, or where the words are not those of one.
+//! What is printed where a command fails, or where the arguments are not those of a command.
 
 ghost use Rattle.std.specs.Prelude.{◌≡◌, ◌⊎◌, Some, true, codes};
 ghost use Rattle.clap.specs.Matches.{found_of, one_text};
@@ -24,11 +24,11 @@ const NO_BLOCKS: &str = "\n  --blocks <LIST>\n";
 /// How it lists that one of two is missing.
 const NOTHING_TO_FORGET: &str = "\n  <--conflicts|--blocks <LIST>>\n";
 
-/// What is said of a word that is not text.
+/// What is printed where an argument is not UTF-8.
 const NOT_TEXT: &[u8] =
     b"error: invalid UTF-8 was detected in one or more arguments\n\nFor more information, try '--help'.\n";
 
-/// The word behind the program's name, which is that of its command where the words are good.
+/// The first argument after the program's name: that of the command, where the arguments are valid; `""` where there is none.
 pub fn command_of(line: &[String]) -> &str {
     match line {
         [_, command, ..] => command.as_str(),
@@ -36,7 +36,8 @@ pub fn command_of(line: &[String]) -> &str {
     }
 }
 
-/// Says more of a refusal of the command that is called so beneath its line, where a person watches or the words ask for it.
+/// Prints a second line beneath that of an error of `command`, where standard error is watched by a person or `--verbose` is given, and `--quiet` is not.
+/// It prints nothing where there is no more to say, or memory runs out.
 pub fn explain<F: Files, E: Sink>(
     alloc: Global,
     refusal: &Refusal,
@@ -66,7 +67,8 @@ pub fn refuse_words<E: Sink>(wants_memory: bool, err: &mut E) -> u8
     2
 }
 
-/// Shows clap's text: help and version on `out`, a fault of the words on `err`.
+/// Prints clap's text: help and version on `out`, a fault of the arguments on `err`. It returns the exit status: 0, or 2 for a fault, where memory runs out, or
+/// where `out` does not take the text.
 pub fn show<O: Sink, E: Sink>(alloc: Global, error: &Error, out: &mut O, err: &mut E) -> u8
     ensures status { (result ≡ 0) ⊎ (result ≡ 2) }
     ensures silent { result ≡ 0 → err.new ≡ err.old }
@@ -100,8 +102,8 @@ fn show_fault<E: Sink>(alloc: Global, error: &Error, err: &mut E) -> u8
     }
 }
 
-/// Clap's text of a fault of the words. Where a list of blocks is missing, the other word that would do is named too, as clap does in a group of which one
-/// has to be given.
+/// Clap's text of a fault of the arguments. Where a list of blocks is missing, the other argument that would do is named too, as clap does in a group of which
+/// one has to be given.
 fn fault_text(alloc: Global, error: &Error) -> Result<String, AllocError> {
     let text = format!(in alloc; "{error}")?;
     match text.as_str().split_once(NO_BLOCKS) {
@@ -151,7 +153,7 @@ pub fn tell_profile<E: Sink>(alloc: Global, name: &str, err: &mut E) -> u8
     2
 }
 
-/// Prints a refusal's line, and returns the exit status, 2. Where memory runs out for the line, it prints [`NO_MEMORY`] instead.
+/// Prints the line of an error, and returns the exit status, 2. Where memory runs out for the line, it prints [`NO_MEMORY`] instead.
 pub fn refuse<E: Sink>(alloc: Global, refusal: &Refusal, err: &mut E) -> u8
     ensures { result ≡ 2 }
 {

@@ -47,7 +47,7 @@ fn is_absent<F: Files>(alloc: Global, path: &str, files: &F) -> Result<bool, All
     }
 }
 
-/// What is said of an output that is none of the inputs, of the command that is called so.
+/// What is said of an output of `command` that is not one of the inputs.
 fn of_kind(alloc: Global, command: &str, out: &str) -> Result<String, AllocError> {
     let out = Shown(out);
     match command {
@@ -83,7 +83,7 @@ fn of_input(alloc: Global, out: &str) -> Result<String, AllocError> {
     )
 }
 
-/// What is said of one output of `image`, where it is what stands in the way.
+/// What is said of one output of `image`, where it is the reason why nothing is written; `None` where it is not.
 fn of_part<F: Files>(
     alloc: Global,
     words: &ArgMatches<'_>,
@@ -142,7 +142,7 @@ fn of_manifest<F: Files>(
     format!(in alloc; "{} is no manifest: take another name", Shown(out))
 }
 
-/// Why the command that is called so does not write over what is there, for a person; nothing where its words name no output.
+/// Why `command` does not write over what is there, for a person; `None` where its arguments name no output.
 pub fn why_spared<F: Files>(
     alloc: Global,
     command: &str,

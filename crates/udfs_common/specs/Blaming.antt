@@ -1,7 +1,7 @@
 -- Why the inputs of some paths were not joined, and which of them is to blame.
 --     IsShut shut paths refusal         one of the paths may fail to open, and it is named
---     AreJudged found paths sources     each source that was refused when it was opened is an image whose mapfile gives no reading of it, for this reason
---     AreJudgedFor found reason paths sources     the same of sources of any kind, by the reason that each was refused for
+--     AreJudged found paths sources     each source that is `Refused` is an image whose mapfile gives no reading of it, for the reason that the source has
+--     AreJudgedFor found reason paths sources     the same of sources of any kind, where `reason` says why one has no reading
 --     BlamesSource                      one of these sources could not be read, and what is said of it
 --     BlamesInput                       the same of the sources of some paths
 --     InputsRefused                     the inputs of some paths were not joined: memory ran out, or one of them is shut, or could not be read
@@ -46,7 +46,7 @@ pub record IsRefusedPair (found : List ℕ → Option (Option (List ℕ))) (imag
   pub map_found : IfSome (found map) (λ held. map_has ≡ held)
   pub fails : PairFails image_has map_has fault
 
--- a file is refused by no mapfile
+-- why the input at a path has no reading; a file has no mapfile that could be the reason
 abbrev pub IsPathRefused : (List ℕ → Option (Option (List ℕ))) → InputPath → PairFault → Type 0
 IsPathRefused found (path.File p) fault = ⊥
 IsPathRefused found (path.Pair image map) fault = IsRefusedPair found image.now map.now fault
@@ -57,7 +57,7 @@ IsJudgedBy found path (File source) = ⊤
 IsJudgedBy found path (Paired source) = ⊤
 IsJudgedBy found path (Refused fault count) = IsPathRefused found path fault
 
--- a source that was refused when it was opened was refused for what its path leads to
+-- where a source is `Refused`, its reason follows from what its path leads to
 pub record IsJudged {R I : Type 0} (found : List ℕ → Option (Option (List ℕ))) (path : InputPath) (source : AnySource R I) : Type 0 where
   pub by : IsJudgedBy found path source
 
@@ -65,7 +65,7 @@ pub record IsJudged {R I : Type 0} (found : List ℕ → Option (Option (List �
 abbrev pub AreJudged : {R I : Type 0} → (List ℕ → Option (Option (List ℕ))) → List InputPath → List (AnySource R I) → Type 0
 AreJudged {R} {I} found paths sources = (k : ℕ) (path : InputPath) (source : AnySource R I) → slice_get paths k ≡ Some path → slice_get sources k ≡ Some source → IsJudged found path source
 
--- why a source was refused when it was opened, if it was
+-- why a source has no reading, where it is `Refused`
 abbrev pub source_reason : {R I : Type 0} → AnySource R I → Option PairFault
 source_reason (File source) = None
 source_reason (Paired source) = None
@@ -77,7 +77,7 @@ stored_reason (any.File stored) = None
 stored_reason (any.Paired stored) = None
 stored_reason (any.Refused fault) = Some fault
 
--- what was refused for this reason when it was opened was refused for what its path leads to
+-- a reason, if there is one, follows from what the path leads to
 pub record IsJudgedFor (found : List ℕ → Option (Option (List ℕ))) (path : InputPath) (reason : Option PairFault) : Type 0 where
   pub by : IfSome reason (λ fault. IsPathRefused found path fault)
 
@@ -85,7 +85,7 @@ pub record IsJudgedFor (found : List ℕ → Option (Option (List ℕ))) (path :
 abbrev pub AreJudgedFor : {R : Type 0} → (List ℕ → Option (Option (List ℕ))) → (R → Option PairFault) → List InputPath → List R → Type 0
 AreJudgedFor {R} found reason paths sources = (k : ℕ) (path : InputPath) (source : R) → slice_get paths k ≡ Some path → slice_get sources k ≡ Some source → IsJudgedFor found path (reason source)
 
--- one of these sources could not be read: those before it have tables; a pair that was refused has its own reason
+-- one of these sources could not be read: those before it have tables; a pair that has no reading is reported with its own reason
 pub record BlamesSource {R I : Type 0} (remaining : AnySource R I → Option (List ℕ)) (faults : AnySource R I → ℕ) (before after : List (AnySource R I)) (refusal : Refusal) : Type 0 where
   pub error : InputError
   pub fails : InputFails remaining faults before after error
@@ -112,14 +112,14 @@ HasNoEnd words = (is_some (matched_of words (codes "last")) ≡ false) × (is_so
 abbrev pub EndRefused : {R I : Type 0} → (List ℕ → Option (Option (List ℕ))) → (List ℕ → Type 0) → (AnySource R I → Option (List ℕ)) → (AnySource R I → ℕ) → List InputPath → Found → Refusal → Type 0
 EndRefused found shut remaining faults paths words refusal = HasNoEnd words × ((refusal ≡ NoLast) ⊎ InputsRefused found shut remaining faults paths refusal)
 
--- the first of these sources that was refused when it was opened, the first of all being this one, and why
+-- the number of the first of these sources that is `Refused`, counted from `n`, and its reason
 abbrev pub first_refused : {R I : Type 0} → ℕ → List (AnySource R I) → Option (ℕ × PairFault)
 first_refused n [] = None
 first_refused n (Refused fault count ∷ sources) = Some (n, fault)
 first_refused n (File source ∷ sources) = first_refused (n + 1) sources
 first_refused n (Paired source ∷ sources) = first_refused (n + 1) sources
 
--- what is said of an input's error, where that is the first one that was refused
+-- what is reported of an input's error: its own reason, where the input is the first one that is `Refused`
 abbrev pub refusal_by : Option (ℕ × PairFault) → InputError → Refusal
 refusal_by None error = refusal_of error
 refusal_by (Some refused) error = if nat_eq refused.0 error.input then refused_pair error.input refused.1 else refusal_of error

@@ -3,15 +3,15 @@
 --     SomeLeads, NoneLeads       one of some paths leads to a place, or none
 --     SomeShut                   one of some paths may fail to open
 --     IsFree                     an output takes the place of no image, no mapfile and no reading, but of a reading that is an input, or by force
---     IsSpared                   why an output is refused
+--     IsSpared                   why an output is not written
 --     IsFreeOwn                  an output takes the place of no file but one of its own kind, and of none of the inputs
---     IsSparedOwn                why it is refused
+--     IsSparedOwn                why it is not written
 --     MayNotBeSeen               what an output would take the place of could not be looked at
 --     IsFreeMap, IsSparedMap     the same of a map of blocks to read again
 --     IsApart                    neither of two paths is the other, nor that of a new file that is to go in the place of the other
 --     AreInTheWay                one of them is
 --     IsFreePair                 what an image and its mapfile take the place of
---     IsSparedPair               why they are refused
+--     IsSparedPair               why they are not written
 use Rattle.std.specs.Prelude.{◌≡◌, ◌≢◌, ◌⊎◌, ⊤, ℕ, List, [], ◌∷◌, Bool, true, false, Option, Some, IfSome, ◌++◌, codes, nat_eq, if◌then◌else◌, None, map}
 use Rattle.udfs_rescue.specs.Writing.{made_by, mark_line}
 use Rattle.udfs_files.specs.Disk.{IsOwn}

@@ -4,7 +4,7 @@
 --     IsPut          a file holds these bytes, and each crash leaves them; or they went to what is no file
 --     MayReplace     what a crash in the middle shows: what was there, or the join of the inputs in its place
 --     FailedOut      what a call that failed leaves of an output
---     RefusedOut     what a refusal leaves: all as it was, or that
+--     RefusedOut     what an error leaves: nothing has changed, or what `FailedOut` says
 use Rattle.std.specs.Prelude.{◌≡◌, ◌≢◌, ◌⊎◌, ℕ, List, Option, Some, length, slice_get}
 use Rattle.std.specs.Io.KnownBytes.{Appends}
 use Rattle.udfs_files.specs.Disk.{Disk, IsOwn, Same, Replaced}

@@ -15,7 +15,7 @@ abbrev refusal_by : InputError → ReadingFault → Refusal
 refusal_by error OutOfMemory = Memory alloc_error
 refusal_by error fault = Input error.input error.error
 
--- an input's error, as a refusal
+-- the `Refusal` of an input's error
 abbrev pub refusal_of : InputError → Refusal
 refusal_of error = refusal_by error error.error.fault
 
@@ -33,6 +33,6 @@ refusal_for (Some (File source)) error = refusal_of error
 refusal_for (Some (Paired source)) error = refusal_of error
 refusal_for None error = refusal_of error
 
--- an output was not put: memory was refused, or a call failed
+-- an output was not put: memory ran out, or a call failed
 abbrev pub IsUnput : Type 0 → Refusal → Type 0
 IsUnput Failed refusal = (refusal ≡ Memory alloc_error) ⊎ (((refusal ≡ Output) ⊎ (refusal ≡ Unkept)) × Failed)

@@ -1,7 +1,7 @@
 -- Inputs of both kinds as sources, and the paths that they come from.
 --     left_in file pair source      the bytes that a source has left
 --     IsPathOpened found left path x    the source has what its path leads to
-use Rattle.std.specs.Prelude.{◌≡◌, ◌⊎◌, ℕ, List, [], Option, Some, IfSome}
+use Rattle.std.specs.Prelude.{◌≡◌, ◌≢◌, ◌⊎◌, ℕ, List, [], Option, Some, None, IfSome}
 use Rattle.udfs_rescue.specs.declared.pair.Pair.{Pair}
 use Rattle.udfs_rescue.specs.Opening.{IsReadingOf}
 use Rattle.udfs_common.specs.declared.sources.AnySource.{AnySource}
@@ -9,19 +9,19 @@ use Rattle.udfs_common.specs.declared.sources.AnySource.TheVariants.{File, Paire
 use Rattle.udfs_words.specs.declared.input_path.InputPath.{InputPath}
 use Rattle.udfs_words.specs.declared.input_path.InputPath.TheVariants as path
 
--- by the source's kind; a pair that is refused has no byte
+-- by the source's kind; no bytes of a pair that has no reading
 abbrev pub left_in : {R I : Type 0} → (R → Option (List ℕ)) → (Pair I → Option (List ℕ)) → AnySource R I → Option (List ℕ)
 left_in file pair (File source) = file source
 left_in file pair (Paired source) = pair source
 left_in file pair (Refused fault count) = Some []
 
--- the fault count of a source, by its kind; a pair that was refused brings its own count
+-- the fault count of a source, by its kind; a pair that has no reading brings its own count
 abbrev pub faults_in : {R I : Type 0} → (R → ℕ) → (Pair I → ℕ) → AnySource R I → ℕ
 faults_in file pair (File source) = file source
 faults_in file pair (Paired source) = pair source
 faults_in file pair (Refused fault count) = count
 
--- the reading of the blocks of an image that its mapfile makes known, where both files are known; or nothing: a pair that has none is refused
+-- the reading of the blocks of an image that its mapfile makes known, where both files are known; or no bytes, as of a pair that has no reading
 pub record IsOpenedPair (found : List ℕ → Option (Option (List ℕ))) (image map : List ℕ) (left : Option (List ℕ)) : Type 0 where
   pub image_has : Option (List ℕ)
   pub map_has : Option (List ℕ)
@@ -34,6 +34,12 @@ abbrev pub HasItsPath : (List ℕ → Option (Option (List ℕ))) → InputPath 
 HasItsPath found (path.File p) left = IfSome (found p.now) (λ held. left ≡ held)
 HasItsPath found (path.Pair image map) left = IsOpenedPair found image.now map.now left
 
--- what is left is what the path leads to, where that is known
+-- where it is known what is at the path, or at both paths of a pair, something is there
+abbrev pub LeadsToFiles : (List ℕ → Option (Option (List ℕ))) → InputPath → Type 0
+LeadsToFiles found (path.File p) = found p.now ≢ Some None
+LeadsToFiles found (path.Pair image map) = (found image.now ≢ Some None) × (found map.now ≢ Some None)
+
+-- what is left is what the path leads to, where that is known, and not nothing
 pub record IsPathOpened (found : List ℕ → Option (Option (List ℕ))) (path : InputPath) (left : Option (List ℕ)) : Type 0 where
   pub has : HasItsPath found path left
+  pub there : LeadsToFiles found path

@@ -106,7 +106,7 @@ pub enum Outlook {
 }
 
 /// What is known of an output: it is spared where it is an image or a mapfile of the inputs, and without `force` also where it begins as a reading does
-/// and is none of the inputs that are files.
+/// and is not one of the inputs that are files.
 pub fn look_at<F: Files>(
     alloc: Global,
     inputs: &[&str],

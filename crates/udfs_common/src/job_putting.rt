@@ -16,7 +16,8 @@ use udfs_reading::DeviceFault;
 ///
 /// # Errors
 ///
-/// As of [`put_file`](crate::putting::put_file). Where the job was refused, its refusal is inside, and the fault is counted among those of the files.
+/// Those of [`put_file`](crate::putting::put_file). Where the job fails, the outer result is `Ok` and the inner one is the job's own error; the fault is then
+/// counted among those of the files or of an output.
 pub fn put_job<F: Files, J: Job>(
     alloc: Global,
     job: &J,
@@ -30,14 +31,14 @@ pub fn put_job<F: Files, J: Job>(
         After (F.may_leave files.old) (Replaced (F.real files.old out.now) bytes) c }
     ensures untouched { IfErr result (λ refusal. refusal ≢ Refusal.Output → refusal ≢ Refusal.Unkept → files.new ≡ files.old) }
     ensures refused { IsErrOf result Refusal.Output → F.tells → (F.in_place files.old out.now → ⊥) → F.holds files.new (F.real files.old out.now) ≡ F.holds files.old (F.real files.old out.now) }
-    // A job that was refused leaves what the path held.
+    // Where the job fails, the path holds what it held, unless it is that of a device or a pipe.
     ensures given_up { IfOk result (λ done. OnErr done (FailedOut F.tells F.holds F.real F.in_place (Fails F.faults ⊎ SinkFails F.Output.stream) out.now files.old files.new (λ Put. ⊥))) }
     // What the job wrote is in its place where only the folder could not be synced.
     ensures unkept { IsErrOf result Refusal.Unkept → F.tells → (bytes : List ℕ) → AreOnly (λ b. J.wrote job.now (Some []) (Some b)) bytes → F.holds files.new (F.real files.old out.now) ≡ Some (Some bytes) }
     // No other path changes, but for those of new files that are to go in its place.
     ensures elsewhere { F.tells → (F.in_place files.old out.now → ⊥) → (q : List ℕ) → q ≢ F.real files.old out.now → (¬ IsOwn (F.real files.old out.now) q) → F.holds files.new q ≡ F.holds files.old q }
     ensures cause { IfErr result (λ refusal. (refusal ≡ Refusal.Output) ⊎ (refusal ≡ Refusal.Unkept) → F.shut files.old out.now ⊎ Fails F.faults ⊎ SinkFails F.Output.stream) }
-    // A refusal leaves all as it was; or a call failed, and then the path holds what it held or the new file, whole.
+    // After an error nothing has changed; or a call failed, and the path, unless a device or a pipe, holds what it held or the new file, whole.
     ensures left { OnErr result ((bytes : List ℕ) → (F.tells → AreOnly (λ b. J.wrote job.now (Some []) (Some b)) bytes) →
         RefusedOut F.tells F.holds F.real F.in_place (F.shut files.old out.now ⊎ Fails F.faults ⊎ SinkFails F.Output.stream) out.now files.old files.new (λ Put. Put bytes)) }
     ensures told { IfErr result (λ refusal. refusal ≢ Refusal.Spared) }

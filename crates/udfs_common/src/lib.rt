@@ -1,5 +1,5 @@
 // SPDX-License-Identifier: MIT OR Apache-2.0
-//! What the commands of `udfsalvage` share: their inputs and outputs, and why they refuse.
+//! What the commands of `udfsalvage` share: their inputs, their outputs and their errors.
 #![tactic(auto)]
 
 pub mod ends;

@@ -23,7 +23,7 @@ pub struct Places {
     pub old: Kind,
 }
 
-/// Whether these bytes begin so.
+/// Whether `bytes` starts with `front`.
 pub fn begin_so(bytes: &[u8], front: &[u8]) -> bool
     ensures yes { result ≡ true → length front.now ≤ length bytes.now }
     ensures so { result ≡ true → (more : List ℕ) × (bytes.now ≡ front.now ++ more) }
@@ -32,7 +32,7 @@ pub fn begin_so(bytes: &[u8], front: &[u8]) -> bool
     bytes.len() >= front.len() && &bytes[..front.len()] == front
 }
 
-/// Whether a new file that is to go in the place of one at `path` may be called so.
+/// Whether `name` may be the path of a new file that is to go in the place of the one at `path`: whether it starts with `path` followed by `.unfinished`.
 fn is_own(path: &str, name: &str) -> bool
     ensures yes { result ≡ true → IsOwn path.now name.now }
     ensures no { result ≡ false → ¬ IsOwn path.now name.now }
@@ -42,7 +42,7 @@ fn is_own(path: &str, name: &str) -> bool
     begin_so(name, path) && begin_so(&name[path.len()..], b".unfinished")
 }
 
-/// Whether two paths are two, and neither is that of a new file for the other.
+/// Whether two paths differ, and neither is that of a new file for the other.
 fn is_apart(image: &str, mapfile: &str) -> bool
     ensures yes { result ≡ true → IsApart image.now mapfile.now }
     ensures no { result ≡ false → AreInTheWay image.now mapfile.now }

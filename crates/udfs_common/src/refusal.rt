@@ -1,4 +1,4 @@
-//! Why a command was refused.
+//! Why a command failed.
 
 ghost use Rattle.std.specs.Prelude.{◌≡◌};
 ghost use Rattle.udfs_common.specs.Refusing.{refusal_of};
@@ -8,7 +8,7 @@ use thiserror::Error;
 use udfs_reading::{InputError, ReadingError, ReadingFault};
 use udfs_rescue::LineFault;
 
-/// Why a command was refused: its text is the line on standard error, without the program's name.
+/// Why a command failed: its text is the line on standard error, without the program's name.
 #[derive(Debug, Drop, Error)]
 pub enum Refusal {
     /// An input, counted from 1, is faulty. Never because memory ran out.
@@ -36,7 +36,8 @@ pub enum Refusal {
     #[error("cannot write output")]
     Output,
 
-    /// The output would take the place of an image or a mapfile of the inputs, or of a reading that is none of them. Nothing was read.
+    /// The output would take the place of something that the command does not write over, such as an image or a mapfile of the inputs; or the outputs are
+    /// in each other's way.
     #[error("cannot write output")]
     Spared,
 
@@ -80,7 +81,7 @@ pub enum Refusal {
     #[error("fault 1 LastRange")]
     LastRange,
 
-    /// Something is known of this block, the least such one behind the last.
+    /// Something is known of this block, the first such one after the last block of the volume.
     #[error("fault 2 PastEnd {0}")]
     PastEnd(u32),
 
@@ -93,7 +94,7 @@ pub enum Refusal {
     Memory(#[from(alloc)] AllocError),
 }
 
-/// Want of memory is no input's fault.
+/// Running out of memory is reported as `Memory`, not as a fault of the input.
 impl From<InputError> for Refusal {
     ghost from_gives = { λ error refusal. refusal ≡ refusal_of error };
 

@@ -139,7 +139,7 @@ pub fn open_all<F: Files>(
     Ok(sources)
 }
 
-/// Why a pair was refused: its own reason, with the number of the input.
+/// The error for the input with this number, a pair that has no reading for the reason `fault`.
 pub fn refused_pair(input: usize, fault: PairFault) -> Refusal
     ensures value { result ≡ refused_pair input fault }
     ensures told { (result ≢ Refusal.Output) × (result ≢ Refusal.Unkept) × (result ≢ Refusal.Spared) }
@@ -152,7 +152,7 @@ pub fn refused_pair(input: usize, fault: PairFault) -> Refusal
     }
 }
 
-/// The number of the first pair that was refused when it was opened, counted from 1, and why. No source behind it is read.
+/// The number of the first pair that has no reading, counted from 1, and the reason. No source after it is read, since each read of this one fails.
 fn first_refused<R: Source, I: Image>(sources: &[AnySource<R, I>]) -> Option<(usize, PairFault)>
     ensures { result ≡ first_refused 1 sources.now }
 {
@@ -164,7 +164,7 @@ fn first_refused<R: Source, I: Image>(sources: &[AnySource<R, I>]) -> Option<(us
     None
 }
 
-/// Why the inputs were not joined: a pair that was refused has its own reason.
+/// Why the inputs were not joined. A pair that has no reading is reported with its own reason.
 fn refusal_by(refused: Option<(usize, PairFault)>, error: InputError) -> Refusal
     ensures value { result ≡ refusal_by refused error }
     ensures told { (result ≢ Refusal.Output) × (result ≢ Refusal.Unkept) × (result ≢ Refusal.Spared) }

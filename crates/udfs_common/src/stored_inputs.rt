@@ -98,9 +98,9 @@ pub fn open_all_stored<F: Files>(
     ensures opened { IfOk result (λ found. IfSome found (λ all. Opens (λ path. F.holds files.now (F.real files.now path)) ⟦<AnyStored<F::Stored> as Stored>⟧.content paths.now all.items)) }
     ensures told { IfErr result (λ refusal. (refusal ≢ Refusal.Output) × (refusal ≢ Refusal.Unkept) × (refusal ≢ Refusal.Spared)) }
     ensures named { IfErr result (λ refusal. (input : ℕ) → refusal ≡ Refusal.Open input → (0 < input) × (input ≤ length paths.now)) }
-    // A pair that has no reading was refused for what its paths lead to.
+    // The reason why a pair has no reading is one that follows from what its paths lead to.
     ensures judged { IfOk result (λ found. IfSome found (λ all. AreJudgedFor (λ path. F.holds files.now (F.real files.now path)) stored_reason paths.now all.items)) }
-    // The first input that cannot be opened is named, or memory was refused.
+    // The first input that cannot be opened is named, or memory ran out.
     ensures blamed { IfErr result (λ refusal. (refusal ≡ Refusal.Memory alloc_error) ⊎ IsShut (F.shut files.now) paths.now refusal) }
 {
     files.begin(Stage::Reading);

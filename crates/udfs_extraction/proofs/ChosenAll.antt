@@ -7,7 +7,8 @@ use Rattle.udfs_lattice.specs.Tables.{Table}
 use Rattle.udfs_volume.specs.Answers.{Answer, found, holes, faulty}
 use Rattle.udfs_walk.specs.NodeFields.{NodeFields}
 use Rattle.udfs_salvage.specs.Found.{Found}
-use Rattle.udfs_salvage.specs.Reports.{Report, all_whole, is_whole}
+use Rattle.udfs_salvage.specs.Reports.{Report, all_whole}
+use Rattle.udfs_walk.specs.Unsettled.{is_whole}
 use Rattle.udfs_salvage.specs.declared.extraction.Fill.{Fill}
 use Rattle.udfs_extraction.specs.Choosing.{chosen, is_node}
 use Rattle.udfs_extraction.specs.Extracting.{ExtractsAll, ExtractsChosen, PutsAll, PutsBy, PutsChosen, all_good}

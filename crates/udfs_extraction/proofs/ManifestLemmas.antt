@@ -14,7 +14,8 @@ use Rattle.udfs_walk.specs.NodeFields.{NodeFields}
 use Rattle.udfs_salvage.specs.Found.{Found, volume_now}
 use Rattle.udfs_salvage.specs.declared.volumes.Volume as code_volume
 use Rattle.udfs_salvage.specs.NodeTexts.{names_text}
-use Rattle.udfs_salvage.specs.Reports.{IsReportBy, Report, is_whole}
+use Rattle.udfs_salvage.specs.Reports.{IsReportBy, Report}
+use Rattle.udfs_walk.specs.Unsettled.{is_whole}
 use Rattle.udfs_salvage.specs.declared.extraction.Fill.{Fill}
 use Rattle.udfs_extraction.specs.Choosing.{chosen, goes_on, is_node}
 use Rattle.udfs_extraction.specs.Extracting.{IsDone, IsElsewhere, Puts, PutsBy, Stay, all_good, path_below}

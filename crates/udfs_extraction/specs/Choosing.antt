@@ -1,10 +1,10 @@
 -- Which nodes of a volume are asked for by paths, as the report prints them.
---     goes_on front text      the text goes on behind this front with a `/`
---     is_under word text      a word asks for the path of this text: it is that path, or a folder's above it; and `/` asks for all
---     is_chosen only path     one of the words asks for a path
+--     goes_on front text      the text begins with this front and a `/`
+--     is_under word text      an argument asks for the path of this text: it is that path, or a folder's above it; and `/` asks for all
+--     is_chosen only path     one of the arguments asks for a path
 --     chosen only nodes       the nodes that are asked for
---     is_node nodes word      the word is a node's path
---     AsksByNames             a word asks for a path exactly where it is how its first names are printed, or all of them
+--     is_node nodes word      the argument is a node's path
+--     AsksByNames             an argument that is not empty asks for a path exactly where it is how its first names are printed, or all of them
 use Rattle.std.specs.Prelude.{◌≡◌, ◌≢◌, ℕ, suc, ◌++◌, ◌||◌, Bool, true, List, [], codes, length, take}
 use Rattle.std.specs.List.{filter, list_any}
 use Rattle.std.specs.Str.{bytes_eq}
@@ -15,11 +15,11 @@ use Rattle.udfs_salvage.specs.NodeTexts.{path_name}
 abbrev pub goes_on : List ℕ → List ℕ → Bool
 goes_on front text = bytes_eq (take (suc (length front)) text) (front ++ codes "/")
 
--- the word is the text of a path, or of a folder above it; `/` is above all
+-- the argument is the text of a path, or of a folder above it; `/` is above all
 abbrev pub is_under : List ℕ → List ℕ → Bool
 is_under word text = bytes_eq word (codes "/") || bytes_eq text word || goes_on word text
 
--- one of the words asks for the path
+-- one of the arguments asks for the path
 abbrev pub is_chosen : List (List ℕ) → List (List ℕ) → Bool
 is_chosen only path = list_any (λ word. is_under word (path_name path)) only
 
@@ -31,7 +31,7 @@ chosen only nodes = filter (λ n. is_chosen only n.path) nodes
 abbrev pub is_node : List NodeFields → List ℕ → Bool
 is_node nodes word = list_any (λ n. bytes_eq (path_name n.path) word) nodes
 
--- A word asks for the paths that begin with the names that it prints, whole names each: of `/a` for `/a` and `/a/b`, and not for `/ab`.
+-- An argument that is not empty asks for the paths that begin with the whole names that it prints: `/a` asks for `/a` and `/a/b`, and not for `/ab`.
 abbrev pub AsksByNames : Type 0
 AsksByNames = (word : List ℕ) (path : List (List ℕ)) → word ≢ []
     → (is_under word (path_name path) ≡ true → (k : ℕ) × (path_name (take k path) ≡ word)) × ((k : ℕ) → path_name (take k path) ≡ word → is_under word (path_name path) ≡ true)

@@ -5,7 +5,7 @@
 --     Spares folder held               nothing outside of the folder changes, nor any file that was there
 --     IsSafe .. path bytes             a path holds these bytes, and since some moment each crash leaves them
 --     IsPut .. index node fate         what the fate of a node says of its file
---     Puts                             nodes from the first behind the root on, with their fates and lines
+--     Puts                             nodes from the first after the root on, with their fates and lines
 --     PutsReport                       all nodes with their files and lines, or the line of a volume that does not open
 --     IsDone only P index node fate    this holds of a node that is asked for, and any other is passed over
 --     ExtractsChosen                   what is made and reported of the nodes that are asked for, where any other is passed over
@@ -28,7 +28,8 @@ use Rattle.udfs_lattice.specs.Tables.{Table, state_of}
 use Rattle.udfs_walk.specs.declared.standings.Standing.{Standing}
 use Rattle.udfs_walk.specs.declared.standings.Standing.TheVariants as standing
 use Rattle.udfs_salvage.specs.Extraction.{is_offered}
-use Rattle.udfs_salvage.specs.Reports.{Report, IsReportBy, all_whole, is_whole}
+use Rattle.udfs_salvage.specs.Reports.{Report, IsReportBy, all_whole}
+use Rattle.udfs_walk.specs.Unsettled.{is_whole}
 use Rattle.udfs_salvage.specs.declared.extraction.Fill.{Fill}
 use Rattle.udfs_extraction.specs.Choosing.{chosen, is_chosen, is_node}
 use Rattle.udfs_extraction.specs.ShortNames.{own_name, placed}
@@ -59,7 +60,7 @@ IsFateOf Folder fate = (fate ≢ Written) × (fate ≢ Skipped) × (fate ≢ Pas
 IsFateOf File fate = (fate ≢ Made) × (fate ≢ Skipped) × (fate ≢ Passed)
 IsFateOf Skip fate = fate ≡ Skipped
 
--- a file that was written has its short name behind its path, where it has one
+-- a file that was written has its short name after its path, where it has one
 abbrev pub written_line : List (List ℕ) → Option (List ℕ) → List ℕ
 written_line path None = line (codes "written " ++ names_text path)
 written_line path (Some own) = line (codes "written " ++ names_text path ++ codes " as " ++ escaped own)
@@ -93,7 +94,7 @@ abbrev pub all_good : List Fate → Bool
 all_good [] = true
 all_good (fate ∷ fates) = if is_good fate then all_good fates else false
 
--- a path in the folder: that of the folder, and each name in its escaped form behind a `/`
+-- a path in the folder: that of the folder, and each name in its escaped form after a `/`
 abbrev pub path_below : List ℕ → List (List ℕ) → List ℕ
 path_below folder names = folder ++ names_text names
 

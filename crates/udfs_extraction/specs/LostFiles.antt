@@ -1,7 +1,7 @@
 -- What `extract --unnamed` makes of the entries that no name leads to: a lost file is one of them that is a file with data, and whole.
 --     lost_name two entry              its block, with the partition reference in front where there are two partitions
 --     lost_lines two entries fates     what is printed of entries, each with its fate, in order
---     IsUnder folder q                 a path behind the folder's and a `/`
+--     IsUnder folder q                 a path that begins with the folder's and a `/`
 --     IsLostPut .. entry fate          what the fate of an entry says of its file
 --     PutsLost                         all entries with their fates and lines
 --     SparesLost .. before after       no file that was there changes, nor anything outside of the folder, whatever crashes
@@ -57,7 +57,7 @@ lost_lines two (u ∷ us) (fate ∷ fates) = lost_line two fate u ++ lost_lines 
 
 -- ---- what is spared
 
--- a path behind the folder's and a `/`
+-- a path that begins with the folder's and a `/`
 abbrev pub IsUnder : List ℕ → List ℕ → Type 0
 IsUnder folder q = (name : List ℕ) × (q ≡ folder ++ codes "/" ++ name)
 

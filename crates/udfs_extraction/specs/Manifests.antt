@@ -7,7 +7,7 @@
 --     ListsChosen                             the same of the report of a table, and the manifest is put after the files
 --     SparesListed                            what is left as it was, whatever is returned
 --     IsFreeManifest                          a manifest takes the place of no file but a manifest, of none of the inputs, and of none that is written
---     IsSparedManifest                        why its place is refused
+--     IsSparedManifest                        why its place is rejected
 use Rattle.std.specs.Prelude.{◌≡◌, ◌≢◌, ◌⊎◌, ℕ, Bool, true, false, List, [], ◌∷◌, ◌++◌, suc, Option, Some, None, codes, drop, flat_map, slice_get}
 use Rattle.sha2.specs.Sha256.{sha256}
 use Rattle.udfs_files.specs.Disk.{Disk, Goes, IsOwn, Replaced}
@@ -48,7 +48,7 @@ AreLines names holds folder index [] (fate ∷ fates) text = ⊥
 AreLines names holds folder index (n ∷ ns) (fate ∷ fates) text =
     (first : List ℕ) × (rest : List ℕ) × IsLine holds folder (names index n) fate first × AreLines names holds folder (suc index) ns fates rest × (text ≡ first ++ rest)
 
--- those of the nodes behind the root, each where it was written
+-- those of the nodes after the root, each where it was written
 abbrev pub IsManifest : (List ℕ → Option (Option (List ℕ))) → List ℕ → Bool → Report → List Fate → List ℕ → Type 0
 IsManifest holds folder short report fates text = AreLines (placed short report) holds folder 1 (drop 1 report.nodes) fates text
 

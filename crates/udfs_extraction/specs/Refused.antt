@@ -1,6 +1,6 @@
 -- Why `extract` fails, and what was made and reported by then.
 --     NamesNoNode          a path that is asked for is no node's, and it is named
---     StopsBehind          memory was refused, or the output failed once all were put
+--     StopsBehind          memory ran out, or the output failed and all were put
 --     StopsNodes           nodes were put and reported, and then that was so
 --     StopsPutting         what a report has for the folder was not put and reported, or only in part
 --     StopsListing         the same, or it was, and its manifest was not put
@@ -8,7 +8,7 @@
 --     StopsAdding          the nodes were put and reported, and then lost files were not
 --     IsRefusedMaking      a table has no report, or memory ran out before, and nothing was made or reported; or this is said of its report
 --     MakingRefused        the same of the inputs that the arguments ask for
---     UnseenOr, TakenOr    the place of a manifest, or of the folder for lost files, was refused; or this is so
+--     UnseenOr, TakenOr    the place of a manifest, or of the folder for lost files, was rejected; or this is so
 --     NodesStop, ListStops, AddStops, ListAddStops                which of these is said where only nodes are put, with a manifest, with lost files, and with both
 --     NodesRefused, ListRefused, AddRefused, ListAddRefused       the same by the arguments
 --     ExtractRefused       which of these the arguments ask for
@@ -53,11 +53,11 @@ pub record NamesNoNode (only : List (List ℕ)) (nodes : List NodeFields) (refus
   pub first : (k : ℕ) (earlier : List ℕ) → k < place → slice_get only k ≡ Some earlier → is_node nodes earlier ≡ true
   pub named : refusal ≡ NoNode (place + 1)
 
--- the output fails once all of them are put
+-- memory ran out; or the output failed, and all of them were put
 abbrev pub StopsBehind : Bool → ℕ → ℕ → Refusal → Type 0
 StopsBehind heard put all refusal = (refusal ≡ Memory alloc_error) ⊎ ((refusal ≡ Output) × (heard ≡ false) × (put ≡ all))
 
--- nodes from the first behind the root on have their fates, and their lines as far as the output took them
+-- nodes from the first after the root on have their fates, and their lines as far as the output took them
 pub record StopsNodes (own : NodeFields → Option (List ℕ)) (P : ℕ → NodeFields → Fate → Type 0) (nodes : List NodeFields) (old new : Stream) (refusal : Refusal) : Type 0 where
   pub heard : Bool
   pub fates : List Fate
@@ -112,7 +112,7 @@ abbrev pub MakingRefused : {R I : Type 0} → (List ℕ → Option (Option (List
 MakingRefused found shut remaining faults words Before Stops refusal = (Before × (refusal ≡ Memory alloc_error)) ⊎ AskedRefused found shut remaining faults words (asked_inputs words) Before (λ profile last. IsRefusedMaking Before profile last
     (λ table report why. (fill : Fill) × (short : Bool) × IsPicked words (codes "fill") (Byte 0) Refuse fill × IsPicked words (codes "short-names") true false short × Stops fill short table report why)) refusal
 
--- before an input was opened, the manifest's place was spared for this reason, or could not be seen, or memory was refused; or this is so
+-- before an input was opened, the manifest's place was rejected for this reason, or could not be seen, or memory ran out; or this is so
 abbrev pub UnseenOr : Type 0 → Type 0 → Type 0 → (Refusal → Type 0) → Refusal → Type 0
 UnseenOr Before Spares Unseen Refused refusal = (Before × ((refusal ≡ Memory alloc_error) ⊎ ((refusal ≡ Spared) × Spares) ⊎ ((refusal ≡ Output) × Unseen))) ⊎ Refused refusal
 

@@ -29,7 +29,7 @@ icb_number two reference block = cond two (decimal reference ++ codes "-" ++ dec
 abbrev pub is_too_long : List ℕ → Bool
 is_too_long name = nat_lt 255 (length (escaped name))
 
--- its escaped form has at most 255 bytes, and can stand in a path: it is not empty, not `.` or `..`, and has no `/`, no control and so no zero byte
+-- its escaped form has at most 255 bytes, and can be part of a path: it is not empty, not `.` or `..`, and has no `/`, no control and so no zero byte
 pub record IsFileName (name : List ℕ) : Type 0 where
   pub few : length (escaped name) ≤ 255
   pub part : IsPathPart (escaped name)
@@ -50,7 +50,7 @@ front_count room (u ∷ v ∷ us) =
     if is_high_surrogate u && is_low_surrogate v then (if nat_le 4 room then 2 + front_count (room - 4) us else 0)
     else (if nat_le (unit_size u) room then 1 + front_count (room - unit_size u) (v ∷ us) else 0)
 
--- what stands behind the beginning
+-- the end of a short name: `~`, and the number of the information control block
 abbrev pub short_end : Bool → LbAddr → List ℕ
 short_end two icb = codes "~" ++ icb_number two icb.reference icb.block
 
@@ -58,7 +58,7 @@ short_end two icb = codes "~" ++ icb_number two icb.reference icb.block
 abbrev pub short_name : Bool → LbAddr → List ℕ → List ℕ
 short_name two icb name = take (front_count (255 - length (short_end two icb)) name) name ++ short_end two icb
 
--- A beginning of a name with this end behind it, which file systems take. No longer beginning has room.
+-- A beginning of a name, followed by this end, which file systems take. No longer beginning fits.
 pub record IsShortOf (name end short : List ℕ) : Type 0 where
   pub count : ℕ
   pub is : short ≡ take count name ++ end

@@ -23,7 +23,7 @@ path_byte b =
 abbrev pub path_text : List ℕ → List ℕ
 path_text path = flat_map path_byte path
 
--- a backslash stands in front of a line whose path has one of these bytes
+-- the backslash at the beginning of a line whose path has one of these bytes
 abbrev pub mark : List ℕ → List ℕ
 mark path = if list_any must_escape path then 92 ∷ [] else []
 
@@ -37,11 +37,11 @@ sum_line digest path = mark path ++ encode_lower digest ++ codes "  " ++ path_te
 abbrev pub is_digit : ℕ → Bool
 is_digit b = (nat_le 48 b && nat_le b 57) || (nat_le 97 b && nat_le b 102)
 
--- a byte in the place of this sign: `0` stands for any hexadecimal digit
+-- the byte matches this sign: `0` matches any hexadecimal digit in lower case, and any other sign itself
 abbrev pub fits : ℕ → ℕ → Bool
 fits sign b = if sign == 48 then is_digit b else b == sign
 
--- the bytes begin with bytes in the place of these signs
+-- the bytes begin with bytes that match these signs
 abbrev pub begins_by : List ℕ → List ℕ → Bool
 begins_by [] bytes = true
 begins_by (sign ∷ signs) [] = false
@@ -51,11 +51,11 @@ begins_by (sign ∷ signs) (b ∷ bytes) = if fits sign b then begins_by signs b
 abbrev pub sum_signs : List ℕ
 sum_signs = codes "0000000000000000000000000000000000000000000000000000000000000000  "
 
--- the same behind the first digit
+-- the same after the first digit
 abbrev pub more_signs : List ℕ
 more_signs = codes "000000000000000000000000000000000000000000000000000000000000000  "
 
--- nothing; or a digest and two spaces, perhaps behind a backslash
+-- nothing; or a digest and two spaces, perhaps after a backslash
 abbrev pub begins_as_sums : List ℕ → Bool
 begins_as_sums [] = true
 begins_as_sums (b ∷ bytes) = if b == 92 then begins_by sum_signs bytes else if is_digit b then begins_by more_signs bytes else false

@@ -4,7 +4,7 @@ ghost use Rattle.std.specs.Prelude.{◌≡◌, ◌<◌, ◌-◌, ◌⊎◌, ℕ,
 ghost use Rattle.std.specs.List.{list_all, list_any};
 ghost use Rattle.std.specs.Str.{bytes_eq};
 ghost use Rattle.udfs_salvage.specs.NodeTexts.{path_name};
-ghost use Rattle.udfs_salvage.specs.Reports.{is_whole};
+ghost use Rattle.udfs_walk.specs.Unsettled.{is_whole};
 ghost use Rattle.udfs_extraction.specs.Choosing.{AsksByNames, chosen, goes_on, is_chosen, is_node, is_under};
 ghost use Rattle.udfs_extraction.specs.Refused.{NamesNoNode};
 
@@ -16,7 +16,7 @@ use udfs_walk::{Node, Path, Standing};
 /// The path that asks for all nodes: that of the root.
 pub const ALL: &str = "/";
 
-/// Whether a text goes on behind this front with a `/`.
+/// Whether a text begins with `front` and then a `/`.
 pub fn goes_on(front: &str, text: &str) -> bool
     ensures { result ≡ goes_on front.now text.now }
 {
@@ -26,14 +26,14 @@ pub fn goes_on(front: &str, text: &str) -> bool
     }
 }
 
-/// Whether a word asks for the path of this text: it is that path, or that of a folder above it. `/` asks for all.
+/// Whether an argument asks for the path of this text: it is that path, or that of a folder above it. `/` asks for all.
 fn is_under(word: &str, text: &str) -> bool
     ensures { result ≡ is_under word.now text.now }
 {
     word == ALL || text == word || goes_on(word, text)
 }
 
-/// Whether one of these words asks for the path of this text.
+/// Whether one of these arguments asks for the path of this text.
 fn is_any_above(only: &[&str], text: &str) -> bool
     ensures { result ≡ list_any (λ word. is_under word text.now) (map (λ word. word.now) only.now) }
 {
@@ -45,7 +45,7 @@ fn is_any_above(only: &[&str], text: &str) -> bool
     false
 }
 
-/// Whether one of these words goes on behind this text with a `/`.
+/// Whether one of these arguments begins with this text and then a `/`.
 fn is_any_below(only: &[&str], text: &str) -> bool
     ensures { result ≡ list_any (λ word. goes_on text.now word) (map (λ word. word.now) only.now) }
 {
@@ -70,7 +70,7 @@ fn text_of(alloc: Global, path: &Path) -> Result<String, AllocError>
     Ok(text)
 }
 
-/// Whether one of these words asks for the node of this path.
+/// Whether one of these arguments asks for the node of this path.
 pub fn is_chosen(alloc: Global, only: &[&str], path: &Path) -> Result<bool, AllocError>
     ensures { IfOk result (λ yes. yes ≡ is_chosen (map (λ word. word.now) only.now) path.now) }
 {
@@ -83,7 +83,7 @@ pub fn is_chosen(alloc: Global, only: &[&str], path: &Path) -> Result<bool, Allo
     Ok(is_any_above(only, text.as_str()))
 }
 
-/// Whether one of these words asks for something below the node of this path.
+/// Whether one of these arguments begins with this path, as the report prints it, and then a `/`.
 pub fn is_above(alloc: Global, only: &[&str], path: &Path) -> Result<bool, AllocError>
     ensures { IfOk result (λ yes. yes ≡ list_any (λ word. goes_on (path_name path.now) word) (map (λ word. word.now) only.now)) }
 {
@@ -102,7 +102,7 @@ fn is_printed_so(alloc: Global, path: &Path, word: &str) -> Result<bool, AllocEr
     Ok(text.as_str() == word)
 }
 
-/// Whether a word is the path of one of these nodes.
+/// Whether an argument is the path of one of these nodes, as the report prints it.
 fn is_node(alloc: Global, nodes: &[Node], word: &str) -> Result<bool, AllocError>
     ensures { IfOk result (λ yes. yes ≡ is_node nodes.now word.now) }
 {
@@ -114,7 +114,8 @@ fn is_node(alloc: Global, nodes: &[Node], word: &str) -> Result<bool, AllocError
     Ok(false)
 }
 
-/// That each of these words is the path of a node; or which is the first that is none, counted from 1.
+/// Checks that each of these arguments is the path of a node. Fails with `NoNode` and the number of the first that is not, counted from 1; or with
+/// `Memory` where memory runs out.
 pub fn all_are_nodes(alloc: Global, only: &[&str], nodes: &[Node]) -> Result<(), Refusal>
     ensures all { OnOk result (list_all (is_node nodes.now) (map (λ word. word.now) only.now) ≡ true) }
     ensures why { IfErr result (λ refusal. (refusal ≡ Refusal.Memory alloc_error) ⊎ NamesNoNode (map (λ word. word.now) only.now) nodes.now refusal) }
@@ -130,7 +131,7 @@ pub fn all_are_nodes(alloc: Global, only: &[&str], nodes: &[Node]) -> Result<(),
     Ok(())
 }
 
-/// Whether all of these nodes that one of the words asks for are whole.
+/// Whether all of these nodes that one of the arguments asks for are whole.
 pub fn chosen_are_whole(alloc: Global, only: &[&str], nodes: &[Node]) -> Result<bool, AllocError>
     ensures { IfOk result (λ whole. whole ≡ list_all (λ n. is_whole n.standing) (chosen (map (λ word. word.now) only.now) nodes.now)) }
 {
@@ -142,7 +143,7 @@ pub fn chosen_are_whole(alloc: Global, only: &[&str], nodes: &[Node]) -> Result<
     Ok(true)
 }
 
-/// A law: a word that is not empty asks for the nodes whose first names, or all of them, are printed so. No name stands for another with the same beginning.
+/// A law: an argument that is not empty asks for exactly the nodes whose first names, or all of them, are printed so. It never matches a part of a name.
 pub fn asks_by_names()
     ensures { AsksByNames }
 {}

@@ -89,7 +89,7 @@ fn fill_and_digest<F: Files, J: Job>(output: F::Output, job: &J) -> Result<Fille
 ///
 /// # Errors
 ///
-/// The job's refusal, and the output is closed.
+/// The error of the job. Then the output is closed.
 pub fn fill_noting<F: Files, J: Job>(
     output: F::Output,
     job: &J,

@@ -102,9 +102,10 @@ pub fn list_report<F: Files, O: Sink>(
     }
 }
 
-/// Does what [`extract`](crate::extract::extract) does, and then puts the manifest of the files that were written at a place that is none of theirs, whole or not at all: the
-/// digest of each was taken while its bytes were written. Where the volume does not open, or the call fails, it puts none, and an old one stays; but at
-/// `Unkept` the new one is in its place, whole, and a crash may bring the old one back.
+/// Does what [`extract`](crate::extract::extract) does, and then writes the manifest of the files that were written to `place`, whole or not at all.
+/// `place` must not be the path of any of them. The digest of each is taken while its bytes are written. Where the volume does not open, or the call
+/// fails, no manifest is written, and an old one stays; but where it fails with `Unkept`, the new one is in its place, whole, and a crash may bring the
+/// old one back.
 pub fn extract_listed<F: Files, O: Sink>(
     alloc: Global,
     inputs: &[InputPath<'_>],

@@ -1,4 +1,4 @@
-//! Where a manifest goes: to a path that is none of the files that are written, and takes the place of nothing but a manifest.
+//! Where a manifest goes: to a path that no written file has, and over no old file but a manifest or an empty one.
 
 ghost use Rattle.std.specs.Prelude.{◌≡◌, ◌⊎◌, ◌∷◌, ◌++◌, ℕ, List, Some, true, false, IfOk, IfErr, IsErrOf, OnErr, codes, map, string_bytes, alloc_error};
 ghost use Rattle.udfs_common.specs.Guarding.{MayNotBeSeen};
@@ -17,7 +17,7 @@ use udfs_reading::{DeviceFault, Source};
 /// Signs for the beginning of a manifest's line: 64 hexadecimal digits and two spaces.
 const SUM: &[u8] = b"0000000000000000000000000000000000000000000000000000000000000000  ";
 
-/// The same behind the first digit.
+/// The same after the first digit.
 const MORE: &[u8] = b"000000000000000000000000000000000000000000000000000000000000000  ";
 
 /// Whether a byte is a hexadecimal digit, of which none is upper case.
@@ -27,7 +27,7 @@ fn is_digit(byte: u8) -> bool
     (48 <= byte && byte <= 57) || (97 <= byte && byte <= 102)
 }
 
-/// Whether a byte stands in the place of this sign: `0` stands for any hexadecimal digit.
+/// Whether a byte matches this sign: `0` matches any hexadecimal digit in lower case, and any other sign itself.
 fn fits(sign: u8, byte: u8) -> bool
     ensures { result ≡ fits sign byte }
 {
@@ -38,7 +38,7 @@ fn fits(sign: u8, byte: u8) -> bool
     }
 }
 
-/// Whether what a source has left begins with bytes in the place of these signs. It reads one at a time, and no more than it needs.
+/// Whether what a source has left begins with bytes that match these signs. It reads one at a time, and no more than it needs.
 fn begins_by<R: Source>(source: &mut R, signs: &[u8]) -> Result<bool, DeviceFault>
     ensures begins { IfOk result (λ so. (bytes : List ℕ) → R.remaining source.old ≡ Some bytes → so ≡ begins_by signs.now bytes) }
     ensures fault { OnErr result (Fails R.faults) }
@@ -57,7 +57,7 @@ fn begins_by<R: Source>(source: &mut R, signs: &[u8]) -> Result<bool, DeviceFaul
     }
 }
 
-/// Whether this byte, and behind it what a source has left, begin as a manifest's line does.
+/// Whether this byte, followed by what a source has left, begins as a manifest's line does.
 fn begins_behind<R: Source>(first: u8, source: &mut R) -> Result<bool, DeviceFault>
     ensures begins { IfOk result (λ so. (rest : List ℕ) → R.remaining source.old ≡ Some rest → so ≡ begins_as_sums (first ∷ rest)) }
     ensures fault { OnErr result (Fails R.faults) }

@@ -20,7 +20,7 @@ const PIECE: usize = 262_144;
 /// Why the text of a manifest was not written.
 #[derive(Clone, Copy, Debug, PartialEq, Eq)]
 pub enum TextError {
-    /// Memory was refused.
+    /// Memory ran out.
     OutOfMemory,
     /// The sink failed.
     NotWritten,

@@ -59,7 +59,7 @@ fn without_file(fate: Fate) -> Done
     Done { fate, digest: None }
 }
 
-/// The path of a node in a folder: the folder's, and its place, which is each name in its escaped form behind a `/`. An escaped name has no
+/// The path of a node in a folder: the folder's, and its place, which is each name in its escaped form after a `/`. An escaped name has no
 /// `/` and is neither `.` nor `..`, so the path leads nowhere but below the folder.
 pub fn path_in(alloc: Global, folder: &str, place: &str) -> Result<String, AllocError>
     ensures { IfOk result (λ path. string_bytes path ≡ folder.now ++ place.now) }
@@ -151,7 +151,7 @@ pub fn finish_file<F: Files>(path: &str, output: F::Output, files: &mut F) -> Fa
     }
 }
 
-/// Writes the node of this index to a file that was made for it, or removes the file. Where memory is refused, it is removed too.
+/// Writes the node of this index to `output`, a new file at `path`. Where that fails, or memory runs out, it tries to remove the file.
 fn fill_file<F: Files>(
     alloc: Global,
     listing: &Listing<'_>,
@@ -198,8 +198,8 @@ fn fill_file<F: Files>(
     }
 }
 
-/// Writes the node of this index to a new file, which is synced then, and its folder too. Where it could not be made or written, or memory
-/// ran out, none is left, and what another file of this path holds is untouched.
+/// Writes the node of this index to a new file, and then syncs it and its folder. Where it could not be written, or memory ran out, it tries
+/// to remove the new file. What another file of this path holds is untouched.
 fn write_file<F: Files>(
     alloc: Global,
     listing: &Listing<'_>,

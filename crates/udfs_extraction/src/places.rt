@@ -50,7 +50,7 @@ fn icb_at(listing: &Listing<'_>, way: &[usize], index: usize, depth: usize) -> L
     }
 }
 
-/// Appends a name behind a `/`, or the short one of a name that is too long.
+/// Appends a `/`, and then a name in its escaped form, or its short name where it is too long.
 fn push_part(
     alloc: Global,
     text: &mut String,
@@ -67,7 +67,7 @@ fn push_part(
     }
 }
 
-/// Appends the names of the path of the node of this index, each behind a `/`, and the short ones of those that are too long.
+/// Appends the names of the path of the node of this index, each after a `/`, and short names in place of those that are too long.
 fn push_parts(
     alloc: Global,
     text: &mut String,
@@ -94,7 +94,7 @@ fn push_parts(
 /// Where a node is written.
 #[derive(Drop)]
 pub struct Place {
-    /// Its place below the folder: names in their escaped forms, each behind a `/`.
+    /// Its place below the folder: names in their escaped forms, each after a `/`.
     pub text: String,
     /// Its short name, where it has one.
     pub own: Option<Name>,
@@ -163,7 +163,7 @@ pub fn place_of(
     Ok(Place { text, own })
 }
 
-/// Where a walk goes on from to the node of this index: from the node that it is at, or where that stands behind, from the root.
+/// The index from which a walk goes on to `index`: `at`, or where `at` is greater, 0, that of the root, and then `way` is cleared.
 fn begin(way: &mut Vec<usize>, at: usize, index: usize) -> usize
     ensures before { result ≤ index }
     ensures way { (nodes : List NodeFields) → IsWay nodes at way.old.items → IsWay nodes result way.new.items }

@@ -106,7 +106,7 @@ fn push_ascii(bytes: &mut Vec<u8>, text: &[u8]) -> Result<(), AllocError>
     Ok(())
 }
 
-/// What stands behind the beginning of a short name: `~`, and the number of the information control block.
+/// The end of a short name: `~`, and the number of the information control block.
 fn short_end(alloc: Global, two: bool, icb: LbAddr) -> Result<String, AllocError>
     ensures { IfOk result (λ end. string_bytes end ≡ short_end two icb) }
 {
@@ -115,7 +115,7 @@ fn short_end(alloc: Global, two: bool, icb: LbAddr) -> Result<String, AllocError
     Ok(end)
 }
 
-/// The short one of a name: as much of its beginning as fits with what stands behind it.
+/// The short form of a name: as much of its beginning as fits together with the end, and the end.
 fn short_name(alloc: Global, two: bool, icb: LbAddr, name: &Name) -> Result<Name, AllocError>
     ensures name { IfOk result (λ short. short ≡ short_name two icb name.now) }
     ensures longest { IfOk result (λ short. IsShortOf name.now (short_end two icb) short) }

@@ -21,7 +21,7 @@ pub struct Spare {
 }
 
 impl Spare {
-    /// There is none yet.
+    /// Without a piece yet.
     pub fn new() -> Spare {
         Spare {
             piece: Cell::new(None),

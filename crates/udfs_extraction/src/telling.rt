@@ -12,7 +12,7 @@ use udfs_reading::{Sink, WriteFault, write_all};
 use udfs_salvage::push_names;
 use udfs_walk::Path;
 
-/// A word, the path of a node and a line feed.
+/// A keyword, the path of a node and a line feed.
 fn line_of(alloc: Global, word: &str, names: &Path) -> Result<String, AllocError>
     ensures { IfOk result (λ text. string_bytes text ≡ line (word.now ++ names_text names.now)) }
 {

@@ -204,8 +204,8 @@ fn set_folder_time<F: Files>(
     }
 }
 
-/// Sets the times of the folders that were made, which have the indexes of their nodes, in order, and at last that of the folder which stands for the root. Setting one
-/// changes no other.
+/// Sets the times of the folders that were made, in order, and last that of `folder`, which is the root's. `made` holds the indexes of their nodes.
+/// Setting one changes no other.
 pub fn set_folder_times<F: Files>(
     alloc: Global,
     listing: &Listing<'_>,

@@ -54,7 +54,7 @@ pub fn lost_path(
     Ok(path)
 }
 
-/// Some words, the name of the file of an entry and a line feed.
+/// `words`, the name of the file of an entry and a line feed.
 fn line_of(alloc: Global, words: &str, two: bool, entry: &Unnamed) -> Result<String, AllocError>
     ensures { IfOk result (λ text. string_bytes text ≡ line (words.now ++ lost_name two entry.now)) }
 {
@@ -138,7 +138,7 @@ impl<'a, 'r> Job for LostBytes<'a, 'r> {
     }
 }
 
-/// Writes the lost file of this index to a file that was made for it, or removes the file. Where memory is refused, it is removed too.
+/// Writes the lost file of this index to `output`, a new file at `path`. Where that fails, or memory runs out, it tries to remove the file.
 fn fill_lost<F: Files>(
     alloc: Global,
     listing: &Listing<'_>,
@@ -181,8 +181,8 @@ fn fill_lost<F: Files>(
     }
 }
 
-/// Writes the lost file of this index to a new file, which is synced then, and its folder too. Where it could not be made or written, or memory ran out, none is left, and what
-/// another file of this path holds is untouched.
+/// Writes the lost file of this index to a new file, and then syncs it and its folder. Where it could not be written, or memory ran out, it tries to
+/// remove the new file. What another file of this path holds is untouched.
 fn write_lost_file<F: Files>(
     alloc: Global,
     listing: &Listing<'_>,

@@ -2,14 +2,14 @@
 use Rattle.std.proofs.Common.{◌≡◌, refl, sym, ◌∙◌, ap, subst, inl, inr, ℕ, ◌+◌, Bool, true, false, List, [], ◌∷◌, length, take, drop, map, cond, Option, Some, None}
 use Rattle.std.specs.Prelude.{Result, Ok, Err}
 use Rattle.std.specs.List.{cons_option}
-use Rattle.udfs_lattice.specs.Volumes.{Includes}
+use Rattle.udfs_lattice.proofs.Inclusion.{Includes, included}
 use Rattle.udfs_osta.specs.Escapes.{escaped}
 use Rattle.udfs_osta.specs.Names.{units_of}
 use Rattle.udfs_osta.specs.Parts.{IsPathPart}
 use Rattle.udfs_osta.specs.declared.names.NameFault.{NameFault}
 use Rattle.udfs_osta.proofs.PublicLaws.{escaped_name_is_path_part}
 use Rattle.udfs_tag.specs.Fields.{uint8_at, uint16_at, long_ad_at, part}
-use Rattle.udfs_file.specs.Fronts.{directory, entry_with, identifier_in, is_listed, listed_entries, marks_of, step, ReadsAs, value}
+use Rattle.udfs_file.specs.Fronts.{directory, directory_entries, entry_with, identifier_in, is_listed, listed_entries, marks_of, step, ReadsAs, value}
 use Rattle.udfs_file.specs.Identifiers.{Identifier, Rest, Step, One}
 use Rattle.udfs_file.specs.Laws.{NamesAreParts}
 use Rattle.udfs_file.specs.declared.cells.Cell.{Cell}
@@ -62,4 +62,4 @@ all_named (id ∷ ids) rest cs (e, r) d i = go (all_named ids rest (drop id.size
     go ih (Some x) q (inr j) = ih j
 
 pub names_are_parts : NamesAreParts
-names_are_parts cs d i = all_named (directory cs).identifiers (directory cs).rest cs (directory_reads cs) d i
+names_are_parts cs d i = all_named (directory cs).identifiers (directory cs).rest cs (directory_reads cs) d (included (directory_entries cs) d i)

@@ -5,7 +5,7 @@ use Rattle.std.proofs.lemmas.List.Sums.{take_while-cons}
 use Rattle.std.proofs.lemmas.Bool.{eqb-true, leb-true}
 use Rattle.std.proofs.lemmas.Option.{slice_get_within}
 use Rattle.udfs_lattice.specs.States.{is_known}
-use Rattle.udfs_lattice.specs.Volumes.{Includes}
+use Rattle.udfs_lattice.proofs.Inclusion.{Includes, included, contained}
 use Rattle.udfs_tag.specs.declared.layouts.LongAd.{LongAd}
 use Rattle.udfs_space.specs.Places.{View, IsPartOf}
 use Rattle.udfs_file.specs.Entries.{EntryFields}
@@ -64,13 +64,13 @@ unfolding used
 to_needed w size ds k n h = go (need_taken w size 0 ds k n h)
   where
     go : IsFor w size k n (taken_from size 0 ds) → IsRecordedFor w size (taken_from size 0 ds) k n ⊎ IsContinuedFor w (taken_from size 0 ds) k n
-    go (e, i, inl q) = inl (record { extent = e; is_taken = i; is_recorded = q.0; from = q.1; to = q.2; place = q.3 })
-    go (e, i, inr q) = inr (record { extent = e; is_taken = i; continues = q.0; from = q.1; place = q.2 })
+    go (e, i, inl q) = inl (record { extent = e; is_taken = contained (taken_from size 0 ds) e i; is_recorded = q.0; from = q.1; to = q.2; place = q.3 })
+    go (e, i, inr q) = inr (record { extent = e; is_taken = contained (taken_from size 0 ds) e i; continues = q.0; from = q.1; place = q.2 })
 
 from_needed : (w : View) (size : ℕ) (ds : List LongAd) (k n : ℕ) → IsRecordedFor w size (used size ds) k n ⊎ IsContinuedFor w (used size ds) k n → NeedIn w size 0 ds k n
 unfolding used
-from_needed w size ds k n (inl q) = taken_need w size 0 ds k n (q.extent, q.is_taken, inl (q.is_recorded, q.from, q.to, q.place))
-from_needed w size ds k n (inr q) = taken_need w size 0 ds k n (q.extent, q.is_taken, inr (q.continues, q.from, q.place))
+from_needed w size ds k n (inl q) = taken_need w size 0 ds k n (q.extent, included (taken_from size 0 ds) q.extent q.is_taken, inl (q.is_recorded, q.from, q.to, q.place))
+from_needed w size ds k n (inr q) = taken_need w size 0 ds k n (q.extent, included (taken_from size 0 ds) q.extent q.is_taken, inr (q.continues, q.from, q.place))
 
 -- embedded bytes are all there
 no_gap : (b : ℕ) (xs : List ℕ) (k : ℕ) → IsMissingAt (map (λ x. Byte x (Some b)) xs) k → ⊥

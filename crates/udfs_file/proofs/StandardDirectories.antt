@@ -1,11 +1,12 @@
 -- A directory whose body is a list of descriptors lists these, and has no fault.
-use Rattle.std.proofs.Common.{◌≡◌, refl, sym, ◌∙◌, ap, subst, ℕ, ◌+◌, ◌≤◌, inl, inr, Bool, true, false, List, [], ◌∷◌, ◌++◌, length, take, drop, map, cond, ◌||◌, arith, Option, Some, None, nat_lt}
-use Rattle.std.specs.Prelude.{zero, suc, Result, Ok, Err}
+use Rattle.std.proofs.Common.{◌≡◌, refl, sym, ◌∙◌, ap, subst, ℕ, ◌+◌, ◌≤◌, inl, inr, ◌⊎◌, Bool, true, false, List, [], ◌∷◌, ◌++◌, length, take, drop, map, cond, ◌||◌, arith, Option, Some, None, nat_lt}
+use Rattle.std.specs.Prelude.{zero, suc, Result, Ok, Err, Contains}
 use Rattle.std.proofs.lemmas.List.{length-append, length-map}
 use Rattle.std.proofs.Math.Seq.{take-append_seam, drop-append_seam}
 use Rattle.udfs_osta.specs.Names.{units_of}
 use Rattle.udfs_osta.specs.declared.names.NameFault.{NameFault}
 use Rattle.udfs_tag.specs.Fields.{uint8_at, uint16_at, part}
+use Rattle.udfs_lattice.proofs.Inclusion.{here, there, here_or_there, in_nothing}
 use Rattle.udfs_file.specs.Complete.{AreShort, DescriptorsAreShort, StandardDirectories, as_cell, as_cells}
 use Rattle.udfs_file.specs.Fronts.{checked_identifier, directory, entry_with, first_missing, holder_of, identifier_in, identifier_size, is_listed, or_stop, sized_identifier, step, value, ReadsAs}
 use Rattle.udfs_file.specs.Identifiers.{Identifier, Rest, Nothing, Wrong, Step, AtRest, One}
@@ -93,8 +94,8 @@ reads_back [] whole e h = ap (λ z. step (as_cells z)) e
 reads_back (id ∷ ids) [] (piece, rest, w, i, d) h = absurd (let long : 38 ≤ length piece = i.long_enough in let none : 0 ≡ length piece + length rest = ap length w ∙ length-append piece rest in
     let z : ⊥ = omega (arith, long, none) in z)
 reads_back (id ∷ ids) (x ∷ xs) (piece, rest, w, i, d) h = (
-  step_back x xs piece rest id w i (h id (inl refl)),
-  subst (λ z. ReadsAs z ids Nothing) (sym behind) (reads_back ids rest d (λ j k. h j (inr k))),
+  step_back x xs piece rest id w i (h id (here id ids)),
+  subst (λ z. ReadsAs z ids Nothing) (sym behind) (reads_back ids rest d (λ j k. h j (there id ids j k))),
 )
   where
     behind : drop id.size (as_cells (x ∷ xs)) ≡ as_cells rest
@@ -131,9 +132,12 @@ short_step (c ∷ cs) id e = subst (λ n. n ≤ 2048) (step_one (c ∷ cs) id e)
     size = identifier_size (map value (take 38 all))
 
 short_reading : (ids : List Identifier) (rest : Rest) (cs : List Cell) → ReadsAs cs ids rest → AreShort ids
-short_reading [] rest cs r id i = absurd i
-short_reading (x ∷ xs) rest cs (e, r) id (inl same) = subst (λ z. z.size ≤ 2048) same (short_step cs x e)
-short_reading (x ∷ xs) rest cs (e, r) id (inr i) = short_reading xs rest (drop x.size cs) r id i
+short_reading [] rest cs r id i = in_nothing id i
+short_reading (x ∷ xs) rest cs (e, r) id i = go (short_reading xs rest (drop x.size cs) r id) (here_or_there x xs id i)
+  where
+    go : (Contains xs id → id.size ≤ 2048) → (x ≡ id) ⊎ Contains xs id → id.size ≤ 2048
+    go later (inl same) = subst (λ z. z.size ≤ 2048) same (short_step cs x e)
+    go later (inr j) = later j
 
 pub descriptors_are_short : DescriptorsAreShort
 descriptors_are_short cs = short_reading (directory cs).identifiers (directory cs).rest cs (directory_reads cs)

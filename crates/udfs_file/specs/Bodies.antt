@@ -3,10 +3,9 @@
 --     used size ds                      those that are taken, each with its first cell
 --     in_whole_blocks d                 the last extent of a list, where its tail is taken
 --     body view r b entry               the cells, or the fault
-use Rattle.std.specs.Prelude.{◌≡◌, ℕ, zero, suc, ◌+◌, ◌-◌, ◌*◌, ◌/◌, ◌%◌, ◌<◌, ◌≤◌, min, Bool, true, false, not, List, [], ◌∷◌, ◌++◌, length, take, map, flat_map, replicate, take_while, slice_get, slice_index, cond, ◌==◌, nat_le, nat_lt, ◌&&◌, ◌||◌, Option, Some, None, is_none, ◌⊎◌}
+use Rattle.std.specs.Prelude.{◌≡◌, ℕ, zero, suc, ◌+◌, ◌-◌, ◌*◌, ◌/◌, ◌%◌, ◌<◌, ◌≤◌, min, Bool, true, false, not, List, [], ◌∷◌, ◌++◌, length, take, map, flat_map, replicate, take_while, slice_get, slice_index, cond, ◌==◌, nat_le, nat_lt, ◌&&◌, ◌||◌, Option, Some, None, is_none, ◌⊎◌, Contains}
 use Rattle.std.specs.List.{range_with_len}
 use Rattle.udfs_lattice.specs.States.{State}
-use Rattle.udfs_lattice.specs.Volumes.{Includes}
 use Rattle.udfs_lattice.specs.declared.facts.Fact.TheVariants.{Unknown, Known, Conflict}
 use Rattle.udfs_tag.specs.declared.layouts.LongAd.{LongAd}
 use Rattle.udfs_tag.specs.declared.layouts.ShortAd.{ShortAd}
@@ -185,7 +184,7 @@ extent_cells view size e = cond (e.1.kind == 0)
     (map (recorded_cell view e.1.reference e.1.block) (range_with_len 0 (cells_in size e)))
     (replicate (cells_in size e) (Byte 0 None))
 
--- the cells of a file's or directory's bytes, or why there are none
+-- the cells of a file's or directory's bytes, or the fault for which it has no body
 pub data Body : Type 0 where
   cells : List Cell → Body
   faulty_body : NodeFault → Body
@@ -252,7 +251,7 @@ body view r b entry = cond (entry.form == 3) (embedded_body b entry)
 -- block n holds cell k of the body, in a recorded extent that is taken
 pub record IsRecordedFor (view : View) (size : ℕ) (taken : List (ℕ × LongAd)) (k n : ℕ) : Type 0 where
   pub extent : ℕ × LongAd
-  pub is_taken : Includes taken extent
+  pub is_taken : Contains taken extent
   pub is_recorded : extent.1.kind ≡ 0
   pub from : extent.0 ≤ k
   pub to : k < extent.0 + cells_in size extent
@@ -261,7 +260,7 @@ pub record IsRecordedFor (view : View) (size : ℕ) (taken : List (ℕ × LongAd
 -- block n holds a continuation of the list of descriptors that comes in it at or before cell k
 pub record IsContinuedFor (view : View) (taken : List (ℕ × LongAd)) (k n : ℕ) : Type 0 where
   pub extent : ℕ × LongAd
-  pub is_taken : Includes taken extent
+  pub is_taken : Contains taken extent
   pub continues : extent.1.kind ≡ 3
   pub from : extent.0 ≤ k
   pub place : view.place extent.1.reference extent.1.block ≡ Some n

@@ -1,4 +1,4 @@
--- The cells of a body behind a first few.
+-- The cells of a body that are left after the first ones.
 --     cells_left cells      those that are left
 --     room cells            how many of the first lie in one block
 use Rattle.std.specs.Prelude.{◌<◌, ℕ, List, [], ◌∷◌, drop, ⊤}

@@ -6,9 +6,8 @@
 --     NeverStops                  a directory that is all there is not ended by a missing block
 --     ReadsLaw                    `directory` gives the only reading that there is
 --     StandardBodies, StandardDirectories     back: what the standard reads has no fault
-use Rattle.std.specs.Prelude.{◌≡◌, ◌≢◌, ◌<◌, ◌≤◌, ℕ, List, length, map, Some, None, ◌↔◌}
+use Rattle.std.specs.Prelude.{◌≡◌, ◌≢◌, ◌<◌, ◌≤◌, ℕ, List, length, map, Some, None, ◌↔◌, Contains}
 use Rattle.udfs_volume.specs.Sequence.{Bytes}
-use Rattle.udfs_lattice.specs.Volumes.{Includes}
 use Rattle.udfs_lattice.specs.declared.facts.Fact.TheVariants.{Known}
 use Rattle.udfs_space.specs.Places.{View}
 use Rattle.udfs_file.specs.Entries.{EntryFields}
@@ -91,7 +90,7 @@ StandardBodies = (all : View) (blocks : PartitionBlocks) → IsComplete all bloc
 
 -- no descriptor is longer than a block (own choice)
 abbrev pub AreShort : List Identifier → Type 0
-AreShort ids = (id : Identifier) → Includes ids id → id.size ≤ 2048
+AreShort ids = (id : Identifier) → Contains ids id → id.size ≤ 2048
 
 -- every descriptor that is read is that short
 abbrev pub DescriptorsAreShort : Type 0

@@ -1,6 +1,6 @@
 -- File entries and extended file entries (ECMA-167 4/14.9, 4/14.17), with their ICB tag (4/14.6).
 --     entry_fault bytes b       the first fault of the entry at logical block b
---     entry_of bytes            its fields, where there is none
+--     entry_of bytes            its fields, if it has no fault
 use Rattle.std.specs.Prelude.{◌≡◌, ℕ, ◌+◌, ◌-◌, ◌%◌, ◌≤◌, Bool, not, List, [], ◌∷◌, cond, ◌==◌, nat_le, nat_lt, ◌&&◌, ◌||◌, Option, Some, None, Result, Ok, Err}
 use Rattle.udfs_tag.specs.Fields.{uint16_at, uint32_at}
 use Rattle.udfs_tag.specs.Fields.{uint8_at, uint64_at, part}
@@ -41,7 +41,7 @@ area_start bytes = fixed_part bytes + attributes_length bytes
 abbrev pub is_entry : List ℕ → ℕ → Bool
 is_entry bytes b = is_valid bytes b 261 || is_valid bytes b 266
 
--- whether the form of the allocation descriptors is none of short, long and embedded
+-- whether the form of the allocation descriptors is neither short, nor long, nor embedded
 abbrev pub is_strange_form : ℕ → Bool
 is_strange_form form = (form == 2) || nat_le 4 form
 

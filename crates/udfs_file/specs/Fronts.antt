@@ -78,17 +78,17 @@ checked_identifier None bytes = AtRest (Wrong IdentifierTag)
 checked_identifier (Some b) bytes =
     cond (is_valid bytes b 257) (identifier_in (length bytes) bytes) (AtRest (Wrong IdentifierTag))
 
--- the descriptor of this size at the front of the cells, or what ends the directory there
+-- the descriptor of this size at the beginning of the cells, or what ends the directory there
 abbrev pub sized_identifier : List Cell → ℕ → Step
 sized_identifier cells size = cond (nat_lt 2048 size || nat_lt (length cells) size) (AtRest (Wrong Cut))
     (or_stop (first_missing (take size cells)) (checked_identifier (holder_of cells) (map value (take size cells))))
 
--- the descriptor at the front of cells of which there is one, or what ends the directory there
+-- the descriptor at the beginning of cells of which there is at least one, or what ends the directory there
 abbrev pub some_step : List Cell → Step
 some_step cells = cond (nat_lt (length cells) 38) (AtRest (Wrong Cut))
     (or_stop (first_missing (take 38 cells)) (sized_identifier cells (identifier_size (map value (take 38 cells)))))
 
--- the descriptor at the front of the cells, or what stands there in its place
+-- the descriptor at the beginning of the cells, or what ends the directory there
 unfoldable pub step : List Cell → Step
 step [] = AtRest Nothing
 step (cell ∷ cells) = some_step (cell ∷ cells)
@@ -103,7 +103,7 @@ pub record DirectoryText : Type 0 where
   pub identifiers : List Identifier
   pub rest : Rest
 
--- a descriptor and those behind it, or the end
+-- a descriptor and those after it, or the end
 abbrev pub read_on : Step → (ℕ → DirectoryText) → DirectoryText
 read_on (AtRest rest) later = record { identifiers = []; rest = rest }
 read_on (One id) later = let more = later id.size in record { identifiers = id ∷ more.identifiers; rest = more.rest }

@@ -1,8 +1,7 @@
 -- What holds of a partition of which a part is known.
-use Rattle.std.specs.Prelude.{◌≡◌, ℕ, ◌<◌, List, [], ◌∷◌, ◌++◌, length, slice_get, Some, ◌↔◌, ◌≢◌, ◌+◌, ⊤}
+use Rattle.std.specs.Prelude.{◌≡◌, ℕ, ◌<◌, List, [], ◌∷◌, ◌++◌, length, slice_get, Some, ◌↔◌, ◌≢◌, ◌+◌, ⊤, Contains}
 use Rattle.std.specs.List.{AllZip}
 use Rattle.udfs_lattice.specs.States.{is_known}
-use Rattle.udfs_lattice.specs.Volumes.{Includes}
 use Rattle.udfs_osta.specs.Escapes.{escaped}
 use Rattle.udfs_osta.specs.Parts.{IsPathPart}
 use Rattle.std.specs.Prelude.{Bool, true, false}
@@ -33,7 +32,7 @@ IsBeginningOf {A} xs ys = (rest : List A) × (ys ≡ xs ++ rest)
 abbrev pub IsMissingAt : List Cell → ℕ → Type 0
 IsMissingAt cs k = (n : ℕ) × (slice_get cs k ≡ Some (Gap n))
 
--- where the descriptor behind these ends
+-- the offset at which the descriptor after these ends
 abbrev pub descriptor_end : List Identifier → Identifier → ℕ
 descriptor_end [] id = id.size
 descriptor_end (first ∷ ids) id = first.size + descriptor_end ids id
@@ -105,6 +104,6 @@ abbrev pub TailKeepsBodies : Type 0
 TailKeepsBodies = (v : View) (r b : ℕ) (entry : EntryFields) (cs : List Cell)
     → body (with_tail false v) r b entry ≡ cells cs → body (with_tail true v) r b entry ≡ cells cs
 
--- the escaped name of each entry of a directory can stand in a path
+-- the escaped name of each entry of a directory is a valid path component
 abbrev pub NamesAreParts : Type 0
-NamesAreParts = (cs : List Cell) (e : DirEntry) → Includes (directory_entries cs) e → IsPathPart (escaped e.name)
+NamesAreParts = (cs : List Cell) (e : DirEntry) → Contains (directory_entries cs) e → IsPathPart (escaped e.name)

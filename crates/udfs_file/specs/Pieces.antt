@@ -20,7 +20,7 @@ use Rattle.udfs_file.specs.Stretches.{stretch_count}
 abbrev pub byte_cells : Option ℕ → List ℕ → List Cell
 byte_cells holder bytes = map (λ x. Byte x holder) bytes
 
--- a piece is the front of the cells, as far as one block goes
+-- the cells are the bytes of this piece, or the first of them is missing
 abbrev pub IsPieceOf : Piece → List Cell → Type 0
 IsPieceOf (piece.Bytes bytes holder) cells = cells ≡ byte_cells holder bytes.now
 IsPieceOf (piece.Gap n) cells = (rest : List Cell) × (cells ≡ Gap n ∷ rest)
@@ -31,19 +31,19 @@ FitsPiece (piece.Bytes bytes holder) count = length bytes.now ≡ count
 FitsPiece (piece.Gap n) count = ⊤
 
 -- ---- two pieces
--- how many cells of a stretch, behind some, lie in one block
+-- how many cells of a stretch, after the first `passed`, lie in one block
 abbrev pub rest_in_block : Stretch → ℕ → ℕ
 rest_in_block (Recorded run count) passed = min (2048 - (run.offset + passed) % 2048) (count - passed)
 rest_in_block (Zeros count) passed = count - passed
 rest_in_block (Missing n count) passed = count - passed
 
--- what is behind these cells of a stretch begins a block, or the stretch
+-- the cells of a stretch after the first `passed` begin a block, or the stretch, or are missing
 abbrev pub BeginsBlock : Stretch → ℕ → Type 0
 BeginsBlock (Recorded run count) passed = ((run.offset + passed) % 2048 ≡ 0) ⊎ (passed ≡ 0)
 BeginsBlock (Zeros count) passed = passed ≡ 0
 BeginsBlock (Missing n count) passed = ⊤
 
--- what is behind the first cells of stretches does so, in the stretch in which it lies
+-- the cells of stretches after the first `passed` do so, in the stretch in which they begin
 abbrev pub Starts : ℕ → List Stretch → Type 0
 Starts passed [] = ⊤
 Starts passed (s ∷ ss) = (passed < stretch_count s → BeginsBlock s passed) × (stretch_count s ≤ passed → Starts (passed - stretch_count s) ss)
@@ -54,7 +54,7 @@ pub record ShowsBytes (view : Pieces) (cells : List Cell) : Type 0 where
   pub values : map value cells ≡ view.first.now ++ view.second.now
   pub holder : holder_of cells ≡ view.holder
 
--- what was taken from the front of the cells: their bytes, or the first missing block
+-- what was taken from the beginning of the cells: their bytes, or the first missing block
 abbrev pub IsFrontTaken : Front → List Cell → Type 0
 IsFrontTaken (front.Bytes view) cells = ShowsBytes view cells
 IsFrontTaken (front.Gap n) cells = first_missing cells ≡ Some n

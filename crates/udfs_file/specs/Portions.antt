@@ -2,7 +2,7 @@
 --     portion_count p          how many cells a portion has
 --     AreUnread n k cells      all are missing: some with block n, then some with block n + 1, and so on for k blocks
 --     IsPortion p cells        these cells are the portion
---     GivesPortion s r t       of the cells s the portion r was taken from the front, and t is left
+--     GivesPortion s r t       the portion r was taken from the beginning of the cells s, and t is left
 use Rattle.std.specs.Prelude.{◌≡◌, ⊤, ℕ, zero, suc, ◌+◌, ◌-◌, ◌≤◌, List, [], ◌++◌, length, take, drop, replicate, Option, Some, None, MatchOption}
 use Rattle.udfs_lattice.specs.States.{State}
 use Rattle.udfs_lattice.specs.declared.facts.Fact.TheVariants.{Unknown, Known, Conflict}
@@ -12,13 +12,13 @@ use Rattle.udfs_file.specs.declared.portions.Portion.{Portion}
 use Rattle.udfs_file.specs.declared.portions.Portion.TheVariants.{Bytes, Zeros, Missing}
 use Rattle.udfs_file.specs.Pieces.{byte_cells}
 
--- a block stands there, with this number, and is not known
+-- a block in this state is not known
 abbrev pub IsUnreadState : State → Type 0
 IsUnreadState Unknown = ⊤
 IsUnreadState (Known bytes) = ⊥
 IsUnreadState Conflict = ⊤
 
--- a block stands at place n, and is not known
+-- there is a block, it has number n, and it is not known
 abbrev pub IsUnreadAt : Option (ℕ × State) → ℕ → Type 0
 IsUnreadAt None n = ⊥
 IsUnreadAt (Some block) n = (block.0 ≡ n) × IsUnreadState block.1
@@ -40,13 +40,13 @@ IsPortion (Bytes bytes) cs = (holder : Option ℕ) × (cs ≡ byte_cells holder 
 IsPortion (Zeros count) cs = cs ≡ replicate count (Byte 0 None)
 IsPortion (Missing run) cs = AreUnread run.first (run.last + 1 - run.first) cs
 
--- a portion at the front of some cells, and what is left behind it
+-- a portion at the beginning of some cells, and what is left after it
 pub record IsFirst (p : Portion) (s t : List Cell) : Type 0 where
   pub some : 1 ≤ portion_count p
   pub there : portion_count p ≤ length s
   pub portion : IsPortion p (take (portion_count p) s)
   pub rest : t ≡ drop (portion_count p) s
 
--- the next portion was taken from the front of the cells, or none was left
+-- the next portion was taken from the beginning of the cells, or no cell was left
 abbrev pub GivesPortion : List Cell → Option Portion → List Cell → Type 0
 GivesPortion s r t = MatchOption r ((s ≡ []) × (t ≡ [])) (λ p. IsFirst p s t)

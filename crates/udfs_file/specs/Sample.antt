@@ -1,5 +1,5 @@
--- What stands in the partitions of the sample volumes of udfs_volume: a file set, the root with the files A and B, and their bytes.
--- B stands in the last partition: in the spared packet of a sparable one where there is one.
+-- The contents of the partitions of the sample volumes of udfs_volume: a file set, the root with the files A and B, and their bytes.
+-- B is in the last partition: in the spared packet of a sparable one where there is one.
 --     sample_contents maps     the blocks
 --     sample_view maps         the view of the sample volume, all known
 --     sample_root              the address of the root's ICB
@@ -33,7 +33,7 @@ stamp = 0x3C ∷ 0x10 ∷ 0xD1 ∷ 0x07 ∷ 0x07 ∷ 0x04 ∷ 0x0A ∷ 0x1E ∷ 
 abbrev pub identifier_at : Bytes → Bytes
 identifier_at more = take 40 (1 ∷ 1 ∷ 2 ∷ 0 ∷ 6 ∷ 0 ∷ 0 ∷ 0 ∷ 0 ∷ 0 ∷ 0 ∷ 0 ∷ 2 ∷ 0 ∷ 0 ∷ 0 ∷ 1 ∷ 0 ∷ more)
 
--- that of a file with a name of one letter, whose ICB stands at this partition reference and logical block
+-- that of a file with a name of one letter, whose ICB is at this partition reference and logical block
 abbrev pub name_at : ℕ → ℕ → ℕ → Bytes
 name_at reference block letter = identifier_at (0 ∷ 2 ∷ 0 ∷ 8 ∷ 0 ∷ 0 ∷ block ∷ 0 ∷ 0 ∷ 0 ∷ reference ∷ 0 ∷ 0 ∷ 0 ∷ 0 ∷ 0 ∷ 0 ∷ 0 ∷ 0 ∷ 0 ∷ 8 ∷ letter ∷ [])
 
@@ -43,7 +43,7 @@ last_reference one_type1 = 0
 last_reference one_sparable = 0
 last_reference type1_and_sparable = 1
 
--- a directory of its parent and the names A and B, whose ICBs stand at logical block 3 of the first partition and 4 of the last
+-- a directory of its parent and the names A and B, whose ICBs are at logical block 3 of the first partition and 4 of the last
 abbrev pub directory_block : Maps → Bytes
 directory_block maps = patched ((0, identifier_at (0x0A ∷ 0 ∷ 0 ∷ 8 ∷ 0 ∷ 0 ∷ 1 ∷ replicate 15 0)) ∷ (40, name_at 0 3 0x41)
     ∷ (80, name_at (last_reference maps) 4 0x42) ∷ [])
@@ -70,7 +70,7 @@ logical_block maps b = cond (nat_eq b 0) file_set_block (cond (nat_eq b 1) root_
     (cond (nat_eq b 3) a_block (cond (nat_eq b 4) b_block
     (cond (nat_eq b 5) (replicate 2048 0x61) (cond (nat_eq b 6) (replicate 2048 0x62) (cond (nat_eq b 7) (replicate 2048 0x63) (replicate 2048 0))))))))
 
--- they stand at the front of a partition of type 1, from block 272 on, and where the first packet of a sparable one is mapped,
+-- they are at the beginning of a partition of type 1, from block 272 on, and where the first packet of a sparable one is mapped,
 -- from block 96 on
 abbrev pub sample_contents : Maps → ℕ → Bytes
 sample_contents maps n = cond (nat_le 272 n) (logical_block maps (n - 272)) (cond (nat_le 96 n) (logical_block maps (n - 96)) (replicate 2048 0))
@@ -83,7 +83,7 @@ sample_view maps = view (sample_blocks maps (sample_contents maps)) (sample_spac
 abbrev pub icb_at : ℕ → ℕ → LongAd
 icb_at reference block = record { kind = 0; length = 2048; block = block; reference = reference }
 
--- the root's ICB stands at logical block 1 of the first partition
+-- the root's ICB is at logical block 1 of the first partition
 abbrev pub sample_root : LongAd
 sample_root = icb_at 0 1
 
@@ -93,7 +93,7 @@ SampleFileSet = (maps : Maps) → ((n : ℕ) → IsBlock (sample_contents maps n
 
 -- ---- the files
 
--- a good address, at which an entry of this kind without a fault stands, whose body has these cells
+-- a good address, with an entry of this kind without a fault, whose body has these cells
 pub record IsSampleFile (maps : Maps) (a : LongAd) (kind : Kind) (cs : List Cell) : Type 0 where
   pub is_good : address_fault (sample_view maps) a ≡ None
   pub block : ℕ

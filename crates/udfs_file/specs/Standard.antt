@@ -86,7 +86,7 @@ abbrev pub AreExtentsOf : PartitionBlocks → ℕ → ℕ → List LongAd → Ty
 AreExtentsOf blocks c size [] = ⊤
 AreExtentsOf blocks c size (d ∷ ds) = IsExtentOf blocks c size d × AreExtentsOf blocks (c + d.length) size ds
 
--- a body is the first bytes of its extents put together (256 continuations: own choice)
+-- a body is the first bytes of its concatenated extents (at most 256 continuations: own choice)
 pub record IsExtentsBody (blocks : PartitionBlocks) (r : ℕ) (e : EntryFields) (body : List Located) : Type 0 where
   pub followed : List Bytes
   pub extents : List LongAd

@@ -31,7 +31,7 @@ StepIs (Stop n) s = s ≡ AtRest (Stopped n)
 StepIs (Fault fault) s = s ≡ AtRest (Wrong fault)
 StepIs End s = s ≡ AtRest Nothing
 
--- the cells behind what stood next: behind what ends a directory the cursor does not go
+-- the cells left after a step: those after the descriptor, or all of them where the directory ends
 abbrev pub left_behind : Step → List Cell → List Cell
 left_behind (Id view) before = drop (length (bytes_of view)) before
 left_behind (Stop n) before = before

@@ -61,7 +61,7 @@ pub record IsExtent (view : View) (size c : ℕ) (d : LongAd) (s : Stretch) : Ty
   pub last : IsLastStretch s
   pub fills : c + stretch_count s < size → FillsBlocks s
 
--- an extent was read as its stretch, or refused for its first fault
+-- an extent was read as its stretch, or failed with its first fault
 abbrev pub IsExtentRead : Result Stretch NodeFault → View → ℕ → ℕ → LongAd → Type 0
 IsExtentRead (Ok s) view size c d = IsExtent view size c d s
 IsExtentRead (Err fault) view size c d = extent_fault view size (c, d) ≡ Some fault

@@ -50,17 +50,17 @@ impl Body {
         self.stretches.as_slice()
     }
 
-    /// The body of the entry that stands at logical block `b` of the partition: the bytes embedded in it, or those
-    /// of its extents, as far as they are known. The entry is what is known there.
+    /// The body of `entry`, which is known at logical block `b` of the partition: the bytes embedded in it, or those
+    /// of its extents, as far as they are known.
     ///
     /// The descriptors are taken in order while they cover less than the information length, and then no more.
     /// Recorded extents take consecutive logical blocks, others are zeros. A descriptor of type 3 goes on in an
     /// allocation extent descriptor (ECMA-167 4/14.5); where its block is not known, all further bytes are missing
     /// with it. It takes a walk over the descriptors, and memory for one stretch of each.
     ///
-    /// Where the rules take the tail, the last extent of the list (a descriptor of length 0 is behind it, or none) goes
-    /// on to the end of its last block if the body needs it and is whole with it: a file that grew inside its last
-    /// block may still have the length that it had.
+    /// Where the rules take the tail, the last extent of the list (a descriptor of length 0 follows it, or no descriptor)
+    /// extends to the end of its last block, if the body needs that and has no fault with it: a file that grew inside its
+    /// last block may still have the length that it had.
     ///
     /// Where the partitions are a part of complete ones, in which the body has no fault and is the one that the
     /// standard reads, it has none here, and each of its cells is that body's or missing: missing exactly if some
@@ -69,12 +69,12 @@ impl Body {
     /// # Errors
     ///
     /// A fault found anywhere on the walk is the body's, whatever is missing. Of one descriptor, in this order:
-    /// [`NodeFault::Short`] where it is of length 0, or where there is none; [`NodeFault::Reference`] where it needs
-    /// blocks of a partition that there is not, [`NodeFault::Range`] where one of these blocks has no place;
-    /// [`NodeFault::Chain`] where it continues in a block that is no allocation extent descriptor there or has no
-    /// room for what it says to hold, or that is the 257th, or where its length passes 2048; [`NodeFault::Odd`] where
-    /// it ends before the body does and its length is no multiple of 2048. [`WalkError::OutOfMemory`] where memory
-    /// was refused: never of a body without a byte that is not embedded.
+    /// [`NodeFault::Short`] where it is of length 0 or does not exist; [`NodeFault::Reference`] where it needs
+    /// blocks of a partition that does not exist, [`NodeFault::Range`] where one of these blocks has no place;
+    /// [`NodeFault::Chain`] where it continues in a block that is not an allocation extent descriptor there or has no
+    /// room for what it says to hold, or that is the 257th, or where its length exceeds 2048; [`NodeFault::Odd`] where
+    /// it ends before the body does and its length is not a multiple of 2048. [`WalkError::OutOfMemory`] where memory
+    /// runs out: never for an empty body that is not embedded.
     pub fn read(
         alloc: Global,
         table: &BlockTable,

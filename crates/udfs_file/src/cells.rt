@@ -19,7 +19,7 @@ pub enum Cell {
     Gap(u32),
 }
 
-/// The cells of stretches behind a first few.
+/// The cells of some stretches, without the first `passed`.
 #[derive(Clone, Copy)]
 pub(crate) struct Cells<'a> {
     pub(crate) view: View<'a>,

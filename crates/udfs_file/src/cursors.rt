@@ -20,7 +20,7 @@ use udfs_osta::Name;
 use udfs_space::View;
 use udfs_tag::{Tag, identifiers};
 
-/// What stands next in a directory.
+/// The next item in a directory.
 #[derive(Clone, Copy, Debug)]
 pub enum Step<'a> {
     /// A file identifier descriptor with a good tag: all its bytes, from 38 to 2048. The name is good too, unless the
@@ -126,7 +126,7 @@ fn slice_of(bytes: &[u8], at: usize, count: usize) -> &[u8]
     front
 }
 
-/// Whether the name in a descriptor is none.
+/// Whether the name in a descriptor is malformed.
 fn has_bad_name(view: &Pieces<'_>) -> bool
     requires { 38 ≤ length (bytes_of view.now) }
     ensures { result ≡ is_some (fault_of (units_of (part (bytes_of view.now) (38 + uint16_at (bytes_of view.now) 36) (uint8_at (bytes_of view.now) 19)))) }
@@ -169,7 +169,7 @@ fn checked<'a>(view: Pieces<'a>) -> Step<'a>
     }
 }
 
-/// The descriptor of this size at the front of some cells.
+/// The descriptor of this size at the beginning of some cells.
 fn sized<'a>(cells: &Cells<'a>, size: usize) -> Step<'a>
     requires lies { LieInBlocks cells.now.stretches.now }
     requires least { 38 ≤ size }
@@ -184,7 +184,7 @@ fn sized<'a>(cells: &Cells<'a>, size: usize) -> Step<'a>
     }
 }
 
-/// What stands at the front of some cells.
+/// The descriptor at the beginning of some cells, or what ends the directory there.
 fn ahead<'a>(cells: &Cells<'a>) -> Step<'a>
     requires { LieInBlocks cells.now.stretches.now }
     ensures { StepIs result (step (cells_left cells.now)) }
@@ -215,14 +215,13 @@ impl<'a> Cursor<'a> {
         }
     }
 
-    /// The next descriptor, which is then passed; or what ends the directory in its place, and then each further call
-    /// returns the same.
+    /// Returns the next descriptor and moves past it; or returns what ends the directory there, as does each later call.
     ///
     /// [`Step::End`] comes where no byte is left. Faults are, of one descriptor in this order: [`NodeFault::Cut`]
     /// where fewer than 38 bytes are left; [`NodeFault::Cut`] where it takes more than 2048 bytes or passes the end;
     /// [`NodeFault::IdentifierTag`] where its tag is not that of a file identifier at the logical block that holds its first
-    /// byte; [`NodeFault::Name`] where its name is none, unless the entry is deleted or the parent. [`Step::Stop`] comes
-    /// in place of a fault that cannot be determined without the missing block.
+    /// byte; [`NodeFault::Name`] where its name is malformed, unless the entry is deleted or the parent. [`Step::Stop`]
+    /// comes in place of a fault that cannot be determined without the missing block.
     #[tactic(auto, using(crate::proofs::CursorSteps::goes))]
     pub fn next(&mut self) -> Step<'a>
         ensures step { IsStep self.old result self.new }

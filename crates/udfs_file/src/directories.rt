@@ -28,7 +28,7 @@ use udfs_tag::LongAd;
 pub struct DirEntry {
     /// Its name.
     pub name: Name,
-    /// Where its information control block is said to stand.
+    /// The recorded address of its information control block.
     pub icb: LongAd,
     /// Its characteristics.
     pub marks: Marks,
@@ -39,7 +39,7 @@ pub struct DirEntry {
 pub struct DirFront {
     /// The entries that are neither deleted nor the directory's parent, in their order.
     pub entries: Vec<DirEntry>,
-    /// The block that is not known, where one ended the front.
+    /// The block that is not known, if one ended the front.
     pub missing: Option<u32>,
     /// The fault that ended it, if one did.
     pub fault: Option<NodeFault>,
@@ -48,7 +48,7 @@ pub struct DirFront {
 /// What ends a directory as far as it can be read, and whether it lists anything before that.
 #[derive(Clone, Copy, Debug)]
 pub struct DirEnd {
-    /// Whether an entry that is neither deleted nor the directory's parent stands before the end.
+    /// Whether an entry that is neither deleted nor the directory's parent comes before the end.
     pub lists: bool,
     /// The block that is not known, where one ended the directory.
     pub missing: Option<u32>,
@@ -74,7 +74,7 @@ fn name_bytes(bytes: &[u8]) -> &[u8]
     name
 }
 
-/// A front that ended so.
+/// A front that ended at a missing block or a fault; with neither, at the directory's end.
 fn ended(entries: Vec<DirEntry>, missing: Option<u32>, fault: Option<NodeFault>) -> DirFront
     ensures { (result.entries ≡ entries) × (result.missing ≡ missing) × (result.fault ≡ fault) }
 {
@@ -142,7 +142,7 @@ fn listed(alloc: Global, view: &Pieces<'_>) -> Result<Option<DirEntry>, AllocErr
     Ok(entry)
 }
 
-/// Puts an entry behind the others.
+/// Appends an entry.
 fn put(entries: &mut Vec<DirEntry>, entry: DirEntry) -> Result<(), AllocError>
     ensures { IfOk result (λ done. entries.new.items ≡ entries.old.items ++ entry ∷ []) }
 {
@@ -160,8 +160,8 @@ impl Dir {
     /// The body is one of this table and space. Faults are, of one descriptor in this order:
     /// [`NodeFault::Cut`] where fewer than 38 cells are left, where it would take more than 2048 bytes or
     /// passes the end; [`NodeFault::IdentifierTag`] where its tag is not that of a file identifier at the
-    /// logical block that holds its first byte; [`NodeFault::Name`] where its name is none, unless the entry
-    /// is deleted or the directory's parent. What pads a descriptor to a multiple of 4 is not looked at.
+    /// logical block that holds its first byte; [`NodeFault::Name`] where its name is malformed, unless the entry
+    /// is deleted or the directory's parent. The bytes that pad a descriptor to a multiple of 4 are not checked.
     ///
     /// Where each cell of the body is missing or that of a whole body, the entries are a beginning of those that
     /// the standard reads from the whole: an entry is among them exactly if no cell before the end of its
@@ -169,7 +169,7 @@ impl Dir {
     ///
     /// # Errors
     ///
-    /// Memory was refused: never where the directory lists nothing.
+    /// [`OutOfMemory`] where memory runs out: never where the directory lists nothing.
     pub fn front(
         alloc: Global,
         table: &BlockTable,
@@ -186,12 +186,12 @@ impl Dir {
         }
     }
 
-    /// The same as [`Dir::front`], of a directory that lists at most `most` entries: no more than these are kept.
+    /// The same as [`Dir::front`], for a directory that lists at most `most` entries: no more than these are kept.
     ///
     /// # Errors
     ///
-    /// [`FrontError::TooMany`] where the directory lists more entries, as far as they can be read, and
-    /// [`FrontError::OutOfMemory`] where memory was refused: never where the directory lists nothing.
+    /// [`FrontError::TooMany`] where the directory lists more than `most` entries, as far as they can be read, and
+    /// [`FrontError::OutOfMemory`] where memory runs out: never where the directory lists nothing.
     pub fn front_within(
         alloc: Global,
         view: View<'_>,

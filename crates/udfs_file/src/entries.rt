@@ -29,7 +29,7 @@ impl<'a> Model for Entry<'a> {
 impl<'a> Entry<'a> {
     ghost use Rattle.udfs_file.specs.Entries.{entry_of, IsEntryRead};
 
-    /// Reads the entry in a block that stands at logical block `b` of its partition. It takes no memory.
+    /// Reads the entry in `block`, which is logical block `b` of its partition. It takes no memory.
     ///
     /// # Errors
     ///
@@ -134,7 +134,7 @@ pub(crate) fn behind(block: &[u8; 2048], position: usize) -> &[u8]
     rest
 }
 
-/// What stands before the extended attributes.
+/// The length, in bytes, of what precedes the extended attributes.
 fn fixed_part(block: &[u8; 2048]) -> usize
     ensures value { result ≡ fixed_part block.now }
     ensures low { 176 ≤ result }

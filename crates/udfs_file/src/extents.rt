@@ -47,7 +47,7 @@ fn recorded(form: u16, reference: u16, area: &[u8], i: usize) -> LongAd
     }
 }
 
-/// Whether no other extent is behind descriptor i of an area.
+/// Whether descriptor `i` of an area is its last extent: no descriptor follows it, or one of length 0.
 fn is_last(form: u16, reference: u16, area: &[u8], i: usize) -> bool
     requires { i < descriptor_count form area.now }
     ensures { result ≡ is_last_at form reference area.now i }

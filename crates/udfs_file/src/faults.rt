@@ -34,13 +34,13 @@ pub enum NodeFault {
     Chain = 8,
     /// An extent that is not the last does not fill its last block (ECMA-167 4/12.1).
     Odd = 9,
-    /// A file identifier descriptor's tag is not right where its first byte stands (ECMA-167 4/14.4).
+    /// A file identifier descriptor's tag is not valid at the logical block that holds its first byte (ECMA-167 4/14.4).
     IdentifierTag = 10,
-    /// The name of a directory's entry is none (UDF 2.1.1).
+    /// The name of a directory's entry is malformed (UDF 2.1.1).
     Name = 11,
     /// A file identifier descriptor passes the end of the directory, or takes more than 2048 bytes (ECMA-167 4/14.4).
     Cut = 12,
-    /// A directory with entries stands below 64 names.
+    /// A directory that lists entries has 64 names in its path, and is not entered.
     Depth = 13,
 }
 
@@ -89,7 +89,7 @@ pub enum Kind {
 pub enum WalkError {
     /// The descriptors have a fault.
     Fault(NodeFault),
-    /// Memory was refused.
+    /// Memory ran out.
     OutOfMemory,
 }
 
@@ -127,7 +127,7 @@ impl Error for WalkError {}
 pub enum FrontError {
     /// The directory lists more entries than were asked for.
     TooMany,
-    /// Memory was refused.
+    /// Memory ran out.
     OutOfMemory,
 }
 

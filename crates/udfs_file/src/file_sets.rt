@@ -76,11 +76,11 @@ fn file_set_at(
     }
 }
 
-/// Where the information control block of the root directory is said to stand, by the file set descriptor at
-/// this address (ECMA-167 4/14.1). The address is that of the volume's layout.
+/// The address of the root directory's information control block, as recorded in the file set descriptor at
+/// `address` (ECMA-167 4/14.1), which is that of the volume's layout.
 ///
-/// The one fault is [`VolumeFault::FileSet`]: the address is not good, as [`address_fault`] says, or its
-/// block is no file set descriptor. A block that is not known is the one hole. It takes memory for holes alone: a
+/// The one fault is [`VolumeFault::FileSet`]: the address has a fault, as [`address_fault`] reports, or its
+/// block is not a file set descriptor. A block that is not known is the one hole. It takes memory for holes alone: a
 /// root and the fault are returned whatever memory there is.
 ///
 /// Where the partitions are a part of complete ones, whose file set names a root as the standard reads it, this root

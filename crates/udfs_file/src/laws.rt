@@ -60,7 +60,8 @@ pub fn descriptors_are_short()
     ensures { DescriptorsAreShort }
 {}
 
-/// The escaped name of each entry of a directory can stand in a path: it is not empty, not `.` or `..`, and has no `/` and no control.
+/// The escaped name of each entry of a directory is a valid path component: it is not empty, not `.` or `..`, and has no `/` and no
+/// control character.
 pub fn names_are_parts()
     ensures { NamesAreParts }
 {}
@@ -75,13 +76,13 @@ pub fn body_has_its_length()
     ensures { BodyLength }
 {}
 
-/// There are file sets that are found: what stands in the partitions of the sample volumes are blocks, and the file set names
+/// There are file sets that are found: the contents of the sample volumes' partitions are blocks, and the file set names
 /// the root.
 pub fn sample_file_set_is_found()
     ensures { SampleFileSet }
 {}
 
-/// In each sample volume stand a root that lists A and B, and both files: entries and bodies without a fault. B stands in a spared
+/// Each sample volume has a root that lists A and B, and both files: entries and bodies without a fault. B is in a spared
 /// packet where there is one.
 pub fn sample_files_are_read()
     ensures { HaveSampleFiles }

@@ -14,7 +14,7 @@ use udfs_space::View;
 /// A block of zeros, for those that are not recorded.
 static ZEROS: [u8; 2048] = [0; 2048];
 
-/// Cells at the front of some, in one block.
+/// The first of some cells, all in one block.
 #[derive(Clone, Copy)]
 pub(crate) enum Piece<'a> {
     /// Bytes, with the logical block that holds them, if one does.
@@ -28,13 +28,13 @@ pub(crate) enum Piece<'a> {
 pub struct Pieces<'a> {
     /// The first of them, at least one.
     pub first: &'a [u8],
-    /// Those behind the first piece.
+    /// Those after the first piece.
     pub second: &'a [u8],
     /// The logical block that holds the first byte; no block holds a zero that is not recorded.
     pub holder: Option<u32>,
 }
 
-/// A given number of cells at the front of some.
+/// A given number of cells, from the beginning of some.
 #[derive(Clone, Copy)]
 pub(crate) enum Front<'a> {
     /// Their bytes, of which none is missing.

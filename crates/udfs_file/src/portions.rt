@@ -141,7 +141,7 @@ fn recorded_portion<'a>(view: View<'a>, run: Run, at: u64, left: u64) -> Portion
     }
 }
 
-/// The portion of a stretch behind some bytes that are passed.
+/// The portion of a stretch after its first `passed` bytes.
 fn stretch_portion<'a>(view: View<'a>, stretch: Stretch, passed: u64) -> Portion<'a>
     requires { passed < stretch_count stretch }
     ensures cells { IsPortion result (take (portion_count result) (drop passed (stretch_cells (view_now view.entry) stretch))) }

@@ -11,7 +11,7 @@ use udfs_tag::LbAddr;
 pub struct Run {
     /// The first logical block.
     pub address: LbAddr,
-    /// How many bytes of it stand before them: 0 but in an embedded body.
+    /// The offset in it, in bytes, of the first byte: 0 except in an embedded body.
     pub offset: u32,
 }
 

@@ -30,7 +30,7 @@ pub record Gone (path : List ℕ) (d c : Disk) : Type 0 where
   pub others : (q : List ℕ) → q ≢ path → c q ≡ d q
   pub target : (c path ≡ d path) ⊎ (c path ≡ None)
 
--- the path of a new file that is to go in the place of this one: behind the path stands `.unfinished`, and perhaps more
+-- the path of a new file that is to replace this one: the path, followed by `.unfinished`, and perhaps more
 abbrev pub IsOwn : List ℕ → List ℕ → Type 0
 IsOwn path q = (more : List ℕ) × (q ≡ path ++ codes ".unfinished" ++ more)
 

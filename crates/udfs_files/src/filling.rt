@@ -50,15 +50,15 @@ impl<K: Place, H: Handle> Sink for Placed<K, H> {
     }
 }
 
-/// What can be written to a sink, and may be refused for reasons of its own.
+/// What can be written to a sink, and may fail for reasons of its own.
 pub trait Job {
-    /// Why it was refused.
+    /// Why it failed.
     type Refusal: Drop;
 
     /// What a sink has taken, by its contents before and after, each where it is known.
     ghost wrote: { Self → Option (List ℕ) → Option (List ℕ) → Type 0 };
 
-    /// A refusal that comes only of a fault of the sink.
+    /// This error comes only from a fault of the sink.
     ghost blames_sink: { Self → Self.Refusal → Type 0 };
 
     /// Writes all of it.
@@ -94,7 +94,7 @@ fn do_at<K: Place, H: Handle + Drop, J: Job>(handle: H, job: &J) -> Result<H, J:
 ///
 /// # Errors
 ///
-/// The job's refusal, and the output is closed.
+/// The job's error. Then the output is closed.
 pub fn fill_by<H: Handle + Drop, J: Job>(handle: H, job: &J) -> Result<H, J::Refusal>
     ensures place { IfOk result (λ full. H.place full ≡ H.place handle) }
     ensures wrote { IfOk result (λ full. J.wrote job.now (H.stream handle).contents (H.stream full).contents) }
@@ -103,7 +103,7 @@ pub fn fill_by<H: Handle + Drop, J: Job>(handle: H, job: &J) -> Result<H, J::Ref
     do_at::<Brand, H, J>(handle, job)
 }
 
-/// A content as a job, which only its sink refuses.
+/// A content as a job, which fails only where its sink fails.
 #[derive(Drop)]
 pub(crate) struct ContentJob<'a, C: Content> {
     pub(crate) content: &'a C,

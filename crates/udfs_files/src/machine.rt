@@ -49,7 +49,7 @@ impl<'a, S: Read, N: Watch> Source for MachineInput<'a, S, N> {
     }
 }
 
-/// A regular file of the machine, read at positions. It stands nowhere, so it can be read from its front and looked into meanwhile.
+/// A regular file of the machine, read at positions. It has no current position, so reads from its beginning on and reads elsewhere can alternate.
 #[derive(Drop)]
 pub struct MachineStored<'a, S: FileExt + OpenFile, N: Watch> {
     file: S,
@@ -291,7 +291,7 @@ fn split(path: &str) -> (&str, &str) {
     }
 }
 
-/// A name in a folder. A name that begins with `/` stands for itself.
+/// The path of a name in a folder. A name that begins with `/` is that path itself.
 fn joined(alloc: Global, folder: &str, name: &str) -> Result<String, AllocError> {
     if name.starts_with('/') {
         return String::from_str(alloc, name);

@@ -26,15 +26,15 @@ pub enum ReplaceError {
 /// Why what a job writes was not put in the place of a file.
 #[derive(Clone, Copy, Debug, PartialEq, Eq)]
 pub enum JobError<X> {
-    /// A call of the files failed, or memory was refused.
+    /// A call on the files failed, or memory ran out.
     Files(ReplaceError),
-    /// The job was refused for this. The new file is removed again.
+    /// The job failed with this error. The new file is removed again.
     Refused(X),
     /// The same, but it could not be removed.
     RefusedLeft(X),
 }
 
-/// What stands behind a path and `.unfinished` in the names that are tried for a new file.
+/// The suffixes after a path and `.unfinished` in the names that are tried for a new file.
 const MORE: [&str; 4] = ["", "~", "~~", "~~~"];
 
 /// A path for a new file that is to go in the place of this one.
@@ -91,7 +91,7 @@ fn write_new<F: Files, J: Job>(
     }
 }
 
-/// Removes what was begun. The job was refused for this, or a call failed.
+/// Removes the new file after the job failed with `refusal`, or a call failed, and returns the error.
 fn give_up<F: Files, X>(files: &mut F, own: &str, refusal: Option<X>) -> JobError<X>
     ensures gone { (¬ IsJobLeft result) → F.tells → F.holds files.new own.now ≡ Some None }
     ensures others { (q : List ℕ) → q ≢ own.now → F.holds files.new q ≡ F.holds files.old q }
@@ -184,8 +184,8 @@ fn replace_by_one<F: Files, J: Job>(
 ///
 /// # Errors
 ///
-/// `Files` as of [`replace`]. `Refused` and `RefusedLeft` where the job was refused: the path holds what it held, and only at `RefusedLeft` is the new file still
-/// there, in part.
+/// `Files` as of [`replace`]. `Refused` and `RefusedLeft` where the job failed: the path holds what it held, and only at
+/// `RefusedLeft` is the new file still there, possibly incomplete.
 pub fn replace_by_job<F: Files, J: Job>(
     alloc: Global,
     files: &mut F,
@@ -198,11 +198,11 @@ pub fn replace_by_job<F: Files, J: Job>(
     // A crash at any moment of the call leaves at the path what it would have left before or what the job wrote, whole; and at every
     // other path but those of new files for it what it would have left before.
     ensures any_moment { F.tells → Goes F.moment F.may_leave F.left_since files.old files.new (ReplacedBySome path.now (λ bytes. J.wrote job.now (Some []) (Some bytes))) }
-    // Every other path holds what it held, but where the new file was left behind for that.
+    // Every other path holds what it held, except that of a new file that could not be removed.
     ensures done { OnOk result (F.tells → (q : List ℕ) → q ≢ path.now → F.holds files.new q ≡ F.holds files.old q) }
     ensures gone { IfErr result (λ e. (¬ IsJobLeft e) → F.tells → (q : List ℕ) → q ≢ path.now → F.holds files.new q ≡ F.holds files.old q) }
     ensures elsewhere { (q : List ℕ) → q ≢ path.now → (¬ IsOwn path.now q) → F.holds files.new q ≡ F.holds files.old q }
-    // A refusal leaves what the path held, but for one, which leaves what the job wrote.
+    // An error leaves what the path held, except `NotKept`, which leaves what the job wrote.
     ensures refused { IfErr result (λ e. e ≢ JobError.Files ReplaceError.NotKept → F.holds files.new path.now ≡ F.holds files.old path.now) }
     ensures not_kept { IsErrOf result (JobError.Files ReplaceError.NotKept) → F.tells → HoldsSome (λ bytes. J.wrote job.now (Some []) (Some bytes)) (F.holds files.new path.now) }
     ensures memory { IsErrOf result (JobError.Files ReplaceError.OutOfMemory) → files.new ≡ files.old }
@@ -227,16 +227,16 @@ fn content_error(error: JobError<WriteFault>) -> ReplaceError
     }
 }
 
-/// Puts a file with this content at the path, over an old one, whole or not at all: into a new file beside it, which is
-/// synced, moved over the old one, and its folder synced. The new file is called as the path with `.unfinished` behind it, or
-/// with up to three `~` behind that where something is called so. It has the permissions of the old file, where the system can. Old and new stand side by
-/// side for a moment, so there has to be room for both.
+/// Puts a file with this content at the path, over an old one, whole or not at all. The content is written to a new file in
+/// the same folder, which is synced and moved over the old one, and then the folder is synced. The name of the new file is the
+/// path followed by `.unfinished`; where no new file can be made there, up to three `~` are appended in turn. It has the
+/// permissions of the old file, where the system can. Both files exist for a moment, so there has to be room for both.
 ///
 /// # Errors
 ///
-/// `OutOfMemory` before anything was tried. `NotMade`, `NotWritten` and `LeftBehind` where a call of the files or a write failed: the path
-/// holds what it held, and only at `LeftBehind` is the new file still there, in part. `NotKept` where the new file is in its
-/// place, whole, and its folder could not be synced.
+/// `OutOfMemory` before anything was tried. `NotMade`, `NotWritten` and `LeftBehind` where a call on the files or a write failed:
+/// the path holds what it held, and only at `LeftBehind` is the new file still there, possibly incomplete. `NotKept` where the
+/// new file is in its place, whole, and its folder could not be synced.
 pub fn replace<F: Files, C: Content>(
     alloc: Global,
     files: &mut F,
@@ -250,11 +250,11 @@ pub fn replace<F: Files, C: Content>(
     // other path but those of new files for it what it would have left before.
     ensures any_moment { F.tells → Goes F.moment F.may_leave F.left_since files.old files.new (Replaced path.now (C.bytes content.now)) }
     ensures each { F.tells → (c : Disk) → F.left_since files.new (F.moment files.old) c → After (F.may_leave files.old) (Replaced path.now (C.bytes content.now)) c }
-    // Every other path holds what it held, but at `LeftBehind` for that of the new file.
+    // Every other path holds what it held, except that of the new file at `LeftBehind`.
     ensures done { OnOk result (F.tells → (q : List ℕ) → q ≢ path.now → F.holds files.new q ≡ F.holds files.old q) }
     ensures gone { IfErr result (λ e. e ≢ ReplaceError.LeftBehind → F.tells → (q : List ℕ) → q ≢ path.now → F.holds files.new q ≡ F.holds files.old q) }
     ensures elsewhere { (q : List ℕ) → q ≢ path.now → (¬ IsOwn path.now q) → F.holds files.new q ≡ F.holds files.old q }
-    // A refusal leaves what the path held, but for one, which leaves the content.
+    // An error leaves what the path held, except `NotKept`, which leaves the content.
     ensures refused { IfErr result (λ e. e ≢ ReplaceError.NotKept → F.holds files.new path.now ≡ F.holds files.old path.now) }
     ensures not_kept { IsErrOf result ReplaceError.NotKept → F.tells → F.holds files.new path.now ≡ Some (Some (C.bytes content.now)) }
     ensures memory { IsErrOf result ReplaceError.OutOfMemory → files.new ≡ files.old }

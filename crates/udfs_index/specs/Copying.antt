@@ -22,7 +22,7 @@ NoneFails {S} fails = (s : S) → fails s → ⊥
 abbrev pub IsShown : List (List ℕ) → List Packet → Table → Type 0
 IsShown wholes packets t = (n : ℕ) → state_of t n ≡ state_by wholes (slot_at packets n)
 
--- An input could not be read again before these bytes could be taken behind those that were held; a front of all of them was written, and the sink did not fail.
+-- an input could not be read again before these bytes were all taken after those held; a prefix of all of them was written, and the sink did not fail
 pub record Stopped (old new : Stream) (held bytes : List ℕ) : Type 0 where
   pub out : List ℕ
   pub rest : List ℕ
@@ -30,7 +30,7 @@ pub record Stopped (old new : Stream) (held bytes : List ℕ) : Type 0 where
   pub whole : held ++ bytes ≡ out ++ rest
   pub kept : new.faults ≡ old.faults
 
--- the sink or an input failed before these bytes could be taken behind those that were held
+-- the sink or an input failed before these bytes were all taken after those held
 abbrev pub FailsBy : Stream → Stream → List ℕ → List ℕ → CopyFault → Type 0
 FailsBy old new held bytes (Sink e) = FailedPast old new held bytes
 FailsBy old new held bytes (Input n) = Stopped old new held bytes

@@ -20,7 +20,7 @@ pub record Took (contents : List (Option (List ℕ))) (packets : List Packet) (t
   pub inside : (n : ℕ) → IsInside (length contents) (slot_at packets n)
   pub says : Says contents packets t
 
--- the place of what stands behind `at` bytes of the input that is taken
+-- the place of what comes after the first `at` bytes of the input that is taken, counted from where it was begun
 pub record IsPlaceOf (inputs : ℕ) (begun : Option ℕ) (at place : ℕ) : Type 0 where
   pub base : ℕ
   pub from : begun ≡ Some base

@@ -1,4 +1,4 @@
--- Where the bytes of a block stand, and what an index says of the inputs that it looks into.
+-- Where the bytes of a block are, and what an index says of the inputs that it reads.
 use Rattle.std.specs.Prelude.{◌≡◌, ℕ, ◌+◌, ◌/◌, ◌%◌, ◌^◌, ◌<◌, ◌≤◌, List, [], length, take, drop, map, Option, Some, get_or}
 use Rattle.std.specs.Option.{option_map}
 use Rattle.udfs_lattice.specs.declared.facts.Fact.TheVariants.{Unknown, Known, Conflict}
@@ -11,7 +11,7 @@ use Rattle.udfs_index.specs.Slots.{Slot, slot_at}
 abbrev pub behind : ℕ → Option (List ℕ) → Option (List ℕ)
 behind at content = option_map (drop at) content
 
--- what stands in these inputs from a place on: it names the input, from 0, and how many of its bytes stand before
+-- the bytes of these inputs from a place on: the place names an input, from 0, and an offset in it
 abbrev pub from_place : List (List ℕ) → ℕ → List ℕ
 from_place wholes place = drop (place % 2 ^ 44) (get_or wholes (place / 2 ^ 44) [])
 
@@ -23,13 +23,13 @@ bytes_at wholes place = take 2048 (from_place wholes place)
 abbrev pub AreHeld : List (List ℕ) → ℕ → ℕ → Type 0
 AreHeld wholes place size = place % 2 ^ 44 + size ≤ length (get_or wholes (place / 2 ^ 44) [])
 
--- all bytes of a known block stand there
+-- if the block is known, its input has all 2048 bytes from its place on
 abbrev pub IsWholeAt : List (List ℕ) → Slot → Type 0
 IsWholeAt wholes Unknown = Unit {0}
 IsWholeAt wholes (Known place) = AreHeld wholes place 2048
 IsWholeAt wholes Conflict = Unit {0}
 
--- all bytes of the known blocks stand there
+-- for each known block, its input has all 2048 bytes from its place on
 abbrev pub AreWhole : List (List ℕ) → List Packet → Type 0
 AreWhole wholes packets = (n : ℕ) → IsWholeAt wholes (slot_at packets n)
 

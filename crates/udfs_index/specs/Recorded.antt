@@ -1,8 +1,8 @@
--- The records of a reading, by where they stand in it.
+-- The records of a reading, by their positions in it.
 --     HasRecords all count                 the bytes are a reading of `count` records
 --     IsRecordedAt all number block        the record of this number, from 0, is of this block
 --     IsFrontOf content done count         the records of a reading of `count` records begin with these
---     TakesNext content number old new     the record of this number was taken behind those before it
+--     TakesNext content number old new     the record of this number was taken after those before it
 use Rattle.std.specs.Prelude.{◌≡◌, ℕ, ◌+◌, ◌*◌, ◌^◌, ◌<◌, ◌≤◌, List, [], ◌∷◌, ◌++◌, length, take, drop, Option, Some, IfSome}
 use Rattle.udfs_lattice.specs.Records.{Record}
 use Rattle.udfs_lattice.specs.Tables.{Table, join_tables, one_record}
@@ -15,7 +15,7 @@ pub record HasRecords (all : List ℕ) (count : ℕ) : Type 0 where
   pub is : IsReading all records
   pub many : length records ≡ count
 
--- the number of this block stands where the record of this number begins, the first being 0
+-- the record of this number, from 0, begins with the number of this block
 pub record IsRecordedAt (all : List ℕ) (index block : ℕ) : Type 0 where
   pub spelled : take 4 (drop (16 + 2052 * index) all) ≡ number block
 
@@ -30,7 +30,7 @@ pub record IsFrontOf (content : Option (List ℕ)) (done : List Record) (count :
 abbrev pub IsOf : Option (List ℕ) → Option (List ℕ) → Type 0
 IsOf input content = IfSome input (λ whole. content ≡ Some whole)
 
--- one more record stands behind these, and its table was joined
+-- one more record follows these, and its table was joined
 pub record TakesOne (content : Option (List ℕ)) (done : List Record) (count : ℕ) (old new : Table → Type 0) : Type 0 where
   pub one : Record
   pub is : IsRecord one

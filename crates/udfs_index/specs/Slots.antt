@@ -1,4 +1,4 @@
--- What an index says of a block: that nothing is known of it, where its bytes stand, or that it is in conflict.
+-- What an index says of a block: that nothing is known of it, where its bytes are, or that it is in conflict.
 use Rattle.std.specs.Prelude.{◌≡◌, ℕ, ◌/◌, ◌%◌, ◌<◌, ◌==◌, Bool, true, false, cond, List, Option, None, Some, slice_index_or}
 use Rattle.std.specs.Int.{bit_at}
 use Rattle.std.specs.List.{slice_get}

@@ -1,4 +1,4 @@
-//! A stored input, read from its front to its end.
+//! A stored input, read from its beginning to its end.
 
 ghost use Rattle.std.specs.Prelude.{◌≡◌, Some, IfSome};
 ghost use Rattle.udfs_index.specs.Places.{behind};
@@ -6,7 +6,7 @@ ghost use Rattle.udfs_index.specs.Places.{behind};
 use crate::stored::Stored;
 use udfs_reading::{DeviceFault, Source};
 
-/// A source of what stands in a stored input from a position on. It counts its faults.
+/// A source of the bytes of a stored input from a position on. It counts its faults.
 #[derive(Drop)]
 pub struct Cursor<'a, S: Stored> {
     stored: &'a S,

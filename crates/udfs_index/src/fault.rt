@@ -11,7 +11,7 @@ pub struct Unread {
     /// The number of the input, from 0.
     pub input: usize,
 
-    /// How many of its bytes stand before them.
+    /// The offset of the first of these bytes in the input.
     pub at: u64,
 }
 

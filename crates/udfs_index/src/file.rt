@@ -15,7 +15,7 @@ pub struct StoredFile<F: FileExt + OpenFile> {
 }
 
 impl<F: FileExt + OpenFile> StoredFile<F> {
-    /// This file as an input. It is read at positions, so that where it stands does not matter.
+    /// This file as an input. It is read at given positions, so the file's own offset does not matter.
     pub fn new(file: F) -> StoredFile<F> {
         StoredFile { file }
     }

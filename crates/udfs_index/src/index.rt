@@ -1,4 +1,4 @@
-//! The table of what was taken, by where its bytes stand.
+//! The table of what was taken, as the places of its bytes.
 
 ghost use Rattle.std.specs.Prelude.{◌≡◌, ℕ, ◌+◌, ◌*◌, ◌^◌, ◌≤◌, ◌<◌, List, length, take, drop, IfOk, IfSome, OnOk, OnErr};
 ghost use Rattle.udfs_lattice.specs.declared.facts.Fact.TheVariants.{Unknown, Known, Conflict};
@@ -26,8 +26,8 @@ use udfs_reading::{NotTaken, Sink, Taker};
 /// How many inputs there are at most.
 const INPUTS: usize = 1_048_576;
 
-/// The table of what was taken of stored inputs. Of a known block it keeps where in which input its bytes stand, in 8 bytes,
-/// and looks into that input when the block comes again.
+/// The table of what was taken from stored inputs. For a known block it keeps, in 8 bytes, which input holds the block's bytes and
+/// at what offset. It reads them there when the block comes again.
 #[derive(Drop)]
 pub struct Index<'a, S: Stored> {
     places: Places,
@@ -111,21 +111,21 @@ impl<'a, S: Stored> Index<'a, S> {
         }
     }
 
-    /// What is said of block `n`: its place is the number of its input, from 0, times 2 ^ 44, and how many bytes of that input
-    /// stand before its own.
+    /// The state of block `n`. The place of a known block is the number of its input, from 0, times 2 ^ 44, plus the offset of its
+    /// bytes in that input.
     pub fn slot(&self, n: u32) -> Fact<u64>
         ensures { result ≡ slot_at self.now.places.packets.items n }
     {
         self.places.slot(n)
     }
 
-    /// Writes the table file of what was taken in version 2, as [`write_table`](udfs_reading::write_table) does of a table. The
-    /// bytes of known blocks are read again where they stand. It takes no memory.
+    /// Writes what was taken as a table file of version 2, as [`write_table`](udfs_reading::write_table) does for a table. It reads
+    /// the bytes of known blocks from the inputs again. It allocates no memory.
     ///
     /// # Errors
     ///
-    /// `CopyFault::Sink` exactly where the sink failed. `CopyFault::Input` where an input could not be read, or ended before
-    /// the bytes that it had. Then a beginning of the file is out.
+    /// `CopyFault::Sink` if and only if the sink failed. `CopyFault::Input` if an input could not be read again, or ended before the
+    /// bytes of a block. A prefix of the file has been written then.
     pub fn write_table<W: Sink>(&self, sink: &mut W) -> Result<(), CopyFault>
         ensures bytes { (t : Table) → AreAllTold S.content → ⟦<Index<'a, S> as Taker<Cursor<'a, S>>>⟧.took self.now t →
             Copies (W.stream sink.old) (W.stream sink.new) (table_bytes t) result }
@@ -164,7 +164,7 @@ impl<'a, S: Stored> Index<'a, S> {
         Some(number as u64 * BYTES + at)
     }
 
-    /// Keeps where the bytes of a block stand of which nothing is known.
+    /// Marks a block of which nothing is known as known, with its bytes after the first `at` bytes of the input that is taken.
     fn keep(&mut self, block: u32, at: u64) -> Result<(), NotTaken>
         requires block { block ≤ 4194303 }
         requires unknown { slot_at self.now.places.packets.items block ≡ Unknown }

@@ -11,7 +11,7 @@ use crate::stored::{Stored, fill};
 /// How many bytes an input has at most, so that a place of 64 bits names it and a byte of it.
 pub const BYTES: u64 = 17_592_186_044_416;
 
-/// Reads what stands from a place on into the whole buffer.
+/// Fills the buffer with the bytes from `place` on.
 ///
 /// # Errors
 ///

@@ -1,5 +1,5 @@
 // SPDX-License-Identifier: MIT OR Apache-2.0
-//! A table of blocks by index: it keeps no bytes, but where in which input the bytes of each known block stand.
+//! A table of blocks by index: for each known block it keeps not its bytes, but which input holds them and at what offset.
 #![tactic(auto)]
 
 mod bytes;

@@ -7,8 +7,8 @@ ghost use Rattle.udfs_index.specs.Slots.{IsSlotSet, slot_in, is_placed, is_dispu
 
 use udfs_lattice::Fact;
 
-/// What is said of 32 blocks: a mask of the known ones, a mask of those in conflict, of which a known one is none, the place
-/// of each known one, and for one in conflict that of the bytes that brought it there.
+/// The states of 32 blocks: a mask of the known ones, a mask of those in conflict, in which the bit of a known one has no meaning,
+/// and a place for each block: that of the bytes of a known one, and for one in conflict that of the bytes that brought it there.
 #[derive(Clone, Copy)]
 pub struct Packet {
     known: u32,
@@ -53,14 +53,14 @@ impl Packet {
         (self.known, self.conflict & !self.known)
     }
 
-    /// Where the bytes stand that brought block `i` into conflict, if it is.
+    /// The place of the bytes that brought block `i` into conflict. It has no meaning if the block is not in conflict.
     pub fn disputed_by(&self, i: u32) -> u64
         requires { i < 32 }
     {
         self.places[i as usize]
     }
 
-    /// Block `i` is known, and its bytes stand there.
+    /// Marks block `i` as known, with its bytes at `place`.
     pub fn put(&mut self, i: u32, place: u64)
         requires { i < 32 }
         ensures { IsSlotSet self.old i (Known place) self.new }
@@ -69,7 +69,7 @@ impl Packet {
         self.known |= 1 << i;
     }
 
-    /// Block `i` is in conflict. The bytes that brought it there stand at `by`.
+    /// Marks block `i` as in conflict, with the place of the bytes that brought it there.
     pub fn dispute(&mut self, i: u32, by: u64)
         requires { i < 32 }
         ensures { IsSlotSet self.old i Conflict self.new }

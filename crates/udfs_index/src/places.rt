@@ -79,7 +79,7 @@ impl Places {
         slot_of(&self.packets, n)
     }
 
-    /// Block `n` is known, and its bytes stand there.
+    /// Marks block `n` as known, with its bytes at `place`.
     ///
     /// # Errors
     ///
@@ -95,7 +95,8 @@ impl Places {
         Ok(())
     }
 
-    /// Where the bytes stand that brought block `n` into conflict, if it is.
+    /// The place of the bytes that brought block `n` into conflict, or [`NOWHERE`] if that is not known. It has no meaning if the
+    /// block is not in conflict.
     pub fn disputed_by(&self, n: u32) -> u64 {
         match self.packets.get((n / 32) as usize) {
             Some(packet) => packet.disputed_by(n % 32),
@@ -103,7 +104,7 @@ impl Places {
         }
     }
 
-    /// Block `n` is in conflict. The bytes that brought it there stand at `by`.
+    /// Marks block `n` as in conflict, with the place of the bytes that brought it there.
     ///
     /// # Errors
     ///

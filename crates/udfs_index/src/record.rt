@@ -10,7 +10,7 @@ use udfs_reading::{NotTaken, Source, Taker, take_inputs};
 /// A position at which no input has a byte. What is reported at it concerns the input's end.
 pub const END: u64 = u64::MAX;
 
-/// Takes nothing, and stops at the content that stands at this position.
+/// Takes nothing, and stops at the first content that begins at this position or after it.
 #[derive(Drop)]
 struct Seeker {
     at: u64,
@@ -38,9 +38,9 @@ impl<R: Source> Taker<R> for Seeker {
     }
 }
 
-/// The number, from 1, of the record of an input whose content stands at a position or is the first behind it; or that of the
-/// record before it that cannot be read, as the input is read again from its front; 0 in the header, and at [`END`] the count of
-/// the input's records.
+/// The number, from 1, of the first record of an input whose content begins at position `at` or after it. The input is read again from
+/// its beginning; if that fails before this record, the number is that of the failure. It is 0 if `at` is in the header, and
+/// [`record_count`] if `at` is [`END`] or no content begins at `at` or after it.
 pub fn record_at<S: Stored>(stored: &S, at: u64) -> u32 {
     if at < HEADER {
         return 0;
@@ -55,8 +55,7 @@ pub fn record_at<S: Stored>(stored: &S, at: u64) -> u32 {
     }
 }
 
-/// How many records an input says that it has, which stands behind its magic and the length of a block; 0 where that cannot be
-/// read.
+/// The count of records in the header of an input, which is after the magic and the block length; 0 if it cannot be read.
 pub fn record_count<S: Stored>(stored: &S) -> u32 {
     let mut bytes = [0; 4];
     match fill(stored, 12, &mut bytes) {

@@ -1,4 +1,4 @@
-//! Readings whose records are taken by where they stand: no byte of a block is read that is not looked into.
+//! Readings whose records are taken by position: only the taker reads the bytes of a block, where it needs them.
 
 ghost use Rattle.std.specs.Prelude.{◌≡◌, ◌≤◌, ℕ, List, Option, IfErr, IfOk, IfSome, OnOk, true, false};
 ghost use Rattle.udfs_lattice.specs.Tables.{Table};
@@ -10,7 +10,7 @@ use crate::cursor::Cursor;
 use crate::stored::{HEADER, RECORD, Stored};
 use udfs_reading::{NotTaken, Source};
 
-/// What takes records of inputs by where they stand. It is a [`Taker`](udfs_reading::Taker) too.
+/// A taker of records by their positions in an input. [`Index`](crate::Index) is one, and a [`Taker`](udfs_reading::Taker) too.
 pub trait RecordTaker<S: Stored> {
     /// This is the table of what it took so far.
     ghost took: { Self → Table → Type 0 };

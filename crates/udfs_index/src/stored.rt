@@ -7,7 +7,7 @@ ghost use Rattle.udfs_index.specs.Recorded.{HasRecords, IsRecordedAt};
 use std::time::SystemTime;
 use udfs_reading::DeviceFault;
 
-/// How many bytes stand before the first record of a reading.
+/// How many bytes come before the first record of a reading.
 pub const HEADER: u64 = 16;
 
 /// How many bytes the record of a reading has: the number of its block in 4 bytes, and the block.

@@ -21,8 +21,8 @@ const LONGEST: u64 = 262_144;
 /// How many bytes a block has.
 const BLOCK: u64 = 2048;
 
-/// How many bytes may stand between two blocks that are read at once, as the numbers of records, the entries of blocks in conflict
-/// and the heads of packets do.
+/// The most bytes that may be between two blocks that are read at once. Numbers of records, entries of blocks in conflict and headers
+/// of packets are such bytes.
 const GAP: u64 = 64;
 
 /// How many bytes to read from `place` on, instead of `span`, so that the block of this slot is read too; `span` if it is not
@@ -47,9 +47,9 @@ fn with(place: u64, span: u64, slot: Fact<u64>) -> Option<u64>
     Some(far + BLOCK)
 }
 
-/// How many bytes to read at once from `place` on, where the bytes of block `block` stand: to the end of the last of the known
-/// blocks that follow and stand one behind the other. The next block that is read anew is none of them, so that each block is
-/// looked at twice at most.
+/// How many bytes to read at once from `place` on, where the bytes of block `block` begin. The read extends over the known blocks
+/// after `block` for as long as each is in the same input, at most `GAP` bytes after the one before it, and the whole is at most
+/// `LONGEST` bytes. The next read begins at a block after these, so that each block is examined at most twice.
 fn ahead(packets: &[Packet], block: u32, place: u64) -> u64
     requires block { block < 4194304 }
     requires known { slot_at packets.now block ≡ Known place }
@@ -68,7 +68,7 @@ fn ahead(packets: &[Packet], block: u32, place: u64) -> u64
     span
 }
 
-/// Bytes of an input that stand there from a place on, as they were read at once.
+/// Bytes of an input that were read at once: the first `len` of `bytes` are those from `place` on.
 #[derive(Drop)]
 pub struct Window {
     place: u64,

@@ -7,7 +7,7 @@ use Rattle.udfs_lattice.specs.States.{State, join_of, join_of-unknown}
 use Rattle.udfs_lattice.specs.Tables.{Table, state_of, entries_of}
 use Rattle.udfs_lattice.specs.TableLaws.{state_of-empty}
 use Rattle.udfs_lattice.specs.Records.{table_of_entries, IsEntry, RisesFrom}
-use Rattle.udfs_lattice.specs.Volumes.{Includes}
+use Rattle.udfs_lattice.proofs.Inclusion.{Includes, included, contained}
 use Rattle.udfs_lattice.proofs.EntryLaws.{state_of-cons, unknown_below, rises-entries_of, table_of_entries-entries_of}
 
 abbrev Tells : List (ℕ × State) → ℕ → State → Type 0
@@ -55,5 +55,8 @@ rising_tell low [] h n s = (λ i. absurd i, λ w. absurd (w.1 (sym w.0 ∙ state
 rising_tell low (e ∷ es) h n s = on low e es h n s (rising_tell (e.0 + 1) es h.2 n s)
 
 pub entries_tell_states : EntriesTellStates
-entries_tell_states t sound n s = subst (λ (u : Table). Includes (entries_of t) (n, s) ↔ ((state_of u n ≡ s) × (s ≢ Unknown))) (table_of_entries-entries_of t sound)
-    (rising_tell 0 (entries_of t) (rises-entries_of t sound) n s)
+entries_tell_states t sound n s = (λ c. tells.0 (included (entries_of t) (n, s) c), λ h. contained (entries_of t) (n, s) (tells.1 h))
+  where
+    tells : Includes (entries_of t) (n, s) ↔ ((state_of t n ≡ s) × (s ≢ Unknown))
+    tells = subst (λ (u : Table). Includes (entries_of t) (n, s) ↔ ((state_of u n ≡ s) × (s ≢ Unknown))) (table_of_entries-entries_of t sound)
+        (rising_tell 0 (entries_of t) (rises-entries_of t sound) n s)

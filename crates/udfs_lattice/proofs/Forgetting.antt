@@ -9,8 +9,8 @@ use Rattle.std.proofs.lemmas.Bool.{eqb-true, eq-eqb, false≢true, ltb-false}
 use Rattle.std.proofs.lemmas.Bool.Decides.{nat_tests}
 use Rattle.std.proofs.lemmas.Nat.Bits.{bit_at-zero}
 use Rattle.udfs_lattice.specs.declared.facts.Fact.TheVariants.{Unknown, Known, Conflict}
-use Rattle.udfs_lattice.specs.Laws.{ForgettingAllCommutes, SettlingCommutes, NamedAreIncluded}
-use Rattle.udfs_lattice.specs.Volumes.{Includes}
+use Rattle.udfs_lattice.specs.Laws.{ForgettingAllCommutes, SettlingCommutes, NamedAreContained}
+use Rattle.udfs_lattice.proofs.Inclusion.{Includes, included, contained}
 use Rattle.udfs_lattice.specs.States.{State, join_of, is_known, is_conflict}
 use Rattle.udfs_lattice.specs.Tables.{Table, state_of, join_tables, IsTable, IsStateAt, IsForgotten, AreForgotten, IsWithoutConflicts, is_named, without_conflict}
 use Rattle.udfs_lattice.specs.TableLaws.{same_table, state_of-join_tables}
@@ -37,8 +37,8 @@ included_named [] n h = absurd h
 included_named (m ∷ ns) n (inl e) = ap (λ b. b || is_named ns n) (eq-eqb n m (sym e))
 included_named (m ∷ ns) n (inr h) = ap (λ b. (n == m) || b) (included_named ns n h) ∙ or_true (n == m)
 
-pub named_are_included : NamedAreIncluded
-named_are_included ns n = (named_included ns n, included_named ns n)
+pub named_are_contained : NamedAreContained
+named_are_contained ns n = (λ h. contained ns n (named_included ns n h), λ c. included_named ns n (included ns n c))
 
 forgotten_joined : (t u v w : Table) (q : ℕ) (b : Bool) → state_of u q ≡ cond b Unknown (state_of t q) → (b ≡ true → state_of v q ≡ Unknown) → state_of w q ≡ cond b Unknown (state_of (join_tables t v) q)
     → state_of w q ≡ join_of (state_of u q) (state_of v q)
@@ -46,7 +46,7 @@ forgotten_joined t u v w q true old none new = new ∙ sym (none refl) ∙ ap (�
 forgotten_joined t u v w q false old none new = new ∙ state_of-join_tables t v q ∙ ap (λ s. join_of s (state_of v q)) (sym old)
 
 pub forgetting_all_commutes : ForgettingAllCommutes
-forgetting_all_commutes t u v w ns old none new = same_table w (join_tables u v) (λ q. forgotten_joined t u v w q (is_named ns q) (old q) (λ h. none q (named_included ns q h)) (new q) ∙ sym (state_of-join_tables u v q))
+forgetting_all_commutes t u v w ns old none new = same_table w (join_tables u v) (λ q. forgotten_joined t u v w q (is_named ns q) (old q) (λ h. none q (contained ns q (named_included ns q h))) (new q) ∙ sym (state_of-join_tables u v q))
 
 not_known : (b : List ℕ) → Known b ≡ Unknown → ⊥
 not_known b e = false≢true (sym (ap is_known e))

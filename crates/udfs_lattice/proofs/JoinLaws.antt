@@ -1,13 +1,13 @@
 -- The join of several tables depends on the set of them alone.
-use Rattle.std.specs.Prelude.{◌≡◌, ℕ, ◌==◌, Bool, true, false, cond, List, [], ◌∷◌, ◌++◌, map, refl}
-use Rattle.std.proofs.Common.{sym, ap, subst, ◌∙◌, inl, inr, ⊎_elim}
+use Rattle.std.specs.Prelude.{◌≡◌, ℕ, ◌==◌, Bool, true, false, cond, Contains, List, [], ◌∷◌, ◌++◌, map, refl}
+use Rattle.std.proofs.Common.{sym, ap, subst, ◌∙◌, ⊎_elim}
 use Rattle.std.proofs.lemmas.Bool.{eqb-true}
 use Rattle.udfs_lattice.specs.declared.facts.Fact.TheVariants.{Unknown}
 use Rattle.udfs_lattice.specs.Laws.{ForgettingCommutes}
 use Rattle.udfs_lattice.specs.States.{State, IsBelow, IsBelow-trans, join_of}
 use Rattle.udfs_lattice.specs.Tables.{Table, state_of, empty_table, join_tables, IsTableBelow}
 use Rattle.udfs_lattice.specs.TableLaws.{state_of-empty, state_of-join_tables, same_table, join_tables-assoc, join_tables-comm, IsTableBelow-join_tables, IsTableBelow-second, join_tables-least, IsTableBelow-antisym}
-use Rattle.udfs_lattice.specs.Volumes.{Includes}
+use Rattle.udfs_lattice.proofs.Inclusion.{here, there, here_or_there, in_nothing}
 use Rattle.udfs_lattice.specs.Records.{Record, table_of, join_all, IsLeastAbove, SameTables, all_records}
 use Rattle.udfs_lattice.proofs.RecordLaws.{table_of-append}
 
@@ -18,15 +18,15 @@ empty_below : (t : Table) → IsTableBelow empty_table t
 empty_below t n = subst (λ (s : State). IsBelow s (state_of t n)) (sym (state_of-empty n)) tt
 
 pub join_all-least : (ts : List Table) → IsLeastAbove ts (join_all ts)
-join_all-least [] = record { above = λ t h. absurd h; least = λ v h. empty_below v }
+join_all-least [] = record { above = λ t h. in_nothing t h; least = λ v h. empty_below v }
 join_all-least (x ∷ ts) =
     let rest = join_all-least ts in
     record {
       above = λ t h. ⊎_elim
           (λ (e : x ≡ t). subst (λ (u : Table). IsTableBelow u (join_tables x (join_all ts))) e (IsTableBelow-join_tables x (join_all ts)))
-          (λ (k : Includes ts t). below_trans t (join_all ts) (join_tables x (join_all ts)) (rest.above t k) (IsTableBelow-second x (join_all ts)))
-          h;
-      least = λ v h. join_tables-least x (join_all ts) v (h x (inl refl)) (rest.least v (λ t k. h t (inr k)));
+          (λ (k : Contains ts t). below_trans t (join_all ts) (join_tables x (join_all ts)) (rest.above t k) (IsTableBelow-second x (join_all ts)))
+          (here_or_there x ts t h);
+      least = λ v h. join_tables-least x (join_all ts) v (h x (here x ts)) (rest.least v (λ t k. h t (there x ts t k)));
     }
 
 pub join_all-same : (ts us : List Table) → SameTables ts us → join_all ts ≡ join_all us

@@ -1,9 +1,10 @@
 -- The laws of this crate that proofs above it use. Each has the statement of its name, which the function named before it in
 -- src/laws.rt ensures.
-use Rattle.std.proofs.Common.{List, ◌+◌, ◌≤◌, length, arith}
-use Rattle.udfs_lattice.specs.Laws.{IncludedIsContained, AscendingIncludes, CompleteAgrees, CompleteKnows, EntriesRise, EntriesMakeTable, EntriesTellStates, RisingAreEntries, RisingMakeTable, FewEntries, SetMakesTable, TablesMakeJoin, RecordsMakeJoin, RecordAdded, EntryAdded, TableAdded, EntryBefore}
+use Rattle.std.proofs.Common.{List, ℕ, ◌↔◌, ◌+◌, ◌≤◌, length, arith}
+use Rattle.udfs_lattice.specs.Laws.{AscendingContains, CompleteAgrees, CompleteKnows, EntriesRise, EntriesMakeTable, EntriesTellStates, RisingAreEntries, RisingMakeTable, FewEntries, SetMakesTable, TablesMakeJoin, RecordsMakeJoin, RecordAdded, EntryAdded, TableAdded, EntryBefore}
 use Rattle.udfs_lattice.specs.Records.{Record, IsTableOf, table_of}
-use Rattle.udfs_lattice.proofs.Inclusion as inclusion
+use Rattle.udfs_lattice.specs.Volumes.{ascending}
+use Rattle.udfs_lattice.proofs.Inclusion.{Includes, contained_alike}
 use Rattle.udfs_lattice.proofs.VolumeLaws as volumes
 use Rattle.udfs_lattice.proofs.EntryLaws as entries
 use Rattle.udfs_lattice.proofs.EntryStates as states
@@ -21,12 +22,11 @@ complete_knows = volumes.complete_knows
 pub table_is_of_records : (rs : List Record) → IsTableOf rs (table_of rs)
 table_is_of_records = records.IsTableOf-table_of
 
--- inclusion_is_by_place
-pub included_is_contained : {A : Type 0} → IncludedIsContained A
-included_is_contained = inclusion.included_is_contained
-
 -- ascending_has_the_same_numbers
-pub ascending_includes : AscendingIncludes
+pub ascending_contains : AscendingContains
+ascending_contains ns n = contained_alike (ascending ns) ns n (volumes.includes_ascending ns n)
+
+pub ascending_includes : (ns : List ℕ) (n : ℕ) → Includes (ascending ns) n ↔ Includes ns n
 ascending_includes = volumes.includes_ascending
 
 -- entries_make_the_table

@@ -6,7 +6,8 @@ use Rattle.udfs_lattice.specs.declared.facts.Fact.TheVariants.{Unknown, Known, C
 use Rattle.udfs_lattice.specs.Laws.{CompleteKnows}
 use Rattle.udfs_lattice.specs.States.{State, IsBelow}
 use Rattle.udfs_lattice.specs.Tables.{Table, state_of, IsTableBelow}
-use Rattle.udfs_lattice.specs.Volumes.{Includes, Volume, complete, Agrees, insert_once, ascending}
+use Rattle.udfs_lattice.specs.Volumes.{Volume, complete, Agrees, insert_once, ascending}
+use Rattle.udfs_lattice.proofs.Inclusion.{Includes}
 
 complete_known : (volume : Volume) (n : ℕ) (bytes : List ℕ) (b : Bool) → cond b (Known (volume n)) Unknown ≡ Known bytes → bytes ≡ volume n
 complete_known volume n bytes true e = cc

@@ -1,9 +1,8 @@
--- What holds of complete volumes, of records, of entries and of several tables, in their own words. The laws of the join
--- of two tables are in TableLaws.
+-- The laws of complete volumes, of records, of entries and of several tables. The laws of the join of two tables are in
+-- TableLaws.
 --     CompleteAgrees       the table that knows all of a volume agrees with it
 --     CompleteKnows        and knows exactly the blocks up to the last one, with the volume's bytes
---     IncludedIsContained  that x is one of xs says that it stands at some place of xs
---     AscendingIncludes    the ascending list of some numbers has these numbers
+--     AscendingContains    the ascending list of some numbers has these numbers
 --     EntriesRise          the entries of a table rise
 --     EntriesMakeTable     and the table is that of its entries
 --     EntriesTellStates    they are the blocks of which the table says something, each with what it says
@@ -16,18 +15,14 @@
 --     ForgettingCommutes   to forget a block commutes with joining a table that says nothing of it
 --     ForgettingAllCommutes    and so with several blocks
 --     SettlingCommutes         and so with the blocks in conflict
---     NamedAreIncluded     a block is named where it is one of the list
+--     NamedAreContained    a block is named where it is one of the list
 --     RecordAdded, EntryAdded, TableAdded, EntryBefore       one more is joined in
 use Rattle.std.specs.Prelude.{◌≡◌, ◌≢◌, ◌↔◌, ◌≤◌, ◌==◌, ℕ, true, List, [], ◌∷◌, ◌++◌, cond, length, map, Contains}
 use Rattle.udfs_lattice.specs.declared.facts.Fact.TheVariants.{Unknown, Known, Conflict}
 use Rattle.udfs_lattice.specs.States.{State, join_of}
 use Rattle.udfs_lattice.specs.Tables.{Table, state_of, entries_of, join_tables, one_entry, one_record, IsTable, IsForgotten, AreForgotten, IsWithoutConflicts, is_named}
 use Rattle.udfs_lattice.specs.Records.{Record, SameRecords, SameTables, all_records, join_all, table_of, table_of_entries, RisesFrom}
-use Rattle.udfs_lattice.specs.Volumes.{Includes, Volume, Agrees, ascending, complete}
-
--- x is one of xs exactly where it stands at some place of xs
-abbrev pub IncludedIsContained : Type 0 → Type 0
-IncludedIsContained A = (xs : List A) (x : A) → Includes xs x ↔ Contains xs x
+use Rattle.udfs_lattice.specs.Volumes.{Volume, Agrees, ascending, complete}
 
 -- the table that knows all of a volume agrees with it
 abbrev pub CompleteAgrees : Type 0
@@ -38,8 +33,8 @@ abbrev pub CompleteKnows : Type 0
 CompleteKnows = (volume : Volume) (last n : ℕ) (bytes : List ℕ) → (complete volume last n ≡ Known bytes) ↔ ((n ≤ last) × (bytes ≡ volume n))
 
 -- the ascending list of some numbers has these numbers and no other
-abbrev pub AscendingIncludes : Type 0
-AscendingIncludes = (ns : List ℕ) (n : ℕ) → Includes (ascending ns) n ↔ Includes ns n
+abbrev pub AscendingContains : Type 0
+AscendingContains = (ns : List ℕ) (n : ℕ) → Contains (ascending ns) n ↔ Contains ns n
 
 -- the block numbers of the entries rise
 abbrev pub EntriesRise : Type 0
@@ -51,7 +46,7 @@ EntriesMakeTable = (t : Table) → IsTable t → table_of_entries (entries_of t)
 
 -- a block is an entry with this state where the table says this of it, and not where it says nothing
 abbrev pub EntriesTellStates : Type 0
-EntriesTellStates = (t : Table) → IsTable t → (n : ℕ) (s : State) → Includes (entries_of t) (n, s) ↔ ((state_of t n ≡ s) × (s ≢ Unknown))
+EntriesTellStates = (t : Table) → IsTable t → (n : ℕ) (s : State) → Contains (entries_of t) (n, s) ↔ ((state_of t n ≡ s) × (s ≢ Unknown))
 
 -- rising entries are those of their table
 abbrev pub RisingAreEntries : Type 0
@@ -81,7 +76,7 @@ RecordsMakeJoin = (rss : List (List Record)) → join_all (map table_of rss) ≡
 
 -- ---- one more
 
--- a record behind the others is joined in
+-- a record after the others is joined in
 abbrev pub RecordAdded : Type 0
 RecordAdded = (rs : List Record) (n : ℕ) (bytes : List ℕ) → table_of (rs ++ (n, bytes) ∷ []) ≡ join_tables (table_of rs) (one_record n bytes)
 
@@ -104,12 +99,12 @@ ForgettingCommutes = (t u v w : Table) (n : ℕ) → IsForgotten t n u → state
 
 -- and so for several blocks
 abbrev pub ForgettingAllCommutes : Type 0
-ForgettingAllCommutes = (t u v w : Table) (ns : List ℕ) → AreForgotten t ns u → ((n : ℕ) → Includes ns n → state_of v n ≡ Unknown) → AreForgotten (join_tables t v) ns w → w ≡ join_tables u v
+ForgettingAllCommutes = (t u v w : Table) (ns : List ℕ) → AreForgotten t ns u → ((n : ℕ) → Contains ns n → state_of v n ≡ Unknown) → AreForgotten (join_tables t v) ns w → w ≡ join_tables u v
 
 -- and for the blocks in conflict, where the other table says nothing of those that are so in the join
 abbrev pub SettlingCommutes : Type 0
 SettlingCommutes = (t u v w : Table) → IsWithoutConflicts t u → ((n : ℕ) → state_of (join_tables t v) n ≡ Conflict → state_of v n ≡ Unknown) → IsWithoutConflicts (join_tables t v) w → w ≡ join_tables u v
 
 -- the blocks that are named are those of the list
-abbrev pub NamedAreIncluded : Type 0
-NamedAreIncluded = (ns : List ℕ) (n : ℕ) → (is_named ns n ≡ true) ↔ Includes ns n
+abbrev pub NamedAreContained : Type 0
+NamedAreContained = (ns : List ℕ) (n : ℕ) → (is_named ns n ≡ true) ↔ Contains ns n

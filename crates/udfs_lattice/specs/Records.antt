@@ -1,8 +1,7 @@
 -- The table of a set of records, of a list of entries, and the join of several tables.
-use Rattle.std.specs.Prelude.{◌≡◌, ◌≢◌, ℕ, ◌+◌, ◌≤◌, List, [], ◌∷◌, ◌++◌, ◌↔◌}
+use Rattle.std.specs.Prelude.{◌≡◌, ◌≢◌, ℕ, ◌+◌, ◌≤◌, List, [], ◌∷◌, ◌++◌, ◌↔◌, Contains}
 use Rattle.udfs_lattice.specs.declared.facts.Fact.TheVariants.{Unknown, Known, Conflict}
 use Rattle.udfs_lattice.specs.States.{State, IsBlock}
-use Rattle.udfs_lattice.specs.Volumes.{Includes}
 use Rattle.udfs_lattice.specs.Tables.{Table, state_of, one_record, one_entry, empty_table, join_tables, IsTableBelow}
 
 -- a block number, and the bytes of that block in one reading
@@ -11,9 +10,9 @@ Record = ℕ × List ℕ
 
 -- what the records say of block n: Unknown where none names it, Known where all that name it say the same bytes, Conflict where two differ
 abbrev pub IsStateOf : List Record → ℕ → State → Type 0
-IsStateOf rs n Unknown = (bytes : List ℕ) → ¬ (Includes rs (n, bytes))
-IsStateOf rs n (Known bytes) = Includes rs (n, bytes) × ((other : List ℕ) → Includes rs (n, other) → other ≡ bytes)
-IsStateOf rs n Conflict = (a : List ℕ) × (b : List ℕ) × Includes rs (n, a) × Includes rs (n, b) × (a ≢ b)
+IsStateOf rs n Unknown = (bytes : List ℕ) → ¬ (Contains rs (n, bytes))
+IsStateOf rs n (Known bytes) = Contains rs (n, bytes) × ((other : List ℕ) → Contains rs (n, other) → other ≡ bytes)
+IsStateOf rs n Conflict = (a : List ℕ) × (b : List ℕ) × Contains rs (n, a) × Contains rs (n, b) × (a ≢ b)
 
 -- at each block the table says what the records say
 abbrev pub IsTableOf : List Record → Table → Type 0
@@ -21,7 +20,7 @@ IsTableOf rs t = (n : ℕ) → IsStateOf rs n (state_of t n)
 
 -- the same records, in any order and however often
 abbrev pub SameRecords : List Record → List Record → Type 0
-SameRecords rs ss = (r : Record) → Includes rs r ↔ Includes ss r
+SameRecords rs ss = (r : Record) → Contains rs r ↔ Contains ss r
 
 -- each record joined in, from the last to the first
 abbrev pub table_of : List Record → Table
@@ -55,12 +54,12 @@ join_all (t ∷ ts) = join_tables t (join_all ts)
 
 -- the least table above all of these
 pub record IsLeastAbove (ts : List Table) (u : Table) : Type 0 where
-  pub above : (t : Table) → Includes ts t → IsTableBelow t u
-  pub least : (v : Table) → ((t : Table) → Includes ts t → IsTableBelow t v) → IsTableBelow u v
+  pub above : (t : Table) → Contains ts t → IsTableBelow t u
+  pub least : (v : Table) → ((t : Table) → Contains ts t → IsTableBelow t v) → IsTableBelow u v
 
 -- the same tables, in any order and however often
 abbrev pub SameTables : List Table → List Table → Type 0
-SameTables ts us = (t : Table) → Includes ts t ↔ Includes us t
+SameTables ts us = (t : Table) → Contains ts t ↔ Contains us t
 
 -- the records of several lists, one list after the other
 abbrev pub all_records : List (List Record) → List Record

@@ -1,17 +1,12 @@
 -- Complete volumes, tables that agree with one, and what a table knows of several blocks. All speak of the states of
 -- blocks alone, so a table is cited by its states.
-use Rattle.std.specs.Prelude.{◌≡◌, ◌⊎◌, ℕ, ◌<◌, ◌≤◌, List, [], ◌∷◌, cond, filter, not, false, nat_le, nat_lt, ◌==◌, Option, Some, None}
+use Rattle.std.specs.Prelude.{◌≡◌, ℕ, ◌<◌, ◌≤◌, List, [], ◌∷◌, cond, filter, not, false, nat_le, nat_lt, ◌==◌, Option, Some, None, Contains}
 use Rattle.udfs_lattice.specs.declared.facts.Fact.TheVariants.{Unknown, Known, Conflict}
 use Rattle.udfs_lattice.specs.States.{State, IsBlock, is_known}
 
 -- a state for each block number
 abbrev pub Blocks : Type 0
 Blocks = ℕ → State
-
--- x is one of xs
-abbrev pub Includes : {A : Type 0} → List A → A → Type 0
-Includes [] x = ⊥
-Includes (y ∷ ys) x = (y ≡ x) ⊎ Includes ys x
 
 -- ---- complete volumes
 
@@ -57,7 +52,7 @@ IsKnownAt blocks n = (bytes : List ℕ) × (blocks n ≡ Known bytes)
 
 -- none of these blocks is Known: each is Unknown or in Conflict
 abbrev pub IsUnread : Blocks → List ℕ → Type 0
-IsUnread blocks group = (n : ℕ) → Includes group n → is_known (blocks n) ≡ false
+IsUnread blocks group = (n : ℕ) → Contains group n → is_known (blocks n) ≡ false
 
 -- n in its place in a rising list, unless it is there
 abbrev pub insert_once : ℕ → List ℕ → List ℕ

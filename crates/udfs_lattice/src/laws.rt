@@ -1,10 +1,10 @@
 //! Laws of tables, each the contract of a function that does nothing.
 ghost use Rattle.std.specs.Prelude.{◌≡◌, ◌⊎◌, ◌↔◌, ◌≤◌, ℕ, List, map};
 ghost use Rattle.udfs_lattice.specs.declared.facts.Fact.TheVariants.{Known, Conflict};
-ghost use Rattle.udfs_lattice.specs.Laws.{IncludedIsContained, AscendingIncludes, CompleteAgrees, CompleteKnows, EntriesMakeTable, EntriesRise, EntriesTellStates, EntryAdded, EntryBefore, FewEntries, RecordAdded, ForgettingAllCommutes, ForgettingCommutes, NamedAreIncluded, RecordsMakeJoin, RisingAreEntries, RisingMakeTable, SetMakesTable, SettlingCommutes, TableAdded, TablesMakeJoin};
+ghost use Rattle.udfs_lattice.specs.Laws.{AscendingContains, CompleteAgrees, CompleteKnows, EntriesMakeTable, EntriesRise, EntriesTellStates, EntryAdded, EntryBefore, FewEntries, RecordAdded, ForgettingAllCommutes, ForgettingCommutes, NamedAreContained, RecordsMakeJoin, RisingAreEntries, RisingMakeTable, SetMakesTable, SettlingCommutes, TableAdded, TablesMakeJoin};
 ghost use Rattle.udfs_lattice.specs.Records.{Record, IsTableOf, SameRecords, table_of, table_of_entries, RisesFrom, join_all, IsLeastAbove, SameTables, all_records};
 ghost use Rattle.udfs_lattice.specs.States.{State};
-ghost use Rattle.udfs_lattice.specs.Volumes.{Volume, Agrees, Includes, complete, ascending};
+ghost use Rattle.udfs_lattice.specs.Volumes.{Volume, Agrees, complete, ascending};
 ghost use Rattle.udfs_lattice.specs.Tables.{Table, state_of, entries_of, IsStateAt, IsTable, IsTableBelow, join_tables};
 
 use crate::table::LAST_BLOCK;
@@ -62,16 +62,9 @@ pub fn complete_volume_agrees()
         (state_of u n ≡ Known bytes) ⊎ (state_of u n ≡ Conflict) }
 {}
 
-/// That something is one of a list says that it stands at some place of it, as the standard library has it.
-pub fn inclusion_is_by_place()
-    ensures blocks { IncludedIsContained ℕ }
-    ensures records { IncludedIsContained Record }
-    ensures tables { IncludedIsContained Table }
-{}
-
 /// The ascending list of some numbers has these numbers and no other.
 pub fn ascending_has_the_same_numbers()
-    ensures { AscendingIncludes }
+    ensures { AscendingContains }
 {}
 
 /// The blocks of which a table can say anything are those up to [`LAST_BLOCK`].
@@ -79,7 +72,7 @@ pub fn blocks_end_at_the_last()
     ensures { (n : ℕ) → IsStateAt n Conflict ↔ (n ≤ LAST_BLOCK) }
 {}
 
-/// One record, entry or table more is joined in, behind the others; and an entry before the others too.
+/// One more record, entry or table after the others is joined in; and so is an entry before the others.
 pub fn one_more_is_joined()
     ensures record { RecordAdded }
     ensures entry { EntryAdded }
@@ -92,5 +85,5 @@ pub fn forgetting_commutes_with_joining()
     ensures one { ForgettingCommutes }
     ensures several { ForgettingAllCommutes }
     ensures conflicts { SettlingCommutes }
-    ensures named { NamedAreIncluded }
+    ensures named { NamedAreContained }
 {}

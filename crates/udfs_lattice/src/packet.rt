@@ -257,7 +257,7 @@ impl Packet {
         }
     }
 
-    /// How many blocks from place `at` on, which is below 32, are unknown, one behind the other.
+    /// The number of consecutive unknown blocks from place `at` on, up to the end of the packet. `at` is below 32.
     pub(crate) fn unknown_from(&self, at: u32) -> u32
         requires { at < 32 }
         ensures unknown { (j : ℕ) → j < result → state_of self.now (at + j) ≡ Unknown }

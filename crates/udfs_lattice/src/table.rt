@@ -21,7 +21,7 @@ use std::marker::Model;
 pub const LAST_BLOCK: u32 = 4_194_303;
 
 /// What is known of each block of a volume: the states of the blocks 0 to [`LAST_BLOCK`], in packets of 32
-/// blocks, of which those stand in a map that have a block that is not unknown. A block has 2048 bytes.
+/// blocks. A map holds the packets with at least one block that is not unknown. A block has 2048 bytes.
 #[derive(Drop)]
 pub struct BlockTable {
     packets: BTreeMap<u32, Packet>,
@@ -64,8 +64,8 @@ impl BlockTable {
         }
     }
 
-    /// How many blocks from block `n` on are unknown, one behind the other, up to the end of its packet of 32 blocks: a
-    /// block of a packet of which nothing is known is passed over with all that follow it there. It takes no memory.
+    /// The number of consecutive unknown blocks from block `n` on, up to the end of its packet of 32 blocks. If nothing is
+    /// known of the packet, this is the whole rest of it. It allocates no memory.
     pub fn unknown_ahead(&self, n: u32) -> u32
         ensures unknown { (j : ℕ) → j < result → state_of self.now (n + j) ≡ Unknown }
         ensures end { (n % 32 + result ≡ 32) ⊎ (state_of self.now (n + result) ≢ Unknown) }
@@ -95,7 +95,7 @@ impl BlockTable {
         }
     }
 
-    /// Puts in a packet, where there is none of its number.
+    /// Inserts a packet whose number is not in the map yet.
     fn insert(&mut self, number: u32, packet: Packet) -> Result<(), AllocError>
         requires number { number < 131072 }
         requires packet { IsPacketTable packet }

@@ -169,7 +169,7 @@ pub struct Memory {
     pub fails_to: u64,
     times: Times,
     modified: ModifiedTimes,
-    /// The zone of the clock, as POSIX writes a rule; UTC where it is none.
+    /// The zone of the clock, as a POSIX rule; UTC if it is not a valid one.
     pub zone: &'static str,
     /// A path of which no time can be set.
     pub timeless: &'static str,
@@ -579,7 +579,7 @@ impl Memory {
         }
     }
 
-    /// How long the file is, 0 where there is none.
+    /// The length of the finished file in bytes, or 0 if there is no such file.
     pub fn len(&self, path: &str) -> usize {
         match self.bytes(path) {
             Some(held) => held.len(),
@@ -587,7 +587,7 @@ impl Memory {
         }
     }
 
-    /// Whether these bytes stand at this place of the file.
+    /// Whether the file is there and has these bytes at this offset.
     pub fn has_at(&self, path: &str, at: usize, bytes: &[u8]) -> bool {
         match self.bytes(path) {
             Some(held) => held.get(at..at.saturating_add(bytes.len())) == Some(bytes),

@@ -17,11 +17,11 @@ abbrev pub must_escape : ℕ → Bool
 must_escape unit =
     nat_lt unit 0x20 || unit == 0x7F || unit == 0x2F || unit == 0x5C || (nat_le 0xD800 unit && nat_lt unit 0xE000)
 
--- the characters that stand for a unit in no pair
+-- the characters that are written for a unit in no pair
 abbrev pub shown_unit : ℕ → List ℕ
 shown_unit unit = if must_escape unit then escape unit else unit ∷ []
 
--- the characters that stand for units, pairs joined
+-- the characters that are written for units, pairs joined
 unfoldable pub shown : List ℕ → List ℕ
 shown [] = []
 shown (u ∷ []) = shown_unit u

@@ -42,7 +42,7 @@ pub(crate) fn escape_bytes(unit: u16) -> [u8; 6]
     ]
 }
 
-/// The character that a unit in no pair stands for, unless it is escaped.
+/// The character of a unit that is in no pair, or `None` if the unit is escaped.
 pub(crate) fn plain_char(unit: u16) -> Option<char>
     ensures { SomeIff result (must_escape unit ≡ false) unit }
 {
@@ -52,7 +52,7 @@ pub(crate) fn plain_char(unit: u16) -> Option<char>
     }
 }
 
-/// The character of a surrogate pair that stands at the front of units of UTF-16, where one does.
+/// The character of the surrogate pair at the beginning of units of UTF-16, if there is one.
 pub fn paired_char(units: &[u16]) -> Option<char>
     ensures { SomeIff result (begins_with_pair units.now ≡ true) (surrogate_pair_char (slice_index units.now 0) (slice_index units.now 1)) }
 {
@@ -112,7 +112,7 @@ fn write_front(units: &[u16], text: &mut String) -> Result<usize, OutOfMemory>
 /// How many characters go out at once.
 pub const PIECE: usize = 64;
 
-/// The byte that is written for a unit that stands for itself in one byte.
+/// The byte of a unit that is written unchanged, as one byte, or `None` for any other unit.
 fn plain_byte(unit: u16) -> Option<u8>
     ensures { SomeIff result ((must_escape unit ≡ false) × (unit < 128)) unit }
 {
@@ -122,7 +122,7 @@ fn plain_byte(unit: u16) -> Option<u8>
     }
 }
 
-/// Takes the units at the front that stand for themselves in one byte, as many as there is room for, and says how many.
+/// Copies the units at the beginning that are written unchanged, as one byte each, as many as there is room for, and returns how many.
 pub(crate) fn take_plain(units: &[u16], piece: &mut [u8; PIECE]) -> usize
     ensures room { result ≤ 64 }
     ensures fits { result ≤ length units.now }
@@ -140,7 +140,7 @@ pub(crate) fn take_plain(units: &[u16], piece: &mut [u8; PIECE]) -> usize
     count
 }
 
-/// Appends some units at the front, and says how many: those that stand for themselves in one byte go out in one piece.
+/// Appends some units from the beginning, and returns how many: those that are written unchanged, as one byte each, or else the first shown part.
 fn write_part(units: &[u16], text: &mut String) -> Result<usize, OutOfMemory>
     requires { 0 < length units.now }
     ensures some { IfOk result (λ n. 0 < n) }
@@ -194,14 +194,14 @@ pub fn write_escapes(units: &[u16], text: &mut String) -> Result<(), OutOfMemory
     Ok(())
 }
 
-/// The escaped form of every name that bytes give can stand in a path, whatever the bytes are. This is a law about the form; the
-/// call does nothing.
+/// The escaped form of every name that can be read from bytes is a valid part of a path, whatever the bytes are. This is a law
+/// about the form; the call does nothing.
 pub fn escaped_name_is_path_part()
     ensures { (bytes units : List ℕ) → units_of bytes ≡ Ok units → IsPathPart (escaped units) }
 {}
 
-/// The escaped form of a name can stand in a path: it is not empty, not `.` or `..`, and has no `/`, no byte below 20
-/// hexadecimal and so no zero byte. This is a law about the form; the call does nothing.
+/// The escaped form of a name is a valid part of a path: it is not empty, not `.` or `..`, and has no `/`, no byte below
+/// 20 hexadecimal and so no zero byte. This is a law about the form; the call does nothing.
 pub fn escaped_is_path_part()
     ensures { (units : List ℕ) → 0 < length units → IsPathPart (escaped units) }
 {}

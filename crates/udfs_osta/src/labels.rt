@@ -24,7 +24,7 @@ impl Label {
     ///
     /// # Errors
     ///
-    /// Where memory is refused, and then the label is a name: the other two kinds take none.
+    /// `OutOfMemory` where memory ran out. This happens only if the label is a name: the other two kinds allocate nothing.
     pub fn read(alloc: Global, bytes: &[u8; 128]) -> Result<Label, OutOfMemory>
         ensures value { IfOk result (λ label. label ≡ label_of bytes.now) }
         ensures memory { IfErr result (λ refused. IsNamed (label_of bytes.now)) }

@@ -2,13 +2,13 @@
 //! Names, labels and timestamps of UDF volumes.
 //!
 //! UDF writes the names of files and the labels of volumes as *compressed Unicode* (OSTA UDF 2.1.1): a first byte of 8
-//! or 16 says how many bits stand for one unit, and a unit is a number of 16 bits, read as UTF-16. A label stands in a
-//! field of fixed size, a *dstring* (OSTA UDF 2.1.3), and a time in twelve bytes (ECMA-167 1/7.3).
+//! or 16 gives the number of bits per unit, and a unit is a number of 16 bits, read as UTF-16. A label is in a field of
+//! fixed size, a *dstring* (OSTA UDF 2.1.3), and a time in twelve bytes (ECMA-167 1/7.3).
 //!
 //! [`Name`] and [`Label`] read the first two and [`Stamp`] the third. [`Name::write_escaped`] writes a name so that
-//! it can stand in a path of the host and in a line of text: it is never empty, never `.` or `..`, and holds no `/`, no
-//! byte below 20 hexadecimal and so no zero byte ([`escaped_is_path_part`]); and two names that are written alike have
-//! the same units ([`escaped_tells_units`]).
+//! it can be used as a part of a path of the host and in a line of text: it is never empty, never `.` or `..`, and holds
+//! no `/`, no byte below 20 hexadecimal and so no zero byte ([`escaped_is_path_part`]); and two names that are written
+//! alike have the same units ([`escaped_tells_units`]).
 #![tactic(auto)]
 
 mod escapes;

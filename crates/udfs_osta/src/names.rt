@@ -24,7 +24,7 @@ pub enum NameFault {
     Compression = 2,
     /// After a first byte of 16 comes an odd number of bytes.
     Odd = 3,
-    /// The bytes are a name, and memory for its units was refused.
+    /// The bytes are a name, but memory ran out for its units.
     OutOfMemory = 4,
 }
 
@@ -55,7 +55,7 @@ impl Model for Name {
     ghost invariant = { λ n. IsName n.units.items };
 }
 
-/// A copy has the same units. It is refused where memory is.
+/// A copy has the same units. It fails with `AllocError` where memory ran out.
 impl Clone for Name {
     ghost is_clone = { λ name copy. copy ≡ name };
 
@@ -106,8 +106,8 @@ impl Name {
         }
     }
 
-    /// Why the bytes of the first piece and then the second are no name: the fault that [`Name::read`] would report, or
-    /// `None` where they are one. It takes no memory.
+    /// The fault that [`Name::read`] would report of the bytes of the first piece and then the second, out of memory apart,
+    /// or `None` where they are a name. It allocates no memory.
     pub fn fault(first: &[u8], second: &[u8]) -> Option<NameFault>
         ensures { result ≡ fault_of (units_of (first.now ++ second.now)) }
     {
@@ -134,12 +134,12 @@ impl Name {
     ///
     /// # Errors
     ///
-    /// Where memory is refused, and then a beginning of that text is appended.
+    /// `OutOfMemory` where memory ran out. Then a beginning of that text is appended.
     pub fn write_escaped(&self, text: &mut String) -> Result<(), OutOfMemory>
         ensures ok { OnOk result (string_bytes text.new ≡ string_bytes text.old ++ escaped self.now) }
         ensures err { OnErr result (AppendsPart (string_bytes text.old) (string_bytes text.new) (escaped self.now)) }
 
-        // The text can stand in a path, and no other name has it.
+        // The text is a valid part of a path, and no other name has it.
         ensures part { IsPathPart (escaped self.now) }
         ensures alone { (other : List ℕ) → AreUnits other → escaped other ≡ escaped self.now → other ≡ self.now }
     {
@@ -160,7 +160,7 @@ impl Name {
     }
 }
 
-/// Why the first byte `kind` and `count` more bytes are no name, or `None` where they are one.
+/// Returns why a name with the first byte `kind` and `count` more bytes is invalid, or `None` where it is valid.
 fn fault_behind(kind: u8, count: usize) -> Option<NameFault>
     ensures { (rest : List ℕ) → length rest ≡ count → result ≡ fault_of (units_of (kind ∷ rest)) }
 {

@@ -72,7 +72,7 @@ fn take_front(units: &[u16], piece: &mut [u8; PIECE]) -> Taken
     }
 }
 
-/// Takes some units at the front: those that stand for themselves in one byte, or else the first shown part.
+/// Takes units from the beginning: those that are written unchanged, as one byte each, or else the first shown part.
 fn take_part(units: &[u16], piece: &mut [u8; PIECE]) -> Taken
     requires { 0 < length units.now }
     ensures some { 0 < result.bytes }

@@ -1,4 +1,4 @@
-//! Text that may stop half way, since memory may be refused at any growth.
+//! Text that may be appended only in part, since memory may run out whenever it grows.
 
 ghost use Rattle.std.specs.Prelude.{◌≡◌, ◌++◌, OnOk, OnErr};
 ghost use Rattle.std.specs.String.{string_bytes};
@@ -7,7 +7,7 @@ ghost use Rattle.udfs_osta.specs.Texts.{AppendsPart};
 
 use std::alloc::AllocError;
 
-/// Memory was refused. It is std's [`AllocError`] under the name that the calls of these crates use.
+/// Memory ran out. This is std's [`AllocError`] under the name that these crates use.
 pub type OutOfMemory = AllocError;
 
 /// Appends ASCII bytes.

@@ -13,9 +13,9 @@ use Rattle.udfs_walk.specs.declared.answers.Unnamed.{Unnamed}
 use Rattle.udfs_walk.specs.declared.standings.Standing.{Standing}
 use Rattle.udfs_walk.specs.declared.standings.Standing.TheVariants.{Whole, Torn, Loop, Fault}
 use Rattle.udfs_salvage.specs.Found.{Found}
-use Rattle.udfs_salvage.specs.Reports.{is_whole}
+use Rattle.udfs_walk.specs.Unsettled.{is_whole}
 use Rattle.udfs_salvage.specs.Surveys.{full_entries}
-use Rattle.udfs_overview.specs.Tallies.{is_file}
+use Rattle.udfs_salvage.specs.UnnamedExtraction.{is_file}
 use Rattle.udfs_overview.specs.DiscTallies.{has_data, is_empty_file, run_count}
 
 -- the next number follows at once

@@ -8,7 +8,8 @@ use Rattle.std.proofs.lemmas.Bool.Decides.{nat_tests}
 use Rattle.std.proofs.lemmas.Str.{encodes-append}
 use Rattle.udfs_osta.specs.Escapes.{escape, is_dots}
 use Rattle.udfs_overview.specs.SafeNames.{safe_name, safe_unit, safe_units}
-use Rattle.udfs_overview.specs.SafeFronts.{front_length, front_characters}
+use Rattle.udfs_osta.specs.Fronts.{front_len}
+use Rattle.udfs_overview.specs.SafeFronts.{front_characters}
 
 by_pair : (b : Bool) (u v : ℕ) (us : List ℕ) → cond b (surrogate_pair_char u v ∷ safe_units us) (safe_unit u ++ safe_units (v ∷ us))
     ≡ cond b (surrogate_pair_char u v ∷ []) (safe_unit u) ++ safe_units (drop (cond b 2 1) (u ∷ v ∷ us))
@@ -16,23 +17,23 @@ by_pair true u v us = refl
 by_pair false u v us = refl
 
 -- the first part, and the rest
-front_and_rest : (units : List ℕ) → 0 < length units → safe_units units ≡ front_characters units ++ safe_units (drop (front_length units) units)
+front_and_rest : (units : List ℕ) → 0 < length units → safe_units units ≡ front_characters units ++ safe_units (drop (front_len units) units)
 unfolding safe_units
 front_and_rest [] h = absurd (omega arith)
 front_and_rest (u ∷ []) h = sym (append-nil (safe_unit u))
 front_and_rest (u ∷ v ∷ us) h = by_pair (is_high_surrogate u && is_low_surrogate v) u v us
 
 encoded_front : (units : List ℕ) → 0 < length units
-    → encode_utf8_all (safe_units units) ≡ encode_utf8_all (front_characters units) ++ encode_utf8_all (safe_units (drop (front_length units) units))
-encoded_front units h = ap encode_utf8_all (front_and_rest units h) ∙ encodes-append (front_characters units) (safe_units (drop (front_length units) units))
+    → encode_utf8_all (safe_units units) ≡ encode_utf8_all (front_characters units) ++ encode_utf8_all (safe_units (drop (front_len units) units))
+encoded_front units h = ap encode_utf8_all (front_and_rest units h) ∙ encodes-append (front_characters units) (safe_units (drop (front_len units) units))
 
 -- the first part is appended: what is there and what is left make the same text
-pub front_appended : (whole middle new units : List ℕ) (n : ℕ) → 0 < length units → n ≡ front_length units
+pub front_appended : (whole middle new units : List ℕ) (n : ℕ) → 0 < length units → n ≡ front_len units
     → new ≡ middle ++ encode_utf8_all (front_characters units) → middle ++ encode_utf8_all (safe_units units) ≡ whole
     → new ++ encode_utf8_all (safe_units (drop n units)) ≡ whole
 front_appended whole middle new units n some count e h =
     rw (e, count)
-    (append_assoc middle (encode_utf8_all (front_characters units)) (encode_utf8_all (safe_units (drop (front_length units) units)))
+    (append_assoc middle (encode_utf8_all (front_characters units)) (encode_utf8_all (safe_units (drop (front_len units) units)))
     ∙ ap (λ x. middle ++ x) (sym (encoded_front units some)) ∙ h)
 
 -- one escape is appended

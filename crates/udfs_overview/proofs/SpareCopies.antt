@@ -1,6 +1,6 @@
 -- The copies of a sparing table of a volume in which they say the same: no two known blocks of them differ.
 use Rattle.std.proofs.Common.{◌≡◌, refl, sym, ◌∙◌, ap, inl, inr, ℕ, ◌+◌, ◌-◌, ◌*◌, ◌<◌, ◌==◌, ◌||◌, Bool, true, false, List, [], ◌∷◌, ◌++◌, cond, length, take, drop, arith}
-use Rattle.std.specs.Prelude.{zero, suc, not, flat_map}
+use Rattle.std.specs.Prelude.{zero, suc, not, flat_map, Contains}
 use Rattle.std.specs.List.{list_any, range_with_len}
 use Rattle.std.specs.Str.{bytes_eq}
 use Rattle.std.proofs.lemmas.List.{drop-drop, drop-take, take-append-le, take_all}
@@ -9,7 +9,8 @@ use Rattle.std.proofs.lemmas.List.Concat.{flat_map-cons}
 use Rattle.std.proofs.lemmas.Slice.Eq.{bytes_eq-Decides}
 use lib.Seq.{drop-append-add}
 use Rattle.udfs_lattice.specs.States.{State}
-use Rattle.udfs_lattice.specs.Volumes.{Agrees, Blocks, Includes, IsVolume, Volume}
+use Rattle.udfs_lattice.specs.Volumes.{Agrees, Blocks, IsVolume, Volume}
+use Rattle.udfs_lattice.proofs.Inclusion.{Includes, included, here, there}
 use Rattle.udfs_lattice.specs.declared.facts.Fact.TheVariants.{Unknown, Known, Conflict}
 use Rattle.udfs_volume.specs.Laws.{AreBounded}
 use Rattle.udfs_volume.specs.Layout.{blocks_in, sparable}
@@ -99,13 +100,13 @@ both_known size k (Known one) Conflict e = absurd (let z : ⊥ = cc in z)
 both_known size k Conflict y e = absurd (let z : ⊥ = cc in z)
 
 -- what passes a test
-pub any_found : {A : Type 0} (p : A → Bool) (xs : List A) → list_any p xs ≡ true → (x : A) × Includes xs x × (p x ≡ true)
+pub any_found : {A : Type 0} (p : A → Bool) (xs : List A) → list_any p xs ≡ true → (x : A) × Contains xs x × (p x ≡ true)
 any_found p [] e = absurd (let z : ⊥ = cc in z)
 any_found {A} p (x ∷ xs) e = go (p x) refl e (any_found p xs)
   where
-    go : (b : Bool) → p x ≡ b → (b || list_any p xs) ≡ true → (list_any p xs ≡ true → (y : A) × Includes xs y × (p y ≡ true)) → (y : A) × Includes (x ∷ xs) y × (p y ≡ true)
-    go true q h later = (x, inl refl, q)
-    go false q h later = let w = later h in (w.0, inr w.1, w.2)
+    go : (b : Bool) → p x ≡ b → (b || list_any p xs) ≡ true → (list_any p xs ≡ true → (y : A) × Contains xs y × (p y ≡ true)) → (y : A) × Contains (x ∷ xs) y × (p y ≡ true)
+    go true q h later = (x, here x xs, q)
+    go false q h later = let w = later h in (w.0, there x xs w.0 w.1, w.2)
 
 below : (a n k : ℕ) → Includes (range_with_len a n) k → k < a + n
 below a zero k i = absurd i
@@ -119,13 +120,13 @@ no_difference M V N packet size tables vol agrees bounded same e =
     let n = blocks_in size in
     let at = any_found (differ_in M size tables) (range_with_len 0 n) e in
     let k = at.0 in
-    let less : k < n = let l : k < 0 + n = below 0 n k at.1 in omega (arith, l) in
+    let less : k < n = let l : k < 0 + n = below 0 n k (included (range_with_len 0 n) k at.1) in omega (arith, l) in
     let first = any_found (λ a. list_any (differs_from M size k a) tables) tables at.2 in
     let a = first.0 in
     let second = any_found (differs_from M size k a) tables first.2 in
     let b = second.0 in
     let d = both_known size k (M (a + k)) (M (b + k)) second.2 in
-    let whole : (c : ℕ) → Includes tables c → (j : ℕ) → j < n → length (V (c + j)) ≡ 2048 =
+    let whole : (c : ℕ) → Contains tables c → (j : ℕ) → j < n → length (V (c + j)) ≡ 2048 =
     λ c i j l. let ends = bounded.ends c i in (vol.each (c + j) (omega (arith, l, ends))).whole in
     let said = same_said V size k a b less (whole a first.1) (whole b second.1) (same.contents a b first.1 second.1) in
     let equal : said_in size k d.one ≡ said_in size k d.other =

@@ -1,6 +1,7 @@
 -- No lawful volume agrees with a table that knows two copies of a sparing table which do not say the same.
 use Rattle.std.proofs.Common.{◌≡◌, refl, sym, ◌∙◌, ap, subst, ℕ, true}
-use Rattle.udfs_lattice.specs.Volumes.{Agrees, Blocks, Includes, IsVolume, Volume, complete}
+use Rattle.std.specs.Prelude.{Contains}
+use Rattle.udfs_lattice.specs.Volumes.{Agrees, Blocks, IsVolume, Volume, complete}
 use Rattle.udfs_tag.specs.declared.layouts.LongAd.{LongAd}
 use Rattle.udfs_volume.specs.declared.profiles.Profile.{Profile}
 use Rattle.udfs_volume.specs.Answers.{Answer, found, holes, faulty, and_then}
@@ -65,7 +66,7 @@ of_found P M N f e d V lawful agrees =
     same_layout M V N l of_volume.found_is.layout (layout_by P M N) (layout_by P (complete V N) N) here there (layout_of_lawful_by P M V N of_volume.volume_is of_volume.layout agrees) in
     let w = any_found (partition_disagrees M) l.partitions d in
     let bounded = (layout_is_bounded_by P M N l here).of_each w.0 w.1 in
-    let alike = of_volume.sparing.tables w.0 (subst (λ (k : Layout). Includes k.partitions w.0) same w.1) in
+    let alike = of_volume.sparing.tables w.0 (subst (λ (k : Layout). Contains k.partitions w.0) same w.1) in
     of_map M V N (w.0).kind of_volume.volume_is agrees bounded.bounded_map alike w.2
 
 pub none_lawful : (P : Profile) (M : Blocks) (N : ℕ) (answer : Answer Found) → answer ≡ volume_by P M N → spares_disagree M answer ≡ true → AgreesWithNoneBy P M N

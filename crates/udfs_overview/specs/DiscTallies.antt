@@ -6,8 +6,8 @@ use Rattle.std.specs.Prelude.{ℕ, ◌+◌, ◌-◌, ◌==◌, ◌&&◌, nat_lt,
 use Rattle.udfs_lattice.specs.States.{is_conflict}
 use Rattle.udfs_lattice.specs.Tables.{Table, conflict_count, known_count, state_of}
 use Rattle.udfs_walk.specs.declared.answers.Unnamed.{Unnamed}
-use Rattle.udfs_salvage.specs.Reports.{is_whole}
-use Rattle.udfs_overview.specs.Tallies.{is_file}
+use Rattle.udfs_walk.specs.Unsettled.{is_whole}
+use Rattle.udfs_salvage.specs.UnnamedExtraction.{is_file}
 use Rattle.udfs_overview.specs.declared.disc_tallies.DiscTally.{DiscTally}
 use Rattle.udfs_overview.specs.declared.disc_tallies.UnnamedTally.{UnnamedTally}
 

@@ -4,7 +4,7 @@
 --     percent_text part whole `5.3 %`
 use Rattle.std.specs.Prelude.{ℕ, ◌+◌, ◌*◌, ◌/◌, ◌%◌, ◌^◌, ◌==◌, nat_lt, Bool, List, [], ◌∷◌, ◌++◌, length, if◌then◌else◌, codes, decimal}
 
--- a comma (44) behind each digit that three, six or any such number of digits follow
+-- a comma (44) after each digit that is followed by a positive multiple of three digits
 abbrev pub with_commas : List ℕ → List ℕ
 with_commas [] = []
 with_commas (d ∷ []) = d ∷ []
@@ -30,7 +30,7 @@ tenths_in size unit = rounded (10 * size) (1000 ^ unit)
 abbrev pub is_short_in : ℕ → ℕ → Bool
 is_short_in size unit = nat_lt (tenths_in size unit) 10000
 
--- the first unit in which the figure is below 1000.0, and the eighth where there is none
+-- the first of eight units in which the figure is below 1000.0, or the eighth if it is in no unit
 unfoldable pub unit_of : ℕ → ℕ
 unit_of size =
     if is_short_in size 1 then 1

@@ -1,7 +1,7 @@
 -- The list of nodes, a line for each but the root.
---     lost_of n                what of a node is lost, in bytes
+--     lost_of standing kind    how many bytes of a node are lost
 --     list_line form n         the line of a node
---     list_text form nodes     the lines of all nodes behind the root that are asked for
+--     list_text form nodes     the lines of all nodes after the root that are asked for
 use Rattle.std.specs.Prelude.{ℕ, ◌&&◌, List, [], ◌∷◌, ◌++◌, drop, flat_map, sum_by, Option, Some, None, codes, decimal, if◌then◌else◌}
 use Rattle.udfs_osta.specs.StampTexts.{stamp_text}
 use Rattle.udfs_osta.specs.declared.stamps.Stamp.{Stamp}
@@ -11,7 +11,7 @@ use Rattle.udfs_walk.specs.NodeFields.{NodeFields}
 use Rattle.udfs_walk.specs.declared.standings.Standing.{Standing}
 use Rattle.udfs_walk.specs.declared.standings.Standing.TheVariants as standing
 use Rattle.udfs_salvage.specs.NodeTexts.{kind_name, node_fault_number}
-use Rattle.udfs_salvage.specs.Reports.{is_whole}
+use Rattle.udfs_walk.specs.Unsettled.{is_whole}
 use Rattle.udfs_overview.specs.SafeNames.{safe_name}
 use Rattle.udfs_overview.specs.declared.node_list.ListForm.{ListForm}
 
@@ -36,7 +36,7 @@ lost_of (standing.Fault f) k = None
 
 -- ---- columns
 
--- the word for a standing
+-- the text of a standing
 abbrev pub standing_word : Standing → List ℕ
 standing_word standing.Whole = codes "whole"
 standing_word (standing.Torn torn) = codes "torn"
@@ -53,7 +53,7 @@ abbrev pub time_text : Option Stamp → List ℕ
 time_text None = codes "-"
 time_text (Some stamp) = stamp_text stamp
 
--- each name of a path behind a `/`, as a person is shown it
+-- each name of a path after a `/`, as a person is shown it
 abbrev pub safe_path : List (List ℕ) → List ℕ
 safe_path names = flat_map (λ n. codes "/" ++ safe_name n) names
 
@@ -72,7 +72,7 @@ told_columns s k size stamp =
 abbrev pub line_end : ListForm → List ℕ
 line_end form = if form.null then 0 ∷ [] else 10 ∷ []
 
--- what stands before the path: nothing where paths alone are asked for
+-- the columns before the path: nothing where only paths are asked for
 abbrev pub front_columns : ListForm → NodeFields → List ℕ
 front_columns form n = if form.paths then [] else told_columns n.standing n.kind n.size n.stamp
 
@@ -84,6 +84,6 @@ list_line form n = front_columns form n ++ safe_path n.path ++ line_end form
 unfoldable pub listed : ListForm → NodeFields → List ℕ
 listed form n = if form.torn && is_whole n.standing then [] else list_line form n
 
--- the lines of the nodes behind the root, which is the first
+-- the lines of the nodes after the root, which is the first
 unfoldable pub list_text : ListForm → List NodeFields → List ℕ
 list_text form nodes = flat_map (listed form) (drop 1 nodes)

@@ -4,10 +4,6 @@ use Rattle.std.specs.Char.Utf16.{surrogate_pair_char}
 use Rattle.udfs_osta.specs.Fronts.{begins_with_pair}
 use Rattle.udfs_overview.specs.SafeNames.{safe_unit}
 
--- how many units the first part takes
-abbrev pub front_length : List ℕ → ℕ
-front_length units = if begins_with_pair units then 2 else 1
-
 -- the characters of the first part
 abbrev pub front_characters : List ℕ → List ℕ
 front_characters units =

@@ -1,5 +1,5 @@
--- Names as a person is shown them: the escaped form, in which also characters stand escaped that turn the direction of
--- text, part its lines or control a terminal.
+-- Names as a person is shown them: the escaped form, with characters also escaped that change the direction of
+-- text, separate its lines or control a terminal.
 --     safe_name units      the text, in UTF-8
 use Rattle.std.specs.Prelude.{◌≡◌, ◌≢◌, ℕ, ◌≤◌, ◌==◌, ◌&&◌, ◌||◌, Bool, false, nat_le, List, [], ◌∷◌, ◌++◌, if◌then◌else◌}
 use Rattle.std.specs.List.{flat_map}
@@ -14,11 +14,11 @@ is_unsafe c =
     (nat_le 0x7F c && nat_le c 0x9F) || c == 0x61C || c == 0x200E || c == 0x200F
     || (nat_le 0x2028 c && nat_le c 0x202E) || (nat_le 0x2066 c && nat_le c 0x2069)
 
--- the characters that stand for a unit in no pair
+-- the characters of an unpaired unit: itself, or its escape
 abbrev pub safe_unit : ℕ → List ℕ
 safe_unit unit = if must_escape unit || is_unsafe unit then escape unit else unit ∷ []
 
--- the characters that stand for units, pairs joined
+-- the characters of units, surrogate pairs joined
 unfoldable pub safe_units : List ℕ → List ℕ
 safe_units [] = []
 safe_units (u ∷ []) = safe_unit u

@@ -1,5 +1,5 @@
 -- Copies of a sparing table (UDF 2.01 2.2.11) that do not say the same: the volume is not lawful.
---     said_in size k bytes              what block k of a table says: its bytes behind the tag, within the table's size
+--     said_in size k bytes              what block k of a table says: its bytes after the tag, within the table's size
 --     differ_in blocks size tables k    block k of two of the copies is known in both, and does not say the same
 --     spares_disagree blocks volume     two copies of the sparing table of a volume that opens differ so in some block
 --     spares_line disagree              the line that says so
@@ -14,7 +14,7 @@ use Rattle.udfs_volume.specs.Layout.{Partition, PartitionMap, type1, sparable, b
 use Rattle.udfs_volume.specs.Sequence.{Bytes}
 use Rattle.udfs_salvage.specs.Found.{Found}
 
--- what block k of a table of this size says: its bytes from byte 16 of the table on, and none behind its size
+-- what block k of a table of this size says: its bytes from byte 16 of the table on, and none past its size
 abbrev pub said_in : ℕ → ℕ → Bytes → Bytes
 said_in size k bytes = drop (cond (k == 0) 16 0) (take (size - 2048 * k) bytes)
 

@@ -10,7 +10,8 @@ use Rattle.udfs_file.specs.declared.faults.Kind.TheVariants as kind
 use Rattle.udfs_walk.specs.NodeFields.{NodeFields}
 use Rattle.udfs_walk.specs.declared.standings.Standing.{Standing}
 use Rattle.udfs_walk.specs.declared.standings.Standing.TheVariants as standing
-use Rattle.udfs_salvage.specs.Reports.{is_whole}
+use Rattle.udfs_walk.specs.Unsettled.{is_whole}
+use Rattle.udfs_salvage.specs.UnnamedExtraction.{is_file}
 use Rattle.udfs_overview.specs.NodeLists.{lost_of}
 use Rattle.udfs_overview.specs.declared.tallies.Tally.{Tally}
 use Rattle.udfs_overview.specs.declared.tallies.NodeSort.{NodeSort}
@@ -36,14 +37,6 @@ is_faulty standing.Whole = false
 is_faulty (standing.Torn torn) = false
 is_faulty standing.Loop = false
 is_faulty (standing.Fault f) = true
-
--- it is a file
-abbrev pub is_file : Kind → Bool
-is_file kind.Directory = false
-is_file kind.File = true
-is_file kind.Link = false
-is_file (kind.Other t) = false
-is_file kind.Unread = false
 
 -- it is a directory
 abbrev pub is_folder : Kind → Bool
@@ -88,7 +81,7 @@ is_node_of a n = is_of a n.standing n.kind
 abbrev pub count_of : NodeSort → List NodeFields → ℕ
 count_of a nodes = count_by (is_node_of a) nodes
 
--- a number, or 0 where there is none
+-- a number, or 0 for `None`
 abbrev pub or_zero : Option ℕ → ℕ
 or_zero None = 0
 or_zero (Some n) = n

@@ -1,5 +1,5 @@
 -- The first line of a summary: what the volume is, or why it does not open.
---     volume_line answer last     the line, of a disc with this last block
+--     volume_line volume last     the line, of a disc with this last block
 use Rattle.std.specs.Prelude.{ℕ, ◌+◌, ◌*◌, List, [], ◌∷◌, ◌++◌, flat_map, codes, decimal}
 use Rattle.udfs_osta.specs.declared.labels.Label.{Label}
 use Rattle.udfs_osta.specs.declared.labels.Label.TheVariants as label
@@ -12,7 +12,7 @@ use Rattle.udfs_salvage.specs.Texts.{revision_text}
 use Rattle.udfs_overview.specs.Figures.{grouped, size_text}
 use Rattle.udfs_overview.specs.SafeNames.{safe_name}
 
--- the label as a person is shown it; one that is empty or is none is no label
+-- the label as a person is shown it: `(no label)` if it is empty or malformed
 abbrev pub label_text : Label → List ℕ
 label_text label.Empty = codes "(no label)"
 label_text (label.Name units) = safe_name units
@@ -23,7 +23,7 @@ abbrev pub kind_text : PartitionMap → List ℕ
 kind_text type1 = codes ", type 1"
 kind_text (sparable packet size tables) = codes ", sparable"
 
--- the kinds of all maps, each behind a comma
+-- the kinds of all maps, each after a comma
 abbrev pub kind_texts : List Partition → List ℕ
 kind_texts partitions = flat_map (λ p. kind_text p.kind) partitions
 
@@ -48,13 +48,13 @@ numbers_text (n ∷ []) = decimal n
 numbers_text (n ∷ m ∷ []) = decimal n ++ codes " and " ++ decimal m
 numbers_text (n ∷ m ∷ k ∷ ks) = decimal n ++ codes ", " ++ numbers_text (m ∷ k ∷ ks)
 
--- that blocks have to be read first
+-- which blocks have to be read first
 abbrev pub holes_text : List ℕ → List ℕ
 holes_text [] = codes "blocks are needed"
 holes_text (n ∷ []) = codes "block " ++ decimal n ++ codes " is needed"
 holes_text (n ∷ m ∷ ms) = codes "blocks " ++ numbers_text (n ∷ m ∷ ms) ++ codes " are needed"
 
--- a volume's fault in words
+-- the description of a volume's fault
 abbrev pub fault_words : VolumeFault → List ℕ
 fault_words fault.NoAnchor = codes "there is no anchor"
 fault_words fault.Extents = codes "the anchor's extents are wrong"

@@ -21,9 +21,9 @@ pub struct DiscTally {
     pub conflicts: u32,
     /// How many are worth reading again.
     pub needed: usize,
-    /// How many of these are in conflict.
+    /// How many of the blocks worth reading again are in conflict.
     pub needed_in_conflict: usize,
-    /// In how many runs these lie.
+    /// How many runs of consecutive numbers the blocks worth reading again form.
     pub runs: usize,
 }
 
@@ -50,7 +50,7 @@ fn run_count(blocks: &[u32]) -> usize
     runs
 }
 
-/// 1 where a run ends with this number, before these, and 0 where it goes on.
+/// 1 if a run ends with `number`, which `others` follow, and 0 if it goes on.
 fn ends_of(number: u32, others: &[u32]) -> usize
     ensures ends { result + run_count others.now ≡ run_count (number ∷ others.now) }
     ensures one { result ≤ 1 }
@@ -144,7 +144,7 @@ fn count_empty(entries: &[Unnamed]) -> usize
     count
 }
 
-/// Counts the whole files that no name leads to, of the report that a survey stands for.
+/// Counts the whole files that no name leads to, in the report that a survey represents.
 pub fn count_unnamed(survey: &Survey<'_>) -> UnnamedTally
     ensures { result ≡ unnamed_of (survey_now survey.now).unnamed }
 {

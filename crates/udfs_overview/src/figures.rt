@@ -1,4 +1,4 @@
-//! Figures as people read them. Each function appends to a text; where memory is refused, a part may be appended.
+//! Figures as people read them. Each function appends to a text; if memory runs out, a part may be appended.
 
 ghost use Rattle.std.specs.Prelude.{◌≡◌, ◌≢◌, ◌++◌, ◌+◌, ◌*◌, ◌^◌, ◌<◌, ◌≤◌, ℕ, OnOk, length};
 ghost use Rattle.std.specs.String.{string_bytes};
@@ -7,11 +7,11 @@ ghost use Rattle.udfs_overview.specs.Figures.{grouped, percent_text, rounded, si
 use std::fmt::Write;
 use udfs_osta::OutOfMemory;
 
-/// Appends a number, with a comma between each three digits: `5,120`.
+/// Appends a number, with its digits in groups of three: `5,120`.
 ///
 /// # Errors
 ///
-/// Where memory is refused, and then a part may be appended.
+/// If memory runs out. Then a part may be appended.
 pub fn push_grouped(number: u128, text: &mut String) -> Result<(), OutOfMemory>
     ensures { OnOk result (string_bytes text.new ≡ string_bytes text.old ++ grouped number) }
 {
@@ -45,7 +45,7 @@ fn unit_bytes(unit: u32) -> u128
     }
 }
 
-/// A size in tenths of a unit, rounded half up. No sum is too large, whatever the size.
+/// A size in tenths of a unit, rounded half up. The arithmetic overflows for no size.
 fn tenths_in(size: u128, unit: u32) -> u128
     requires some { 1 ≤ unit }
     requires known { unit ≤ 8 }
@@ -86,11 +86,11 @@ fn unit_name(unit: u32) -> &'static str
 }
 
 /// Appends a size: plain bytes below 1,000, and from there on the first unit of 1,000, 1,000,000 and so on bytes in which the
-/// figure, with one digit after the point and rounded half up, is below 1000.0; where there is none, in YB.
+/// figure, with one digit after the point and rounded half up, is below 1000.0; if it is in no unit, in YB.
 ///
 /// # Errors
 ///
-/// Where memory is refused, and then a part may be appended.
+/// If memory runs out. Then a part may be appended.
 #[tactic(auto, unfolding(crate::specs::Figures::size_text))]
 pub fn push_size(size: u128, text: &mut String) -> Result<(), OutOfMemory>
     ensures { OnOk result (string_bytes text.new ≡ string_bytes text.old ++ size_text size) }
@@ -106,7 +106,7 @@ pub fn push_size(size: u128, text: &mut String) -> Result<(), OutOfMemory>
     write!(text, "{whole}.{tenth} {name}")
 }
 
-/// Ten times a part of the whole, as a number of wholes and what is left. No product is too large.
+/// Ten times a part of the whole, as a number of wholes and the remainder. It multiplies nothing, so that nothing overflows.
 fn ten_times(part: u128, whole: u128) -> (u128, u128)
     requires { part < whole }
     ensures value { 10 * part ≡ result.0 * whole + result.1 }
@@ -146,11 +146,11 @@ fn thousandths(part: u128, whole: u128) -> u128
     }
 }
 
-/// Appends a part in hundredths of the whole, with one digit after the point, rounded half up: `5.3 %`.
+/// Appends a part as a percentage of the whole, with one digit after the point, rounded half up: `5.3 %`.
 ///
 /// # Errors
 ///
-/// Where memory is refused, and then a part may be appended.
+/// If memory runs out. Then a part may be appended.
 #[tactic(auto, unfolding(crate::specs::Figures::percent_text))]
 pub fn push_percent(part: u128, whole: u128, text: &mut String) -> Result<(), OutOfMemory>
     requires { 0 < whole }

@@ -1,9 +1,9 @@
-//! What a line of the list says of a node. Each function appends to a text; where memory is refused, a part may be appended.
+//! What a line of the list says of a node. Each function appends to a text; if memory runs out, a part may be appended.
 
 ghost use Rattle.std.specs.Prelude.{◌≡◌, ◌++◌, ◌∷◌, [], ℕ, OnOk, Some};
 ghost use Rattle.std.specs.String.{string_bytes};
 ghost use Rattle.udfs_salvage.specs.NodeTexts.{kind_name, node_fault_number};
-ghost use Rattle.udfs_salvage.specs.Reports.{is_whole};
+ghost use Rattle.udfs_walk.specs.Unsettled.{is_whole};
 ghost use Rattle.udfs_overview.specs.NodeLists.{column, lost_bytes, lost_of, number_text, safe_path, standing_word, time_text, told_columns};
 
 use crate::safe_names::push_safe_name;
@@ -34,7 +34,7 @@ fn lost_bytes(holes: &[(u64, u64)]) -> u128
     lost
 }
 
-/// How many bytes of a node are lost: 0 of a whole one; `None`, unknown, of a torn one that was not read, a loop or a fault.
+/// How many bytes of a node are lost: 0 for a whole one; `None` (not known) for a torn one that was not read, a loop or a fault.
 pub fn lost_of(standing: &Standing, kind: Kind) -> Option<u128>
     ensures { result ≡ lost_of standing.now kind }
 {
@@ -134,7 +134,7 @@ pub(crate) fn push_told(
     push_time(text, stamp)
 }
 
-/// A name behind a `/`.
+/// A `/` and a name.
 fn push_part(text: &mut String, name: &Name) -> Result<(), OutOfMemory>
     ensures { OnOk result (string_bytes text.new ≡ string_bytes text.old ++ safe_path (name.now ∷ [])) }
 {

@@ -38,7 +38,7 @@ fn push_end(text: &mut String, form: ListForm) -> Result<(), OutOfMemory>
     }
 }
 
-/// What stands before the path.
+/// The columns before the path, or nothing if only paths are asked for.
 fn push_front(
     text: &mut String,
     form: ListForm,
@@ -115,7 +115,7 @@ fn put_nodes<W: Sink>(
     Ok(())
 }
 
-/// The line of a node without its blocks and holes, with those.
+/// The line of a node that is given without its blocks and holes. They are found first.
 fn put_full_node<W: Sink>(
     alloc: Global,
     text: &mut String,
@@ -131,7 +131,7 @@ fn put_full_node<W: Sink>(
     put_listed(text, sink, form, node, &full)
 }
 
-/// The lines of nodes without their blocks and holes, with those.
+/// The lines of nodes that are given without their blocks and holes. They are found first, for one node at a time.
 fn put_full_nodes<W: Sink>(
     alloc: Global,
     text: &mut String,
@@ -149,7 +149,7 @@ fn put_full_nodes<W: Sink>(
     Ok(())
 }
 
-/// The nodes behind the root, which is the first.
+/// The nodes after the root, which is the first.
 fn behind_root(nodes: &[Node]) -> &[Node]
     ensures { result.now ≡ drop 1 nodes.now }
 {
@@ -159,7 +159,7 @@ fn behind_root(nodes: &[Node]) -> &[Node]
     }
 }
 
-/// The lines of all nodes behind the root.
+/// The lines of all nodes after the root.
 fn put_all<W: Sink>(
     text: &mut String,
     sink: &mut W,
@@ -172,7 +172,7 @@ fn put_all<W: Sink>(
     put_nodes(text, sink, form, behind_root(nodes))
 }
 
-/// The lines of all nodes behind the root, which are without their blocks and holes, with those.
+/// The lines of all nodes after the root, where nodes are given without their blocks and holes. They are found first, for one node at a time.
 fn put_full_all<W: Sink>(
     alloc: Global,
     text: &mut String,
@@ -207,13 +207,13 @@ fn put_list<W: Sink>(
     }
 }
 
-/// Writes a line for each node behind the root of the report that a survey stands for, in the report's order: its standing, its
-/// kind, how many of its bytes are lost, its size, its time and its path, with a tab between each two, and `-` for what is not
-/// known. The blocks and holes of one node are held at a time.
+/// Writes a line for each node after the root of the report that a survey represents, in the report's order: its standing, its
+/// kind, how many of its bytes are lost, its size in bytes, its time and its path, separated by tabs, with `-` for what is not
+/// known. `form` can leave out whole nodes or all columns but the path. The blocks and holes of one node are held at a time.
 ///
 /// # Errors
 ///
-/// `Write` exactly where the sink failed, and `OutOfMemory` where memory is refused. Then a beginning of the lines is out.
+/// `Write` if and only if the sink failed, `OutOfMemory` if memory ran out. In both cases a prefix of the lines, possibly empty, was written.
 pub fn write_list<W: Sink>(
     alloc: Global,
     survey: &Survey<'_>,

@@ -1,5 +1,5 @@
 //! Names as a person is shown them, so that none can forge a line or turn the direction of text. Each function appends to a text;
-//! where memory is refused, a part may be appended.
+//! if memory runs out, a part may be appended.
 
 ghost use Rattle.std.specs.Prelude.{◌≡◌, ◌++◌, ◌<◌, ◌≤◌, ◌||◌, ℕ, List, OnOk, IfOk, length, false};
 ghost use Rattle.std.specs.String.{string_bytes};
@@ -8,12 +8,13 @@ ghost use Rattle.std.specs.List.{All};
 ghost use Rattle.std.specs.Option.{SomeIff};
 ghost use Rattle.udfs_osta.specs.Escapes.{must_escape};
 ghost use Rattle.udfs_osta.specs.Names.{AreUnits};
-ghost use Rattle.udfs_overview.specs.SafeFronts.{front_characters, front_length};
+ghost use Rattle.udfs_osta.specs.Fronts.{front_len};
+ghost use Rattle.udfs_overview.specs.SafeFronts.{front_characters};
 ghost use Rattle.udfs_overview.specs.SafeNames.{IsSafe, is_unsafe, safe_characters, safe_name, safe_unit, safe_units};
 
 use udfs_osta::{Name, OutOfMemory, is_dots, paired_char, write_escape, write_escapes};
 
-/// The character that a unit in no pair stands for, unless it is escaped.
+/// The character of an unpaired unit, or `None` if the unit is written as an escape.
 fn plain_char(unit: u16) -> Option<char>
     ensures { SomeIff result ((must_escape unit || is_unsafe unit) ≡ false) unit }
 {
@@ -24,7 +25,7 @@ fn plain_char(unit: u16) -> Option<char>
     }
 }
 
-/// Appends a unit in no pair.
+/// Appends an unpaired unit.
 fn push_unit(unit: u16, text: &mut String) -> Result<(), OutOfMemory>
     ensures { OnOk result (string_bytes text.new ≡ string_bytes text.old ++ encode_utf8_all (safe_unit unit)) }
 {
@@ -34,10 +35,10 @@ fn push_unit(unit: u16, text: &mut String) -> Result<(), OutOfMemory>
     }
 }
 
-/// Appends the first part, a pair or one unit, and says how many units it takes.
+/// Appends the first part, a surrogate pair or one unit, and returns how many units it takes.
 fn push_front(units: &[u16], text: &mut String) -> Result<usize, OutOfMemory>
     requires { 0 < length units.now }
-    ensures count { IfOk result (λ n. n ≡ front_length units.now) }
+    ensures count { IfOk result (λ n. n ≡ front_len units.now) }
     ensures fits { IfOk result (λ n. n ≤ length units.now) }
     ensures ok { OnOk result (string_bytes text.new ≡ string_bytes text.old ++ encode_utf8_all (front_characters units.now)) }
 {
@@ -53,7 +54,7 @@ fn push_front(units: &[u16], text: &mut String) -> Result<usize, OutOfMemory>
     }
 }
 
-/// Appends the units, pairs joined.
+/// Appends the units, surrogate pairs joined.
 fn push_units(units: &[u16], text: &mut String) -> Result<(), OutOfMemory>
     ensures { OnOk result (string_bytes text.new ≡ string_bytes text.old ++ encode_utf8_all (safe_units units.now)) }
 {
@@ -66,16 +67,16 @@ fn push_units(units: &[u16], text: &mut String) -> Result<(), OutOfMemory>
     Ok(())
 }
 
-/// Appends a name as a person is shown it: its escaped form, in which also U+007F to U+009F, U+061C, U+200E, U+200F, U+2028 to
-/// U+202E and U+2066 to U+2069 stand as `\uXXXX`.
+/// Appends a name as a person is shown it: its escaped form, with U+007F to U+009F, U+061C, U+200E, U+200F, U+2028 to
+/// U+202E and U+2066 to U+2069 also written as `\uXXXX`.
 ///
 /// # Errors
 ///
-/// Where memory is refused, and then a part may be appended.
+/// If memory runs out. Then a part may be appended.
 pub fn push_safe_name(name: &Name, text: &mut String) -> Result<(), OutOfMemory>
     ensures text { OnOk result (string_bytes text.new ≡ string_bytes text.old ++ safe_name name.now) }
 
-    // The text has none of these characters, and no other name has it.
+    // The text has none of these characters, and no other name has the same text.
     ensures safe { All IsSafe (safe_characters name.now) }
     ensures alone { (other : List ℕ) → AreUnits other → safe_name other ≡ safe_name name.now → other ≡ name.now }
 {
@@ -87,13 +88,13 @@ pub fn push_safe_name(name: &Name, text: &mut String) -> Result<(), OutOfMemory>
     }
 }
 
-/// No character of a name's text is a control, a `/`, or one that parts lines or turns the direction of text. This is a law
+/// No character of a name's text is a control, a `/`, or one that separates lines or changes the direction of text. This is a law
 /// about the text; the call does nothing.
 pub fn safe_names_are_safe()
     ensures { (units : List ℕ) → AreUnits units → All IsSafe (safe_characters units) }
 {}
 
-/// Two names with one text have the same units. This is a law about the text; the call does nothing.
+/// Two names with the same text have the same units. This is a law about the text; the call does nothing.
 pub fn safe_names_tell_units()
     ensures { (first second : List ℕ) → AreUnits first → AreUnits second → safe_name first ≡ safe_name second → first ≡ second }
 {}

@@ -21,7 +21,7 @@ use udfs_osta::OutOfMemory;
 use udfs_salvage::{Survey, Volume};
 use udfs_volume::{Partition, PartitionMap, SparableMap};
 
-/// The bytes before a position, or all if there are no more.
+/// The bytes before a position, or all if there are not more than that.
 #[tactic(auto, using(std::proofs::lemmas::List::take_all))]
 fn front(bytes: &[u8], position: u64) -> &[u8]
     ensures { result.now ≡ take position bytes.now }
@@ -164,7 +164,7 @@ fn volume_disagrees(survey: &Survey<'_>) -> bool
 
 /// Whether copies of a sparing table disagree (UDF 2.01 2.2.11), of a volume that opens: a block of the table is known in two of the
 /// places that its map names, and does not say the same in both, from byte 16 of the table on and within its size. Then the volume is
-/// not lawful, by whatever rules, and files in spared packets may be old. It takes no memory.
+/// not lawful, by whatever rules, and files in spared packets may be old. It allocates no memory.
 pub fn spares_disagree(survey: &Survey<'_>) -> bool
     ensures value { result ≡ spares_disagree (state_of survey.now.table.now) (volume_now survey.now.volume) }
 
@@ -179,7 +179,7 @@ pub fn spares_disagree(survey: &Survey<'_>) -> bool
 ///
 /// # Errors
 ///
-/// Where memory is refused, and then a part may be appended.
+/// If memory runs out. Then a part may be appended.
 pub fn push_spares(text: &mut String, disagree: bool) -> Result<(), OutOfMemory>
     ensures { OnOk result (string_bytes text.new ≡ string_bytes text.old ++ spares_line disagree) }
 {

@@ -38,7 +38,7 @@ fn fact_names_streams(fact: Fact<&[u8; 2048]>) -> bool
     }
 }
 
-/// Whether such an entry is known to stand at a logical block.
+/// Whether a logical block is known to hold such an entry.
 fn block_names_streams(view: View<'_>, address: LbAddr) -> bool
     ensures { result ≡ block_names_streams (block_at (view_now view.entry) address.reference address.block) }
 {
@@ -97,8 +97,8 @@ fn count_nameless(view: View<'_>, entries: &[Unnamed]) -> usize
     count
 }
 
-/// Counts the files with named streams of the report that a survey stands for: whole and torn ones whose entries have a stream
-/// directory (ECMA-167 4/14.17), by each of their names, and those that no name leads to. It takes no memory.
+/// Counts the files with named streams in the report that a survey represents: whole and torn ones whose entries have a stream
+/// directory (ECMA-167 4/14.17), once for each of their names, and those that no name leads to. It allocates no memory.
 #[tactic(auto, using(crate::proofs::Streaming::streams_full), unfolding(crate::specs::Streams::stream_count))]
 pub fn count_streams(survey: &Survey<'_>) -> usize
     ensures { result ≡ stream_count (state_of survey.now.table.now) (survey_now survey.now) }
@@ -138,7 +138,7 @@ fn push_some_streams(text: &mut String, files: usize) -> Result<(), OutOfMemory>
 ///
 /// # Errors
 ///
-/// Where memory is refused, and then a part may be appended.
+/// If memory runs out. Then a part may be appended.
 pub fn push_streams(text: &mut String, files: usize) -> Result<(), OutOfMemory>
     ensures { OnOk result (string_bytes text.new ≡ string_bytes text.old ++ streams_line files) }
 {

@@ -141,7 +141,7 @@ fn push_all_found(alloc: Global, text: &mut String, survey: &Survey<'_>) -> Resu
     push_spares(text, spares_disagree(survey))
 }
 
-/// The lines of the torn files among nodes that are without their blocks and holes.
+/// The lines of the torn files among nodes that are given without their blocks and holes.
 #[tactic(auto, unfolding(crate::specs::TornLists::torn_text, crate::specs::Tallies::tally_of))]
 fn push_top(
     alloc: Global,
@@ -188,7 +188,7 @@ fn push_torn_if_open(
     }
 }
 
-/// The rules of a profile as words of a command, with a space before them: the strict ones need none.
+/// The rules of a profile as arguments of a command, with a space before them: empty for the strict rules.
 pub fn rules_words(profile: Profile) -> &'static str
     ensures { result.now ≡ rules_words profile }
 {
@@ -271,14 +271,14 @@ fn push_summary(alloc: Global, text: &mut String, survey: &Survey<'_>) -> Result
     push_next(text, survey, disc.needed_in_conflict)
 }
 
-/// Writes the summary of the report that a survey stands for: what the volume is, how many files and folders are whole, torn, links or
-/// without a name, how many files have named streams, whether sparing copies disagree, the blocks of the disc, the torn files of which most is lost, and what to read
-/// again. A volume that does not open has a line that says why, that of the blocks, and what to read again. The blocks and holes of one
+/// Writes the summary of the report that a survey represents: what the volume is, how many files and folders are whole, torn, links or
+/// without a name, how many files have named streams, whether sparing copies disagree, the blocks of the disc, the torn files of which most is lost, and what
+/// to read again. A volume that does not open has a line that says why, that of the blocks, and what to read again. The blocks and holes of one
 /// node are held at a time.
 ///
 /// # Errors
 ///
-/// `Write` exactly where the sink failed, and `OutOfMemory` where memory is refused. Then a beginning of the lines is out.
+/// `Write` if and only if the sink failed, `OutOfMemory` if memory ran out. In both cases a prefix of the lines, possibly empty, was written.
 pub fn write_summary<W: Sink>(
     alloc: Global,
     survey: &Survey<'_>,

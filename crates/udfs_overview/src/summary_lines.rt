@@ -1,4 +1,4 @@
-//! Lines of the summary. Each function appends to a text; where memory is refused, a part may be appended.
+//! Lines of the summary. Each function appends to a text; if memory runs out, a part may be appended.
 
 ghost use Rattle.std.specs.Prelude.{◌≡◌, ◌++◌, ℕ, OnOk};
 ghost use Rattle.std.specs.String.{string_bytes};
@@ -41,7 +41,7 @@ fn push_torn_files(text: &mut String, tally: &Tally) -> Result<(), OutOfMemory>
 ///
 /// # Errors
 ///
-/// Where memory is refused, and then a part may be appended.
+/// If memory runs out. Then a part may be appended.
 #[tactic(auto, unfolding(crate::specs::SummaryTexts::files_line))]
 pub fn push_files(text: &mut String, tally: &Tally) -> Result<(), OutOfMemory>
     ensures { OnOk result (string_bytes text.new ≡ string_bytes text.old ++ files_line tally.now) }
@@ -58,7 +58,7 @@ pub fn push_files(text: &mut String, tally: &Tally) -> Result<(), OutOfMemory>
 ///
 /// # Errors
 ///
-/// Where memory is refused, and then a part may be appended.
+/// If memory runs out. Then a part may be appended.
 #[tactic(auto, unfolding(crate::specs::SummaryTexts::others_line))]
 pub fn push_others(text: &mut String, tally: &Tally) -> Result<(), OutOfMemory>
     ensures { OnOk result (string_bytes text.new ≡ string_bytes text.old ++ others_line tally.now) }
@@ -76,7 +76,7 @@ pub fn push_others(text: &mut String, tally: &Tally) -> Result<(), OutOfMemory>
 ///
 /// # Errors
 ///
-/// Where memory is refused, and then a part may be appended.
+/// If memory runs out. Then a part may be appended.
 #[tactic(auto, unfolding(crate::specs::SummaryTexts::unnamed_line))]
 pub fn push_unnamed(text: &mut String, tally: &UnnamedTally) -> Result<(), OutOfMemory>
     ensures { OnOk result (string_bytes text.new ≡ string_bytes text.old ++ unnamed_line tally.now) }
@@ -124,7 +124,7 @@ fn push_unknown(text: &mut String, tally: &DiscTally) -> Result<(), OutOfMemory>
 ///
 /// # Errors
 ///
-/// Where memory is refused, and then a part may be appended.
+/// If memory runs out. Then a part may be appended.
 #[tactic(auto, unfolding(crate::specs::SummaryTexts::disc_line))]
 pub fn push_disc(text: &mut String, tally: &DiscTally) -> Result<(), OutOfMemory>
     ensures { OnOk result (string_bytes text.new ≡ string_bytes text.old ++ disc_line tally.now) }

@@ -6,7 +6,8 @@ ghost use Rattle.udfs_walk.specs.Bare.{full_node, node_with};
 ghost use Rattle.udfs_walk.specs.NodeFields.{NodeFields};
 ghost use Rattle.udfs_salvage.specs.Surveys.{survey_now};
 ghost use Rattle.udfs_overview.specs.NodeLists.{lost_of};
-ghost use Rattle.udfs_overview.specs.Tallies.{at_most_128_bits, bytes_of, count_of, is_faulty, is_file, is_folder, is_loop, is_node_of, is_of, is_other, is_torn, is_unread, lost_in, node_count, or_zero, tally_of};
+ghost use Rattle.udfs_overview.specs.Tallies.{at_most_128_bits, bytes_of, count_of, is_faulty, is_folder, is_loop, is_node_of, is_of, is_other, is_torn, is_unread, lost_in, node_count, or_zero, tally_of};
+ghost use Rattle.udfs_salvage.specs.UnnamedExtraction.{is_file};
 
 use crate::node_columns::{is_whole, lost_of};
 use std::alloc::Global;
@@ -176,7 +177,7 @@ fn node_lost(sort: NodeSort, standing: &Standing, kind: Kind) -> u128
     }
 }
 
-/// How many bytes of the nodes of a sort are lost.
+/// How many bytes of the nodes of a sort are lost; at most the greatest number of 128 bits.
 fn lost_in(sort: NodeSort, nodes: &[Node]) -> u128
     ensures { result ≡ at_most_128_bits (lost_in sort nodes.now) }
 {
@@ -187,7 +188,7 @@ fn lost_in(sort: NodeSort, nodes: &[Node]) -> u128
     lost
 }
 
-/// How many bytes of a node are lost, if it is of a sort, where it is without its blocks and holes.
+/// How many bytes of a node are lost, if it is of a sort. The node is given without its blocks and holes.
 fn full_node_lost(
     alloc: Global,
     sort: NodeSort,
@@ -201,7 +202,7 @@ fn full_node_lost(
     Ok(node_lost(sort, &full, node.kind))
 }
 
-/// How many bytes of the nodes of a sort are lost, where these are without their blocks and holes.
+/// How many bytes of the nodes of a sort are lost; at most the greatest number of 128 bits. The nodes are given without their blocks and holes.
 fn full_lost_in(
     alloc: Global,
     sort: NodeSort,
@@ -218,7 +219,7 @@ fn full_lost_in(
     Ok(lost)
 }
 
-/// How many bytes of the nodes of a sort are lost, of those of the report that a survey stands for.
+/// How many bytes of the nodes of a sort are lost, in the report that a survey represents; at most the greatest number of 128 bits.
 fn survey_lost(alloc: Global, sort: NodeSort, survey: &Survey<'_>) -> Result<u128, OutOfMemory>
     ensures { IfOk result (λ lost. lost ≡ at_most_128_bits (lost_in sort (survey_now survey.now).nodes)) }
 {
@@ -254,15 +255,15 @@ pub struct Tally {
     pub others: usize,
     /// How many nodes have a fault.
     pub faulty: usize,
-    /// How many directories lie on their own path.
+    /// How many directories are on their own path.
     pub loops: usize,
 }
 
-/// Counts the nodes of the report that a survey stands for. The blocks and holes of one node are held at a time.
+/// Counts the nodes of the report that a survey represents. The blocks and holes of one node are held at a time.
 ///
 /// # Errors
 ///
-/// Where memory is refused.
+/// If memory runs out.
 pub fn count_nodes(alloc: Global, survey: &Survey<'_>) -> Result<Tally, OutOfMemory>
     ensures value { IfOk result (λ tally. tally ≡ tally_of (survey_now survey.now).nodes) }
 

@@ -1,4 +1,4 @@
-//! The lines of torn files. Each function appends to a text; where memory is refused, a part may be appended.
+//! The lines of torn files. Each function appends to a text; if memory runs out, a part may be appended.
 
 ghost use Rattle.std.specs.Prelude.{◌≡◌, ◌++◌, IfOk, OnOk, flat_map, codes};
 ghost use Rattle.std.specs.String.{string_bytes};
@@ -23,7 +23,7 @@ pub(crate) enum Column {
     Size,
 }
 
-/// What stands in a column.
+/// The text of a cell. A file without bytes has `-` in place of a percentage.
 #[tactic(auto, unfolding(crate::specs::TornLists::cell))]
 fn push_cell(text: &mut String, column: Column, row: &TornRow) -> Result<(), OutOfMemory>
     ensures { OnOk result (string_bytes text.new ≡ string_bytes text.old ++ cell column row.now) }
@@ -63,7 +63,7 @@ fn column_width(alloc: Global, column: Column, rows: &[TornRow]) -> Result<usize
     Ok(widest)
 }
 
-/// So many spaces.
+/// Appends `count` spaces.
 #[tactic(auto, using(crate::proofs::TornOrder::spaces_more))]
 fn push_spaces(text: &mut String, count: usize) -> Result<(), OutOfMemory>
     ensures { OnOk result (string_bytes text.new ≡ string_bytes text.old ++ spaces count) }
@@ -89,7 +89,7 @@ fn push_filling(
     push_spaces(text, widest.saturating_sub(width))
 }
 
-/// A cell that stands to the right of its column.
+/// A cell at the right edge of its column.
 #[tactic(auto, unfolding(crate::specs::TornLists::right_cell))]
 fn push_right(
     alloc: Global,
@@ -104,7 +104,7 @@ fn push_right(
     push_cell(text, column, row)
 }
 
-/// A cell that stands to the left of its column.
+/// A cell at the left edge of its column.
 #[tactic(auto, unfolding(crate::specs::TornLists::left_cell))]
 fn push_left(
     alloc: Global,
@@ -151,7 +151,7 @@ fn push_row(
     push_loss(alloc, text, rows, row)
 }
 
-/// The line of a torn file behind the first.
+/// The line of a torn file after the first.
 fn push_later(
     alloc: Global,
     text: &mut String,
@@ -164,7 +164,7 @@ fn push_later(
     push_row(alloc, text, rows, row)
 }
 
-/// The lines of the torn files behind the first.
+/// The lines of the torn files after the first.
 fn push_all_later(
     alloc: Global,
     text: &mut String,
@@ -209,7 +209,7 @@ fn push_more(text: &mut String, more: usize) -> Result<(), OutOfMemory>
 ///
 /// # Errors
 ///
-/// Where memory is refused, and then a part may be appended.
+/// If memory runs out. Then a part may be appended.
 pub(crate) fn push_torn(
     alloc: Global,
     text: &mut String,

@@ -1,4 +1,4 @@
-//! The first line of a summary. Each function appends to a text; where memory is refused, a part may be appended.
+//! The first line of a summary. Each function appends to a text; if memory runs out, a part may be appended.
 
 ghost use Rattle.std.specs.Prelude.{◌≡◌, ◌++◌, OnOk, map};
 ghost use Rattle.std.specs.String.{string_bytes};
@@ -17,11 +17,11 @@ use udfs_volume::{Partition, PartitionMap, VolumeFault, VolumeParts};
 /// How many bytes a block has.
 const BLOCK_BYTES: u128 = 2048;
 
-/// Appends the label, as a person is shown it: `(no label)` where there is none.
+/// Appends the label, as a person is shown it: `(no label)` if it is empty or malformed.
 ///
 /// # Errors
 ///
-/// Where memory is refused, and then a part may be appended.
+/// If memory runs out. Then a part may be appended.
 pub fn push_label(text: &mut String, label: &Label) -> Result<(), OutOfMemory>
     ensures { OnOk result (string_bytes text.new ≡ string_bytes text.old ++ label_text label.now) }
 {
@@ -56,7 +56,7 @@ fn push_kinds(text: &mut String, partitions: &[Partition]) -> Result<(), OutOfMe
 ///
 /// # Errors
 ///
-/// Where memory is refused, and then a part may be appended.
+/// If memory runs out. Then a part may be appended.
 pub fn push_revision(text: &mut String, parts: &VolumeParts) -> Result<(), OutOfMemory>
     ensures { OnOk result (string_bytes text.new ≡ string_bytes text.old ++ revision_and_kinds (parts_now parts.now)) }
 {
@@ -69,7 +69,7 @@ pub fn push_revision(text: &mut String, parts: &VolumeParts) -> Result<(), OutOf
 ///
 /// # Errors
 ///
-/// Where memory is refused, and then a part may be appended.
+/// If memory runs out. Then a part may be appended.
 #[tactic(auto, unfolding(crate::specs::VolumeLines::disc_size_text))]
 pub fn push_disc_size(text: &mut String, last: u32) -> Result<(), OutOfMemory>
     ensures { OnOk result (string_bytes text.new ≡ string_bytes text.old ++ disc_size_text last) }
@@ -109,7 +109,7 @@ fn push_numbers(text: &mut String, numbers: &[u32]) -> Result<(), OutOfMemory>
     }
 }
 
-/// That blocks have to be read first.
+/// Which blocks have to be read first.
 fn push_holes(text: &mut String, blocks: &[u32]) -> Result<(), OutOfMemory>
     ensures { OnOk result (string_bytes text.new ≡ string_bytes text.old ++ holes_text blocks.now) }
 {
@@ -124,7 +124,7 @@ fn push_holes(text: &mut String, blocks: &[u32]) -> Result<(), OutOfMemory>
     }
 }
 
-/// A volume's fault in words.
+/// The description of a volume's fault.
 fn fault_words(fault: VolumeFault) -> &'static str
     ensures { result.now ≡ fault_words fault }
 {
@@ -171,7 +171,7 @@ fn push_faulty(text: &mut String, fault: VolumeFault) -> Result<(), OutOfMemory>
 ///
 /// # Errors
 ///
-/// Where memory is refused, and then a part may be appended.
+/// If memory runs out. Then a part may be appended.
 pub fn push_volume(text: &mut String, volume: &Volume, last: u32) -> Result<(), OutOfMemory>
     ensures { OnOk result (string_bytes text.new ≡ string_bytes text.old ++ volume_line (volume_now volume.now) last) }
 {

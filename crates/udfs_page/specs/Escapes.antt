@@ -1,7 +1,7 @@
 -- Text in HTML.
 --     html_text text           the text, with references in place of the characters that mean something to HTML
 --     is_inert characters      HTML that can neither begin nor end an element or an attribute
---     unescaped characters     HTML with the characters that its references stand for
+--     unescaped characters     HTML with its references replaced by the characters that they represent
 use Rattle.std.specs.Prelude.{ℕ, ◌-◌, ◌==◌, ◌&&◌, ◌||◌, not, Bool, true, nat_lt, List, [], ◌∷◌, codes, take, length, chars, if◌then◌else◌}
 use Rattle.std.specs.List.{flat_map}
 use Rattle.std.specs.Str.{bytes_eq, encode_utf8_all}
@@ -28,7 +28,7 @@ html_text text = encode_utf8_all (html_characters (chars text))
 abbrev pub line_character : ℕ → List ℕ
 line_character c = if c == 10 then codes "</div>\n<div>" else html_character c
 
--- the HTML of a text of several lines, which stands in a division: a division a line
+-- the HTML of a text of several lines, for the inside of a division: each line feed ends one and begins the next
 unfoldable pub html_lines : List ℕ → List ℕ
 html_lines text = encode_utf8_all (flat_map line_character (chars text))
 
@@ -49,7 +49,7 @@ abbrev pub is_inert : List ℕ → Bool
 is_inert [] = true
 is_inert (c ∷ cs) = not (c == 60 || c == 62 || c == 34 || c == 39) && (not (c == 38) || is_reference cs) && is_inert cs
 
--- the character that a reference stands for, by what follows its `&`
+-- the character that a reference represents, by what follows its `&`
 abbrev pub referred : List ℕ → ℕ
 referred cs =
     if begins (codes "lt;") cs then 60
@@ -65,7 +65,7 @@ reference_length cs =
     else if begins (codes "quot;") cs then 5
     else 4
 
--- the characters after the first `skip`, with those that references stand for in place of the references
+-- the characters after the first `skip`, with references replaced by the characters that they represent
 abbrev pub unescaped_after : ℕ → List ℕ → List ℕ
 unescaped_after skip [] = []
 unescaped_after skip (c ∷ cs) =
@@ -73,6 +73,6 @@ unescaped_after skip (c ∷ cs) =
     else if c == 38 then referred cs ∷ unescaped_after (reference_length cs) cs
     else c ∷ unescaped_after 0 cs
 
--- HTML with the characters that its references stand for
+-- HTML with its references replaced by the characters that they represent
 abbrev pub unescaped : List ℕ → List ℕ
 unescaped characters = unescaped_after 0 characters

@@ -1,10 +1,10 @@
--- The head of the page: what says that it is one, its title and its style. There is no script, and nothing comes from elsewhere.
+-- The head of the page: the mark by which it is recognized, its title and its style. There is no script, and nothing is loaded from elsewhere.
 --     page_mark          the first bytes of every page
 --     head_text title    the head of a page with this title, and its heading
 use Rattle.std.specs.Prelude.{ℕ, List, ◌++◌, codes}
 use Rattle.udfs_page.specs.Markups.{markup}
 
--- by these first bytes a page is known
+-- a page is recognized by these first bytes
 abbrev pub page_mark : List ℕ
 page_mark = codes "<!DOCTYPE html>\n<!-- a page of udfsalvage -->\n"
 

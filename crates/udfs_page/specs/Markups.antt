@@ -1,5 +1,5 @@
 -- The page's own text, and figures in it.
---     markup words      text of the page's own, as it stands
+--     markup words      text of the page's own, unchanged
 --     figure n          a number in decimal digits
 --     shown_name text   a name or a path, by itself
 use Rattle.std.specs.Prelude.{ℕ, List, ◌++◌, codes, decimal}
@@ -13,6 +13,6 @@ markup words = words
 unfoldable pub figure : ℕ → List ℕ
 figure n = decimal n
 
--- a name of the disc's, or a path, by itself: its direction turns nothing round that stands beside it
+-- a name from the disc, or a path, isolated by `<bdi>`: its direction does not affect the text around it
 abbrev pub shown_name : List ℕ → List ℕ
 shown_name text = markup (codes "<bdi>") ++ html_text text ++ markup (codes "</bdi>")

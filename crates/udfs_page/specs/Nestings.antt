@@ -1,5 +1,5 @@
 -- The folders that are open between nodes.
---     open_after nodes k       how many folders have begun behind the first k nodes, and have not ended
+--     open_after nodes k       how many folders have begun, and have not ended, after the first k nodes
 --     IsStepwise nodes         no node is more than one folder further in than the one before it
 use Rattle.std.specs.Prelude.{⊤, ℕ, ◌+◌, ◌-◌, ◌≤◌, nat_lt, List, [], ◌∷◌, fold, length, take, if◌then◌else◌}
 use Rattle.udfs_walk.specs.NodeFields.{NodeFields}
@@ -9,7 +9,7 @@ use Rattle.udfs_page.specs.Trees.{first_depth, with_next}
 abbrev pub open_behind : ℕ → NodeFields × ℕ → ℕ
 open_behind before p = if nat_lt (length p.0.path) p.1 then before + 1 else before - (length p.0.path - p.1)
 
--- how many are open behind the first k nodes
+-- how many are open after the first k nodes
 abbrev pub open_after : List NodeFields → ℕ → ℕ
 open_after nodes k = fold open_behind 0 (take k (with_next nodes))
 

@@ -1,5 +1,5 @@
 -- The summary at the head of the page.
---     title_html answer                what the page is of: the volume's name, where it opens
+--     title_html volume                what the page is of: the volume's name, where it opens
 --     overview_html table last r       what is found of a volume, and the blocks of its disc, a division a line
 use Rattle.std.specs.Prelude.{ℕ, ◌-◌, ◌==◌, ◌&&◌, nat_le, List, [], ◌++◌, Option, Some, None, codes, if◌then◌else◌}
 use Rattle.udfs_lattice.specs.Tables.{Table}

@@ -5,7 +5,7 @@ use Rattle.udfs_page.specs.Markups.{markup}
 use Rattle.udfs_page.specs.Spirals.{spiral_text}
 use Rattle.udfs_page.specs.declared.disc_arcs.Mark.{Mark}
 
--- what stands before the arcs, in hundredths of a millimetre
+-- what comes before the arcs; lengths are in hundredths of a millimetre
 abbrev pub picture_front : List ℕ
 picture_front =
     markup (codes "<h2>The disc</h2>\n<figure>\n")

@@ -1,4 +1,4 @@
--- The disc as a spiral of 24 turns from 24 to 58 mm, and where each arc of it stands, by whole numbers.
+-- The disc as a spiral of 24 turns from 24 to 58 mm, and where each arc of it is, in whole numbers.
 --     root n                                the square root, rounded down
 --     radius count i, degrees r             the middle of arc i: how far from the disc's middle, and at what angle
 --     arc_text count blocks i mark          the picture of arc i
@@ -35,7 +35,7 @@ degrees r = (r - 240000) * (24 * 36000) / 340000 % 36000
 abbrev pub half_length : ℕ → ℕ
 half_length count = 309132 / count
 
--- how far the middle of an arc stands out from its ends
+-- approximately how far the middle of an arc of radius r and half length h bulges beyond the line between its ends
 abbrev pub bow : ℕ → ℕ → ℕ
 bow r h = h * h / (2 * r)
 

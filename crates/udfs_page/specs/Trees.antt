@@ -26,7 +26,7 @@ class_of (standing.Torn torn) = codes "t"
 class_of standing.Loop = codes "f"
 class_of (standing.Fault f) = codes "f"
 
--- the name by which it stands in its folder; the root has none
+-- its name in its folder; `/` for the root
 abbrev pub own_name : List (List ℕ) → List ℕ
 own_name [] = codes "/"
 own_name (name ∷ []) = safe_name name
@@ -115,7 +115,7 @@ abbrev pub with_next : List NodeFields → List (NodeFields × ℕ)
 with_next [] = []
 with_next (n ∷ ns) = (n, first_depth ns) ∷ with_next ns
 
--- the nodes in their order, in which a folder's stand behind it
+-- the nodes in their order, in which those of a folder come after it
 unfoldable pub nodes_html : List NodeFields → List ℕ
 nodes_html nodes = flat_map (λ (p : NodeFields × ℕ). node_html p.0 p.1) (with_next nodes)
 

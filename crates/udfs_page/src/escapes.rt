@@ -7,7 +7,7 @@ ghost use Rattle.udfs_page.specs.Escapes.{html_character, html_characters, html_
 
 use udfs_osta::OutOfMemory;
 
-/// Appends a character, or the reference that stands for it.
+/// Appends a character, or the reference that represents it.
 fn push_character(text: &mut String, character: char) -> Result<(), OutOfMemory>
     ensures { OnOk result (string_bytes text.new ≡ string_bytes text.old ++ encode_utf8_all (html_character character)) }
 {
@@ -61,7 +61,7 @@ pub fn html_injects_nothing()
     ensures { (characters : List ℕ) → is_inert (html_characters characters) ≡ true }
 {}
 
-/// Whoever replaces the references in the HTML of a text has the text. This is a law about the text; the call does nothing.
+/// Replacing the references in the HTML of a text gives the text. This is a law about the text; the call does nothing.
 pub fn html_gives_the_text_back()
     ensures { (characters : List ℕ) → unescaped (html_characters characters) ≡ characters }
 {}

@@ -1,5 +1,5 @@
-//! The head of the page. It has its style in it, no script, and nothing comes from elsewhere. Each function appends to a text; where
-//! memory is refused, a part may be appended.
+//! The head of the page. It contains its style, no script, and loads nothing from elsewhere. Each function appends to a text; if memory
+//! runs out, a part may be appended.
 
 ghost use Rattle.std.specs.Prelude.{◌≡◌, ◌++◌, OnOk};
 ghost use Rattle.std.specs.String.{string_bytes};
@@ -110,7 +110,7 @@ fn push_style(text: &mut String) -> Result<(), OutOfMemory>
     push_style_tree(text)
 }
 
-/// What stands before the title.
+/// What comes before the title.
 pub(crate) fn push_head_front(text: &mut String) -> Result<(), OutOfMemory>
     ensures { OnOk result (string_bytes text.new ≡ string_bytes text.old ++ head_front) }
 {
@@ -121,7 +121,7 @@ pub(crate) fn push_head_front(text: &mut String) -> Result<(), OutOfMemory>
     )
 }
 
-/// What stands behind the title.
+/// What comes after the title.
 pub(crate) fn push_head_back(text: &mut String) -> Result<(), OutOfMemory>
     ensures { OnOk result (string_bytes text.new ≡ string_bytes text.old ++ head_back) }
 {

@@ -1,4 +1,4 @@
-//! The lost bytes of a node, and the ends of folders. Each function appends to a text; where memory is refused, a part may be appended.
+//! The lost bytes of a node, and the ends of folders. Each function appends to a text; if memory runs out, a part may be appended.
 
 ghost use Rattle.std.specs.Prelude.{◌≡◌, ◌++◌, OnOk, flat_map, take};
 ghost use Rattle.std.specs.String.{string_bytes};

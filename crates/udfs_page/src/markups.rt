@@ -1,4 +1,4 @@
-//! The page's own text, and figures in it. Each function appends to a text; where memory is refused, a part may be appended.
+//! The page's own text, and figures in it. Each function appends to a text; if memory runs out, a part may be appended.
 
 ghost use Rattle.std.specs.Prelude.{◌≡◌, ◌++◌, OnOk};
 ghost use Rattle.std.specs.String.{string_bytes};
@@ -8,7 +8,7 @@ use crate::escapes::push_html;
 use std::fmt::Write;
 use udfs_osta::OutOfMemory;
 
-/// Text of the page's own, as it stands.
+/// Text of the page's own, unchanged.
 #[tactic(auto, unfolding(crate::specs::Markups::markup))]
 pub(crate) fn push_markup(text: &mut String, words: &str) -> Result<(), OutOfMemory>
     ensures { OnOk result (string_bytes text.new ≡ string_bytes text.old ++ markup words.now) }

@@ -1,4 +1,4 @@
-//! What to do next. Each function appends to a text; where memory is refused, a part may be appended.
+//! What to do next. Each function appends to a text; if memory runs out, a part may be appended.
 
 ghost use Rattle.std.specs.Prelude.{◌≡◌, ◌++◌, OnOk};
 ghost use Rattle.std.specs.String.{string_bytes};

@@ -1,4 +1,4 @@
-//! The summary at the head of the page. Each function appends to a text; where memory is refused, a part may be appended.
+//! The summary at the head of the page. Each function appends to a text; if memory runs out, a part may be appended.
 
 ghost use Rattle.std.specs.Prelude.{◌≡◌, ◌++◌, OnOk, option_map};
 ghost use Rattle.std.specs.String.{string_bytes};
@@ -34,7 +34,7 @@ fn push_shown_label(alloc: Global, text: &mut String, label: &Label) -> Result<(
     push_shown(text, &name)
 }
 
-/// The volume's name, which may stand in a title.
+/// The volume's name as HTML text without elements, for the title.
 fn push_title_label(alloc: Global, text: &mut String, label: &Label) -> Result<(), OutOfMemory>
     ensures { OnOk result (string_bytes text.new ≡ string_bytes text.old ++ html_text (label_text label.now)) }
 {

@@ -1,4 +1,4 @@
-//! The page of the report that a survey stands for.
+//! The page of the report that a survey represents.
 
 ghost use Rattle.std.specs.Prelude.{◌≡◌, ◌++◌, ◌+◌, ℕ, List, OnOk, map};
 ghost use Rattle.std.specs.String.{string_bytes};
@@ -65,7 +65,7 @@ fn push_about_disc(alloc: Global, text: &mut String, survey: &Survey<'_>) -> Res
     push_next(text, survey, count_disc(survey).needed_in_conflict)
 }
 
-/// The torn files among nodes that are without their blocks and holes.
+/// The torn files among nodes that are given without their blocks and holes.
 fn push_torn_files(
     alloc: Global,
     text: &mut String,
@@ -136,13 +136,13 @@ fn put_page<W: Sink>(
     Ok(())
 }
 
-/// Writes the page of the report that a survey stands for: HTML of its own, with what is found of the volume, the disc as a picture, what to do
+/// Writes the page of the report that a survey represents: a whole HTML file, with what is found of the volume, the disc as a picture, what to do
 /// next, the torn files of which most is lost, and all files inside their folders. No name can begin or end an element in it. It is written in pieces: the
 /// blocks and holes of one node are held at a time, and no more text of the nodes than a piece and that of one of them.
 ///
 /// # Errors
 ///
-/// `Write` exactly where the sink failed, and `OutOfMemory` where memory is refused. Then a beginning of the page may be out.
+/// `Write` if and only if the sink failed, `OutOfMemory` if memory ran out. In both cases a prefix of the page, possibly empty, was written.
 pub fn write_page<W: Sink>(alloc: Global, survey: &Survey<'_>, sink: &mut W) -> Result<(), RunError>
     ensures { Prints (W.stream sink.old) (W.stream sink.new)
         (page_html survey.now.profile survey.now.table.now survey.now.last (survey_now survey.now)) result }

@@ -1,4 +1,4 @@
-//! The disc as a picture, and what its marks mean. Each function appends to a text; where memory is refused, a part may be appended.
+//! The disc as a picture, and what its marks mean. Each function appends to a text; if memory runs out, a part may be appended.
 
 ghost use Rattle.std.specs.Prelude.{◌≡◌, ◌++◌, ◌^◌, ◌≤◌, OnOk, length};
 ghost use Rattle.std.specs.String.{string_bytes};
@@ -9,7 +9,7 @@ use crate::markups::push_markup;
 use crate::spiral::push_spiral;
 use udfs_osta::OutOfMemory;
 
-/// What stands before the arcs.
+/// What comes before the arcs.
 fn push_picture_front(text: &mut String) -> Result<(), OutOfMemory>
     ensures { OnOk result (string_bytes text.new ≡ string_bytes text.old ++ (picture_front)) }
 {

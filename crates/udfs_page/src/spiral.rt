@@ -183,7 +183,7 @@ pub fn roots_are_square_roots()
     ensures { (n : ℕ) → IsRoot n (root n) }
 {}
 
-/// The arcs part the blocks: each block stands between the first block of its arc and the first one of the next. This is a law about
+/// The arcs partition the blocks: each block is at or after the first block of its arc, and before that of the next arc. This is a law about
 /// arcs; the call does nothing.
 pub fn arcs_part_the_blocks()
     ensures { (count blocks n : ℕ) → 0 < count → 0 < blocks → IsInArc count blocks n }

@@ -1,4 +1,4 @@
-//! The torn files of which most is lost. Each function appends to a text; where memory is refused, a part may be appended.
+//! The torn files of which most is lost. Each function appends to a text; if memory runs out, a part may be appended.
 
 ghost use Rattle.std.specs.Prelude.{◌≡◌, ◌++◌, OnOk, flat_map};
 ghost use Rattle.std.specs.String.{string_bytes};

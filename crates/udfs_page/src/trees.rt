@@ -1,5 +1,5 @@
-//! The files and folders, each inside its folder. What is `push`ed is appended to a text; where memory is refused, a part may be appended. What is `put` is
-//! besides handed to a sink in pieces.
+//! The files and folders, each inside its folder. A function `push_..` appends to a text; if memory runs out, a part may be appended. A function `put_..`
+//! also hands the text to a sink in pieces.
 
 ghost use Rattle.std.specs.Prelude.{◌≡◌, ◌++◌, ◌-◌, ℕ, List, OnOk, drop, length, map};
 ghost use Rattle.std.specs.String.{string_bytes};
@@ -34,7 +34,7 @@ fn push_class(text: &mut String, standing: &Standing) -> Result<(), OutOfMemory>
     }
 }
 
-/// The name by which a node stands in its folder.
+/// The name of a node in its folder, or `/` for the root.
 fn push_own_name(text: &mut String, path: &Path) -> Result<(), OutOfMemory>
     ensures { OnOk result (string_bytes text.new ≡ string_bytes text.old ++ own_name path.now) }
 {
@@ -239,7 +239,7 @@ fn push_node(
     }
 }
 
-/// A node without its blocks and holes, with those.
+/// A node that is given without its blocks and holes. They are found first.
 fn push_full_node(
     alloc: Global,
     text: &mut String,
@@ -263,7 +263,7 @@ fn depth_at(nodes: &[Node], index: usize) -> usize
     }
 }
 
-/// A node without its blocks and holes, with those, handed on where what is held is long.
+/// A node that is given without its blocks and holes. They are found first. The text that is held is handed on when it is long.
 fn put_full_node<W: Sink>(
     alloc: Global,
     text: &mut String,
@@ -279,7 +279,7 @@ fn put_full_node<W: Sink>(
     pass_on(text, sink)
 }
 
-/// Nodes without their blocks and holes, with those. The blocks and holes of one node are held at a time, and no more text than one piece and that of one node.
+/// Nodes that are given without their blocks and holes. Those of one node are held at a time, and no more text than one piece and that of one node.
 fn put_nodes<W: Sink>(
     alloc: Global,
     text: &mut String,
@@ -298,7 +298,7 @@ fn put_nodes<W: Sink>(
     Ok(())
 }
 
-/// All nodes, which are without their blocks and holes, with those.
+/// All nodes, which are given without their blocks and holes.
 pub(crate) fn put_tree<W: Sink>(
     alloc: Global,
     text: &mut String,
@@ -313,8 +313,8 @@ pub(crate) fn put_tree<W: Sink>(
     put_nodes(alloc, text, sink, view, nodes)
 }
 
-/// A node stands inside as many folders as its path has names, and all folders end: where the first node is the root, and no node is more
-/// than one folder further in than the one before it. This is a law about the page; the call does nothing.
+/// If the first node is the root and no node is more than one folder deeper than the one before it, then each node is inside as many folders
+/// as its path has names, and no folder is open after the last node. This is a law about the page; the call does nothing.
 pub fn folders_nest()
     ensures { (nodes : List NodeFields) → (k : ℕ) → IsStepwise nodes → first_depth nodes ≡ 0 → open_after nodes k ≡ first_depth (drop k nodes) }
 {}

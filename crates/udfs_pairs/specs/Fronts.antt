@@ -4,7 +4,7 @@ use Rattle.std.specs.List.{flat_map}
 use Rattle.udfs_reading.specs.Reading.{record_bytes}
 use Rattle.udfs_rescue.specs.Blocks.{records_from}
 
--- where the image has these blocks: the first n bytes are those that stand behind `skip` bytes of their records and what follows
+-- if the image has these blocks: the first n bytes are those after the first `skip` bytes of their records and what follows
 abbrev pub IsFrontBehind : List ℕ → ℕ → ℕ → ℕ → ℕ → List ℕ → Type 0
 IsFrontBehind all block left skip n bytes =
     2048 * (block + left) ≤ length all → (rest : List ℕ) → take n bytes ≡ take n (drop skip (flat_map record_bytes (records_from all block left) ++ rest))

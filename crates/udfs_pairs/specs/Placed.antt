@@ -1,4 +1,4 @@
--- Where among the known blocks of an image a block stands.
+-- The number of a block among the known blocks of an image.
 --     IsBeforeEach before ranges         how many blocks come before each range
 --     IsBlockOf ranges number block left     which block has this number among those of the ranges, from 0
 use Rattle.std.specs.Prelude.{◌≡◌, ℕ, ◌+◌, ◌-◌, ◌<◌, ◌≤◌, List, ◌∷◌, ◌++◌, length, take, slice_index}

@@ -16,7 +16,7 @@ pub enum AnyStored<S: Stored> {
     File(S),
     /// An image with its known blocks.
     Paired(StoredPair<S>),
-    /// An image with its mapfile of which it is known why it has no reading. Each read of it fails, so nothing is taken of it.
+    /// An image with its mapfile that could not be opened, and why. `size` and `read_at` fail with `DeviceFault`, so nothing is taken of it.
     Refused(PairFault),
 }
 

@@ -43,7 +43,7 @@ pub fn give_header(count: u32, skip: usize, buf: &mut [u8]) -> usize
     give(&bytes, skip, buf)
 }
 
-/// Gives of the number of a block what stands behind its first `skip` bytes.
+/// Gives the bytes of the number of a block after the first `skip` ones, as many as fit, and returns how many these are.
 fn give_number(block: u32, skip: usize, buf: &mut [u8]) -> usize
     requires { skip < 4 }
     ensures bound { result ≤ length buf.new }
@@ -56,7 +56,8 @@ fn give_number(block: u32, skip: usize, buf: &mut [u8]) -> usize
     give(&bytes, skip, buf)
 }
 
-/// Gives of the bytes of a block what stands behind its first `skip` bytes. An image that ends before them is a fault of its device.
+/// Gives the bytes of a block after the first `skip` ones, as many as fit and one read of the image brings, and returns how many these are.
+/// An image that ends before them is a fault of its device.
 fn give_bytes<S: Stored>(
     image: &S,
     block: u32,
@@ -100,7 +101,8 @@ fn give_records<S: Stored>(image: &S, found: Found, buf: &mut [u8]) -> Result<us
     Ok(many * 2052)
 }
 
-/// Gives what stands behind the first `skip` bytes of the records from a block on.
+/// Gives bytes of the records from block `found.block` on after the first `skip` ones, and returns how many these are: at least one, unless
+/// the buffer is empty. `DeviceFault` if a read of the image fails, or begins at or after the image's end.
 pub fn give_behind<S: Stored>(
     image: &S,
     found: Found,

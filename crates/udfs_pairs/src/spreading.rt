@@ -1,4 +1,4 @@
-//! Blocks that stand side by side are spread to the records of a reading, in the buffer that they were read into.
+//! Adjacent blocks are spread to the records of a reading, in the buffer that they were read into.
 
 ghost use Rattle.std.specs.Prelude.{◌≡◌, ◌+◌, ◌*◌, ◌≤◌, ◌++◌, length, take, drop};
 ghost use Rattle.std.specs.List.{flat_map};
@@ -7,7 +7,7 @@ ghost use Rattle.udfs_rescue.specs.Blocks.{records_in};
 
 use byteorder::{ByteOrder, LittleEndian};
 
-/// Writes the record of a block at `to`. Its bytes stand at `from`.
+/// Writes the record of a block at `to`. The block's bytes are at `from`.
 fn put_record(buf: &mut [u8], from: usize, to: usize, block: u32)
     requires order { from ≤ to }
     requires room { to + 2052 ≤ length buf.old }

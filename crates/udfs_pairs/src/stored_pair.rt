@@ -12,8 +12,8 @@ use udfs_index::{HEADER, RECORD, Stored};
 use udfs_reading::DeviceFault;
 use udfs_rescue::KnownBlocks;
 
-/// An image with the blocks that are known of it, all of which are in it: the reading (`UDFREAD1`) of these blocks, in rising order. Its records stand
-/// where they would in a file. Of the image nothing is read that is not known, and no byte of it is kept.
+/// An image with its known blocks, all of which are in the image, as the reading (`UDFREAD1`) of these blocks, in rising order. Its records are at the
+/// same positions as in a file. Only known blocks are read from the image, and none of its bytes are kept.
 #[derive(Drop)]
 pub struct StoredPair<S: Stored> {
     image: S,

@@ -1,5 +1,5 @@
 -- What a printer does to a sink whose bytes are known.
---     Puts old new held still text     the text was put behind what was held
+--     Puts old new held still text     the text was appended to what was held
 --     Finishes old new held result     all that was held was handed on
 use Rattle.std.specs.Prelude.{◌≡◌, ℕ, List, Option, Some, None, Result, Ok, Err}
 use Rattle.udfs_reading.specs.Writing.{Passed, FailedPast, Writes}
@@ -9,15 +9,15 @@ use Rattle.udfs_reading.specs.Device.{Stream}
 pub record LeftAlone (old new : Stream) : Type 0 where
   pub same : new ≡ old
 
--- The text was taken behind what was held, and a front of it all was written; or the sink failed before it could be, and a
--- front of it all is out; or it had failed before, and was left alone. It never holds text again once it has failed.
+-- The text was appended to what was held, and a beginning of it all was written; or the sink failed before it could be, and a
+-- beginning of it all was written; or the sink had failed before, and was left alone. No text is held again after that.
 abbrev pub PutsBy : Stream → Stream → Option (List ℕ) → Option (List ℕ) → List ℕ → Type 0
 PutsBy old new (Some held) (Some still) text = Passed old new held still text
 PutsBy old new (Some held) None text = FailedPast old new held text
 PutsBy old new None (Some still) text = ⊥
 PutsBy old new None None text = LeftAlone old new
 
--- the text was put behind what was held
+-- the text was appended to what was held, unless the sink failed
 pub record Puts (old new : Stream) (held still : Option (List ℕ)) (text : List ℕ) : Type 0 where
   pub by : PutsBy old new held still text
 

@@ -7,7 +7,7 @@ use itoa::Buffer;
 use std::marker::Model;
 use udfs_reading::{Outgoing, Sink, WriteFault};
 
-/// Text on its way to a sink. What is not yet handed on stands in the printer itself, and no memory is asked for. To
+/// Text on its way to a sink. What is not yet written is held in the printer itself, and no memory is allocated. To
 /// contracts it is the bytes that it holds, or nothing where the sink has failed.
 #[derive(Drop)]
 pub struct Printer {
@@ -41,8 +41,8 @@ impl Printer {
         self.failed
     }
 
-    /// Puts at most 2048 bytes behind what was put before. Where there is no room for them, what is held is handed to the
-    /// sink first. Where the sink has failed, nothing more is handed to it.
+    /// Appends at most 2048 bytes to the text. If there is no room for them, what is held is written to the sink first. Once
+    /// the sink has failed, nothing more is written to it.
     pub fn put_bytes<W: Sink>(&mut self, sink: &mut W, bytes: &[u8])
         requires { length bytes.now ≤ 2048 }
         ensures { Puts (W.stream sink.old) (W.stream sink.new) self.old self.new bytes.now }
@@ -55,7 +55,7 @@ impl Printer {
         }
     }
 
-    /// Puts a text of at most 2048 bytes, as [`put_bytes`](Printer::put_bytes) does.
+    /// Appends a text of at most 2048 bytes, as [`put_bytes`](Printer::put_bytes) does.
     pub fn put<W: Sink>(&mut self, sink: &mut W, text: &str)
         requires { length text.now ≤ 2048 }
         ensures { Puts (W.stream sink.old) (W.stream sink.new) self.old self.new text.now }
@@ -63,7 +63,7 @@ impl Printer {
         self.put_bytes(sink, text.as_bytes());
     }
 
-    /// Puts a number in decimal.
+    /// Appends a number in decimal.
     pub fn put_number<W: Sink>(&mut self, sink: &mut W, number: u64)
         ensures { Puts (W.stream sink.old) (W.stream sink.new) self.old self.new (decimal number) }
     {

@@ -9,7 +9,7 @@ use Rattle.udfs_reading.specs.declared.error.ReadingFault.{ReadingFault}
 use Rattle.udfs_reading.specs.declared.error.ReadingFault.TheVariants.{BlockNumber, Truncated, Trailing}
 use Rattle.udfs_reading.specs.Format.{number, value_of, header, In, FaultHere, HasFault}
 use Rattle.udfs_reading.specs.Outcome.{HeaderIsSound}
-use Rattle.udfs_reading.specs.Reading.{magic, record_bytes, front, AreRecords, IsUnder, IsReading, Place, IsPlace, before_place, record_of_place, AtBlock, AtBytes, AtEnd, reading_format, readings}
+use Rattle.udfs_reading.specs.Reading.{magic, record_bytes, front, AreRecords, IsUnder, IsReading, Place, IsReadingPlace, before_place, record_of_place, AtBlock, AtBytes, AtEnd, reading_format, readings}
 use Rattle.udfs_reading.proofs.Numbers.{length-number, value_of-number}
 use Rattle.udfs_reading.proofs.Counts.{same_count}
 use Rattle.udfs_reading.proofs.JudgeHeader as header
@@ -100,7 +100,7 @@ judge_reading bytes rs h =
     ∙ judge_front (length rs) rs 0 [] h.count h.each (omega arith)
     ∙ ap (with_all rs) (end_here (length rs + 1)) ∙ all_ok rs
 
-judge_place : (place : Place) (rest : List ℕ) (fault : ReadingFault) → IsPlace place → FaultHere reading_format (In place) rest fault → judge_bytes (before_place place ++ rest) ≡ Err (fault, record_of_place place)
+judge_place : (place : Place) (rest : List ℕ) (fault : ReadingFault) → IsReadingPlace place → FaultHere reading_format (In place) rest fault → judge_bytes (before_place place ++ rest) ≡ Err (fault, record_of_place place)
 judge_place (AtBlock count done) rest Truncated p h =
     let more = p.more in
     let many : length done + suc (count - (length done + 1)) ≡ count = omega arith in

@@ -76,7 +76,7 @@ Breaks F AtBlockSize rest BlockSize = value_of rest ≢ 2048
 Breaks F (In place) rest fault = F.Breaks place rest fault
 Breaks F spot rest fault = ⊥
 
--- what stands at a place has this fault: the end cuts the field, or it is whole and breaks its rule
+-- the field at a place has this fault: the end cuts it, or it is whole and breaks its rule
 abbrev pub FaultHere : (F : Format) → Spot F.Place → List ℕ → ReadingFault → Type 0
 FaultHere F spot rest Truncated = length rest < size_of F spot
 FaultHere F spot rest fault = (size_of F spot ≤ length rest) × Breaks F spot rest fault

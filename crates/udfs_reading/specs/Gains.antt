@@ -17,7 +17,7 @@ pub record Gains (old new : Table → Type 0) (P : Table → Table → Type 0) :
   pub each : (t : Table) → P t (join_tables t read)
   pub took : (t : Table) → old t → new (join_tables t read)
 
--- the source was left behind a reading of these records, and their table is joined to each that was taken before
+-- a reading of these records was consumed to the end of the source, and their table is joined to each that was taken before
 pub record TakesReading (old new : Table → Type 0) (before after : Option (List ℕ)) : Type 0 where
   pub records : List Record
   pub few : length records < 2 ^ 32

@@ -1,6 +1,6 @@
--- What holds of bytes that are taken behind others, one piece after another (Passed, FailedPast, Failed of Writing).
+-- The laws of taking bytes one piece after another (Passed, FailedPast, Failed of Writing).
 --     PassedNone      no bytes change nothing
---     PassedThen      two pieces that are taken one behind the other are taken as one
+--     PassedThen      two pieces taken one after the other are taken as one
 --     FailedThen      where the sink fails in the second, it fails in both
 --     FailedMore      and so it does where more was to come
 --     FailedLast      where it fails in what is held at the end, it fails in all
@@ -16,7 +16,7 @@ PassedNone = (a : Stream) (p : List ℕ) → Passed a a p p []
 abbrev pub PassedThen : Type 0
 PassedThen = (a b c : Stream) (p q r x y : List ℕ) → Passed a b p q x → Passed b c q r y → Passed a c p r (x ++ y)
 
--- a sink that fails behind a piece fails in both together
+-- a sink that fails in the second of two pieces fails in both together
 abbrev pub FailedThen : Type 0
 FailedThen = (a b c : Stream) (p q x y : List ℕ) → Passed a b p q x → FailedPast b c q y → FailedPast a c p (x ++ y)
 

@@ -1,4 +1,4 @@
--- Table files of version 2: what is wrong with bytes that are none, and what was read of one.
+-- Table files of version 2: what is wrong with any other bytes, and what was read of a file.
 use Rattle.std.specs.Prelude.{◌≡◌, ◌≢◌, ℕ, ◌+◌, ◌*◌, ◌^◌, ◌<◌, ◌≤◌, Bool, true, List, [], ◌∷◌, ◌++◌, length, drop, Option, ◌⊎◌}
 use Rattle.std.specs.List.{flat_map, AllByRecursion}
 use Rattle.std.specs.Int.Bits.{bit_and}
@@ -63,7 +63,7 @@ packets_front count qs = header packet_magic count ++ flat_map packet_bytes qs
 
 -- ---- a file with a fault
 
--- where a field begins behind the header of a table file of version 2, or its end is due
+-- where a field begins after the header of a table file of version 2, or its end is due
 pub data PacketPlace : Type 0 where
   -- the number of the next of `count` packets, after these
   AtPacket : (count : ℕ) → (done : List Packet) → PacketPlace
@@ -73,7 +73,7 @@ pub data PacketPlace : Type 0 where
   AtBlocks : (count : ℕ) → (done : List Packet) → (p : ℕ) → (known : ℕ) → (conflict : ℕ) → PacketPlace
   AtPacketsEnd : (done : List Packet) → PacketPlace
 
--- packets are still to come, behind these
+-- packets are still to come, after these
 pub record IsUnderPackets (count : ℕ) (done : List Packet) : Type 0 where
   pub more : length done < count
   pub fits : count < 2 ^ 32
@@ -83,7 +83,7 @@ pub record IsUnderPackets (count : ℕ) (done : List Packet) : Type 0 where
 abbrev pub IsNextPacket : ℕ → List Packet → ℕ → Type 0
 IsNextPacket count done p = IsUnderPackets count done × (low_after 0 done ≤ p) × (p ≤ 131071)
 
--- the place is one that there is: what stands before it has no fault
+-- the place can occur: the bytes before it have no fault
 abbrev pub IsPacketPlace : PacketPlace → Type 0
 IsPacketPlace (AtPacket count done) = IsUnderPackets count done
 IsPacketPlace (AtMasks count done p) = IsNextPacket count done p

@@ -55,11 +55,11 @@ pub record IsUnder (count : ℕ) (done : List Record) : Type 0 where
   pub fits : count < 2 ^ 32
   pub each : AreRecords done
 
--- the place is one that there is: what stands before it has no fault
-abbrev pub IsPlace : Place → Type 0
-IsPlace (AtBlock count done) = IsUnder count done
-IsPlace (AtBytes count done block) = IsUnder count done × (block ≤ 4194303)
-IsPlace (AtEnd done) = (length done < 2 ^ 32) × AreRecords done
+-- the place can occur: the bytes before it have no fault
+abbrev pub IsReadingPlace : Place → Type 0
+IsReadingPlace (AtBlock count done) = IsUnder count done
+IsReadingPlace (AtBytes count done block) = IsUnder count done × (block ≤ 4194303)
+IsReadingPlace (AtEnd done) = (length done < 2 ^ 32) × AreRecords done
 
 -- the bytes before a place
 abbrev pub before_place : Place → List ℕ
@@ -90,7 +90,7 @@ abbrev pub reading_format : Format
 reading_format = record {
   magic = magic;
   Place = Place;
-  IsPlace = IsPlace;
+  IsPlace = IsReadingPlace;
   before = before_place;
   record_of = record_of_place;
   size_of = size_of_place;

@@ -27,7 +27,7 @@ pub record IsTableFile (bytes : List ℕ) (table : Table) : Type 0 where
 
 -- ---- a file with a fault
 
--- where a field begins behind the header of a table file of version 1, or its end is due
+-- where a field begins after the header of a table file of version 1, or its end is due
 pub data TablePlace : Type 0 where
   -- the block number of the next of `count` entries, after these
   AtNumber : (count : ℕ) → (done : List (ℕ × State)) → TablePlace
@@ -37,13 +37,13 @@ pub data TablePlace : Type 0 where
   AtContent : (count : ℕ) → (done : List (ℕ × State)) → (block : ℕ) → TablePlace
   AtTableEnd : (done : List (ℕ × State)) → TablePlace
 
--- entries are still to come, behind these
+-- entries are still to come, after these
 pub record IsUnderEntries (count : ℕ) (done : List (ℕ × State)) : Type 0 where
   pub more : length done < count
   pub fits : count < 2 ^ 32
   pub each : RisesFrom 0 done
 
--- the place is one that there is: what stands before it has no fault
+-- the place can occur: the bytes before it have no fault
 abbrev pub IsTablePlace : TablePlace → Type 0
 IsTablePlace (AtNumber count done) = IsUnderEntries count done
 IsTablePlace (AtState count done block) = IsUnderEntries count done × (floor_after 0 done ≤ block) × (block ≤ 4194303)

@@ -21,14 +21,14 @@ abbrev pub Writes : {X E : Type 0} → Stream → Stream → List ℕ → Result
 Writes old new bytes (Ok x) = Wrote old new bytes
 Writes old new bytes (Err e) = Failed old new bytes
 
--- These bytes were taken behind those that were held: a front of all of them was written, and the rest is held.
+-- These bytes were appended to those that were held: a beginning of all of them was written, and the rest is held.
 pub record Passed (old new : Stream) (held still bytes : List ℕ) : Type 0 where
   pub out : List ℕ
   pub given : Appends old.contents new.contents out
   pub whole : held ++ bytes ≡ out ++ still
   pub kept : new.faults ≡ old.faults
 
--- The sink failed before these bytes could be taken behind those that were held; a front of all of them is out.
+-- The sink failed before these bytes could be appended to those that were held; a beginning of all of them was written.
 pub record FailedPast (old new : Stream) (held bytes : List ℕ) : Type 0 where
   pub out : List ℕ
   pub rest : List ℕ

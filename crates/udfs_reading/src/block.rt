@@ -1,4 +1,4 @@
-//! The bytes of one block, which stand in readings and in table files.
+//! The bytes of one block, as readings and table files contain them.
 
 ghost use Rattle.std.specs.Prelude.{◌≡◌, ◌≤◌, [], OnOk, IfErr};
 ghost use Rattle.udfs_reading.specs.declared.error.ReadingFault.TheVariants.{Io};

@@ -21,7 +21,7 @@ pub enum ReadingFault {
     State = 7,
     /// The device failed.
     Io = 8,
-    /// There was no memory for a block.
+    /// Memory ran out, or what takes the input did not take it.
     OutOfMemory = 9,
 }
 

@@ -18,7 +18,7 @@ use crate::error::{ReadingError, ReadingFault};
 use crate::field::read_number;
 use crate::window::Window;
 
-/// Takes the block size and the number of records, which stand behind the magic in each format.
+/// Takes the block size and the number of records, which follow the magic in each format, and returns the number.
 pub fn read_count<R: Source>(source: &mut R, window: &mut Window) -> Result<u32, ReadingError>
     ensures bytes { IfOk result (λ count. Consumes (left window.old.bytes (R.remaining source.old)) (left window.new.bytes (R.remaining source.new)) (number 2048 ++ number count)) }
     ensures count { OnOk result (R.faults source.new ≡ R.faults source.old) }

@@ -28,8 +28,8 @@ pub fn one_spelling()
     ensures tells_it_v1 { (t u : Table) → IsTable t → IsTable u → table_bytes_v1 t ≡ table_bytes_v1 u → t ≡ u }
 {}
 
-/// Bytes that are taken behind others one piece after another are taken as one. Where the sink fails in a piece, it
-/// fails in all of them, whatever was to come; and so where it fails in what is held at the end.
+/// Taking pieces one after another is the same as taking them as one piece. If the sink fails in a piece, it fails in the
+/// whole, whatever was to come; and likewise if it fails in what is held at the end.
 pub fn pieces_make_one()
     ensures none { PassedNone }
     ensures one_more { PassedThen }

@@ -23,7 +23,7 @@ use crate::window::Window;
 /// The greatest number of a packet.
 const LAST_PACKET: u32 = 131_071;
 
-/// The masks of a packet: bit i stands for its block i.
+/// The masks of a packet: bit i is that of its block i.
 #[derive(Clone, Copy)]
 pub struct Masks {
     pub known: u32,
@@ -194,8 +194,8 @@ fn read_packets<R: Source, T: Taker<R>>(
     Ok(())
 }
 
-/// Reads what stands behind the magic of a table file of version 2, to the end of the source, and hands its
-/// blocks to the taker. An error leaves it with some of them.
+/// Reads what follows the magic of a table file of version 2, to the end of the source, and hands its blocks to the
+/// taker. After an error the taker may have some of them.
 pub fn read_body<R: Source, T: Taker<R>>(
     source: &mut R,
     window: &mut Window,

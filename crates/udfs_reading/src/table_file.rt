@@ -112,8 +112,8 @@ fn read_entries<R: Source, T: Taker<R>>(
     Ok(())
 }
 
-/// Reads what stands behind the magic of a table file, to the end of the source, and hands its entries
-/// to the taker. An error leaves it with some of them.
+/// Reads what follows the magic of a table file of version 1, to the end of the source, and hands its entries to the
+/// taker. After an error the taker may have some of them.
 pub fn read_body<R: Source, T: Taker<R>>(
     source: &mut R,
     window: &mut Window,

@@ -1,4 +1,4 @@
-//! What takes the blocks of inputs: a table, or what stands in the place of one.
+//! What takes the blocks of inputs: a table, or something that is used instead of one.
 
 ghost use Rattle.std.specs.Prelude.{◌≡◌, ◌≤◌, ℕ, List, Option, None, IfOk, IfErr, OnOk, OnErr, true, false};
 ghost use Rattle.udfs_lattice.specs.declared.facts.Fact.TheVariants.{Conflict};
@@ -51,8 +51,8 @@ pub trait Taker<R: Source> {
         Ok(false)
     }
 
-    /// Takes the bytes of block `block` in one reading, as [`BlockTable::put`] does. They stand behind the first `at` bytes
-    /// of the input, modulo 2 ^ 64.
+    /// Takes the bytes of block `block` in one reading, as [`BlockTable::put`] does. `at` is their offset in the input, modulo
+    /// 2 ^ 64.
     ///
     /// # Errors
     ///
@@ -76,7 +76,7 @@ pub trait Taker<R: Source> {
         ensures input { input self.new ≡ input self.old };
 }
 
-/// It keeps the bytes, and has no need to know where they stand.
+/// It keeps the bytes, and does not need their offset in the input.
 impl<R: Source> Taker<R> for BlockTable {
     ghost took = { λ a t. a ≡ t };
 

@@ -10,14 +10,14 @@ use std::marker::Model;
 /// How many bytes a source is asked for at once.
 const PIECE: usize = 262_144;
 
-/// Bytes that were read and not yet taken. They stand in a piece of their own, and no memory is asked for. It counts the
-/// bytes of the input that it let go.
+/// Bytes that were read and not yet taken. They are in an array in the window itself, and no memory is allocated. It counts
+/// the bytes of the input that were taken from it.
 #[derive(Drop)]
 pub struct Window {
     bytes: [u8; 262_144],
     start: usize,
     end: usize,
-    /// How many bytes of the input stand before those that are held, modulo 2 ^ 64.
+    /// The number of bytes of the input before those that are held, modulo 2 ^ 64.
     at: u64,
 }
 
@@ -73,7 +73,7 @@ impl Window {
         self.end - self.start
     }
 
-    /// How many bytes of the input stand before those that are held, modulo 2 ^ 64.
+    /// The number of bytes of the input before those that are held, modulo 2 ^ 64.
     pub fn at(&self) -> u64
         ensures { result ≡ self.now.at }
     {

@@ -38,7 +38,7 @@ pub fn write_all<W: Sink>(sink: &mut W, bytes: &[u8]) -> Result<(), WriteFault>
     Ok(())
 }
 
-/// Bytes that are still to be written. They stand in a piece of their own, and no memory is asked for.
+/// Bytes that are still to be written. They are in an array in this value itself, and no memory is allocated.
 #[derive(Drop)]
 pub struct Outgoing {
     bytes: [u8; 262_144],
@@ -80,7 +80,7 @@ impl Outgoing {
         Ok(())
     }
 
-    /// Puts these bytes behind those that are held.
+    /// Appends these bytes to those that are held.
     fn append(&mut self, bytes: &[u8])
         requires { length self.now + length bytes.now ≤ 262144 }
         ensures { self.new ≡ self.old ++ bytes.now }

@@ -33,6 +33,6 @@ pub record HasNoReport (profile : Profile) (last : ℕ) (refusal : Refusal) (tab
   pub no_lawful : AgreesWithNoneBy profile (state_of table) last
   pub told : refusal ≡ salvage_refusal_of why
 
--- it has none, or memory was refused before there was one
+-- the table has no report, or memory ran out before it had one
 abbrev pub IsUntold : Profile → ℕ → Refusal → Table → Type 0
 IsUntold profile last refusal table = (refusal ≡ Memory alloc_error) ⊎ HasNoReport profile last refusal table

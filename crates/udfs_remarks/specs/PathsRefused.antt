@@ -1,4 +1,4 @@
--- Why a command over the inputs of some paths refuses.
+-- Why a command over the inputs of some paths fails.
 --     OfPathsRefused       the inputs of some paths were not joined, and why; or this holds of their join
 --     EndOrPathsRefused    the same where the last block and the rules are known, or there is no last block
 --     AskedRefused         the same of the inputs that the arguments ask for
@@ -22,6 +22,6 @@ abbrev pub EndOrPathsRefused : {R I : Type 0} → (List ℕ → Option (Option (
 EndOrPathsRefused found shut remaining faults words inputs Before Refused refusal = (Before × EndRefused found shut remaining faults inputs words refusal) ⊎ (Before × InputsRefused found shut remaining faults inputs refusal) ⊎
     ((profile : Profile) × (last : ℕ) × IsProfile words profile × IsLast found inputs words last × OfPathsRefused found shut remaining faults inputs Before (Refused profile last) refusal)
 
--- the same of the inputs that the words ask for
+-- the same of the inputs that the arguments ask for
 abbrev pub AskedRefused : {R I : Type 0} → (List ℕ → Option (Option (List ℕ))) → (List ℕ → Type 0) → (AnySource R I → Option (List ℕ)) → (AnySource R I → ℕ) → Found → List Asked → Type 0 → (Profile → ℕ → Refusal → Table → Type 0) → Refusal → Type 0
 AskedRefused found shut remaining faults words asked Before Refused refusal = (inputs : List InputPath) × (map asked_for inputs ≡ asked) × EndOrPathsRefused found shut remaining faults words inputs Before Refused refusal

@@ -1,5 +1,5 @@
 // SPDX-License-Identifier: MIT OR Apache-2.0
-//! What the commands that look into a volume share: what is found in a volume or why its table has no report, and what is remarked beside an answer.
+//! What the commands that look into a volume share: what is found in a volume or why its table has no report, and the remarks beside a result.
 #![tactic(auto)]
 
 pub mod looking;

@@ -1,4 +1,4 @@
-//! Why a report was not made or not printed, as a command refuses it.
+//! Why a report was not made or not printed, as the error of a command.
 
 ghost use Rattle.std.specs.Prelude.{◌≡◌};
 ghost use Rattle.udfs_remarks.specs.NoReports.{run_refusal_of, salvage_refusal_of};

@@ -1,7 +1,8 @@
 -- Numbers that rise do not fall, the last block of a volume, and what `reread --mapfile` may leave.
-use Rattle.std.proofs.Common.{◌<◌, ◌≤◌, ℕ, zero, suc, List, [], ◌∷◌, length, slice_index_or, inl, inr, refl, arith, ◌≡◌, Option, map}
+use Rattle.std.proofs.Common.{◌<◌, ◌≤◌, ℕ, zero, suc, List, [], ◌∷◌, length, slice_index_or, inl, inr, arith, ◌≡◌, Option, map}
+use Rattle.std.specs.Prelude.{Contains}
 use Rattle.std.specs.List.Sorted.{IsNonDecreasing}
-use Rattle.udfs_lattice.specs.Volumes.{Includes}
+use Rattle.udfs_lattice.proofs.Inclusion.{here, there}
 use Rattle.udfs_salvage.specs.Reports.{IsOutOfRange}
 use Rattle.udfs_volume.specs.Seen.{IsRising}
 use Rattle.clap.specs.declared.parser.matches.Found.{Found}
@@ -11,15 +12,15 @@ use Rattle.udfs_words.specs.Asking.{IsLast, IsProfile, asked_for, asked_inputs, 
 use Rattle.udfs_reports.specs.Rereading.{MayDomainAsked, MayDomainOf}
 use Rattle.udfs_words.specs.declared.input_path.InputPath.{InputPath}
 
-included : (xs : List ℕ) (j : ℕ) (d : ℕ) → j < length xs → Includes xs (slice_index_or xs j d)
-included [] j d lt = absurd (omega (arith, lt))
-included (x ∷ xs) zero d lt = inl refl
-included (x ∷ xs) (suc j) d lt = inr (included xs j d (omega (arith, lt)))
+stands_in : (xs : List ℕ) (j : ℕ) (d : ℕ) → j < length xs → Contains xs (slice_index_or xs j d)
+stands_in [] j d lt = absurd (omega (arith, lt))
+stands_in (x ∷ xs) zero d lt = here x xs
+stands_in (x ∷ xs) (suc j) d lt = there x xs (slice_index_or xs j d) (stands_in xs j d (omega (arith, lt)))
 
 pub rising_does_not_fall : (xs : List ℕ) → IsRising xs → IsNonDecreasing xs
 rising_does_not_fall [] h i j d le lt = absurd (omega (arith, lt))
 rising_does_not_fall (x ∷ xs) h zero zero d le lt = omega arith
-rising_does_not_fall (x ∷ xs) h zero (suc j) d le lt = let below = h.0 (slice_index_or xs j d) (included xs j d (omega (arith, lt))) in omega (arith, below)
+rising_does_not_fall (x ∷ xs) h zero (suc j) d le lt = let below = h.0 (slice_index_or xs j d) (stands_in xs j d (omega (arith, lt))) in omega (arith, below)
 rising_does_not_fall (x ∷ xs) h (suc i) zero d le lt = absurd (omega (arith, le))
 rising_does_not_fall (x ∷ xs) h (suc i) (suc j) d le lt = rising_does_not_fall xs h.1 i j d (omega (arith, le)) (omega (arith, lt))
 

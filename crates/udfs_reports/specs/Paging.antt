@@ -1,11 +1,11 @@
 -- What `page` writes of a volume.
 --     page_path words       where the page is to be put: `-` is standard output
 --     PutsPage              the page of the table's report was put
---     WritesPage            the same, as the words of the command ask for
---     PageAsked             something holds of the page that the words ask for
+--     WritesPage            the same, as the arguments of the command ask for
+--     PageAsked             something holds of the page that the arguments ask for
 --     MayPageAsked          what a crash in the middle shows: what was there, or the page in its place
 --     IsFreePage            a page takes the place of no file but a page, and of none of the inputs
---     IsSparedPage          why a page is refused: it would take the place of something else
+--     IsSparedPage          why a page is not written: it would take the place of something else
 --     ReplacesPage          the page replaces what is at its path, whole or not at all, and nothing else, whatever is returned
 use Rattle.std.specs.Prelude.{◌≡◌, ◌≢◌, ◌⊎◌, ⊤, ℕ, Bool, true, List, Option, Some, codes, map, if◌then◌else◌}
 use Rattle.std.specs.Str.{bytes_eq}
@@ -25,14 +25,14 @@ use Rattle.udfs_words.specs.declared.input_path.InputPath.{InputPath}
 abbrev pub page_path : Found → List ℕ
 page_path words = if bytes_eq (out_text words) (codes "-") then codes "/dev/stdout" else out_text words
 
--- the page of the table's report by the rules of a profile was put, and the answer is whether there are nodes and all are whole
+-- the page of the table's report by the rules of a profile was put, and the result is whether there are nodes and all are whole
 pub record PutsPage (profile : Profile) (last : ℕ) (Put : List ℕ → Type 0) (whole : Bool) (table : Table) : Type 0 where
   pub report : Report
   pub is_report : IsReportBy profile (state_of table) last report
   pub put : Put (page_html profile table last report)
   pub says : whole ≡ all_whole report.nodes
 
--- of the inputs, the last block and the rules that the words ask for
+-- of the inputs, the last block and the rules that the arguments ask for
 pub record WritesPage {R : Type 0} (found : List ℕ → Option (Option (List ℕ))) (remaining : R → Option (List ℕ)) (words : Found) (Put : List ℕ → Type 0) (whole : Bool) : Type 0 where
   pub last : ℕ
   pub profile : Profile
@@ -54,7 +54,7 @@ MayPage profile last path table d c = Same d c ⊎ IsPage profile last (λ bytes
 abbrev pub MayPageOf : {R : Type 0} → (List ℕ → Option (Option (List ℕ))) → (R → Option (List ℕ)) → List InputPath → Profile → ℕ → List ℕ → Disk → Disk → Type 0
 MayPageOf found remaining inputs profile last path d c = Same d c ⊎ OfPaths found remaining inputs (IsPage profile last (λ bytes. Replaced path bytes d c))
 
--- this holds of the page of what the words ask for
+-- this holds of the page that the arguments ask for
 abbrev pub PageAsked : {R : Type 0} → (List ℕ → Option (Option (List ℕ))) → (R → Option (List ℕ)) → Found → (List ℕ → Type 0) → Type 0
 PageAsked found remaining words Holds = (profile : Profile) × (last : ℕ) × (inputs : List InputPath) × IsProfile words profile × IsLast found inputs words last × (map asked_for inputs ≡ asked_streams words) × OfPaths found remaining inputs (IsPage profile last Holds)
 

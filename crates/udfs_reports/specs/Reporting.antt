@@ -18,6 +18,6 @@ abbrev pub form_text : Form → Profile → Table → ℕ → Report → List �
 form_text Text profile table last report = report_text_by profile table last report
 form_text Json profile table last report = line (json_text_by profile table last report)
 
--- that text of the table's report was printed, of which all holds that is promised of reports, and the answer is whether there are nodes and all are whole
+-- that text of the table's report was printed, of which all holds that is promised of reports, and the result is whether there are nodes and all are whole
 abbrev pub PrintsAs : Profile → Form → ℕ → Stream → Stream → Bool → Table → Type 0
 PrintsAs profile form last old new whole table = Tells (form_text form) profile last old new whole table

@@ -3,10 +3,10 @@
 --     PrintsNumbers       these were printed
 --     IsRefusedDomain     the mapfile was not put, and why
 --     PrintsDomain        the mapfile was put, and their count and that of their runs were printed
---     WritesDomain        the same, as the words of the command ask for
+--     WritesDomain        the same, as the arguments of the command ask for
 --     MayDomain           what a crash in the middle shows: what was there, or the mapfile in its place
---     DomainAsked         something holds of the mapfile that the words ask for
---     MayDomainAsked      the same, as the words of the command ask for
+--     DomainAsked         something holds of the mapfile that the arguments ask for
+--     MayDomainAsked      what a crash in the middle shows, as the arguments of the command ask for
 --     RereadSpares        what `reread` leaves as it was, whatever it returns
 use Rattle.std.specs.Prelude.{◌≡◌, ◌⊎◌, ℕ, ◌+◌, ◌++◌, ◌==◌, Bool, List, [], ◌∷◌, Option, codes, decimal, length, map, if◌then◌else◌, ◌≢◌, false}
 use Rattle.clap.specs.declared.parser.matches.Found.{Found}
@@ -32,7 +32,7 @@ use Rattle.udfs_common.specs.Refusing.{IsUnput}
 abbrev pub numbers_of : Profile → Table → ℕ → Report → List ℕ
 numbers_of profile table last report = number_lines report.reread
 
--- those of the table's report by the rules of a profile were printed, and the answer is whether there are nodes and all are whole
+-- those of the table's report by the rules of a profile were printed, and the result is whether there are nodes and all are whole
 abbrev pub PrintsNumbers : Profile → ℕ → Stream → Stream → Bool → Table → Type 0
 PrintsNumbers profile last old new whole table = Tells numbers_of profile last old new whole table
 
@@ -50,7 +50,7 @@ runs_in (n ∷ ns) = 1 + breaks n ns
 abbrev pub domain_line : List ℕ → List ℕ
 domain_line blocks = line (decimal (length blocks) ++ codes " blocks in " ++ decimal (runs_in blocks) ++ codes " runs")
 
--- the mapfile in which the blocks of the table's report by the rules of a profile that are to be read again are wanted was put, and the answer is whether there are nodes and all are whole
+-- the mapfile of the blocks to read again was put and their count printed, by the rules of a profile; the result is whether there are nodes and all are whole
 pub record PrintsDomain (profile : Profile) (last : ℕ) (Put : List ℕ → Type 0) (old new : Stream) (whole : Bool) (table : Table) : Type 0 where
   pub report : Report
   pub is_report : IsReportBy profile (state_of table) last report
@@ -63,7 +63,7 @@ abbrev pub IsRefusedDomain : Type 0 → Profile → ℕ → Stream → Stream �
 IsRefusedDomain Unmade profile last old new refusal table = ((new ≡ old) × IsUntold profile last refusal table) ⊎ ((report : Report) × IsReportBy profile (state_of table) last report ×
     (((refusal ≡ Output) × Failed old new (domain_line report.reread)) ⊎ (Wrote old new (domain_line report.reread) × IsUnput Unmade refusal)))
 
--- of the inputs, the last block and the rules that the words ask for
+-- of the inputs, the last block and the rules that the arguments ask for
 pub record WritesDomain {R : Type 0} (found : List ℕ → Option (Option (List ℕ))) (remaining : R → Option (List ℕ)) (words : Found) (Put : List ℕ → Type 0) (old new : Stream) (whole : Bool) : Type 0 where
   pub last : ℕ
   pub profile : Profile
@@ -85,7 +85,7 @@ MayDomain profile last path table d c = Same d c ⊎ IsDomain profile last (λ b
 abbrev pub MayDomainOf : {R : Type 0} → (List ℕ → Option (Option (List ℕ))) → (R → Option (List ℕ)) → List InputPath → Profile → ℕ → List ℕ → Disk → Disk → Type 0
 MayDomainOf found remaining inputs profile last path d c = Same d c ⊎ OfPaths found remaining inputs (IsDomain profile last (λ bytes. Replaced path bytes d c))
 
--- this holds of the mapfile of what the words ask for
+-- this holds of the mapfile that the arguments ask for
 abbrev pub DomainAsked : {R : Type 0} → (List ℕ → Option (Option (List ℕ))) → (R → Option (List ℕ)) → Found → (List ℕ → Type 0) → Type 0
 DomainAsked found remaining words Holds = (profile : Profile) × (last : ℕ) × (inputs : List InputPath) × IsProfile words profile × IsLast found inputs words last × (map asked_for inputs ≡ asked_inputs words) × OfPaths found remaining inputs (IsDomain profile last Holds)
 

@@ -15,14 +15,14 @@ use Rattle.udfs_common.specs.Refusing.{IsUnput}
 use Rattle.udfs_common.specs.declared.refusal.Refusal.{Refusal}
 use Rattle.udfs_remarks.specs.NoReports.{IsUntold, run_refusal_of}
 
--- a text of the table's report was printed, of which all holds that is promised of reports, and the answer is whether there are nodes and all are whole
+-- a text of the table's report was printed, of which all holds that is promised of reports, and the result is whether there are nodes and all are whole
 pub record Tells (text : Profile → Table → ℕ → Report → List ℕ) (profile : Profile) (last : ℕ) (old new : Stream) (whole : Bool) (table : Table) : Type 0 where
   pub report : Report
   pub headline : HeadlineBy profile (state_of table) last report
   pub prints : Wrote old new (text profile table last report)
   pub says : whole ≡ all_whole report.nodes
 
--- a beginning of a text of the table's report was printed, and then the sink failed or memory was refused
+-- a prefix of a text of the table's report was printed, and then the sink failed or memory ran out
 pub record StopsTelling (text : Profile → Table → ℕ → Report → List ℕ) (profile : Profile) (last : ℕ) (old new : Stream) (refusal : Refusal) (table : Table) : Type 0 where
   pub report : Report
   pub is_report : IsReportBy profile (state_of table) last report

@@ -20,7 +20,7 @@ use udfs_volume::Profile;
 use udfs_words::asking::is_set;
 use udfs_words::words::{NULL, PATHS, TORN};
 
-/// What the words after `list` ask to be shown, and how.
+/// What the arguments of `list` ask to be shown, and how.
 pub fn asked_list_form(words: &ArgMatches<'_>) -> ListForm
     ensures { IsListForm (found_of words.now) result }
 {

@@ -35,7 +35,7 @@ const PAGE: &[u8] = b"<!DOCTYPE html>\n<!-- a page of udfsalvage -->\n";
 /// Why a page was not written.
 #[derive(Clone, Copy)]
 enum PageError {
-    /// Memory was refused.
+    /// Memory ran out.
     OutOfMemory,
     /// The sink failed.
     NotWritten,
@@ -86,7 +86,7 @@ pub fn look_at_page<F: Files>(
 }
 
 /// Puts the page of what was found of a volume at a path, whole or not at all, or writes it to what is there and is no file. The page is made while it is
-/// written, so that memory can be refused in the middle: then the new file is removed again.
+/// written, so that memory can run out in the middle: then the new file is removed again.
 fn put_page<F: Files>(
     alloc: Global,
     survey: &Survey<'_>,
@@ -125,7 +125,7 @@ fn page_of<F: Files>(
     ensures any_moment { F.tells → (F.in_place files.old path.now → ⊥) → (c : Disk) → F.left_since files.new (F.moment files.old) c → After (F.may_leave files.old) (MayPage profile last (F.real files.old path.now) table.now) c }
     // No other path changes, but for those of new files that are to go in its place.
     ensures elsewhere { F.tells → (F.in_place files.old path.now → ⊥) → (q : List ℕ) → q ≢ F.real files.old path.now → (¬ IsOwn (F.real files.old path.now) q) → F.holds files.new q ≡ F.holds files.old q }
-    // A refusal leaves all as it was; or a call failed, and then the path holds what it held or the new file, whole.
+    // After an error no file has changed; or a file call failed, and the path, unless it is a device or a pipe, holds what it held or the new file, whole.
     ensures left { OnErr result (RefusedOut F.tells F.holds F.real F.in_place (F.shut files.old path.now ⊎ Fails F.faults ⊎ SinkFails F.Output.stream) path.now files.old files.new
         (λ Put. IsPage profile last Put table.now)) }
     ensures refused { IfErr result (λ refusal. IsRefusedPut (F.shut files.old path.now ⊎ Fails F.faults ⊎ SinkFails F.Output.stream) profile last refusal table.now) }
@@ -157,7 +157,7 @@ pub fn page<F: Files>(
     ensures any_moment { F.tells → (F.in_place files.old path.now → ⊥) → (c : Disk) → F.left_since files.new (F.moment files.old) c → After (F.may_leave files.old) (MayPageOf (λ path. F.holds files.old (F.real files.old path)) (⟦<AnySource<F::Input, F::Image> as Source>⟧.remaining) inputs.now profile last (F.real files.old path.now)) c }
     // No other path changes, but for those of new files that are to go in its place.
     ensures elsewhere { F.tells → (F.in_place files.old path.now → ⊥) → (q : List ℕ) → q ≢ F.real files.old path.now → (¬ IsOwn (F.real files.old path.now) q) → F.holds files.new q ≡ F.holds files.old q }
-    // A refusal leaves all as it was; or a call failed, and then the path holds what it held or the new file, whole.
+    // After an error no file has changed; or a file call failed, and the path, unless it is a device or a pipe, holds what it held or the new file, whole.
     ensures left { OnErr result (RefusedOut F.tells F.holds F.real F.in_place (F.shut files.old path.now ⊎ Fails F.faults ⊎ SinkFails F.Output.stream) path.now files.old files.new
         (λ Put. OfPaths (λ path. F.holds files.old (F.real files.old path)) (⟦<AnySource<F::Input, F::Image> as Source>⟧.remaining) inputs.now (IsPage profile last Put))) }
     // The inputs were not joined, or their table has no report, or its page was not put.

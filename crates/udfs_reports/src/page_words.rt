@@ -1,4 +1,4 @@
-//! What the words after `page` ask for.
+//! The command `page`, with its arguments.
 
 ghost use Rattle.std.specs.Prelude.{◌≡◌, ◌≢◌, ◌⊎◌, ℕ, List, IfOk, IfErr, OnErr, OnOk, alloc_error, map};
 ghost use Rattle.clap.specs.Matches.{found_of};
@@ -33,7 +33,7 @@ fn asked_page<'a>(words: &ArgMatches<'a>) -> &'a str
     if out == "-" { "/dev/stdout" } else { out }
 }
 
-/// What is known of the page that the words after `page` ask for.
+/// What is known of the page that the arguments of `page` name.
 fn asked_page_outlook<F: Files>(
     alloc: Global,
     words: &ArgMatches<'_>,
@@ -49,7 +49,7 @@ fn asked_page_outlook<F: Files>(
     Ok(found)
 }
 
-/// Does what the words after `page` ask for.
+/// Runs `page` with these arguments, and returns whether there are files and all of them are whole.
 pub fn page_words<F: Files>(
     alloc: Global,
     words: &ArgMatches<'_>,
@@ -64,10 +64,11 @@ pub fn page_words<F: Files>(
         After (F.may_leave files.old) (MayPageAsked (λ path. F.holds files.old (F.real files.old path)) (⟦<AnySource<F::Input, F::Image> as Source>⟧.remaining) (F.real files.old) (found_of words.now)) c }
     // No other path changes, but for those of new files that are to go in its place.
     ensures elsewhere { F.tells → (F.in_place files.old (page_path (found_of words.now)) → ⊥) → (q : List ℕ) → q ≢ F.real files.old (page_path (found_of words.now)) → (¬ IsOwn (F.real files.old (page_path (found_of words.now))) q) → F.holds files.new q ≡ F.holds files.old q }
-    // A refusal leaves all as it was; or a call failed, and then the path holds what it held or the new file, whole.
+    // After an error no file has changed; or a file call failed, and the path, unless it is a device or a pipe, holds what it held or the new file, whole.
     ensures left { OnErr result (RefusedOut F.tells F.holds F.real F.in_place (F.shut files.old (page_path (found_of words.now)) ⊎ Fails F.faults ⊎ SinkFails F.Output.stream) (page_path (found_of words.now)) files.old files.new
         (PageAsked (λ path. F.holds files.old (F.real files.old path)) (⟦<AnySource<F::Input, F::Image> as Source>⟧.remaining) (found_of words.now))) }
-    // Why it is refused: what is there is spared or could not be looked at, or the last block or the inputs are to blame, or their table has no report, or its page was not put.
+    // Why it fails: memory ran out, or what is there is spared or could not be looked at, or the last block or the inputs are to blame, or their table has no
+    // report, or its page was not put.
     ensures refused { IfErr result (λ refusal. ((files.new ≡ files.old) × (refusal ≡ Refusal.Memory alloc_error)) ⊎ ((refusal ≡ Refusal.Spared) × (F.tells → IsSparedPage (F.holds files.old) (F.real files.old) (input_texts (found_of words.now)) (pair_texts (found_of words.now)) (page_path (found_of words.now)))) ⊎
         ((refusal ≡ Refusal.Output) × MayNotBeSeen (F.shut files.old) (Fails F.Input.faults) (input_texts (found_of words.now)) (pair_texts (found_of words.now)) (page_path (found_of words.now))) ⊎
         AskedRefused (λ path. F.holds files.old (F.real files.old path)) (F.shut files.old) (⟦<AnySource<F::Input, F::Image> as Source>⟧.remaining) (⟦<AnySource<F::Input, F::Image> as Source>⟧.faults) (found_of words.now) (asked_streams (found_of words.now)) (files.new ≡ files.old)

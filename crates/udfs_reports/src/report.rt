@@ -18,7 +18,7 @@ use udfs_salvage::{RunError, Survey, write_json, write_survey};
 use udfs_volume::Profile;
 use udfs_words::forms::Form;
 
-/// Prints the report that a survey stands for in this form, piece by piece: where memory is refused, a beginning of it may be out.
+/// Prints the report that a survey represents in this form, piece by piece: if it fails, a prefix of it may have been printed.
 fn write_as<O: Sink>(
     alloc: Global,
     survey: &Survey<'_>,

@@ -1,4 +1,4 @@
-//! What the words after the commands that only print ask for: `report`, `list` and `summary`.
+//! The commands that only print, with their arguments: `report`, `list` and `summary`.
 
 ghost use Rattle.std.specs.Prelude.{◌≡◌, ◌⊎◌, ℕ, List, IfOk, IfErr, alloc_error, codes, map};
 ghost use Rattle.clap.specs.Matches.{found_of};
@@ -28,7 +28,7 @@ use udfs_common::sources::AnySource;
 use udfs_reading::{Sink, Source};
 use udfs_words::asking::{asked_form, asked_inputs, asked_streams};
 
-/// Does what the words after `report` ask for.
+/// Runs `report` with these arguments, and returns whether there are files and all of them are whole.
 pub fn report_words<F: Files, O: Sink>(
     alloc: Global,
     words: &ArgMatches<'_>,
@@ -38,7 +38,7 @@ pub fn report_words<F: Files, O: Sink>(
     ensures printed { IfOk result (λ whole. (form : Form) × (last : ℕ) × (profile : Profile) × (inputs : List InputPath) × (map asked_for inputs ≡ asked_inputs (found_of words.now)) ×
         IsPicked (found_of words.now) (codes "json") Form.Json Form.Text form × IsLast (λ path. F.holds files.now (F.real files.now path)) inputs (found_of words.now) last × IsProfile (found_of words.now) profile ×
         OfPaths (λ path. F.holds files.now (F.real files.now path)) (⟦<AnySource<F::Input, F::Image> as Source>⟧.remaining) inputs (PrintsAs profile form last (O.stream out.old) (O.stream out.new) whole)) }
-    // Why it is refused, and what is out then: nothing, or a beginning.
+    // Why it fails, and what was printed then: nothing, or a prefix.
     ensures refused { IfErr result (λ refusal. ((O.stream out.new ≡ O.stream out.old) × (refusal ≡ Refusal.Memory alloc_error)) ⊎ ((form : Form) × IsPicked (found_of words.now) (codes "json") Form.Json Form.Text form × AskedRefused (λ path. F.holds files.now (F.real files.now path)) (F.shut files.now) (⟦<AnySource<F::Input, F::Image> as Source>⟧.remaining) (⟦<AnySource<F::Input, F::Image> as Source>⟧.faults) (found_of words.now) (asked_inputs (found_of words.now))
         (O.stream out.new ≡ O.stream out.old) (λ profile last. IsRefusedTelling (form_text form) profile last (O.stream out.old) (O.stream out.new)) refusal)) }
 {
@@ -55,7 +55,7 @@ pub fn report_words<F: Files, O: Sink>(
     }
 }
 
-/// Does what the words after `list` ask for.
+/// Runs `list` with these arguments, and returns whether there are files and all of them are whole.
 pub fn list_words<F: Files, O: Sink>(
     alloc: Global,
     words: &ArgMatches<'_>,
@@ -65,7 +65,7 @@ pub fn list_words<F: Files, O: Sink>(
     ensures printed { IfOk result (λ whole. (form : ListForm) × (last : ℕ) × (profile : Profile) × (inputs : List InputPath) × (map asked_for inputs ≡ asked_streams (found_of words.now)) ×
         IsListForm (found_of words.now) form × IsLast (λ path. F.holds files.now (F.real files.now path)) inputs (found_of words.now) last × IsProfile (found_of words.now) profile × OfPaths (λ path. F.holds files.now (F.real files.now path)) (⟦<AnySource<F::Input, F::Image> as Source>⟧.remaining) inputs
         (PrintsList profile form last (O.stream out.old) (O.stream out.new) whole)) }
-    // Why it is refused, and what is out then: nothing, or a beginning.
+    // Why it fails, and what was printed then: nothing, or a prefix.
     ensures refused { IfErr result (λ refusal. ((O.stream out.new ≡ O.stream out.old) × (refusal ≡ Refusal.Memory alloc_error)) ⊎ ((form : ListForm) × IsListForm (found_of words.now) form × AskedRefused (λ path. F.holds files.now (F.real files.now path)) (F.shut files.now) (⟦<AnySource<F::Input, F::Image> as Source>⟧.remaining) (⟦<AnySource<F::Input, F::Image> as Source>⟧.faults) (found_of words.now) (asked_streams (found_of words.now))
         (O.stream out.new ≡ O.stream out.old) (λ profile last. IsRefusedTelling (list_of form) profile last (O.stream out.old) (O.stream out.new)) refusal)) }
 {
@@ -82,7 +82,7 @@ pub fn list_words<F: Files, O: Sink>(
     }
 }
 
-/// Does what the words after `summary` ask for.
+/// Runs `summary` with these arguments, and returns whether there are files and all of them are whole.
 pub fn summary_words<F: Files, O: Sink>(
     alloc: Global,
     words: &ArgMatches<'_>,
@@ -92,7 +92,7 @@ pub fn summary_words<F: Files, O: Sink>(
     ensures printed { IfOk result (λ whole. (last : ℕ) × (profile : Profile) × (inputs : List InputPath) × (map asked_for inputs ≡ asked_streams (found_of words.now)) ×
         IsLast (λ path. F.holds files.now (F.real files.now path)) inputs (found_of words.now) last × IsProfile (found_of words.now) profile × OfPaths (λ path. F.holds files.now (F.real files.now path)) (⟦<AnySource<F::Input, F::Image> as Source>⟧.remaining) inputs
         (PrintsSummary profile last (O.stream out.old) (O.stream out.new) whole)) }
-    // Why it is refused, and what is out then: nothing, or a beginning.
+    // Why it fails, and what was printed then: nothing, or a prefix.
     ensures refused { IfErr result (λ refusal. ((O.stream out.new ≡ O.stream out.old) × (refusal ≡ Refusal.Memory alloc_error)) ⊎ AskedRefused (λ path. F.holds files.now (F.real files.now path)) (F.shut files.now) (⟦<AnySource<F::Input, F::Image> as Source>⟧.remaining) (⟦<AnySource<F::Input, F::Image> as Source>⟧.faults) (found_of words.now) (asked_streams (found_of words.now))
         (O.stream out.new ≡ O.stream out.old) (λ profile last. IsRefusedTelling summary_text profile last (O.stream out.old) (O.stream out.new)) refusal) }
 {

@@ -43,7 +43,7 @@ impl<'a> Content for Domain<'a> {
     }
 }
 
-/// How many runs the blocks behind this one begin.
+/// How many of the blocks after `first` begin a run: they do not follow on the block before them.
 fn count_breaks(first: u32, blocks: &[u32]) -> usize
     ensures value { result ≡ breaks first blocks.now }
     ensures few { result ≤ length blocks.now }
@@ -113,7 +113,7 @@ fn put_domain<F: Files, O: Sink>(
     ensures any_moment { F.tells → (F.in_place files.old path.now → ⊥) → (c : Disk) → F.left_since files.new (F.moment files.old) c → After (F.may_leave files.old) (Replaced (F.real files.old path.now) (domain_text wanted.now last)) c }
     // No other path changes, but for those of new files that are to go in its place.
     ensures elsewhere { F.tells → (F.in_place files.old path.now → ⊥) → (q : List ℕ) → q ≢ F.real files.old path.now → (¬ IsOwn (F.real files.old path.now) q) → F.holds files.new q ≡ F.holds files.old q }
-    // A refusal leaves all as it was; or a call failed, and then the path holds what it held or the new file, whole.
+    // After an error no file has changed; or a file call failed, and the path, unless it is a device or a pipe, holds what it held or the new file, whole.
     ensures left { OnErr result (RefusedOut F.tells F.holds F.real F.in_place (F.shut files.old path.now ⊎ Fails F.faults ⊎ SinkFails F.Output.stream) path.now files.old files.new
         (λ Put. Put (domain_text wanted.now last))) }
     ensures refused { IfErr result (λ refusal. ((O.stream out.new ≡ O.stream out.old) × (refusal ≡ Refusal.Memory alloc_error)) ⊎ ((refusal ≡ Refusal.Output) × Failed (O.stream out.old) (O.stream out.new) (domain_line wanted.now)) ⊎
@@ -147,7 +147,7 @@ fn map_of<F: Files, O: Sink>(
     ensures any_moment { F.tells → (F.in_place files.old path.now → ⊥) → (c : Disk) → F.left_since files.new (F.moment files.old) c → After (F.may_leave files.old) (MayDomain profile last (F.real files.old path.now) table.now) c }
     // No other path changes, but for those of new files that are to go in its place.
     ensures elsewhere { F.tells → (F.in_place files.old path.now → ⊥) → (q : List ℕ) → q ≢ F.real files.old path.now → (¬ IsOwn (F.real files.old path.now) q) → F.holds files.new q ≡ F.holds files.old q }
-    // A refusal leaves all as it was; or a call failed, and then the path holds what it held or the new file, whole.
+    // After an error no file has changed; or a file call failed, and the path, unless it is a device or a pipe, holds what it held or the new file, whole.
     ensures left { OnErr result (RefusedOut F.tells F.holds F.real F.in_place (F.shut files.old path.now ⊎ Fails F.faults ⊎ SinkFails F.Output.stream) path.now files.old files.new
         (λ Put. IsDomain profile last Put table.now)) }
     ensures refused { IfErr result (λ refusal. IsRefusedDomain (F.shut files.old path.now ⊎ Fails F.faults ⊎ SinkFails F.Output.stream) profile last (O.stream out.old) (O.stream out.new) refusal table.now) }
@@ -169,9 +169,9 @@ fn map_of<F: Files, O: Sink>(
     Ok(listing.all_whole())
 }
 
-/// Joins the inputs, puts the mapfile of the blocks of the volume, of which `last` is the last, that are worth reading again by the rules of a profile at a path, whole or not at all,
-/// and prints how many they are first. It returns whether there are files and all of them are whole. All inputs are opened in order before one is read, and the
-/// mapfile is begun only after that.
+/// Joins the inputs, prints how many blocks of the volume, whose last block is `last`, are worth reading again by the rules of a profile, and then puts their
+/// mapfile at a path, whole or not at all. It returns whether there are files and all of them are whole. All inputs are opened in order before one is read, and
+/// the mapfile is begun only after that.
 pub fn reread_map<F: Files, O: Sink>(
     alloc: Global,
     inputs: &[InputPath<'_>],
@@ -188,7 +188,7 @@ pub fn reread_map<F: Files, O: Sink>(
     ensures any_moment { F.tells → (F.in_place files.old path.now → ⊥) → (c : Disk) → F.left_since files.new (F.moment files.old) c → After (F.may_leave files.old) (MayDomainOf (λ path. F.holds files.old (F.real files.old path)) (⟦<AnySource<F::Input, F::Image> as Source>⟧.remaining) inputs.now profile last (F.real files.old path.now)) c }
     // No other path changes, but for those of new files that are to go in its place.
     ensures elsewhere { F.tells → (F.in_place files.old path.now → ⊥) → (q : List ℕ) → q ≢ F.real files.old path.now → (¬ IsOwn (F.real files.old path.now) q) → F.holds files.new q ≡ F.holds files.old q }
-    // A refusal leaves all as it was; or a call failed, and then the path holds what it held or the new file, whole.
+    // After an error no file has changed; or a file call failed, and the path, unless it is a device or a pipe, holds what it held or the new file, whole.
     ensures left { OnErr result (RefusedOut F.tells F.holds F.real F.in_place (F.shut files.old path.now ⊎ Fails F.faults ⊎ SinkFails F.Output.stream) path.now files.old files.new
         (λ Put. OfPaths (λ path. F.holds files.old (F.real files.old path)) (⟦<AnySource<F::Input, F::Image> as Source>⟧.remaining) inputs.now (IsDomain profile last Put))) }
     // The inputs were not joined, or memory ran out, or their table has no report, or the count was not printed, or the mapfile was not put.

@@ -1,4 +1,4 @@
-//! What the words after `reread` ask for.
+//! The command `reread`, with its arguments.
 
 ghost use Rattle.std.specs.Prelude.{◌≡◌, ◌≢◌, ◌⊎◌, ℕ, List, [], true, false, IfOk, IfErr, OnErr, OnOk, alloc_error, map};
 ghost use Rattle.clap.specs.Matches.{found_of};
@@ -29,7 +29,7 @@ use udfs_words::asking::{asked_inputs, asked_mapfile};
 use udfs_words::profile::asked_profile;
 use udfs_words::words::{MAPFILE, PAIRS};
 
-/// What is known of the mapfile that the words after `reread` ask for.
+/// What is known of the mapfile that the arguments of `reread` name.
 fn asked_map_outlook<F: Files>(
     alloc: Global,
     words: &ArgMatches<'_>,
@@ -44,7 +44,7 @@ fn asked_map_outlook<F: Files>(
     Ok(found)
 }
 
-/// Does what the words after `reread` ask for where a mapfile is to be written.
+/// Runs `reread` with these arguments where a mapfile is to be written.
 fn reread_map_words<F: Files, O: Sink>(
     alloc: Global,
     words: &ArgMatches<'_>,
@@ -61,7 +61,7 @@ fn reread_map_words<F: Files, O: Sink>(
         After (F.may_leave files.old) (MayDomainAsked (λ path. F.holds files.old (F.real files.old path)) (⟦<AnySource<F::Input, F::Image> as Source>⟧.remaining) (F.real files.old) (found_of words.now)) c }
     // No other path changes, but for those of new files that are to go in its place.
     ensures elsewhere { F.tells → (F.in_place files.old (mapfile_text (found_of words.now)) → ⊥) → (q : List ℕ) → q ≢ F.real files.old (mapfile_text (found_of words.now)) → (¬ IsOwn (F.real files.old (mapfile_text (found_of words.now))) q) → F.holds files.new q ≡ F.holds files.old q }
-    // A refusal leaves all as it was; or a call failed, and then the path holds what it held or the new file, whole.
+    // After an error no file has changed; or a file call failed, and the path, unless it is a device or a pipe, holds what it held or the new file, whole.
     ensures left { OnErr result (RefusedOut F.tells F.holds F.real F.in_place (F.shut files.old (mapfile_text (found_of words.now)) ⊎ Fails F.faults ⊎ SinkFails F.Output.stream) (mapfile_text (found_of words.now)) files.old files.new
         (DomainAsked (λ path. F.holds files.old (F.real files.old path)) (⟦<AnySource<F::Input, F::Image> as Source>⟧.remaining) (found_of words.now))) }
     // Why it fails: memory ran out, or what is there is spared or could not be looked at, or the last block or the inputs are to blame, or their table has no
@@ -101,7 +101,7 @@ fn reread_map_words<F: Files, O: Sink>(
     }
 }
 
-/// Does what the words after `reread` ask for where no mapfile is to be written.
+/// Runs `reread` with these arguments where no mapfile is to be written.
 fn reread_words<F: Files, O: Sink>(
     alloc: Global,
     words: &ArgMatches<'_>,
@@ -111,7 +111,7 @@ fn reread_words<F: Files, O: Sink>(
     ensures printed { IfOk result (λ whole. (last : ℕ) × (profile : Profile) × (inputs : List InputPath) × (map asked_for inputs ≡ asked_inputs (found_of words.now)) ×
         IsLast (λ path. F.holds files.now (F.real files.now path)) inputs (found_of words.now) last × IsProfile (found_of words.now) profile × OfPaths (λ path. F.holds files.now (F.real files.now path)) (⟦<AnySource<F::Input, F::Image> as Source>⟧.remaining) inputs
         (PrintsNumbers profile last (O.stream out.old) (O.stream out.new) whole)) }
-    // Why it is refused, and what is out then: nothing, or a beginning.
+    // Why it fails, and what was printed then: nothing, or a prefix.
     ensures refused { IfErr result (λ refusal. ((O.stream out.new ≡ O.stream out.old) × (refusal ≡ Refusal.Memory alloc_error)) ⊎ AskedRefused (λ path. F.holds files.now (F.real files.now path)) (F.shut files.now) (⟦<AnySource<F::Input, F::Image> as Source>⟧.remaining) (⟦<AnySource<F::Input, F::Image> as Source>⟧.faults) (found_of words.now) (asked_inputs (found_of words.now))
         (O.stream out.new ≡ O.stream out.old) (λ profile last. IsRefusedTelling numbers_of profile last (O.stream out.old) (O.stream out.new)) refusal) }
 {
@@ -126,7 +126,8 @@ fn reread_words<F: Files, O: Sink>(
     }
 }
 
-/// Does what the words after `reread` ask for: a mapfile with `--mapfile`, and else the numbers.
+/// Runs `reread` with these arguments: writes a mapfile if `--mapfile` is given, and prints the numbers otherwise. It returns whether there are files and all
+/// of them are whole.
 pub fn reread_as<F: Files, O: Sink>(
     alloc: Global,
     words: &ArgMatches<'_>,
@@ -146,7 +147,7 @@ pub fn reread_as<F: Files, O: Sink>(
         After (F.may_leave files.old) (MayDomainAsked (λ path. F.holds files.old (F.real files.old path)) (⟦<AnySource<F::Input, F::Image> as Source>⟧.remaining) (F.real files.old) (found_of words.now)) c }
     // No other path changes, but for those of new files that are to go in its place.
     ensures elsewhere { F.tells → (F.in_place files.old (mapfile_text (found_of words.now)) → ⊥) → (q : List ℕ) → q ≢ F.real files.old (mapfile_text (found_of words.now)) → (¬ IsOwn (F.real files.old (mapfile_text (found_of words.now))) q) → F.holds files.new q ≡ F.holds files.old q }
-    // A refusal leaves all as it was; or a call failed, and then the path holds what it held or the new file, whole.
+    // After an error no file has changed; or a file call failed, and the path, unless it is a device or a pipe, holds what it held or the new file, whole.
     ensures left { OnErr result (RefusedOut F.tells F.holds F.real F.in_place (F.shut files.old (mapfile_text (found_of words.now)) ⊎ Fails F.faults ⊎ SinkFails F.Output.stream) (mapfile_text (found_of words.now)) files.old files.new
         (DomainAsked (λ path. F.holds files.old (F.real files.old path)) (⟦<AnySource<F::Input, F::Image> as Source>⟧.remaining) (found_of words.now))) }
     ensures numbers_refused { IfErr result (λ refusal. is_mapped (found_of words.now) ≡ false → ((O.stream out.new ≡ O.stream out.old) × (refusal ≡ Refusal.Memory alloc_error)) ⊎ AskedRefused (λ path. F.holds files.old (F.real files.old path)) (F.shut files.old) (⟦<AnySource<F::Input, F::Image> as Source>⟧.remaining) (⟦<AnySource<F::Input, F::Image> as Source>⟧.faults) (found_of words.now) (asked_inputs (found_of words.now))

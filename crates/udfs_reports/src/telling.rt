@@ -34,8 +34,8 @@ pub trait Telling {
     ///
     /// # Errors
     ///
-    /// Where the table has no report, why; nothing is printed then. `Output` exactly where the sink failed, and `Memory` where memory is refused: then a
-    /// beginning of the text may be out.
+    /// If the table has no report, why; nothing is printed then. `Output` if and only if the sink failed, and `Memory` if memory runs out: then a
+    /// prefix of the text may have been printed.
     fn tell<F: Files, O: Sink>(
         &self,
         alloc: Global,
@@ -63,7 +63,7 @@ pub fn tell<F: Files, O: Sink, T: Telling>(
 ) -> Result<bool, Refusal>
     ensures printed { IfOk result (λ whole. OfPaths (λ path. F.holds files.now (F.real files.now path)) (⟦<AnySource<F::Input, F::Image> as Source>⟧.remaining) inputs.now
         (Tells (T.text telling.now) profile last (O.stream out.old) (O.stream out.new) whole)) }
-    // The inputs were not joined, or their table has no report, and nothing was printed; or a beginning was, and then the sink failed or memory was refused.
+    // The inputs were not joined, or their table has no report, and nothing was printed; or a prefix was, and then the sink failed or memory ran out.
     ensures refused { IfErr result (OfPathsRefused (λ path. F.holds files.now (F.real files.now path)) (F.shut files.now) (⟦<AnySource<F::Input, F::Image> as Source>⟧.remaining) (⟦<AnySource<F::Input, F::Image> as Source>⟧.faults) inputs.now
         (O.stream out.new ≡ O.stream out.old) (IsRefusedTelling (T.text telling.now) profile last (O.stream out.old) (O.stream out.new))) }
 {

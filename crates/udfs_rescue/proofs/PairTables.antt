@@ -8,8 +8,7 @@ use Rattle.udfs_lattice.specs.declared.facts.Fact.TheVariants.{Unknown, Known, C
 use Rattle.udfs_lattice.specs.States.{State, IsBlock}
 use Rattle.udfs_lattice.specs.Tables.{state_of}
 use Rattle.udfs_lattice.specs.Records.{Record, IsStateOf, table_of}
-use Rattle.udfs_lattice.specs.Volumes.{Includes}
-use Rattle.udfs_lattice.proofs.PublicLaws.{included_is_contained, table_is_of_records}
+use Rattle.udfs_lattice.proofs.PublicLaws.{table_is_of_records}
 use Rattle.udfs_reading.specs.Reading.{IsReading, IsRecord}
 use Rattle.udfs_rescue.specs.declared.known.BlockRange.{BlockRange}
 use Rattle.udfs_rescue.specs.declared.run.Run.{Run}
@@ -71,12 +70,12 @@ in_ranges all (r ∷ rs) q (inr i) = Contains-append_right (records_from all r.s
 
 -- ---- their table
 
-one_state : (rs : List Record) (q : ℕ) (b : List ℕ) (s : State) → IsStateOf rs q s → Includes rs (q, b) → ((other : List ℕ) → Includes rs (q, other) → other ≡ b) → s ≡ Known b
+one_state : (rs : List Record) (q : ℕ) (b : List ℕ) (s : State) → IsStateOf rs q s → Contains rs (q, b) → ((other : List ℕ) → Contains rs (q, other) → other ≡ b) → s ≡ Known b
 one_state rs q b Unknown h c only = absurd (h b c)
 one_state rs q b (Known x) h c only = ap Known (only x h.0)
 one_state rs q b Conflict h c only = absurd (h.4 (only h.0 h.2 ∙ sym (only h.1 h.3)))
 
-no_state : (rs : List Record) (q : ℕ) (s : State) → IsStateOf rs q s → ((other : List ℕ) → Includes rs (q, other) → ⊥) → s ≡ Unknown
+no_state : (rs : List Record) (q : ℕ) (s : State) → IsStateOf rs q s → ((other : List ℕ) → Contains rs (q, other) → ⊥) → s ≡ Unknown
 no_state rs q Unknown h none = refl
 no_state rs q (Known x) h none = absurd (none x h.0)
 no_state rs q Conflict h none = absurd (none h.0 h.2)
@@ -84,13 +83,13 @@ no_state rs q Conflict h none = absurd (none h.0 h.2)
 known_in : (all : List ℕ) (ranges : List BlockRange) (q : ℕ) → InRanges ranges q → state_of (table_of (records_of all ranges)) q ≡ Known (block_of all q)
 known_in all ranges q i =
     one_state (records_of all ranges) q (block_of all q) (state_of (table_of (records_of all ranges)) q) (table_is_of_records (records_of all ranges) q)
-    ((included_is_contained (records_of all ranges) (q, block_of all q)).1 (in_ranges all ranges q i))
-    (λ other c. (from_ranges all ranges q other ((included_is_contained (records_of all ranges) (q, other)).0 c)).1)
+    (in_ranges all ranges q i)
+    (λ other c. (from_ranges all ranges q other c).1)
 
 unknown_else : (all : List ℕ) (ranges : List BlockRange) (q : ℕ) → (InRanges ranges q → ⊥) → state_of (table_of (records_of all ranges)) q ≡ Unknown
 unknown_else all ranges q out =
     no_state (records_of all ranges) q (state_of (table_of (records_of all ranges)) q) (table_is_of_records (records_of all ranges) q)
-    (λ other c. out (from_ranges all ranges q other ((included_is_contained (records_of all ranges) (q, other)).0 c)).0)
+    (λ other c. out (from_ranges all ranges q other c).0)
 
 -- ---- their reading
 

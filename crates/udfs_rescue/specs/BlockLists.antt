@@ -23,12 +23,12 @@ up_to_last (Some n) = if nat_le n 4194303 then Some n else None
 abbrev pub block_number : List ℕ → Option ℕ
 block_number line = up_to_last (decimal_of line)
 
--- the last line, which no LF ends: without a byte it is none
+-- the numbers so far and that of the last line, which no LF ends; an empty last line is ignored
 abbrev pub with_last : ℕ → List ℕ → List ℕ → Result (List ℕ) ℕ
 with_last n so_far [] = Ok so_far
 with_last n so_far (b ∷ bs) = elim (block_number (b ∷ bs)) as (λ r. Result (List ℕ) ℕ) [ Some k ↦ Ok (so_far ++ k ∷ []) | None ↦ Err n ]
 
--- the numbers of the lines, the first of which has this number, behind those so far; or the first line that is none
+-- the numbers so far and those of these lines, the first of which is line n; or the first line that is no block number
 abbrev pub with_lines : ℕ → List ℕ → List (List ℕ) → Result (List ℕ) ℕ
 with_lines n so_far [] = Ok so_far
 with_lines n so_far (line ∷ []) = with_last n so_far line
@@ -47,7 +47,7 @@ pub record NoneWrongYet (got : List ℕ) : Type 0 where
 
 -- ---- what the results say
 
--- the bytes are refused with this fault, or memory ran out
+-- the error is the first line that is no block number, or memory ran out
 abbrev pub RefusesList : ListError → Result (List ℕ) ℕ → Type 0
 RefusesList errors.OutOfMemory says = Unit {0}
 RefusesList errors.Io says = ⊥
@@ -58,7 +58,7 @@ abbrev pub ParsesList : Result (List ℕ) ListError → Result (List ℕ) ℕ �
 ParsesList (Ok numbers) says = says ≡ Ok numbers
 ParsesList (Err e) says = RefusesList e says
 
--- why a list is refused: its device, or its first fault
+-- why reading a list failed: its device failed, it has this first fault, or memory ran out
 abbrev pub ListFails : ListError → Result (List ℕ) ℕ → Type 0
 ListFails errors.Io says = Unit {0}
 ListFails e says = RefusesList e says
@@ -84,7 +84,7 @@ pub record TellsLine (empty : Bool) (number : Option ℕ) (returned : Bool) (lin
   pub body : TellsLineBody empty number (without_return line)
   pub whole : line ≡ without_return line ++ cond returned (13 ∷ []) []
 
--- what the whole comes to, if these bytes follow, is what the reader stands for
+-- what the reader has taken so far: `says` gives the outcome of the whole, for any bytes that follow
 pub record StandsList (r : ListReader) (says : List ℕ → Result (List ℕ) ℕ) : Type 0 where
   pub line : List ℕ
   pub keeps : TellsLine r.line.empty r.line.number r.line.returned line
@@ -98,7 +98,7 @@ pub record TakesLine (old new : ListReader) : Type 0 where
   pub next : new.at ≡ next_line old.at
   pub fresh : TellsLine new.line.empty new.line.number new.line.returned []
 
--- a line that LF ended is refused
+-- a line that LF ended is no block number, or memory ran out
 abbrev pub RefusesLine : ListReader → ListError → Type 0
 RefusesLine old errors.OutOfMemory = Unit {0}
 RefusesLine old errors.Io = ⊥

@@ -1,5 +1,5 @@
--- One block after another is put behind a run (internal).
-use Rattle.std.specs.Prelude.{◌≡◌, ℕ, List, ◌++◌, Option}
+-- Blocks are appended to a run one after another (internal).
+use Rattle.std.specs.Prelude.{◌≡◌, ℕ, List, ◌++◌}
 use Rattle.std.specs.List.Sorted.{IsNonDecreasing}
 use Rattle.udfs_reading.specs.Writing.{Passed}
 use Rattle.udfs_rescue.specs.declared.run.Run.{Run}
@@ -14,7 +14,7 @@ abbrev pub status_in : Blocks → ℕ → RunStatus
 status_in (Wanted list) n = wanted_status list.now n
 status_in (Of table) n = table_status table.now n
 
--- what stands before the runs of the map that is written
+-- the lines before the runs of the map that is written
 abbrev pub heading_in : Blocks → List ℕ
 heading_in (Wanted list) = made_by ++ mark_line ++ status_line
 heading_in (Of table) = made_by ++ status_line
@@ -24,7 +24,7 @@ abbrev pub BlocksRise : Blocks → Type 0
 BlocksRise (Wanted list) = IsNonDecreasing list.now
 BlocksRise (Of table) = Unit {0}
 
--- the lines that are complete were taken, and the run behind them is `after`
+-- the complete lines were taken, and `after` is the run that follows them
 pub record TakesRun (old new : Stream) (held still : List ℕ) (before after next : Run) : Type 0 where
   pub done : List ℕ
   pub passed : Passed old new held still done

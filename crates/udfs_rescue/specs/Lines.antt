@@ -10,7 +10,7 @@ use Rattle.udfs_rescue.specs.declared.fault.LineFault.{LineFault}
 use Rattle.udfs_rescue.specs.Numbers.{number_of, decimal_of}
 use Rattle.udfs_rescue.specs.Words.{is_blank, skip, words}
 
--- two or three words; the third is empty where there are two
+-- two or three words, the third empty if there are two; None for any other number of words
 abbrev pub parts : List (List ℕ) → Option (List ℕ × List ℕ × List ℕ)
 parts [] = None
 parts (a ∷ []) = None
@@ -30,7 +30,7 @@ is_phase [] = false
 is_phase (b ∷ []) = is_phase_byte b
 is_phase (b ∷ c ∷ bs) = false
 
--- a position, if the pass behind it is no 0
+-- a position, if the pass after it is a number other than 0
 abbrev pub with_pass : Option ℕ → Option ℕ → Option ℕ
 with_pass None pass = None
 with_pass (Some n) None = None
@@ -56,25 +56,25 @@ run_status_byte b =
     if b == 45 then Some BadSector else
     if b == 43 then Some Finished else None
 
--- the status that a word gives, if it does
+-- the status that a word gives, if it is one
 abbrev pub run_status : List ℕ → Option RunStatus
 run_status [] = None
 run_status (b ∷ []) = run_status_byte b
 run_status (b ∷ c ∷ bs) = None
 
--- a run, if all three of its words are good
+-- a run, if all three of its words are well-formed
 abbrev pub run_by : Option ℕ → Option ℕ → Option RunStatus → Option Run
 run_by None size status = None
 run_by (Some at) None status = None
 run_by (Some at) (Some size) None = None
 run_by (Some at) (Some size) (Some status) = Some (record { at = at; size = size; status = status })
 
--- the run that three words give, if they do
+-- the run that three words give, if they are well-formed
 abbrev pub run_in : Option (List ℕ × List ℕ × List ℕ) → Option Run
 run_in None = None
 run_in (Some w) = run_by (number_of w.0) (number_of w.1) (run_status w.2)
 
--- the run that a line's words give, if they do
+-- the run that the words of a line give, if they are well-formed
 abbrev pub run_of : List (List ℕ) → Option Run
 run_of ws = run_in (parts ws)
 
@@ -109,7 +109,7 @@ after_run p (Some r) =
     if r.size == 0 && not (r.at == 0) then Err SizeZero else
     Ok (record { begun = p.begun; due = Some (r.at + r.size); runs = p.runs ++ r ∷ [] })
 
--- a line without a word says nothing
+-- what has come after a line of these words, or its fault; a line without words changes nothing
 abbrev pub after_words : Progress → List (List ℕ) → Result Progress MapFault
 after_words p [] = Ok p
 after_words p (w ∷ ws) = if p.begun then after_run p (run_of (w ∷ ws)) else after_status p (status_of (w ∷ ws))
@@ -122,12 +122,12 @@ unlike p = if p.begun then NotRun else NotStatusLine
 abbrev pub after_text : Progress → List ℕ → Result Progress MapFault
 after_text p text = if nat_lt 127 (length text) then Err (unlike p) else after_words p (words text)
 
--- what stands before the comment: a # begins one at the front of a line, or behind a blank
+-- the bytes before the comment: a # begins one at the beginning of a line, or after a blank
 abbrev pub before_comment : Bool → List ℕ → List ℕ
 before_comment blank [] = []
 before_comment blank (b ∷ bs) = if blank && b == 35 then [] else b ∷ before_comment (is_blank b) bs
 
--- the text of a line: what stands before the comment, without the blanks in front
+-- the text of a line: the bytes before the comment, without leading blanks
 abbrev pub text_of : List ℕ → List ℕ
 text_of line = skip (before_comment true line)
 
@@ -139,18 +139,18 @@ mark = codes "# Blocks to read again, for ddrescue -m: not the mapfile of a pass
 unfoldable pub is_mark : List ℕ → Bool
 is_mark line = bytes_eq line mark || bytes_eq line (mark ++ 13 ∷ [])
 
--- what has come after a line: that comment is a fault wherever it stands, and of any other line the text is judged
+-- what has come after a line, or its fault: that comment is a fault on any line, and of other lines the text is judged
 abbrev pub after_line : Progress → List ℕ → Result Progress MapFault
 after_line p line = if is_mark line then Err NotPass else after_text p (text_of line)
 
 -- ---- the whole mapfile
 
--- the bytes up to the first LF, and the lines behind it; behind the last LF there is one line more, which may be empty
+-- these lines, the first of them preceded by the byte b; or, without a line, the line of this byte
 abbrev pub with_first : ℕ → List (List ℕ) → List (List ℕ)
 with_first b [] = (b ∷ []) ∷ []
 with_first b (line ∷ lines) = (b ∷ line) ∷ lines
 
--- the lines of a text, which line feeds part
+-- the lines of a text, separated by LF; after the last LF there is one more line, which may be empty
 abbrev pub lines_of : List ℕ → List (List ℕ)
 lines_of [] = [] ∷ []
 lines_of (b ∷ bs) = if b == 10 then [] ∷ lines_of bs else with_first b (lines_of bs)
@@ -159,7 +159,7 @@ lines_of (b ∷ bs) = if b == 10 then [] ∷ lines_of bs else with_first b (line
 abbrev pub next_line : ℕ → ℕ
 next_line n = (n + 1) % 2 ^ 64
 
--- the runs, or the first fault and its line: of these lines, the first of which has this number, behind those that came to p
+-- the runs, or the first fault and its line, of these lines, the first of which has number n, after the lines that came to p
 abbrev pub after_lines : ℕ → Progress → List (List ℕ) → Result (List Run) LineFault
 after_lines n p [] = Ok p.runs
 after_lines n p (line ∷ lines) = elim (after_line p line) as (λ r. Result (List Run) LineFault) [ Ok q ↦ after_lines (next_line n) q lines | Err fault ↦ Err (record { line = n; fault = fault }) ]

@@ -1,4 +1,4 @@
--- An image with its mapfile: the blocks that are known of it, or why there are none.
+-- An image with its mapfile: its known blocks, or why it has no reading.
 --     AreKnownOf map ranges       the blocks that a mapfile makes known
 --     IsReadingOf image map left  the bytes of the reading of these blocks
 --     IsTableOfPair image map left    the bytes are a reading without a fault, and what its table knows

@@ -1,9 +1,9 @@
 -- What was written is read back: a mapfile, and the image of a table with its mapfile.
 --     MapReadsBack      a mapfile makes known exactly the blocks of status +
---     DomainIsRefused   the map of wanted blocks is none of a pass
+--     DomainIsRefused   the map of wanted blocks is rejected, as it is not that of a pass
 --     DomainReadsBack   but for the line that says so, it makes known exactly these blocks
 --     ImageReadsBack    an image with its mapfile has the table that they were written of, without its conflicts
---     ImageIsPair       and they are never refused for what is in them
+--     ImageIsPair       and opening them fails only if a device fails or memory runs out
 use Rattle.std.specs.Prelude.{◌≡◌, ◌↔◌, ◌<◌, ◌≤◌, ◌⊎◌, ℕ, Contains, List, ◌++◌, Option, Some, Ok, Err}
 use Rattle.udfs_lattice.specs.declared.facts.Fact.TheVariants.{Unknown, Known}
 use Rattle.udfs_lattice.specs.Records.{Record, table_of}
@@ -32,7 +32,7 @@ pub record MakesKnown (bytes : List ℕ) (IsOne : ℕ → Type 0) : Type 0 where
 abbrev pub MapReadsBack : Type 0
 MapReadsBack = (status : ℕ → RunStatus) (last : ℕ) → last ≤ 4194303 → MakesKnown (map_text status last) (λ n. (n ≤ last) × (status n ≡ Finished))
 
--- the map of wanted blocks is refused for its second line, as blocks to read again
+-- the map of wanted blocks is rejected at its second line, as blocks to read again
 abbrev pub DomainIsRefused : Type 0
 DomainIsRefused = (wanted : List ℕ) (last : ℕ) → outcome (domain_text wanted last) ≡ Err (record { line = 2; fault = NotPass })
 
@@ -70,6 +70,6 @@ IsOutside (pair.Reading e) = ((e.fault ≡ Io) ⊎ (e.fault ≡ OutOfMemory)) ×
 IsOutside (pair.EndsBefore block) = ⊥
 IsOutside pair.OutOfMemory = Unit {0}
 
--- and for nothing in them they are refused
+-- opening the image of a table with its mapfile fails only if a device fails or memory runs out
 abbrev pub ImageIsPair : Type 0
 ImageIsPair = (t : Table) (last : ℕ) (fault : PairFault) → last ≤ 4194303 → IsTable t → PairFails (Some (image_bytes t last)) (Some (map_text (table_status t) last)) fault → IsOutside fault

@@ -12,7 +12,7 @@ use Rattle.udfs_rescue.specs.Lines.{Progress, is_mark, after_text, after_lines, 
 use Rattle.udfs_rescue.specs.Held.{Keeps}
 use Rattle.udfs_rescue.specs.Views.{Refuses}
 
--- what the whole comes to, if these bytes follow, is what the reader stands for
+-- what the reader has taken so far: `says` gives the outcome of the whole, for any bytes that follow
 pub record StandsFor (r : MapReader) (says : List ℕ → Result (List Run) LineFault) : Type 0 where
   pub line : List ℕ
   pub front : r.front.kept.items ≡ take 68 line

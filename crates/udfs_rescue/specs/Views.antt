@@ -1,4 +1,4 @@
--- What the code's values stand for, and what its results say.
+-- What the code's values represent, and what its results say.
 use Rattle.std.specs.Prelude.{◌≡◌, List, Option, None, Some, Result, Ok, Err, min, ◌^◌}
 use Rattle.udfs_rescue.specs.declared.run.Run.{Run}
 use Rattle.udfs_rescue.specs.declared.line.StepError.{StepError}
@@ -24,7 +24,7 @@ abbrev pub Steps : {X : Type 0} → Progress → Result X StepError → Result P
 Steps new (Ok x) says = says ≡ Ok new
 Steps new (Err e) says = StepFails e says
 
--- the bytes are refused with this fault, or memory ran out
+-- the error is the first fault of the bytes, or memory ran out
 abbrev pub Refuses : MapError → Result (List Run) LineFault → Type 0
 Refuses errors.OutOfMemory says = Unit {0}
 Refuses errors.Io says = ⊥
@@ -35,7 +35,7 @@ abbrev pub Parses : Result (List Run) MapError → Result (List Run) LineFault �
 Parses (Ok runs) says = says ≡ Ok runs
 Parses (Err e) says = Refuses e says
 
--- why a map is refused: its device, or its first fault
+-- why reading a map failed: its device failed, it has this first fault, or memory ran out
 abbrev pub ReadFails : MapError → Result (List Run) LineFault → Type 0
 ReadFails errors.Io says = Unit {0}
 ReadFails e says = Refuses e says

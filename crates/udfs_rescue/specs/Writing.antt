@@ -66,7 +66,7 @@ places n = if nat_lt n (2 ^ 32) then 8 else 9
 unfoldable pub position_text : ℕ → List ℕ
 position_text n = (48 ∷ 120 ∷ []) ++ hex_digits (places n) n
 
--- what parts two words of a line
+-- the blanks between two words of a line
 abbrev pub gap : List ℕ
 gap = 32 ∷ 32 ∷ []
 
@@ -86,7 +86,7 @@ made_by = codes "# Mapfile. Created by udfsalvage 0.1.0" ++ 10 ∷ []
 unfoldable pub mark_line : List ℕ
 mark_line = mark ++ 10 ∷ []
 
--- the status line, behind which the runs stand
+-- the status line, which the runs follow
 unfoldable pub status_line : List ℕ
 status_line = codes "0x00000000     +               1" ++ 10 ∷ []
 

@@ -5,10 +5,10 @@ use thiserror::Error;
 /// What is wrong with one line of a mapfile.
 #[derive(Clone, Copy, Debug, PartialEq, Eq, Error)]
 pub enum MapFault {
-    /// The first line with words is no status line.
+    /// The first line that is neither blank nor a comment is not a status line.
     #[error("not a status line")]
     NotStatusLine,
-    /// A later line with words is no run.
+    /// A later line that is neither blank nor a comment is not a run.
     #[error("not a run")]
     NotRun,
     /// A run ends at 2^63 or above, or the position in the status line is 2^63 or above.

@@ -8,7 +8,7 @@ ghost use Rattle.udfs_rescue.specs.Images.{bytes_of_state, blocks_from, image_by
 use udfs_lattice::{BlockTable, Fact};
 use udfs_reading::{Outgoing, Sink, WriteFault};
 
-/// What stands in the place of a block that is not known.
+/// What is written for a block that is not known.
 const ZEROS: [u8; 2048] = [0; 2048];
 
 /// The bytes of one block.

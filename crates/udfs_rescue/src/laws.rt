@@ -8,15 +8,15 @@ pub fn maps_read_back()
     ensures image { ImageMapReadsBack }
 {}
 
-/// The map of wanted blocks is not taken for that of a pass: it is refused for its second line. Without this line it is a mapfile that makes
-/// exactly the blocks known that are wanted.
+/// The map of wanted blocks is not taken for that of a pass: reading it fails with `NotPass` at its second line. Without this line it is a mapfile
+/// that makes exactly the wanted blocks up to the last one known.
 pub fn domains_are_marked()
     ensures refused { DomainIsRefused }
     ensures blocks { DomainReadsBack }
 {}
 
-/// The image of a table and its mapfile, read as a pair, have the table up to the last block, without its conflicts; and they are
-/// never refused for what is in them, but only for a device that fails or where there is no memory.
+/// The image of a table and its mapfile, read as a pair, have the table up to the last block, without its conflicts. Opening them
+/// fails only if a device fails or memory runs out.
 pub fn images_read_back()
     ensures table { ImageReadsBack }
     ensures pair { ImageIsPair }

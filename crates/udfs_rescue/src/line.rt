@@ -59,7 +59,7 @@ impl Model for MapRuns {
     ghost invariant = { λ m. DueAfter m.due m.runs.items };
 }
 
-/// Two or three words; the third is empty where there are two.
+/// The two or three words of a line; the third is empty if there are two. `None` if there are fewer or more.
 fn parts(line: &[u8]) -> Option<(&[u8], &[u8], &[u8])>
     ensures some { IfSome result (λ r. parts (words line.now) ≡ Some (r.0.now, r.1.now, r.2.now)) }
     ensures none { IfNone result (parts (words line.now) ≡ None) }
@@ -79,7 +79,7 @@ fn parts(line: &[u8]) -> Option<(&[u8], &[u8], &[u8])>
     Some((a, b, c))
 }
 
-/// Whether the word is what ddrescue was doing.
+/// Whether the word is the letter of a phase of ddrescue: one of `?`, `*`, `/`, `-`, `F`, `G` and `+`.
 fn is_phase(word: &[u8]) -> bool
     ensures { result ≡ is_phase word.now }
 {
@@ -92,7 +92,7 @@ fn is_phase(word: &[u8]) -> bool
     }
 }
 
-/// The status that a word is.
+/// The status that a word gives: one of `?`, `*`, `/`, `-` and `+`. `None` for any other word.
 fn run_status(word: &[u8]) -> Option<RunStatus>
     ensures { result ≡ run_status word.now }
 {

@@ -26,14 +26,14 @@ pub enum ListError {
     OutOfMemory,
 }
 
-/// The number, where it is that of a block, and else the one behind the last block.
+/// `n` if it is the number of a block, at most 4,194,303; otherwise 4,194,304.
 fn at_most(n: u64) -> u32
     ensures { result ≡ min n 4194304 }
 {
     if n < 4_194_304 { n as u32 } else { 4_194_304 }
 }
 
-/// The number behind one more digit.
+/// The number with one more digit appended, at most 4,194,304; `None` if there was no number or the byte is no digit.
 fn with_digit(number: Option<u32>, byte: u8) -> Option<u32>
     ensures { (line : List ℕ) → number ≡ number_kept (digits_from 10 0 line) → result ≡ number_kept (digits_from 10 0 (line ++ byte ∷ [])) }
 {
@@ -234,14 +234,14 @@ impl Model for BlockList {
 
 impl BlockList {
     /// Reads a list of blocks to the end of the source: decimal numbers up to 4,194,303, one a line. A line ends with LF or
-    /// CR LF, the last one perhaps with the list; behind the last LF there need be no line, so an empty list has no numbers.
-    /// Numbers may come in any order and several times, and may begin with zeros. A number takes 4 bytes, and at most
+    /// CR LF; the last one may end with the source instead. No line needs to follow the last LF, and an empty source has no
+    /// numbers. Numbers may come in any order and several times, and may begin with zeros. A number takes 4 bytes, and at most
     /// three times that while the list grows.
     ///
     /// # Errors
     ///
-    /// `Line` with the first line that is no such number. `Io` exactly where the source failed; the lines that had come
-    /// whole have no fault then. `OutOfMemory` where there is no memory for another number, or where the source has not
+    /// `Line` with the first line that is not such a number. `Io` if and only if the source failed; the complete lines that
+    /// it had given have no fault then. `OutOfMemory` if there is no memory for another number, or if the source has not
     /// ended after 2^64 - 1 reads. After an error the source is read no further.
     pub fn read<R: Source>(alloc: Global, source: &mut R) -> Result<BlockList, ListError>
         // The numbers, or the first fault, are those of the bytes.

@@ -41,7 +41,7 @@ fn table_status(table: &BlockTable, block: u32) -> RunStatus
     }
 }
 
-/// The byte that stands for a status.
+/// The byte of a status in a mapfile.
 fn status_byte(status: RunStatus) -> u8
     ensures { result ≡ status_byte status }
 {
@@ -110,7 +110,7 @@ fn write_run<W: Sink>(out: &mut Outgoing, sink: &mut W, run: Run) -> Result<(), 
     Ok(())
 }
 
-/// Puts the next block behind the run, or writes the run and begins another.
+/// Appends the next block to the run if both have the same status. Otherwise writes the run and begins another with the block.
 fn take_block<W: Sink>(
     out: &mut Outgoing,
     sink: &mut W,
@@ -220,12 +220,12 @@ fn write_map<W: Sink>(blocks: Blocks<'_>, last: u32, sink: &mut W) -> Result<(),
 }
 
 /// Writes the mapfile in which the wanted blocks are `+`, and all others from 0 to `last` are `?`. Its second line is a comment
-/// that marks it as no mapfile of a pass: `Mapfile::read` refuses it. Its runs go from 0 to `2048 * (last + 1)` bytes. The wanted blocks are given in rising order; those above `last` do not show. It takes no
-/// memory.
+/// that marks it as blocks to read again: `Mapfile::read` rejects it with `NotPass` at this line. Its runs go from 0 to
+/// `2048 * (last + 1)` bytes. The wanted blocks are given in rising order; those above `last` are ignored. It allocates no memory.
 ///
 /// # Errors
 ///
-/// `WriteFault` exactly where the sink failed. Then a beginning of the mapfile is out.
+/// `WriteFault` if and only if the sink failed. A prefix of the mapfile has been written then.
 pub fn write_domain<W: Sink>(wanted: &[u32], last: u32, sink: &mut W) -> Result<(), WriteFault>
     requires rises { IsNonDecreasing wanted.now }
     requires last { last ≤ 4194303 }
@@ -239,7 +239,7 @@ pub fn write_domain<W: Sink>(wanted: &[u32], last: u32, sink: &mut W) -> Result<
 ///
 /// # Errors
 ///
-/// `WriteFault` exactly where the sink failed. Then a beginning of the mapfile is out.
+/// `WriteFault` if and only if the sink failed. A prefix of the mapfile has been written then.
 pub fn write_image_map<W: Sink>(
     table: &BlockTable,
     last: u32,

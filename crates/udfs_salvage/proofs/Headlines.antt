@@ -1,9 +1,11 @@
 -- A table has one report, and what is promised holds of it.
 use Rattle.std.proofs.Common.{◌≡◌, refl, sym, ◌∙◌, ap, subst, ℕ, ◌≤◌, List, [], length, map, true, false, Bool, nat_le}
+use Rattle.std.specs.Prelude.{Contains}
 use Rattle.std.proofs.lemmas.Bool.{leb-true, leb-false}
 use Rattle.udfs_volume.specs.declared.profiles.Profile.{Profile}
 use Rattle.udfs_lattice.specs.Tables.{state_of}
-use Rattle.udfs_lattice.specs.Volumes.{Blocks, Volume, Agrees, Includes}
+use Rattle.udfs_lattice.specs.Volumes.{Blocks, Volume, Agrees}
+use Rattle.udfs_lattice.proofs.Inclusion.{in_nothing}
 use Rattle.udfs_osta.specs.Escapes.{escaped}
 use Rattle.udfs_osta.specs.Parts.{IsPathPart}
 use Rattle.udfs_volume.specs.Answers.{Answer, found, holes, faulty}
@@ -48,10 +50,10 @@ pub one_text : (P : Profile) → OneTextBy P
 one_text P table N r s x y = ap (report_text_by P table N) (one_report P (state_of table) N r s x y)
 
 -- ---- paths
-parts_by : (M : Blocks) (told : Answer Found) (r : Report) → ReportsBy M told r → (n : NodeFields) → Includes r.nodes n → (part : List ℕ) → Includes n.path part → IsPathPart (escaped part)
+parts_by : (M : Blocks) (told : Answer Found) (r : Report) → ReportsBy M told r → (n : NodeFields) → Contains r.nodes n → (part : List ℕ) → Contains n.path part → IsPathPart (escaped part)
 parts_by M (found f) r x n i part j = paths_have_parts (view M f.space) f.root r.nodes x.nodes_are n i part j
-parts_by M (holes listed) r x n i part j = absurd (subst (λ z. Includes z n) x.no_nodes i)
-parts_by M (faulty fault) r x n i part j = absurd (subst (λ z. Includes z n) x.no_nodes i)
+parts_by M (holes listed) r x n i part j = in_nothing n (subst (λ z. Contains z n) x.no_nodes i)
+parts_by M (faulty fault) r x n i part j = in_nothing n (subst (λ z. Contains z n) x.no_nodes i)
 
 pub reports_keep_it : (P : Profile) → ReportsKeepItBy P
 reports_keep_it P M N r x = record {

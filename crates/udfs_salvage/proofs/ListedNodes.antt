@@ -12,7 +12,8 @@ use Rattle.udfs_walk.specs.declared.answers.Unnamed.{Unnamed}
 use Rattle.udfs_salvage.specs.Found.{Found}
 use Rattle.udfs_salvage.specs.Extraction.{is_offered}
 use Rattle.udfs_salvage.specs.Listings.{full_entry_in, full_in, standing_in}
-use Rattle.udfs_salvage.specs.Reports.{all_whole, is_whole}
+use Rattle.udfs_salvage.specs.Reports.{all_whole}
+use Rattle.udfs_walk.specs.Unsettled.{is_whole}
 use Rattle.udfs_salvage.specs.UnnamedExtraction.{is_file, is_lost_file}
 use Rattle.udfs_salvage.specs.declared.extraction.Fill.{Fill}
 use Rattle.std.specs.Prelude.{nat_lt, ◌&&◌}

@@ -37,7 +37,7 @@ pub record ReadAs (P : Profile) (V : Volume) (N : ℕ) (f : Found) : Type 0 wher
 pub open_as : (P : Profile) (V : Volume) (N : ℕ) (lawful : IsLawfulVolumeBy P V N) → ReadAs P V N lawful.found_is
 open_as P V N lawful = record {
   opened = opened;
-  is_opened = record { anchor = std.0; is_anchor = std.1; layout_is = std.2 ∙ by.layout_is; block = there.reads.block; no_block = there.reads.no_block; tail = sym (ap (λ s. s.takes_tail) there.space_is); root_is = set.reads };
+  is_opened = record { anchor = std.0; is_anchor = std.1; layout_is = std.2 ∙ by.layout_is; reads = there.reads; tail = sym (ap (λ s. s.takes_tail) there.space_is); root_is = set.reads };
   is_found = λ i. record { layout = f.layout; space = there.space_is i; root = f.root };
   is_whole = is_whole;
   only = only;
@@ -84,14 +84,11 @@ open_as P V N lawful = record {
         layout : other.layout ≡ f.layout
         layout = found_same other.layout f.layout (sym o.layout_is ∙ ap (standard_layout_by P V N) (some_same o.anchor std.0 (sym o.is_anchor ∙ std.1)) ∙ std.2 ∙ by.layout_is)
 
-        are : AreBlocksOf V (standard_space V other.layout) other.blocks.at
-        are = record { block = o.block; no_block = o.no_block }
-
         tail_same : other.blocks.takes_tail ≡ f.space.takes_tail
         tail_same = o.tail ∙ ap (λ l. l.takes_tail) layout ∙ ap (λ s. s.takes_tail) there.space_is
 
         same : other.blocks ≡ blocks
-        same = λ i. record { at = there.only other.blocks.at (subst (λ z. AreBlocksOf V (standard_space V z) other.blocks.at) layout are) i; takes_tail = tail_same i }
+        same = λ i. record { at = there.only other.blocks.at (subst (λ z. AreBlocksOf V (standard_space V z) other.blocks.at) layout o.reads) i; takes_tail = tail_same i }
 
         set_is : IsFileSetAt blocks f.layout.file_set other.root
         set_is = subst (λ z. IsFileSetAt blocks z.file_set other.root) layout (subst (λ z. IsFileSetAt z other.layout.file_set other.root) same o.root_is)

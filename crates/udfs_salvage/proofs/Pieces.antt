@@ -1,6 +1,6 @@
 -- Bytes that are taken to be written piece by piece.
 --     Taken old new held still all rest     of all these bytes the rest is left
-use Rattle.std.proofs.Common.{◌≡◌, sym, ◌∙◌, ap, subst, ℕ, ◌+◌, ◌-◌, ◌≤◌, List, [], ◌++◌, length, drop, take, append_assoc, append-nil, arith, replicate, slice_range, Option}
+use Rattle.std.proofs.Common.{◌≡◌, sym, ◌∙◌, ap, subst, ℕ, ◌+◌, ◌-◌, ◌≤◌, List, [], ◌++◌, length, drop, take, append_assoc, append-nil, arith, replicate, slice_range}
 use Rattle.std.proofs.lemmas.List.{drop-drop, drop-take, drop_all, replicate-append-replicate, take-append-drop}
 use Rattle.std.proofs.lemmas.Slice.{between_is}
 use Rattle.udfs_file.specs.Portions.{IsFirst, portion_count}

@@ -1,8 +1,10 @@
 -- What a report says of a lawful volume where more of it is known, and what is listed to be read again.
 use Rattle.std.proofs.Common.{◌≡◌, ◌≢◌, refl, sym, ◌∙◌, ap, subst, inl, inr, ◌⊎◌, ℕ, false, List, []}
+use Rattle.std.specs.Prelude.{Contains}
 use Rattle.udfs_volume.specs.declared.profiles.Profile.{Profile}
 use Rattle.udfs_lattice.specs.States.{State, IsBelow, is_known, join_of}
-use Rattle.udfs_lattice.specs.Volumes.{Blocks, Includes, Volume, Agrees, complete, IsUnread}
+use Rattle.udfs_lattice.specs.Volumes.{Blocks, Volume, Agrees, complete, IsUnread}
+use Rattle.udfs_lattice.proofs.Inclusion.{in_nothing}
 use Rattle.udfs_lattice.specs.declared.facts.Fact.{Fact}
 use Rattle.udfs_lattice.specs.declared.facts.Fact.TheVariants.{Unknown, Known, Conflict}
 use Rattle.udfs_lattice.proofs.PublicLaws.{complete_agrees}
@@ -160,10 +162,10 @@ whole_and_met P T V N l a report r path file w = go (open_or_shut P T V N l a re
 
 -- ---- the list of blocks to read again
 -- each group of the volume has a block
-group_has : (P : Profile) (V : Volume) (N : ℕ) (l : IsLawfulBy P V N) (g : List ℕ) → IsVolumeGroup V N l.is_volume.found_is g → (n : ℕ) × Includes g n
+group_has : (P : Profile) (V : Volume) (N : ℕ) (l : IsLawfulBy P V N) (g : List ℕ) → IsVolumeGroup V N l.is_volume.found_is g → (n : ℕ) × Contains g n
 group_has P V N l g i = go (volume_law P (complete V N) V N l.is_volume (complete_agrees V N))
   where
-    go : IsAnswerOf (complete V N) (valid_anchors V N) (anchor_places N) (IsVolumeGroup V N l.is_volume.found_is) (volume_by P (complete V N) N) (volume_by P (complete V N) N) → (n : ℕ) × Includes g n
+    go : IsAnswerOf (complete V N) (valid_anchors V N) (anchor_places N) (IsVolumeGroup V N l.is_volume.found_is) (volume_by P (complete V N) N) (volume_by P (complete V N) N) → (n : ℕ) × Contains g n
     go (the_same e k) = ((k g i).0, (k g i).1)
     go (unread_answer listed e x) = absurd (let t : holes listed ≡ found l.is_volume.found_is = sym e ∙ l.is_volume.finds in let z : ⊥ = cc in z)
 
@@ -172,7 +174,7 @@ record IsRightList (P : Profile) (T : Blocks) (V : Volume) (N : ℕ) (report : R
   none_if : report.reread ≡ [] → (path : List (List ℕ)) (file : TreeFile) → IsInVolumeBy P V N path file → IsReportedWhole T report path file
   none_only_if : ((path : List (List ℕ)) (file : TreeFile) → IsInVolumeBy P V N path file → IsReportedWhole T report path file) → report.reread ≡ []
   not_known : IsUnread T report.reread
-  each : (n : ℕ) → Includes report.reread n → IsWantedBlock P T V N n ⊎ (Includes (anchor_places N) n × IsUnread T (valid_anchors V N))
+  each : (n : ℕ) → Contains report.reread n → IsWantedBlock P T V N n ⊎ (Contains (anchor_places N) n × IsUnread T (valid_anchors V N))
   whole_or_held : (path : List (List ℕ)) (file : TreeFile) → IsInVolumeBy P V N path file → IsReportedWhole T report path file ⊎ HoldsWantedIn P T V N path report.reread
 
 -- of a volume that opens
@@ -182,7 +184,7 @@ open_list P T V N l a report e are again = record {
   none_if = λ none path file t. (f, e, w.none.0 (sym again ∙ none) path file (tree_down P V N l path file t));
   none_only_if = λ h. again ∙ w.none.1 (λ path file t. listed_whole T report f path file e (h path file (tree_up P V N l path file t)));
   not_known = subst (IsUnread T) (sym again) w.not_known;
-  each = λ n i. inl (by_block n (w.each n (subst (λ z. Includes z n) again i)));
+  each = λ n i. inl (by_block n (w.each n (subst (λ z. Contains z n) again i)));
   whole_or_held = λ path file t. by_path path file (w.whole_or_held path file (tree_down P V N l path file t));
 }
   where
@@ -193,31 +195,31 @@ open_list P T V N l a report e are again = record {
     w = missing_is_wanted (part_of P T V N l) (all_of P V N l) (blocks_of P V N l) (part_is P T V N l a) (read_as P V N l).is_whole f.root (lawful_tree P V N l) report.nodes are
 
     by_block : (n : ℕ) → (path : List (List ℕ)) × (file : TreeFile) × (group : List ℕ) × InTree (blocks_of P V N l) f.root path file
-        × known.IsWanted (part_of P T V N l) (all_of P V N l) (blocks_of P V N l) f.root path group × Includes group n → IsWantedBlock P T V N n
+        × known.IsWanted (part_of P T V N l) (all_of P V N l) (blocks_of P V N l) f.root path group × Contains group n → IsWantedBlock P T V N n
     by_block n (path, file, g, t, (needs, u), i) = (path, file, g, tree_up P V N l path file t, (node_up P V N l path g needs, u), i)
 
     by_path : (path : List (List ℕ)) (file : TreeFile) → IsListedWhole (part_of P T V N l) f.root report.nodes path file ⊎ known.HoldsWanted (part_of P T V N l) (all_of P V N l) (blocks_of P V N l) f.root path (reread report.nodes)
         → IsReportedWhole T report path file ⊎ HoldsWantedIn P T V N path report.reread
     by_path path file (inl x) = inl (f, e, x)
-    by_path path file (inr (g, (needs, u), h)) = inr (g, (node_up P V N l path g needs, u), λ n i. subst (λ z. Includes z n) (sym again) (h n i))
+    by_path path file (inr (g, (needs, u), h)) = inr (g, (node_up P V N l path g needs, u), λ n i. subst (λ z. Contains z n) (sym again) (h n i))
 
 -- of one that does not
 shut_list : (P : Profile) (T : Blocks) (V : Volume) (N : ℕ) (l : IsLawfulBy P V N) (report : Report) (listed : List ℕ) → report.volume ≡ holes listed → report.reread ≡ listed
     → ListsGroup T (valid_anchors V N) (anchor_places N) (IsVolumeGroup V N l.is_volume.found_is) listed → IsRightList P T V N report
 shut_list P T V N l report listed e again x = record {
-  none_if = λ none path file t. absurd (let h : (n : ℕ) × Includes x.group n = group_has P V N l x.group x.is_group in
-      subst (λ z. Includes z h.0) (sym again ∙ none) (x.holds h.0 h.1));
+  none_if = λ none path file t. let h : (n : ℕ) × Contains x.group n = group_has P V N l x.group x.is_group in
+      in_nothing h.0 (subst (λ z. Contains z h.0) (sym again ∙ none) (x.holds h.0 h.1));
   none_only_if = λ h. shut_has_none T report listed [] root.0 e (h [] root.0 root.1);
   not_known = subst (IsUnread T) (sym again) x.not_known;
-  each = λ n i. by n (x.each n (subst (λ z. Includes z n) again i));
-  whole_or_held = λ path file t. inr (x.group, (volume_up P V N l path x.group x.is_group, x.unread), λ n i. subst (λ z. Includes z n) (sym again) (x.holds n i));
+  each = λ n i. by n (x.each n (subst (λ z. Contains z n) again i));
+  whole_or_held = λ path file t. inr (x.group, (volume_up P V N l path x.group x.is_group, x.unread), λ n i. subst (λ z. Contains z n) (sym again) (x.holds n i));
 }
   where
     root : (file : TreeFile) × IsInVolumeBy P V N [] file
     root = root_in_tree P V N l
 
-    by : (n : ℕ) → ((g : List ℕ) × IsVolumeGroup V N l.is_volume.found_is g × IsUnread T g × Includes g n) ⊎ (Includes (anchor_places N) n × IsUnread T (valid_anchors V N))
-        → IsWantedBlock P T V N n ⊎ (Includes (anchor_places N) n × IsUnread T (valid_anchors V N))
+    by : (n : ℕ) → ((g : List ℕ) × IsVolumeGroup V N l.is_volume.found_is g × IsUnread T g × Contains g n) ⊎ (Contains (anchor_places N) n × IsUnread T (valid_anchors V N))
+        → IsWantedBlock P T V N n ⊎ (Contains (anchor_places N) n × IsUnread T (valid_anchors V N))
     by n (inl (g, is, u, i)) = inl ([], root.0, g, root.1, (volume_up P V N l [] g is, u), i)
     by n (inr k) = inr k
 

@@ -14,7 +14,8 @@ use Rattle.udfs_walk.specs.TornFields.{TornFields}
 use Rattle.udfs_walk.specs.declared.standings.Standing.{Standing}
 use Rattle.udfs_walk.specs.declared.standings.Standing.TheVariants.{Whole, Torn, Loop, Fault}
 use Rattle.udfs_salvage.specs.Found.{Found, volume_by}
-use Rattle.udfs_salvage.specs.Reports.{IsLookRefused, MayWantMemoryBy, all_whole, is_whole}
+use Rattle.udfs_salvage.specs.Reports.{IsLookRefused, MayWantMemoryBy, all_whole}
+use Rattle.udfs_walk.specs.Unsettled.{is_whole}
 use Rattle.udfs_salvage.specs.Surveys.{IsVolumeFound, full_nodes}
 use Rattle.udfs_salvage.specs.declared.errors.SalvageError.{SalvageError}
 use Rattle.udfs_salvage.specs.declared.errors.SalvageError.TheVariants as errors

@@ -41,7 +41,7 @@ as_tree P M N index cs f e h = subst (λ (g : Found). HasCellsAt (view M g.space
 
 -- what holds of the cells that are written holds of the file's bytes
 pub writes_file : (P : Profile) (M : Blocks) (N index : ℕ) (report : Report) (fill : ℕ) (Writes : List ℕ → Type 0) → IsReportBy P M N report → (n : NodeFields) → slice_get report.nodes index ≡ Some n → n.standing ≡ Whole
-    → ((cs : List Cell) × HasCellsInBy P M N index cs × Writes (filled fill cs)) → WritesFileBy P M N report index n Writes
+    → ((cs : List Cell) × HasCellsInBy P M N index cs × Writes (filled fill cs)) → WritesFileBy P M N n Writes
 writes_file P M N index report fill Writes is n at whole w V lawful agrees = (y.file, y.in_volume, told.2.told, subst Writes (all_there fill cs y.file.body bytes) w.2)
   where
     y : IsNodeOfVolume P M V N report.volume index n

@@ -4,7 +4,8 @@ use Rattle.std.specs.Prelude.{slice_get, filter_map, flat_map, cond, nat_lt, ◌
 use Rattle.std.specs.List.{cons_option, range_with_len, list_any}
 use Rattle.std.proofs.lemmas.Bool.{cases_Bool}
 use Rattle.std.proofs.lemmas.Option.{get_or_from_slice_get}
-use Rattle.udfs_lattice.specs.Volumes.{Blocks, Includes, ascending}
+use Rattle.udfs_lattice.specs.Volumes.{Blocks, ascending}
+use Rattle.udfs_lattice.proofs.Inclusion.{Includes}
 use Rattle.udfs_lattice.proofs.PublicLaws.{ascending_includes}
 use Rattle.udfs_volume.specs.Answers.{found}
 use Rattle.udfs_volume.specs.declared.profiles.Profile.{Profile}
@@ -23,7 +24,8 @@ use Rattle.udfs_walk.specs.declared.answers.Unnamed.{Unnamed}
 use Rattle.udfs_walk.specs.declared.standings.Standing.{Standing}
 use Rattle.udfs_walk.specs.declared.standings.Standing.TheVariants.{Whole, Torn, Loop, Fault}
 use Rattle.udfs_salvage.specs.Found.{Found}
-use Rattle.udfs_salvage.specs.Reports.{Report, IsReportBy, ReportsBy, ReportsNodes, is_whole}
+use Rattle.udfs_salvage.specs.Reports.{Report, IsReportBy, ReportsBy, ReportsNodes}
+use Rattle.udfs_walk.specs.Unsettled.{is_whole}
 use Rattle.udfs_salvage.specs.UnnamedExtraction.{HasUnnamedCellsBy, is_file, is_lost_file}
 
 -- ---- elements of lists that are put together

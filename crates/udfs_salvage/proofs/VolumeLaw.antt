@@ -1,8 +1,10 @@
 -- Over a table that agrees with a lawful volume, what is found is the volume's, or a group of blocks is unread.
 use Rattle.std.proofs.Common.{◌≡◌, refl, sym, ◌∙◌, ap, subst, inl, inr, ◌⊎◌, ℕ, false, List, [], ◌∷◌, Some}
+use Rattle.std.specs.Prelude.{Contains}
 use Rattle.udfs_volume.specs.declared.profiles.Profile.{Profile}
 use Rattle.udfs_lattice.specs.States.{is_known}
-use Rattle.udfs_lattice.specs.Volumes.{Blocks, Includes, Volume, complete, IsKnownAt, IsUnread}
+use Rattle.udfs_lattice.specs.Volumes.{Blocks, Volume, complete, IsKnownAt, IsUnread}
+use Rattle.udfs_lattice.proofs.Inclusion.{here, here_or_there, in_nothing}
 use Rattle.udfs_tag.specs.declared.layouts.LongAd.{LongAd}
 use Rattle.udfs_volume.specs.Answers.{Answer, found, holes, faulty, and_then}
 use Rattle.udfs_volume.specs.declared.faults.VolumeFault.{VolumeFault}
@@ -23,22 +25,22 @@ use Rattle.udfs_salvage.proofs.Founds.{found_same, known_at}
 use Rattle.udfs_salvage.proofs.Opens.{FoundBy, found_by}
 
 abbrev IsHere : Blocks → List ℕ → Type 0
-IsHere M group = (n : ℕ) × Includes group n × IsKnownAt M n
+IsHere M group = (n : ℕ) × Contains group n × IsKnownAt M n
 
 -- what holds of some groups holds of more
 more_groups : (M : Blocks) (av ps : List ℕ) (G H : List ℕ → Type 0) (listed : List ℕ) → ((g : List ℕ) → G g → H g) → ListsGroup M av ps G listed → ListsGroup M av ps H listed
 more_groups M av ps G H listed f x = record { group = x.group; is_group = f x.group x.is_group; unread = x.unread; holds = x.holds; not_known = x.not_known; each = λ n i. go n (x.each n i) }
   where
-    go : (n : ℕ) → ((g : List ℕ) × G g × IsUnread M g × Includes g n) ⊎ (Includes ps n × IsUnread M av) → ((g : List ℕ) × H g × IsUnread M g × Includes g n) ⊎ (Includes ps n × IsUnread M av)
+    go : (n : ℕ) → ((g : List ℕ) × G g × IsUnread M g × Contains g n) ⊎ (Contains ps n × IsUnread M av) → ((g : List ℕ) × H g × IsUnread M g × Contains g n) ⊎ (Contains ps n × IsUnread M av)
     go n (inl w) = inl (w.0, f w.0 w.1, w.2, w.3)
     go n (inr w) = inr w
 
 no_places : (M : Blocks) (av ps : List ℕ) (G : List ℕ → Type 0) (listed : List ℕ) → ListsGroup M [] [] G listed → ListsGroup M av ps G listed
 no_places M av ps G listed x = record { group = x.group; is_group = x.is_group; unread = x.unread; holds = x.holds; not_known = x.not_known; each = λ n i. go n (x.each n i) }
   where
-    go : (n : ℕ) → ((g : List ℕ) × G g × IsUnread M g × Includes g n) ⊎ (⊥ × IsUnread M []) → ((g : List ℕ) × G g × IsUnread M g × Includes g n) ⊎ (Includes ps n × IsUnread M av)
+    go : (n : ℕ) → ((g : List ℕ) × G g × IsUnread M g × Contains g n) ⊎ (Contains [] n × IsUnread M []) → ((g : List ℕ) × G g × IsUnread M g × Contains g n) ⊎ (Contains ps n × IsUnread M av)
     go n (inl w) = inl w
-    go n (inr w) = absurd w.0
+    go n (inr w) = in_nothing n w.0
 
 pub volume_law : (P : Profile) → VolumeLaw P
 unfolding volume_by
@@ -79,7 +81,7 @@ volume_law P M V N lawful a = by_layout (layout_of_lawful_by P M V N lawful.volu
     with_root x = and_then x (λ root. found (record { layout = l; space = f.space; root = root }))
 
     single : (g : List ℕ) → (m : ℕ) × (place f.space l.file_set.reference l.file_set.block ≡ Some m) × (g ≡ m ∷ []) → IsKnownAt M n → IsHere M g
-    single g (m, p, q) k = subst (IsHere M) (sym q) (m, inl refl, subst (IsKnownAt M) (some_same n m (sym set.1 ∙ p)) k)
+    single g (m, p, q) k = subst (IsHere M) (sym q) (m, here m [], subst (IsKnownAt M) (some_same n m (sym set.1 ∙ p)) k)
       where
         some_same : (x y : ℕ) → Some x ≡ Some y → x ≡ y
         some_same x y e = cc
@@ -103,8 +105,11 @@ volume_law P M V N lawful a = by_layout (layout_of_lawful_by P M V N lawful.volu
         is_root = inr (inr (n, set.1, refl))
 
         none : IsUnread M (n ∷ [])
-        none m (inl p) = subst (λ x. is_known (M x) ≡ false) p u
-        none m (inr x) = absurd x
+        none m i = either (here_or_there n [] m i)
+          where
+            either : (n ≡ m) ⊎ Contains [] m → is_known (M m) ≡ false
+            either (inl p) = subst (λ x. is_known (M x) ≡ false) p u
+            either (inr x) = in_nothing m x
 
     by_root : layout_by P M N ≡ layout_by P C N → space M l ≡ space C l → ((g : List ℕ) → IsSequenceGroup V N g → IsHere M g) → ((g : List ℕ) → IsSparingGroup l.partitions g → IsHere M g)
         → IsPartialFileSet (view M f.space) n l.file_set f.root → Result

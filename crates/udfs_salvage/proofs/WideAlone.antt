@@ -1,8 +1,9 @@
 -- The sample volume of revision 2.00 is lawful by the wide rules, and not by the strict ones.
 use Rattle.std.proofs.Common.{◌≡◌, refl, sym, ◌∙◌, ap, subst, inl, inr, ◌⊎◌, ℕ, ◌+◌, ◌-◌, ◌≤◌, true, List, [], ◌∷◌, Some, cond, arith, nat_eq}
-use Rattle.std.specs.Prelude.{zero, suc}
+use Rattle.std.specs.Prelude.{zero, suc, Contains}
 use Rattle.std.proofs.lemmas.Bool.{ne_eqb}
-use Rattle.udfs_lattice.specs.Volumes.{Includes, Volume, complete}
+use Rattle.udfs_lattice.specs.Volumes.{Volume, complete}
+use Rattle.udfs_lattice.proofs.Inclusion.{Includes, included, in_nothing}
 use Rattle.udfs_tag.specs.Crc.{polynomial, reduced, crc_of}
 use Rattle.udfs_tag.specs.Tags.{tag_of}
 use Rattle.udfs_volume.specs.declared.profiles.Profile.TheVariants.{Strict, Wide}
@@ -74,7 +75,7 @@ is_volume = record {
   found_is = second_found;
   finds = finds;
   layout = revised_is_lawful contents;
-  sparing = record { tables = no_tables; placed = (second_space, space_is) };
+  sparing = record { tables = λ p i. no_tables p (included revised_layout.partitions p i); placed = (second_space, space_is) };
 }
 
 -- ---- what the standard opens: the same blocks as in the sample of revision 1.50
@@ -100,7 +101,7 @@ stands_behind zero b n (span, at, (inside, how)) = go (some_same it span at) how
     it = record { start = 272; size = 300; packet = 1; spared = [] }
 
     go : it ≡ span → ((e : SparingEntry) × IsSparedBy span b e × (n ≡ e.mapped + (b - e.original))) ⊎ (((e : SparingEntry) → ¬ IsSparedBy span b e) × (n ≡ span.start + b)) → 272 ≤ n
-    go q (inl (e, by, to)) = absurd (subst (λ z. Includes z.spared e) (sym q) by.0)
+    go q (inl (e, by, to)) = in_nothing e (subst (λ z. Contains z.spared e) (sym q) by.0)
     go q (inr (none, to)) = let s : 272 ≡ span.start = ap (λ z. z.start) q in omega (arith, s, to)
 stands_behind (suc r) b n (span, at, stands) = absurd (let z : ⊥ = cc in z)
 
@@ -112,8 +113,10 @@ opened_alike o h = record {
   anchor = 256;
   is_anchor = revised_anchor contents;
   layout_is = revised_standard contents;
-  block = λ r b n s. h.block r b n (subst (λ l. StandsIn (standard_space first l) r b n) (sym is) s) ∙ ap Some (same_block n (stands_behind r b n s));
-  no_block = λ r b none. h.no_block r b (λ n s. none n (subst (λ l. StandsIn (standard_space first l) r b n) is s));
+  reads = record {
+    block = λ r b n s. h.reads.block r b n (subst (λ l. StandsIn (standard_space first l) r b n) (sym is) s) ∙ ap Some (same_block n (stands_behind r b n s));
+    no_block = λ r b none. h.reads.no_block r b (λ n s. none n (subst (λ l. StandsIn (standard_space first l) r b n) is s));
+  };
   tail = h.tail ∙ ap (λ l. l.takes_tail) is;
   root_is = subst (λ l. IsFileSetAt o.blocks l.file_set o.root) is h.root_is;
 }

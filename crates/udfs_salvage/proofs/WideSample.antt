@@ -1,12 +1,13 @@
 -- The layout of the sample volume with a map of type 1, of revision 2.00: the wide rules take it, and the strict ones refuse it.
 use Rattle.std.proofs.Common.{◌≡◌, ◌≢◌, refl, sym, ◌∙◌, ap, subst, inl, inr, ℕ, ◌+◌, ◌<◌, ◌≤◌, Bool, true, false, List, [], ◌∷◌, length, Some, cond, arith, nat_lt, nat_eq}
-use Rattle.std.specs.Prelude.{zero, suc}
+use Rattle.std.specs.Prelude.{zero, suc, Contains}
 use Rattle.std.specs.List.{list_all}
 use Rattle.std.proofs.lemmas.Bool.{leb-true}
 use Rattle.std.proofs.lemmas.List.Sums.{AllPass-from_list_all}
 use Rattle.std.proofs.lemmas.List.Elements.{All-weaker}
 use Rattle.udfs_lattice.specs.States.{IsBlock}
-use Rattle.udfs_lattice.specs.Volumes.{Includes, IsVolume, Volume, complete}
+use Rattle.udfs_lattice.specs.Volumes.{IsVolume, Volume, complete}
+use Rattle.udfs_lattice.proofs.Inclusion.{Includes, included}
 use Rattle.udfs_tag.specs.Crc.{polynomial, reduced, crc_of}
 use Rattle.udfs_tag.specs.Fields.{part}
 use Rattle.udfs_tag.specs.Tags.{tag_of}
@@ -99,7 +100,7 @@ revised_is_refused contents = refl
 pub revised_is_lawful : (contents : ℕ → Bytes) → IsLawfulLayoutBy Wide (revised contents) 600
 revised_is_lawful contents = record {
   anchored = λ e. none 256 (600 ∷ []) (sym (anchors_are contents) ∙ e);
-  anchors = λ a b i j. same_anchors contents a b (subst (λ z. Includes z a) (anchors_are contents) i) (subst (λ z. Includes z b) (anchors_are contents) j);
+  anchors = λ a b i j. same_anchors contents a b (included (256 ∷ 600 ∷ []) a (subst (λ z. Contains z a) (anchors_are contents) i)) (included (256 ∷ 600 ∷ []) b (subst (λ z. Contains z b) (anchors_are contents) j));
   copies = λ e i q h. copies e i (found_same extents e (sym (anchor_is contents) ∙ q)) h;
   laid_out = (revised_layout, revised_layout_is contents);
 }

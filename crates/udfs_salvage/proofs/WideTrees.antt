@@ -1,7 +1,6 @@
 -- Where no tail is taken and a tree is lawful, it is lawful where tails are taken too, and has the same files.
 use Rattle.std.proofs.Common.{◌≡◌, ◌≢◌, refl, sym, ◌∙◌, ap, subst, ℕ, Bool, true, false, List, [], ◌∷◌, ◌++◌, cond, ◌||◌, Option, Some, None, slice_get}
-use Rattle.std.specs.Prelude.{AllPairs, IsSome}
-use Rattle.udfs_lattice.specs.Volumes.{Includes}
+use Rattle.std.specs.Prelude.{AllPairs, Contains, IsSome}
 use Rattle.udfs_tag.specs.declared.layouts.LongAd.{LongAd}
 use Rattle.udfs_volume.specs.Sequence.{Bytes}
 use Rattle.udfs_space.specs.Places.{View}
@@ -160,7 +159,7 @@ one_file_there v at c has a file other h k = λ i. record { fields = fields i; b
     body_same : file.body ≡ other.body
     body_same = read.only file.body (subst (λ e. IsBodyOf (read_with true at) a.reference a.block e file.body) fields h.body) ∙ sym (read.only other.body k.body)
 
-leads_further : (blocks : PartitionBlocks) (path : List (List ℕ)) (a b : LongAd) (ids : List Identifier) (d : DirEntry) → Leads blocks a path b → IsDirectoryAt blocks b ids → Includes (listed_entries ids) d
+leads_further : (blocks : PartitionBlocks) (path : List (List ℕ)) (a b : LongAd) (ids : List Identifier) (d : DirEntry) → Leads blocks a path b → IsDirectoryAt blocks b ids → Contains (listed_entries ids) d
     → Leads blocks a (path ++ d.name ∷ []) d.icb
 leads_further blocks [] a b ids d h there among = (ids, d, subst (λ z. IsDirectoryAt blocks z ids) (sym h) there, among, refl, refl)
 leads_further blocks (name ∷ names) a b ids d (first, e, at_first, in_first, named, more) there among =

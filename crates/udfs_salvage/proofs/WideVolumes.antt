@@ -106,8 +106,7 @@ opened_kept V N o h = (
     anchor = h.anchor;
     is_anchor = h.is_anchor;
     layout_is = k.0;
-    block = h.block;
-    no_block = h.no_block;
+    reads = record { block = h.reads.block; no_block = h.reads.no_block };
     tail = refl;
     root_is = record { recorded = h.root_is.recorded; not_empty = h.root_is.not_empty; bytes = h.root_is.bytes; block = h.root_is.block; valid = h.root_is.valid; is = h.root_is.is };
   },

@@ -49,7 +49,7 @@ cell_byte fill (cell.Gap n) = fill
 unfoldable pub filled : ℕ → List Cell → List ℕ
 filled fill cs = map (cell_byte fill) cs
 
--- the cells of the body that stands at the end of the route with this index, in the order of words
+-- the cells of the body at the end of the route with this index, the routes in lexicographic order
 pub record HasCellsInBy (profile : Profile) (blocks : Blocks) (last index : ℕ) (cs : List Cell) : Type 0 where
   pub opened : Found
   pub opens : volume_by profile blocks last ≡ found opened

@@ -5,11 +5,11 @@
 --     OneReportBy, SomeReportBy        a table has at most one report; one that agrees with a lawful volume has one
 --     OneTextBy                        and at most one text
 -- The same names without By are these by the strict rules.
-use Rattle.std.specs.Prelude.{◌≡◌, ℕ, List}
+use Rattle.std.specs.Prelude.{◌≡◌, ℕ, List, Contains}
 use Rattle.udfs_volume.specs.declared.profiles.Profile.{Profile}
 use Rattle.udfs_volume.specs.declared.profiles.Profile.TheVariants.{Strict}
 use Rattle.udfs_lattice.specs.Tables.{Table, state_of}
-use Rattle.udfs_lattice.specs.Volumes.{Blocks, Volume, Agrees, Includes}
+use Rattle.udfs_lattice.specs.Volumes.{Blocks, Volume, Agrees}
 use Rattle.udfs_osta.specs.Escapes.{escaped}
 use Rattle.udfs_osta.specs.Parts.{IsPathPart}
 use Rattle.udfs_walk.specs.NodeFields.{NodeFields}
@@ -26,7 +26,7 @@ pub record HeadlineBy (profile : Profile) (blocks : Blocks) (last : ℕ) (report
   pub report_is : IsReportBy profile blocks last report
   pub only : (other : Report) → IsReportBy profile blocks last other → other ≡ report
   -- Each part of each node's path, in its escaped form, is not empty, not `.` or `..`, and has no `/` and no control.
-  pub parts : (n : NodeFields) → Includes report.nodes n → (part : List ℕ) → Includes n.path part → IsPathPart (escaped part)
+  pub parts : (n : NodeFields) → Contains report.nodes n → (part : List ℕ) → Contains n.path part → IsPathPart (escaped part)
   -- The rest is said of each lawful volume with which the table agrees.
   -- The volume that is found is that one, or all blocks of a needed group of which none is known are named.
   pub volume : TellsLawfulBy profile blocks last report.volume

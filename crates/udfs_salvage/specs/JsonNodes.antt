@@ -1,4 +1,4 @@
--- The JSON of nodes, and of entries that no name leads to. Keys stand in byte order.
+-- The JSON of nodes, and of entries that no name leads to. Keys are in byte order.
 --     node_data n              a node
 --     unnamed_data two u       an entry that no name leads to
 use Rattle.std.specs.Prelude.{ℕ, Bool, true, false, List, map, codes, Option, Some, None}
@@ -59,7 +59,7 @@ node_data n = object (
     (member (codes "standing") (string (standing_name n.standing))
     no_members))))))))
 
--- behind the keys before it: the partition reference where there are two partitions
+-- these members, after the partition reference where there are two partitions
 abbrev pub with_reference : Bool → ℕ → Members → Members
 with_reference true r ms = member (codes "reference") (count r) ms
 with_reference false r ms = ms

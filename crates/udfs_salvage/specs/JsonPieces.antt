@@ -1,5 +1,5 @@
 -- The pieces in which the JSON of a report is written. Only private contracts cite these.
---     more_values f xs      values behind others, each behind its comma
+--     more_values f xs      further values, each after a comma
 use Rattle.std.specs.Prelude.{ℕ, Bool, true, false, List, [], ◌∷◌, ◌++◌, codes, flat_map, Option, Some}
 use Rattle.serde_json.specs.Data.{Data, boolean, string}
 use Rattle.serde_json.specs.Written.{compact_text}
@@ -17,7 +17,7 @@ use Rattle.udfs_walk.specs.Rereads.{holes_of, missing_of}
 use Rattle.udfs_salvage.specs.JsonNodes.{count, hole_data, list_data, size_data, time_data}
 use Rattle.udfs_salvage.specs.JsonReports.{label_data_of, volume_data}
 
--- values behind others, each behind its comma
+-- further values, each after a comma
 abbrev pub more_values : {A : Type 0} → (A → Data) → List A → List ℕ
 more_values f xs = flat_map (λ x. 44 ∷ compact_text (f x)) xs
 
@@ -29,7 +29,7 @@ node_front hidden = codes "{\"hidden\":" ++ (compact_text (boolean hidden) ++ co
 unfoldable pub entry_front : ℕ → List ℕ
 entry_front block = codes "{\"block\":" ++ (compact_text (count block) ++ codes ",\"holes\":")
 
--- what stands between the holes and the missing blocks
+-- what is between the holes and the missing blocks
 unfoldable pub kind_piece : Kind → List ℕ
 kind_piece k = codes ",\"kind\":" ++ (compact_text (string (kind_name k)) ++ codes ",\"missing\":")
 
@@ -45,7 +45,7 @@ standing_piece s = codes ",\"standing\":" ++ (compact_text (string (standing_nam
 unfoldable pub end_piece : Option ℕ → Standing → List ℕ
 end_piece size s = codes ",\"size\":" ++ (compact_text (size_data size) ++ standing_piece s)
 
--- the object of a node behind its missing blocks
+-- the rest of the object of a node, after its missing blocks
 unfoldable pub node_end : NodeFields → List ℕ
 node_end n = codes ",\"modified\":" ++ (compact_text (time_data n.stamp) ++ (codes ",\"path\":" ++ (compact_text (string (path_name n.path)) ++ end_piece n.size n.standing)))
 
@@ -54,7 +54,7 @@ abbrev pub reference_piece : Bool → ℕ → List ℕ
 reference_piece true r = codes ",\"reference\":" ++ compact_text (count r)
 reference_piece false r = []
 
--- the object of an entry behind its missing blocks
+-- the rest of the object of an entry, after its missing blocks
 unfoldable pub entry_end : Bool → Unnamed → List ℕ
 entry_end two u = codes ",\"modified\":" ++ (compact_text (time_data (Some u.stamp)) ++ (reference_piece two u.reference ++ end_piece (Some u.size) u.standing))
 
@@ -67,11 +67,11 @@ unfoldable pub report_front : Table → ℕ → Answer Found → List ℕ
 report_front table last volume =
     counts_piece table ++ (codes ",\"label\":" ++ (compact_text (label_data_of volume) ++ (codes ",\"last\":" ++ (compact_text (count last) ++ codes ",\"nodes\":"))))
 
--- what stands between the nodes and the blocks to read again
+-- what is between the nodes and the blocks to read again
 abbrev pub reread_words : Profile → List ℕ
 reread_words Strict = codes ",\"reread\":"
 reread_words Wide = codes ",\"profile\":\"wide\",\"reread\":"
 
--- the object of a report behind its entries without names
+-- the rest of the object of a report, after its entries without names
 unfoldable pub report_end : Answer Found → List ℕ
 report_end volume = codes ",\"volume\":" ++ (compact_text (volume_data volume) ++ codes "}")

@@ -1,4 +1,4 @@
--- The JSON of a report. Keys stand in byte order.
+-- The JSON of a report. Keys are in byte order.
 --     report_data_by profile table last r    all of it, by the rules of a profile
 --     json_text_by profile table last r      its compact text
 use Rattle.std.specs.Prelude.{ℕ, List, [], ◌∷◌, codes, Option, Some, None}
@@ -96,7 +96,7 @@ label_data_of (faulty f) = null
 
 -- ---- the blocks to read again
 
--- the word for the state of a block to read again
+-- the keyword for the state of a block to read again
 abbrev pub state_name : State → List ℕ
 state_name Unknown = codes "unknown"
 state_name (Known bytes) = codes "unknown"

@@ -2,18 +2,18 @@
 --     MetIsReported profile blocks last report      what is in the tree and known enough is whole
 --     StaysWhole profile blocks last report         what is whole is whole for each table that knows more
 --     RereadsSuffice profile blocks last report     what is listed to be read again is needed, and enough of it
-use Rattle.std.specs.Prelude.{◌≡◌, ◌≢◌, ◌⊎◌, ◌↔◌, ℕ, List, []}
+use Rattle.std.specs.Prelude.{◌≡◌, ◌≢◌, ◌⊎◌, ◌↔◌, ℕ, List, [], Contains}
 use Rattle.udfs_volume.specs.declared.profiles.Profile.{Profile}
 use Rattle.udfs_volume.specs.declared.profiles.Profile.TheVariants.{Strict}
 use Rattle.udfs_lattice.specs.States.{IsBelow, join_of}
-use Rattle.udfs_lattice.specs.Volumes.{Blocks, Includes, Volume, Agrees, IsKnownAt, IsUnread}
+use Rattle.udfs_lattice.specs.Volumes.{Blocks, Volume, Agrees, IsKnownAt, IsUnread}
 use Rattle.udfs_lattice.specs.declared.facts.Fact.TheVariants.{Conflict}
 use Rattle.udfs_volume.specs.Answers.{found}
 use Rattle.udfs_volume.specs.Laws.{valid_anchors}
 use Rattle.udfs_volume.specs.Sequence.{anchor_places}
 use Rattle.udfs_space.specs.Places.{view}
 use Rattle.udfs_tree.specs.Trees.{TreeFile}
-use Rattle.udfs_tree.specs.KnownLaws.{IsListedWhole}
+use Rattle.udfs_tree.specs.KnownLaws.{HoldsGroup, IsListedWhole}
 use Rattle.udfs_salvage.specs.Found.{Found}
 use Rattle.udfs_salvage.specs.Reports.{Report, IsReportBy}
 use Rattle.udfs_salvage.specs.VolumeTrees.{IsLawfulBy, IsInVolumeBy, IsNeededIn, IsMetBy}
@@ -47,12 +47,12 @@ IsWantedIn profile blocks volume last path group = IsNeededIn profile volume las
 
 -- these blocks hold all of some group that is wanted for the node of this path
 abbrev pub HoldsWantedIn : Profile → Blocks → Volume → ℕ → List (List ℕ) → List ℕ → Type 0
-HoldsWantedIn profile blocks volume last path listed = (group : List ℕ) × IsWantedIn profile blocks volume last path group × ((n : ℕ) → Includes group n → Includes listed n)
+HoldsWantedIn profile blocks volume last path listed = HoldsGroup (IsWantedIn profile blocks volume last path) listed
 
 -- the block is in a group that is wanted for some node of the tree
 abbrev pub IsWantedBlock : Profile → Blocks → Volume → ℕ → ℕ → Type 0
 IsWantedBlock profile blocks volume last n = (path : List (List ℕ)) × (file : TreeFile) × (group : List ℕ) × IsInVolumeBy profile volume last path file
-    × IsWantedIn profile blocks volume last path group × Includes group n
+    × IsWantedIn profile blocks volume last path group × Contains group n
 
 -- What is asked of the list of blocks to read again.
 pub record IsGoodReread (profile : Profile) (blocks : Blocks) (last : ℕ) (report : Report) (volume : Volume) : Type 0 where
@@ -61,8 +61,8 @@ pub record IsGoodReread (profile : Profile) (blocks : Blocks) (last : ℕ) (repo
   -- none of it is known
   pub not_known : IsUnread blocks report.reread
   -- each is in a wanted group, or an anchor place while no valid anchor is known
-  pub each : (n : ℕ) → Includes report.reread n
-      → IsWantedBlock profile blocks volume last n ⊎ (Includes (anchor_places last) n × IsUnread blocks (valid_anchors volume last))
+  pub each : (n : ℕ) → Contains report.reread n
+      → IsWantedBlock profile blocks volume last n ⊎ (Contains (anchor_places last) n × IsUnread blocks (valid_anchors volume last))
   -- each node of the tree is reported whole, or the list holds all of a group that it wants
   pub whole_or_held : (path : List (List ℕ)) (file : TreeFile) → IsInVolumeBy profile volume last path file
       → IsReportedWhole blocks report path file ⊎ HoldsWantedIn profile blocks volume last path report.reread

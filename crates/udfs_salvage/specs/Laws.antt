@@ -3,9 +3,9 @@
 --     IsVolumeGroup                    blocks of which one has to be known before any file can be looked at
 --     VolumeLaw profile                what is found is the volume's, or a group is unread
 --     TellsLawfulBy profile blocks last seen    the same of what a call saw
-use Rattle.std.specs.Prelude.{◌≡◌, ℕ, List, [], ◌∷◌, ◌⊎◌, Some}
+use Rattle.std.specs.Prelude.{◌≡◌, ℕ, List, [], ◌∷◌, ◌⊎◌, Some, Contains}
 use Rattle.udfs_volume.specs.declared.profiles.Profile.{Profile}
-use Rattle.udfs_lattice.specs.Volumes.{Blocks, Includes, Volume, IsVolume, Agrees, complete, IsKnownAt}
+use Rattle.udfs_lattice.specs.Volumes.{Blocks, Volume, IsVolume, Agrees, complete, IsKnownAt}
 use Rattle.udfs_volume.specs.Answers.{Answer, found, holes, faulty}
 use Rattle.udfs_volume.specs.Sequence.{anchor_places}
 use Rattle.udfs_volume.specs.Laws.{IsLawfulLayoutBy, IsSequenceGroup, IsAnswerOf, ListsGroup, valid_anchors}
@@ -36,7 +36,7 @@ VolumeLaw profile = (blocks : Blocks) (volume : Volume) (last : ℕ) (lawful : I
 -- it is what is found with all known, and each group has a known block
 pub record IsFoundOf (volume : Volume) (blocks : Blocks) (last : ℕ) (all got : Found) : Type 0 where
   pub same : got ≡ all
-  pub known : (group : List ℕ) → IsVolumeGroup volume last all group → (n : ℕ) × Includes group n × IsKnownAt blocks n
+  pub known : (group : List ℕ) → IsVolumeGroup volume last all group → (n : ℕ) × Contains group n × IsKnownAt blocks n
 
 -- what is found is the volume's, or the listed blocks hold a group of which none is known; no fault is reported
 abbrev pub IsToldOf : Volume → Blocks → ℕ → Found → Answer Found → Type 0

@@ -34,7 +34,7 @@ full_in blocks volume n = node_with n (standing_in blocks volume n.icb n.standin
 abbrev pub full_entry_in : Blocks → Answer Found → Unnamed → Unnamed
 full_entry_in blocks volume u = with_standing u (standing_in blocks volume (address_of (icb_at u.reference u.block)) u.standing)
 
--- the entries that no name leads to; of a volume that does not open there are none
+-- the entries that no name leads to; the empty list for a volume that does not open
 abbrev pub unnamed_in : Blocks → Answer Found → List NodeFields → List Unnamed
 unnamed_in blocks (found f) nodes = unnamed (view blocks f.space) f.space nodes
 unnamed_in blocks (holes listed) nodes = []

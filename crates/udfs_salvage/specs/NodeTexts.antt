@@ -38,19 +38,19 @@ node_fault_number fault.Depth = 13
 
 -- ---- fields
 
--- a word, and the number behind it where it has one
+-- a keyword, and the number after it where it has one
 abbrev pub word_text : List ℕ → Option ℕ → List ℕ
 word_text word None = word
 word_text word (Some n) = word ++ decimal n
 
--- the word for a standing
+-- the keyword for a standing
 abbrev pub standing_name : Standing → List ℕ
 standing_name standing.Whole = codes "whole"
 standing_name (standing.Torn torn) = codes "torn"
 standing_name standing.Loop = codes "loop"
 standing_name (standing.Fault f) = codes "fault-" ++ decimal (node_fault_number f)
 
--- the word for a kind
+-- the keyword for a kind
 abbrev pub kind_name : Kind → List ℕ
 kind_name kind.Directory = codes "directory"
 kind_name kind.File = codes "file"
@@ -58,11 +58,11 @@ kind_name kind.Link = codes "link"
 kind_name (kind.Other t) = codes "other-" ++ decimal t
 kind_name kind.Unread = codes "unread"
 
--- a name behind a `/`
+-- a `/`, and then a name in its escaped form
 abbrev pub name_text : List ℕ → List ℕ
 name_text name = codes "/" ++ escaped name
 
--- each name behind a `/`
+-- each name in its escaped form, after a `/`
 abbrev pub names_text : List (List ℕ) → List ℕ
 names_text names = flat_map name_text names
 
@@ -73,24 +73,24 @@ path_name (name ∷ names) = names_text (name ∷ names)
 
 -- ---- the same, a space before each
 
--- a standing, behind a space
+-- a space and a standing
 abbrev pub standing_text : Standing → List ℕ
 standing_text s = codes " " ++ standing_name s
 
--- a kind, behind a space
+-- a space and a kind
 abbrev pub kind_text : Kind → List ℕ
 kind_text k = codes " " ++ kind_name k
 
--- a path, behind a space
+-- a space and a path
 abbrev pub path_text : List (List ℕ) → List ℕ
 path_text path = codes " " ++ path_name path
 
--- a size, behind a space; `-` where it is not known
+-- a space and a size; `-` for one that is not known
 abbrev pub size_text : Option ℕ → List ℕ
 size_text None = codes " -"
 size_text (Some n) = codes " " ++ decimal n
 
--- a timestamp, behind a space; `-` where it is not known
+-- a space and a timestamp; `-` for one that is not known
 abbrev pub stamp_column : Option Stamp → List ℕ
 stamp_column None = codes " -"
 stamp_column (Some stamp) = codes " " ++ stamp_text stamp

@@ -1,7 +1,7 @@
 -- What printing does to a sink whose bytes are known.
 --     Prints old new text result      all of the text was written; or a beginning of it, and then came the error
 --     PassesOn                            the same of text that is held before it is written
---     PutsMost                            the text was put, or a beginning of it before memory was refused
+--     PutsMost                            the text was printed, or a beginning of it before memory ran out
 use Rattle.std.specs.Prelude.{◌≡◌, ℕ, ◌+◌, ◌%◌, ◌^◌, List, ◌++◌, Option, Result, Ok, Err}
 use Rattle.std.specs.Io.KnownBytes.{Appends}
 use Rattle.udfs_reading.specs.Writing.{Wrote, Passed}
@@ -30,19 +30,19 @@ abbrev pub Prints : {X : Type 0} → Stream → Stream → List ℕ → Result X
 Prints old new text (Ok x) = Wrote old new text
 Prints old new text (Err e) = Stopped old new text e
 
--- the text was taken behind what was held, of which a front was written
+-- the text was appended to what was held, and a beginning of the two was written; or the error came when a beginning of them had been written
 abbrev pub PassesOn : {X : Type 0} → Stream → Stream → List ℕ → List ℕ → List ℕ → Result X RunError → Type 0
 PassesOn old new held still text (Ok x) = Passed old new held still text
 PassesOn old new held still text (Err e) = Stopped old new (held ++ text) e
 
--- a beginning of the text was put behind what was held
+-- a beginning of the text was appended to what was held
 pub record PutsFront (old new : Stream) (held still : Option (List ℕ)) (text : List ℕ) : Type 0 where
   pub front : List ℕ
   pub rest : List ℕ
   pub put : Puts old new held still front
   pub whole : text ≡ front ++ rest
 
--- the text was put behind what was held, or a beginning of it, and then memory was refused
+-- the text was appended to what was held; or a beginning of it was, and then memory ran out
 abbrev pub PutsMost : {X E : Type 0} → Stream → Stream → Option (List ℕ) → Option (List ℕ) → List ℕ → Result X E → Type 0
 PutsMost old new held still text (Ok x) = Puts old new held still text
 PutsMost old new held still text (Err e) = PutsFront old new held still text

@@ -3,7 +3,7 @@
 --     IsReport blocks last report          the same by the strict rules
 --     IsPastEnd blocks last n              the least block above the last one of which something is known
 --     HasTooManyPathsBy profile blocks last    it has more nodes than there may be
-use Rattle.std.specs.Prelude.{◌≡◌, ◌≢◌, ◌⊎◌, ⊤, ℕ, ◌<◌, ◌≤◌, Bool, true, false, List, [], ◌∷◌}
+use Rattle.std.specs.Prelude.{◌≡◌, ◌≢◌, ◌⊎◌, ⊤, ℕ, ◌<◌, ◌≤◌, Bool, false, List, [], ◌∷◌}
 use Rattle.std.specs.List.{list_all}
 use Rattle.udfs_volume.specs.declared.profiles.Profile.{Profile}
 use Rattle.udfs_volume.specs.declared.profiles.Profile.TheVariants.{Strict}
@@ -19,8 +19,7 @@ use Rattle.udfs_walk.specs.Routes.{HasMoreRoutes}
 use Rattle.udfs_walk.specs.UnnamedEntries.{unnamed}
 use Rattle.udfs_walk.specs.Rereads.{reread}
 use Rattle.udfs_walk.specs.declared.answers.Unnamed.{Unnamed}
-use Rattle.udfs_walk.specs.declared.standings.Standing.{Standing}
-use Rattle.udfs_walk.specs.declared.standings.Standing.TheVariants.{Whole, Torn, Loop, Fault}
+use Rattle.udfs_walk.specs.Unsettled.{is_whole}
 use Rattle.udfs_salvage.specs.Found.{Found, volume_by, volume_now}
 use Rattle.udfs_salvage.specs.declared.errors.SalvageError.{SalvageError}
 use Rattle.udfs_salvage.specs.declared.errors.SalvageError.TheVariants as errors
@@ -84,13 +83,6 @@ HasTooManyPathsBy profile blocks last = (f : Found) × (volume_by profile blocks
 -- the same by the strict rules
 abbrev pub HasTooManyPaths : Blocks → ℕ → Type 0
 HasTooManyPaths = HasTooManyPathsBy Strict
-
--- whether a standing is whole
-abbrev pub is_whole : Standing → Bool
-is_whole Whole = true
-is_whole (Torn torn) = false
-is_whole Loop = false
-is_whole (Fault f) = false
 
 -- there are nodes, and all are whole
 abbrev pub all_whole : List NodeFields → Bool

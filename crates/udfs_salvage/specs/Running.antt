@@ -39,7 +39,7 @@ IsRefusedFor = IsRefusedForBy Strict
 abbrev pub OfJoin : {R : Type 0} → (R → Option (List ℕ)) → List R → (Table → Type 0) → Type 0
 OfJoin remaining inputs Holds = (ts : List Table) × TablesAre remaining inputs ts × Holds (join_all ts)
 
--- where there is an answer, it is whether there are nodes and all are whole
+-- where the run succeeds, it returns whether there are nodes and all are whole
 abbrev pub SaysWhole : Result Bool RunError → Report → Type 0
 SaysWhole (Ok whole) report = whole ≡ all_whole report.nodes
 SaysWhole (Err e) report = ⊤
@@ -60,8 +60,7 @@ pub record PrintsNothing (old new : Stream) : Type 0 where
   pub given : Appends old.contents new.contents []
   pub kept : new.faults ≡ old.faults
 
--- what a run says of the table of its inputs: its report; or why there is none, and then nothing is out, and no lawful
--- volume agrees with the table
+-- a run prints the report of its inputs' table, or a beginning of it; or it returns why there is no report, and then no lawful volume agrees with the table
 abbrev pub AnswersForBy : Profile → ℕ → Stream → Stream → Result Bool RunError → Table → Type 0
 AnswersForBy profile last old new (Ok x) table = PrintsOfBy profile last old new (Ok x) table
 AnswersForBy profile last old new (Err (Reading e)) table = ⊥

@@ -14,7 +14,7 @@ use Rattle.udfs_salvage.specs.Found.{Found, volume_now}
 use Rattle.udfs_salvage.specs.Reports.{Report}
 use Rattle.udfs_salvage.specs.declared.surveys.Survey as code_survey
 
--- of a volume that does not open there are none
+-- the nodes of a survey with what is missing of them; unchanged where the volume does not open
 abbrev pub full_nodes : Blocks → Answer Found → List NodeFields → List NodeFields
 full_nodes blocks (found f) nodes = map (full_node (view blocks f.space)) nodes
 full_nodes blocks (holes listed) nodes = nodes
@@ -26,7 +26,7 @@ full_entries blocks (found f) entries = map (full_entry (view blocks f.space)) e
 full_entries blocks (holes listed) entries = entries
 full_entries blocks (faulty fault) entries = entries
 
--- the report that a survey stands for
+-- the report that a survey represents
 abbrev pub survey_now : code_survey.Survey → Report
 survey_now s = record {
   volume = volume_now s.volume;

@@ -49,7 +49,7 @@ unfoldable pub revision_text : ℕ → List ℕ
 revision_text revision = cond (nat_eq revision 0x0102) (codes "1.02") (cond (nat_eq revision 0x0150) (codes "1.50")
     (cond (nat_eq revision 0x0200) (codes "2.00") (codes "2.01")))
 
--- how the line of every volume that opens begins: its revision, and the word before its maps
+-- the beginning of the line of a volume that opens: its revision, and the keyword before its maps
 abbrev pub open_text : ℕ → List ℕ
 open_text revision = codes "volume ok revision " ++ revision_text revision ++ codes " map"
 
@@ -58,11 +58,11 @@ abbrev pub partition_map_text : PartitionMap → List ℕ
 partition_map_text type1 = codes " type1"
 partition_map_text (sparable packet size tables) = codes " sparable " ++ decimal packet
 
--- the names of the maps, each behind a space
+-- the maps, each after a space
 abbrev pub map_texts : List Partition → List ℕ
 map_texts partitions = flat_map (λ p. partition_map_text p.kind) partitions
 
--- a block's number, behind a space
+-- a space and the number of a block
 abbrev pub block_text : ℕ → List ℕ
 block_text n = codes " " ++ decimal n
 
@@ -76,7 +76,7 @@ volume_line (found f) = line (open_text f.layout.revision ++ map_texts f.layout.
 volume_line (holes blocks) = line (codes "volume holes" ++ block_texts blocks)
 volume_line (faulty f) = line (codes "volume fault " ++ decimal (volume_fault_number f) ++ codes " " ++ volume_fault_name f)
 
--- ---- the lines before and behind it
+-- ---- the lines before and after it
 
 -- a volume is found, and has two partitions
 abbrev pub has_two : Answer Found → Bool

@@ -2,7 +2,7 @@
 --     TellsTreeBy profile blocks last report        each node is one of the volume's tree, and what is whole is the tree's
 --     TellsWholeTreeBy profile blocks last report   where all of the volume is known, the nodes are its tree, all whole
 --     IsOfNoLawfulBy profile blocks last e   there is no report only where no lawful volume agrees, or memory ran out
---     WritesFileBy profile blocks last report i n   what is done with the bytes of a whole node is done with the tree's
+--     WritesFileBy profile blocks last n   what is done with the bytes of a whole node is done with the tree's
 --     FillsFileBy profile blocks last n fill        what is done with the bytes of a node that is filled is done with the tree's, its holes filled
 --     OpensOnceBy, OneFileAtBy               the standard opens a lawful volume in one way, and a path leads to one file
 --     ReportsTellTreeBy profile              every report of a table says this
@@ -154,14 +154,14 @@ SomeLawfulBy profile = (maps : Maps) → IsLawfulWithBy profile (sample_partitio
 abbrev pub file_bytes : TreeFile → List ℕ
 file_bytes file = map (λ x. x.0) file.body
 
--- of every lawful volume with which the table agrees: this is done with the bytes of the file of its tree that stands at the
+-- of every lawful volume with which the table agrees: this is done with the bytes of the file of its tree that is at the
 -- node's path and has its kind, size and stamp
-abbrev pub WritesFileBy : Profile → Blocks → ℕ → Report → ℕ → NodeFields → (List ℕ → Type 0) → Type 0
-WritesFileBy profile blocks last report index n Writes = (volume : Volume) → IsLawfulBy profile volume last → Agrees blocks volume last
+abbrev pub WritesFileBy : Profile → Blocks → ℕ → NodeFields → (List ℕ → Type 0) → Type 0
+WritesFileBy profile blocks last n Writes = (volume : Volume) → IsLawfulBy profile volume last → Agrees blocks volume last
     → (file : TreeFile) × IsInVolumeBy profile volume last n.path file × IsToldAs n file × Writes (file_bytes file)
 
 -- the same by the strict rules
-abbrev pub WritesFile : Blocks → ℕ → Report → ℕ → NodeFields → (List ℕ → Type 0) → Type 0
+abbrev pub WritesFile : Blocks → ℕ → NodeFields → (List ℕ → Type 0) → Type 0
 WritesFile = WritesFileBy Strict
 
 -- These bytes are the file's outside the runs, and this byte in them.
@@ -170,8 +170,8 @@ pub record AreFilled (runs : List (ℕ × ℕ)) (fill : ℕ) (file out : List �
   pub outside : (k : ℕ) → ¬ IsInRuns runs k → slice_get out k ≡ slice_get file k
   pub inside : (k : ℕ) → IsInRuns runs k → slice_get out k ≡ Some fill
 
--- of every lawful volume with which the table agrees: this is done with the bytes of the file of its tree that stands at the
--- node's path and has its kind, size and stamp, where in the node's holes the byte stands that fills them
+-- of every lawful volume with which the table agrees: this is done with the bytes of the file of its tree that is at the
+-- node's path and has its kind, size and stamp, with the node's holes filled with this byte
 abbrev pub FillsFileBy : Profile → Blocks → ℕ → NodeFields → ℕ → (List ℕ → Type 0) → Type 0
 FillsFileBy profile blocks last n fill Writes = (volume : Volume) → IsLawfulBy profile volume last → Agrees blocks volume last
     → (file : TreeFile) × IsInVolumeBy profile volume last n.path file × IsToldAs n file × ((bytes : List ℕ) × AreFilled (holes_of n.standing) fill (file_bytes file) bytes × Writes bytes)

@@ -15,7 +15,7 @@ use Rattle.udfs_walk.specs.Targets.{icb_at}
 use Rattle.udfs_walk.specs.UnnamedEntries.{address_of}
 use Rattle.udfs_walk.specs.declared.answers.Unnamed.{Unnamed}
 use Rattle.udfs_salvage.specs.Found.{Found, volume_by}
-use Rattle.udfs_salvage.specs.Reports.{is_whole}
+use Rattle.udfs_walk.specs.Unsettled.{is_whole}
 
 -- whether an entry of this kind is a file
 abbrev pub is_file : Kind → Bool
@@ -29,7 +29,7 @@ is_file kind.Unread = false
 abbrev pub is_lost_file : Unnamed → Bool
 is_lost_file u = is_file u.kind && (nat_lt 0 u.size && is_whole u.standing)
 
--- the cells of the body of the entry that stands at the reference and block of this one, and none is missing
+-- the cells of the body of the entry at the partition reference and block of this one, and none is missing
 pub record HasUnnamedCellsBy (profile : Profile) (blocks : Blocks) (last : ℕ) (u : Unnamed) (cs : List Cell) : Type 0 where
   pub opened : Found
   pub opens : volume_by profile blocks last ≡ found opened

@@ -2,12 +2,12 @@
 -- first sparing table, the file set, and from its root the tree.
 --     IsOpenedBy profile volume last opened     what the standard opens, by the rules of a profile
 --     IsInVolumeBy profile volume last path file   the path leads from the root to this file
---     IsLawfulBy profile volume last            what is asked of a volume, in the standard's words
+--     IsLawfulBy profile volume last            what is required of a volume, in the standard's terms
 --     LawfulIsWholeBy profile                   the same by the nodes of the complete volume: exactly then all are whole
 --     IsNeededIn profile volume last path group    blocks of which one has to be known for the node of this path
 --     IsMetBy profile blocks volume last path   one of each is known
 -- IsOpened, IsInVolume, IsLawful and LawfulIsWhole are these by the strict rules.
-use Rattle.std.specs.Prelude.{◌≡◌, ◌↔◌, ℕ, List, Some, None}
+use Rattle.std.specs.Prelude.{◌≡◌, ◌↔◌, ℕ, List, Some}
 use Rattle.udfs_volume.specs.declared.profiles.Profile.{Profile}
 use Rattle.udfs_volume.specs.declared.profiles.Profile.TheVariants.{Strict}
 use Rattle.udfs_lattice.specs.Volumes.{Blocks, Volume, complete}
@@ -15,7 +15,8 @@ use Rattle.udfs_tag.specs.declared.layouts.LongAd.{LongAd}
 use Rattle.udfs_volume.specs.Answers.{found}
 use Rattle.udfs_volume.specs.Layout.{Layout}
 use Rattle.udfs_volume.specs.Standard.{standard_anchor, standard_layout_by}
-use Rattle.udfs_space.specs.Places.{StandsIn, view}
+use Rattle.udfs_space.specs.Laws.{AreBlocksOf}
+use Rattle.udfs_space.specs.Places.{view}
 use Rattle.udfs_space.specs.Standard.{standard_space}
 use Rattle.udfs_file.specs.Standard.{IsFileSetAt}
 use Rattle.udfs_tree.specs.Trees.{PartitionBlocks, TreeFile, InTree}
@@ -37,8 +38,7 @@ pub record IsOpenedBy (profile : Profile) (volume : Volume) (last : ℕ) (opened
   pub anchor : ℕ
   pub is_anchor : standard_anchor volume last ≡ Some anchor
   pub layout_is : standard_layout_by profile volume last anchor ≡ found opened.layout
-  pub block : (r b n : ℕ) → StandsIn (standard_space volume opened.layout) r b n → opened.blocks.at r b ≡ Some (volume n)
-  pub no_block : (r b : ℕ) → ((n : ℕ) → ¬ StandsIn (standard_space volume opened.layout) r b n) → opened.blocks.at r b ≡ None
+  pub reads : AreBlocksOf volume (standard_space volume opened.layout) opened.blocks.at
   pub tail : opened.blocks.takes_tail ≡ opened.layout.takes_tail
   pub root_is : IsFileSetAt opened.blocks opened.layout.file_set opened.root
 

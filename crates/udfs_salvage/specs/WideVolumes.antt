@@ -1,4 +1,4 @@
--- How the wide rules stand to the strict ones.
+-- How the wide rules relate to the strict ones.
 --     WideTakesStrict     what is lawful by the strict rules is lawful by the wide ones, and has the same files
 --     WideTakesMore       and there is a volume, of revision 2.00, that is lawful by the wide rules alone
 use Rattle.std.specs.Prelude.{◌≡◌, ◌↔◌, ℕ, List, [], ◌∷◌}

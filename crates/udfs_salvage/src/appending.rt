@@ -1,4 +1,4 @@
-//! Words and paths that are appended to a text, for JSON and for the paths of files. Where memory is refused, a part may be appended.
+//! Appends keywords and paths to a text, for JSON and for the paths of files. Where memory runs out, a part may have been appended.
 
 ghost use Rattle.std.specs.Prelude.{◌≡◌, ◌++◌, ◌∷◌, [], ℕ, OnOk};
 ghost use Rattle.std.specs.String.{string_bytes};
@@ -9,7 +9,7 @@ use std::fmt::Write;
 use udfs_osta::{Name, OutOfMemory};
 use udfs_walk::Path;
 
-/// A word, and its number where it has one.
+/// Appends a keyword, and its number where it has one.
 pub(crate) fn push_word(text: &mut String, word: Word) -> Result<(), OutOfMemory>
     ensures { OnOk result (string_bytes text.new ≡ string_bytes text.old ++ word_text word.front.now word.number) }
 {
@@ -20,7 +20,7 @@ pub(crate) fn push_word(text: &mut String, word: Word) -> Result<(), OutOfMemory
     }
 }
 
-/// A name behind a `/`.
+/// Appends a `/`, and then a name in its escaped form.
 fn push_name(text: &mut String, name: &Name) -> Result<(), OutOfMemory>
     ensures { OnOk result (string_bytes text.new ≡ string_bytes text.old ++ names_text (name.now ∷ [])) }
 {
@@ -28,7 +28,7 @@ fn push_name(text: &mut String, name: &Name) -> Result<(), OutOfMemory>
     name.write_escaped(text)
 }
 
-/// Appends each name of a path in its escaped form, behind a `/`. Where memory is refused, a part may be appended.
+/// Appends each name of a path in its escaped form, after a `/`. Where memory runs out, it fails, and a part may have been appended.
 pub fn push_names(text: &mut String, path: &Path) -> Result<(), OutOfMemory>
     ensures { OnOk result (string_bytes text.new ≡ string_bytes text.old ++ names_text path.now) }
 {

@@ -12,11 +12,11 @@ use udfs_reading::InputError;
 pub enum SalvageError {
     /// The last block of a volume is not from 513 to 4,194,303.
     LastRange,
-    /// Something is known of this block, the least such one behind the last.
+    /// Something is known of this block, which is after the last one. It is the least such block.
     PastEnd(u32),
     /// More than 65,536 routes lead from the root of the volume to a node.
     TooManyPaths,
-    /// Memory was refused.
+    /// Memory ran out.
     OutOfMemory,
 }
 
@@ -52,7 +52,7 @@ pub enum RunError {
     Salvage(SalvageError),
     /// The sink failed.
     Write,
-    /// Memory was refused, in whatever place.
+    /// Memory ran out, in any step.
     OutOfMemory,
 }
 

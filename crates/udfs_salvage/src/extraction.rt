@@ -28,7 +28,7 @@ use udfs_walk::{Node, Standing, body_at};
 /// What is written of nodes that are not whole.
 #[derive(Clone, Copy, Debug, PartialEq, Eq)]
 pub enum Fill {
-    /// Nothing: such a node is refused.
+    /// Nothing: writing such a node fails with [`ExtractError::NotWhole`].
     Refuse,
     /// A torn node of known size is written, with this byte for each that is missing.
     Byte(u8),
@@ -41,7 +41,7 @@ pub enum ExtractError {
     NotWhole,
     /// The sink failed.
     Write,
-    /// Memory was refused.
+    /// Memory ran out.
     OutOfMemory,
 }
 
@@ -117,7 +117,7 @@ pub(crate) fn write_at<W: Sink>(
 /// # Errors
 ///
 /// `NotWhole` exactly where the node is not to be written; then nothing is. `Write` exactly where the sink failed; then a beginning
-/// of the bytes is out. `OutOfMemory` where memory is refused: never of a node without a byte
+/// of the bytes is written. `OutOfMemory` where memory runs out: never for a node without a byte
 /// whose body is not embedded; then nothing is written.
 ///
 /// [`salvage_by`]: crate::salvage_by
@@ -139,7 +139,7 @@ pub fn extract_by<W: Sink>(
     // Of a whole node they are those of the volume's file at its path, for every lawful volume with which the table agrees.
     ensures tree { (profile : Profile) (last : ℕ) (n : NodeFields) → IsReportBy profile (state_of report.now.table.now) last (report_now report.now) →
         slice_get report.now.nodes.items index ≡ Some n → n.standing ≡ Standing.Whole →
-        WritesFileBy profile (state_of report.now.table.now) last (report_now report.now) index n
+        WritesFileBy profile (state_of report.now.table.now) last n
         (λ bytes. Extracts (W.stream sink.old) (W.stream sink.new) bytes result) }
     // Of any node that is written, a torn one too, they are that file's bytes outside the node's holes, and in them the byte that fills.
     ensures filled { (profile : Profile) (last : ℕ) (n : NodeFields) → IsReportBy profile (state_of report.now.table.now) last (report_now report.now) →
@@ -183,7 +183,7 @@ pub fn extract_by<W: Sink>(
 /// # Errors
 ///
 /// `NotWhole` exactly where the node is not to be written; then nothing is. `Write` exactly where the sink failed; then a beginning
-/// of the bytes is out. `OutOfMemory` where memory is refused: never of a node without a byte
+/// of the bytes is written. `OutOfMemory` where memory runs out: never for a node without a byte
 /// whose body is not embedded; then nothing is written.
 ///
 /// [`salvage`]: crate::salvage
@@ -205,7 +205,7 @@ pub fn extract<W: Sink>(
     // Of a whole node they are those of the volume's file at its path, for every lawful volume with which the table agrees.
     ensures tree { (last : ℕ) (n : NodeFields) → IsReport (state_of report.now.table.now) last (report_now report.now) →
         slice_get report.now.nodes.items index ≡ Some n → n.standing ≡ Standing.Whole →
-        WritesFile (state_of report.now.table.now) last (report_now report.now) index n
+        WritesFile (state_of report.now.table.now) last n
         (λ bytes. Extracts (W.stream sink.old) (W.stream sink.new) bytes result) }
     // Of any node that is written, a torn one too, they are that file's bytes outside the node's holes, and in them the byte that fills.
     ensures filled { (last : ℕ) (n : NodeFields) → IsReport (state_of report.now.table.now) last (report_now report.now) →

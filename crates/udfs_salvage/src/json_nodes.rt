@@ -94,7 +94,7 @@ fn holes_value(alloc: Global, holes: &[(u64, u64)]) -> Result<Value, AllocError>
     Ok(Value::Array(items))
 }
 
-/// The missing blocks of what stands so.
+/// The missing blocks of a standing, as a list: an empty one where it is not torn.
 fn missing_in(alloc: Global, standing: &Standing) -> Result<Value, AllocError>
     ensures { IfOk result (λ v. view v ≡ list_data count (missing_of standing.now)) }
 {
@@ -104,7 +104,7 @@ fn missing_in(alloc: Global, standing: &Standing) -> Result<Value, AllocError>
     }
 }
 
-/// The runs of missing bytes of what stands so.
+/// The runs of missing bytes of a standing, as a list: an empty one where it is not torn.
 fn holes_in(alloc: Global, standing: &Standing) -> Result<Value, AllocError>
     ensures { IfOk result (λ v. view v ≡ list_data hole_data (holes_of standing.now)) }
 {

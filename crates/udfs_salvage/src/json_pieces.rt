@@ -19,7 +19,7 @@ use udfs_osta::OutOfMemory;
 use udfs_volume::Profile;
 use udfs_walk::{Node, Standing, Unnamed};
 
-/// Appends what stands before a value, and the value.
+/// Appends `front`, and then the value as compact JSON.
 pub(crate) fn push_value(
     alloc: Global,
     text: &mut String,
@@ -34,7 +34,7 @@ pub(crate) fn push_value(
     text.push_str(&written)
 }
 
-/// Appends what stands before a number, and the number.
+/// Appends `front`, and then the number.
 pub(crate) fn push_count(
     alloc: Global,
     text: &mut String,
@@ -72,7 +72,7 @@ pub(crate) fn push_entry_front(
     text.push_str(",\"holes\":")
 }
 
-/// Appends what stands between the holes and the missing blocks.
+/// Appends what is between the holes and the missing blocks: the kind, and the key of the missing blocks.
 #[tactic(auto, unfolding(crate::specs::JsonPieces::kind_piece))]
 pub(crate) fn push_kind(alloc: Global, text: &mut String, kind: Kind) -> Result<(), OutOfMemory>
     ensures { OnOk result (string_bytes text.new ≡ string_bytes text.old ++ kind_piece kind) }
@@ -107,7 +107,7 @@ fn push_end(
     push_standing(alloc, text, standing)
 }
 
-/// Appends the object of a node behind its missing blocks.
+/// Appends the rest of the object of a node, after its missing blocks.
 #[tactic(auto, unfolding(crate::specs::JsonPieces::node_end))]
 pub(crate) fn push_node_end(
     alloc: Global,
@@ -138,7 +138,7 @@ fn push_reference(
     Ok(())
 }
 
-/// Appends the object of an entry that no name leads to, behind its missing blocks.
+/// Appends the rest of the object of an entry that no name leads to, after its missing blocks.
 #[tactic(auto, unfolding(crate::specs::JsonPieces::entry_end))]
 pub(crate) fn push_entry_end(
     alloc: Global,
@@ -181,7 +181,7 @@ pub(crate) fn push_report_front(
     text.push_str(",\"nodes\":")
 }
 
-/// What stands between the nodes of a report and the blocks to read again.
+/// The JSON between the nodes of a report and the blocks to read again.
 pub(crate) fn reread_words(profile: Profile) -> &'static str
     ensures { result.now ≡ reread_words profile }
 {
@@ -191,7 +191,7 @@ pub(crate) fn reread_words(profile: Profile) -> &'static str
     }
 }
 
-/// Appends the object of a report behind its entries that no name leads to.
+/// Appends the rest of the object of a report, after its entries that no name leads to.
 #[tactic(auto, using(crate::proofs::JsonFloats::volume_none), unfolding(crate::specs::JsonPieces::report_end))]
 pub(crate) fn push_report_end(
     alloc: Global,

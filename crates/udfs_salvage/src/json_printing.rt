@@ -1,4 +1,4 @@
-//! The values of a report's JSON are handed to a sink, each behind what stands before it.
+//! Passes the values of a report's JSON on to a sink, each after the text that precedes it.
 
 ghost use Rattle.std.specs.Prelude.{◌++◌, ◌≡◌, false};
 ghost use Rattle.std.specs.String.{string_bytes};
@@ -22,7 +22,7 @@ use udfs_lattice::BlockTable;
 use udfs_reading::Sink;
 use udfs_walk::Standing;
 
-/// What stands between values.
+/// A text between values.
 pub(crate) fn put_words<W: Sink>(
     text: &mut String,
     sink: &mut W,
@@ -34,7 +34,7 @@ pub(crate) fn put_words<W: Sink>(
     pass_on(text, sink)
 }
 
-/// A value, and what stands before it.
+/// `front`, and then a value.
 pub(crate) fn put_value<W: Sink>(
     alloc: Global,
     text: &mut String,
@@ -49,7 +49,7 @@ pub(crate) fn put_value<W: Sink>(
     pass_on(text, sink)
 }
 
-/// A number of a block, and what stands before it.
+/// `front`, and then the number of a block.
 fn put_count<W: Sink>(
     alloc: Global,
     text: &mut String,
@@ -63,7 +63,7 @@ fn put_count<W: Sink>(
     pass_on(text, sink)
 }
 
-/// Numbers of blocks behind others, each behind its comma.
+/// The numbers of further blocks, each after a comma.
 fn put_more_counts<W: Sink>(
     alloc: Global,
     text: &mut String,
@@ -95,7 +95,7 @@ fn put_counts<W: Sink>(
     put_words(text, sink, "]")
 }
 
-/// A run of missing bytes, and what stands before it.
+/// `front`, and then a run of missing bytes.
 fn put_hole<W: Sink>(
     alloc: Global,
     text: &mut String,
@@ -109,7 +109,7 @@ fn put_hole<W: Sink>(
     put_value(alloc, text, sink, front, &value)
 }
 
-/// Runs of missing bytes behind others, each behind its comma.
+/// Further runs of missing bytes, each after a comma.
 fn put_more_holes<W: Sink>(
     alloc: Global,
     text: &mut String,
@@ -141,7 +141,7 @@ fn put_holes<W: Sink>(
     put_words(text, sink, "]")
 }
 
-/// A block to read again, and what stands before it.
+/// `front`, and then a block to read again.
 fn put_reread<W: Sink>(
     alloc: Global,
     text: &mut String,
@@ -156,7 +156,7 @@ fn put_reread<W: Sink>(
     put_value(alloc, text, sink, front, &value)
 }
 
-/// Blocks to read again behind others, each behind its comma.
+/// Further blocks to read again, each after a comma.
 fn put_more_rereads<W: Sink>(
     alloc: Global,
     text: &mut String,
@@ -190,7 +190,7 @@ pub(crate) fn put_rereads<W: Sink>(
     put_words(text, sink, "]")
 }
 
-/// What stands between the holes and the missing blocks.
+/// What is between the holes and the missing blocks: the kind, and the key of the missing blocks.
 fn put_kind<W: Sink>(
     alloc: Global,
     text: &mut String,
@@ -220,7 +220,7 @@ fn put_lists<W: Sink>(
     put_counts(alloc, text, sink, missing)
 }
 
-/// The holes, the kind, and the missing blocks of what stands so.
+/// The holes, the kind, and the missing blocks, by the standing: the lists are empty where it is not torn.
 pub(crate) fn put_told<W: Sink>(
     alloc: Global,
     text: &mut String,

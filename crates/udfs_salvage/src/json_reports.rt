@@ -290,7 +290,7 @@ fn report_value(alloc: Global, report: &Report<'_>) -> Result<Value, AllocError>
 ///
 /// # Errors
 ///
-/// `OutOfMemory` where memory is refused. The whole text is held in memory, and a tree of what it says beside it.
+/// `OutOfMemory` where memory runs out. The whole text is held in memory, and so is a tree of its values.
 pub fn report_json(alloc: Global, report: &Report<'_>) -> Result<String, OutOfMemory>
     ensures { IfOk result (λ text. string_bytes text ≡ json_text_by report.now.profile report.now.table.now report.now.last (report_now report.now)) }
 {

@@ -1,4 +1,4 @@
-//! What is missing of torn bodies, kept where it is short, so that it is found once for many names of one body.
+//! What is missing of torn bodies, kept while there is room, so that it is found once for many names of one body.
 
 ghost use Rattle.std.specs.Prelude.{◌≡◌, IfOk, IfSome};
 ghost use Rattle.std.specs.BTreeMap.{IsEmpty};
@@ -15,10 +15,10 @@ use udfs_space::View;
 use udfs_tag::LongAd;
 use udfs_walk::{Standing, Torn, full_standing};
 
-/// So many bytes all lists together may take that are kept.
+/// How many bytes all kept lists together may take.
 const MOST_KEPT: usize = 16_000_000;
 
-/// So many bytes what is kept of a body takes beside its lists.
+/// How many bytes a kept body takes beside its lists.
 const BESIDE: usize = 128;
 
 /// The same lists once more.
@@ -42,7 +42,7 @@ fn size_of(torn: &Torn) -> usize {
 pub(crate) struct KeptLists {
     /// The lists.
     lists: BTreeMap<u64, Torn>,
-    /// So many bytes more may be kept.
+    /// How many more bytes may be kept.
     room: usize,
 }
 
@@ -57,7 +57,7 @@ impl KeptLists {
         }
     }
 
-    /// A standing with the blocks and the holes of the body that stands at an address, if it is torn and they are kept.
+    /// A standing with the kept missing blocks and holes of the body at an address; `None` where it is not torn or they are not kept.
     fn again(
         &self,
         view: View<'_>,
@@ -83,7 +83,7 @@ impl KeptLists {
         }
     }
 
-    /// Keeps the blocks and the holes of the body that stands at an address, if there is room.
+    /// Keeps the missing blocks and the holes of the body at an address, if it is torn and there is room.
     fn keep(&mut self, view: View<'_>, address: LongAd, full: &Standing) -> Result<(), AllocError>
         requires lists { AreKeptLists (view_now view) self.old.lists }
         requires full { (torn : TornFields) → full.now ≡ walk_standing.Torn torn → torn ≡ lists_at (view_now view) address }
@@ -102,7 +102,7 @@ impl KeptLists {
         Ok(())
     }
 
-    /// A standing with the blocks and the holes of the body that stands at an address, where it is torn. They are found
+    /// A standing with the missing blocks and the holes of the body at an address, where it is torn. They are found
     /// anew only where they are not kept.
     pub(crate) fn full_standing(
         &mut self,

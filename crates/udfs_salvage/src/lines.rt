@@ -1,4 +1,4 @@
-//! The lines of a report before and behind those of its nodes.
+//! The lines of a report before and after those of its nodes.
 
 ghost use Rattle.std.specs.Prelude.{◌≡◌, ◌≤◌, length, map};
 ghost use Rattle.udfs_lattice.specs.Tables.{state_of};

@@ -52,7 +52,7 @@ pub fn write_node<W: Sink>(
     // Of a whole node they are those of the volume's file at its path, for every lawful volume with which the table agrees.
     ensures tree { (profile : Profile) (last : ℕ) (n : NodeFields) → IsReportBy profile (state_of listing.now.table.now) last (listing_now listing.now) →
         slice_get (listing_now listing.now).nodes index ≡ Some n → n.standing ≡ Whole →
-        WritesFileBy profile (state_of listing.now.table.now) last (listing_now listing.now) index n
+        WritesFileBy profile (state_of listing.now.table.now) last n
         (λ bytes. Extracts (W.stream sink.old) (W.stream sink.new) bytes result) }
     // Of any node that is written, a torn one too, they are that file's bytes outside the node's holes, and in them the byte that fills.
     ensures filled { (profile : Profile) (last : ℕ) (n : NodeFields) → IsReportBy profile (state_of listing.now.table.now) last (listing_now listing.now) →

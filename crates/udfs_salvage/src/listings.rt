@@ -70,7 +70,7 @@ fn list_open<'a>(
     })
 }
 
-/// The listing of a volume, by what is found of it, where nothing is known behind its last block.
+/// The listing of a volume, by what is found of it, where nothing is known of a block after its last.
 fn look<'a>(
     alloc: Global,
     table: &'a BlockTable,
@@ -137,11 +137,12 @@ pub fn list_volume_by<'a>(
     }
 }
 
-/// The entries that no name leads to, of the volume of a listing, as a report has them; a torn one without its blocks and holes. Of a volume that does not open there are none.
+/// The entries that no name leads to, of the volume of a listing, as a report has them, but torn ones without their missing blocks and holes. Empty
+/// where the volume does not open.
 ///
 /// # Errors
 ///
-/// Memory was refused.
+/// Only `OutOfMemory`, where memory runs out.
 pub fn list_unnamed(alloc: Global, listing: &Listing<'_>) -> Result<Vec<Unnamed>, SalvageError>
     ensures entries { IfOk result (λ entries. AreUnnamed listing.now entries.items) }
     ensures refused { IfErr result (λ error. error ≡ SalvageError.OutOfMemory) }
@@ -161,7 +162,7 @@ pub fn list_unnamed(alloc: Global, listing: &Listing<'_>) -> Result<Vec<Unnamed>
 ///
 /// # Errors
 ///
-/// Memory was refused.
+/// Only `OutOfMemory`, where memory runs out.
 pub fn reread_blocks(alloc: Global, listing: &Listing<'_>) -> Result<Vec<u32>, SalvageError>
     ensures blocks { IfOk result (λ blocks. blocks.items ≡ (listing_now listing.now).reread) }
     ensures refused { IfErr result (λ error. error ≡ SalvageError.OutOfMemory) }

@@ -74,7 +74,7 @@ fn put_told<W: Sink>(
     put_time(out, sink, stamp);
 }
 
-/// A name behind a `/`.
+/// A `/`, and then a name in its escaped form.
 fn put_name<W: Sink>(out: &mut Printer, sink: &mut W, name: &Name)
     ensures { Puts (W.stream sink.old) (W.stream sink.new) out.old out.new (name_text name.now) }
 {
@@ -121,7 +121,7 @@ pub(crate) fn put_node_line<W: Sink>(out: &mut Printer, sink: &mut W, number: us
     out.put(sink, "\n");
 }
 
-/// Where an entry stands, of a volume with two partitions.
+/// The address of an entry in a volume with two partitions: its partition reference, `:`, and its logical block.
 fn put_two_place<W: Sink>(out: &mut Printer, sink: &mut W, address: LbAddr)
     ensures { Puts (W.stream sink.old) (W.stream sink.new) out.old out.new (decimal address.reference ++ codes ":" ++ decimal address.block) }
 {
@@ -130,7 +130,7 @@ fn put_two_place<W: Sink>(out: &mut Printer, sink: &mut W, address: LbAddr)
     out.put_number(sink, u64::from(address.block));
 }
 
-/// Where an entry stands.
+/// The address of an entry: its logical block, with its partition reference before it where there are two partitions.
 fn put_place<W: Sink>(out: &mut Printer, sink: &mut W, two: bool, entry: &Unnamed)
     ensures { Puts (W.stream sink.old) (W.stream sink.new) out.old out.new (place_text two entry.now) }
 {

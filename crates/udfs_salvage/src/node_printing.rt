@@ -93,7 +93,7 @@ pub(crate) fn put_all_unnamed<W: Sink>(
     }
 }
 
-/// What is missing of the body that stands at an address, where something is. Where the sink has failed, it is not looked for.
+/// The lines of what is missing of the body at an address, if anything is. Where the sink has failed, it is not looked for.
 fn put_full_gaps<W: Sink>(
     alloc: Global,
     out: &mut Printer,
@@ -112,8 +112,8 @@ fn put_full_gaps<W: Sink>(
     Ok(())
 }
 
-/// What is missing of the body that stands at an address, where something is, which is found once for all names of the body if it is
-/// short. Where the sink has failed, it is not looked for.
+/// The lines of what is missing of the body at an address, if anything is. It is found once for all names of the body if there is room
+/// to keep it. Where the sink has failed, it is not looked for.
 fn put_kept_gaps<W: Sink>(
     alloc: Global,
     out: &mut Printer,

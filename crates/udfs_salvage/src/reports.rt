@@ -6,7 +6,8 @@ ghost use Rattle.udfs_volume.specs.Seen.{IsRising};
 ghost use Rattle.udfs_volume.specs.declared.profiles.Profile.TheVariants.{Strict};
 ghost use Rattle.udfs_salvage.specs.Headline.{Headline, HeadlineBy};
 ghost use Rattle.udfs_salvage.specs.TreeReports.{IsOfNoLawful, IsOfNoLawfulBy};
-ghost use Rattle.udfs_salvage.specs.Reports.{HasTooManyPaths, HasTooManyPathsBy, IsNothingPast, IsOutOfRange, IsPastEnd, IsReport, IsReportBy, IsUnfit, MayWantMemory, MayWantMemoryBy, all_whole, is_whole, report_now};
+ghost use Rattle.udfs_salvage.specs.Reports.{HasTooManyPaths, HasTooManyPathsBy, IsNothingPast, IsOutOfRange, IsPastEnd, IsReport, IsReportBy, IsUnfit, MayWantMemory, MayWantMemoryBy, all_whole, report_now};
+ghost use Rattle.udfs_walk.specs.Unsettled.{is_whole};
 
 use crate::errors::SalvageError;
 use crate::surveys::look_full;
@@ -58,7 +59,7 @@ pub fn all_whole(nodes: &[Node]) -> bool
     !nodes.is_empty()
 }
 
-/// The first block behind the last one of which something is known.
+/// The least block after `last` of which something is known, if there is one.
 fn past_end(table: &BlockTable, last: u32) -> Option<u32>
     ensures { MatchOption result (IsNothingPast (state_of table.now) last) (λ n. IsPastEnd (state_of table.now) last n) }
 {
@@ -111,7 +112,7 @@ pub(crate) fn judge_last(table: &BlockTable, last: u32) -> Result<(), SalvageErr
 ///
 /// `LastRange` exactly where `last` is not from 513 to 4,194,303; else `PastEnd` exactly where something is known of a
 /// block after the last, with the least such block; else `TooManyPaths` where more than 65,536 routes lead from the
-/// root to a node; and `OutOfMemory` where memory is refused, but never where one of the first two is due, nor for a volume without
+/// root to a node; and `OutOfMemory` where memory runs out, but never where one of the first two is due, nor for a volume without
 /// an anchor or with wrong extents.
 #[tactic(auto, using(crate::proofs::TreeReports::unfit, crate::proofs::TreeReports::look_refused))]
 pub fn salvage_by<'a>(

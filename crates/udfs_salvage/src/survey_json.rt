@@ -1,4 +1,4 @@
-//! The JSON of the report that a survey stands for is written in pieces: what is missing of a node is found where it is written.
+//! Writes the JSON of the report that a survey represents in pieces: what is missing of a node is found when the node is written.
 
 ghost use Rattle.std.specs.Prelude.{◌++◌, IfOk, codes};
 ghost use Rattle.std.specs.String.{string_bytes};
@@ -32,7 +32,7 @@ use udfs_reading::Sink;
 use udfs_space::View;
 use udfs_walk::{Node, Unnamed, full_standing};
 
-/// The object of a node up to its holes, and what stands before it.
+/// `front`, and then the object of a node up to its holes.
 fn put_node_front<W: Sink>(
     text: &mut String,
     sink: &mut W,
@@ -46,7 +46,7 @@ fn put_node_front<W: Sink>(
     pass_on(text, sink)
 }
 
-/// The object of a node behind its missing blocks.
+/// The rest of the object of a node, after its missing blocks.
 fn put_node_end<W: Sink>(
     alloc: Global,
     text: &mut String,
@@ -59,7 +59,7 @@ fn put_node_end<W: Sink>(
     pass_on(text, sink)
 }
 
-/// A node without its blocks and holes, with those, and what stands before it.
+/// `front`, and then the object of a node. Its missing blocks and holes, which `node` lacks, are found again or taken from `kept`.
 fn put_node<W: Sink>(
     alloc: Global,
     text: &mut String,
@@ -79,7 +79,7 @@ fn put_node<W: Sink>(
     put_node_end(alloc, text, sink, node)
 }
 
-/// Nodes without their blocks and holes, with those, behind others, each behind its comma.
+/// The objects of further nodes, each after a comma, with the missing blocks and holes that `nodes` lack.
 fn put_more_nodes<W: Sink>(
     alloc: Global,
     text: &mut String,
@@ -97,7 +97,7 @@ fn put_more_nodes<W: Sink>(
     Ok(())
 }
 
-/// Nodes without their blocks and holes, with those, as a list.
+/// The objects of nodes as a list, with the missing blocks and holes that `nodes` lack.
 fn put_nodes<W: Sink>(
     alloc: Global,
     text: &mut String,
@@ -116,7 +116,7 @@ fn put_nodes<W: Sink>(
     put_words(text, sink, "]")
 }
 
-/// The object of an entry that no name leads to, up to its holes, and what stands before it.
+/// `front`, and then the object of an entry that no name leads to, up to its holes.
 fn put_entry_front<W: Sink>(
     alloc: Global,
     text: &mut String,
@@ -131,7 +131,7 @@ fn put_entry_front<W: Sink>(
     pass_on(text, sink)
 }
 
-/// The object of an entry that no name leads to, behind its missing blocks.
+/// The rest of the object of an entry that no name leads to, after its missing blocks.
 fn put_entry_end<W: Sink>(
     alloc: Global,
     text: &mut String,
@@ -145,7 +145,7 @@ fn put_entry_end<W: Sink>(
     pass_on(text, sink)
 }
 
-/// An entry without its blocks and holes, with those, and what stands before it.
+/// `front`, and then the object of an entry. Its missing blocks and holes, which `entry` lacks, are found again.
 fn put_entry<W: Sink>(
     alloc: Global,
     text: &mut String,
@@ -164,7 +164,7 @@ fn put_entry<W: Sink>(
     put_entry_end(alloc, text, sink, two, entry)
 }
 
-/// Entries without their blocks and holes, with those, behind others, each behind its comma.
+/// The objects of further entries, each after a comma, with the missing blocks and holes that `entries` lack.
 fn put_more_entries<W: Sink>(
     alloc: Global,
     text: &mut String,
@@ -181,7 +181,7 @@ fn put_more_entries<W: Sink>(
     Ok(())
 }
 
-/// Entries without their blocks and holes, with those, as a list.
+/// The objects of entries as a list, with the missing blocks and holes that `entries` lack.
 fn put_entries<W: Sink>(
     alloc: Global,
     text: &mut String,
@@ -258,7 +258,7 @@ fn put_front<W: Sink>(
     pass_on(text, sink)
 }
 
-/// The object behind its entries that no name leads to.
+/// The rest of the object, after its entries that no name leads to.
 fn put_end<W: Sink>(
     alloc: Global,
     text: &mut String,
@@ -287,7 +287,7 @@ fn put_last<W: Sink>(
     put_words(text, sink, "\n")
 }
 
-/// The blocks to read again, and all behind them.
+/// The blocks to read again, and all that follows them.
 fn put_later<W: Sink>(
     alloc: Global,
     text: &mut String,
@@ -304,7 +304,7 @@ fn put_later<W: Sink>(
     put_last(alloc, text, sink, survey)
 }
 
-/// The nodes, and all behind them.
+/// The nodes, and all that follows them.
 fn put_lists_of<W: Sink>(
     alloc: Global,
     text: &mut String,
@@ -336,12 +336,13 @@ fn put_survey<W: Sink>(
     put_lists_of(alloc, text, sink, survey)
 }
 
-/// Writes the JSON of the report that a survey stands for, and a line feed: the text that [`report_json`](crate::report_json)
-/// returns for the report. The blocks and holes of one node are held at a time, and no value of the whole report.
+/// Writes the JSON of the report that a survey represents, and a line feed: the text that [`report_json`](crate::report_json)
+/// returns for the report. It holds the blocks and holes of one node at a time, and at most 16,000,000 bytes of them that it keeps for
+/// other names of the same bodies, but no value of the whole report.
 ///
 /// # Errors
 ///
-/// `Write` exactly where the sink failed, and `OutOfMemory` where memory is refused. Then a beginning of the text is out.
+/// `Write` exactly where the sink failed, and `OutOfMemory` where memory runs out. Both leave a beginning of the text in the sink.
 pub fn write_json<W: Sink>(alloc: Global, survey: &Survey<'_>, sink: &mut W) -> Result<(), RunError>
     ensures { Prints (W.stream sink.old) (W.stream sink.new)
         (line (json_text_by survey.now.profile survey.now.table.now survey.now.last (survey_now survey.now))) result }

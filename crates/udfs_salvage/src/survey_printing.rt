@@ -87,11 +87,12 @@ fn put_survey<W: Sink>(
     Ok(())
 }
 
-/// Writes the text of the report that a survey stands for. The blocks and holes of one node are held at a time.
+/// Writes the text of the report that a survey represents. It holds the blocks and holes of one node at a time, and at most 16,000,000 bytes
+/// of them that it keeps for other names of the same bodies.
 ///
 /// # Errors
 ///
-/// `Write` exactly where the sink failed, and `OutOfMemory` where memory is refused. Then a beginning of the text is out.
+/// `Write` exactly where the sink failed, and `OutOfMemory` where memory runs out. Both leave a beginning of the text in the sink.
 pub fn write_survey<W: Sink>(
     alloc: Global,
     survey: &Survey<'_>,

@@ -125,7 +125,7 @@ fn survey_closed<'a>(
     }
 }
 
-/// The survey of a volume, by what is found of it, where nothing is known behind its last block.
+/// The survey of a volume, by what is found of it, where nothing is known of a block after its last.
 fn look<'a>(
     alloc: Global,
     table: &'a BlockTable,
@@ -213,7 +213,7 @@ fn filled<'a>(alloc: Global, survey: Survey<'a>) -> Result<Report<'a>, SalvageEr
     }
 }
 
-/// The report of a volume, by what is found of it, where nothing is known behind its last block.
+/// The report of a volume, by what is found of it, where nothing is known of a block after its last.
 pub(crate) fn look_full<'a>(
     alloc: Global,
     table: &'a BlockTable,
@@ -252,7 +252,7 @@ pub fn survey_volume_by<'a>(
     ensures past { (n : ℕ) → (IsErrOf result (SalvageError.PastEnd n) ↔ ((¬ IsOutOfRange last) × IsPastEnd (state_of table.now) last n)) }
     ensures too_many { IsErrOf result SalvageError.TooManyPaths → (¬ IsOutOfRange last) × IsNothingPast (state_of table.now) last × HasTooManyPathsBy profile (state_of table.now) last }
     ensures report { IfOk result (λ survey. IsReportBy profile (state_of table.now) last (survey_now survey)) }
-    // All that is promised of a report holds of the one that the survey stands for.
+    // All that is promised of a report holds of the one that the survey represents.
     ensures headline { IfOk result (λ survey. HeadlineBy profile (state_of table.now) last (survey_now survey)) }
     ensures memory { IsErrOf result SalvageError.OutOfMemory → (¬ IsOutOfRange last) × IsNothingPast (state_of table.now) last × MayWantMemoryBy profile (state_of table.now) last }
     ensures of_no_lawful { IfErr result (IsOfNoLawfulBy profile (state_of table.now) last) }
@@ -281,7 +281,7 @@ pub fn survey_volume<'a>(
     ensures past { (n : ℕ) → (IsErrOf result (SalvageError.PastEnd n) ↔ ((¬ IsOutOfRange last) × IsPastEnd (state_of table.now) last n)) }
     ensures too_many { IsErrOf result SalvageError.TooManyPaths → (¬ IsOutOfRange last) × IsNothingPast (state_of table.now) last × HasTooManyPaths (state_of table.now) last }
     ensures report { IfOk result (λ survey. IsReport (state_of table.now) last (survey_now survey)) }
-    // All that is promised of a report holds of the one that the survey stands for.
+    // All that is promised of a report holds of the one that the survey represents.
     ensures headline { IfOk result (λ survey. Headline (state_of table.now) last (survey_now survey)) }
     ensures memory { IsErrOf result SalvageError.OutOfMemory → (¬ IsOutOfRange last) × IsNothingPast (state_of table.now) last × MayWantMemory (state_of table.now) last }
     ensures of_no_lawful { IfErr result (IsOfNoLawful (state_of table.now) last) }

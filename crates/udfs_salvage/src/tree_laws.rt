@@ -39,7 +39,7 @@ pub fn wide_takes_more()
     ensures { WideTakesMore }
 {}
 
-/// A volume is lawful, which is said in the words of the standard's reading alone, exactly if with all of it known every node is whole.
+/// A volume is lawful, which the standard's reading alone defines, if and only if every node is whole when all of the volume is known.
 pub fn lawful_is_whole()
     ensures strict { LawfulIsWhole }
     ensures by_profile { (profile : Profile) → LawfulIsWholeBy profile }

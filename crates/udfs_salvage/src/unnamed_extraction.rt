@@ -40,13 +40,13 @@ pub fn has_two_partitions(volume: &Volume) -> bool
 /// Writes the bytes of the entry at this index, counted from 0 and below their number, of those that no name leads to, of a report that
 /// [`salvage_by`](crate::salvage_by) returned, by the rules of any profile: where it is a lost file, as [`is_lost_file`] says.
 ///
-/// They are the bytes of the body of that entry, in the table; none is missing. Whether the file was deleted long ago, nothing says. Nothing bounds their number but the
-/// entry's size, which can be up to 2^64 - 1.
+/// They are the bytes of the body of that entry, in the table; none is missing. Nothing shows whether the file was deleted long ago. Nothing bounds the
+/// number of bytes but the entry's size, which can be up to 2^64 - 1.
 ///
 /// # Errors
 ///
-/// `NotWhole` exactly where the entry is no lost file; then nothing is written. `Write` exactly where the sink failed; then a beginning of the bytes is out. `OutOfMemory` where
-/// memory is refused; then nothing is written.
+/// `NotWhole` exactly where the entry is no lost file; then nothing is written. `Write` exactly where the sink failed; then a beginning of the bytes is
+/// written. `OutOfMemory` where memory runs out; then nothing is written.
 pub fn extract_unnamed_by<W: Sink>(
     alloc: Global,
     report: &Report<'_>,

@@ -22,9 +22,9 @@ use udfs_volume::{Profile, Seen, VolumeFault, VolumeParts};
 pub struct OpenVolume {
     /// The layout.
     pub parts: VolumeParts,
-    /// Where the blocks of the partitions stand.
+    /// Where the blocks of the partitions are.
     pub space: Space,
-    /// Where the information control block of the root directory is said to stand.
+    /// The address that the file set gives for the information control block of the root directory.
     pub root: LongAd,
 }
 
@@ -32,7 +32,7 @@ impl OpenVolume {
     ghost use Rattle.udfs_space.specs.Places.{view};
     ghost use Rattle.udfs_space.specs.Views.{view_now};
 
-    /// The volume as its files are looked for: what a table knows, and where the blocks of the partitions stand. It takes no memory.
+    /// The view in which the files of the volume are looked for: what `table` knows, and where the blocks of the partitions are. It allocates no memory.
     pub fn view<'a>(&'a self, table: &'a BlockTable) -> View<'a>
         ensures value { view_now result ≡ view (state_of table.now) self.now.space }
         ensures space { result.space.now ≡ self.now.space }

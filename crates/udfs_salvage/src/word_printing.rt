@@ -11,7 +11,7 @@ use udfs_osta::{Name, Stamp};
 use udfs_printing::Printer;
 use udfs_reading::Sink;
 
-/// A number, and what stands before it.
+/// `front`, and then a number in decimal.
 pub(crate) fn put_count<W: Sink>(out: &mut Printer, sink: &mut W, front: &str, number: u64)
     requires { length front.now ≤ 2048 }
     ensures { Puts (W.stream sink.old) (W.stream sink.new) out.old out.new (front.now ++ decimal number) }
@@ -20,7 +20,7 @@ pub(crate) fn put_count<W: Sink>(out: &mut Printer, sink: &mut W, front: &str, n
     out.put_number(sink, number);
 }
 
-/// A word, and its number where it has one.
+/// A keyword, and its number where it has one.
 pub(crate) fn put_word<W: Sink>(out: &mut Printer, sink: &mut W, word: Word)
     requires { length word.front.now ≤ 2048 }
     ensures { Puts (W.stream sink.old) (W.stream sink.new) out.old out.new (word_text word.front.now word.number) }

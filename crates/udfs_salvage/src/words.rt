@@ -1,4 +1,4 @@
-//! The words of a report, and the numbers that stand behind some of them.
+//! The keywords of a report, and the numbers that follow some of them.
 
 ghost use Rattle.std.specs.Prelude.{◌≡◌, ◌≤◌, length};
 ghost use Rattle.udfs_salvage.specs.NodeTexts.{kind_name, node_fault_number, standing_name, word_text};
@@ -8,10 +8,10 @@ use udfs_file::{Kind, NodeFault};
 use udfs_volume::VolumeFault;
 use udfs_walk::Standing;
 
-/// A word, and the number behind it where it has one.
+/// A keyword, and the number after it where it has one.
 #[derive(Clone, Copy, Debug, PartialEq, Eq)]
 pub(crate) struct Word {
-    /// What stands before the number.
+    /// The text before the number.
     pub(crate) front: &'static str,
     /// The number.
     pub(crate) number: Option<u8>,

@@ -9,8 +9,9 @@ pub type NamedEntry = (&'static [u8], u32);
 
 impl Disc {
     /// Writes a directory into the partition that begins at block `start`: its file entry (ECMA-167 4/14.9)
-    /// at the logical block `entry`, and in the logical blocks behind it, without gaps, a file identifier
-    /// descriptor (4/14.4) for each name. There is none for the parent.
+    /// at the logical block `entry`, and in the logical blocks after it, without gaps, a file identifier
+    /// descriptor (4/14.4) for each name, of at most 255 bytes. The parent has no descriptor. Fails if memory
+    /// runs out; what was written until then stays.
     pub fn write_directory(
         &mut self,
         start: u32,
@@ -69,8 +70,8 @@ impl Disc {
         self.write_over(first, position.wrapping_add(38), name)
     }
 
-    /// Writes bytes from a byte position on that counts from the front of block `n`, over as many blocks as
-    /// they take.
+    /// Writes bytes from byte `position` on, counted from the first byte of block `n`, over as many blocks as
+    /// they take. Fails if memory runs out; what was written until then stays.
     pub fn write_over(&mut self, n: u32, position: u32, bytes: &[u8]) -> Result<(), AllocError> {
         let mut at = position;
         for byte in bytes {

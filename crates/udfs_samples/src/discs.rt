@@ -7,7 +7,7 @@ use crate::volume::{LAYOUT, SEQUENCE_ENDS};
 use std::alloc::{AllocError, Global};
 use udfs_lattice::{BlockTable, TableError};
 
-/// Bytes of a disc: the block's number, the byte position in the block, and what stands there.
+/// Bytes of a disc: the block's number, the byte position in the block, and the bytes from there on.
 pub type Bytes = (u32, usize, &'static [u8]);
 
 /// A block in which something is written.
@@ -19,8 +19,8 @@ struct Block {
 
 /// A disc, of zeros where nothing is written.
 ///
-/// No descriptor of the sample volumes has a CRC that covers a byte, so that a change behind a tag needs
-/// no new tag.
+/// The CRC of each descriptor of the sample volumes covers no byte, so a change after a tag needs no new
+/// tag.
 #[derive(Drop)]
 pub struct Disc {
     blocks: Vec<Block>,
@@ -53,8 +53,9 @@ impl Disc {
         Ok(disc)
     }
 
-    /// The volume with one sparable map of packets of 32 blocks. Its first packet is spared and stands at
-    /// 400: so do the blocks that the volume of type 1 has at 272. The sparing table stands at 100 and 200.
+    /// The volume with one sparable map of packets of 32 blocks. Its first packet is spared and mapped to
+    /// block 400, so the files that the volume of type 1 has from block 272 on are from block 400 on. The
+    /// copies of the sparing table are at 100 and 200.
     pub fn sparable(alloc: Global) -> Result<Self, AllocError> {
         let mut disc = Disc::blank(alloc);
         disc.write(&LAYOUT)?;
@@ -70,7 +71,7 @@ impl Disc {
     }
 
     /// The volume with two maps: the first of type 1, with the blocks 272 to 371, the second sparable, with
-    /// the blocks 400 to 499 and the first packet spared at 520. The entry of the file `B` stands in the
+    /// the blocks 400 to 499 and the first packet spared at 520. The entry of the file `B` is in the
     /// second partition, in block 520.
     pub fn two_maps(alloc: Global) -> Result<Self, AllocError> {
         let mut disc = Disc::type1(alloc)?;
@@ -113,7 +114,8 @@ impl Disc {
         Ok(())
     }
 
-    /// Writes bytes into a block, as far as they stand before its end.
+    /// Writes bytes into block `n` from byte position `at` on. Bytes past the end of the block are dropped.
+    /// Fails, and writes nothing, if memory runs out.
     pub fn write_at(&mut self, n: u32, at: usize, bytes: &[u8]) -> Result<(), AllocError> {
         let i = self.index_of(n)?;
         let Some(block) = self.blocks.get_mut(i) else {
@@ -132,8 +134,8 @@ impl Disc {
         self.write_at(n, 0, &[byte; 2048])
     }
 
-    /// The tag of a descriptor (ECMA-167 3/7.2): version 2, with the checksum that it has to have, and with a
-    /// CRC that covers no byte.
+    /// The tag of a descriptor (ECMA-167 3/7.2): version 2, with the right checksum and a CRC that covers no
+    /// byte.
     pub fn tag(identifier: u16, location: u32) -> [u8; 16] {
         let [id_low, id_high] = identifier.to_le_bytes();
         let [a, b, c, d] = location.to_le_bytes();

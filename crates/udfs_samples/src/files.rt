@@ -2,7 +2,7 @@
 
 use crate::discs::Bytes;
 
-/// 2001-07-04 at 10:30, one hour before UTC (ECMA-167 1/7.3).
+/// 2001-07-04 at 10:30 local time, one hour ahead of UTC (ECMA-167 1/7.3).
 pub(crate) const STAMP: [u8; 8] = [0x3c, 0x10, 0xd1, 7, 7, 4, 0x0a, 0x1e];
 
 /// The tag of a file identifier descriptor in logical block 2.

@@ -12,7 +12,7 @@ pub(crate) const SPARABLE_MAP: [(usize, &[u8]); 6] = [
     (48, &[0x64, 0, 0, 0, 0xc8, 0, 0, 0]),
 ];
 
-/// Both copies of the sparing table: the packet at 0 is spared and stands at 400.
+/// Both copies of the sparing table: the packet at logical block 0 is spared and mapped to block 400.
 pub(crate) const SPARING_TABLES: [Bytes; 8] = [
     (100, 0, &[0, 0, 2, 0, 0x66, 0, 0, 0, 0, 0, 0, 0, 0x64]),
     (100, 17, b"*UDF Sparing Table"),

@@ -3,8 +3,8 @@
 use crate::discs::Bytes;
 use crate::files::STAMP;
 
-/// The first partition shortened, the descriptor of the second (ECMA-167 3/10.5) and the ends of the
-/// sequence behind it.
+/// The first partition shortened, the descriptor of the second (ECMA-167 3/10.5) and, after it, the
+/// terminating descriptor, in both copies of the sequence, with the new map table length and number of maps.
 pub(crate) const SECOND_PARTITION: [Bytes; 18] = [
     (32, 264, &[0x46]),
     (48, 264, &[0x46]),

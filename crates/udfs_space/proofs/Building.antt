@@ -1,8 +1,9 @@
 -- The spans of partitions, one after the other.
-use Rattle.std.proofs.Common.{◌≡◌, refl, ◌∙◌, ap, sym, inl, inr, ℕ, List, [], ◌∷◌, ◌++◌, All, map, length, append_assoc}
-use Rattle.std.specs.Prelude.{suc}
+use Rattle.std.proofs.Common.{◌≡◌, refl, ◌∙◌, ap, sym, ℕ, List, [], ◌∷◌, ◌++◌, All, map, length, append_assoc}
+use Rattle.std.specs.Prelude.{suc, Contains}
 use Rattle.std.proofs.lemmas.List.Elements.{All-nil, All-cons}
-use Rattle.udfs_lattice.specs.Volumes.{Blocks, Includes}
+use Rattle.udfs_lattice.specs.Volumes.{Blocks}
+use Rattle.udfs_lattice.proofs.Inclusion.{here, there}
 use Rattle.udfs_volume.specs.declared.faults.VolumeFault.{VolumeFault}
 use Rattle.udfs_volume.specs.Answers.{Answer, found, holes, faulty, and_then}
 use Rattle.udfs_volume.specs.Layout.{Layout, Partition}
@@ -39,9 +40,9 @@ pub after-faulty : (b : Blocks) (last : ℕ) (p : Partition) (ps : List Partitio
 after-faulty b last p ps front f x e h = sym h ∙ ap (λ a. after front (and_then a (λ s. and_then (spans b last ps) (λ ss. found (s ∷ ss))))) e
 
 -- ---- what holds of each partition
-pub all_bounded : {A : Type 0} (P : Partition → Type 0) (f : A → Partition) (xs : List A) → ((p : Partition) → Includes (map f xs) p → P p) → All (λ x. P (f x)) xs
+pub all_bounded : {A : Type 0} (P : Partition → Type 0) (f : A → Partition) (xs : List A) → ((p : Partition) → Contains (map f xs) p → P p) → All (λ x. P (f x)) xs
 all_bounded P f [] h = All-nil (λ x. P (f x))
-all_bounded P f (x ∷ xs) h = All-cons (λ x. P (f x)) x xs (h (f x) (inl refl)) (all_bounded P f xs (λ p i. h p (inr i)))
+all_bounded P f (x ∷ xs) h = All-cons (λ x. P (f x)) x xs (h (f x) (here (f x) (map f xs))) (all_bounded P f xs (λ p i. h p (there (f x) (map f xs) p i)))
 
 -- a span for each partition
 pub as_many : (b : Blocks) (last : ℕ) (ps : List Partition) (ss : Spans) → spans b last ps ≡ found ss → length ss ≡ length ps

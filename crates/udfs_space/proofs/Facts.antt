@@ -1,6 +1,7 @@
 -- Plain facts of what is found, of order, and of what stands in a list.
 use Rattle.std.proofs.Common.{◌≡◌, refl, sym, ◌∙◌, ap, inl, inr, ◌⊎◌, ℕ, ◌<◌, ◌≤◌, Bool, true, false, List, [], ◌∷◌, filter, map, cond, arith, Option, Some, None}
-use Rattle.udfs_lattice.specs.Volumes.{Blocks, Includes, Volume, Agrees, complete}
+use Rattle.udfs_lattice.specs.Volumes.{Blocks, Volume, Agrees, complete}
+use Rattle.udfs_lattice.proofs.Inclusion.{Includes}
 use Rattle.udfs_lattice.specs.declared.facts.Fact.TheVariants.{Known}
 use Rattle.udfs_lattice.proofs.PublicLaws.{complete_knows}
 use Rattle.udfs_volume.specs.Answers.{Answer, found, holes, faulty, and_then, unless_fault}

@@ -7,7 +7,7 @@ use Rattle.std.specs.List.{range_with_len}
 use Rattle.std.proofs.Math.Seq.{take-nil}
 use Rattle.std.proofs.lemmas.List.{length-take, drop-append-le, length-drop}
 use Rattle.std.proofs.lemmas.List.Concat.{flat_map-cons}
-use Rattle.udfs_lattice.specs.Volumes.{Includes}
+use Rattle.udfs_lattice.proofs.Inclusion.{Includes}
 use Rattle.udfs_volume.specs.Sequence.{Bytes}
 
 take_append : (n : ℕ) (xs ys : Bytes) → take n (xs ++ ys) ≡ take n xs ++ take (n - length xs) ys

@@ -1,10 +1,11 @@
 -- Every place of a volume that has a layout is one of its blocks.
-use Rattle.std.proofs.Common.{◌≡◌, refl, sym, ◌∙◌, ap, subst, inl, inr, ℕ, ◌+◌, ◌-◌, ◌%◌, ◌<◌, ◌≤◌, Bool, true, false, not, List, [], ◌∷◌, drop, filter, cond, ◌&&◌, ◌||◌, arith, Option, Some, None, slice_get, nat_eq, nat_lt}
-use Rattle.std.specs.Prelude.{zero, suc, find}
+use Rattle.std.proofs.Common.{◌≡◌, refl, sym, ◌∙◌, ap, subst, inl, inr, ◌⊎◌, ℕ, ◌+◌, ◌-◌, ◌%◌, ◌<◌, ◌≤◌, Bool, true, false, not, List, [], ◌∷◌, drop, filter, cond, ◌&&◌, ◌||◌, arith, Option, Some, None, slice_get, nat_eq, nat_lt}
+use Rattle.std.specs.Prelude.{zero, suc, find, Contains}
 use Rattle.std.specs.List.{list_any}
 use Rattle.std.proofs.lemmas.Bool.{leb-true}
 use Rattle.std.proofs.lemmas.Nat.{mod_below}
-use Rattle.udfs_lattice.specs.Volumes.{Blocks, Includes, first_known}
+use Rattle.udfs_lattice.specs.Volumes.{Blocks, first_known}
+use Rattle.udfs_lattice.proofs.Inclusion.{here, there, here_or_there, in_nothing}
 use Rattle.udfs_volume.specs.Sequence.{Bytes}
 use Rattle.udfs_lattice.specs.Volumes.{complete}
 use Rattle.udfs_tag.specs.Tags.{is_valid}
@@ -93,21 +94,24 @@ span_within T last p s b e = let q : (sp : Spared) × (spared T last p.kind ≡ 
     (record { packet = has_packet last p.kind b.bounded_map; ends = b.ends; spared = spared_fit T last p.kind q.0 q.1 })
 
 -- what holds of the partition of each map holds of all
-pub spans_each : (P : Span → Type 0) (T : Blocks) (last : ℕ) (ps : List Partition) (ss : Spans) → ((p : Partition) (s : Span) → Includes ps p → span T last p ≡ found s → P s)
-    → spans T last ps ≡ found ss → (s : Span) → Includes ss s → P s
-spans_each P T last [] ss b e s i = absurd (subst (λ x. Includes x s) (sym (found_same [] ss e)) i)
+pub spans_each : (P : Span → Type 0) (T : Blocks) (last : ℕ) (ps : List Partition) (ss : Spans) → ((p : Partition) (s : Span) → Contains ps p → span T last p ≡ found s → P s)
+    → spans T last ps ≡ found ss → (s : Span) → Contains ss s → P s
+spans_each P T last [] ss b e s i = in_nothing s (subst (λ x. Contains x s) (sym (found_same [] ss e)) i)
 spans_each P T last (p ∷ ps) ss b e s i = let q : (x : Span) × (span T last p ≡ found x) × (and_then (spans T last ps) (λ xs. found (x ∷ xs)) ≡ found ss) =
     and_then-found (span T last p) (λ x. and_then (spans T last ps) (λ xs. found (x ∷ xs))) ss e in
     let r : (xs : Spans) × (spans T last ps ≡ found xs) × (found (q.0 ∷ xs) ≡ found ss) = and_then-found (spans T last ps) (λ xs. found (q.0 ∷ xs)) ss q.2 in
-    go q.0 r.0 (b p q.0 (inl refl) q.1) (spans_each P T last ps r.0 (λ p x i. b p x (inr i)) r.1 s)
-    (subst (λ x. Includes x s) (sym (found_same (q.0 ∷ r.0) ss r.2)) i)
+    go q.0 r.0 (b p q.0 (here p ps) q.1) (spans_each P T last ps r.0 (λ y x i. b y x (there p ps y i)) r.1 s)
+    (subst (λ x. Contains x s) (sym (found_same (q.0 ∷ r.0) ss r.2)) i)
   where
-    go : (x : Span) (xs : Spans) → P x → (Includes xs s → P s) → Includes (x ∷ xs) s → P s
-    go x xs h later (inl k) = subst P k h
-    go x xs h later (inr k) = later k
+    either : (x : Span) (xs : Spans) → P x → (Contains xs s → P s) → (x ≡ s) ⊎ Contains xs s → P s
+    either x xs h later (inl k) = subst P k h
+    either x xs h later (inr k) = later k
 
-spans_within : (T : Blocks) (last : ℕ) (ps : List Partition) (ss : Spans) → ((p : Partition) → Includes ps p → IsBoundedPartition last p)
-    → spans T last ps ≡ found ss → (s : Span) → Includes ss s → IsWithin last s
+    go : (x : Span) (xs : Spans) → P x → (Contains xs s → P s) → Contains (x ∷ xs) s → P s
+    go x xs h later i = either x xs h later (here_or_there x xs s i)
+
+spans_within : (T : Blocks) (last : ℕ) (ps : List Partition) (ss : Spans) → ((p : Partition) → Contains ps p → IsBoundedPartition last p)
+    → spans T last ps ≡ found ss → (s : Span) → Contains ss s → IsWithin last s
 spans_within T last ps ss b e s i = spans_each (IsWithin last) T last ps ss (λ p x k f. span_within T last p x (b p k) f) e s i
 
 -- where a logical block stands
@@ -127,18 +131,18 @@ place_within last s w b n e = go (nat_lt b s.size) refl e
         (at (omega (arith, l)) (find (λ e. nat_eq e.original (b - b % s.packet)) s.spared) refl)
     go false x q = absurd (let z : ⊥ = cc in z)
 
-pub included : (ss : Spans) (r : ℕ) (s : Span) → slice_get ss r ≡ Some s → Includes ss s
-included [] r s e = absurd (let z : ⊥ = cc in z)
-included (x ∷ xs) zero s e = inl (let z : x ≡ s = cc in z)
-included (x ∷ xs) (suc r) s e = inr (included xs r s e)
+pub span_in : (ss : Spans) (r : ℕ) (s : Span) → slice_get ss r ≡ Some s → Contains ss s
+span_in [] r s e = absurd (let z : ⊥ = cc in z)
+span_in (x ∷ xs) zero s e = subst (Contains (x ∷ xs)) (let z : x ≡ s = cc in z) (here x xs)
+span_in (x ∷ xs) (suc r) s e = there x xs s (span_in xs r s e)
 
-any_within : (last : ℕ) (ss : Space) → ((s : Span) → Includes ss.spans s → IsWithin last s) → (r b n : ℕ) → place ss r b ≡ Some n → n ≤ last
+any_within : (last : ℕ) (ss : Space) → ((s : Span) → Contains ss.spans s → IsWithin last s) → (r b n : ℕ) → place ss r b ≡ Some n → n ≤ last
 unfolding place
 any_within last ss all r b n e = go (slice_get ss.spans r) refl e
   where
     go : (o : Option Span) → slice_get ss.spans r ≡ o → place_by o b ≡ Some n → n ≤ last
     go None q p = absurd (let z : ⊥ = cc in z)
-    go (Some s) q p = place_within last s (all s (included ss.spans r s q)) b n p
+    go (Some s) q p = place_within last s (all s (span_in ss.spans r s q)) b n p
 
 -- the spans of a space that is found
 pub space_found : (T : Blocks) (l : Layout) (ss : Space) → space T l ≡ found ss
@@ -154,13 +158,13 @@ space_within : (profile : Profile) (T : Blocks) (last : ℕ) (l : Layout) (ss : 
 unfolding space
 space_within profile T last l ss h e = let bounds : IsBounded last l = layout_is_bounded_by profile T last l h in
     let q : (xs : Spans) × (spans T l.last l.partitions ≡ found xs) × (found (record { spans = xs; takes_tail = l.takes_tail }) ≡ found ss) = space_found T l ss e in
-    any_within last ss (subst (λ xs. (s : Span) → Includes xs s → IsWithin last s) (space_spans T l ss q)
+    any_within last ss (subst (λ xs. (s : Span) → Contains xs s → IsWithin last s) (space_spans T l ss q)
     (spans_within T last l.partitions q.0 bounds.of_each (ap (λ x. spans T x l.partitions) (sym bounds.is_last) ∙ q.1)))
 
 pub places_up_to : (T : Blocks) (l : Layout) (ss : Space) → IsBounded l.last l → space T l ≡ found ss → (r b n : ℕ) → place ss r b ≡ Some n → n ≤ l.last
 unfolding space
 places_up_to T l ss bounds e = let q : (xs : Spans) × (spans T l.last l.partitions ≡ found xs) × (found (record { spans = xs; takes_tail = l.takes_tail }) ≡ found ss) = space_found T l ss e in
-    any_within l.last ss (subst (λ xs. (s : Span) → Includes xs s → IsWithin l.last s) (space_spans T l ss q) (spans_within T l.last l.partitions q.0 bounds.of_each q.1))
+    any_within l.last ss (subst (λ xs. (s : Span) → Contains xs s → IsWithin l.last s) (space_spans T l ss q) (spans_within T l.last l.partitions q.0 bounds.of_each q.1))
 
 pub place_law : (profile : Profile) → PlaceLawBy profile
 place_law profile M V N l s hv hl hs a = record {

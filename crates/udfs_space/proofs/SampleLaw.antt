@@ -1,6 +1,6 @@
 -- The places of the sample layouts. Of the volume they look at the sparing tables alone.
 use Rattle.std.proofs.Common.{◌≡◌, refl, sym, subst, inl, inr, ◌∙◌, ap, ℕ, [], ◌∷◌, drop, true}
-use Rattle.udfs_lattice.specs.Volumes.{Includes}
+use Rattle.udfs_lattice.proofs.Inclusion.{Includes, included}
 use Rattle.udfs_tag.specs.Crc.{polynomial, reduced, crc_of}
 use Rattle.udfs_tag.specs.Tags.{is_valid, tag_of}
 use Rattle.udfs_volume.specs.Answers.{found}
@@ -31,7 +31,7 @@ alike : (maps : Maps) (contents : ℕ → Bytes) → drop 16 (table_at (sample m
 alike maps contents = refl
 
 same_tables : (maps : Maps) (contents : ℕ → Bytes) → AreTheSameTables (sample maps contents) 64 (64 ∷ 65 ∷ [])
-same_tables maps contents = record { tags = tags; contents = λ a b i j. first a i ∙ sym (first b j) }
+same_tables maps contents = record { tags = λ place i. tags place (included (64 ∷ 65 ∷ []) place i); contents = λ a b i j. first a (included (64 ∷ 65 ∷ []) a i) ∙ sym (first b (included (64 ∷ 65 ∷ []) b j)) }
   where
     tags : (place : ℕ) → Includes (64 ∷ 65 ∷ []) place → is_valid (table_at (sample maps contents) 64 place) place 0 ≡ true
     tags place (inl e) = subst (λ z. is_valid (table_at (sample maps contents) 64 z) z 0 ≡ true) e (valid_at_64 maps contents)
@@ -53,4 +53,4 @@ tables type1_and_sparable contents p (inr (inl e)) = subst (λ z. SparingAgrees 
 tables type1_and_sparable contents p (inr (inr e)) = absurd e
 
 pub sample_space_law : SampleSpace
-sample_space_law maps contents = (space_is maps contents, record { tables = tables maps contents; placed = (sample_space maps, space_is maps contents) })
+sample_space_law maps contents = (space_is maps contents, record { tables = λ p i. tables maps contents p (included (sample_layout maps).partitions p i); placed = (sample_space maps, space_is maps contents) })

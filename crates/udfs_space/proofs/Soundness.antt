@@ -1,8 +1,9 @@
 -- The partitions of a layout are sound.
 use Rattle.std.proofs.Common.{◌≡◌, refl, sym, ◌∙◌, ap, subst, ℕ, ◌+◌, ◌*◌, ◌≤◌, Bool, true, false, not, List, [], ◌∷◌, drop, cond, ◌||◌, arith, Option, Some, None, nat_lt}
+use Rattle.std.specs.Prelude.{Contains}
 use Rattle.std.specs.List.{list_any}
 use Rattle.std.proofs.lemmas.List.Elements.{All-nil}
-use Rattle.udfs_lattice.specs.Volumes.{Blocks, Includes, first_known}
+use Rattle.udfs_lattice.specs.Volumes.{Blocks, first_known}
 use Rattle.udfs_tag.specs.Tags.{is_valid}
 use Rattle.udfs_volume.specs.Sequence.{Bytes}
 use Rattle.udfs_volume.specs.Answers.{found}
@@ -16,7 +17,7 @@ use Rattle.udfs_space.specs.Laws.{SoundSpace}
 use Rattle.udfs_space.specs.Parts.{AreSound, IsSoundEntry, IsSound}
 use Rattle.udfs_space.specs.Sparing.{Span, Spans, Spared, spared, spared_unless, spared_by, spared_in, unread, is_bad_original, is_sparing_table, entries, entry_count, copies, place_of, sparing_fault, packet_of, span_of, span, spans, space, sparing_table_bytes}
 use Rattle.udfs_space.proofs.Judging.{sparing_fault-entries}
-use Rattle.udfs_space.proofs.PlaceLaw.{spans_each, has_packet, included, space_found, space_spans}
+use Rattle.udfs_space.proofs.PlaceLaw.{spans_each, has_packet, span_in, space_found, space_spans}
 use Rattle.udfs_space.proofs.SoundEntries.{sound_entries}
 
 -- a table without a fault has the identifier, and its entries lie within it
@@ -62,4 +63,4 @@ unfolding space
 sound_space profile T last l ss h k e r s g = let bounds : IsBounded last l = layout_is_bounded_by profile T last l k in
     let q : (xs : Spans) × (spans T l.last l.partitions ≡ found xs) × (found (record { spans = xs; takes_tail = l.takes_tail }) ≡ found ss) = space_found T l ss e in
     spans_each IsSound T last l.partitions q.0 (λ p x i f. span_sound T last p x h (bounds.of_each p i) f)
-    (ap (λ x. spans T x l.partitions) (sym bounds.is_last) ∙ q.1) s (subst (λ xs. Includes xs s) (sym (space_spans T l ss q)) (included ss.spans r s g))
+    (ap (λ x. spans T x l.partitions) (sym bounds.is_last) ∙ q.1) s (subst (λ xs. Contains xs s) (sym (space_spans T l ss q)) (span_in ss.spans r s g))

@@ -1,12 +1,13 @@
 -- Over a lawful volume that agrees with the table, the places are the volume's, or a block of a sparing table is
 -- unread in all its copies.
 use Rattle.std.proofs.Common.{◌≡◌, refl, sym, ◌∙◌, ap, subst, inl, inr, ◌⊎◌, ℕ, ◌+◌, ◌-◌, ◌/◌, ◌<◌, ◌≤◌, Bool, true, false, List, [], ◌∷◌, length, take, drop, map, filter, ◌++◌, cond, arith, Some, None}
-use Rattle.std.specs.Prelude.{zero, suc, flat_map, is_none}
+use Rattle.std.specs.Prelude.{zero, suc, flat_map, is_none, Contains}
 use Rattle.std.specs.List.{range_with_len}
 use Rattle.std.proofs.lemmas.List.Concat.{flat_map-cons}
 use Rattle.udfs_lattice.specs.States.{is_known}
 use Rattle.udfs_lattice.specs.States.{State}
-use Rattle.udfs_lattice.specs.Volumes.{Blocks, Includes, first_known, first_known_by, ascending}
+use Rattle.udfs_lattice.specs.Volumes.{Blocks, first_known, first_known_by, ascending}
+use Rattle.udfs_lattice.proofs.Inclusion.{Includes, included, contained, here, there, here_or_there, in_nothing}
 use Rattle.udfs_volume.specs.Sequence.{Bytes}
 use Rattle.udfs_lattice.specs.Volumes.{Volume, IsVolume, Agrees, complete, IsKnownAt, IsUnread}
 use Rattle.udfs_lattice.specs.declared.facts.Fact.TheVariants.{Unknown, Known, Conflict}
@@ -15,7 +16,7 @@ use Rattle.udfs_volume.specs.Answers.{Answer, found, holes, and_then}
 use Rattle.udfs_volume.specs.Layout.{Partition, PartitionMap, type1, sparable, blocks_in}
 use Rattle.udfs_volume.specs.Laws.{AreBounded, IsBoundedMap, IsBounded, ListsGroup, IsAnswerOf, the_same}
 use Rattle.udfs_volume.specs.Laws.IsAnswerOf.{unread as unread_answer}
-use Rattle.udfs_lattice.proofs.PublicLaws.{ascending_includes, complete_agrees}
+use Rattle.udfs_lattice.proofs.PublicLaws.{ascending_contains, ascending_includes, complete_agrees}
 use Rattle.udfs_volume.specs.declared.profiles.Profile.{Profile}
 use Rattle.udfs_volume.proofs.PublicLaws.{layout_is_bounded_by}
 use Rattle.udfs_space.proofs.Facts.{and_then-found, complete-known, found_same, known_is, true_false, unless_fault-found, Includes-from_filter, Includes-map}
@@ -93,7 +94,7 @@ table_is T V N packet size tables hv b same pick = with_blocks (blocks_from size
     h_is k c = ap piece c.first
 
     full : (n : ℕ) → blocks_in size ≡ n → (q : ℕ) → Includes tables q → AreFull (row q) 0 n
-    full n e q i k l m = (hv.each (q + k) (let ends : q + blocks_in size ≤ N + 1 = b.ends q i in omega (arith, m, e, ends))).whole
+    full n e q i k l m = (hv.each (q + k) (let ends : q + blocks_in size ≤ N + 1 = b.ends q (contained tables q i) in omega (arith, m, e, ends))).whole
 
     at_start : (n q : ℕ) → flat_map V (range_with_len q n) ≡ flat_map (row q) (range_with_len 0 n)
     at_start n q = ap (λ x. flat_map V (range_with_len x n)) (none q) ∙ from_place V q 0 n
@@ -124,7 +125,7 @@ table_is T V N packet size tables hv b same pick = with_blocks (blocks_from size
 
         behind : (p : ℕ) → Includes tables p → Same (row p) (row q) 1 m (size - 2048)
         behind p i = same_behind (row p) (row q) m size b.from (full (suc m) e p i) (full (suc m) e q first.is_table)
-            (ap (drop 16) (sym (copy_is (suc m) e p i)) ∙ same.contents p q i first.is_table ∙ ap (drop 16) (copy_is (suc m) e q first.is_table))
+            (ap (drop 16) (sym (copy_is (suc m) e p i)) ∙ same.contents p q (contained tables p i) (contained tables q first.is_table) ∙ ap (drop 16) (copy_is (suc m) e q first.is_table))
 
         rest : Same h (row q) 1 m (size - 2048)
         rest = same_mixed V h (row q) tables 1 m (size - 2048)
@@ -141,7 +142,7 @@ spared_is : (T : Blocks) (V : Volume) (last packet size : ℕ) (tables : List �
     → (p : ℕ) → Includes tables p → spared_by T last packet size tables ≡ spared_from last packet size true (drop 16 (table_at V size p))
 spared_is T V last packet size tables same t p i =
     (λ j. spared_from last packet size (is_valid (t.bytes j) (t.place j) 0) (drop 16 (t.bytes j)))
-    ∙ (λ j. spared_from last packet size (same.tags t.from t.is_table j) (same.contents t.from p t.is_table i j))
+    ∙ (λ j. spared_from last packet size (same.tags t.from (contained tables t.from t.is_table) j) (same.contents t.from p (contained tables t.from t.is_table) (contained tables p i) j))
 
 -- members of a filtered range
 in_range : (c n k : ℕ) → Includes (range_with_len c n) k → (c ≤ k) × (k < c + n)
@@ -194,7 +195,7 @@ to_flat tables k ks n i = subst (λ x. Includes x n) (sym (flat_map-cons (copies
     to_append (x ∷ xs) ys (inr i) = inr (to_append xs ys i)
 
 abbrev IsHere : Blocks → List ℕ → Type 0
-IsHere M group = (n : ℕ) × Includes group n × IsKnownAt M n
+IsHere M group = (n : ℕ) × Contains group n × IsKnownAt M n
 
 some_table : (tables : List ℕ) → 1 ≤ length tables → (q : ℕ) × Includes tables q
 some_table [] h = absurd (let z : ⊥ = omega (arith, h) in z)
@@ -216,7 +217,7 @@ complete_closed V N packet size tables b = all_out test 0 (blocks_in size) (λ k
     closed : (k : ℕ) → k < blocks_in size → FirstCopy C V tables k → test k ≡ false
     closed k l (one_known q i e f) = ap is_none f
     closed k l (none_known f all) = true_false (is_known (C (one.0 + k)))
-        (ap is_known (complete-known V N (one.0 + k) (let ends : one.0 + blocks_in size ≤ N + 1 = b.ends one.0 one.1 in omega (arith, l, ends))))
+        (ap is_known (complete-known V N (one.0 + k) (let ends : one.0 + blocks_in size ≤ N + 1 = b.ends one.0 (contained tables one.0 one.1) in omega (arith, l, ends))))
         (all (one.0 + k) (Includes-map (λ q. q + k) tables one.0 one.1))
 
 copy_at : (T : Blocks) (V : Volume) (N size : ℕ) (tables : List ℕ) → Agrees T V N → unread T tables (blocks_in size) ≡ [] → (k : ℕ) → k < blocks_in size → HasCopy T V tables k
@@ -251,11 +252,11 @@ sparable_law M V N last packet size tables hv b same a = go (unread M tables (bl
 
     here : unread M tables (blocks_in size) ≡ [] → (g : List ℕ) → G g → IsHere M g
     here e g (k, l, p) = let c : HasCopy M V tables k = copy_at M V N size tables a e k l in
-        subst (IsHere M) (sym p) (c.from + k, Includes-map (λ q. q + k) tables c.from c.is_table, (V (c.from + k), c.known))
+        subst (IsHere M) (sym p) (c.from + k, contained (copies tables k) (c.from + k) (Includes-map (λ q. q + k) tables c.from c.is_table), (V (c.from + k), c.known))
 
     unread_at : (k : ℕ) → open_at M k ≡ true → FirstCopy M V tables k → IsUnread M (copies tables k)
     unread_at k o (one_known q i e f) = true_false (open_at M k) o (ap is_none f)
-    unread_at k o (none_known f all) = all
+    unread_at k o (none_known f all) = λ n i. all n (included (copies tables k) n i)
 
     go : (ks : List ℕ) → unread M tables (blocks_in size) ≡ ks
         → IsAnswerOf M [] [] G (spared_unless tables (unread M tables (blocks_in size)) (spared_by M last packet size tables)) (spared_unless tables (unread C tables (blocks_in size)) (spared_by C last packet size tables))
@@ -266,10 +267,10 @@ sparable_law M V N last packet size tables hv b same a = go (unread M tables (bl
           group = copies tables k;
           is_group = (k, (open_in k (inl refl)).0, refl);
           unread = (open_in k (inl refl)).1;
-          holds = λ n i. (ascending_includes (flat_map (copies tables) (k ∷ ks)) n).1 (to_flat tables k ks n i);
-          not_known = λ n i. let w : (j : ℕ) × Includes (k ∷ ks) j × Includes (copies tables j) n = listed n i in (open_in w.0 w.1).1 n w.2;
-          each = λ n i. let w : (j : ℕ) × Includes (k ∷ ks) j × Includes (copies tables j) n = listed n i in
-              inl (copies tables w.0, (w.0, (open_in w.0 w.1).0, refl), (open_in w.0 w.1).1, w.2);
+          holds = λ n i. (ascending_contains (flat_map (copies tables) (k ∷ ks)) n).1 (contained (flat_map (copies tables) (k ∷ ks)) n (to_flat tables k ks n (included (copies tables k) n i)));
+          not_known = λ n i. let w : (j : ℕ) × Includes (k ∷ ks) j × Includes (copies tables j) n = listed n (included (ascending (flat_map (copies tables) (k ∷ ks))) n i) in (open_in w.0 w.1).1 n (contained (copies tables w.0) n w.2);
+          each = λ n i. let w : (j : ℕ) × Includes (k ∷ ks) j × Includes (copies tables j) n = listed n (included (ascending (flat_map (copies tables) (k ∷ ks))) n i) in
+              inl (copies tables w.0, (w.0, (open_in w.0 w.1).0, refl), (open_in w.0 w.1).1, contained (copies tables w.0) n w.2);
         })
       where
         open_in : (j : ℕ) → Includes (k ∷ ks) j → (j < blocks_in size) × IsUnread M (copies tables j)
@@ -290,16 +291,16 @@ map_law M V N last (sparable packet size tables) hv b same a = sparable_law M V 
 lists_more : (M : Blocks) (G H : List ℕ → Type 0) (listed : List ℕ) → ((g : List ℕ) → G g → H g) → ListsGroup M [] [] G listed → ListsGroup M [] [] H listed
 lists_more M G H listed f x = record { group = x.group; is_group = f x.group x.is_group; unread = x.unread; holds = x.holds; not_known = x.not_known; each = λ n i. go n (x.each n i) }
   where
-    go : (n : ℕ) → ((g : List ℕ) × G g × IsUnread M g × Includes g n) ⊎ (⊥ × IsUnread M []) → ((g : List ℕ) × H g × IsUnread M g × Includes g n) ⊎ (⊥ × IsUnread M [])
+    go : (n : ℕ) → ((g : List ℕ) × G g × IsUnread M g × Contains g n) ⊎ (Contains [] n × IsUnread M []) → ((g : List ℕ) × H g × IsUnread M g × Contains g n) ⊎ (Contains [] n × IsUnread M [])
     go n (inl w) = inl (w.0, f w.0 w.1, w.2, w.3)
-    go n (inr w) = absurd w.0
+    go n (inr w) = in_nothing n w.0
 
 spans_law : (M : Blocks) (V : Volume) (N last : ℕ) (ps : List Partition) (ss : Spans) → IsVolume V N
-    → ((p : Partition) → Includes ps p → IsBoundedMap N p.kind) → ((p : Partition) → Includes ps p → SparingAgrees V p.kind) → Agrees M V N
+    → ((p : Partition) → Contains ps p → IsBoundedMap N p.kind) → ((p : Partition) → Contains ps p → SparingAgrees V p.kind) → Agrees M V N
     → spans (complete V N) last ps ≡ found ss → IsAnswerOf M [] [] (IsSparingGroup ps) (spans M last ps) (spans (complete V N) last ps)
-spans_law M V N last [] ss hv b same a e = the_same refl (λ g h. absurd h.1)
-spans_law M V N last (p ∷ ps) ss hv b same a e = go (map_law M V N last p.kind hv (b p (inl refl)) (same p (inl refl)) a)
-    (spans_law M V N last ps later_found.0 hv (λ x i. b x (inr i)) (λ x i. same x (inr i)) a later_found.1)
+spans_law M V N last [] ss hv b same a e = the_same refl (λ g h. in_nothing h.0 h.1)
+spans_law M V N last (p ∷ ps) ss hv b same a e = go (map_law M V N last p.kind hv (b p (here p ps)) (same p (here p ps)) a)
+    (spans_law M V N last ps later_found.0 hv (λ x i. b x (there p ps x i)) (λ x i. same x (there p ps x i)) a later_found.1)
   where
     C : Blocks
     C = complete V N
@@ -323,8 +324,11 @@ spans_law M V N last (p ∷ ps) ss hv b same a e = go (map_law M V N last p.kind
     by_first T x q = ap (λ x. and_then (and_then x (λ y. found (span_of p y))) (later T)) q
 
     groups : ((g : List ℕ) → IsTableGroup p.kind g → IsHere M g) → ((g : List ℕ) → IsSparingGroup ps g → IsHere M g) → (g : List ℕ) → G g → IsHere M g
-    groups hp hps g (x, inl i, t) = hp g (subst (λ z. IsTableGroup z.kind g) (sym i) t)
-    groups hp hps g (x, inr i, t) = hps g (x, i, t)
+    groups hp hps g (x, i, t) = either (here_or_there p ps x i)
+      where
+        either : (p ≡ x) ⊎ Contains ps x → IsHere M g
+        either (inl is) = hp g (subst (λ z. IsTableGroup z.kind g) (sym is) t)
+        either (inr later) = hps g (x, later, t)
 
     go : IsAnswerOf M [] [] (IsTableGroup p.kind) (spared M last p.kind) (spared C last p.kind) → IsAnswerOf M [] [] (IsSparingGroup ps) (spans M last ps) (spans C last ps)
         → IsAnswerOf M [] [] G (spans M last (p ∷ ps)) (spans C last (p ∷ ps))
@@ -334,9 +338,9 @@ spans_law M V N last (p ∷ ps) ss hv b same a e = go (map_law M V N last p.kind
         (groups hp hps)
     go (the_same q hp) (unread_answer listed r x) = unread_answer listed
         (by_first M (spared C last p.kind) q ∙ ap (λ x. and_then x (later M)) first_found.1 ∙ ap (λ x. and_then x (λ xs. found (s ∷ xs))) r)
-        (lists_more M (IsSparingGroup ps) G listed (λ g h. (h.0, inr h.1, h.2)) x)
+        (lists_more M (IsSparingGroup ps) G listed (λ g h. (h.0, there p ps h.0 h.1, h.2)) x)
     go (unread_answer listed q x) rest = unread_answer listed (by_first M (holes listed) q)
-        (lists_more M (IsTableGroup p.kind) G listed (λ g h. (p, inl refl, h)) x)
+        (lists_more M (IsTableGroup p.kind) G listed (λ g h. (p, here p ps, h)) x)
 
 -- what is made of both answers
 answer_then : {A B : Type 0} (M : Blocks) (G : List ℕ → Type 0) (some all : Answer A) (f : A → Answer B) → IsAnswerOf M [] [] G some all
@@ -363,15 +367,15 @@ first_is V N last (sparable packet size (place ∷ places)) sp hv b same e = (un
     content = drop 16 (table_at V size place)
 
 spans_are : (V : Volume) (N last : ℕ) (ps : List Partition) (ss : Spans) → IsVolume V N
-    → ((p : Partition) → Includes ps p → IsBoundedMap N p.kind) → ((p : Partition) → Includes ps p → SparingAgrees V p.kind)
+    → ((p : Partition) → Contains ps p → IsBoundedMap N p.kind) → ((p : Partition) → Contains ps p → SparingAgrees V p.kind)
     → spans (complete V N) last ps ≡ found ss → map (λ p. span_of p (first_table V p.kind)) ps ≡ ss
 spans_are V N last [] ss hv b same e = found_same [] ss e
 spans_are V N last (p ∷ ps) ss hv b same e =
     let f : (s : Span) × (span C last p ≡ found s) × (and_then (spans C last ps) (λ xs. found (s ∷ xs)) ≡ found ss) = and_then-found (span C last p) (λ s. and_then (spans C last ps) (λ xs. found (s ∷ xs))) ss e in
     let g : (sp : Spared) × (spared C last p.kind ≡ found sp) × (found (span_of p sp) ≡ found f.0) = and_then-found (spared C last p.kind) (λ sp. found (span_of p sp)) f.0 f.1 in
     let h : (xs : Spans) × (spans C last ps ≡ found xs) × (found (f.0 ∷ xs) ≡ found ss) = and_then-found (spans C last ps) (λ xs. found (f.0 ∷ xs)) ss f.2 in
-    let head : span_of p (first_table V p.kind) ≡ f.0 = ap (span_of p) (first_is V N last p.kind g.0 hv (b p (inl refl)) (same p (inl refl)) g.1) ∙ found_same (span_of p g.0) f.0 g.2 in
-    let tail : map (λ p. span_of p (first_table V p.kind)) ps ≡ h.0 = spans_are V N last ps h.0 hv (λ x i. b x (inr i)) (λ x i. same x (inr i)) h.1 in
+    let head : span_of p (first_table V p.kind) ≡ f.0 = ap (span_of p) (first_is V N last p.kind g.0 hv (b p (here p ps)) (same p (here p ps)) g.1) ∙ found_same (span_of p g.0) f.0 g.2 in
+    let tail : map (λ p. span_of p (first_table V p.kind)) ps ≡ h.0 = spans_are V N last ps h.0 hv (λ x i. b x (there p ps x i)) (λ x i. same x (there p ps x i)) h.1 in
     (λ i. head i ∷ tail i) ∙ found_same (f.0 ∷ h.0) ss h.2
   where
     C : Blocks

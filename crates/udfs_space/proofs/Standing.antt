@@ -1,9 +1,9 @@
 -- Placing as a function and as a relation.
 use Rattle.std.proofs.Common.{◌≡◌, refl, sym, ◌∙◌, ap, subst, ℕ, ◌+◌, ◌-◌, ◌*◌, ◌/◌, ◌%◌, ◌<◌, ◌≤◌, Bool, true, false, cond, [], ◌∷◌, length, arith, All, slice_index_or, slice_get, nat_eq, nat_lt, Option, Some, None, ◌⊎◌, inl, inr, ◌↔◌, rules}
-use Rattle.std.specs.Prelude.{suc, find, option_map, IsSome, IfSome}
+use Rattle.std.specs.Prelude.{suc, find, option_map, IsSome, IfSome, Contains}
 use Rattle.std.proofs.Math.Nat.{div-add-mod, mul_comm}
 use Rattle.std.proofs.lemmas.Nat.{mod_below, mod-mul-add}
-use Rattle.udfs_lattice.specs.Volumes.{Includes}
+use Rattle.udfs_lattice.proofs.Inclusion.{Includes, included, contained}
 use Rattle.udfs_space.proofs.Facts.{le_or_lt, true_false}
 use Rattle.udfs_space.specs.declared.entries.SparingEntry.{SparingEntry}
 use Rattle.udfs_space.specs.Laws.{OldPlaceLaw, PlacingLaw}
@@ -32,16 +32,8 @@ pub rest_upto : (b p : ℕ) → b % p ≤ b
 rest_upto b p = let e : p * (b / p) + b % p ≡ b = div-add-mod b p in omega (arith, e)
 
 -- ---- the packet of a block, in a set and by its first block
--- x stands at some place
-at_index : (es : Spared) (e : SparingEntry) → Includes es e → (k : ℕ) × (k < length es) × ((d : SparingEntry) → slice_index_or es k d ≡ e)
-at_index [] e i = absurd i
-at_index (x ∷ es) e (inl p) = (0, omega arith, λ d. p)
-at_index (x ∷ es) e (inr i) = let r : (k : ℕ) × (k < length es) × ((d : SparingEntry) → slice_index_or es k d ≡ e) = at_index es e i in
-    (suc r.0, (let l : r.0 < length es = r.1 in omega (arith, l)), r.2)
-
-of_each : (P : SparingEntry → Type 0) (es : Spared) (e : SparingEntry) → All P es → Includes es e → P e
-of_each P es e h i = let r : (k : ℕ) × (k < length es) × ((d : SparingEntry) → slice_index_or es k d ≡ e) = at_index es e i in
-    subst P (r.2 e) (h r.0 e r.1)
+of_each : (P : SparingEntry → Type 0) (es : Spared) (e : SparingEntry) → All P es → Contains es e → P e
+of_each P es e h i = subst P i.2 (h i.0 e i.1)
 
 not_same : (a b : ℕ) → a < b → nat_eq a b ≡ false
 not_same a b h = grind arith
@@ -60,14 +52,14 @@ find-included (x ∷ es) first e r (inr i) o =
     ap (λ b. cond b (Some x) (find (λ e. nat_eq e.original first) es)) (not_same x.original first before)
     ∙ find-included es first e (λ j k d q m. r (suc j) (suc k) d (omega (arith, q)) (omega (arith, m))) i o
   where
-    w : (k : ℕ) × (k < length es) × ((d : SparingEntry) → slice_index_or es k d ≡ e)
-    w = at_index es e i
+    w : Contains es e
+    w = contained es e i
 
     above : x.original < (slice_index_or es w.0 e).original
     above = r 0 (suc w.0) e (omega arith) (let l : w.0 < length es = w.1 in omega (arith, l))
 
     same : (slice_index_or es w.0 e).original ≡ e.original
-    same = ap (λ z. z.original) (w.2 e)
+    same = ap (λ z. z.original) w.2
 
     before : x.original < first
     before = omega (arith, above, same, o)
@@ -90,7 +82,7 @@ place_at s b o = placed_at o (s.start + b) (b % s.packet)
 spares : (s : Span) (b : ℕ) (e : SparingEntry) → IsSound s → Includes s.spared e → e.original ≡ b - b % s.packet → IsSparedBy s b e × (b % s.packet ≡ b - e.original)
 spares s b e h i o = let low : b % s.packet ≤ b = rest_upto b s.packet in
     let less : b % s.packet < s.packet = mod_below b s.packet h.packet in
-    ((i, omega (arith, o), omega (arith, o, low, less)), omega (arith, o, low))
+    ((contained s.spared e i, omega (arith, o), omega (arith, o, low, less)), omega (arith, o, low))
 
 -- an entry that spares b has the first block of its packet
 spared_first : (s : Span) (b : ℕ) (e : SparingEntry) → IsSound s → IsSparedBy s b e → (e.original ≡ b - b % s.packet) × (b % s.packet ≡ b - e.original)
@@ -126,7 +118,7 @@ stands s b n h e = let r : (b < s.size) × (n ≡ place_at s b (sparing_entry_at
         → ((e : SparingEntry) × IsSparedBy s b e × (n ≡ e.mapped + (b - e.original))) ⊎ (((e : SparingEntry) → ¬ IsSparedBy s b e) × (n ≡ s.start + b))
     go None q p = inr (
       (λ x w. let f : (x.original ≡ b - b % s.packet) × (b % s.packet ≡ b - x.original) = spared_first s b x h w in
-          let z : None ≡ Some x = sym q ∙ find-included s.spared (b - b % s.packet) x h.spared.rises w.0 f.0 in let y : ⊥ = cc in y),
+          let z : None ≡ Some x = sym q ∙ find-included s.spared (b - b % s.packet) x h.spared.rises (included s.spared x w.0) f.0 in let y : ⊥ = cc in y),
       p ∙ ap (place_at s b) q,
     )
     go (Some x) q p = let i : Includes s.spared x × (x.original ≡ b - b % s.packet) = find-is s.spared (b - b % s.packet) x q in
@@ -144,7 +136,7 @@ stood s b n h w = place_in-size s b w.0 ∙ ap Some (go w.1)
     go : ((e : SparingEntry) × IsSparedBy s b e × (n ≡ e.mapped + (b - e.original))) ⊎ (((e : SparingEntry) → ¬ IsSparedBy s b e) × (n ≡ s.start + b))
         → place_at s b (sparing_entry_at s (b - b % s.packet)) ≡ n
     go (inl (x, i, p)) = let f : (x.original ≡ b - b % s.packet) × (b % s.packet ≡ b - x.original) = spared_first s b x h i in
-        ap (place_at s b) (find-included s.spared (b - b % s.packet) x h.spared.rises i.0 f.0) ∙ ap (λ k. x.mapped + k) f.1 ∙ sym p
+        ap (place_at s b) (find-included s.spared (b - b % s.packet) x h.spared.rises (included s.spared x i.0) f.0) ∙ ap (λ k. x.mapped + k) f.1 ∙ sym p
     go (inr (all, p)) = ap (place_at s b) (none_if (sparing_entry_at s (b - b % s.packet)) refl all) ∙ sym p
 
 pub within : (s : Span) (b n : ℕ) → IsSound s → place_in s b ≡ Some n → n ≤ 4194303

@@ -1,8 +1,9 @@
 -- The packets that a sparing table spares, as the code finds them.
-use Rattle.std.proofs.Common.{◌≡◌, ◌≢◌, refl, sym, ◌∙◌, ap, inl, inr, ℕ, ◌+◌, ◌≤◌, List, [], ◌∷◌, length, drop, arith, All}
-use Rattle.std.specs.Prelude.{flat_map}
+use Rattle.std.proofs.Common.{◌≡◌, ◌≢◌, refl, sym, ◌∙◌, ap, ℕ, ◌+◌, ◌≤◌, List, [], ◌∷◌, length, drop, arith, All}
+use Rattle.std.specs.Prelude.{flat_map, Contains}
 use Rattle.std.proofs.lemmas.List.Elements.{All-weaker, All-nil, All-cons}
-use Rattle.udfs_lattice.specs.Volumes.{Blocks, Includes, ascending, first_known}
+use Rattle.udfs_lattice.specs.Volumes.{Blocks, ascending, first_known}
+use Rattle.udfs_lattice.proofs.Inclusion.{here, there}
 use Rattle.udfs_tag.specs.Tags.{is_valid}
 use Rattle.udfs_volume.specs.Answers.{Answer, found, holes, and_then}
 use Rattle.udfs_volume.specs.Laws.{AreBounded}
@@ -34,12 +35,12 @@ fit_first size tables h f = All-weaker (λ place. place + blocks_in size ≤ 419
     less : (place size : ℕ) → 56 ≤ size → place + blocks_in size ≤ 4194304 → place + 1 ≤ 4194304
     less place size h l = omega (arith, h, l)
 
-all_included : (P : ℕ → Type 0) (xs : List ℕ) → ((x : ℕ) → Includes xs x → P x) → All P xs
-all_included P [] h = All-nil P
-all_included P (x ∷ xs) h = All-cons P x xs (h x (inl refl)) (all_included P xs (λ y i. h y (inr i)))
+all_contained : (P : ℕ → Type 0) (xs : List ℕ) → ((x : ℕ) → Contains xs x → P x) → All P xs
+all_contained P [] h = All-nil P
+all_contained P (x ∷ xs) h = All-cons P x xs (h x (here x xs)) (all_contained P xs (λ y i. h y (there x xs y i)))
 
 pub fit_all : (last packet size : ℕ) (tables : List ℕ) → last ≤ 4194303 → AreBounded last packet size tables → FitAll (blocks_in size) tables
-fit_all last packet size tables l b = all_included (λ place. place + blocks_in size ≤ 4194304) tables (λ place i. within place (b.ends place i))
+fit_all last packet size tables l b = all_contained (λ place. place + blocks_in size ≤ 4194304) tables (λ place i. within place (b.ends place i))
   where
     within : (place : ℕ) → place + blocks_in size ≤ last + 1 → place + blocks_in size ≤ 4194304
     within place e = omega (arith, e, l)

@@ -3,12 +3,12 @@
 --     IsSparingGroup                          the copies of one block of the table
 --     SpaceLawBy, PlaceLawBy profile          the places are the volume's, or a group is unread
 --     StandardSpace                           with all known they are those of the first sparing table
---     PlacingLaw, OldPlaceLaw                 where a block stands, and that nothing is read where it stood
+--     PlacingLaw, OldPlaceLaw                 where a block is, and that nothing is read where it was
 --     SoundSpace                              the partitions of a layout are sound, so placing is that relation
 --     StandardBlocksBy profile                with all known, the standard reads the blocks by their places, and in one way
 -- SpaceLaw, PlaceLaw and StandardBlocks are these by the strict rules; the others are by those of any profile.
-use Rattle.std.specs.Prelude.{◌≡◌, ◌↔◌, ℕ, ◌+◌, ◌-◌, ◌<◌, ◌≤◌, List, [], drop, slice_get, true, Option, Some, None, option_map, ⊤}
-use Rattle.udfs_lattice.specs.Volumes.{Blocks, Includes, Volume, IsVolume, Agrees, complete}
+use Rattle.std.specs.Prelude.{◌≡◌, ◌↔◌, ℕ, ◌+◌, ◌-◌, ◌<◌, ◌≤◌, List, [], drop, slice_get, true, Option, Some, None, option_map, ⊤, Contains}
+use Rattle.udfs_lattice.specs.Volumes.{Blocks, Volume, IsVolume, Agrees, complete}
 use Rattle.udfs_tag.specs.Tags.{is_valid}
 use Rattle.udfs_volume.specs.declared.profiles.Profile.{Profile}
 use Rattle.udfs_volume.specs.declared.profiles.Profile.TheVariants.{Strict}
@@ -22,10 +22,10 @@ use Rattle.udfs_space.specs.Sparing.{Space, Span, copies, space}
 use Rattle.udfs_space.specs.Standard.{table_at, standard_space}
 use Rattle.udfs_space.specs.Places.{IsPartOf, IsSparedBy, StandsAt, StandsIn, block_at, place, place_in, view}
 
--- each place has a sparing table with a valid tag, and all of them say the same behind their tags
+-- each place has a sparing table with a valid tag, and all of them have the same bytes after their tags
 pub record AreTheSameTables (volume : Volume) (size : ℕ) (tables : List ℕ) : Type 0 where
-  pub tags : (place : ℕ) → Includes tables place → is_valid (table_at volume size place) place 0 ≡ true
-  pub contents : (a b : ℕ) → Includes tables a → Includes tables b
+  pub tags : (place : ℕ) → Contains tables place → is_valid (table_at volume size place) place 0 ≡ true
+  pub contents : (a b : ℕ) → Contains tables a → Contains tables b
       → drop 16 (table_at volume size a) ≡ drop 16 (table_at volume size b)
 
 -- the sparing tables of a sparable map agree; a map of type 1 has none
@@ -35,7 +35,7 @@ SparingAgrees volume (sparable packet size tables) = AreTheSameTables volume siz
 
 -- the sparing tables of each partition agree, and the places of its blocks are found
 pub record IsLawfulSparing (volume : Volume) (last : ℕ) (l : Layout) : Type 0 where
-  pub tables : (p : Partition) → Includes l.partitions p → SparingAgrees volume p.kind
+  pub tables : (p : Partition) → Contains l.partitions p → SparingAgrees volume p.kind
   pub placed : (s : Space) × (space (complete volume last) l ≡ found s)
 
 -- all copies of one block of a partition's sparing table
@@ -45,7 +45,7 @@ IsTableGroup (sparable packet size tables) group = (k : ℕ) × (k < blocks_in s
 
 -- the copies of one block of the sparing table of a partition
 abbrev pub IsSparingGroup : List Partition → List ℕ → Type 0
-IsSparingGroup partitions group = (p : Partition) × Includes partitions p × IsTableGroup p.kind group
+IsSparingGroup partitions group = (p : Partition) × Contains partitions p × IsTableGroup p.kind group
 
 -- over a table that agrees with a lawful volume the places are the volume's, or holes hold all copies of an unread block
 abbrev pub SpaceLawBy : Profile → Type 0
@@ -93,13 +93,13 @@ SoundSpace = (profile : Profile) (blocks : Blocks) (last : ℕ) (l : Layout) (s 
 abbrev pub blocks_by : Volume → Space → ℕ → ℕ → Option Bytes
 blocks_by volume s reference b = option_map volume (place s reference b)
 
--- each logical block is the block that holds it, and there is none where no block does
+-- each logical block has the bytes of the block that holds it, and does not exist where no block holds it
 pub record AreBlocksOf (volume : Volume) (s : Space) (blocks : ℕ → ℕ → Option Bytes) : Type 0 where
   pub block : (r b n : ℕ) → StandsIn s r b n → blocks r b ≡ Some (volume n)
   pub no_block : (r b : ℕ) → ((n : ℕ) → ¬ StandsIn s r b n) → blocks r b ≡ None
 
--- The places that are found are the standard's; by these each logical block is a block of the volume, or there is none;
--- and nothing else is.
+-- The places that are found are the standard's, and none is past the last block. By them each logical block has the bytes of
+-- the block that holds it, or does not exist, and no other reading of the blocks satisfies this.
 pub record HasStandardBlocks (volume : Volume) (last : ℕ) (l : Layout) (s : Space) : Type 0 where
   pub space_is : standard_space volume l ≡ s
   pub reads : AreBlocksOf volume (standard_space volume l) (blocks_by volume s)

@@ -14,7 +14,7 @@ use Rattle.udfs_space.specs.Sparing.{Span, Spared, is_bad_original, is_out_of_or
 abbrev pub FitAll : ℕ → List ℕ → Type 0
 FitAll count places = All (λ place. place + count ≤ 4194304) places
 
--- a known copy behind its reference
+-- a known copy and its place, with the bytes that its reference gives
 abbrev pub copy_now : Option (ℕ × Bor (List ℕ)) → Option (ℕ × List ℕ)
 copy_now None = None
 copy_now (Some known) = Some (known.0, (known.1).now)

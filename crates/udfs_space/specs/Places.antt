@@ -1,14 +1,14 @@
--- Where the logical blocks of partitions stand, and what is known there.
+-- Where the logical blocks of partitions are, and what is known there.
 --     place space reference b         the block that holds logical block b of a partition
 --     StandsIn space reference b n    the same as a relation: block n holds it
 --     length_of space reference       the number of logical blocks of a partition
 --     View                            a volume as the layers above see it: places and states
 --     block_at view reference b       the block at a logical address, with its state
 --     is_past places reference b n    whether one of n consecutive logical blocks has no place
-use Rattle.std.specs.Prelude.{◌≡◌, ◌⊎◌, ℕ, ◌+◌, ◌-◌, ◌%◌, ◌<◌, ◌≤◌, Bool, List, length, slice_get, cond, nat_eq, nat_lt, Option, Some, None, find, is_none, option_map}
+use Rattle.std.specs.Prelude.{◌≡◌, ◌⊎◌, ℕ, ◌+◌, ◌-◌, ◌%◌, ◌<◌, ◌≤◌, Bool, List, length, slice_get, cond, nat_eq, nat_lt, Option, Some, None, find, is_none, option_map, Contains}
 use Rattle.std.specs.List.{range_with_len, list_any}
 use Rattle.std.specs.Borrow.{Bor}
-use Rattle.udfs_lattice.specs.Volumes.{Blocks, Includes}
+use Rattle.udfs_lattice.specs.Volumes.{Blocks}
 use Rattle.udfs_lattice.specs.States.{State, fact_now}
 use Rattle.udfs_lattice.specs.declared.facts.Fact.{Fact}
 use Rattle.udfs_lattice.specs.declared.facts.Fact.TheVariants.{Known}
@@ -41,7 +41,7 @@ place space reference b = place_by (slice_get space.spans reference) b
 
 -- logical block b is in the packet of this entry, which is one of the spared packets
 abbrev pub IsSparedBy : Span → ℕ → SparingEntry → Type 0
-IsSparedBy span b e = Includes span.spared e × (e.original ≤ b) × (b < e.original + span.packet)
+IsSparedBy span b e = Contains span.spared e × (e.original ≤ b) × (b < e.original + span.packet)
 
 -- Block n holds logical block b of the partition. The spared packets are taken as a set.
 abbrev pub StandsAt : Span → ℕ → ℕ → Type 0

@@ -1,5 +1,5 @@
 -- The sparing table of a partition (UDF 2.2.11), put together from its copies.
---     Space                       where the logical blocks of each partition stand
+--     Space                       where the logical blocks of each partition are
 --     space blocks layout         the partitions with their spared packets
 use Rattle.std.specs.Prelude.{ℕ, ◌+◌, ◌*◌, ◌%◌, Bool, false, not, List, [], ◌∷◌, take, drop, map, filter, flat_map, nat_eq, nat_lt, ◌&&◌, ◌||◌, Option, Some, None, codes, is_none}
 use Rattle.std.specs.List.{range_with_len, list_any}
@@ -19,7 +19,7 @@ use Rattle.udfs_volume.specs.declared.faults.VolumeFault.TheVariants.{SparingTag
 abbrev pub Spared : Type 0
 Spared = List SparingEntry
 
--- Where the logical blocks of one partition stand.
+-- Where the logical blocks of one partition are.
 pub record Span : Type 0 where
   pub start : ℕ
   pub size : ℕ
@@ -30,7 +30,7 @@ pub record Span : Type 0 where
 abbrev pub Spans : Type 0
 Spans = List Span
 
--- Where the logical blocks of each partition stand, and whether the last extent of a file may end inside a block.
+-- Where the logical blocks of each partition are, and whether the last extent of a file may end inside a block.
 pub record Space : Type 0 where
   pub spans : Spans
   pub takes_tail : Bool
@@ -48,7 +48,7 @@ abbrev pub piece : Option (ℕ × Bytes) → Bytes
 piece None = []
 piece (Some known) = known.1
 
--- where the copy that was found stands, or 0
+-- the block of the copy that was found, or 0
 abbrev pub place_of : Option (ℕ × Bytes) → ℕ
 place_of None = 0
 place_of (Some known) = known.0
@@ -66,7 +66,7 @@ entry_count content = uint16_at content (bp 48)
 abbrev pub sparing_entry_of : Bytes → SparingEntry
 sparing_entry_of bytes = record { original = uint32_at bytes 0; mapped = uint32_at bytes 4 }
 
--- the entries of a table, whose bytes are those behind its tag
+-- the entries of a table, by the bytes after its tag
 abbrev pub entries : Bytes → List SparingEntry
 entries content = map (λ i. sparing_entry_of (drop (bp (56 + 8 * i)) content)) (range_with_len 0 (entry_count content))
 
@@ -102,7 +102,7 @@ is_misshapen packet size content =
 abbrev pub passes_end : ℕ → ℕ → SparingEntry → Bool
 passes_end last packet e = is_used e && nat_lt (last + 1) (e.mapped + packet)
 
--- the first fault of a table of that size, by whether its tag is valid, and what stands behind the tag
+-- the first fault of a table of that size, by whether its tag is valid and by the bytes after the tag
 abbrev pub sparing_fault : ℕ → ℕ → ℕ → Bool → Bytes → Option VolumeFault
 sparing_fault last packet size valid content = first_fault (
     (not (is_sparing_table valid content), SparingTag)

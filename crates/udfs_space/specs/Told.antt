@@ -2,8 +2,8 @@
 --     IsSpaceOf volume last blocks l got    the volume's places, as the standard reads them
 --     ArePlacesUpTo last space              each place is at most the last block
 --     TellsLawfulSpace blocks l seen             of each lawful volume: its places, or all copies of an unread block
-use Rattle.std.specs.Prelude.{◌≡◌, ◌≤◌, ⊤, ℕ, List, [], Some}
-use Rattle.udfs_lattice.specs.Volumes.{Blocks, Includes, Volume, IsVolume, Agrees, complete, IsKnownAt}
+use Rattle.std.specs.Prelude.{◌≡◌, ◌≤◌, ⊤, ℕ, List, [], Some, Contains}
+use Rattle.udfs_lattice.specs.Volumes.{Blocks, Volume, IsVolume, Agrees, complete, IsKnownAt}
 use Rattle.udfs_volume.specs.declared.seen.Seen.{Seen}
 use Rattle.udfs_volume.specs.declared.seen.Seen.TheVariants.{Got, Holes, Fault, OutOfMemory}
 use Rattle.udfs_volume.specs.declared.profiles.Profile.{Profile}
@@ -21,7 +21,7 @@ use Rattle.udfs_space.specs.declared.spaces.Space as code_space
 pub record IsSpaceOf (volume : Volume) (last : ℕ) (blocks : Blocks) (l : Layout) (got : Space) : Type 0 where
   pub whole : space (complete volume last) l ≡ found got
   pub standard : standard_space volume l ≡ got
-  pub known : (group : List ℕ) → IsSparingGroup l.partitions group → (n : ℕ) × Includes group n × IsKnownAt blocks n
+  pub known : (group : List ℕ) → IsSparingGroup l.partitions group → (n : ℕ) × Contains group n × IsKnownAt blocks n
   pub part : IsPartOf (view blocks got) (view (complete volume last) got)
 
 -- what a call returned is the volume's places, or the listed blocks hold a group of which none is known; no fault is reported, and memory may run out

@@ -33,7 +33,7 @@ fn first_copy<'a>(table: &'a BlockTable, places: &[u32], k: u32) -> Option<(u32,
     None
 }
 
-/// Where the copy stands from which the first block of a table comes, and 0 if none is known.
+/// The block of the first known copy of a table's block 0, or 0 if no copy of it is known.
 pub(crate) fn first_place(table: &BlockTable, places: &[u32]) -> u32
     requires { FitAll 1 places.now }
     ensures { result ≡ place_of (first_known (state_of table.now) (copies places.now 0)) }
@@ -85,7 +85,7 @@ fn unread(alloc: Global, table: &BlockTable, map: &SparableMap) -> Result<Vec<u3
     Ok(found)
 }
 
-/// Puts the copies of block `k` behind the numbers.
+/// Appends the copies of block `k` to `numbers`.
 fn push_copies(numbers: &mut Vec<u32>, places: &[u32], k: u32) -> Result<(), AllocError>
     requires { FitAll (k + 1) places.now }
     ensures { IfOk result (λ done. numbers.new.items ≡ numbers.old.items ++ copies places.now k) }

@@ -13,7 +13,7 @@ use std::alloc::{AllocError, Global};
 use udfs_tag::{RegId, Tag, identifiers};
 use udfs_volume::{Seen, VolumeFault};
 
-/// An entry of a sparing table: a packet, and where it stands now (UDF 2.2.11).
+/// An entry of a sparing table: a packet, and where it is now (UDF 2.2.11).
 #[derive(Clone, Copy, Debug, PartialEq, Eq)]
 pub struct SparingEntry {
     /// The first logical block of the packet. 0xFFFF_FFF0 marks blocks to which nothing may be mapped, and
@@ -24,7 +24,7 @@ pub struct SparingEntry {
 }
 
 impl SparingEntry {
-    /// Reads the 8 bytes at the front.
+    /// Reads the first 8 bytes.
     pub fn read(bytes: &[u8]) -> Self
         requires { 8 ≤ length bytes.now }
         ensures { result ≡ sparing_entry_of bytes.now }
@@ -51,14 +51,14 @@ impl SparingEntry {
             || self.is_used() && self.original % packet != 0
     }
 
-    /// Whether the next entry may not stand behind this one.
+    /// Whether the next entry may not follow this one: its original is less, or the same while this entry is used.
     fn breaks_order(self, next: SparingEntry) -> bool
         ensures { result ≡ breaks_order self next }
     {
         next.original < self.original || self.is_used() && next.original == self.original
     }
 
-    /// Whether the packet is mapped to a block behind the last one.
+    /// Whether the entry is used and maps its packet past the last block.
     fn passes_end(self, last: u32, packet: u32) -> bool
         ensures { result ≡ passes_end last packet self }
     {
@@ -76,8 +76,8 @@ fn behind(bytes: &[u8], position: usize) -> &[u8]
     rest
 }
 
-/// Whether the bytes are those of a sparing table that stands at the place: the tag is valid there with
-/// identifier 0, and the name is that of a sparing table.
+/// Whether the bytes are a sparing table at block `place`: the tag is valid there with identifier 0, and the
+/// name is that of a sparing table.
 fn is_sparing_table(bytes: &[u8], place: u32) -> bool
     requires { 56 ≤ length bytes.now }
     ensures { result ≡ is_sparing_table (is_valid bytes.now place 0) (drop 16 bytes.now) }
@@ -124,7 +124,7 @@ fn is_out_of_order(entries: &[SparingEntry]) -> bool
     false
 }
 
-/// Whether a packet is mapped to a block behind the last one.
+/// Whether a used entry maps its packet past the last block.
 fn passes_end(last: u32, packet: u32, entries: &[SparingEntry]) -> bool
     ensures { result ≡ list_any (passes_end last packet) entries.now }
 {
@@ -136,7 +136,7 @@ fn passes_end(last: u32, packet: u32, entries: &[SparingEntry]) -> bool
     false
 }
 
-/// The first fault of entries that are there.
+/// The first fault of the entries, all of which are within the table.
 fn entries_fault(last: u32, packet: u32, entries: &[SparingEntry]) -> Option<VolumeFault>
     requires { 1 ≤ packet }
     ensures { result ≡ entries_fault last packet entries.now }
@@ -153,7 +153,7 @@ fn entries_fault(last: u32, packet: u32, entries: &[SparingEntry]) -> Option<Vol
     None
 }
 
-/// The packets that a table maps that stands at a place.
+/// The packets that the sparing table at block `place` maps, in its order, or the table's first fault.
 pub(crate) fn spared_by(
     alloc: Global,
     last: u32,

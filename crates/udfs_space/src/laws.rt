@@ -24,9 +24,9 @@ pub fn space_of_standard()
     ensures { StandardSpace }
 {}
 
-/// Placing is a relation on the set of spared packets: a block of a spared packet stands as far into the
-/// packet's new place as it lies in the packet, and every other one as far behind the partition's start as
-/// it lies in the partition.
+/// Placing is a relation on the set of spared packets: a block of a spared packet has the same offset in the
+/// packet's new place as in the packet, and every other block has the same offset from the partition's start
+/// in the volume as in the partition.
 pub fn placing_is_a_relation()
     ensures { PlacingLaw }
 {}
@@ -50,7 +50,7 @@ pub fn blocks_of_standard()
     ensures by_profile { (profile : Profile) → StandardBlocksBy profile }
 {}
 
-/// There are lawful places: those of the sample layouts, whatever stands in their partitions.
+/// There are lawful places: those of the sample layouts, whatever their partitions hold.
 pub fn sample_places_are_lawful()
     ensures { SampleSpace }
 {}

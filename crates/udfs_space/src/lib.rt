@@ -1,5 +1,5 @@
 // SPDX-License-Identifier: MIT OR Apache-2.0
-//! Sparing tables, and where the logical blocks of partitions stand.
+//! Sparing tables, and where the logical blocks of partitions are.
 #![tactic(auto)]
 
 mod ascending;

@@ -1,4 +1,4 @@
-//! Where the logical blocks of a volume's partitions stand.
+//! Where the logical blocks of a volume's partitions are.
 
 ghost use Rattle.std.specs.Prelude.{◌≡◌, ◌≤◌, ◌<◌, ◌↔◌, ℕ, All, IfOk, IfSome, IsSome, Some, length, map, option_map, slice_get};
 ghost use Rattle.udfs_lattice.specs.States.{fact_now};
@@ -18,7 +18,7 @@ use udfs_lattice::{BlockTable, Fact};
 use udfs_tag::LbAddr;
 use udfs_volume::{Partition, Seen, VolumeParts};
 
-/// Where the logical blocks of each partition stand (UDF 2.2.11, ECMA-167 3/10.5.8).
+/// Where the logical blocks of each partition are (UDF 2.2.11, ECMA-167 3/10.5.8).
 ///
 /// A logical block is named by a partition reference, which is the number of a partition map, and its
 /// number in the partition.
@@ -63,20 +63,20 @@ fn spans(
 }
 
 impl Space {
-    /// Where the blocks of the partitions of a layout stand: those of a type 1 map one after the other
-    /// (ECMA-167 3/10.7.2), those of a sparable map but for the packets that its sparing table maps
-    /// elsewhere (UDF 2.2.9, 2.2.11).
+    /// Finds where the blocks of the partitions of a layout are: those of a type 1 map one after the other
+    /// (ECMA-167 3/10.7.2), and so those of a sparable map, except for the packets that its sparing table
+    /// maps elsewhere (UDF 2.2.9, 2.2.11).
     ///
     /// Of each block of a sparing table the first known copy is read. Where some blocks have no known copy,
     /// all copies of all these blocks are holes. Faults are, in this order: `SparingTag`, the tag is not
     /// sound at the place of the copy from which the first block came, its identifier is not 0, or the name
     /// is not that of a sparing table; `SparingShape`, the entries pass the table's size, or an original is
     /// a number without a meaning or not the first block of a packet; `SparingOrder`, originals fall, or two
-    /// packets have the same; `MappedRange`, a packet is mapped to a block behind the last one.
+    /// packets have the same; `MappedRange`, a packet is mapped past the last block.
     ///
     /// Of a volume that is lawful by the rules of some profile and with which the table agrees it returns the
-    /// volume's own places, as the standard reads them from the first sparing table, or holes: then all copies
-    /// of some block of a sparing table are among them, of which none is known; or memory runs out.
+    /// volume's own places, as the standard reads them from the first sparing table, or holes, or
+    /// `OutOfMemory`. The holes then include all copies of some block of a sparing table, none of them known.
     ///
     /// The parts are those that [`udfs_volume::layouts::layout_by`] gives, or others that lie within a volume.
     pub fn build(alloc: Global, table: &BlockTable, parts: &VolumeParts) -> Seen<Space>
@@ -154,7 +154,7 @@ impl Space {
     pub fn place(&self, reference: u16, block: u32) -> Option<u32>
         ensures value { result ≡ place self.now reference block }
         // The same as a relation: a block of a spared packet is in the packet's new place, and every other
-        // one behind the start.
+        // one is counted from the start of the partition.
         ensures stands { (n : ℕ) → ((result ≡ Some n) ↔ StandsIn self.now reference block n) }
         ensures exists { IsSome result ↔ (block < length_of self.now reference) }
         ensures fits { IfSome result (λ n. n ≤ 4194303) }
@@ -162,8 +162,9 @@ impl Space {
         self.find(reference, block)
     }
 
-    /// How many logical blocks from one on stand one behind the other in the volume: 0 where the first has no place, and else at least
-    /// 1, up to the end of its packet or, where no packet of the partition is spared, of the partition. It takes no memory.
+    /// The number of logical blocks, from `address` on, that are consecutive in the volume as far as this call looks: up to the end of
+    /// the partition, and up to the end of the packet where some packet of the partition is spared. It is 0 where `address` has no
+    /// place, else at least 1. It takes no memory.
     pub fn beside(&self, address: LbAddr) -> u32
         ensures beside { StandBeside (place self.now address.reference) address.block result }
         ensures some { address.block < length_of self.now address.reference → 0 < result }

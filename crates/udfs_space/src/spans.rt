@@ -1,4 +1,4 @@
-//! Where the blocks of one partition stand.
+//! Where the logical blocks of one partition are.
 
 ghost use Rattle.std.specs.Prelude.{◌≡◌, ◌≤◌, ◌<◌, ℕ, All, IfOk, IfSome, find, nat_eq};
 ghost use Rattle.udfs_lattice.specs.Tables.{state_of};
@@ -18,7 +18,7 @@ use std::marker::Model;
 use udfs_lattice::BlockTable;
 use udfs_volume::{Partition, PartitionMap, Seen, SparableMap};
 
-/// Where the logical blocks of one partition stand.
+/// Where the logical blocks of one partition are.
 #[derive(Debug, Drop)]
 pub(crate) struct Span {
     start: u32,
@@ -41,7 +41,7 @@ impl Model for Span {
 }
 
 impl Span {
-    /// Where the blocks of a partition stand.
+    /// The span of a partition, by its map and, if it is sparable, by its sparing table.
     pub(crate) fn build(
         alloc: Global,
         table: &BlockTable,
@@ -82,7 +82,7 @@ impl Span {
         self.length
     }
 
-    /// The block that holds a logical block.
+    /// The block that holds a logical block, or `None` if the partition has no such logical block.
     pub(crate) fn place(&self, block: u32) -> Option<u32>
         ensures value { result ≡ place_in self.now block }
         ensures sound { IsSound self.now }
@@ -97,8 +97,8 @@ impl Span {
         }
     }
 
-    /// How many logical blocks from one on stand one behind the other: those to the end of the partition where no packet is
-    /// spared, and else those to the end of the packet.
+    /// The number of logical blocks, from `block` on, that are consecutive in the volume as far as this call looks: up to the end of
+    /// the partition, and up to the end of the packet where some packet is spared. 0 where the partition has no such logical block.
     pub(crate) fn beside(&self, block: u32) -> u32
         ensures beside { StandBeside (place_in self.now) block result }
         ensures some { block < self.now.size → 0 < result }
@@ -125,7 +125,7 @@ fn entry_at(spared: &[SparingEntry], first: u32) -> Option<SparingEntry>
     }
 }
 
-/// The packets that the sparing table of a map spares.
+/// The packets that the sparing table of a map spares, or the holes or the first fault of the table.
 fn spared(
     alloc: Global,
     table: &BlockTable,

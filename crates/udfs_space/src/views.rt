@@ -10,12 +10,12 @@ use udfs_lattice::{BlockTable, Fact};
 use udfs_tag::LbAddr;
 
 /// A volume as the layers above see it: what is known of its blocks, and where the logical blocks of its partitions
-/// stand. It borrows both, so it is passed by value.
+/// are. It borrows both, so it is passed by value.
 #[derive(Clone, Copy)]
 pub struct View<'a> {
     /// What is known.
     pub table: &'a BlockTable,
-    /// Where the logical blocks stand.
+    /// Where the logical blocks are.
     pub space: &'a Space,
 }
 

@@ -3,7 +3,7 @@ use Rattle.std.proofs.Common.{◌≡◌, ◌≢◌, refl, sym, ap, subst, ◌∙
 use Rattle.udfs_lattice.specs.States.{State}
 use Rattle.udfs_lattice.specs.Tables.{Table, state_of, entries_of, IsTable}
 use Rattle.udfs_lattice.specs.Records.{RisesFrom}
-use Rattle.udfs_lattice.specs.Volumes.{Includes}
+use Rattle.udfs_lattice.proofs.Inclusion.{Includes, included, contained}
 use Rattle.udfs_lattice.specs.declared.facts.Fact.TheVariants.{Unknown, Known, Conflict}
 use Rattle.udfs_lattice.proofs.PublicLaws.{entries_rise, entries_tell_states}
 use Rattle.udfs_salvage.specs.Reports.{IsNothingPast, IsPastEnd}
@@ -75,7 +75,7 @@ nothing_past table last left sound h none n past = go (state_of table n) refl
 
     not_here : (s : State) → state_of table n ≡ s → s ≢ Unknown → ⊥
     not_here s e some = let at : n ≤ last = each_of (λ (x : Entry). x.0 ≤ last) h.done (n, s) h.up_to
-        (subst (λ (l : List Entry). Includes l (n, s)) all ((entries_tell_states table sound n s).1 (e, some))) in omega (arith, at, past)
+        (subst (λ (l : List Entry). Includes l (n, s)) all (included (entries_of table) (n, s) ((entries_tell_states table sound n s).1 (e, some)))) in omega (arith, at, past)
 
     go : (s : State) → state_of table n ≡ s → state_of table n ≡ Unknown
     go Unknown e = e
@@ -91,11 +91,11 @@ least_past table last left rest e sound h is past = record { past = past; not_un
 
     here : state_of table e.0 ≢ Unknown
     here u = let w : (state_of table e.0 ≡ e.1) × (e.1 ≢ Unknown) = (entries_tell_states table sound e.0 e.1).0
-        (subst (λ (l : List Entry). Includes l e) (sym all) (in_second h.done (e ∷ rest) e (inl refl))) in w.1 (sym w.0 ∙ u)
+        (contained (entries_of table) e (subst (λ (l : List Entry). Includes l e) (sym all) (in_second h.done (e ∷ rest) e (inl refl)))) in w.1 (sym w.0 ∙ u)
 
     least : (m : ℕ) → last < m → state_of table m ≢ Unknown → e.0 ≤ m
     least m lt some = go (in_either h.done (e ∷ rest) (m, state_of table m)
-        (subst (λ (l : List Entry). Includes l (m, state_of table m)) all ((entries_tell_states table sound m (state_of table m)).1 (refl, some))))
+        (subst (λ (l : List Entry). Includes l (m, state_of table m)) all (included (entries_of table) (m, state_of table m) ((entries_tell_states table sound m (state_of table m)).1 (refl, some)))))
       where
         go : Includes h.done (m, state_of table m) ⊎ Includes (e ∷ rest) (m, state_of table m) → e.0 ≤ m
         go (inl i) = let le : m ≤ last = each_of (λ (x : Entry). x.0 ≤ last) h.done (m, state_of table m) h.up_to i in absurd (let z : ⊥ = omega (arith, le, lt) in z)

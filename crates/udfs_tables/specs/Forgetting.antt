@@ -1,9 +1,9 @@
 -- What a table forgets.
 --     Lists found paths blocks      the blocks of the lists at these paths, in order
 --     Forgets conflicts blocks t u  u is t without these blocks, and where asked without its conflicts
---     IsForgottenJoin               the join of the inputs without what the words name
+--     IsForgottenJoin               the join of the inputs without the blocks of the lists, and where asked without its conflicts
 --     MayForget                     what a crash in the middle shows: what was there, or that table in its place
---     PutsForgotten                 its table file is put, as the words of the command ask for
+--     PutsForgotten                 its table file is put, as the arguments of `forget` ask for
 --     SomeFault                     a count of faults changed: some read failed
 --     IsListRefused                 the list at a path was not read, and why
 --     ListsRefused                  the lists at these paths were not read, and why
@@ -48,7 +48,7 @@ pub record IsForgottenJoin {R : Type 0} (found : List ℕ → Option (Option (Li
 abbrev pub MayForget : {R : Type 0} → (List ℕ → Option (Option (List ℕ))) → (R → Option (List ℕ)) → List InputPath → Bool → List (List ℕ) → List ℕ → Disk → Disk → Type 0
 MayForget found remaining inputs conflicts lists out d c = Same d c ⊎ ((table : Table) × IsForgottenJoin found remaining inputs conflicts lists table × Replaced out (table_file Two table) d c)
 
--- of the inputs that the words ask for, without what they name, the table file was put
+-- of the inputs that the arguments name, without the blocks that they say to forget, the table file was put
 pub record PutsForgotten {R : Type 0} (found : List ℕ → Option (Option (List ℕ))) (remaining : R → Option (List ℕ)) (words : Found) (Put : List ℕ → Type 0) : Type 0 where
   pub conflicts : Bool
   pub inputs : List InputPath
@@ -66,7 +66,7 @@ HasListFault held line = IfSome held (λ file. IfSome file (λ bytes. list_outco
 abbrev pub SomeFault : {R : Type 0} → (R → ℕ) → Type 0
 SomeFault {R} faults = (before : R) × (after : R) × (faults after ≢ faults before)
 
--- memory was refused, or the path may fail to open, or a read failed, or a line is no block number
+-- memory ran out, or the path may fail to open, or a read failed, or a line is no block number
 abbrev pub IsListRefused : (List ℕ → Option (Option (List ℕ))) → (List ℕ → Type 0) → Type 0 → List ℕ → Refusal → Type 0
 IsListRefused found shut Failed path refusal = (refusal ≡ Memory alloc_error) ⊎ ((refusal ≡ ListOpen) × shut (stream_path path)) ⊎ ((refusal ≡ ListRead) × Failed) ⊎
     ((line : ℕ) × (refusal ≡ ListLine line) × HasListFault (found (stream_path path)) line)

@@ -33,7 +33,7 @@ pub record BothReplaced (image mapfile bytes text : List ℕ) (d c : Disk) : Typ
   pub stand : Stands None (Some bytes) (Some text) (d image) (d mapfile) (c image) (c mapfile)
   pub others : (q : List ℕ) → (¬ IsOwn image q) → (¬ IsOwn mapfile q) → q ≢ image → q ≢ mapfile → c q ≡ d q
 
--- such a last block is in range, and nothing is known behind it
+-- the last block is in range, and nothing is known of a later one; and `Holds` holds of the image and its mapfile
 pub record HasImage (last : ℕ) (Holds : List ℕ → List ℕ → Type 0) (t : Table) : Type 0 where
   pub in_range : ¬ IsOutOfRange last
   pub nothing_past : IsNothingPast (state_of t) last
@@ -55,7 +55,7 @@ pub record WritesImage {R : Type 0} (found : List ℕ → Option (Option (List �
 abbrev pub MayImageAsked : {R : Type 0} → (List ℕ → Option (Option (List ℕ))) → (R → Option (List ℕ)) → (List ℕ → List ℕ) → Found → Disk → Disk → Type 0
 MayImageAsked found remaining real words d c = Same d c ⊎ WritesImage found remaining words (λ bytes text. BothReplaced (real (out_text words)) (real (mapfile_text words)) bytes text d c)
 
--- the last block is out of range; or something is known behind it, and the least such block is named; or the outputs would take the place of what is to stay; or they were not put
+-- the last block is out of range; or something is known of a later one, and the first such is named; or the outputs are spared; or they were not put
 abbrev pub ImageUnput : Type 0 → Type 0 → ℕ → Refusal → Table → Type 0
 ImageUnput Spares Failed last refusal t = ((refusal ≡ LastRange) × IsOutOfRange last) ⊎ ((n : ℕ) × (refusal ≡ PastEnd n) × (¬ IsOutOfRange last) × IsPastEnd (state_of t) last n) ⊎ ((refusal ≡ Spared) × Spares) ⊎ IsUnput Failed refusal
 

@@ -7,7 +7,7 @@
 --     IsMerged         the output's path holds that table file, and each crash leaves it; or what is no file has taken it
 --     CrashesMerged    a crash at any moment leaves all as it was, or with that table file in the output's place, whole
 --     StandsMerged     the output's path holds that table file
---     LeavesMerge      what a refusal leaves: all as it was; or a call failed, and the path holds what it held or that table file, whole
+--     LeavesMerge      what an error leaves: nothing has changed; or a call failed, and the path holds what it held or that table file, whole
 --     IsUnmerged       the inputs were not joined, and why, or their table file was not put
 use Rattle.std.specs.Prelude.{◌≡◌, ◌≢◌, ◌⊎◌, ℕ, List, Option, Some}
 use Rattle.udfs_files.specs.Disk.{Disk, After, Fails, IsOwn, SinkFails}

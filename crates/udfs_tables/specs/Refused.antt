@@ -51,7 +51,7 @@ pub record OneFails {R : Type 0} (remaining : R → Option (List ℕ)) (all : Li
   pub fault : GivesFault inputs (remaining one) (Err error.error)
   pub faulty : RefusesFaulty inputs (remaining one) (Err error.error)
 
--- by the reason that each was refused for when it was opened, if it was
+-- it has this error, which is reported with the reason why the input has no reading, if there is one
 pub record BlamesOne {R : Type 0} (remaining : R → Option (List ℕ)) (reason : R → Option PairFault) (all : List R) (refusal : Refusal) : Type 0 where
   pub error : InputError
   pub fails : OneFails remaining all error
@@ -73,14 +73,14 @@ IsUncompared count r = (place : ℕ) × (number : ℕ) × (place < count) × (r 
 abbrev pub IsRereadOf : ℕ → Refusal → Type 0
 IsRereadOf count r = (place : ℕ) × (number : ℕ) × (place < count) × (r ≡ refusal.Reread (place + 1) number)
 
--- memory was refused, or one of them was not taken, or its bytes could not be compared with those of another
+-- memory ran out, or one of them was not taken, or its bytes could not be compared with those of another
 abbrev pub StoredRefused : {S : Type 0} → (S → Option (List ℕ)) → (S → Option PairFault) → List S → Refusal → Type 0
 StoredRefused content reason stored r = (r ≡ refusal.Memory alloc_error) ⊎ BlamesOne content reason stored r ⊎ IsUncompared (length stored) r
 
--- memory was refused; or one of the paths is shut, and it is named; or what it leads to has no table, and why; or bytes of an input could not be read again
+-- memory ran out; or one of the paths is shut, and it is named; or what it leads to has no table, and why; or bytes of an input could not be read again
 pub record MergeRefused {R I : Type 0} (found : List ℕ → Option (Option (List ℕ))) (shut : List ℕ → Type 0) (remaining : AnySource R I → Option (List ℕ)) (paths : List InputPath) (refused : Refusal) : Type 0 where
   pub why : (refused ≡ refusal.Memory alloc_error) ⊎ IsShut shut paths refused ⊎ BlamesPath found remaining source_reason paths refused ⊎ IsUncompared (length paths) refused ⊎ IsRereadOf (length paths) refused
 
--- memory was refused; or the output would take the place of what is to stay; or it could not be looked at; or this is said of the inputs that are asked for
+-- memory ran out; or the output would take the place of what is to stay; or it could not be looked at; or `Why` holds of the inputs that are asked for
 abbrev pub WordsRefused : Type 0 → List Asked → (List InputPath → Refusal → Type 0) → Refusal → Type 0
 WordsRefused Unseen asked Why r = (r ≡ refusal.Memory alloc_error) ⊎ (r ≡ refusal.Spared) ⊎ ((r ≡ refusal.Output) × Unseen) ⊎ ((paths : List InputPath) × (map asked_for paths ≡ asked) × Why paths r)

@@ -6,7 +6,7 @@ use std::alloc::{AllocError, Global};
 use udfs_common::files::Files;
 use udfs_overview::push_grouped;
 
-/// Appends a number with its thousands separated, and text behind it.
+/// Appends a number with its thousands separated, and then a text.
 fn push_counted(line: &mut String, number: u32, words: &str) -> Result<(), AllocError> {
     if push_grouped(number as u128, line).is_err() {
         return Err(AllocError);

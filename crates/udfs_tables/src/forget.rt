@@ -139,16 +139,16 @@ pub fn forget<F: Files>(
     ensures any_moment { F.tells → (F.in_place files.old out.now → ⊥) → (c : Disk) → F.left_since files.new (F.moment files.old) c →
         After (F.may_leave files.old) (MayForget (λ path. F.holds files.old (F.real files.old path)) (⟦<AnySource<F::Input, F::Image> as Source>⟧.remaining) inputs.now conflicts (map (λ path. path.now) lists.now) (F.real files.old out.now)) c }
     ensures untouched { IfErr result (λ refusal. refusal ≢ Refusal.Output → refusal ≢ Refusal.Unkept → files.new ≡ files.old) }
-    // A refused output leaves what its path held.
+    // With `Output` the output's path holds what it held, unless it is that of a device or a pipe.
     ensures refused { IsErrOf result Refusal.Output → F.tells → (F.in_place files.old out.now → ⊥) → F.holds files.new (F.real files.old out.now) ≡ F.holds files.old (F.real files.old out.now) }
     // The table file is in its place where only the folder could not be synced.
     ensures unkept { IsErrOf result Refusal.Unkept → F.tells → (table : Table) × IsForgottenJoin (λ path. F.holds files.old (F.real files.old path)) (⟦<AnySource<F::Input, F::Image> as Source>⟧.remaining) inputs.now conflicts (map (λ path. path.now) lists.now) table ×
         (F.holds files.new (F.real files.old out.now) ≡ Some (Some (table_file Version.Two table))) }
     // No other path changes, but for those of new files that are to go in its place.
     ensures elsewhere { F.tells → (F.in_place files.old out.now → ⊥) → (q : List ℕ) → q ≢ F.real files.old out.now → (¬ IsOwn (F.real files.old out.now) q) → F.holds files.new q ≡ F.holds files.old q }
-    // It is refused only for a fault.
+    // `Output` and `Unkept` come only where the output's path may fail to open, or a call on the files or on an output may fail.
     ensures cause { IfErr result (λ refusal. (refusal ≡ Refusal.Output) ⊎ (refusal ≡ Refusal.Unkept) → F.shut files.old out.now ⊎ Fails F.faults ⊎ SinkFails F.Output.stream) }
-    // A refusal leaves all as it was; or a call failed, and then the path holds what it held or the new file, whole.
+    // After an error nothing has changed; or a call failed, and the path, unless a device or a pipe, holds what it held or the new file, whole.
     ensures left { OnErr result (RefusedOut F.tells F.holds F.real F.in_place (F.shut files.old out.now ⊎ Fails F.faults ⊎ SinkFails F.Output.stream) out.now files.old files.new
         (λ Put. (table : Table) × IsForgottenJoin (λ path. F.holds files.old (F.real files.old path)) (⟦<AnySource<F::Input, F::Image> as Source>⟧.remaining) inputs.now conflicts (map (λ path. path.now) lists.now) table × Put (table_file Version.Two table))) }
     ensures told { IfErr result (λ refusal. refusal ≢ Refusal.Spared) }

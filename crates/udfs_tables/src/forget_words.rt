@@ -1,4 +1,4 @@
-//! What the words after `forget` ask for.
+//! What the arguments of `forget` ask for.
 
 ghost use Rattle.std.specs.Prelude.{◌≡◌, ◌≢◌, ◌⊎◌, ℕ, List, Bool, true, false, Some, IfErr, IsErrOf, OnErr, OnOk, codes};
 ghost use Rattle.clap.specs.Matches.{found_of};
@@ -24,7 +24,7 @@ use udfs_reading::Source;
 use udfs_words::asking::{asked_conflicts, asked_force, asked_out, asked_streams};
 use udfs_words::words::BLOCKS;
 
-/// Does what the words after `forget` ask for.
+/// Does what the arguments of `forget` ask for.
 pub fn forget_words<F: Files>(
     alloc: Global,
     words: &ArgMatches<'_>,
@@ -36,11 +36,11 @@ pub fn forget_words<F: Files>(
     ensures any_moment { F.tells → (F.in_place files.old (out_text (found_of words.now)) → ⊥) → (c : Disk) → F.left_since files.new (F.moment files.old) c →
         After (F.may_leave files.old) (MayForgetAsked (λ path. F.holds files.old (F.real files.old path)) (⟦<AnySource<F::Input, F::Image> as Source>⟧.remaining) (F.real files.old) (found_of words.now)) c }
     ensures untouched { IfErr result (λ refusal. refusal ≢ Refusal.Output → refusal ≢ Refusal.Unkept → files.new ≡ files.old) }
-    // A refused output leaves what its path held.
+    // With `Output` the output's path holds what it held, unless it is that of a device or a pipe.
     ensures refused { IsErrOf result Refusal.Output → F.tells → (F.in_place files.old (out_text (found_of words.now)) → ⊥) → F.holds files.new (F.real files.old (out_text (found_of words.now))) ≡ F.holds files.old (F.real files.old (out_text (found_of words.now))) }
     // The table file is in its place where only the folder could not be synced.
     ensures unkept { IsErrOf result Refusal.Unkept → F.tells → PutsForgotten (λ path. F.holds files.old (F.real files.old path)) (⟦<AnySource<F::Input, F::Image> as Source>⟧.remaining) (found_of words.now) (λ bytes. F.holds files.new (F.real files.old (out_text (found_of words.now))) ≡ Some (Some bytes)) }
-    // A refusal leaves all as it was; or a call failed, and then the path holds what it held or the new file, whole.
+    // After an error nothing has changed; or a call failed, and the path, unless a device or a pipe, holds what it held or the new file, whole.
     ensures left { OnErr result (RefusedOut F.tells F.holds F.real F.in_place (F.shut files.old (out_text (found_of words.now)) ⊎ Fails F.faults ⊎ SinkFails F.Output.stream) (out_text (found_of words.now)) files.old files.new
         (PutsForgotten (λ path. F.holds files.old (F.real files.old path)) (⟦<AnySource<F::Input, F::Image> as Source>⟧.remaining) (found_of words.now))) }
     // No other path changes, but for those of new files that are to go in its place.
@@ -50,7 +50,8 @@ pub fn forget_words<F: Files>(
         (F.tells → IsFree (F.holds files.old) (F.real files.old) (F.in_place files.old) (input_texts (found_of words.now)) (pair_texts (found_of words.now)) force (out_text (found_of words.now)))) }
     ensures spared { IsErrOf result Refusal.Spared → (force : Bool) × IsPicked (found_of words.now) (codes "force") true false force ×
         (F.tells → IsSpared (F.holds files.old) (F.real files.old) (input_texts (found_of words.now)) (pair_texts (found_of words.now)) force (out_text (found_of words.now))) }
-    // Why it is refused: what is there is spared or could not be looked at, or a list was not read, or the inputs were not joined, or the table file was not put.
+    // Why it fails: memory ran out, or what is there is spared or could not be looked at, or a list was not read, or the inputs were not joined, or the table
+    // file was not put.
     ensures why { IfErr result (WordsRefused (MayNotBeSeen (F.shut files.old) (Fails F.Input.faults) (input_texts (found_of words.now)) (pair_texts (found_of words.now)) (out_text (found_of words.now))) (asked_streams (found_of words.now))
         (ForgetRefused (λ path. F.holds files.old (F.real files.old path)) (F.shut files.old) (⟦<AnySource<F::Input, F::Image> as Source>⟧.remaining) (⟦<AnySource<F::Input, F::Image> as Source>⟧.faults) (SomeFault F.Input.faults) (F.shut files.old (out_text (found_of words.now)) ⊎ Fails F.faults ⊎ SinkFails F.Output.stream) (list_texts (found_of words.now)))) }
 {

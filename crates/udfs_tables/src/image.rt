@@ -73,7 +73,7 @@ impl<'a> Content for MapOf<'a> {
     }
 }
 
-/// The first block behind the last one of which something is known.
+/// The first block after the block `last` of which something is known.
 fn past_end(table: &BlockTable, last: u32) -> Option<u32>
     ensures { MatchOption result (IsNothingPast (state_of table.now) last) (λ n. IsPastEnd (state_of table.now) last n) }
 {
@@ -170,7 +170,7 @@ fn put_table<F: Files>(
 }
 
 /// Joins the inputs, and puts the image of the blocks from 0 to `last` and its mapfile at two paths. An old mapfile is removed first, and the new one is put
-/// last, so that no mapfile stands beside an image that lacks a block which it marks `+`. All inputs are opened in order before one is read.
+/// last, so that there is never a mapfile beside an image that lacks a block which it marks `+`. All inputs are opened in order before one is read.
 pub fn image<F: Files>(
     alloc: Global,
     inputs: &[InputPath<'_>],
@@ -191,7 +191,7 @@ pub fn image<F: Files>(
     ensures elsewhere { F.tells → (q : List ℕ) → q ≢ F.real files.old outputs.entry.image.now → q ≢ F.real files.old outputs.entry.mapfile.now → (¬ IsOwn (F.real files.old outputs.entry.image.now) q) → (¬ IsOwn (F.real files.old outputs.entry.mapfile.now) q) → F.holds files.new q ≡ F.holds files.old q }
     // The outputs are spared only where they may not be written over, or are in the way of one another.
     ensures spared { IsErrOf result Refusal.Spared → F.tells → HaveNoPlace (F.real files.old) (F.in_place files.old) outputs.entry.force outputs.entry.image.now outputs.entry.mapfile.now }
-    // The inputs were not joined, or the last block is out of range, or something is known behind it, or the outputs are spared, or they were not put.
+    // The inputs were not joined, or the last block is out of range, or something is known of a later one, or the outputs are spared, or they were not put.
     ensures why { IfErr result (ImageRefused (λ path. F.holds files.old (F.real files.old path)) (F.shut files.old) (⟦<AnySource<F::Input, F::Image> as Source>⟧.remaining) (⟦<AnySource<F::Input, F::Image> as Source>⟧.faults)
         (F.tells → HaveNoPlace (F.real files.old) (F.in_place files.old) outputs.entry.force outputs.entry.image.now outputs.entry.mapfile.now)
         (F.shut files.old outputs.entry.image.now ⊎ F.shut files.old outputs.entry.mapfile.now ⊎ Fails F.faults ⊎ SinkFails F.Output.stream) last inputs.now) }

@@ -1,4 +1,4 @@
-//! What the words after `image` ask for.
+//! What the arguments of `image` ask for.
 
 ghost use Rattle.std.specs.Prelude.{◌≡◌, ◌⊎◌, Bool, true, false, IfErr, IsErrOf, OnOk, alloc_error, codes};
 ghost use Rattle.clap.specs.Matches.{found_of};
@@ -23,7 +23,7 @@ use udfs_reading::Source;
 use udfs_words::asking::asked_streams;
 use udfs_words::words::{FORCE, INPUTS, MAPFILE, OUT, PAIRS};
 
-/// The outputs among the words after `image`. The grammar asks for both.
+/// The outputs that the arguments of `image` give. The grammar requires both paths.
 fn asked_outputs<'a>(words: &ArgMatches<'a>) -> Outputs<'a>
     ensures image { result.image.now ≡ out_text (found_of words.now) }
     ensures mapfile { result.mapfile.now ≡ mapfile_text (found_of words.now) }
@@ -36,7 +36,7 @@ fn asked_outputs<'a>(words: &ArgMatches<'a>) -> Outputs<'a>
     }
 }
 
-/// Looks at the outputs that the words after `image` ask for.
+/// Checks that the outputs that the arguments of `image` ask for take the place of nothing that is to stay.
 fn look_at_asked<F: Files>(
     alloc: Global,
     words: &ArgMatches<'_>,
@@ -64,7 +64,7 @@ fn look_at_asked<F: Files>(
     }
 }
 
-/// Does what the words after `image` ask for.
+/// Does what the arguments of `image` ask for.
 pub fn image_words<F: Files>(
     alloc: Global,
     words: &ArgMatches<'_>,

@@ -93,8 +93,8 @@ fn refused_of<S: Stored>(stored: &[AnyStored<S>], error: InputError) -> Option<P
     }
 }
 
-/// Why the inputs were not taken. A pair that was refused has its own reason. Bytes that were to be compared and could not be read are a fault of the
-/// input that has them.
+/// Why the inputs were not taken. A pair that has no reading is reported with its own reason. Bytes that were to be compared and could not be read are a fault
+/// `Io` of the input that has them.
 fn refusal_of<S: Stored>(
     stored: &[AnyStored<S>],
     failed: Option<Unread>,
@@ -117,7 +117,7 @@ fn refusal_of<S: Stored>(
     }
 }
 
-/// Each stored input as a source that is read from its front.
+/// Each stored input as a source that is read from its beginning.
 fn cursors<'a, S: Stored>(alloc: Global, stored: &'a [S]) -> Result<Vec<Cursor<'a, S>>, AllocError>
     ensures { IfOk result (λ all. map ⟦<Cursor<'a, S> as Source>⟧.remaining all.items ≡ map S.content stored.now) }
 {
@@ -128,14 +128,14 @@ fn cursors<'a, S: Stored>(alloc: Global, stored: &'a [S]) -> Result<Vec<Cursor<'
     Ok(all)
 }
 
-/// The join of the inputs' tables by where its bytes stand, and what was counted of them.
+/// The join of the inputs' tables, as an index of where its bytes are, and what was counted of them.
 pub fn indexed<'a, S: Stored>(
     alloc: Global,
     stored: &'a [AnyStored<S>],
 ) -> Result<IndexTally<'a, AnyStored<S>>, Refusal>
     ensures table { IfOk result (λ tally. (ts : List Table) × TablesAre ⟦<AnyStored<S> as Stored>⟧.content stored.now ts × ⟦<IndexTally<'a, AnyStored<S>> as Taker<Cursor<'a, AnyStored<S>>>>⟧.took tally (join_all ts)) }
     ensures told { IfErr result (λ refusal. (refusal ≢ Refusal.Output) × (refusal ≢ Refusal.Unkept) × (refusal ≢ Refusal.Spared)) }
-    // Memory was refused, or an input was not taken, and why, or its bytes could not be compared with those of another.
+    // Memory ran out, or an input was not taken, and why, or its bytes could not be compared with those of another.
     ensures why { IfErr result (StoredRefused ⟦<AnyStored<S> as Stored>⟧.content stored_reason stored.now) }
 {
     let mut tally = match IndexTally::new(alloc, stored.len()) {

@@ -102,9 +102,9 @@ fn merge_held<F: Files>(
 
 /// Joins the inputs, and puts the table file of this version at the path `out`, over an old one. All inputs are opened in order before one is read, and
 /// the output is begun only after all are joined. A file is put in its place whole or not at all, and the output may be one of the inputs; a device or a pipe is
-/// written in place. Where each input is a regular file by its own path, or an image and a mapfile that are, no block is held: of a known block is kept
-/// where in which input its bytes stand, and they are read again when they are written. An input must not change meanwhile: where its length or its time of change has, the merge is refused
-/// before a file is in the output's place.
+/// written in place. Where each input is a regular file by its own path, or an image and a mapfile that are, no block is held: of each known block is kept in
+/// which input its bytes are, and where, and they are read again when they are written. An input must not change meanwhile: where its length or its time of
+/// change has, the merge fails before a file is in the output's place.
 pub fn merge<F: Files>(
     alloc: Global,
     inputs: &[InputPath<'_>],
@@ -116,20 +116,20 @@ pub fn merge<F: Files>(
     ensures written { OnOk result (IsMerged F.Files F.Output.stream (⟦<AnySource<F::Input, F::Image> as Source>⟧.remaining) inputs.now out.now version files.old files.new) }
     // A crash at any moment of the call leaves all as it was, or with the output in its place, whole.
     ensures any_moment { CrashesMerged F.Files F.Output.stream (⟦<AnySource<F::Input, F::Image> as Source>⟧.remaining) inputs.now out.now version files.old files.new }
-    // Any other refusal leaves all files as they were. An input that could not be read a second time was found so when a new file was begun, which is
-    // removed again.
+    // Any error but `Output`, `Unkept` and `Reread` leaves all files as they were. `Reread`, of an input that could not be read a second time or has changed,
+    // comes after a new file was begun, which is removed again.
     ensures untouched { IfErr result (λ refusal. refusal ≢ Refusal.Output → refusal ≢ Refusal.Unkept → (¬ IsReread refusal) → files.new ≡ files.old) }
-    // Then the output's path holds what it held.
+    // With `Reread` the output's path holds what it held, unless it is that of a device or a pipe.
     ensures reread { IfErr result (λ refusal. IsReread refusal → KeepsOut F.Files out.now files.old files.new) }
-    // A refused output leaves what its path held.
+    // With `Output` the output's path holds what it held, unless it is that of a device or a pipe.
     ensures refused { IsErrOf result Refusal.Output → KeepsOut F.Files out.now files.old files.new }
     // The table file is in its place where only the folder could not be synced.
     ensures unkept { IsErrOf result Refusal.Unkept → StandsMerged F.Files F.Output.stream (⟦<AnySource<F::Input, F::Image> as Source>⟧.remaining) inputs.now out.now version files.old files.new }
     // No other path changes, but for those of new files that are to go in its place.
     ensures elsewhere { KeepsOthers F.Files out.now files.old files.new }
-    // It is refused only for a fault.
+    // `Output` and `Unkept` come only where the output's path may fail to open, or a call on the files or on an output may fail.
     ensures cause { IfErr result (λ refusal. (refusal ≡ Refusal.Output) ⊎ (refusal ≡ Refusal.Unkept) → PutFails F.Files F.Output.stream out.now files.old) }
-    // A refusal leaves all as it was; or a call failed, and then the path holds what it held or the new file, whole.
+    // After an error nothing has changed; or a call failed, and the path, unless a device or a pipe, holds what it held or the new file, whole.
     ensures left { OnErr result (LeavesMerge F.Files F.Output.stream (⟦<AnySource<F::Input, F::Image> as Source>⟧.remaining) inputs.now out.now version files.old files.new) }
     ensures told { IfErr result (λ refusal. refusal ≢ Refusal.Spared) }
     // The inputs were not joined, and why, or their table file was not put.

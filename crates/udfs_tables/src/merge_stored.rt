@@ -20,7 +20,7 @@ use udfs_words::forms::Version;
 use udfs_words::input_path::InputPath;
 
 /// Joins the inputs of these paths, which are opened, and puts the table file of this version at the path `out`, as [`merge`](crate::merge::merge).
-/// Of the blocks it keeps where in which input their bytes stand, and reads them again when it writes them.
+/// Of each known block it keeps in which input its bytes are, and where, and it reads them again when it writes them.
 pub fn merge_stored<F: Files>(
     alloc: Global,
     stored: &[AnyStored<F::Stored>],

@@ -1,4 +1,4 @@
-//! What the words after `merge` ask for, and what is known of the output of `merge` and `forget`.
+//! What the arguments of `merge` ask for, and what is known of the output of `merge` and `forget`.
 
 ghost use Rattle.std.specs.Prelude.{◌≡◌, ◌≢◌, ◌⊎◌, ℕ, List, Bool, true, false, Some, IfOk, IfErr, IsErrOf, OnErr, OnOk, codes};
 ghost use Rattle.clap.specs.Matches.{found_of};
@@ -24,7 +24,7 @@ use udfs_reading::Source;
 use udfs_words::asking::{asked_force, asked_inputs, asked_out, asked_version};
 use udfs_words::words::{INPUTS, PAIRS};
 
-/// What is known of the output that the words after `merge` ask for.
+/// What is known of the output that the arguments of `merge` or `forget` ask for.
 pub fn asked_outlook<F: Files>(
     alloc: Global,
     words: &ArgMatches<'_>,
@@ -41,7 +41,7 @@ pub fn asked_outlook<F: Files>(
     Ok(found)
 }
 
-/// Does what the words after `merge` ask for.
+/// Does what the arguments of `merge` ask for.
 pub fn merge_words<F: Files>(
     alloc: Global,
     words: &ArgMatches<'_>,
@@ -55,11 +55,11 @@ pub fn merge_words<F: Files>(
     ensures untouched { IfErr result (λ refusal. refusal ≢ Refusal.Output → refusal ≢ Refusal.Unkept → (¬ IsReread refusal) → files.new ≡ files.old) }
     // Where an input could not be read a second time, the output's path holds what it held.
     ensures reread { IfErr result (λ refusal. IsReread refusal → F.tells → (F.in_place files.old (out_text (found_of words.now)) → ⊥) → F.holds files.new (F.real files.old (out_text (found_of words.now))) ≡ F.holds files.old (F.real files.old (out_text (found_of words.now)))) }
-    // A refused output leaves what its path held.
+    // With `Output` the output's path holds what it held, unless it is that of a device or a pipe.
     ensures refused { IsErrOf result Refusal.Output → F.tells → (F.in_place files.old (out_text (found_of words.now)) → ⊥) → F.holds files.new (F.real files.old (out_text (found_of words.now))) ≡ F.holds files.old (F.real files.old (out_text (found_of words.now))) }
     // The table file is in its place where only the folder could not be synced.
     ensures unkept { IsErrOf result Refusal.Unkept → F.tells → PutsJoin (λ path. F.holds files.old (F.real files.old path)) (⟦<AnySource<F::Input, F::Image> as Source>⟧.remaining) (found_of words.now) (λ bytes. F.holds files.new (F.real files.old (out_text (found_of words.now))) ≡ Some (Some bytes)) }
-    // A refusal leaves all as it was; or a call failed, and then the path holds what it held or the new file, whole.
+    // After an error nothing has changed; or a call failed, and the path, unless a device or a pipe, holds what it held or the new file, whole.
     ensures left { OnErr result (RefusedOut F.tells F.holds F.real F.in_place (F.shut files.old (out_text (found_of words.now)) ⊎ Fails F.faults ⊎ SinkFails F.Output.stream) (out_text (found_of words.now)) files.old files.new
         (PutsJoin (λ path. F.holds files.old (F.real files.old path)) (⟦<AnySource<F::Input, F::Image> as Source>⟧.remaining) (found_of words.now))) }
     // No other path changes, but for those of new files that are to go in its place.
@@ -69,7 +69,7 @@ pub fn merge_words<F: Files>(
         (F.tells → IsFree (F.holds files.old) (F.real files.old) (F.in_place files.old) (input_texts (found_of words.now)) (pair_texts (found_of words.now)) force (out_text (found_of words.now)))) }
     ensures spared { IsErrOf result Refusal.Spared → (force : Bool) × IsPicked (found_of words.now) (codes "force") true false force ×
         (F.tells → IsSpared (F.holds files.old) (F.real files.old) (input_texts (found_of words.now)) (pair_texts (found_of words.now)) force (out_text (found_of words.now))) }
-    // Why it is refused: what is there is spared or could not be looked at, or the inputs were not joined, or their table file was not put.
+    // Why it fails: memory ran out, or what is there is spared or could not be looked at, or the inputs were not joined, or their table file was not put.
     ensures why { IfErr result (WordsRefused (MayNotBeSeen (F.shut files.old) (Fails F.Input.faults) (input_texts (found_of words.now)) (pair_texts (found_of words.now)) (out_text (found_of words.now))) (asked_inputs (found_of words.now))
         (λ inputs refusal. MergeRefused (λ path. F.holds files.old (F.real files.old path)) (F.shut files.old) (⟦<AnySource<F::Input, F::Image> as Source>⟧.remaining) inputs refusal ⊎ IsUnput (F.shut files.old (out_text (found_of words.now)) ⊎ Fails F.faults ⊎ SinkFails F.Output.stream) refusal)) }
 {

@@ -4,7 +4,7 @@
 --     message bytes       the polynomial of the bytes' bits, followed by 16 zero bits
 --     crc_of bytes        the remainder of the message, by long division
 --
--- A number stands for a polynomial: its bit i is the coefficient of x^i. A sum is `bit_xor`, and a
+-- A number represents a polynomial: its bit i is the coefficient of x^i. A sum is `bit_xor`, and a
 -- product with x^k is `* 2 ^ k`. A quotient is the list of its coefficients, that of x^0 first.
 use Rattle.std.specs.Prelude.{◌≡◌, ℕ, zero, suc, ◌+◌, ◌*◌, ◌^◌, ◌<◌, Bool, List, [], ◌∷◌, ◌++◌, length, replicate, fold, bit_xor, if◌then◌else◌}
 use Rattle.std.specs.Int.{bit_at}

@@ -1,4 +1,4 @@
-//! Tag identifiers: which descriptor a tag stands before (ECMA-167 3/7.2.1 and 4/7.2.1).
+//! Tag identifiers: the kind of descriptor that begins with a tag (ECMA-167 3/7.2.1 and 4/7.2.1).
 
 /// A sparing table, which has no kind of its own (UDF 1.50 and 2.01, 2.2.11).
 pub const SPARING_TABLE: u16 = 0;

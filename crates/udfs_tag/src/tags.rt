@@ -13,7 +13,7 @@ use std::fmt;
 /// What is kept of a tag that is accepted.
 #[derive(Clone, Copy, Debug, PartialEq, Eq)]
 pub struct Tag {
-    /// The kind of descriptor that the tag stands before (ECMA-167 3/7.2.1 and 4/7.2.1).
+    /// The kind of descriptor that begins with the tag (ECMA-167 3/7.2.1 and 4/7.2.1).
     pub identifier: u16,
 }
 
@@ -28,7 +28,7 @@ pub enum TagFault {
     CrcLength = 3,
     /// The CRC is not that of the covered bytes (ECMA-167 3/7.2.6).
     Crc = 4,
-    /// The tag says that it stands elsewhere (ECMA-167 3/7.2.8), as a copy of another place does.
+    /// The tag gives another location (ECMA-167 3/7.2.8), as that of a descriptor copied from elsewhere does.
     Location = 5,
 }
 
@@ -70,8 +70,8 @@ fn joined(first: &[u8], second: &[u8]) -> [u8; 16]
 }
 
 impl Tag {
-    /// Checks the tag in the 16 bytes at the front, over the bytes that follow it, for a descriptor
-    /// that stands at the location: a sector number, or within a partition a logical block number.
+    /// Checks the tag in the first 16 bytes, over the bytes that follow it, for a descriptor at
+    /// `location`: a sector number, or within a partition a logical block number.
     ///
     /// A CRC length of 0 is that of no bytes, whose CRC is 0. The reserved byte and the serial number
     /// decide nothing, but they are summed.

@@ -32,7 +32,7 @@ fn seconds_ahead(zone: &TimeZone<'_>, shown: DateTime) -> i32
     }
 }
 
-/// What a clock that is `seconds` seconds behind shows when this one shows `micros`, in microseconds.
+/// The time in microseconds that a clock shows when another one, which is `seconds` seconds ahead of it, shows `micros`.
 fn behind(micros: i64, seconds: i32) -> i64
     requires shown { IsCivilNanos (micros *ℤ pos 1000) }
     requires low { neg_ℤ (pos 93_599) ≤ℤ seconds }

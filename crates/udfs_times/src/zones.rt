@@ -29,7 +29,7 @@ pub enum Zone {
     Table(Tzif),
 }
 
-/// The zone of this table, and UTC where there is none.
+/// The zone of this table, or UTC for `None`.
 fn table_or_utc(table: Option<Tzif>) -> Zone {
     match table {
         Some(table) => Zone::Table(table),

@@ -1,10 +1,10 @@
 -- A lawful tree is sound: what is whole is what the standard reads, and nothing lies in itself.
 use Rattle.std.proofs.Common.{◌≡◌, ◌≢◌, refl, sym, ◌∙◌, ap, subst, inl, inr, ◌⊎◌, ℕ, ◌+◌, ◌<◌, ◌≤◌, Bool, true, false, List, [], ◌∷◌, ◌++◌, length, cond, ◌&&◌, ◌||◌, arith, map, Option, Some, None, slice_get, nat_le}
-use Rattle.std.specs.Prelude.{zero, suc, AllPairs, IsSome}
+use Rattle.std.specs.Prelude.{zero, suc, AllPairs, Contains, IsSome}
 use Rattle.std.specs.List.{list_any}
 use Rattle.std.proofs.lemmas.Bool.{eq-eqb, leb-false}
 use Rattle.std.proofs.lemmas.List.{length-append, length-map}
-use Rattle.udfs_lattice.specs.Volumes.{Includes}
+use Rattle.udfs_lattice.proofs.Inclusion.{Includes, included, contained}
 use Rattle.udfs_tag.specs.declared.layouts.LongAd.{LongAd}
 use Rattle.udfs_space.specs.Places.{View}
 use Rattle.udfs_file.specs.Complete.{AreShort, IsComplete}
@@ -243,7 +243,7 @@ is_some (Some v) w e = refl
 le_or_lt : (a b : ℕ) → (a ≤ b) ⊎ (b < a)
 le_or_lt a b = grind arith
 
-few : (all : View) (blocks : PartitionBlocks) → IsComplete all blocks → (root : LongAd) → IsLawfulTree all root → (paths : Paths) → StandOnce paths → ((path : Path) → Includes paths path → LeadsOn blocks root path) → length paths ≤ 65536
+few : (all : View) (blocks : PartitionBlocks) → IsComplete all blocks → (root : LongAd) → IsLawfulTree all root → (paths : Paths) → StandOnce paths → ((path : Path) → Contains paths path → LeadsOn blocks root path) → length paths ≤ 65536
 few all blocks c root l paths once each = go (le_or_lt (length w.0) 65536)
   where
     w : (walks : List Walked) × IsWalk all root walks
@@ -258,13 +258,13 @@ few all blocks c root l paths once each = go (le_or_lt (length w.0) 65536)
     inside path i = subst (Includes (map (λ v. v.path) w.0)) (ap (λ v. v.path) same ∙ e.path_is) (get_path w.0 y.0 at.0 y.1)
       where
         on : LeadsOn blocks root path
-        on = each path i
+        on = each path (contained paths path i)
 
         e : End all blocks root path on.0
         e = end_at all blocks c root l path on.0 on.1
 
         at : (j : ℕ) × (slice_get w.1.routes j ≡ Some e.route)
-        at = includes_get w.1.routes e.route (w.1.all e.route (is_some (walked all root e.route) e.w e.walks))
+        at = includes_get w.1.routes e.route (included w.1.routes e.route (w.1.all e.route (is_some (walked all root e.route) e.w e.walks)))
 
         y : (v : Walked) × (slice_get w.0 at.0 ≡ Some v) × (walked all root e.route ≡ Some v)
         y = get_zip (λ route v. walked all root route ≡ Some v) w.1.routes w.0 at.0 e.route w.1.each at.1

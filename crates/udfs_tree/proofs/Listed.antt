@@ -2,6 +2,7 @@
 use Rattle.std.proofs.Common.{◌≡◌, refl, sym, ◌∙◌, ap, subst, ℕ, List, [], ◌∷◌, map, Option, Some, None, slice_get}
 use Rattle.std.specs.Prelude.{zero, suc, IsSome}
 use Rattle.std.specs.List.{AllZip}
+use Rattle.udfs_lattice.proofs.Inclusion.{included}
 use Rattle.udfs_tag.specs.declared.layouts.LongAd.{LongAd}
 use Rattle.udfs_space.specs.Places.{View}
 use Rattle.udfs_walk.specs.NodeFields.{NodeFields}
@@ -77,7 +78,7 @@ pub placed : (v : View) (root : LongAd) (nodes : List NodeFields) (all : AreNode
 placed v root nodes all route end e = record { index = i.0; at = at; listed = ap (λ z. slice_get z i.0) all.is ∙ get_map (node v) all.walks i.0 end at }
   where
     i : (k : ℕ) × (slice_get all.walk.routes k ≡ Some route)
-    i = includes_get all.walk.routes route (all.walk.all route (is_some_of (walked v root route) end e))
+    i = includes_get all.walk.routes route (included all.walk.routes route (all.walk.all route (is_some_of (walked v root route) end e)))
 
     x : (w : Walked) × (slice_get all.walks i.0 ≡ Some w) × (walked v root route ≡ Some w)
     x = get_zip (λ route w. walked v root route ≡ Some w) all.walk.routes all.walks i.0 route all.walk.each i.1

@@ -2,7 +2,8 @@
 use Rattle.std.proofs.Common.{◌≡◌, refl, sym, ◌∙◌, ap, subst, inl, ℕ, Bool, true, false, List, [], ◌∷◌, ◌++◌, cond, ◌||◌, Some, None, slice_get}
 use Rattle.std.proofs.lemmas.List.{append_assoc}
 use Rattle.udfs_lattice.specs.States.{State, is_known}
-use Rattle.udfs_lattice.specs.Volumes.{Includes, IsKnownAt}
+use Rattle.udfs_lattice.specs.Volumes.{IsKnownAt}
+use Rattle.udfs_lattice.proofs.Inclusion.{Includes, contained}
 use Rattle.udfs_lattice.specs.declared.facts.Fact.TheVariants.{Unknown, Known, Conflict}
 use Rattle.udfs_tag.specs.declared.layouts.LongAd.{LongAd}
 use Rattle.udfs_space.specs.Places.{View, IsPartOf}
@@ -54,7 +55,7 @@ pub body_known : (some all : View) (blocks : PartitionBlocks) (root : LongAd) (s
     → ((k : ℕ) → ¬ IsMissingAt (part_here some all blocks root s w h).part k) → (group : List ℕ) → IsBodyBlock all blocks root w.path group → HasKnown some.blocks group
 body_known some all blocks root s w h clear group x = (
   x.block,
-  subst (λ z. Includes z x.block) (sym x.is) (inl refl),
+  contained group x.block (subst (λ z. Includes z x.block) (sym x.is) (inl refl)),
   gap_known some all w.address.reference w.address.block h.at.fields h.at.cs (part_here some all blocks root s w h) x.cell x.block
       (need_of some all blocks root w h x.address same x.file x.is_file x.cell x.block x.needed) (clear x.cell),
 )
@@ -66,7 +67,7 @@ body_known some all blocks root s w h clear group x = (
 pub icb_known : (some all : View) (blocks : PartitionBlocks) (root : LongAd) → Setting some all blocks root → (route : Route) (w : Walked) → walked some root route ≡ Some w
     → (e : EntryFields) → target some w.address ≡ entry e → (group : List ℕ) → IsIcbOnWay all blocks root w.path group → HasKnown some.blocks group
 unfolding walked
-icb_known some all blocks root s route w walks e t group x = (x.is.0, subst (λ z. Includes z x.is.0) (sym x.is.2) (inl refl), entry_known some c.mid.address m.0 x.is.0 m.1 placed)
+icb_known some all blocks root s route w walks e t group x = (x.is.0, contained group x.is.0 (subst (λ z. Includes z x.is.0) (sym x.is.2) (inl refl)), entry_known some c.mid.address m.0 x.is.0 m.1 placed)
   where
     c : Cut some (at_root root) w x.before
     c = cut some route (at_root root) w x.before x.after walks x.is_way
@@ -155,7 +156,7 @@ pub way_known : (some all : View) (blocks : PartitionBlocks) (root : LongAd) →
 unfolding walked
 way_known some all blocks root s route w walks group x = (
   x.block,
-  subst (λ z. Includes z x.block) (sym x.is) (inl refl),
+  contained group x.block (subst (λ z. Includes z x.block) (sym x.is) (inl refl)),
   gap_known some all c.mid.address.reference c.mid.address.block h.at.fields h.at.cs (part_here some all blocks root s c.mid h) x.cell x.block
       (need_of some all blocks root c.mid h x.address same x.is_directory.file x.is_directory.is_file x.cell x.block x.needed)
       (clear_before some all blocks root s c.mid h x.name on x.ids (subst (λ z. IsDirectoryAt blocks z x.ids) same x.is_directory) x.end x.ends x.cell x.is_before),

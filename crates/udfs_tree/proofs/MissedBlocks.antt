@@ -2,7 +2,8 @@
 use Rattle.std.proofs.Common.{◌≡◌, refl, sym, ◌∙◌, ap, subst, inl, inr, ℕ, ◌<◌, List, [], ◌∷◌, ◌++◌, map, ◌⊎◌, arith, Some, None, slice_get}
 use Rattle.std.specs.Prelude.{zero, suc, flat_map}
 use Rattle.std.specs.List.{AllZip}
-use Rattle.udfs_lattice.specs.Volumes.{Includes, ascending}
+use Rattle.udfs_lattice.specs.Volumes.{ascending}
+use Rattle.udfs_lattice.proofs.Inclusion.{Includes}
 use Rattle.udfs_lattice.proofs.PublicLaws.{ascending_includes}
 use Rattle.udfs_tag.specs.declared.layouts.LongAd.{LongAd}
 use Rattle.udfs_space.specs.Places.{View}

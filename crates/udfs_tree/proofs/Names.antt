@@ -2,7 +2,7 @@
 use Rattle.std.proofs.Common.{◌≡◌, ◌≢◌, refl, sym, ◌∙◌, ap, subst, inl, inr, ℕ, ◌+◌, List, [], ◌∷◌, ◌++◌, arith, Option, Some, None, slice_get}
 use Rattle.std.specs.Prelude.{suc, AllPairs}
 use Rattle.std.specs.List.{cons_option}
-use Rattle.udfs_lattice.specs.Volumes.{Includes}
+use Rattle.udfs_lattice.proofs.Inclusion.{Includes}
 use Rattle.udfs_file.specs.Fronts.{listed_entries}
 use Rattle.udfs_file.specs.Laws.{descriptor_end}
 use Rattle.udfs_file.specs.declared.directories.DirEntry.{DirEntry}

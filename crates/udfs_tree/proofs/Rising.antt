@@ -1,8 +1,9 @@
 -- Names that lead on, over a part of a complete view: a route for them, or a block that is not known and stops it.
 use Rattle.std.proofs.Common.{◌≡◌, refl, sym, ◌∙◌, ap, subst, inl, inr, ℕ, ◌<◌, false, List, [], ◌∷◌, ◌++◌, cond, ◌||◌, ◌⊎◌, Some, slice_get}
+use Rattle.std.specs.Prelude.{Contains}
 use Rattle.std.proofs.lemmas.List.{append_assoc, append-nil}
 use Rattle.udfs_lattice.specs.States.{is_known}
-use Rattle.udfs_lattice.specs.Volumes.{Includes}
+use Rattle.udfs_lattice.proofs.Inclusion.{Includes, included}
 use Rattle.udfs_tag.specs.declared.layouts.LongAd.{LongAd}
 use Rattle.udfs_space.specs.Places.{View, IsPartOf}
 use Rattle.udfs_file.specs.Entries.{EntryFields}
@@ -37,7 +38,7 @@ entries_here v w e cs t l deep k b = (λ i. cond (l i || deep i) [] (target_entr
 -- ---- groups
 -- what is needed from a directory's entry on is needed from the directory on
 needs_below : (all : View) (blocks : PartitionBlocks) (a : LongAd) (name : List ℕ) (names : List (List ℕ)) (ids : List Identifier) (d : DirEntry)
-    → IsDirectoryAt blocks a ids → Includes (listed_entries ids) d → d.name ≡ name → (g : List ℕ) → Needs all blocks d.icb names g → Needs all blocks a (name ∷ names) g
+    → IsDirectoryAt blocks a ids → Contains (listed_entries ids) d → d.name ≡ name → (g : List ℕ) → Needs all blocks d.icb names g → Needs all blocks a (name ∷ names) g
 needs_below all blocks a name names ids d dir i named g (for_icb x) = for_icb (record {
   before = name ∷ x.before;
   after = x.after;
@@ -107,7 +108,7 @@ rise some all blocks p c (name ∷ names) w address h (ids, d, is_dir, i, named,
         fields = ap (λ z. z.fields) (f.only dir.is_directory.file dir.is_directory.is_file) ∙ f.fields
 
         inside : Includes (directory_entries x.cs) d
-        inside = subst (λ z. Includes (listed_entries z) d) (dir.only ids is_dir) i
+        inside = subst (λ z. Includes (listed_entries z) d) (dir.only ids is_dir) (included (listed_entries ids) d i)
 
         l : Splits (directory x.cs).identifiers d
         l = split_at (directory x.cs).identifiers d inside

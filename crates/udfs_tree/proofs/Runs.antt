@@ -1,8 +1,9 @@
 -- The runs of missing cells hold the missing cells and no other.
 use Rattle.std.proofs.Common.{◌≡◌, refl, sym, subst, inl, inr, ◌⊎◌, ℕ, ◌+◌, ◌<◌, ◌≤◌, Bool, true, false, List, [], ◌∷◌, cond, arith, nat_eq}
-use Rattle.std.specs.Prelude.{zero, suc, ◌↔◌}
+use Rattle.std.specs.Prelude.{zero, suc, Contains, ◌↔◌}
 use Rattle.std.proofs.lemmas.Bool.{eqb-true}
-use Rattle.udfs_lattice.specs.Volumes.{Includes, ascending}
+use Rattle.udfs_lattice.specs.Volumes.{ascending}
+use Rattle.udfs_lattice.proofs.Inclusion.{Includes, here, there, here_or_there, in_nothing}
 use Rattle.udfs_file.specs.Laws.{IsMissingAt}
 use Rattle.udfs_file.specs.declared.cells.Cell.{Cell}
 use Rattle.udfs_file.specs.declared.cells.Cell.TheVariants.{Byte, Gap}
@@ -13,14 +14,20 @@ use Rattle.udfs_walk.specs.Rereads.{holes_of}
 use Rattle.udfs_tree.specs.Cells.{IsInRuns}
 
 in_first : (run : ℕ × ℕ) (runs : List (ℕ × ℕ)) (k : ℕ) → run.0 ≤ k → k < run.0 + run.1 → IsInRuns (run ∷ runs) k
-in_first run runs k l h = (run, inl refl, l, h)
+in_first run runs k l h = (run, here run runs, l, h)
 
 in_rest : (run : ℕ × ℕ) (runs : List (ℕ × ℕ)) (k : ℕ) → IsInRuns runs k → IsInRuns (run ∷ runs) k
-in_rest run runs k (r, i, l, h) = (r, inr i, l, h)
+in_rest run runs k (r, i, l, h) = (r, there run runs r i, l, h)
 
 in_either : (run : ℕ × ℕ) (runs : List (ℕ × ℕ)) (k : ℕ) → IsInRuns (run ∷ runs) k → ((run.0 ≤ k) × (k < run.0 + run.1)) ⊎ IsInRuns runs k
-in_either run runs k (r, inl e, l, h) = inl (subst (λ z. z.0 ≤ k) (sym e) l, subst (λ z. k < z.0 + z.1) (sym e) h)
-in_either run runs k (r, inr i, l, h) = inr (r, i, l, h)
+in_either run runs k (r, i, l, h) = go (here_or_there run runs r i)
+  where
+    go : (run ≡ r) ⊎ Contains runs r → ((run.0 ≤ k) × (k < run.0 + run.1)) ⊎ IsInRuns runs k
+    go (inl e) = inl (subst (λ z. z.0 ≤ k) (sym e) l, subst (λ z. k < z.0 + z.1) (sym e) h)
+    go (inr j) = inr (r, j, l, h)
+
+in_none : {A : Type 0} (k : ℕ) → IsInRuns [] k → A
+in_none k (r, i, l, h) = in_nothing r i
 
 hole_first : (at : ℕ) (runs : List (ℕ × ℕ)) → IsInRuns (with_hole at runs) at
 hole_first at [] = in_first (at, 1) [] at (omega arith) (omega arith)
@@ -83,7 +90,7 @@ abbrev IsPlaceOf : List Cell → ℕ → ℕ → Type 0
 IsPlaceOf cs at m = (k : ℕ) × (m ≡ at + k) × IsMissingAt cs k
 
 runs_only : (cs : List Cell) (at m : ℕ) → IsInRuns (runs_from at cs) m → IsPlaceOf cs at m
-runs_only [] at m i = absurd i.1
+runs_only [] at m i = in_none m i
 runs_only (Byte x o ∷ cs) at m i = next (runs_only cs (at + 1) m i)
   where
     next : IsPlaceOf cs (at + 1) m → IsPlaceOf (Byte x o ∷ cs) at m
@@ -131,5 +138,5 @@ holes_are cs k = go (ascending (missing_blocks cs)) refl
     none e h = absurd (none_at cs k (none_ascending (missing_blocks cs) e) h)
 
     go : (ns : List ℕ) → ascending (missing_blocks cs) ≡ ns → IsMissingAt cs k ↔ IsInRuns (holes_of (torn_or_whole ns (runs_from 0 cs))) k
-    go [] e = (none e, λ i. absurd i.1)
+    go [] e = (none e, λ i. in_none k i)
     go (n ∷ ns) e = runs_are cs k

@@ -1,7 +1,7 @@
 -- The nodes of a sample volume: its root and two files, all whole. So its tree is lawful, and both files stand in it.
 use Rattle.std.proofs.Common.{◌≡◌, ◌≢◌, refl, sym, ◌∙◌, ap, subst, inl, inr, ℕ, List, [], ◌∷◌, arith, Option, Some, None, slice_get}
-use Rattle.std.specs.Prelude.{zero, suc, AllPairs, IsSome}
-use Rattle.udfs_lattice.specs.Volumes.{Includes}
+use Rattle.std.specs.Prelude.{zero, suc, AllPairs, Contains, IsSome}
+use Rattle.udfs_lattice.proofs.Inclusion.{Includes, contained}
 use Rattle.udfs_volume.specs.Sample.{Maps}
 use Rattle.udfs_space.specs.Places.{View}
 use Rattle.udfs_file.specs.Sample.{icb_of_a, icb_of_b, entry_named, sample_root, sample_view}
@@ -95,8 +95,9 @@ is_walk maps = record { routes = [] ∷ (0 ∷ []) ∷ (1 ∷ []) ∷ []; in_ord
     by_end route w (inr (inr (inl e))) = inr (inr (inl (ap (λ z. z.0) e)))
     by_end route w (inr (inr (inr e))) = absurd e
 
-    every : (route : Route) → IsSome (walked (all maps) sample_root route) → Includes ([] ∷ (0 ∷ []) ∷ (1 ∷ []) ∷ []) route
-    every route h = let x : (w : Walked) × (walked (all maps) sample_root route ≡ Some w) = some_of (walked (all maps) sample_root route) h in by_end route x.0 (they_end maps route x.0 x.1)
+    every : (route : Route) → IsSome (walked (all maps) sample_root route) → Contains ([] ∷ (0 ∷ []) ∷ (1 ∷ []) ∷ []) route
+    every route h = let x : (w : Walked) × (walked (all maps) sample_root route ≡ Some w) = some_of (walked (all maps) sample_root route) h in
+        contained ([] ∷ (0 ∷ []) ∷ (1 ∷ []) ∷ []) route (by_end route x.0 (they_end maps route x.0 x.1))
 
 lawful_tree : (maps : Maps) → IsLawfulTree (all maps) sample_root
 lawful_tree maps = record {

@@ -1,8 +1,10 @@
 -- Each node of a tree is listed whole over a part, or a needed block that is not known is missing in some node.
 use Rattle.std.proofs.Common.{◌≡◌, refl, sym, ◌∙◌, ap, subst, inl, inr, ◌⊎◌, ℕ, false, List, [], ◌∷◌, Some}
+use Rattle.std.specs.Prelude.{Contains}
 use Rattle.std.proofs.lemmas.List.{append-nil}
 use Rattle.udfs_lattice.specs.States.{is_known}
-use Rattle.udfs_lattice.specs.Volumes.{Includes, IsUnread, ascending}
+use Rattle.udfs_lattice.specs.Volumes.{IsUnread, ascending}
+use Rattle.udfs_lattice.proofs.Inclusion.{Includes, included, contained}
 use Rattle.udfs_tag.specs.declared.layouts.LongAd.{LongAd}
 use Rattle.udfs_space.specs.Places.{View, IsPartOf}
 use Rattle.udfs_file.specs.Bodies.{IsNeededFor}
@@ -49,13 +51,15 @@ settle some all blocks p c root lawful nodes listed path file t = by_rise (rise 
     held : (n : ℕ) → is_known (some.blocks n) ≡ false → Needs all blocks root path (n ∷ []) → IsMissed some root n → Settled
     held n u needs m = inr (n ∷ [], (needs, none), there)
       where
-        none : IsUnread some.blocks (n ∷ [])
-        none k (inl e) = subst (λ z. is_known (some.blocks z) ≡ false) e u
-        none k (inr i) = absurd i
+        only : (k : ℕ) → Includes (n ∷ []) k → n ≡ k
+        only k (inl e) = e
+        only k (inr i) = absurd i
 
-        there : (k : ℕ) → Includes (n ∷ []) k → Includes (reread nodes) k
-        there k (inl e) = subst (Includes (reread nodes)) e (missed_is_listed some root nodes listed n m)
-        there k (inr i) = absurd i
+        none : IsUnread some.blocks (n ∷ [])
+        none k i = subst (λ z. is_known (some.blocks z) ≡ false) (only k (included (n ∷ []) k i)) u
+
+        there : (k : ℕ) → Contains (n ∷ []) k → Contains (reread nodes) k
+        there k i = contained (reread nodes) k (subst (Includes (reread nodes)) (only k (included (n ∷ []) k i)) (missed_is_listed some root nodes listed n m))
 
     at_end : (route : Route) (w : Walked) → walked some root route ≡ Some w → w.path ≡ path → w.address ≡ t.address → Settled
     at_end route w walks path_of at = by_node (node_part some all blocks s.part s.is_whole w h.at)

@@ -1,10 +1,11 @@
 -- A sound tree is lawful: over a complete view whatever a route leads to is whole.
 use Rattle.std.proofs.Common.{◌≡◌, ◌≢◌, refl, sym, ◌∙◌, ap, subst, inl, inr, ◌⊎◌, ℕ, ◌+◌, ◌<◌, ◌≤◌, Bool, true, false, not, List, [], ◌∷◌, ◌++◌, length, cond, ◌&&◌, ◌||◌, arith, map, Option, Some, None, slice_get, nat_le, is_none}
-use Rattle.std.specs.Prelude.{suc, AllPairs, IsSome, option_map, ◌==◌}
+use Rattle.std.specs.Prelude.{suc, AllPairs, Contains, IsSome, option_map, ◌==◌}
 use Rattle.std.specs.List.{list_any}
 use Rattle.std.proofs.lemmas.Bool.{eqb-true, leb-true}
 use Rattle.std.proofs.lemmas.List.{length-append, length-map}
-use Rattle.udfs_lattice.specs.Volumes.{Includes, ascending}
+use Rattle.udfs_lattice.specs.Volumes.{ascending}
+use Rattle.udfs_lattice.proofs.Inclusion.{Includes, included, contained}
 use Rattle.udfs_lattice.specs.declared.facts.Fact.TheVariants.{Known}
 use Rattle.udfs_tag.specs.declared.layouts.LongAd.{LongAd}
 use Rattle.udfs_tag.specs.Faults.{first_fault}
@@ -127,7 +128,7 @@ kind_whole blocks root s w way file is Directory e = ap (λ r. standing_or_fault
 
     too_deep : (x : DirEntry) → Includes (listed_entries d.0) x → is_deep w ≡ true → ⊥
     too_deep x i deep = let l : Leads blocks root (w.path ++ x.name ∷ []) x.icb = leads_append blocks root w.address x.icb w.path (x.name ∷ []) way.leads
-        (d.0, x, record { file = file; is_file = is; kind = e; body = d.1 }, i, refl, refl) in
+        (d.0, x, record { file = file; is_file = is; kind = e; body = d.1 }, contained (listed_entries d.0) x i, refl, refl) in
         let h : length (w.path ++ x.name ∷ []) ≤ 64 = s.depth (w.path ++ x.name ∷ []) x.icb l in
         let n : length (w.path ++ x.name ∷ []) ≡ length w.path + 1 = length-append w.path (x.name ∷ []) in
         let q : 64 ≤ length w.path = leb-true 64 (length w.path) deep in omega (arith, h, n, q)
@@ -173,7 +174,7 @@ in_either (z ∷ xs) y x (inr i) = go (in_either xs y x i)
 -- the entry leads on
 steps : (all : View) (blocks : PartitionBlocks) → IsComplete all blocks → (w : Walked) → WholeAt all w → (j : ℕ) (d : DirEntry) → slice_get (entries_below all w) j ≡ Some d
     → Leads blocks w.address (d.name ∷ []) d.icb
-steps all blocks c w x j d at = ((directory x.cs).identifiers, d, r.is_directory, get_includes (directory_entries x.cs) j d g.is, refl, refl)
+steps all blocks c w x j d at = ((directory x.cs).identifiers, d, r.is_directory, contained (directory_entries x.cs) d (get_includes (directory_entries x.cs) j d g.is), refl, refl)
   where
     g : Goes all w x j d
     g = goes all w x j d at
@@ -268,7 +269,7 @@ not_more all blocks c has root s m = let h : length paths ≤ 65536 = s.few path
     r = route_law all blocks c root (are_whole all blocks c has root s)
 
     ends : (i : ℕ) (route : Route) → slice_get m.routes i ≡ Some route → (w : Walked) × (walked all root route ≡ Some w)
-    ends i route e = end_of_route (walked all root route) (m.lead route (by_get m.routes i route e))
+    ends i route e = end_of_route (walked all root route) (m.lead route (contained m.routes route (by_get m.routes i route e)))
       where
         by_get : (xs : List Route) (i : ℕ) (x : Route) → slice_get xs i ≡ Some x → Includes xs x
         by_get xs i x e = get_includes xs i x e
@@ -298,8 +299,8 @@ not_more all blocks c has root s m = let h : length paths ≤ 65536 = s.few path
     leads i route e = let u : (w : Walked) × (walked all root route ≡ Some w) = ends i route e in
         (u.0.address, subst (λ z. Leads blocks root z u.0.address) (sym (ap path_of u.1)) (way_of all blocks c has root s route u.0 u.1).leads)
 
-    each : (path : Path) → Includes paths path → LeadsOn blocks root path
-    each path i = by (index_of paths path i)
+    each : (path : Path) → Contains paths path → LeadsOn blocks root path
+    each path i = by (index_of paths path (included paths path i))
       where
         index_of : (xs : List Path) (x : Path) → Includes xs x → (j : ℕ) × (slice_get xs j ≡ Some x)
         index_of [] x k = absurd k

@@ -1,8 +1,10 @@
 -- The laws of what is known enough, and of what is missing.
 use Rattle.std.proofs.Common.{◌≡◌, refl, sym, ◌∙◌, ap, subst, inl, inr, ◌⊎◌, ℕ, true, false, List, [], ◌∷◌, Some}
+use Rattle.std.specs.Prelude.{Contains}
 use Rattle.std.proofs.lemmas.List.{append-nil}
 use Rattle.udfs_lattice.specs.States.{is_known}
-use Rattle.udfs_lattice.specs.Volumes.{Blocks, Includes, IsKnownAt, IsUnread}
+use Rattle.udfs_lattice.specs.Volumes.{Blocks, IsKnownAt, IsUnread}
+use Rattle.udfs_lattice.proofs.Inclusion.{Includes, included, contained, in_nothing}
 use Rattle.udfs_tag.specs.declared.layouts.LongAd.{LongAd}
 use Rattle.udfs_space.specs.Places.{View, IsPartOf}
 use Rattle.udfs_file.specs.Bodies.{IsNeededFor}
@@ -106,9 +108,9 @@ missed_for some all blocks p c root lawful n m = by_node (node_part some all blo
     by_node (node_unread k placed u is) = by_icb k placed u (one k (subst (λ z. Includes z n) (unread_misses some w k is) m.misses))
 
 -- a list without members is empty
-no_member : (xs : List ℕ) → ((n : ℕ) → ¬ Includes xs n) → xs ≡ []
+no_member : (xs : List ℕ) → ((n : ℕ) → ¬ Contains xs n) → xs ≡ []
 no_member [] h = refl
-no_member (x ∷ xs) h = absurd (h x (inl refl))
+no_member (x ∷ xs) h = absurd (h x (contained (x ∷ xs) x (inl refl)))
 
 -- a node that misses a block is not listed whole
 not_whole : (some all : View) (blocks : PartitionBlocks) → IsPartOf some all → IsComplete all blocks → (root : LongAd) → IsLawfulTree all root → (nodes : List NodeFields) → AreNodes some root nodes
@@ -130,7 +132,7 @@ not_whole some all blocks p c root lawful nodes listed n m file (i, n', cs, get,
 pub missing_is_wanted : MissingIsWanted
 missing_is_wanted some all blocks p c root lawful nodes listed = record {
   not_known = λ n i. (missed n i).not_known;
-  each = λ n i. let m = missed n i in ((at n i).end.path, m.file, n ∷ [], m.in_tree, (m.needs, one_unread n m.not_known), inl refl);
+  each = λ n i. let m = missed n i in ((at n i).end.path, m.file, n ∷ [], m.in_tree, (m.needs, one_unread n m.not_known), contained (n ∷ []) n (inl refl));
   whole_or_held = λ path file t. settle some all blocks p c root lawful nodes listed path file t;
   none = (
     λ e path file t. by_none e path file (settle some all blocks p c root lawful nodes listed path file t),
@@ -138,17 +140,20 @@ missing_is_wanted some all blocks p c root lawful nodes listed = record {
   );
 }
   where
-    at : (n : ℕ) → Includes (reread nodes) n → IsMissed some root n
-    at n i = listed_is_missed some root nodes listed n i
+    at : (n : ℕ) → Contains (reread nodes) n → IsMissed some root n
+    at n i = listed_is_missed some root nodes listed n (included (reread nodes) n i)
 
-    missed : (n : ℕ) (i : Includes (reread nodes) n) → IsMissedFor some all blocks root (at n i).end n
+    missed : (n : ℕ) (i : Contains (reread nodes) n) → IsMissedFor some all blocks root (at n i).end n
     missed n i = missed_for some all blocks p c root lawful n (at n i)
 
     one_unread : (n : ℕ) → is_known (some.blocks n) ≡ false → IsUnread some.blocks (n ∷ [])
-    one_unread n u k (inl e) = subst (λ z. is_known (some.blocks z) ≡ false) e u
-    one_unread n u k (inr i) = absurd i
+    one_unread n u k i = go (included (n ∷ []) k i)
+      where
+        go : Includes (n ∷ []) k → is_known (some.blocks k) ≡ false
+        go (inl e) = subst (λ z. is_known (some.blocks z) ≡ false) e u
+        go (inr j) = absurd j
 
     by_none : reread nodes ≡ [] → (path : List (List ℕ)) (file : TreeFile) → IsListedWhole some root nodes path file ⊎ HoldsWanted some all blocks root path (reread nodes) → IsListedWhole some root nodes path file
     by_none e path file (inl w) = w
     by_none e path file (inr (g, (needs, u), h)) = let k : (n : ℕ) × (g ≡ n ∷ []) = needs_one all blocks root path g needs in
-        absurd (subst (λ z. Includes z k.0) e (h k.0 (subst (λ z. Includes z k.0) (sym k.1) (inl refl))))
+        in_nothing k.0 (subst (λ z. Contains z k.0) e (h k.0 (contained g k.0 (subst (λ z. Includes z k.0) (sym k.1) (inl refl)))))

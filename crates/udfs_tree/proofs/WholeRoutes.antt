@@ -2,7 +2,7 @@
 use Rattle.std.proofs.Common.{◌≡◌, ◌≢◌, refl, sym, ◌∙◌, ap, subst, inl, inr, ◌⊎◌, ℕ, ◌+◌, ◌<◌, ◌≤◌, Bool, true, false, List, [], ◌∷◌, ◌++◌, length, cond, ◌||◌, arith, Option, Some, None, slice_get}
 use Rattle.std.specs.Prelude.{zero, suc, AllPairs, slice_index_or}
 use Rattle.std.proofs.lemmas.List.{append_assoc, append-nil, length-append}
-use Rattle.udfs_lattice.specs.Volumes.{Includes}
+use Rattle.udfs_lattice.proofs.Inclusion.{Includes, included, contained}
 use Rattle.udfs_tag.specs.declared.layouts.LongAd.{LongAd}
 use Rattle.udfs_space.specs.Places.{View}
 use Rattle.udfs_file.specs.Entries.{EntryFields}
@@ -178,7 +178,7 @@ down all blocks c (j ∷ js) w end h e = go (step_inv all w j js end e) (whole_a
         record {
           names = d.name ∷ t.names;
           path = t.path ∙ append_assoc w.path (d.name ∷ []) t.names;
-          leads = ((directory x.cs).identifiers, d, r.is_directory, get_includes (directory_entries x.cs) j d g.is, refl, t.leads);
+          leads = ((directory x.cs).identifiers, d, r.is_directory, contained (directory_entries x.cs) d (get_includes (directory_entries x.cs) j d g.is), refl, t.leads);
         }
 
 -- a route for names
@@ -215,7 +215,7 @@ up all blocks c (name ∷ names) w address h (ids, d, is_dir, i, named, leads) =
         r = directory_at_law all blocks c w.address x.fields x.cs x.is_entry x.has_body kind o.ends
 
         inside : Includes (directory_entries x.cs) d
-        inside = subst (λ z. Includes (listed_entries z) d) (r.only ids is_dir) i
+        inside = subst (λ z. Includes (listed_entries z) d) (r.only ids is_dir) (included (listed_entries ids) d i)
 
         at : (j : ℕ) × (slice_get (directory_entries x.cs) j ≡ Some d)
         at = includes_get (directory_entries x.cs) d inside

@@ -2,9 +2,8 @@
 --     HasCellsAt view root i cells     the cells of the body at the end of route i in their order
 --     IsToldAs n file                  the node has the kind, the size and the stamp of the file
 --     IsTornAs n file cells            so it has, and each byte outside its holes is the file's
-use Rattle.std.specs.Prelude.{◌≡◌, ◌≢◌, ◌↔◌, ⊤, ℕ, ◌+◌, ◌<◌, ◌≤◌, List, Some, None, slice_get}
+use Rattle.std.specs.Prelude.{◌≡◌, ◌≢◌, ◌↔◌, ⊤, ℕ, ◌+◌, ◌<◌, ◌≤◌, List, Some, None, slice_get, Contains}
 use Rattle.std.specs.List.{AllZip}
-use Rattle.udfs_lattice.specs.Volumes.{Includes}
 use Rattle.udfs_tag.specs.declared.layouts.LongAd.{LongAd}
 use Rattle.udfs_space.specs.Places.{View}
 use Rattle.udfs_file.specs.Laws.{IsMissingAt}
@@ -56,7 +55,7 @@ pub record IsUntold (n : NodeFields) : Type 0 where
 
 -- a run, by its offset and length, holds this place
 abbrev pub IsInRuns : List (ℕ × ℕ) → ℕ → Type 0
-IsInRuns runs k = (run : ℕ × ℕ) × Includes runs run × (run.0 ≤ k) × (k < run.0 + run.1)
+IsInRuns runs k = (run : ℕ × ℕ) × Contains runs run × (run.0 ≤ k) × (k < run.0 + run.1)
 
 -- the node has the file's kind, size and stamp; each of these cells is the file's byte or missing, and the node's
 -- holes are the places of the missing ones

@@ -1,8 +1,8 @@
 -- Over a part of a complete view with a lawful tree: what is known enough is whole, and what is missing is needed.
 --     MetIsWhole         a node of the tree, of each needed group of which a block is known, is listed whole
 --     MissingIsWanted    the blocks that are missing in nodes, and those that nodes of the tree want
-use Rattle.std.specs.Prelude.{◌≡◌, ◌⊎◌, ◌↔◌, ℕ, List, [], Some, slice_get}
-use Rattle.udfs_lattice.specs.Volumes.{Includes, IsUnread}
+use Rattle.std.specs.Prelude.{◌≡◌, ◌⊎◌, ◌↔◌, ℕ, List, [], Some, slice_get, Contains}
+use Rattle.udfs_lattice.specs.Volumes.{IsUnread}
 use Rattle.udfs_tag.specs.declared.layouts.LongAd.{LongAd}
 use Rattle.udfs_space.specs.Places.{View, IsPartOf}
 use Rattle.udfs_file.specs.Complete.{IsComplete}
@@ -34,22 +34,25 @@ MetIsWhole = OverParts (λ some all blocks root nodes. (path : List (List ℕ)) 
 abbrev pub IsWanted : View → View → PartitionBlocks → LongAd → List (List ℕ) → List ℕ → Type 0
 IsWanted some all blocks root path group = Needs all blocks root path group × IsUnread some.blocks group
 
+-- these blocks hold all of some group of this sort
+abbrev pub HoldsGroup : (List ℕ → Type 0) → List ℕ → Type 0
+HoldsGroup IsGroup listed = (group : List ℕ) × IsGroup group × ((n : ℕ) → Contains group n → Contains listed n)
+
 -- these blocks hold all of some group that is wanted for the node of this path
 abbrev pub HoldsWanted : View → View → PartitionBlocks → LongAd → List (List ℕ) → List ℕ → Type 0
-HoldsWanted some all blocks root path listed = (group : List ℕ) × IsWanted some all blocks root path group
-    × ((n : ℕ) → Includes group n → Includes listed n)
+HoldsWanted some all blocks root path listed = HoldsGroup (IsWanted some all blocks root path) listed
 
 -- What is asked of the blocks to read again, where these are the nodes.
 pub record AreWanted (some all : View) (blocks : PartitionBlocks) (root : LongAd) (nodes : List NodeFields) (listed : List ℕ) : Type 0 where
   -- none of them is known
   pub not_known : IsUnread some.blocks listed
   -- each is in a group that is wanted for some node of the tree
-  pub each : (n : ℕ) → Includes listed n → (path : List (List ℕ)) × (file : TreeFile) × (group : List ℕ) × InTree blocks root path file
-      × IsWanted some all blocks root path group × Includes group n
+  pub each : (n : ℕ) → Contains listed n → (path : List (List ℕ)) × (file : TreeFile) × (group : List ℕ) × InTree blocks root path file
+      × IsWanted some all blocks root path group × Contains group n
   -- each node of the tree is listed whole, or all of a group that it wants is among them
   pub whole_or_held : (path : List (List ℕ)) (file : TreeFile) → InTree blocks root path file
       → IsListedWhole some root nodes path file ⊎ HoldsWanted some all blocks root path listed
-  -- there are none exactly if all of the tree is listed whole
+  -- no block is listed exactly if all of the tree is listed whole
   pub none : (listed ≡ []) ↔ ((path : List (List ℕ)) (file : TreeFile) → InTree blocks root path file → IsListedWhole some root nodes path file)
 
 -- over any part of a lawful tree, the blocks that the nodes lack are as `AreWanted` asks

@@ -2,8 +2,8 @@
 --     Needs all blocks root path group      the ICBs on the way, the directories up to the next name, the body
 --     HasKnown known group                  one of the group is known
 --     IsMet some all blocks root path       one of each group is known
-use Rattle.std.specs.Prelude.{◌≡◌, ℕ, ◌<◌, List, [], ◌∷◌, ◌++◌, Some}
-use Rattle.udfs_lattice.specs.Volumes.{Blocks, Includes, IsKnownAt}
+use Rattle.std.specs.Prelude.{◌≡◌, ℕ, ◌<◌, List, [], ◌∷◌, ◌++◌, Some, Contains}
+use Rattle.udfs_lattice.specs.Volumes.{Blocks, IsKnownAt}
 use Rattle.udfs_tag.specs.declared.layouts.LongAd.{LongAd}
 use Rattle.udfs_space.specs.Places.{View}
 use Rattle.udfs_file.specs.Bodies.{IsNeededFor}
@@ -73,7 +73,7 @@ pub data Needs (all : View) (blocks : PartitionBlocks) (root : LongAd) (path : L
 
 -- a block of the group is known
 abbrev pub HasKnown : Blocks → List ℕ → Type 0
-HasKnown known group = (n : ℕ) × Includes group n × IsKnownAt known n
+HasKnown known group = (n : ℕ) × Contains group n × IsKnownAt known n
 
 -- of each group that the node needs, a block is known in the part
 abbrev pub IsMet : View → View → PartitionBlocks → LongAd → List (List ℕ) → Type 0

@@ -4,8 +4,7 @@
 --     IsDirectoryAt blocks a ids        the descriptors of the directory at an address
 --     Leads blocks a path b             a path of names leads from one address to another
 --     InTree blocks root path file      the tree: each path with its file
-use Rattle.std.specs.Prelude.{◌≡◌, ◌≢◌, ℕ, List, [], ◌∷◌, Some, None}
-use Rattle.udfs_lattice.specs.Volumes.{Includes}
+use Rattle.std.specs.Prelude.{◌≡◌, ◌≢◌, ℕ, List, [], ◌∷◌, Some, None, Contains}
 use Rattle.udfs_tag.specs.declared.layouts.LongAd.{LongAd}
 use Rattle.udfs_volume.specs.Sequence.{Bytes}
 use Rattle.udfs_file.specs.Entries.{EntryFields, entry_fault, entry_of}
@@ -25,7 +24,7 @@ pub record TreeFile : Type 0 where
   pub fields : EntryFields
   pub body : List Located
 
--- the address is that of a recorded block (4/14.14.2), an entry stands there (4/14.9, 4/14.17), and this is its body
+-- the address is that of a recorded block (4/14.14.2), an entry is there (4/14.9, 4/14.17), and this is its body
 pub record IsFileAt (blocks : PartitionBlocks) (a : LongAd) (file : TreeFile) : Type 0 where
   pub recorded : a.kind ≡ 0
   pub not_empty : a.length ≢ 0
@@ -46,7 +45,7 @@ pub record IsDirectoryAt (blocks : PartitionBlocks) (a : LongAd) (ids : List Ide
 abbrev pub Leads : PartitionBlocks → LongAd → List (List ℕ) → LongAd → Type 0
 Leads blocks a [] b = a ≡ b
 Leads blocks a (name ∷ names) b = (ids : List Identifier) × (e : DirEntry) × IsDirectoryAt blocks a ids
-    × Includes (listed_entries ids) e × (e.name ≡ name) × Leads blocks e.icb names b
+    × Contains (listed_entries ids) e × (e.name ≡ name) × Leads blocks e.icb names b
 
 -- the path leads from the root to this file
 pub record InTree (blocks : PartitionBlocks) (root : LongAd) (path : List (List ℕ)) (file : TreeFile) : Type 0 where

@@ -9,8 +9,8 @@ pub fn met_is_whole()
 {}
 
 /// None of the blocks that are missing in the nodes is known, and each is needed for a node of the tree. Each node of the
-/// tree is listed whole, or all of a needed group of which no block is known is among them; so there are none exactly if
-/// all of the tree is listed whole.
+/// tree is listed whole, or the missing blocks include all of a group that it needs and of which no block is known. So no
+/// block is missing exactly if all of the tree is listed whole.
 pub fn missing_is_wanted()
     ensures { MissingIsWanted }
 {}

@@ -52,9 +52,10 @@ pub fn sample_tree_is_lawful()
     ensures { SampleTree }
 {}
 
-/// Over a complete view whose places are in its partitions, a tree is sound exactly if it is lawful. Sound is said in the words of the
-/// standard's reading alone: each path leads to a file, the body of each directory is a list of descriptors, no directory lies in
-/// itself, names in a directory differ, and there are at most 64 names in a path and 65,536 paths. Lawful is that all nodes are whole.
+/// Over a complete view whose places are in its partitions, a tree is sound exactly if it is lawful. Soundness uses the standard's
+/// reading alone: each path leads to a file, the body of each directory is a list of descriptors of at most 2048 bytes, no directory
+/// is inside itself, names in a directory differ, and there are at most 64 names in a path and 65,536 paths. A tree is lawful if all
+/// nodes are whole, names in a directory differ, and at most 65,536 routes lead anywhere.
 pub fn sound_is_lawful()
     ensures { SoundIsLawful }
 {}

@@ -7,7 +7,8 @@ use Rattle.std.proofs.lemmas.Bool.{leb-true, eqb-true}
 use Rattle.std.proofs.lemmas.List.{length-map}
 use Rattle.std.proofs.lemmas.List.FromFn.{length-map-range_with_len}
 use Rattle.udfs_volume.specs.Sequence.{Bytes, Descriptor, sequence}
-use Rattle.udfs_lattice.specs.Volumes.{Blocks, Includes}
+use Rattle.udfs_lattice.specs.Volumes.{Blocks}
+use Rattle.udfs_lattice.proofs.Inclusion.{Includes, included}
 use Rattle.udfs_tag.specs.Fields.{uint8_at, uint16_at, uint32_at, long_ad_at, part, regid_at, zero_filled}
 use Rattle.udfs_tag.specs.Faults.{is_within}
 use Rattle.udfs_osta.specs.Labels.{label_of}
@@ -85,7 +86,7 @@ tables_bounded profile last bytes h = record {
   to = size.1;
   one = subst (λ n. 1 ≤ n) (sym len) count.0;
   four = subst (λ n. n ≤ 4) (sym len) count.1;
-  ends = λ place i. leb-true (place + blocks_in (uint32_at bytes 44)) (last + 1) (each_passes (λ place. nat_le (place + blocks_in (uint32_at bytes 44)) (last + 1)) (table_places bytes) q.1 place i);
+  ends = λ place i. leb-true (place + blocks_in (uint32_at bytes 44)) (last + 1) (each_passes (λ place. nat_le (place + blocks_in (uint32_at bytes 44)) (last + 1)) (table_places bytes) q.1 place (included (table_places bytes) place i));
 }
   where
     a : Bool
@@ -218,7 +219,7 @@ laid_bounded profile last n ds lv ms l a c r (Some ps) d e = subst (IsBounded la
   is_last = refl;
   one = subst (λ x. 1 ≤ x) (sym len) (one_or_two n c).0;
   two = subst (λ x. x ≤ 2) (sym len) (one_or_two n c).1;
-  of_each = of_each;
+  of_each = λ p c. of_each p (included (map partition_of ps) p c);
   kinds = ap repeats_kind (described_kinds ds ms ps d) ∙ r;
 })
   where

@@ -4,7 +4,7 @@ use Rattle.std.specs.Prelude.{find}
 use Rattle.std.proofs.lemmas.List.{append-nil}
 use Rattle.std.specs.List.{list_all}
 use Rattle.std.proofs.lemmas.Bool.{le-leb, lt-leb, ltb-true, ltb-false}
-use Rattle.udfs_lattice.specs.Volumes.{Includes}
+use Rattle.udfs_lattice.proofs.Inclusion.{Includes}
 use Rattle.udfs_volume.specs.Sequence.{Descriptor}
 use Rattle.udfs_volume.specs.Layout.{sequence_number, prevailing}
 use Rattle.udfs_volume.specs.Prevailing.{best_of}

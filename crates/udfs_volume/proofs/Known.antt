@@ -4,7 +4,8 @@ use Rattle.std.proofs.lemmas.Bool.{le-leb}
 use Rattle.udfs_lattice.specs.States.{is_known, State}
 use Rattle.udfs_tag.specs.Tags.{is_valid}
 use Rattle.udfs_volume.specs.Sequence.{first_anchor, or_else, anchor_here, Bytes}
-use Rattle.udfs_lattice.specs.Volumes.{Blocks, Includes, Volume, Agrees, complete}
+use Rattle.udfs_lattice.specs.Volumes.{Blocks, Volume, Agrees, complete}
+use Rattle.udfs_lattice.proofs.Inclusion.{Includes}
 use Rattle.udfs_lattice.specs.declared.facts.Fact.TheVariants.{Unknown, Known, Conflict}
 
 pub true_false : {A : Type 0} → (b : Bool) → b ≡ true → b ≡ false → A

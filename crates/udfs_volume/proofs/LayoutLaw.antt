@@ -1,12 +1,13 @@
 -- Over a lawful volume that agrees with the table, the layout is the volume's, or a group is unread.
 use Rattle.std.proofs.Common.{◌≡◌, refl, sym, ◌∙◌, ap, subst, inl, inr, ◌⊎◌, ℕ, ◌+◌, ◌/◌, ◌%◌, ◌<◌, ◌≤◌, Bool, true, false, not, List, [], ◌∷◌, map, cond, ◌&&◌, arith, Some, None, nat_eq}
-use Rattle.std.specs.Prelude.{zero, suc}
+use Rattle.std.specs.Prelude.{zero, suc, Contains}
 use Rattle.std.specs.List.{range_with_len}
 use Rattle.std.proofs.lemmas.Bool.{leb-true}
 use Rattle.udfs_lattice.specs.States.{is_known}
 use Rattle.udfs_volume.specs.declared.anchors.AnchorExtents.{AnchorExtents}
 use Rattle.udfs_volume.specs.Sequence.{Bytes, extents_of, anchor, anchor_places, anchor_or, first_anchor, are_extents, fits_to, sequence, sequence_at, Position, unread, position, positions, goes_on, read_positions, ended_by}
-use Rattle.udfs_lattice.specs.Volumes.{Blocks, Includes, ascending, not_known, Volume, Agrees, complete, IsKnownAt, IsUnread}
+use Rattle.udfs_lattice.specs.Volumes.{Blocks, ascending, not_known, Volume, Agrees, complete, IsKnownAt, IsUnread}
+use Rattle.udfs_lattice.proofs.Inclusion.{Includes, included, contained}
 use Rattle.udfs_tag.specs.Fields.{part, extent_ad_at}
 use Rattle.udfs_tag.specs.Tags.{is_valid}
 use Rattle.udfs_tag.specs.Faults.{is_within}
@@ -15,7 +16,7 @@ use Rattle.udfs_volume.specs.Answers.{found, holes, faulty, and_then}
 use Rattle.udfs_volume.specs.declared.faults.VolumeFault.TheVariants.{Extents}
 use Rattle.udfs_volume.specs.Layout.{Layout, layout_by, layout_of}
 use Rattle.udfs_volume.specs.Laws.{LayoutLawBy, IsLawfulLayoutBy, IsThroughEnd, IsPair, IsSequenceGroup, valid_anchors, IsAnswerOf, the_same}
-use Rattle.udfs_lattice.proofs.PublicLaws.{ascending_includes, complete_agrees}
+use Rattle.udfs_lattice.proofs.PublicLaws.{ascending_contains, complete_agrees}
 use Rattle.udfs_volume.proofs.Known.{complete-known, true_false, both, some_in, Includes-filter, Includes-from_filter, FirstAnchor, one_known, none_known, first_anchor_lem}
 use Rattle.udfs_volume.proofs.Positions.{PositionIs, same, neither, position_lem, before, read-on, read-stop}
 use Rattle.udfs_volume.specs.Laws.IsAnswerOf.{unread as unread_answer}
@@ -138,19 +139,19 @@ no_anchor profile M V N lw f all = unread_answer (not_known M (anchor_places N))
       group = valid_anchors V N;
       is_group = inl refl;
       unread = unread_valid;
-      holds = in_listed;
-      not_known = λ n i. not-true (is_known (M n)) (from_listed n i).1;
-      each = λ n i. inr ((from_listed n i).0, unread_valid);
+      holds = λ n c. contained (not_known M (anchor_places N)) n (in_listed n (included (valid_anchors V N) n c));
+      not_known = λ n c. not-true (is_known (M n)) (from_listed n (included (not_known M (anchor_places N)) n c)).1;
+      each = λ n c. inr (contained (anchor_places N) n (from_listed n (included (not_known M (anchor_places N)) n c)).0, unread_valid);
     })
   where
     unread_valid : IsUnread M (valid_anchors V N)
-    unread_valid n i = let w : Includes (anchor_places N) n × (is_valid (V n) n 2 ≡ true) = valid_is V N n i in all n w.0 w.1
+    unread_valid n c = let w : Includes (anchor_places N) n × (is_valid (V n) n 2 ≡ true) = valid_is V N n (included (valid_anchors V N) n c) in all n w.0 w.1
 
     one : (n : ℕ) × Includes (valid_anchors V N) n
     one = some_in (valid_anchors V N) lw.anchored
 
     in_listed : (n : ℕ) → Includes (valid_anchors V N) n → Includes (not_known M (anchor_places N)) n
-    in_listed n i = Includes-filter (λ x. not (is_known (M x))) (anchor_places N) n (valid_is V N n i).0 (ap not (unread_valid n i))
+    in_listed n i = Includes-filter (λ x. not (is_known (M x))) (anchor_places N) n (valid_is V N n i).0 (ap not (unread_valid n (contained (valid_anchors V N) n i)))
 
     from_listed : (n : ℕ) → Includes (not_known M (anchor_places N)) n → Includes (anchor_places N) n × (not (is_known (M n)) ≡ true)
     from_listed n i = Includes-from_filter (λ x. not (is_known (M x))) (anchor_places N) n i
@@ -187,15 +188,18 @@ abbrev pair : AnchorExtents → ℕ → List ℕ
 pair e i = (e.main.block + i) ∷ (e.reserve.block + i) ∷ []
 
 abbrev IsHere : Blocks → List ℕ → Type 0
-IsHere M group = (n : ℕ) × Includes group n × IsKnownAt M n
+IsHere M group = (n : ℕ) × Contains group n × IsKnownAt M n
 
 abbrev AreUnread : Blocks → AnchorExtents → ℕ → Type 0
 AreUnread M e i = (is_known (M (e.main.block + i)) ≡ false) × (is_known (M (e.reserve.block + i)) ≡ false)
 
 unread_pair : (M : Blocks) (e : AnchorExtents) (i : ℕ) → AreUnread M e i → IsUnread M (pair e i)
-unread_pair M e i u n (inl p) = subst (λ x. is_known (M x) ≡ false) p u.0
-unread_pair M e i u n (inr (inl p)) = subst (λ x. is_known (M x) ≡ false) p u.1
-unread_pair M e i u n (inr (inr x)) = absurd x
+unread_pair M e i u n c = go (included (pair e i) n c)
+  where
+    go : Includes (pair e i) n → is_known (M n) ≡ false
+    go (inl p) = subst (λ x. is_known (M x) ≡ false) p u.0
+    go (inr (inl p)) = subst (λ x. is_known (M x) ≡ false) p u.1
+    go (inr (inr x)) = absurd x
 
 abbrev row : Blocks → AnchorExtents → ℕ → Position
 row T e i = position T (e.main.block + i) (e.reserve.block + i)
@@ -220,7 +224,7 @@ rows_alike profile M V N a lw e q b = reads_alike (row M e) (row (complete V N) 
 
     tell : (i : ℕ) → PositionIs M V N (e.main.block + i) (e.reserve.block + i)
         → Alike (row M e) (row (complete V N) e) (λ i. ascending (pair e i)) (λ i. IsHere M (pair e i)) (AreUnread M e) i
-    tell i (same p n h k) = inl (p, (n, h, (V n, k)))
+    tell i (same p n h k) = inl (p, (n, contained (pair e i) n h, (V n, k)))
     tell i (neither p u v) = inr (p, (u, v))
 
     each : (i : ℕ) → Through (row (complete V N) e) 0 (count e) i
@@ -248,9 +252,9 @@ answer_with profile M V N lw e q r b here (one_unread i t eq u) = unread_answer 
       group = pair e i;
       is_group = inr a_pair;
       unread = unread_pair M e i u;
-      holds = λ n h. (ascending_includes (pair e i) n).1 h;
-      not_known = λ n h. unread_pair M e i u n ((ascending_includes (pair e i) n).0 h);
-      each = λ n h. inl (pair e i, inr a_pair, unread_pair M e i u, (ascending_includes (pair e i) n).0 h);
+      holds = λ n h. (ascending_contains (pair e i) n).1 h;
+      not_known = λ n h. unread_pair M e i u n ((ascending_contains (pair e i) n).0 h);
+      each = λ n h. inl (pair e i, inr a_pair, unread_pair M e i u, (ascending_contains (pair e i) n).0 h);
     })
   where
     a_pair : IsPair V N (pair e i)
@@ -268,6 +272,6 @@ layout_law profile M V N hv lw a = by_complete (complete_anchor profile V N hv.f
         → IsAnswerOf M (valid_anchors V N) (anchor_places N) (IsSequenceGroup V N) (layout_by profile M N) (layout_by profile (complete V N) N)
     by_complete (n, i, q) (one_known m im vm km fm) = let b : are_extents N (extents_of (V n)) ≡ true = are_extents_of profile V N (extents_of (V n)) lw.laid_out.0 q lw.laid_out.1 in
         let va : Includes (valid_anchors V N) m = is_valid_one V N m im vm in
-        answer_with profile M V N lw (extents_of (V n)) q (found_anchor M V N n m fm (lw.anchors m n va i)) b (m, va, (V m, km))
+        answer_with profile M V N lw (extents_of (V n)) q (found_anchor M V N n m fm (lw.anchors m n (contained (valid_anchors V N) m va) (contained (valid_anchors V N) n i))) b (m, contained (valid_anchors V N) m va, (V m, km))
         (rows_alike profile M V N a lw (extents_of (V n)) q b)
     by_complete (n, i, q) (none_known f all) = no_anchor profile M V N lw f all

@@ -3,7 +3,8 @@ use Rattle.std.proofs.Common.{◌≡◌, refl, sym, ◌∙◌, ap, inl, inr, ℕ
 use Rattle.std.specs.Prelude.{take_while}
 use Rattle.std.proofs.lemmas.List.Sums.{take_while-cons}
 use Rattle.udfs_lattice.specs.States.{is_known, State}
-use Rattle.udfs_lattice.specs.Volumes.{Blocks, Includes, first_known, first_known_by, ascending, Volume, Agrees, complete}
+use Rattle.udfs_lattice.specs.Volumes.{Blocks, first_known, first_known_by, ascending, Volume, Agrees, complete}
+use Rattle.udfs_lattice.proofs.Inclusion.{Includes}
 use Rattle.udfs_lattice.specs.declared.facts.Fact.TheVariants.{Unknown, Known, Conflict}
 use Rattle.udfs_tag.specs.Tags.{is_sound, identifier}
 use Rattle.udfs_volume.specs.Answers.{Answer, found, holes, faulty}

@@ -3,7 +3,8 @@ use Rattle.std.proofs.Common.{◌≡◌, refl, sym, subst, inl, inr, ◌⊎◌, 
 use Rattle.std.specs.Prelude.{⊤}
 use Rattle.std.proofs.lemmas.Bool.{ltb-true, ltb-false, eqb-false}
 use Rattle.udfs_lattice.specs.States.{is_known}
-use Rattle.udfs_lattice.specs.Volumes.{Blocks, Includes, first_known, not_known, insert_once, ascending}
+use Rattle.udfs_lattice.specs.Volumes.{Blocks, first_known, not_known, insert_once, ascending}
+use Rattle.udfs_lattice.proofs.Inclusion.{Includes, included, contained, in_nothing}
 use Rattle.udfs_tag.specs.Tags.{is_sound}
 use Rattle.udfs_volume.specs.declared.anchors.AnchorExtents.{AnchorExtents}
 use Rattle.udfs_volume.specs.declared.faults.VolumeFault.TheVariants.{Extents, Pointer}
@@ -22,7 +23,7 @@ rising_filter test [] r = tt
 rising_filter test (n ∷ ns) r = go (rising_filter test ns r.1) (test n)
   where
     go : IsRising (filter test ns) → (b : Bool) → IsRising (cond b (n ∷ filter test ns) (filter test ns))
-    go later true = (λ m i. r.0 m (Includes-from_filter test ns m i).0, later)
+    go later true = (λ m i. r.0 m (contained ns m (Includes-from_filter test ns m (included (filter test ns) m i)).0), later)
     go later false = later
 
 -- where a number is inserted
@@ -42,24 +43,24 @@ inserted n x (m ∷ ms) h = go (λ i. inserted n x ms i) (nat_lt n m) (n == m) h
     go later false false (inr i) = behind (later i)
 
 rising_inserted : (n : ℕ) (ms : List ℕ) → IsRising ms → IsRising (insert_once n ms)
-rising_inserted n [] r = (λ m i. absurd i, tt)
+rising_inserted n [] r = (λ m i. in_nothing m i, tt)
 rising_inserted n (m ∷ ms) r = go (rising_inserted n ms r.1) (nat_lt n m) (n == m) refl refl
   where
     above : n < m → (x : ℕ) → Includes (m ∷ ms) x → n < x
     above h x (inl e) = subst (λ y. n < y) e h
-    above h x (inr i) = let next : m < x = r.0 x i in omega (arith, h, next)
+    above h x (inr i) = let next : m < x = r.0 x (contained ms x i) in omega (arith, h, next)
 
     below : m < n → (x : ℕ) → (n ≡ x) ⊎ Includes ms x → m < x
     below h x (inl e) = subst (λ y. m < y) e h
-    below h x (inr i) = r.0 x i
+    below h x (inr i) = r.0 x (contained ms x i)
 
     passes : nat_lt n m ≡ false → (n == m) ≡ false → m < n
     passes p q = let least : m ≤ n = ltb-false n m p in let other : n ≡ m → ⊥ = eqb-false n m q in omega (arith, least, other)
 
     go : IsRising (insert_once n ms) → (b c : Bool) → nat_lt n m ≡ b → (n == m) ≡ c → IsRising (cond b (n ∷ m ∷ ms) (cond c (m ∷ ms) (m ∷ insert_once n ms)))
-    go later true c p q = (above (ltb-true n m p), r)
+    go later true c p q = (λ x i. above (ltb-true n m p) x (included (m ∷ ms) x i), r)
     go later false true p q = r
-    go later false false p q = (λ x i. below (passes p q) x (inserted n x ms i), later)
+    go later false false p q = (λ x i. below (passes p q) x (inserted n x ms (included (insert_once n ms) x i)), later)
 
 pub rising_ascending : (ns : List ℕ) → IsRising (ascending ns)
 rising_ascending [] = tt
@@ -85,7 +86,7 @@ rises_and_then (holes blocks) f r all = r
 rises_and_then (faulty fault) f r all = tt
 
 rising_places : (last : ℕ) → 513 ≤ last → IsRising (anchor_places last)
-rising_places last from = (first, (second, (λ m i. absurd i, tt)))
+rising_places last from = (λ m i. first m (included ((last - 256) ∷ last ∷ []) m i), (λ m i. second m (included (last ∷ []) m i), (λ m i. in_nothing m i, tt)))
   where
     first : (m : ℕ) → Includes ((last - 256) ∷ last ∷ []) m → 256 < m
     first m (inl e) = omega (arith, from, e)

@@ -1,12 +1,12 @@
 -- Each sample volume has its layout, and is lawful.
 use Rattle.std.proofs.Common.{◌≡◌, ◌≢◌, refl, sym, ◌∙◌, ap, subst, inl, inr, ℕ, ◌+◌, ◌<◌, ◌≤◌, Bool, true, false, List, [], ◌∷◌, length, replicate, cond, arith, nat_lt, nat_eq}
-use Rattle.std.specs.Prelude.{zero, suc}
+use Rattle.std.specs.Prelude.{zero, suc, Contains}
 use Rattle.std.specs.List.{list_all}
 use Rattle.std.proofs.lemmas.Bool.{leb-true}
 use Rattle.std.proofs.lemmas.List.Sums.{AllPass-from_list_all}
 use Rattle.std.proofs.lemmas.List.Elements.{All-weaker}
 use Rattle.udfs_lattice.specs.States.{IsBlock}
-use Rattle.udfs_lattice.specs.Volumes.{Includes}
+use Rattle.udfs_lattice.proofs.Inclusion.{Includes, included}
 use Rattle.udfs_tag.specs.Crc.{polynomial, reduced, crc_of}
 use Rattle.udfs_tag.specs.Fields.{part}
 use Rattle.udfs_tag.specs.Tags.{tag_of}
@@ -114,7 +114,7 @@ layout_is type1_and_sparable contents = refl
 lawful_layout : (maps : Maps) (contents : ℕ → Bytes) → IsLawfulLayout (sample maps contents) 600
 lawful_layout maps contents = record {
   anchored = λ e. none 256 (600 ∷ []) (sym (anchors_are maps contents) ∙ e);
-  anchors = λ a b i j. same_anchors maps contents a b (subst (λ z. Includes z a) (anchors_are maps contents) i) (subst (λ z. Includes z b) (anchors_are maps contents) j);
+  anchors = λ a b i j. same_anchors maps contents a b (included (256 ∷ 600 ∷ []) a (subst (λ z. Contains z a) (anchors_are maps contents) i)) (included (256 ∷ 600 ∷ []) b (subst (λ z. Contains z b) (anchors_are maps contents) j));
   copies = λ e i q h. copies e i (found_same extents e (sym (anchor_is maps contents) ∙ q)) h;
   laid_out = (sample_layout maps, layout_is maps contents);
 }

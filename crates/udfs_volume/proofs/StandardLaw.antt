@@ -3,7 +3,8 @@ use Rattle.std.proofs.Common.{◌≡◌, refl, sym, ◌∙◌, ap, subst, inl, i
 use Rattle.std.specs.Prelude.{take_while, find, zero, suc, option_map}
 use Rattle.std.specs.List.{range_with_len}
 use Rattle.std.proofs.lemmas.List.Sums.{take_while-cons}
-use Rattle.udfs_lattice.specs.Volumes.{Blocks, Includes, Volume, complete, not_known}
+use Rattle.udfs_lattice.specs.Volumes.{Blocks, Volume, complete, not_known}
+use Rattle.udfs_lattice.proofs.Inclusion.{Includes}
 use Rattle.udfs_tag.specs.Tags.{is_valid, is_sound, identifier}
 use Rattle.udfs_volume.specs.Answers.{Answer, found, holes, faulty, and_then}
 use Rattle.udfs_volume.specs.declared.faults.VolumeFault.TheVariants.{Pointer}

@@ -6,8 +6,8 @@
 --     StandardLayoutBy profile                  with all known it is that of the first anchor and the main sequence
 --     AscendingRises                            what is listed ascending rises
 -- IsLawfulLayout, LayoutLaw, FoundBounds and StandardLayout are these by the strict rules.
-use Rattle.std.specs.Prelude.{◌≡◌, ◌≢◌, ℕ, ◌+◌, ◌/◌, ◌<◌, ◌≤◌, true, false, List, [], ◌∷◌, filter, map, length, drop, ◌⊎◌, ⊤, Some}
-use Rattle.udfs_lattice.specs.Volumes.{Blocks, Includes, Volume, IsVolume, Agrees, ascending, complete, IsUnread, IsKnownAt}
+use Rattle.std.specs.Prelude.{◌≡◌, ◌≢◌, ℕ, ◌+◌, ◌/◌, ◌<◌, ◌≤◌, true, false, List, [], ◌∷◌, filter, map, length, drop, ◌⊎◌, ⊤, Some, Contains}
+use Rattle.udfs_lattice.specs.Volumes.{Blocks, Volume, IsVolume, Agrees, ascending, complete, IsUnread, IsKnownAt}
 use Rattle.udfs_tag.specs.Fields.{part}
 use Rattle.udfs_tag.specs.Tags.{is_valid, is_sound, identifier}
 use Rattle.udfs_volume.specs.Answers.{Answer, found, holes}
@@ -23,7 +23,7 @@ use Rattle.udfs_volume.specs.Layout.{Layout, Partition, PartitionMap, type1, spa
 abbrev pub valid_anchors : Volume → ℕ → List ℕ
 valid_anchors volume last = filter (λ n. is_valid (volume n) n 2) (anchor_places last)
 
--- position i stands before the one that ends the sequence, or is that one
+-- position i is before the one that ends the sequence, or is that one
 pub record IsThroughEnd (volume : Volume) (last : ℕ) (e : AnchorExtents) (i : ℕ) : Type 0 where
   pub inside : i < e.main.length / 2048
   pub before : (j : ℕ) → j < i → goes_on (position (complete volume last) (e.main.block + j) (e.reserve.block + j)) ≡ true
@@ -37,7 +37,7 @@ pub record SaysTheSame (volume : Volume) (main reserve : ℕ) : Type 0 where
 -- a volume has an anchor, its anchors name the same extents, both copies of its descriptor sequence say the same, and with all known it has a layout
 pub record IsLawfulLayoutBy (profile : Profile) (volume : Volume) (last : ℕ) : Type 0 where
   pub anchored : valid_anchors volume last ≢ []
-  pub anchors : (a b : ℕ) → Includes (valid_anchors volume last) a → Includes (valid_anchors volume last) b
+  pub anchors : (a b : ℕ) → Contains (valid_anchors volume last) a → Contains (valid_anchors volume last) b
       → part (volume a) 16 16 ≡ part (volume b) 16 16
   pub copies : (e : AnchorExtents) (i : ℕ) → anchor (complete volume last) last ≡ found e → IsThroughEnd volume last e i
       → SaysTheSame volume (e.main.block + i) (e.reserve.block + i)
@@ -65,14 +65,14 @@ pub record ListsGroup (blocks : Blocks) (anchors places : List ℕ) (IsGroup : L
   pub group : List ℕ
   pub is_group : IsGroup group
   pub unread : IsUnread blocks group
-  pub holds : (n : ℕ) → Includes group n → Includes listed n
+  pub holds : (n : ℕ) → Contains group n → Contains listed n
   pub not_known : IsUnread blocks listed
-  pub each : (n : ℕ) → Includes listed n
-      → ((g : List ℕ) × IsGroup g × IsUnread blocks g × Includes g n) ⊎ (Includes places n × IsUnread blocks anchors)
+  pub each : (n : ℕ) → Contains listed n
+      → ((g : List ℕ) × IsGroup g × IsUnread blocks g × Contains g n) ⊎ (Contains places n × IsUnread blocks anchors)
 
--- each group has a known block, and the answer is the complete volume's; or some group has none
+-- each group has a known block, and `some` is `all`; or `some` is holes that list a group without a known block
 pub data IsAnswerOf {A : Type 0} (blocks : Blocks) (anchors places : List ℕ) (IsGroup : List ℕ → Type 0) (some all : Answer A) : Type 0 where
-  the_same : some ≡ all → ((g : List ℕ) → IsGroup g → (n : ℕ) × Includes g n × IsKnownAt blocks n) → IsAnswerOf blocks anchors places IsGroup some all
+  the_same : some ≡ all → ((g : List ℕ) → IsGroup g → (n : ℕ) × Contains g n × IsKnownAt blocks n) → IsAnswerOf blocks anchors places IsGroup some all
   unread : (listed : List ℕ) → some ≡ holes listed → ListsGroup blocks anchors places IsGroup listed → IsAnswerOf blocks anchors places IsGroup some all
 
 -- over a table that agrees with a lawful volume the layout is the volume's, or holes hold an unread group
@@ -92,7 +92,7 @@ pub record AreBounded (last packet size : ℕ) (tables : List ℕ) : Type 0 wher
   pub to : size ≤ 65536
   pub one : 1 ≤ length tables
   pub four : length tables ≤ 4
-  pub ends : (place : ℕ) → Includes tables place → place + blocks_in size ≤ last + 1
+  pub ends : (place : ℕ) → Contains tables place → place + blocks_in size ≤ last + 1
 
 -- a partition map's sparing tables lie within the volume
 abbrev pub IsBoundedMap : ℕ → PartitionMap → Type 0
@@ -110,7 +110,7 @@ pub record IsBounded (last : ℕ) (l : Layout) : Type 0 where
   pub is_last : l.last ≡ last
   pub one : 1 ≤ length l.partitions
   pub two : length l.partitions ≤ 2
-  pub of_each : (p : Partition) → Includes l.partitions p → IsBoundedPartition last p
+  pub of_each : (p : Partition) → Contains l.partitions p → IsBoundedPartition last p
   pub kinds : repeats_kind (map (λ p. p.kind) l.partitions) ≡ false
 
 -- a layout that is found lies within the volume, by whatever rules

@@ -19,7 +19,7 @@ use Rattle.udfs_volume.specs.Profiles.{accepts_packet, accepts_revision, takes_t
 use Rattle.udfs_volume.specs.declared.faults.VolumeFault.{VolumeFault}
 use Rattle.udfs_volume.specs.declared.faults.VolumeFault.TheVariants.{NoLogicalVolume, Domain, BlockSize, MapCount, MapKind, NoPartition, Contents, PartitionRange}
 
--- where a field is in the content: the standard counts from the front of the descriptor, and the content begins at 16
+-- where a field is in the content: the standard counts from the beginning of the descriptor, and the content begins at 16
 abbrev pub bp : ℕ → ℕ
 bp position = position - 16
 
@@ -50,7 +50,7 @@ partition n ds = prevailing (filter (λ d. nat_eq (partition_number d) n) (with_
 -- The kind of a partition map.
 pub data PartitionMap : Type 0 where
   type1 : PartitionMap
-  -- the packet length, the size of a sparing table in bytes, and where its copies stand
+  -- the packet length, the size of a sparing table in bytes, and the first block of each copy
   sparable : ℕ → ℕ → List ℕ → PartitionMap
 
 -- A partition of a logical volume, with its map's kind.
@@ -82,7 +82,7 @@ abbrev pub is_sparable : Bytes → Bool
 is_sparable bytes = nat_eq (uint8_at bytes 0) 2 && nat_eq (uint8_at bytes 1) 64
     && bytes_eq ((regid_at bytes 4).name) (zero_filled 23 (codes "*UDF Sparable Partition"))
 
--- where a sparable map says that its sparing tables stand
+-- the first block of each sparing table, as a sparable map gives it
 abbrev pub table_places : Bytes → List ℕ
 table_places bytes = map (λ i. uint32_at bytes (48 + 4 * i)) (range_with_len 0 (uint8_at bytes 42))
 
@@ -104,7 +104,7 @@ are_tables profile last bytes = has_numbers profile bytes && are_within last (ui
 abbrev pub NumberedMap : Type 0
 NumberedMap = PartitionMap × ℕ
 
--- the map at the front of these bytes, of which this many are left of the map table, with its partition's number; none if it breaks a rule
+-- the map at the beginning of these bytes, of which this many are left of the map table, with its partition's number; none if it breaks a rule
 abbrev pub read_map : Profile → ℕ → ℕ → Bytes → Option NumberedMap
 read_map profile last length bytes =
     cond (is_type1 bytes && nat_le 6 length) (Some (type1, uint16_at bytes 4))

@@ -1,4 +1,4 @@
--- The descriptor that prevails, one descriptor after the other. No public contract cites these words.
+-- The descriptor that prevails, one descriptor after the other. No public contract cites these definitions.
 use Rattle.std.specs.Prelude.{List, [], ◌∷◌, cond, nat_lt, Option, Some, None}
 use Rattle.udfs_volume.specs.Sequence.{Descriptor}
 use Rattle.udfs_volume.specs.Layout.{sequence_number}

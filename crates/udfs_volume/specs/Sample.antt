@@ -1,10 +1,10 @@
 -- Small volumes on which the definitions are computed, so that what is said of lawful volumes is said of something: one with a map
--- of type 1, one with a sparable map, and one with both. What stands in their partitions is left open.
+-- of type 1, one with a sparable map, and one with both. What their partitions hold is left open.
 --     patched                  a block of zeros but for some bytes
 --     Maps                     the partition maps of a sample
---     sample maps contents     the volume of 601 blocks, by what stands in the blocks of its partitions
+--     sample maps contents     the volume of 601 blocks, by the contents of the blocks of its partitions
 --     sample_layout maps       its layout
---     SampleLayout             whatever stands in the partitions, it is a volume with that layout, and lawful
+--     SampleLayout             whatever the partitions hold, it is a volume with that layout, and lawful
 use Rattle.std.specs.Prelude.{◌≡◌, ℕ, ◌+◌, false, List, [], ◌∷◌, ◌++◌, length, take, drop, replicate, cond, codes, nat_eq, nat_lt}
 use Rattle.udfs_lattice.specs.States.{IsBlock}
 use Rattle.udfs_lattice.specs.Volumes.{Blocks, Volume, IsVolume, complete}
@@ -66,7 +66,7 @@ partition_at sum low = patched ((0, tag 5 0 sum low 0) ∷ (16, 2 ∷ []) ∷ (2
 abbrev pub other_partition_at : ℕ → ℕ → Bytes
 other_partition_at sum low = patched ((0, tag 5 0 sum low 0) ∷ (16, 3 ∷ []) ∷ (22, 1 ∷ []) ∷ (25, codes "+NSR02") ∷ (188, 128 ∷ []) ∷ (192, 128 ∷ []) ∷ [])
 
--- a sparing table (UDF 2.2.11), by which the packet at logical block 0 stands at block 96
+-- a sparing table (UDF 2.2.11), which maps the packet at logical block 0 to block 96
 abbrev pub sparing_table_at : ℕ → ℕ → Bytes
 sparing_table_at sum low = patched ((0, tag 0 0 sum low 0) ∷ (17, codes "*UDF Sparing Table") ∷ (48, 1 ∷ []) ∷ (60, 96 ∷ []) ∷ [])
 
@@ -74,12 +74,12 @@ sparing_table_at sum low = patched ((0, tag 0 0 sum low 0) ∷ (17, codes "*UDF 
 abbrev pub terminator_at : ℕ → ℕ → Bytes
 terminator_at sum low = patched ((0, tag 8 0 sum low 0) ∷ [])
 
--- what stands in the partitions, below block 280, and zeros from there on
+-- the contents of the partitions below block 280, and zeros from there on
 abbrev pub in_partition : (ℕ → Bytes) → ℕ → Bytes
 in_partition contents n = cond (nat_lt n 280) (contents n) (replicate 2048 0)
 
 -- Anchors at 256 and 600, the main sequence from 32 on and the reserve one from 48 on, sparing tables at 64 and 65, and the
--- partitions. The second partition and the sparing tables stand there whether a map names them or not.
+-- partitions. The second partition and the sparing tables are there whether a map names them or not.
 abbrev pub sample : Maps → (ℕ → Bytes) → Volume
 sample maps contents n = cond (nat_eq n 256) (anchor_at 5 0 1) (cond (nat_eq n 600) (anchor_at 0x5E 0x58 2)
     (cond (nat_eq n 32) (logical_volume_at maps 0x28 0x20) (cond (nat_eq n 48) (logical_volume_at maps 0x38 0x30)
@@ -99,7 +99,7 @@ sample_partitions one_type1 = record { kind = type1; start = 272; size = 300 } �
 sample_partitions one_sparable = record { kind = sparing; start = 272; size = 300 } ∷ []
 sample_partitions type1_and_sparable = record { kind = type1; start = 272; size = 300 } ∷ record { kind = sparing; start = 128; size = 128 } ∷ []
 
--- the file set stands at the first block of the first of them
+-- the file set is at the first block of the first of them
 abbrev pub sample_layout : Maps → Layout
 sample_layout maps = record {
   last = 600;
@@ -120,6 +120,6 @@ pub record IsLawfulSample (maps : Maps) (contents : ℕ → Bytes) : Type 0 wher
   pub layout_is : layout (sample_blocks maps contents) 600 ≡ found (sample_layout maps)
   pub is_lawful : IsLawfulLayout (sample maps contents) 600
 
--- whatever stands in its partitions, each sample is a volume with its layout, and lawful
+-- whatever its partitions hold, each sample is a volume with its layout, and lawful
 abbrev pub SampleLayout : Type 0
 SampleLayout = (maps : Maps) (contents : ℕ → Bytes) → ((n : ℕ) → IsBlock (contents n)) → IsLawfulSample maps contents

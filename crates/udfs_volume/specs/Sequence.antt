@@ -19,7 +19,7 @@ use Rattle.udfs_volume.specs.declared.faults.VolumeFault.TheVariants.{NoAnchor, 
 abbrev pub Bytes : Type 0
 Bytes = List ℕ
 
--- where an anchor may stand (3/8.4.2.1, UDF 2.2.3)
+-- the places where an anchor may be (3/8.4.2.1, UDF 2.2.3)
 abbrev pub anchor_places : ℕ → List ℕ
 anchor_places last = 256 ∷ (last - 256) ∷ last ∷ []
 
@@ -43,13 +43,13 @@ abbrev pub first_anchor : Blocks → List ℕ → Option Bytes
 first_anchor blocks [] = None
 first_anchor blocks (n ∷ ns) = or_else (anchor_here n (blocks n)) (first_anchor blocks ns)
 
--- the extents of an anchor; without one the places that are not known have to be read, and if all are known there is none
+-- the extents of an anchor; without one, the places that are not known have to be read, and if all are known the fault is `NoAnchor`
 abbrev pub anchor_or : Option Bytes → List ℕ → Answer AnchorExtents
 anchor_or (Some bytes) unread = found (extents_of bytes)
 anchor_or None [] = faulty NoAnchor
 anchor_or None (n ∷ ns) = holes (n ∷ ns)
 
--- the extents of the first valid anchor, or the anchor places to read first, or that there is none
+-- the extents of the first known and valid anchor, or the anchor places to read first, or the fault `NoAnchor`
 unfoldable pub anchor : Blocks → ℕ → Answer AnchorExtents
 anchor blocks last = anchor_or (first_anchor blocks (anchor_places last)) (not_known blocks (anchor_places last))
 
@@ -58,7 +58,7 @@ abbrev pub fits_to : ℕ → ExtentAd → Bool
 fits_to last e = nat_le (e.block + e.length / 2048) (last + 1)
 
 -- whether both extents have one length of whole blocks, from 16 to 256 of them, and none passes the last block (this
--- project's own rule; UDF 2.2.3.1 asks 16 at least)
+-- project's own rule; UDF 2.2.3.1 requires at least 16)
 abbrev pub are_extents : ℕ → AnchorExtents → Bool
 are_extents last e = nat_eq e.main.length e.reserve.length && nat_eq (e.main.length % 2048) 0
     && is_within 32768 524288 e.main.length && fits_to last e.main && fits_to last e.reserve

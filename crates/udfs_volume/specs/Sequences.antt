@@ -8,7 +8,7 @@ use Rattle.udfs_volume.specs.declared.descriptors.Sequence as code_sequence
 use Rattle.udfs_volume.specs.declared.sequences.Position as code_position
 use Rattle.udfs_volume.specs.declared.sequences.Position.TheVariants as variants
 
--- a descriptor behind its reference
+-- a descriptor of the code, as the definitions see it
 abbrev pub descriptor_now : code_descriptor.Descriptor → Descriptor
 descriptor_now d = record { identifier = d.identifier; content = drop 16 d.block.now }
 

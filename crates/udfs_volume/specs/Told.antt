@@ -2,8 +2,8 @@
 --     IsLayoutOf profile volume blocks last got     the volume's layout, as the standard reads it
 --     TellsLawfulLayoutBy profile blocks last seen  of each lawful volume: its layout, or all of an unread group
 --     TellsLawfulLayout blocks last seen            the same by the strict rules
-use Rattle.std.specs.Prelude.{◌≡◌, ⊤, ℕ, List, Some}
-use Rattle.udfs_lattice.specs.Volumes.{Blocks, Includes, Volume, IsVolume, Agrees, complete, IsKnownAt}
+use Rattle.std.specs.Prelude.{◌≡◌, ⊤, ℕ, List, Some, Contains}
+use Rattle.udfs_lattice.specs.Volumes.{Blocks, Volume, IsVolume, Agrees, complete, IsKnownAt}
 use Rattle.udfs_volume.specs.declared.layouts.VolumeParts.{VolumeParts}
 use Rattle.udfs_volume.specs.declared.profiles.Profile.{Profile}
 use Rattle.udfs_volume.specs.declared.profiles.Profile.TheVariants.{Strict}
@@ -20,7 +20,7 @@ use Rattle.udfs_volume.specs.Laws.{IsLawfulLayoutBy, IsSequenceGroup, ListsGroup
 pub record IsLayoutOf (profile : Profile) (volume : Volume) (blocks : Blocks) (last : ℕ) (got : Layout) : Type 0 where
   pub whole : layout_by profile (complete volume last) last ≡ found got
   pub standard : (n : ℕ) × (standard_anchor volume last ≡ Some n) × (standard_layout_by profile volume last n ≡ found got)
-  pub known : (group : List ℕ) → IsSequenceGroup volume last group → (n : ℕ) × Includes group n × IsKnownAt blocks n
+  pub known : (group : List ℕ) → IsSequenceGroup volume last group → (n : ℕ) × Contains group n × IsKnownAt blocks n
 
 -- what a call returned is the volume's layout, or the listed blocks hold a group of which none is known; no fault is reported, and memory may run out
 abbrev pub IsLayoutTold : Profile → Volume → Blocks → ℕ → Seen VolumeParts → Type 0

@@ -14,7 +14,7 @@ use std::alloc::{AllocError, Global};
 use udfs_lattice::{BlockTable, Fact};
 use udfs_tag::{ExtentAd, Tag, identifiers};
 
-/// Where an anchor says that the two copies of the volume descriptor sequence stand.
+/// The extents of the two copies of the volume descriptor sequence, as an anchor gives them.
 #[derive(Clone, Copy, Debug, PartialEq, Eq)]
 pub struct AnchorExtents {
     /// The extent of the main sequence (ECMA-167 3/10.2.2).
@@ -93,7 +93,7 @@ fn places(last: u32) -> [u32; 3]
     [256, last - 256, last]
 }
 
-/// What is seen where no anchor is, by the places that are not known: these are holes, or there are none.
+/// The result without an anchor: the places in `unread` are holes; if it is empty, the fault is `NoAnchor`.
 fn without_anchor(unread: Vec<u32>) -> Seen<AnchorExtents>
     ensures value { Sees (λ extents. extents) result (anchor_or None unread.items) }
     ensures memory { result ≢ Seen.OutOfMemory }
@@ -108,7 +108,7 @@ fn without_anchor(unread: Vec<u32>) -> Seen<AnchorExtents>
 /// valid there with identifier 2 (ECMA-167 3/8.4.2.1, UDF 2.2.3). Without one, those of the three that are
 /// not known are holes, and where all three are known the fault is `NoAnchor`.
 ///
-/// It takes memory for holes alone: an anchor and the fault are returned whatever memory there is.
+/// Only holes take memory: the result is `OutOfMemory` only where it would be holes.
 pub fn anchor(alloc: Global, table: &BlockTable, last: u32) -> Seen<AnchorExtents>
     requires from { 513 ≤ last }
     requires to { last ≤ 4194303 }

@@ -20,7 +20,7 @@ pub struct Descriptor<'a> {
 }
 
 impl<'a> Descriptor<'a> {
-    /// The bytes behind the tag.
+    /// The 2032 bytes after the tag.
     pub(crate) fn content(&self) -> &'a [u8]
         ensures content { result.now ≡ (descriptor_now self.now).content }
         ensures size { length result.now ≡ 2032 }
@@ -30,7 +30,7 @@ impl<'a> Descriptor<'a> {
         content
     }
 
-    /// The bytes from a byte position of the descriptor on, which is behind its tag.
+    /// The bytes from `position` on, counted from the descriptor's first byte; `position` is after the tag.
     pub(crate) fn from(&self, position: usize) -> &'a [u8]
         requires from { 16 ≤ position }
         requires to { position ≤ 2048 }
@@ -40,7 +40,7 @@ impl<'a> Descriptor<'a> {
         behind(self.content(), position - 16)
     }
 
-    /// The number of two bytes at a byte position of the descriptor, behind its tag.
+    /// The two-byte number at byte `position` of the descriptor, which is after its tag.
     pub(crate) fn uint16(&self, position: usize) -> u16
         requires from { 16 ≤ position }
         requires to { position + 2 ≤ 2048 }
@@ -49,7 +49,7 @@ impl<'a> Descriptor<'a> {
         LittleEndian::read_u16(self.from(position))
     }
 
-    /// The number of four bytes at a byte position of the descriptor, behind its tag.
+    /// The four-byte number at byte `position` of the descriptor, which is after its tag.
     pub(crate) fn uint32(&self, position: usize) -> u32
         requires from { 16 ≤ position }
         requires to { position + 4 ≤ 2048 }
@@ -96,7 +96,7 @@ pub struct Sequence<'a> {
 }
 
 impl<'a> Sequence<'a> {
-    /// The logical volume descriptor that prevails: the first one whose sequence number no other passes
+    /// The logical volume descriptor that prevails: the first one with the greatest sequence number
     /// (ECMA-167 3/8.4.3, 3/10.6).
     pub fn logical_volume(&self) -> Option<Descriptor<'a>>
         ensures { option_map descriptor_now result ≡ logical_volume (sequence_now self.now) }
@@ -127,7 +127,7 @@ impl<'a> Sequence<'a> {
     }
 }
 
-/// Whether the entity identifier at the front of the bytes has this name (ECMA-167 1/7.4).
+/// Whether the entity identifier at the beginning of the bytes has this name (ECMA-167 1/7.4).
 pub(crate) fn is_named(bytes: &[u8], name: &[u8; 23]) -> bool
     requires { 32 ≤ length bytes.now }
     ensures { result ≡ bytes_eq (regid_of bytes.now).name name.now }

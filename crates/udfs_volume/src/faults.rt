@@ -12,16 +12,16 @@ pub enum VolumeFault {
     /// All three places of an anchor are known, and none has one (ECMA-167 3/8.4.2.1).
     NoAnchor = 1,
     /// The anchor's extents differ in length, their length is not of 16 to 256 whole blocks, or one
-    /// passes the last block (UDF 2.2.3.1 asks 16 sectors at least).
+    /// passes the last block (UDF 2.2.3.1 requires at least 16 sectors).
     Extents = 2,
     /// The sequence goes on elsewhere: a volume descriptor pointer (ECMA-167 3/10.3).
     Pointer = 3,
     /// The sequence has no logical volume descriptor (ECMA-167 3/10.6).
     NoLogicalVolume = 4,
-    /// The domain is not OSTA's, or its revision is none that the profile accepts (UDF 2.2.4.3): by the
-    /// strict rules it is neither 1.50 nor 2.01.
+    /// The domain is not OSTA's, or the profile does not accept its revision (UDF 2.2.4.3): by the strict
+    /// rules it is neither 1.50 nor 2.01.
     Domain = 5,
-    /// A logical block has not 2048 bytes (UDF 2.2.4.2).
+    /// The logical block size is not 2048 bytes (UDF 2.2.4.2).
     BlockSize = 6,
     /// The number of partition maps is neither 1 nor 2 (ECMA-167 3/10.6.9).
     MapCount = 7,
@@ -36,9 +36,10 @@ pub enum VolumeFault {
     PartitionRange = 11,
     /// A sparing table's tag or name is not right (UDF 2.2.11).
     SparingTag = 12,
-    /// A sparing table passes its size, or an original block number is none (UDF 2.2.11).
+    /// The entries of a sparing table pass its size, or an original block number has no meaning or is not
+    /// the first block of a packet (UDF 2.2.11).
     SparingShape = 13,
-    /// The original block numbers of a sparing table do not rise (UDF 2.2.11).
+    /// The original block numbers of a sparing table fall, or two packets have the same (UDF 2.2.11).
     SparingOrder = 14,
     /// A spared packet is mapped past the last block (UDF 2.2.11).
     MappedRange = 15,

@@ -40,8 +40,8 @@ pub fn ascending_rises()
     ensures { AscendingRises }
 {}
 
-/// There are lawful layouts with one map of type 1, with one sparable map and with both: sample volumes have them, whatever stands in
-/// their partitions.
+/// There are lawful layouts with one map of type 1, with one sparable map and with both: sample volumes have them, whatever their
+/// partitions hold.
 pub fn sample_layout_is_lawful()
     ensures { SampleLayout }
 {}

@@ -45,9 +45,9 @@ pub struct VolumeParts {
     pub revision: u16,
     /// The name of the logical volume.
     pub label: Label,
-    /// The partitions in the order of their maps: a partition reference counts among them.
+    /// The partitions in the order of their maps: a partition reference is an index into them.
     pub partitions: Vec<Partition>,
-    /// Where the file set descriptor stands.
+    /// The address of the file set descriptor.
     pub file_set: LongAd,
     /// Whether the last extent of a file may end inside a block, short of the file's length, while the rest of that
     /// block is the file's too: by the strict rules it may not.
@@ -75,7 +75,7 @@ fn has_revision(profile: Profile, volume: &Descriptor<'_>) -> bool
     profile.accepts_revision(volume.uint16(240))
 }
 
-/// Of the faults of a logical volume descriptor before those of its maps the first.
+/// The first fault of a logical volume descriptor's domain, block size and number of maps.
 fn field_fault(profile: Profile, volume: &Descriptor<'_>) -> Option<VolumeFault>
     ensures value { result ≡ first_fault (field_tests profile (descriptor_now volume.now)) }
     ensures count { MatchOption result
@@ -136,7 +136,7 @@ fn has_contents(partition: &Descriptor<'_>) -> bool
         || is_named(name, b"+NSR03\0\0\0\0\0\0\0\0\0\0\0\0\0\0\0\0\0")
 }
 
-/// Whether the partition is not empty, and passes no last block (ECMA-167 3/10.5.8, 3/10.5.9).
+/// Whether the partition is not empty and ends at the last block or before (ECMA-167 3/10.5.8, 3/10.5.9).
 fn is_in_range(last: u32, partition: &Descriptor<'_>) -> bool
     ensures { result ≡ is_range last (uint32_at (descriptor_now partition.now).content (bp 188)) (uint32_at (descriptor_now partition.now).content (bp 192)) }
 {
@@ -240,7 +240,7 @@ fn layout_of(
     lay_out(alloc, profile, last, &volume, sequence, maps)
 }
 
-/// The layout by the descriptors of a sequence, if memory is not refused.
+/// The layout by the descriptors of a sequence, or `OutOfMemory` where memory runs out.
 fn see_layout(
     alloc: Global,
     profile: Profile,
@@ -260,10 +260,11 @@ fn see_layout(
 /// descriptor sequence. Of several faults the one with the least number is reported.
 ///
 /// Of a volume that is lawful by these rules and with which the table agrees it returns the volume's own
-/// layout, as the standard reads it (ECMA-167 3/8.4), or holes: then all blocks of some group are among them,
-/// of which one is needed and none is known; or memory runs out. A layout that is found lies within the volume.
+/// layout, as the standard reads it (ECMA-167 3/8.4), or holes, or `OutOfMemory`. The holes then include all
+/// blocks of some group of which one is needed and no block is known. A layout that is found lies within the
+/// volume.
 ///
-/// A fault of the anchor is reported whatever memory there is.
+/// `NoAnchor` and `Extents` are reported even where memory runs out.
 #[tactic(auto, using(crate::proofs::LayoutSteps::layout_faulty, crate::proofs::Early::same_fault, crate::proofs::Told::no_fault))]
 pub fn layout_by(
     alloc: Global,

@@ -36,7 +36,7 @@ pub struct SparableMap {
 pub enum PartitionMap {
     /// One after the other (ECMA-167 3/10.7.2).
     Type1,
-    /// With packets that stand elsewhere (UDF 2.2.9).
+    /// One after the other, except in spared packets, which are elsewhere (UDF 2.2.9).
     Sparable(SparableMap),
 }
 
@@ -70,7 +70,7 @@ fn is_sparable(bytes: &[u8]) -> bool
     bytes[0] == 2 && bytes[1] == 64 && is_named(behind(bytes, 4), b"*UDF Sparable Partition")
 }
 
-/// Whether a map of type 1 stands in what is left of the map table.
+/// Whether the bytes begin with a map of type 1 that fits into the `left` bytes of the map table.
 fn is_whole_type1(left: u32, bytes: &[u8]) -> bool
     requires { 64 ≤ length bytes.now }
     ensures { result ≡ (is_type1 bytes.now && nat_le 6 left) }
@@ -78,7 +78,7 @@ fn is_whole_type1(left: u32, bytes: &[u8]) -> bool
     is_type1(bytes) && left >= TYPE1_LENGTH
 }
 
-/// Whether a map of the form of a sparable one stands in what is left of the map table.
+/// Whether the bytes begin with a map of sparable form that fits into the `left` bytes of the map table.
 fn is_whole_sparable(left: u32, bytes: &[u8]) -> bool
     requires { 64 ≤ length bytes.now }
     ensures { result ≡ (is_sparable bytes.now && nat_le 64 left) }
@@ -99,7 +99,7 @@ fn has_numbers(profile: Profile, bytes: &[u8]) -> bool
         && (56..=LONGEST_TABLE).contains(&size)
 }
 
-/// Where the tables of a sparable map stand.
+/// The first block of each sparing table of a sparable map.
 fn table_places(alloc: Global, bytes: &[u8]) -> Result<Vec<u32>, AllocError>
     requires size { 64 ≤ length bytes.now }
     requires count { uint8_at bytes.now 42 ≤ 4 }
@@ -112,7 +112,7 @@ fn table_places(alloc: Global, bytes: &[u8]) -> Result<Vec<u32>, AllocError>
     Ok(places)
 }
 
-/// Whether tables of this size at these places pass no last block.
+/// Whether tables of `size` bytes at these places end at the last block or before.
 fn are_within(last: u32, size: u32, places: &[u32]) -> bool
     ensures { result ≡ are_within last size places.now }
 {
@@ -124,7 +124,7 @@ fn are_within(last: u32, size: u32, places: &[u32]) -> bool
     true
 }
 
-/// The sparable map, if it keeps the rules of its numbers.
+/// The sparable map, if its numbers keep the rules of [`has_numbers`] and its tables end by the last block.
 fn read_sparable(
     alloc: Global,
     profile: Profile,
@@ -150,7 +150,7 @@ fn read_sparable(
     }))
 }
 
-/// The map at the front of the bytes, in what is left of the map table.
+/// The map at the beginning of the bytes, or `None` if it breaks a rule or passes the `left` bytes of the map table.
 fn read_map(
     alloc: Global,
     profile: Profile,

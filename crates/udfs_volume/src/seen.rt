@@ -1,7 +1,7 @@
-//! What is seen of a volume.
+//! What a call finds of a volume by its known blocks.
 
 ghost use Rattle.std.specs.Prelude.{◌≡◌};
-ghost use Rattle.udfs_volume.specs.Seen.{ForGot, GoesOn};
+ghost use Rattle.udfs_volume.specs.Seen.{GoesOn, IfGot};
 
 use crate::faults::VolumeFault;
 
@@ -12,16 +12,16 @@ pub enum Seen<T> {
     Got(T),
     /// Blocks that are not known, ascending and each once: to go on, some of them have to be read.
     Holes(Vec<u32>),
-    /// The volume has a fault, whatever the blocks hold that are not known.
+    /// The first fault by the known blocks. Where redundant copies differ, more blocks may change it.
     Fault(VolumeFault),
-    /// Memory was refused.
+    /// Memory ran out.
     OutOfMemory,
 }
 
 impl<T> Seen<T> {
-    /// What is seen next of what was got; and else the same, whatever it is.
+    /// Calls `next` with what was got. Holes, a fault and `OutOfMemory` are returned unchanged.
     pub fn and_then<U, F: FnOnce(T) -> Seen<U>>(self, next: F) -> Seen<U>
-        requires { ForGot self (F.pre next) }
+        requires { IfGot self (F.pre next) }
         ensures { GoesOn self (F.post next) result }
     {
         match self {

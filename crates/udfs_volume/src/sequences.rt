@@ -15,14 +15,14 @@ use std::alloc::{AllocError, Global};
 use udfs_lattice::{BlockTable, Fact};
 use udfs_tag::{ExtentAd, Tag, identifiers};
 
-/// What stands at a position of a sequence, of which there are two copies.
+/// What is at a position of a sequence, which has two copies of each position.
 #[derive(Clone, Copy)]
 enum Position<'a> {
     /// Neither copy is known.
     Unread,
-    /// The copy that is read is no descriptor.
+    /// The first known copy is no sound descriptor at its block.
     Invalid,
-    /// It is this descriptor.
+    /// The first known copy is this descriptor.
     Descriptor(Descriptor<'a>),
 }
 
@@ -117,7 +117,7 @@ fn read_positions<'a>(
     Ok(Seen::Got(Sequence { descriptors }))
 }
 
-/// The sequence that stands in these extents, if they are as they have to be.
+/// The sequence in these extents, or the fault `Extents` where [`are_extents`] does not hold.
 #[tactic(auto, using(crate::proofs::Walking::unfit))]
 fn sequence_at<'a>(
     alloc: Global,
@@ -138,11 +138,13 @@ fn sequence_at<'a>(
     }
 }
 
-/// The volume descriptor sequence that the first anchor leads to, up to its end: a block that is no
-/// descriptor at its place, a terminating descriptor, or the end of the extent. At each position the main
-/// copy is read where it is known, else the reserve copy; where neither is known, the two are holes.
+/// The volume descriptor sequence of the first known and valid anchor, up to its end: a block that is no
+/// sound descriptor at its place, a terminating descriptor, or the end of the extent. At each position the
+/// main copy is read where it is known, else the reserve copy; where neither is known, the two are holes.
+/// A volume descriptor pointer before the end is the fault `Pointer`.
 ///
-/// It takes memory for holes and for descriptors: a fault of the anchor is reported whatever memory there is.
+/// Holes and descriptors take memory, and the result is `OutOfMemory` where it runs out. `NoAnchor` and
+/// `Extents` are reported even then.
 #[tactic(auto, using(crate::proofs::Walking::sequence_faulty, crate::proofs::Early::same_fault))]
 pub fn sequence<'a>(alloc: Global, table: &'a BlockTable, last: u32) -> Seen<Sequence<'a>>
     requires from { 513 ≤ last }

@@ -1,6 +1,6 @@
 -- Blocks that are gathered from nodes, some of them let go where they stand twice.
 use Rattle.std.proofs.Common.{◌≡◌, refl, Bool, true, false, cond, arith, sym, ◌∙◌, ap, subst, inl, inr, ℕ, ◌+◌, ◌<◌, ◌≤◌, List, [], ◌∷◌, ◌++◌, length, map, take, get_or, ⊎_elim, Option, None, Some}
-use Rattle.std.specs.Prelude.{◌⊎◌, flat_map}
+use Rattle.std.specs.Prelude.{◌⊎◌, flat_map, Contains}
 use Rattle.std.specs.BTreeMap.{is_at}
 use Rattle.std.specs.BTreeSet.{BTreeSet, IsEmpty, Updates, contains}
 use Rattle.std.specs.List.{list_any}
@@ -9,9 +9,11 @@ use Rattle.udfs_tag.specs.Fields.{number_of}
 use Rattle.udfs_tag.specs.declared.layouts.LongAd.{LongAd}
 use Rattle.std.proofs.lemmas.Grind.{flat_map-append}
 use Rattle.std.proofs.lemmas.List.{append-nil, take_more}
+use Rattle.std.proofs.lemmas.List.Elements.{Contains-append_left}
 use Rattle.std.proofs.lemmas.List.Folds.{flat_map-map}
-use Rattle.udfs_lattice.specs.Volumes.{Includes, ascending}
-use Rattle.udfs_lattice.proofs.PublicLaws.{ascending_includes}
+use Rattle.udfs_lattice.specs.Volumes.{ascending}
+use Rattle.udfs_lattice.proofs.Inclusion.{Includes, included, contained}
+use Rattle.udfs_lattice.proofs.PublicLaws.{ascending_contains, ascending_includes}
 use Rattle.udfs_volume.proofs.PublicLaws.{ascending_rises}
 use Rattle.udfs_space.specs.Places.{View, block_at}
 use Rattle.udfs_file.specs.Addresses.{address_fault}
@@ -69,11 +71,11 @@ pub gathered_before : (v : View) (node : NodeFields) (icbs : BTreeSet ℕ) (bloc
     → contains nat_cmp icbs (number_of (icb_of node.icb)) ≡ true → ascending blocks ≡ ascending (blocks ++ missing_at v node)
 gathered_before v node icbs blocks l h c = same_numbers blocks (blocks ++ missing_at v node)
     (λ n i. in_front blocks (missing_at v node) n i)
-    (λ n i. ⊎_elim (λ j. j) (λ j. (ascending_includes blocks n).0 (h node.icb l c n (lacks_there (lists_at v node.icb) node.standing n j))) (either blocks (missing_at v node) n i))
+    (λ n i. ⊎_elim (λ j. j) (λ j. included blocks n ((ascending_contains blocks n).0 (h node.icb l c n (contained (lists_at v node.icb).missing n (lacks_there (lists_at v node.icb) node.standing n j))))) (either blocks (missing_at v node) n i))
 
 -- what was gathered stays so with more blocks
 pub gathered_still : (v : View) (icbs : BTreeSet ℕ) (old more : List ℕ) → AreGathered v icbs old → AreGathered v icbs (old ++ more)
-gathered_still v icbs old more h = λ a l c n i. (ascending_includes (old ++ more) n).1 (in_front old more n ((ascending_includes old n).0 (h a l c n i)))
+gathered_still v icbs old more h = λ a l c n i. (ascending_contains (old ++ more) n).1 (Contains-append_left old more n ((ascending_contains old n).0 (h a l c n i)))
 
 -- what is missing where an address has this fault, if any
 lists_by : (v : View) (a : LongAd) (f : Option NodeFault) → address_fault v a ≡ f → lists_at v a ≡ target_lists v a (target_at f a.block (block_at v a.reference a.block))
@@ -102,12 +104,12 @@ pub gathered_now : (v : View) (a : LongAd) (icbs more_icbs : BTreeSet ℕ) (old 
     → Updates nat_cmp icbs more_icbs (number_of (icb_of a)) true → more ≡ (lists_at v a).missing → 0 < length more → AreGathered v more_icbs (old ++ more)
 gathered_now v a icbs more_icbs old more l h u e z = λ d k c n i. go d k c n i (is_eq (nat_cmp (number_of (icb_of a)) (number_of (icb_of d)))) refl
   where
-    go : (d : LongAd) → d.block < 4294967296 → contains nat_cmp more_icbs (number_of (icb_of d)) ≡ true → (n : ℕ) → Includes (lists_at v d).missing n
-        → (t : Bool) → is_eq (nat_cmp (number_of (icb_of a)) (number_of (icb_of d))) ≡ t → Includes (ascending (old ++ more)) n
+    go : (d : LongAd) → d.block < 4294967296 → contains nat_cmp more_icbs (number_of (icb_of d)) ≡ true → (n : ℕ) → Contains (lists_at v d).missing n
+        → (t : Bool) → is_eq (nat_cmp (number_of (icb_of a)) (number_of (icb_of d))) ≡ t → Contains (ascending (old ++ more)) n
     go d k c n i true q =
         let icb : icb_of a ≡ icb_of d = same_icb (icb_of a) (icb_of d) l k q in
-        let m : Includes (lists_at v a).missing n = same_missing v a d (ap (λ x. x.reference) icb) (ap (λ x. x.block) icb) (subst (λ (x : List ℕ). 0 < length x) e z) n i in
-        (ascending_includes (old ++ more) n).1 (in_back old more n (subst (λ x. Includes x n) (sym e) m))
+        let m : Includes (lists_at v a).missing n = same_missing v a d (ap (λ x. x.reference) icb) (ap (λ x. x.block) icb) (subst (λ (x : List ℕ). 0 < length x) e z) n (included (lists_at v d).missing n i) in
+        (ascending_contains (old ++ more) n).1 (contained (old ++ more) n (in_back old more n (subst (λ x. Includes x n) (sym e) m)))
     go d k c n i false q = gathered_still v icbs old more h d k
         (sym (u.0 (number_of (icb_of d)) ∙ ap (λ t. cond t true (contains nat_cmp icbs (number_of (icb_of d)))) q) ∙ c) n i
 
@@ -123,7 +125,7 @@ lacks_all lists full standing e h = ap missing_of e ∙ go standing (subst (λ (
 
 -- the same blocks, some of them let go where they stand twice
 pub gathered_settled : (v : View) (icbs : BTreeSet ℕ) (old new : List ℕ) → ascending new ≡ ascending old → AreGathered v icbs old → AreGathered v icbs new
-gathered_settled v icbs old new e h = λ a l c n i. subst (λ (z : List ℕ). Includes z n) (sym e) (h a l c n i)
+gathered_settled v icbs old new e h = λ a l c n i. subst (λ (z : List ℕ). Contains z n) (sym e) (h a l c n i)
 
 pub gathered_none : (v : View) (icbs : BTreeSet ℕ) (blocks : List ℕ) → IsEmpty icbs → AreGathered v icbs blocks
 gathered_none v icbs blocks e = λ a l c n i. absurd (let z : false ≡ true = sym (ap (list_any (is_at (nat_cmp (number_of (icb_of a))))) e) ∙ c in let w : ⊥ = cc in w)

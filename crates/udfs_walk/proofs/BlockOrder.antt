@@ -5,8 +5,9 @@ use Rattle.std.specs.List.Sorted.{IsNonDecreasingBy, IsPermutation}
 use Rattle.std.proofs.lemmas.List.Sorted.{Contains-permutation, IsPermutation-sym}
 use Rattle.std.specs.List.{range_with_len}
 use Rattle.std.proofs.lemmas.List.{length-drop}
-use Rattle.udfs_lattice.specs.Volumes.{Includes, ascending}
-use Rattle.udfs_lattice.proofs.PublicLaws.{ascending_includes, included_is_contained}
+use Rattle.udfs_lattice.specs.Volumes.{ascending}
+use Rattle.udfs_lattice.proofs.Inclusion.{Includes, included, contained}
+use Rattle.udfs_lattice.proofs.PublicLaws.{ascending_includes}
 use Rattle.udfs_volume.specs.Seen.{IsRising}
 use Rattle.udfs_volume.proofs.PublicLaws.{ascending_rises}
 use Rattle.udfs_walk.specs.BlockRuns.{AreSorted, AreSortedFrom, blocks_of, run_blocks}
@@ -47,14 +48,14 @@ in_range a (suc k) n h l = go (n - a) refl (λ m. in_range (a + 1) k n m (omega 
 
 rising_range : (a k : ℕ) → IsRising (range_with_len a k)
 rising_range a zero = tt
-rising_range a (suc k) = (λ m i. let r = range_in (a + 1) k m i in omega (arith, r.0), rising_range (a + 1) k)
+rising_range a (suc k) = (λ m i. let r = range_in (a + 1) k m (included (range_with_len (a + 1) k) m i) in omega (arith, r.0), rising_range (a + 1) k)
 
 rising_more : (xs ys : List ℕ) → IsRising xs → IsRising ys → ((x y : ℕ) → Includes xs x → Includes ys y → x < y) → IsRising (xs ++ ys)
 rising_more [] ys r s h = s
-rising_more (x ∷ xs) ys r s h = (λ m i. go m (either xs ys m i), rising_more xs ys r.1 s (λ a b i j. h a b (inr i) j))
+rising_more (x ∷ xs) ys r s h = (λ m i. go m (either xs ys m (included (xs ++ ys) m i)), rising_more xs ys r.1 s (λ a b i j. h a b (inr i) j))
   where
     go : (m : ℕ) → Includes xs m ⊎ Includes ys m → x < m
-    go m (inl i) = r.0 m i
+    go m (inl i) = r.0 m (contained xs m i)
     go m (inr i) = h x m (inl refl) i
 
 -- ---- runs
@@ -267,5 +268,5 @@ moved_in xs ys f n i = let q = of_blocks xs n i in in_blocks ys q.0 n (f q.0 q.1
 
 pub permuted : (xs ys : List BlockRun) → IsPermutation xs ys → ascending (blocks_of ys) ≡ ascending (blocks_of xs)
 permuted xs ys p = rising_same (ascending (blocks_of ys)) (ascending (blocks_of xs)) (ascending_rises (blocks_of ys)) (ascending_rises (blocks_of xs))
-    (λ n i. (ascending_includes (blocks_of xs) n).1 (moved_in ys xs (λ r k. (included_is_contained xs r).1 (Contains-permutation ys xs r (IsPermutation-sym xs ys p) ((included_is_contained ys r).0 k))) n ((ascending_includes (blocks_of ys) n).0 i)))
-    (λ n i. (ascending_includes (blocks_of ys) n).1 (moved_in xs ys (λ r k. (included_is_contained ys r).1 (Contains-permutation xs ys r p ((included_is_contained xs r).0 k))) n ((ascending_includes (blocks_of xs) n).0 i)))
+    (λ n i. (ascending_includes (blocks_of xs) n).1 (moved_in ys xs (λ r k. included xs r (Contains-permutation ys xs r (IsPermutation-sym xs ys p) (contained ys r k))) n ((ascending_includes (blocks_of ys) n).0 i)))
+    (λ n i. (ascending_includes (blocks_of ys) n).1 (moved_in xs ys (λ r k. included ys r (Contains-permutation xs ys r p (contained xs r k))) n ((ascending_includes (blocks_of xs) n).0 i)))

@@ -1,6 +1,6 @@
 -- Walks over bodies: each leaves what it found at its information control block, of which there are no more than the nodes have.
 use Rattle.std.proofs.Common.{◌≡◌, refl, sym, ◌∙◌, ap, subst, inl, inr, ⊎_elim, ℕ, ◌+◌, ◌<◌, ◌≤◌, Bool, true, false, List, [], ◌∷◌, ◌++◌, length, map, cond, arith, None, Some}
-use Rattle.std.specs.Prelude.{◌⊎◌, ◌==◌, nat_lt, suc}
+use Rattle.std.specs.Prelude.{◌⊎◌, ◌==◌, nat_lt, suc, Contains}
 use Rattle.std.specs.BTreeMap.{BTreeMap, IsEmpty, IsOrdered, btree_map_len, get, insert_entry, keys}
 use Rattle.std.specs.List.Sorted.{IsStrictlySortedBy}
 use Rattle.std.specs.Map.{keys_of, lookup}
@@ -9,10 +9,12 @@ use Rattle.std.specs.declared.cmp.Ordering.{Ordering}
 use Rattle.std.specs.declared.cmp.Ordering.TheVariants.{Less, Equal, Greater}
 use Rattle.std.proofs.lemmas.Bool.{eq-eqb}
 use Rattle.std.proofs.lemmas.List.{length-map, map-append}
+use Rattle.std.proofs.lemmas.List.Elements.{Contains-append_left, Contains-push}
 use Rattle.std.proofs.lemmas.Map.Keys.{IsStrictlyIncreasing-from_sorted}
 use Rattle.udfs_lattice.specs.TableLaws.{eq_by_cmp-nat}
-use Rattle.udfs_lattice.specs.Volumes.{Includes, ascending, insert_once}
-use Rattle.udfs_lattice.proofs.PublicLaws.{ascending_includes}
+use Rattle.udfs_lattice.specs.Volumes.{ascending, insert_once}
+use Rattle.udfs_lattice.proofs.Inclusion.{Includes, included, contained, in_nothing}
+use Rattle.udfs_lattice.proofs.PublicLaws.{ascending_contains}
 use Rattle.udfs_volume.specs.Seen.{IsRising}
 use Rattle.udfs_volume.proofs.PublicLaws.{ascending_rises}
 use Rattle.udfs_tag.specs.declared.layouts.LongAd.{LongAd}
@@ -38,13 +40,14 @@ module _ {X : Type 0} where
       go rest Greater (inl j) = inr (inl j)
       go rest Greater (inr j) = ⊎_elim (λ is. inl is) (λ later. inr (inr later)) (rest j)
 
-  pub keys_within : (old new : BTreeMap ℕ X) (k : ℕ) (x : X) (icbs : List ℕ) → new.entries ≡ insert_entry nat_cmp old.entries k x → Includes icbs k
+  pub keys_within : (old new : BTreeMap ℕ X) (k : ℕ) (x : X) (icbs : List ℕ) → new.entries ≡ insert_entry nat_cmp old.entries k x → Contains icbs k
       → AreWithin (keys old) icbs → AreWithin (keys new) icbs
   keys_within old new k x icbs e at w n i =
-      ⊎_elim (λ is. subst (Includes icbs) is at) (w n) (inserted old.entries k x n (subst (λ es. Includes (keys_of es) n) e i))
+      ⊎_elim (λ is. subst (Contains icbs) is at) (λ j. w n (contained (keys old) n j))
+      (inserted old.entries k x n (included (keys_of (insert_entry nat_cmp old.entries k x)) n (subst (λ es. Contains (keys_of es) n) e i)))
 
 -- what a walk found is kept
-pub counted_kept : (start : ℕ) (icbs : List ℕ) (old new : Memo) (k before after : ℕ) (x : Kept) → Includes icbs k → new.kept.entries ≡ insert_entry nat_cmp old.kept.entries k x
+pub counted_kept : (start : ℕ) (icbs : List ℕ) (old new : Memo) (k before after : ℕ) (x : Kept) → Contains icbs k → new.kept.entries ≡ insert_entry nat_cmp old.kept.entries k x
     → btree_map_len new.kept ≡ btree_map_len old.kept + 1 → IsOrdered nat_cmp new.kept → after ≡ before + 1
     → IsCounted start icbs old before → IsCounted start icbs new after
 counted_kept start icbs old new k before after x at e more o one c = record {
@@ -54,43 +57,47 @@ counted_kept start icbs old new k before after x at e more o one c = record {
 }
 
 -- ---- no more are kept than there are
-rising_within : (xs zs : List ℕ) → IsRising xs → IsRising zs → AreWithin xs zs → length xs ≤ length zs
+-- `AreWithin` by the structure of the lists
+abbrev AreIncluded : List ℕ → List ℕ → Type 0
+AreIncluded ns icbs = (n : ℕ) → Includes ns n → Includes icbs n
+
+rising_within : (xs zs : List ℕ) → IsRising xs → IsRising zs → AreIncluded xs zs → length xs ≤ length zs
 rising_within [] zs r s w = omega arith
 rising_within (x ∷ xs) [] r s w = absurd (w x (inl refl))
 rising_within (x ∷ xs) (z ∷ zs) r s w = go (rising_within xs zs r.1 s.1) (rising_within (x ∷ xs) zs r s.1) (w x (inl refl))
   where
-    go : (AreWithin xs zs → length xs ≤ length zs) → (AreWithin (x ∷ xs) zs → length (x ∷ xs) ≤ length zs) → Includes (z ∷ zs) x → length (x ∷ xs) ≤ length (z ∷ zs)
+    go : (AreIncluded xs zs → length xs ≤ length zs) → (AreIncluded (x ∷ xs) zs → length (x ∷ xs) ≤ length zs) → Includes (z ∷ zs) x → length (x ∷ xs) ≤ length (z ∷ zs)
     go behind all (inl e) =
         let rest : (n : ℕ) → Includes xs n → Includes zs n = λ n i.
-        ⊎_elim (λ same. absurd (let above : x < n = r.0 n i in let none : ⊥ = omega (arith, above, same, e) in none)) (λ j. j) (w n (inr i)) in
+        ⊎_elim (λ same. absurd (let above : x < n = r.0 n (contained xs n i) in let none : ⊥ = omega (arith, above, same, e) in none)) (λ j. j) (w n (inr i)) in
         let fewer : length xs ≤ length zs = behind rest in
         omega (arith, fewer)
     go behind all (inr later) =
-        let low : z < x = s.0 x later in
+        let low : z < x = s.0 x (contained zs x later) in
         let rest : (n : ℕ) → Includes (x ∷ xs) n → Includes zs n = λ n i.
-        ⊎_elim (λ same. absurd (⊎_elim (λ is. let none : ⊥ = omega (arith, low, same, is) in none) (λ j. let above : x < n = r.0 n j in let none : ⊥ = omega (arith, low, same, above) in none) i)) (λ j. j) (w n i) in
+        ⊎_elim (λ same. absurd (⊎_elim (λ is. let none : ⊥ = omega (arith, low, same, is) in none) (λ j. let above : x < n = r.0 n (contained xs n j) in let none : ⊥ = omega (arith, low, same, above) in none) i)) (λ j. j) (w n i) in
         let fewer : length (x ∷ xs) ≤ length zs = all rest in
         omega (arith, fewer)
 
 -- there are fewer where one is missing
-rising_fewer : (xs zs : List ℕ) (k : ℕ) → IsRising xs → IsRising zs → AreWithin xs zs → Includes zs k → (Includes xs k → ⊥) → length xs < length zs
+rising_fewer : (xs zs : List ℕ) (k : ℕ) → IsRising xs → IsRising zs → AreIncluded xs zs → Includes zs k → (Includes xs k → ⊥) → length xs < length zs
 rising_fewer xs [] k r s w at none = absurd at
 rising_fewer [] (z ∷ zs) k r s w at none = omega arith
 rising_fewer (x ∷ xs) (z ∷ zs) k r s w at none = go (λ rest later. rising_fewer xs zs k r.1 s.1 rest later (λ i. none (inr i))) (w x (inl refl))
   where
     rest : z ≡ x → (n : ℕ) → Includes xs n → Includes zs n
-    rest e n i = ⊎_elim (λ same. absurd (let above : x < n = r.0 n i in let no : ⊥ = omega (arith, above, same, e) in no)) (λ j. j) (w n (inr i))
+    rest e n i = ⊎_elim (λ same. absurd (let above : x < n = r.0 n (contained xs n i) in let no : ⊥ = omega (arith, above, same, e) in no)) (λ j. j) (w n (inr i))
 
     all : z < x → (n : ℕ) → Includes (x ∷ xs) n → Includes zs n
-    all low n i = ⊎_elim (λ same. absurd (⊎_elim (λ is. let no : ⊥ = omega (arith, low, same, is) in no) (λ j. let above : x < n = r.0 n j in let no : ⊥ = omega (arith, low, same, above) in no) i)) (λ j. j) (w n i)
+    all low n i = ⊎_elim (λ same. absurd (⊎_elim (λ is. let no : ⊥ = omega (arith, low, same, is) in no) (λ j. let above : x < n = r.0 n (contained xs n j) in let no : ⊥ = omega (arith, low, same, above) in no) i)) (λ j. j) (w n i)
 
-    go : (AreWithin xs zs → Includes zs k → length xs < length zs) → Includes (z ∷ zs) x → length (x ∷ xs) < length (z ∷ zs)
+    go : (AreIncluded xs zs → Includes zs k → length xs < length zs) → Includes (z ∷ zs) x → length (x ∷ xs) < length (z ∷ zs)
     go behind (inl e) =
         let later : Includes zs k = ⊎_elim (λ first. absurd (none (inl (sym e ∙ first)))) (λ j. j) at in
         let fewer : length xs < length zs = behind (rest e) later in
         omega (arith, fewer)
     go behind (inr later) =
-        let fewer : length (x ∷ xs) ≤ length zs = rising_within (x ∷ xs) zs r s.1 (all (s.0 x later)) in
+        let fewer : length (x ∷ xs) ≤ length zs = rising_within (x ∷ xs) zs r s.1 (all (s.0 x (contained zs x later))) in
         omega (arith, fewer)
 
 inserted_length : (n : ℕ) (ms : List ℕ) → length (insert_once n ms) ≤ length ms + 1
@@ -112,7 +119,7 @@ ascending_length (n ∷ ns) =
 few_keys : {X : Type 0} (m : BTreeMap ℕ X) (icbs : List ℕ) → IsOrdered nat_cmp m → AreWithin (keys m) icbs → btree_map_len m ≤ length (ascending icbs)
 few_keys m icbs o w =
     let r : IsRising (keys m) = increasing_rises (keys m) (IsStrictlyIncreasing-from_sorted (keys m) o) in
-    let few : length (keys m) ≤ length (ascending icbs) = rising_within (keys m) (ascending icbs) r (ascending_rises icbs) (λ n i. (ascending_includes icbs n).1 (w n i)) in
+    let few : length (keys m) ≤ length (ascending icbs) = rising_within (keys m) (ascending icbs) r (ascending_rises icbs) (λ n i. included (ascending icbs) n ((ascending_contains icbs n).1 (w n (contained (keys m) n i)))) in
     let same : length (keys m) ≡ btree_map_len m = length-map m.entries (λ e. e.0) in
     omega (arith, few, same)
 
@@ -131,11 +138,11 @@ module _ {X : Type 0} where
       go later false is n (inl same) = (let z : true ≡ false = sym (same_number k e.0 (sym same)) ∙ is in let w : ⊥ = cc in w)
       go later false is n (inr j) = later n j
 
-fewer_keys : {X : Type 0} (m : BTreeMap ℕ X) (icbs : List ℕ) (k : ℕ) → IsOrdered nat_cmp m → AreWithin (keys m) icbs → Includes icbs k → get nat_cmp m k ≡ None → btree_map_len m < length (ascending icbs)
+fewer_keys : {X : Type 0} (m : BTreeMap ℕ X) (icbs : List ℕ) (k : ℕ) → IsOrdered nat_cmp m → AreWithin (keys m) icbs → Contains icbs k → get nat_cmp m k ≡ None → btree_map_len m < length (ascending icbs)
 fewer_keys m icbs k o w at none =
     let r : IsRising (keys m) = increasing_rises (keys m) (IsStrictlyIncreasing-from_sorted (keys m) o) in
-    let few : length (keys m) < length (ascending icbs) = rising_fewer (keys m) (ascending icbs) k r (ascending_rises icbs) (λ n i. (ascending_includes icbs n).1 (w n i))
-    ((ascending_includes icbs k).1 at) (not_found m.entries k none) in
+    let few : length (keys m) < length (ascending icbs) = rising_fewer (keys m) (ascending icbs) k r (ascending_rises icbs) (λ n i. included (ascending icbs) n ((ascending_contains icbs n).1 (w n (contained (keys m) n i))))
+    (included (ascending icbs) k ((ascending_contains icbs k).1 at)) (not_found m.entries k none) in
     let same : length (keys m) ≡ btree_map_len m = length-map m.entries (λ e. e.0) in
     omega (arith, few, same)
 
@@ -147,7 +154,7 @@ counted_once start icbs memo walks c =
     omega (arith, once, count)
 
 -- and one fewer where one of them is not kept
-pub counted_new : (start : ℕ) (icbs : List ℕ) (memo : Memo) (walks k : ℕ) → IsCounted start icbs memo walks → Includes icbs k → get nat_cmp memo.kept k ≡ None
+pub counted_new : (start : ℕ) (icbs : List ℕ) (memo : Memo) (walks k : ℕ) → IsCounted start icbs memo walks → Contains icbs k → get nat_cmp memo.kept k ≡ None
     → walks + 1 ≤ start + length (ascending icbs)
 counted_new start icbs memo walks k c at none =
     let fewer : btree_map_len memo.kept < length (ascending icbs) = fewer_keys memo.kept icbs k c.once c.within at none in
@@ -195,15 +202,6 @@ counted_step v root start nodes memo walks room after frames rest f w c e idle o
         omega (arith, once, left, one, few, one_more)
 
 -- ---- one node more
-includes_front : (xs ys : List ℕ) (n : ℕ) → Includes xs n → Includes (xs ++ ys) n
-includes_front [] ys n i = absurd i
-includes_front (x ∷ xs) ys n (inl e) = inl e
-includes_front (x ∷ xs) ys n (inr i) = inr (includes_front xs ys n i)
-
-includes_last : (xs : List ℕ) (y : ℕ) → Includes (xs ++ y ∷ []) y
-includes_last [] y = inl refl
-includes_last (x ∷ xs) y = inr (includes_last xs y)
-
 counted_wider : (start : ℕ) (icbs more : List ℕ) (memo : Memo) (walks : ℕ) → AreWithin icbs more → IsCounted start icbs memo walks → IsCounted start more memo walks
 counted_wider start icbs more memo walks w c = record {
   count = c.count;
@@ -215,13 +213,13 @@ icbs_more : (nodes more : List NodeFields) (node : NodeFields) → more ≡ node
 icbs_more nodes more node e = ap (map icb_key) e ∙ map-append icb_key nodes (node ∷ [])
 
 pub counted_more : (start : ℕ) (nodes more : List NodeFields) (node : NodeFields) (old new : Memo) (before after : ℕ) → more ≡ nodes ++ node ∷ []
-    → ((icbs : List ℕ) → Includes icbs (icb_key node) → IsCounted start icbs old before → IsCounted start icbs new after)
+    → ((icbs : List ℕ) → Contains icbs (icb_key node) → IsCounted start icbs old before → IsCounted start icbs new after)
     → IsCounted start (map icb_key nodes) old before → IsCounted start (map icb_key more) new after
 counted_more start nodes more node old new before after e step c =
     let now = icbs_more nodes more node e in
-    step (map icb_key more) (subst (λ icbs. Includes icbs (icb_key node)) (sym now) (includes_last (map icb_key nodes) (icb_key node)))
+    step (map icb_key more) (subst (λ icbs. Contains icbs (icb_key node)) (sym now) (Contains-push (map icb_key nodes) (icb_key node)))
     (counted_wider start (map icb_key nodes) (map icb_key more) old before
-    (λ n i. subst (λ icbs. Includes icbs n) (sym now) (includes_front (map icb_key nodes) (icb_key node ∷ []) n i)) c)
+    (λ n i. subst (λ icbs. Contains icbs n) (sym now) (Contains-append_left (map icb_key nodes) (icb_key node ∷ []) n i)) c)
 
 -- ---- nothing is kept yet
 empty_ordered : {X : Type 0} (m : BTreeMap ℕ X) → IsEmpty m → IsOrdered nat_cmp m
@@ -229,7 +227,7 @@ unfolding IsStrictlySortedBy
 empty_ordered m e = subst (λ es. IsStrictlySortedBy nat_cmp (keys_of es)) (sym e) tt
 
 empty_within : {X : Type 0} (m : BTreeMap ℕ X) (icbs : List ℕ) → IsEmpty m → AreWithin (keys m) icbs
-empty_within m icbs e n i = absurd (subst (λ es. Includes (keys_of es) n) e i)
+empty_within m icbs e n i = in_nothing n (subst (λ es. Contains (keys_of es) n) e i)
 
 pub counted_none : (start : ℕ) (memo : Memo) → IsEmpty memo.kept → IsCounted start [] memo start
 counted_none start memo e = record {

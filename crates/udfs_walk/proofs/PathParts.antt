@@ -1,8 +1,8 @@
 -- The names in the path of a node are those of entries, so they can stand in a path.
 use Rattle.std.proofs.Common.{◌≡◌, refl, sym, subst, inl, inr, ◌⊎◌, ℕ, Bool, true, false, List, [], ◌∷◌, ◌++◌, cond, ◌||◌, map, Option, Some, None, slice_get}
-use Rattle.std.specs.Prelude.{zero, suc}
+use Rattle.std.specs.Prelude.{zero, suc, Contains}
 use Rattle.std.specs.List.{AllZip}
-use Rattle.udfs_lattice.specs.Volumes.{Includes}
+use Rattle.udfs_lattice.proofs.Inclusion.{Includes, included, contained}
 use Rattle.udfs_osta.specs.Escapes.{escaped}
 use Rattle.udfs_osta.specs.Parts.{IsPathPart}
 use Rattle.udfs_tag.specs.declared.layouts.LongAd.{LongAd}
@@ -36,7 +36,7 @@ in_either (y ∷ xs) ys x (inr i) = go (in_either xs ys x i)
 
 -- ---- the entries to which a route goes on
 good_in : (b : Body) (d : DirEntry) → Includes (entries_in b) d → IsGood d.name
-good_in (cells cs) d i = names_are_parts cs d i
+good_in (cells cs) d i = names_are_parts cs d (contained (entries_in (cells cs)) d i)
 good_in (faulty_body f) d i = absurd i
 
 good_kind : (k : Kind) (b : Body) (d : DirEntry) → Includes (kind_entries k b) d → IsGood d.name
@@ -103,4 +103,4 @@ good_nodes v root (r ∷ rs) (w ∷ ws) each n (inl same) = subst (λ z. AreGood
 good_nodes v root (r ∷ rs) (w ∷ ws) each n (inr i) = good_nodes v root rs ws each.1 n i
 
 pub paths_have_parts : PathsHaveParts
-paths_have_parts v root nodes are n i = good_nodes v root are.walk.routes are.walks are.walk.each n (subst (λ z. Includes z n) are.is i)
+paths_have_parts v root nodes are n i part c = good_nodes v root are.walk.routes are.walks are.walk.each n (included (map (node v) are.walks) n (subst (λ z. Contains z n) are.is i)) part (included n.path part c)

@@ -1,7 +1,7 @@
 -- The order of words: routes in order are told by which they are.
 use Rattle.std.proofs.Common.{◌≡◌, refl, sym, ◌∙◌, ap, subst, inl, inr, ◌⊎◌, ℕ, ◌≤◌, List, [], ◌∷◌, ◌++◌, length, map, arith}
 use Rattle.std.specs.Prelude.{⊤, suc}
-use Rattle.udfs_lattice.specs.Volumes.{Includes}
+use Rattle.udfs_lattice.proofs.Inclusion.{Includes}
 use Rattle.udfs_walk.specs.Routes.{Route, IsBefore, IsInOrder}
 
 pub before_trans : (a b c : Route) → IsBefore a b → IsBefore b c → IsBefore a c

@@ -1,7 +1,7 @@
 -- A route stands once among routes that are in order.
 use Rattle.std.proofs.Common.{◌≡◌, ap, subst, inl, inr, ℕ, List, [], ◌∷◌, Some, slice_get}
 use Rattle.std.specs.Prelude.{zero, suc}
-use Rattle.udfs_lattice.specs.Volumes.{Includes}
+use Rattle.udfs_lattice.proofs.Inclusion.{Includes}
 use Rattle.udfs_walk.specs.Laws.{RoutesStandOnce}
 use Rattle.udfs_walk.specs.Routes.{Route}
 use Rattle.udfs_walk.proofs.RouteOrder.{AreOrdered, ordered, before_none}

@@ -1,9 +1,10 @@
 -- Nodes that are settled last are what is told of the ends of their routes.
-use Rattle.std.proofs.Common.{◌≡◌, refl, sym, ◌∙◌, ap, subst, inl, inr, ℕ, ◌+◌, ◌<◌, ◌≤◌, Bool, true, false, List, [], ◌∷◌, ◌++◌, ◌&&◌, length, map, cond, nat_le, arith, take, drop, set, get_or}
-use Rattle.std.specs.Prelude.{zero, suc}
+use Rattle.std.proofs.Common.{◌≡◌, refl, sym, ◌∙◌, ap, subst, ℕ, ◌+◌, ◌<◌, ◌≤◌, Bool, true, false, List, [], ◌∷◌, ◌++◌, ◌&&◌, length, map, cond, nat_le, arith, take, drop, set, get_or}
+use Rattle.std.specs.Prelude.{zero, suc, Contains}
 use Rattle.std.proofs.lemmas.List.{get_or_default, length-map, map-append, take-append-drop, take_at}
 use Rattle.std.proofs.lemmas.List.Edits.{map_over_more}
-use Rattle.udfs_lattice.specs.Volumes.{Includes, ascending}
+use Rattle.udfs_lattice.specs.Volumes.{ascending}
+use Rattle.udfs_lattice.proofs.Inclusion.{here, there}
 use Rattle.udfs_tag.specs.Fields.{number_of}
 use Rattle.udfs_tag.specs.declared.layouts.LongAd.{LongAd}
 use Rattle.udfs_space.specs.Places.{View}
@@ -106,13 +107,13 @@ keys_stay v old new i e = ap (map icb_key) e ∙ map-append icb_key (map (settle
     ∙ sym (map-append icb_key (take i old) (drop i old)) ∙ ap (map icb_key) (take-append-drop i old)
 
 -- the one that is gone to is among them
-has_key : (ns : List NodeFields) (i : ℕ) (d : NodeFields) → i < length ns → Includes (map icb_key ns) (icb_key (get_or ns i d))
+has_key : (ns : List NodeFields) (i : ℕ) (d : NodeFields) → i < length ns → Contains (map icb_key ns) (icb_key (get_or ns i d))
 has_key [] i d h = absurd (let z : ⊥ = omega (arith, h) in z)
-has_key (m ∷ ns) zero d h = inl refl
-has_key (m ∷ ns) (suc i) d h = inr (has_key ns i d (omega (arith, h)))
+has_key (m ∷ ns) zero d h = here (icb_key m) (map icb_key ns)
+has_key (m ∷ ns) (suc i) d h = there (icb_key m) (map icb_key ns) (icb_key (get_or ns i d)) (has_key ns i d (omega (arith, h)))
 
-pub key_within : (v : View) (old new : List NodeFields) (i : ℕ) (d : NodeFields) → i < length new → new ≡ map (settled v) (take i old) ++ drop i old → Includes (map icb_key old) (icb_key (get_or new i d))
-key_within v old new i d h e = subst (λ ks. Includes ks (icb_key (get_or new i d))) (keys_stay v old new i e) (has_key new i d h)
+pub key_within : (v : View) (old new : List NodeFields) (i : ℕ) (d : NodeFields) → i < length new → new ≡ map (settled v) (take i old) ++ drop i old → Contains (map icb_key old) (icb_key (get_or new i d))
+key_within v old new i d h e = subst (λ ks. Contains ks (icb_key (get_or new i d))) (keys_stay v old new i e) (has_key new i d h)
 
 -- and when it is settled too, one more is
 pub settled_more : (v : View) (old new : List NodeFields) (i : ℕ) (d n : NodeFields) → i < length old → i < length new → new ≡ map (settled v) (take i old) ++ drop i old → n ≡ settled v (get_or new i d)

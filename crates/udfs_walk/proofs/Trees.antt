@@ -4,7 +4,7 @@ use Rattle.std.proofs.Common.{◌≡◌, refl, sym, ◌∙◌, ap, subst, inl, i
 use Rattle.std.specs.Prelude.{zero, suc, IsSome, flat_map}
 use Rattle.std.specs.List.{AllZip}
 use Rattle.std.proofs.lemmas.Bool.{leb-true, leb-false, le-leb}
-use Rattle.udfs_lattice.specs.Volumes.{Includes}
+use Rattle.udfs_lattice.proofs.Inclusion.{Includes, included, contained}
 use Rattle.udfs_tag.specs.declared.layouts.LongAd.{LongAd}
 use Rattle.udfs_space.specs.Places.{View}
 use Rattle.udfs_file.specs.declared.directories.DirEntry.{DirEntry}
@@ -174,7 +174,7 @@ unfolding tree walked
 tree_walk v root = record {
   routes = routes 64 v (at_root root);
   in_order = in_order (routes 64 v (at_root root)) (ordered_routes 64 v (at_root root));
-  all = λ r h. let x = some_of (walk_from v (at_root root) r) h in all_routes 64 v (at_root root) r x.0 (omega arith) x.1;
+  all = λ r h. let x = some_of (walk_from v (at_root root) r) h in contained (routes 64 v (at_root root)) r (all_routes 64 v (at_root root) r x.0 (omega arith) x.1);
   each = lead_down 64 v (at_root root);
 }
 
@@ -195,7 +195,7 @@ unfolding tree walked
 tree_more v root count h = record {
   routes = routes 64 v (at_root root);
   in_order = in_order (routes 64 v (at_root root)) (ordered_routes 64 v (at_root root));
-  lead = lead_one v (at_root root) (routes 64 v (at_root root)) (down 64 v (at_root root)) (lead_down 64 v (at_root root));
+  lead = λ r i. lead_one v (at_root root) (routes 64 v (at_root root)) (down 64 v (at_root root)) (lead_down 64 v (at_root root)) r (included (routes 64 v (at_root root)) r i);
   more = let e : length (routes 64 v (at_root root)) ≡ length (down 64 v (at_root root)) = lead_length v (at_root root) (routes 64 v (at_root root)) (down 64 v (at_root root)) (lead_down 64 v (at_root root)) in
       subst (λ n. count < n) (sym e) h;
 }
@@ -215,13 +215,13 @@ pub only_walk : (v : View) (root : LongAd) (ws xs : List Walked) → IsWalk v ro
 unfolding walked
 only_walk v root ws xs p q =
     let e : p.routes ≡ q.routes = same_routes p.routes q.routes (ordered p.routes p.in_order) (ordered q.routes q.in_order)
-    (λ n i. q.all n (lead_one v (at_root root) p.routes ws p.each n i)) (λ n i. p.all n (lead_one v (at_root root) q.routes xs q.each n i)) in
+    (λ n i. included q.routes n (q.all n (lead_one v (at_root root) p.routes ws p.each n i))) (λ n i. included p.routes n (p.all n (lead_one v (at_root root) q.routes xs q.each n i))) in
     same_ends v (at_root root) q.routes ws xs (subst (λ rs. LeadTo v (at_root root) rs ws) e p.each) q.each
 
 pub not_more : (v : View) (root : LongAd) (ws : List Walked) (count : ℕ) → IsWalk v root ws → length ws ≤ count → HasMoreRoutes v root count → ⊥
 unfolding walked
 not_more v root ws count p h m =
-    let few : length m.routes ≤ length p.routes = fewer_routes p.routes m.routes (ordered m.routes m.in_order) (ordered p.routes p.in_order) (λ n i. p.all n (m.lead n i)) in
+    let few : length m.routes ≤ length p.routes = fewer_routes p.routes m.routes (ordered m.routes m.in_order) (ordered p.routes p.in_order) (λ n i. included p.routes n (p.all n (m.lead n (contained m.routes n i)))) in
     let same : length p.routes ≡ length ws = lead_length v (at_root root) p.routes ws p.each in
     let more = m.more in
     omega (arith, few, same, h, more)

@@ -1,4 +1,4 @@
--- Nodes and entries of which the blocks and the holes of torn ones were let go, and are found again where they are reported.
+-- Nodes and entries of which the blocks and the holes of torn ones were dropped, and are found again where they are reported.
 --     bare_standing standing                the standing without the blocks and the holes
 --     lists_at view a              what is missing of what an address leads to
 --     full_node view n             the node with what is missing of it
@@ -48,7 +48,7 @@ target_lists view a (bad f) = no_lists
 target_lists view a (unread n) = record { missing = n ∷ []; holes = [] }
 target_lists view a (entry e) = body_lists (body view a.reference a.block e)
 
--- what is missing of what stands at an address
+-- what is missing of what an address leads to
 unfoldable pub lists_at : View → LongAd → TornFields
 lists_at view a = target_lists view a (target view a)
 

@@ -2,10 +2,10 @@
 --     icbs_of nodes                         the information control blocks of nodes, each once
 --     IsCounted start icbs memo walks       each walk so far left what it found, and at these information control blocks alone
 --     IsWithinTaken icbs taken              the next node has one of these
-use Rattle.std.specs.Prelude.{◌≡◌, ◌+◌, ℕ, ⊤, List, Option, Some, None, map}
+use Rattle.std.specs.Prelude.{◌≡◌, ◌+◌, ℕ, ⊤, List, Option, Some, None, map, Contains}
 use Rattle.std.specs.BTreeMap.{IsOrdered, btree_map_len, keys}
 use Rattle.std.specs.Ordering.{nat_cmp}
-use Rattle.udfs_lattice.specs.Volumes.{Includes, ascending}
+use Rattle.udfs_lattice.specs.Volumes.{ascending}
 use Rattle.udfs_tag.specs.Fields.{number_of}
 use Rattle.udfs_walk.specs.NodeFields.{NodeFields}
 use Rattle.udfs_walk.specs.Targets.{icb_of}
@@ -21,7 +21,7 @@ icbs_of nodes = ascending (map icb_key nodes)
 
 -- all numbers of one list are in another
 abbrev pub AreWithin : List ℕ → List ℕ → Type 0
-AreWithin ns icbs = (n : ℕ) → Includes ns n → Includes icbs n
+AreWithin ns icbs = (n : ℕ) → Contains ns n → Contains icbs n
 
 -- as many walks were made since the start as entries are kept, each at one of these information control blocks
 pub record IsCounted (start : ℕ) (icbs : List ℕ) (memo : Memo) (walks : ℕ) : Type 0 where
@@ -32,4 +32,4 @@ pub record IsCounted (start : ℕ) (icbs : List ℕ) (memo : Memo) (walks : ℕ)
 -- the node that was gone to, if one was, has one of these information control blocks
 abbrev pub IsWithinTaken : {F : Type 0} → List ℕ → Option (NodeFields × F) → Type 0
 IsWithinTaken icbs None = ⊤
-IsWithinTaken icbs (Some taken) = Includes icbs (icb_key taken.0)
+IsWithinTaken icbs (Some taken) = Contains icbs (icb_key taken.0)

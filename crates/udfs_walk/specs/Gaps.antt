@@ -14,12 +14,12 @@ pub record GapFields : Type 0 where
   pub start : ℕ
   pub grown : ℕ
 
--- a run, if it has cells, and those behind it
+-- a run, if it has cells, and those after it
 abbrev pub closed : ℕ → ℕ → List (ℕ × ℕ) → List (ℕ × ℕ)
 closed start zero runs = runs
 closed start (suc grown) runs = (start, suc grown) ∷ runs
 
--- the runs in cells behind a run that may grow
+-- the runs from a run that may grow on, with the cells after it
 abbrev pub runs_open : ℕ → ℕ → List Cell → List (ℕ × ℕ)
 runs_open start grown rest = runs_from start (replicate grown (Gap 0) ++ rest)
 
@@ -28,7 +28,7 @@ pub record IsPassed (whole rest : List Cell) (g : GapFields) : Type 0 where
   pub blocks : ascending (missing_blocks whole) ≡ ascending (g.missing ++ missing_blocks rest)
   pub runs : runs_from 0 whole ≡ g.holes ++ runs_open g.start g.grown rest
 
--- of these cells those in front were gone through, and the rest is left
+-- the cells before the rest were gone through, and the rest is left
 unfoldable pub Leaves : List Cell → List Cell → GapFields → GapFields → Type 0
 Leaves cs rest old new = (whole later : List Cell) → IsPassed whole (cs ++ later) old → IsPassed whole (rest ++ later) new
 

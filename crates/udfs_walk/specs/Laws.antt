@@ -1,11 +1,10 @@
 -- What holds of every walk, and of the nodes at its ends.
 --     SomeWalk, OnlyWalk                   every volume has a walk, and only one
 --     NoMoreRoutes, MoreRoutes             it has as many routes as the walk has ends
---     RoutesStandOnce                      routes in order stand there once each
---     PathsHaveParts                       what stands between two `/` of a node's path
---     NodeCells                            a node with a body has the cells that stand at the end of its route
-use Rattle.std.specs.Prelude.{◌≡◌, ◌<◌, ◌≤◌, ⊤, ℕ, List, length, Option, Some, None, slice_get}
-use Rattle.udfs_lattice.specs.Volumes.{Includes}
+--     RoutesStandOnce                      each route occurs once among routes in order
+--     PathsHaveParts                       what is between two `/` of a node's path is a valid path component
+--     NodeCells                            a node with a body has the cells that are at the end of its route
+use Rattle.std.specs.Prelude.{◌≡◌, ◌<◌, ◌≤◌, ⊤, ℕ, List, length, Option, Some, None, slice_get, Contains}
 use Rattle.udfs_osta.specs.Escapes.{escaped}
 use Rattle.udfs_osta.specs.Parts.{IsPathPart}
 use Rattle.udfs_tag.specs.declared.layouts.LongAd.{LongAd}
@@ -34,7 +33,7 @@ NoMoreRoutes = (view : View) (root : LongAd) (walks : List Walked) (count : ℕ)
 abbrev pub MoreRoutes : Type 0
 MoreRoutes = (view : View) (root : LongAd) (walks : List Walked) (count : ℕ) → IsWalk view root walks → count < length walks → HasMoreRoutes view root count
 
--- a route stands once among routes that are in order
+-- a route occurs once among routes that are in order
 abbrev pub RoutesStandOnce : Type 0
 RoutesStandOnce = (routes : List Route) (i j : ℕ) (route : Route) → IsInOrder routes → slice_get routes i ≡ Some route → slice_get routes j ≡ Some route → i ≡ j
 
@@ -46,13 +45,13 @@ HasBody (Torn torn) (Some size) = ⊤
 HasBody Loop size = ⊥
 HasBody (Fault f) size = ⊥
 
--- the node at a place of the list stands at the end of the route there; if it has a body, that has cells
+-- a listed node with a body has the address at the end of the route with the same index, and the body there has cells
 abbrev pub NodeCells : Type 0
 NodeCells = (view : View) (root : LongAd) (nodes : List NodeFields) (are : AreNodes view root nodes) (index : ℕ) (n : NodeFields)
     → slice_get nodes index ≡ Some n → HasBody n.standing n.size
     → (end : Walked) × (slice_get are.walks index ≡ Some end) × (n.icb ≡ end.address) × ((cs : List Cell) × HasCells view end.address cs)
 
--- each part of the path of a node, in its escaped form, can stand in a path
+-- each part of the path of a node, in its escaped form, is a valid path component
 abbrev pub PathsHaveParts : Type 0
-PathsHaveParts = (view : View) (root : LongAd) (nodes : List NodeFields) → AreNodes view root nodes → (n : NodeFields) → Includes nodes n
-    → (part : List ℕ) → Includes n.path part → IsPathPart (escaped part)
+PathsHaveParts = (view : View) (root : LongAd) (nodes : List NodeFields) → AreNodes view root nodes → (n : NodeFields) → Contains nodes n
+    → (part : List ℕ) → Contains n.path part → IsPathPart (escaped part)

@@ -1,5 +1,5 @@
 -- What is kept of entries, each by the number of its information control block.
---     word_of standing, standing_of word     a standing without its blocks and holes, in a word and again
+--     word_of standing, standing_of word     a standing without its blocks and holes, as a `Word` and back
 --     known_of kind body                     what is kept of an entry of this kind with this body
 --     known_standing is_deep known           the standing that is kept
 --     HasWords view memo                     what is known of each entry is what its body says
@@ -27,21 +27,21 @@ use Rattle.udfs_walk.specs.declared.memos.Word.TheVariants as word
 use Rattle.udfs_walk.specs.declared.standings.Standing.{Standing}
 use Rattle.udfs_walk.specs.declared.standings.Standing.TheVariants.{Whole, Torn, Loop, Fault}
 
--- a standing in a word
+-- a standing as a `Word`, without its blocks and holes
 abbrev pub word_of : Standing → Word
 word_of Whole = word.Whole
 word_of (Torn torn) = word.Torn
 word_of Loop = word.Loop
 word_of (Fault f) = word.Fault f
 
--- the standing of a word, without blocks and holes
+-- the standing of a `Word`, without blocks and holes
 abbrev pub standing_of : Word → Standing
 standing_of word.Whole = Whole
 standing_of word.Torn = Torn no_lists
 standing_of word.Loop = Loop
 standing_of (word.Fault f) = Fault f
 
--- the word of a directory with entries; one too deep to be entered has the fault Depth, unless it has another
+-- the `Word` of a directory with entries; one too deep to be entered has the fault Depth, unless it has another
 abbrev pub deep_word : Bool → Word → Word
 deep_word true word.Whole = word.Fault Depth
 deep_word true word.Torn = word.Fault Depth
@@ -57,7 +57,7 @@ known_of kind b = record { word = word_of (body_standing kind false b); lists = 
 abbrev pub known_standing : Bool → Known → Standing
 known_standing is_deep known = standing_of (deep_word (is_deep && known.lists) known.word)
 
--- what is kept by the number of an ICB is so for the bytes that stand there
+-- what is kept by the number of an ICB is so for the bytes that are known there
 abbrev pub AreKept : {X : Type 0} → View → (Icb → List ℕ → X → Type 0) → BTreeMap ℕ X → Type 0
 AreKept view IsSo kept = (icb : Icb) (bytes : List ℕ) (x : _) → icb.block < 4294967296 → IsStanding view icb.reference icb.block bytes
     → get nat_cmp kept (number_of icb) ≡ Some x → IsSo icb bytes x

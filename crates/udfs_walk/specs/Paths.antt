@@ -10,7 +10,7 @@ module _ {X Z : Type 0} where
   abbrev pub shared : List (Rc X Z) → List X
   shared names = map rc_value names
 
-  -- a list of the last name alone, or no name where there is none
+  -- a list of the last name alone; the empty list if there is no name
   abbrev pub own : Option (Rc X Z) → List X
   own None = []
   own (Some name) = rc_value name ∷ []

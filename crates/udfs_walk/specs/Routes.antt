@@ -3,9 +3,8 @@
 --     IsBefore, IsInOrder                 lexicographic order: a route comes before those that it begins
 --     IsWalk view root walks              all routes in that order
 --     HasMoreRoutes view root count       more than `count` routes lead anywhere
-use Rattle.std.specs.Prelude.{◌≡◌, ℕ, ◌<◌, bit_and, Bool, false, List, [], ◌∷◌, ◌++◌, length, cond, nat_le, ◌==◌, ◌||◌, ◌⊎◌, Option, Some, None, slice_get, IsSome, ⊤}
+use Rattle.std.specs.Prelude.{◌≡◌, ℕ, ◌<◌, bit_and, Bool, false, List, [], ◌∷◌, ◌++◌, length, cond, nat_le, ◌==◌, ◌||◌, ◌⊎◌, Option, Some, None, slice_get, IsSome, ⊤, Contains}
 use Rattle.std.specs.List.{list_any, AllZip}
-use Rattle.udfs_lattice.specs.Volumes.{Includes}
 use Rattle.udfs_tag.specs.declared.layouts.LongAd.{LongAd}
 use Rattle.udfs_space.specs.Places.{View}
 use Rattle.udfs_file.specs.Bodies.{Body, cells, faulty_body, body}
@@ -92,12 +91,12 @@ IsInOrder (r ∷ s ∷ rest) = IsBefore r s × IsInOrder (s ∷ rest)
 pub record IsWalk (view : View) (root : LongAd) (walks : List Walked) : Type 0 where
   pub routes : List Route
   pub in_order : IsInOrder routes
-  pub all : (route : Route) → IsSome (walked view root route) → Includes routes route
+  pub all : (route : Route) → IsSome (walked view root route) → Contains routes route
   pub each : AllZip (λ route w. walked view root route ≡ Some w) routes walks
 
 -- more than `count` routes lead anywhere
 pub record HasMoreRoutes (view : View) (root : LongAd) (count : ℕ) : Type 0 where
   pub routes : List Route
   pub in_order : IsInOrder routes
-  pub lead : (route : Route) → Includes routes route → IsSome (walked view root route)
+  pub lead : (route : Route) → Contains routes route → IsSome (walked view root route)
   pub more : count < length routes

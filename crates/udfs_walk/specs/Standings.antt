@@ -22,12 +22,12 @@ missing_blocks [] = []
 missing_blocks (Byte x holder ∷ cs) = missing_blocks cs
 missing_blocks (Gap n ∷ cs) = n ∷ missing_blocks cs
 
--- a missing cell at this place goes into the run that begins behind it, or is a run of its own
+-- a missing cell at offset `at` joins the run that begins right after it, or is a run of its own
 abbrev pub with_hole : ℕ → List (ℕ × ℕ) → List (ℕ × ℕ)
 with_hole at [] = (at, 1) ∷ []
 with_hole at (run ∷ runs) = cond (nat_eq run.0 (at + 1)) ((at, run.1 + 1) ∷ runs) ((at, 1) ∷ run ∷ runs)
 
--- the maximal runs of missing cells, each by its offset and length, where the first cell stands at this place
+-- the maximal runs of missing cells, each by its offset and length, where the first cell is at offset `at`
 abbrev pub runs_from : ℕ → List Cell → List (ℕ × ℕ)
 runs_from at [] = []
 runs_from at (Byte x holder ∷ cs) = runs_from (at + 1) cs
@@ -57,7 +57,7 @@ standing_or_fault (Some f) standing = Fault f
 abbrev pub directory_standing : Bool → List Cell → Standing
 directory_standing is_deep cs = standing_or_fault (fault_in (directory cs).rest) (depth_or is_deep (directory_entries cs) (cells_standing cs))
 
--- the standing of a directory, and of what is none
+-- the standing of a directory, and that of an entry of another kind
 abbrev pub kind_standing : Kind → Bool → List Cell → Standing
 kind_standing Directory is_deep cs = directory_standing is_deep cs
 kind_standing _ is_deep cs = cells_standing cs

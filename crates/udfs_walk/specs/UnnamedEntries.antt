@@ -33,13 +33,13 @@ unnamed_with view icb e = record {
   standing = body_standing e.kind false (body view icb.reference icb.block e);
 }
 
--- the entry that stands at an information control block, if it is a sound one
+-- the entry at an information control block, if it is a sound one
 abbrev pub entry_alone : View → Icb → Target → Option Unnamed
 entry_alone view icb (bad f) = None
 entry_alone view icb (unread n) = None
 entry_alone view icb (entry e) = Some (unnamed_with view icb e)
 
--- an entry stands there, and no node names it
+-- the entry there, if no node names it
 unfoldable pub unnamed_at : View → List NodeFields → Icb → Option Unnamed
 unnamed_at view nodes icb = cond (list_any (names view icb) nodes) None (entry_alone view icb (target view (address_of icb)))
 

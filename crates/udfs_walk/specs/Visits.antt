@@ -1,5 +1,5 @@
 -- The end of a route as code has it.
---     end_at address path above hidden       the same, put together
+--     end_at address path above hidden       the same, as a record
 --     AreRefused most entries error          why the entries are not returned
 --     AreListed kept entries                 the entries that are kept, if there are any
 use Rattle.std.specs.Prelude.{ℕ, ◌≡◌, ◌<◌, Bool, List, [], length, Option, Some, None, ⊤}
@@ -28,7 +28,7 @@ target_now (Fault f) = targets.bad f
 target_now (Unread n) = targets.unread n
 target_now (Entry bytes) = targets.entry (entry_of bytes)
 
--- an entry stands at the address
+-- where an address leads to an entry, its bytes are known there
 abbrev pub Stands : View → LongAd → Target → Type 0
 Stands view a (Fault f) = ⊤
 Stands view a (Unread n) = ⊤
@@ -39,9 +39,9 @@ abbrev pub AreRefused : ℕ → List DirEntry → NodesError → Type 0
 AreRefused most entries TooManyPaths = most < length entries
 AreRefused most entries OutOfMemory = ⊤
 
--- ---- the entries to which a route goes on, kept for all routes; where there are none they need not be kept
+-- ---- the entries to which a route goes on, kept for all routes; an empty list need not be kept
 module _ {Y Z : Type 0} where
-  -- these are the entries that were kept; where nothing was kept there is none
+  -- these are the entries that were kept; where nothing was kept the list is empty
   abbrev pub AreListed : Option (Rc (Vec DirEntry Y) Z) → List DirEntry → Type 0
   AreListed None entries = entries ≡ []
   AreListed (Some kept) entries = kept.value.items ≡ entries

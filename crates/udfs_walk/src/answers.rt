@@ -17,7 +17,7 @@ use udfs_tag::{LbAddr, LongAd};
 pub struct Node {
     /// The names on the way from the root, whose own path is empty.
     pub path: Path,
-    /// Where its information control block is said to stand.
+    /// The recorded address of its information control block.
     pub icb: LongAd,
     /// Its kind.
     pub kind: Kind,
@@ -52,7 +52,7 @@ impl Model for Node {
 pub struct Unnamed {
     /// The partition reference.
     pub reference: u16,
-    /// The logical block in which it stands.
+    /// The logical block that holds it.
     pub block: u32,
     /// Its kind.
     pub kind: Kind,
@@ -69,7 +69,7 @@ impl Unnamed {
     ghost use Rattle.udfs_walk.specs.Targets.{icb_at};
     ghost use Rattle.udfs_walk.specs.UnnamedEntries.{address_of};
 
-    /// Where its information control block stands.
+    /// The address of its information control block.
     pub fn address(&self) -> LbAddr
         ensures { result ≡ icb_at self.now.reference self.now.block }
     {
@@ -92,7 +92,7 @@ impl Unnamed {
 pub enum NodesError {
     /// More than 65,536 routes lead from the root to a node.
     TooManyPaths,
-    /// Memory was refused.
+    /// Memory ran out.
     OutOfMemory,
 }
 

@@ -26,7 +26,7 @@ pub(crate) fn no_lists(alloc: Global) -> Torn
     }
 }
 
-/// What is missing where an entry stands in a block that is not known.
+/// What is missing where the block of an entry is not known.
 fn one_block(alloc: Global, n: u32) -> Result<Torn, AllocError>
     ensures { IfOk result (λ torn. torn ≡ record { missing = n ∷ []; holes = [] }) }
 {
@@ -47,7 +47,7 @@ fn lists_of(alloc: Global, standing: Standing) -> Torn
     }
 }
 
-/// What is missing of the body of an entry that stands at an address.
+/// What is missing of the body of the entry at an address.
 fn entry_lists(
     alloc: Global,
     view: View<'_>,
@@ -87,12 +87,12 @@ fn lists_at(alloc: Global, view: View<'_>, address: LongAd) -> Result<Torn, Allo
     }
 }
 
-/// A standing with the blocks and the holes of the body that stands at an address, where it is torn. It is found anew, so
+/// A standing, with the blocks and the holes of the body of the entry at `address` if it is torn. They are found anew, so
 /// that the lists of one node alone have to be kept.
 ///
 /// # Errors
 ///
-/// Memory was refused.
+/// `AllocError` where memory runs out.
 pub fn full_standing(
     alloc: Global,
     view: View<'_>,
@@ -165,7 +165,7 @@ fn full_entry(alloc: Global, view: View<'_>, entry: Unnamed) -> Result<Unnamed, 
 ///
 /// # Errors
 ///
-/// Memory was refused.
+/// `AllocError` where memory runs out.
 pub fn full_nodes(alloc: Global, view: View<'_>, bare: Vec<Node>) -> Result<Vec<Node>, AllocError>
     ensures { IfOk result (λ full. full.items ≡ map (full_node (view_now view.entry)) bare.items) }
 {
@@ -180,7 +180,7 @@ pub fn full_nodes(alloc: Global, view: View<'_>, bare: Vec<Node>) -> Result<Vec<
 ///
 /// # Errors
 ///
-/// Memory was refused.
+/// `AllocError` where memory runs out.
 pub fn full_entries(
     alloc: Global,
     view: View<'_>,

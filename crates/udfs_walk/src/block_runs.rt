@@ -37,7 +37,7 @@ fn joined(alloc: Global, runs: &[BlockRun]) -> Result<Vec<BlockRun>, AllocError>
     Ok(joined)
 }
 
-/// Puts the blocks of a run behind the numbers.
+/// Appends the blocks of a run.
 fn push_blocks(numbers: &mut Vec<u32>, run: BlockRun) -> Result<(), AllocError>
     ensures { IfOk result (λ done. numbers.new.items ≡ numbers.old.items ++ run_blocks run) }
 {

@@ -144,7 +144,7 @@ pub(crate) fn cells_standing(
     Ok(standing)
 }
 
-/// Whether all cells of a body are known, without what is missing. It does not go on behind the first cell that is
+/// Whether all cells of a body are known: `Whole`, or `Torn` without its blocks and holes. It stops at the first cell that is
 /// missing, and takes no memory.
 pub(crate) fn bare_cells_standing(alloc: Global, view: View<'_>, body: &Body) -> Standing
     ensures { result ≡ bare_standing (cells_standing (cells_of (view_now view.entry) body.now)) }

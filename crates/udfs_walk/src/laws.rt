@@ -23,19 +23,19 @@ pub fn more_routes()
     ensures { MoreRoutes }
 {}
 
-/// Routes in the order of words stand there once each, so a place in the list of nodes is one route.
+/// Among routes in lexicographic order each occurs once, so an index in the list of nodes is one route.
 pub fn routes_stand_once()
     ensures { RoutesStandOnce }
 {}
 
-/// Each part of a node's path, in its escaped form, can stand in a path: it is not empty, not `.` or `..`, and has no `/` and no
-/// control.
+/// Each part of a node's path, in its escaped form, is a valid path component: it is not empty, not `.` or `..`, and has no `/` and
+/// no control character.
 pub fn paths_have_parts()
     ensures { PathsHaveParts }
 {}
 
-/// The node at a place of the list stands at the end of the route there, and has its address. Where it is whole, or torn and
-/// of known size, an entry without a fault is known there, whose body has cells.
+/// A listed node that is whole, or torn and of known size, has the address at the end of the route with the same index. An entry
+/// without a fault is known there, whose body has cells.
 pub fn node_has_cells()
     ensures { NodeCells }
 {}

@@ -1,6 +1,6 @@
 //! What the bodies of entries say, each found once for its information control block, whichever routes lead there.
 
-ghost use Rattle.std.specs.Prelude.{◌≡◌, ◌≤◌, ◌+◌, ℕ, List, IfErr, IfOk, IsSome, None, OnOk, Some, false, length};
+ghost use Rattle.std.specs.Prelude.{◌≡◌, ◌≤◌, ◌+◌, ℕ, List, IfErr, IfOk, IsSome, None, OnOk, Some, false, length, Contains};
 ghost use Rattle.std.specs.BTreeMap.{IsEmpty, IsOrdered, Updates, btree_map_len, get, insert_entry};
 ghost use Rattle.std.specs.Ordering.{nat_cmp};
 ghost use Rattle.udfs_tag.specs.Fields.{number_of};
@@ -12,7 +12,7 @@ ghost use Rattle.udfs_file.specs.declared.directories.DirEntry.{DirEntry};
 ghost use Rattle.udfs_walk.specs.Bare.{bare_standing};
 ghost use Rattle.udfs_walk.specs.Routes.{kind_entries};
 ghost use Rattle.udfs_walk.specs.Standings.{body_standing};
-ghost use Rattle.udfs_lattice.specs.Volumes.{Includes, ascending};
+ghost use Rattle.udfs_lattice.specs.Volumes.{ascending};
 ghost use Rattle.udfs_walk.specs.Visits.{AreListed, AreRefused, count_listed};
 ghost use Rattle.udfs_walk.specs.Counting.{IsCounted};
 ghost use Rattle.udfs_walk.specs.Memos.{HasWords, IsMemo, deep_word, known_of, known_standing, standing_of, word_of};
@@ -30,7 +30,7 @@ use udfs_file::{Entry, NodeFault};
 use udfs_space::View;
 use udfs_tag::LbAddr;
 
-/// A standing in a word: without the blocks and the holes.
+/// A standing without its blocks and holes.
 #[derive(Clone, Copy)]
 pub(crate) enum Word {
     /// Whole.
@@ -43,7 +43,7 @@ pub(crate) enum Word {
     Fault(NodeFault),
 }
 
-/// A standing in a word.
+/// A standing without its blocks and holes.
 fn in_a_word(standing: &Standing) -> Word
     ensures { result ≡ word_of standing.now }
 {
@@ -55,7 +55,7 @@ fn in_a_word(standing: &Standing) -> Word
     }
 }
 
-/// The word of a directory with entries. If it is too deep to be entered, it has the fault `Depth`, unless it has another.
+/// The standing of a directory that lists entries: the fault `Depth` if it is too deep to be entered and has no other fault.
 fn deep(word: Word, is_deep: bool) -> Word
     ensures { result ≡ deep_word is_deep word }
 {
@@ -173,7 +173,7 @@ impl Memo {
         ensures memo { IfOk result (λ told. IsMemo (view_now view.entry) self.new) }
         ensures again { IsSome (get nat_cmp self.old.kept (number_of address)) → walks.new ≡ walks.old }
         ensures once { walks.new ≤ walks.old + 1 }
-        ensures counted { IfOk result (λ told. (start : ℕ) (icbs : List ℕ) → Includes icbs (number_of address)
+        ensures counted { IfOk result (λ told. (start : ℕ) (icbs : List ℕ) → Contains icbs (number_of address)
             → IsCounted start icbs self.old walks.old → IsCounted start icbs self.new walks.new) }
     {
         let number = address.number();
@@ -206,9 +206,9 @@ impl Memo {
             (body (view_now view.entry) address.reference address.block (entry_of entry.now))) }
         ensures words { IfOk result (λ known. HasWords (view_now view.entry) self.new) }
         ensures again { IsSome (get nat_cmp self.old.kept (number_of address)) → walks.new ≡ walks.old }
-        ensures counted { IfOk result (λ known. (start : ℕ) (icbs : List ℕ) → Includes icbs (number_of address)
+        ensures counted { IfOk result (λ known. (start : ℕ) (icbs : List ℕ) → Contains icbs (number_of address)
             → IsCounted start icbs self.old walks.old → IsCounted start icbs self.new walks.new) }
-        ensures within { (start : ℕ) (icbs : List ℕ) → Includes icbs (number_of address)
+        ensures within { (start : ℕ) (icbs : List ℕ) → Contains icbs (number_of address)
             → IsCounted start icbs self.old walks.old → walks.new ≤ start + length (ascending icbs) }
     {
         let number = address.number();

@@ -1,4 +1,4 @@
-//! The body of what stands at an address.
+//! The body of the entry at an address.
 
 ghost use Rattle.std.specs.Prelude.{IfOk, List, MatchOption, OnErr};
 ghost use Rattle.udfs_space.specs.Views.{view_now};
@@ -17,7 +17,7 @@ use udfs_tag::LongAd;
 ///
 /// # Errors
 ///
-/// `AllocError` where memory is refused: never of a body without a byte that is not embedded.
+/// `AllocError` where memory runs out: never for an empty body that is not embedded.
 pub fn body_at(alloc: Global, view: View<'_>, address: LongAd) -> Result<Option<Body>, AllocError>
     ensures value { IfOk result (λ found. MatchOption found
         ((cs : List Cell) → ¬ HasCells (view_now view.entry) address cs)

@@ -14,7 +14,7 @@ pub(crate) type Names = Rc<Vec<Rc<Name>>>;
 /// The names on the way from the root to a node, whose own path has none.
 #[derive(Debug, Drop)]
 pub struct Path {
-    /// The names that lead to the directory in which the node stands.
+    /// The names that lead to the node's directory.
     folder: Rc<Vec<Rc<Name>>>,
     /// Its name there; the root has none.
     name: Option<Rc<Name>>,

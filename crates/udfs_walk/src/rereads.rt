@@ -16,7 +16,7 @@ use std::collections::BTreeSet;
 use udfs_osta::OutOfMemory;
 use udfs_space::View;
 
-/// Puts the blocks that are missing in a node behind the others.
+/// Appends the blocks that are missing in a node.
 fn push_missing(blocks: &mut Vec<u32>, standing: &Standing) -> Result<(), AllocError>
     ensures { IfOk result (λ done. blocks.new.items ≡ blocks.old.items ++ missing_of standing.now) }
 {
@@ -33,7 +33,7 @@ fn push_missing(blocks: &mut Vec<u32>, standing: &Standing) -> Result<(), AllocE
 ///
 /// # Errors
 ///
-/// Memory was refused.
+/// [`OutOfMemory`] where memory runs out.
 pub fn reread(alloc: Global, nodes: &[Node]) -> Result<Vec<u32>, OutOfMemory>
     ensures { IfOk result (λ blocks. blocks.items ≡ reread nodes.now) }
 {
@@ -45,7 +45,7 @@ pub fn reread(alloc: Global, nodes: &[Node]) -> Result<Vec<u32>, OutOfMemory>
     Ok(blocks)
 }
 
-/// How many blocks are gathered before those that stand twice are let go.
+/// The least number of gathered blocks at which repeated ones are dropped.
 const MOST_GATHERED: usize = 1_048_576;
 
 /// Drops repeated blocks if there are at least `most` blocks, and returns the least number at which to do so the next time.
@@ -70,8 +70,8 @@ fn lacks_blocks(standing: &Standing) -> bool
     }
 }
 
-/// Puts the blocks that are missing in a node behind the others, unless those at its ICB were put there already, and keeps
-/// the number of an ICB at which some are missing.
+/// Appends the blocks that are missing in a node, unless those at its ICB were appended already, and keeps the number of an
+/// ICB at which some are missing.
 fn gather(
     alloc: Global,
     view: View<'_>,
@@ -100,7 +100,7 @@ fn gather(
 ///
 /// # Errors
 ///
-/// Memory was refused.
+/// [`OutOfMemory`] where memory runs out.
 pub fn bare_reread(alloc: Global, view: View<'_>, nodes: &[Node]) -> Result<Vec<u32>, OutOfMemory>
     ensures { IfOk result (λ blocks. blocks.items ≡ reread (map (full_node (view_now view.entry)) nodes.now)) }
 {

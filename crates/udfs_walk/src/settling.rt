@@ -1,7 +1,7 @@
 //! The nodes to which 64 names lead, settled last of all: a shorter route may have led to the same bodies before.
 
-ghost use Rattle.std.specs.Prelude.{◌≡◌, ◌≤◌, ◌+◌, ℕ, List, OnOk, length, map};
-ghost use Rattle.udfs_lattice.specs.Volumes.{Includes, ascending};
+ghost use Rattle.std.specs.Prelude.{◌≡◌, ◌≤◌, ◌+◌, ℕ, List, OnOk, length, map, Contains};
+ghost use Rattle.udfs_lattice.specs.Volumes.{ascending};
 ghost use Rattle.udfs_space.specs.Views.{view_now};
 ghost use Rattle.udfs_walk.specs.Counting.{IsCounted, icb_key, icbs_of};
 ghost use Rattle.udfs_walk.specs.Memos.{HasWords};
@@ -17,7 +17,7 @@ use std::alloc::{AllocError, Global};
 use std::sync::ledger::Ledger;
 use udfs_space::View;
 
-/// Whether a node is to be settled: it stands as whole, and 64 names lead to it.
+/// Whether a node is still to be settled: it counts as whole, and 64 names lead to it.
 fn waits(node: &Node) -> bool
     ensures { result ≡ waits node.now }
 {
@@ -35,9 +35,9 @@ fn settle<L: Ledger>(
     requires { HasWords (view_now view) memo.old }
     ensures settled { OnOk result (node.new ≡ settled (view_now view.entry) node.old) }
     ensures words { OnOk result (HasWords (view_now view.entry) memo.new) }
-    ensures counted { OnOk result ((start : ℕ) (icbs : List ℕ) → Includes icbs (icb_key node.old)
+    ensures counted { OnOk result ((start : ℕ) (icbs : List ℕ) → Contains icbs (icb_key node.old)
         → IsCounted start icbs memo.old walks.old → IsCounted start icbs memo.new walks.new) }
-    ensures within { (start : ℕ) (icbs : List ℕ) → Includes icbs (icb_key node.old)
+    ensures within { (start : ℕ) (icbs : List ℕ) → Contains icbs (icb_key node.old)
         → IsCounted start icbs memo.old walks.old → walks.new ≤ start + length (ascending icbs) }
 {
     if !waits(node) {

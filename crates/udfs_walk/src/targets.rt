@@ -12,7 +12,7 @@ use udfs_lattice::Fact;
 use udfs_space::View;
 use udfs_tag::{LbAddr, LongAd};
 
-/// The recorded extent of one block at which an information control block stands.
+/// The recorded extent of one block that holds the information control block at `address`.
 pub(crate) fn entry_address(address: LbAddr) -> LongAd
     ensures { result ≡ address_of address }
 {
@@ -27,7 +27,7 @@ pub(crate) fn entry_address(address: LbAddr) -> LongAd
 /// What an address leads to.
 #[derive(Drop)]
 pub(crate) enum Target<'a> {
-    /// A fault of the address, or of the entry that stands there.
+    /// A fault of the address, or of the entry there.
     Fault(NodeFault),
     /// This block, which is not known.
     Unread(u32),
@@ -35,7 +35,7 @@ pub(crate) enum Target<'a> {
     Entry(Entry<'a>),
 }
 
-/// What stands at an address. It takes no memory.
+/// What an address leads to. It takes no memory.
 pub(crate) fn target_at<'a>(view: View<'a>, address: LongAd) -> Target<'a>
     ensures value { target_now result ≡ target (view_now view.entry) address }
     ensures stands { Stands (view_now view.entry) address result }

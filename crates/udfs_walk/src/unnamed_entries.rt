@@ -52,7 +52,7 @@ fn is_among(keys: &[u64], key: u64) -> bool
     }
 }
 
-/// Whether a number stands at this place of these.
+/// Whether `keys[at]` exists and is `key`.
 fn is_at(keys: &[u64], at: usize, key: u64) -> bool
     ensures { result ≡ true → list_any (nat_eq key) keys.now ≡ true }
 {
@@ -62,7 +62,7 @@ fn is_at(keys: &[u64], at: usize, key: u64) -> bool
     }
 }
 
-/// The first place, from this one on, of a number that is not below another; or that behind the last.
+/// Index of the first key >= `key` at or after `at`, or `keys.len()`. `at` is at most `keys.len()`.
 fn place_from(keys: &[u64], at: usize, key: u64) -> usize {
     let mut at = at;
     'passed: while let Some(passed) = keys.get(at) {
@@ -74,8 +74,8 @@ fn place_from(keys: &[u64], at: usize, key: u64) -> usize {
     at
 }
 
-/// The entry at a logical block, if one stands there and no name leads to it, without the blocks and the holes. Its number may
-/// stand among the keys at this place: then the block is not read, and else the number is looked up once an entry is found.
+/// The entry at a logical block, if there is one and no name leads to it, without the blocks and the holes. If `keys[at]` is
+/// its number, the block is not read. Otherwise the number is looked up in `keys` once an entry is found.
 fn unnamed_at<L: Ledger>(
     alloc: Global,
     view: View<'_>,
@@ -113,7 +113,7 @@ fn unnamed_at<L: Ledger>(
     }
 }
 
-/// Those in a partition, put behind the others, without the blocks and the holes.
+/// Appends those in a partition, without the blocks and the holes.
 fn push_unnamed<L: Ledger>(
     alloc: Global,
     view: View<'_>,
@@ -146,7 +146,7 @@ fn push_unnamed<L: Ledger>(
 ///
 /// # Errors
 ///
-/// Memory was refused.
+/// [`OutOfMemory`] where memory runs out.
 pub fn unnamed(
     alloc: Global,
     table: &BlockTable,
@@ -166,7 +166,7 @@ pub fn unnamed(
 ///
 /// # Errors
 ///
-/// Memory was refused.
+/// [`OutOfMemory`] where memory runs out.
 pub fn bare_unnamed(
     alloc: Global,
     view: View<'_>,
@@ -201,7 +201,7 @@ fn begun_unnamed<L: Ledger>(
 ///
 /// # Errors
 ///
-/// Memory was refused.
+/// `AllocError` where memory runs out.
 pub fn counted_unnamed<L: Ledger>(
     alloc: Global,
     view: View<'_>,

@@ -1,13 +1,12 @@
-//! One node: what stands at the end of a route.
+//! One node: what is at the end of a route.
 
-ghost use Rattle.std.specs.Prelude.{◌≤◌, ◌≡◌, [], ◌+◌, ◌||◌, ℕ, IfErr, IfOk, List, cond, false, length};
+ghost use Rattle.std.specs.Prelude.{◌≤◌, ◌≡◌, [], ◌+◌, ◌||◌, ℕ, IfErr, IfOk, List, cond, false, length, Contains};
 ghost use Rattle.std.specs.List.{list_any};
 ghost use Rattle.udfs_tag.specs.Fields.{number_of};
 ghost use Rattle.udfs_space.specs.Views.{view_now};
 ghost use Rattle.udfs_file.specs.Stretches.{IsStanding};
 ghost use Rattle.udfs_file.specs.Entries.{entry_of};
 ghost use Rattle.udfs_file.specs.Bodies.{body};
-ghost use Rattle.udfs_lattice.specs.Volumes.{Includes};
 ghost use Rattle.udfs_walk.specs.Bare.{bare_standing};
 ghost use Rattle.udfs_walk.specs.Counting.{IsCounted};
 ghost use Rattle.udfs_walk.specs.Memos.{IsMemo};
@@ -70,7 +69,7 @@ fn entry_told<L: Ledger>(
     ensures few { IfOk result (λ told. count_listed told.1 ≤ most) }
     ensures memo { IfOk result (λ told. IsMemo (view_now view.entry) memo.new) }
     ensures once { walks.new ≤ walks.old + 1 }
-    ensures counted { IfOk result (λ told. (start : ℕ) (icbs : List ℕ) → Includes icbs (number_of address)
+    ensures counted { IfOk result (λ told. (start : ℕ) (icbs : List ℕ) → Contains icbs (number_of address)
         → IsCounted start icbs memo.old walks.old → IsCounted start icbs memo.new walks.new) }
     ensures refused { IfErr result (AreRefused most (cond (is_loop || is_deep) [] (kind_entries (entry_of entry.now).kind
         (body (view_now view.entry) address.reference address.block (entry_of entry.now))))) }
@@ -85,7 +84,7 @@ fn entry_told<L: Ledger>(
     Ok(told)
 }
 
-/// What stands at the end of a route: its node, and the entries to which a route goes on.
+/// What is at the end of a route: its node, and the entries to which a route goes on.
 #[derive(Drop)]
 pub(crate) struct Visit {
     pub(crate) node: Node,
@@ -122,7 +121,7 @@ fn read(entry: &Entry<'_>, address: LongAd, path: Path, hidden: bool, standing: 
     }
 }
 
-/// What stands at the end of a route: the node is without the blocks and the holes, and not yet settled.
+/// What is at the end of a route: the node is without the blocks and the holes, and not yet settled.
 #[tactic(auto, unfolding(crate::specs::Unsettled::unsettled, crate::specs::Routes::entries_below))]
 pub(crate) fn visited<L: Ledger>(
     alloc: Global,
@@ -141,7 +140,7 @@ pub(crate) fn visited<L: Ledger>(
     ensures few { IfOk result (λ visit. count_listed visit.entries ≤ most) }
     ensures memo { IfOk result (λ visit. IsMemo (view_now view.entry) memo.new) }
     ensures once { walks.new ≤ walks.old + 1 }
-    ensures counted { IfOk result (λ visit. (start : ℕ) (icbs : List ℕ) → Includes icbs (number_of (icb_of address))
+    ensures counted { IfOk result (λ visit. (start : ℕ) (icbs : List ℕ) → Contains icbs (number_of (icb_of address))
         → IsCounted start icbs memo.old walks.old → IsCounted start icbs memo.new walks.new) }
     ensures refused { IfErr result (AreRefused most (entries_below (view_now view.entry) (end_at address path above.now hidden))) }
 {

@@ -1,10 +1,9 @@
-//! The walk over all routes, in the order of words.
+//! The walk over all routes, in lexicographic order.
 
-ghost use Rattle.std.specs.Prelude.{◌≡◌, ◌+◌, ◌≤◌, ◌∷◌, ℕ, List, [], ◌++◌, IfErr, IfOk, MatchOption, MatchResult, length, map};
+ghost use Rattle.std.specs.Prelude.{◌≡◌, ◌+◌, ◌≤◌, ◌∷◌, ℕ, List, [], ◌++◌, IfErr, IfOk, MatchOption, MatchResult, length, map, Contains};
 ghost use Rattle.udfs_lattice.specs.Tables.{state_of};
 ghost use Rattle.udfs_space.specs.Places.{view};
 ghost use Rattle.udfs_space.specs.Views.{view_now};
-ghost use Rattle.udfs_lattice.specs.Volumes.{Includes};
 ghost use Rattle.udfs_walk.specs.Bare.{full_node};
 ghost use Rattle.udfs_walk.specs.Counting.{IsCounted, IsWithinTaken, icb_key, icbs_of};
 ghost use Rattle.udfs_walk.specs.Memos.{IsMemo};
@@ -68,7 +67,7 @@ fn with_icb(alloc: Global, above: &[LbAddr], address: LbAddr) -> Result<Vec<LbAd
 }
 
 impl Frame {
-    /// Goes to what stands at the end of a route: its node, not yet settled, and itself as a directory, where a route goes on.
+    /// Enters the end of a route: returns its node, not yet settled, and itself as a directory, where a route goes on.
     fn enter<L: Ledger>(
         alloc: Global,
         view: View<'_>,
@@ -86,7 +85,7 @@ impl Frame {
         ensures few { IfOk result (λ entered. count_left entered.1 ≤ most) }
         ensures memo { IfOk result (λ entered. IsMemo (view_now view.entry) memo.new) }
         ensures once { walks.new ≤ walks.old + 1 }
-        ensures counted { IfOk result (λ entered. (start : ℕ) (icbs : List ℕ) → Includes icbs (icb_key entered.0)
+        ensures counted { IfOk result (λ entered. (start : ℕ) (icbs : List ℕ) → Contains icbs (icb_key entered.0)
             → IsCounted start icbs memo.old walks.old → IsCounted start icbs memo.new walks.new) }
         ensures refused { IfErr result (AreRefused most (entries_below (view_now view.entry) (end_at address path above.now hidden))) }
     {
@@ -145,7 +144,7 @@ impl Frame {
     }
 }
 
-/// Puts a directory, if there is one, behind the others.
+/// Appends a directory, if there is one.
 fn keep(frames: &mut Vec<Frame>, frame: Option<Frame>) -> Result<(), AllocError>
     ensures kept { IfOk result (λ done. frames.new.items ≡ frames_with frames.old.items frame) }
     ensures most { IfOk result (λ done. length frames.new.items ≤ length frames.old.items + 1) }
@@ -166,7 +165,7 @@ fn count_left(frame: &Option<Frame>) -> usize
     }
 }
 
-/// Puts a node behind the others.
+/// Appends a node.
 fn put(nodes: &mut Vec<Node>, node: Node) -> Result<(), AllocError>
     ensures { IfOk result (λ done. nodes.new.items ≡ nodes.old.items ++ node ∷ []) }
 {
@@ -174,16 +173,17 @@ fn put(nodes: &mut Vec<Node>, node: Node) -> Result<(), AllocError>
     Ok(())
 }
 
-/// The nodes of a volume, in the order of words: the root, and behind each directory its entries in their order,
-/// each with all that is below it. The root's address is the one that the file set names.
+/// The nodes of a volume, in lexicographic order of their routes: the root, and after each directory its entries in their
+/// order, each followed by all that is below it. The root's address is the one that the file set names.
 ///
 /// An entry that is a directory on its own path is a loop, and is not entered; nor is a directory with 64 names in
-/// its path. The body of an entry is read once for all of its nodes.
+/// its path. The walk reads the body of an entry at most once, however many routes lead there; the body of a torn node
+/// is then read again for its blocks and holes.
 ///
 /// # Errors
 ///
-/// [`NodesError::TooManyPaths`] exactly where more than 65,536 routes lead from the root to a node, and
-/// [`NodesError::OutOfMemory`] where memory was refused.
+/// [`NodesError::TooManyPaths`] where more than 65,536 routes lead from the root to a node, unless memory runs out before,
+/// and [`NodesError::OutOfMemory`] where memory runs out.
 pub fn nodes(
     alloc: Global,
     table: &BlockTable,

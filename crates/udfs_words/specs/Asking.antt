@@ -1,4 +1,4 @@
--- What the words of a command ask for.
+-- What the arguments of a command ask for.
 --     IsPicked words flag given absent picked     the one thing with the flag, and the other without it
 --     input_texts words                           the paths of the inputs that are files, in order
 --     asked_inputs words                          the inputs: all files, and then all pairs
@@ -9,9 +9,9 @@
 --     out_text words                              the path of the output
 --     is_mapped words, mapfile_text words         a mapfile is asked for, and its path
 --     folder_text words                           the path of the new folder
---     IsKnownProfile words                        the rules that are named, if any are, are those of a profile
---     IsUnknownProfile words name                 this name of rules is that of none
---     IsProfile words profile                     the rules by their name, and the strict ones where none is
+--     IsKnownProfile words                        the value of `--profile`, if one is given, names a profile
+--     IsUnknownProfile words name                 this is the value of `--profile`, and it names no profile
+--     IsProfile words profile                     the profile by its name, and the strict one where no name is given
 --     has_only words, only_texts words            paths of nodes are asked for, and which; or else that of the root
 --     has_manifest words, manifest_text words     a manifest is asked for, and its path
 --     has_lost words, lost_text words             a folder for lost files is asked for, and its path
@@ -19,8 +19,8 @@
 --     IsEndFault words fault                      what is wrong with how the end of the disc was given
 --     EndsMap end bytes                           these bytes are a mapfile whose runs end here
 --     MapsEndAt found end inputs                  all inputs are images whose mapfiles end here
---     IsLastOfSize size last                      the block with which a disc of this size ends; or 0, of which there is no report, where there is none
---     IsToldLast words last                       the number of the last block, or of that with which a disc of the size ends; or 0, where neither is a number
+--     IsLastOfSize size last                      the last block of a disc of this size; or 0, for which there is no report, where no disc has it
+--     IsToldLast words last                       the last block as given, or else `IsLastOfSize` of the size given; or 0, where neither is a number
 --     IsLast found inputs words last              the same, or where neither is given the block with which all mapfiles end
 use Rattle.std.specs.Prelude.{◌≡◌, ◌≢◌, ◌⊎◌, ℕ, ◌+◌, ◌*◌, ◌%◌, ◌^◌, ◌<◌, ◌&&◌, ◌||◌, Bool, false, is_some, List, [], ◌∷◌, ◌++◌, All, Option, Some, None, IfSome, Ok, codes, map, option_map, unwrap_or, if◌then◌else◌, true}
 use Rattle.std.specs.Str.{bytes_eq}
@@ -117,15 +117,15 @@ mapfile_text words = unwrap_or (first_value words (codes "mapfile")) []
 abbrev pub folder_text : Found → List ℕ
 folder_text words = unwrap_or (first_value words (codes "to")) []
 
--- no rules are named but those of a profile
+-- a name of a profile that is given is `strict` or `wide`
 abbrev pub IsKnownProfile : Found → Type 0
 IsKnownProfile words = (name : List ℕ) → first_value words (codes "profile") ≡ Some name → (name ≡ codes "strict") ⊎ (name ≡ codes "wide")
 
--- this is named, and it is no profile's
+-- this name of a profile is given, and it is neither `strict` nor `wide`
 abbrev pub IsUnknownProfile : Found → List ℕ → Type 0
 IsUnknownProfile words name = (first_value words (codes "profile") ≡ Some name) × (name ≢ codes "strict") × (name ≢ codes "wide")
 
--- the rules by their name, and the strict ones where none is given
+-- the profile by its name, and the strict one where no name is given
 pub record IsProfile (words : Found) (profile : Profile) : Type 0 where
   pub wide : first_value words (codes "profile") ≡ Some (codes "wide") → profile ≡ Wide
   pub strict : first_value words (codes "profile") ≡ Some (codes "strict") → profile ≡ Strict
@@ -135,7 +135,7 @@ pub record IsProfile (words : Found) (profile : Profile) : Type 0 where
 abbrev pub has_only : Found → Bool
 has_only words = is_some (matched_of words (codes "only"))
 
--- those paths, in order; where there are none, that of the root, which asks for all
+-- those paths, in order; where no path is given, that of the root, which asks for all
 abbrev pub only_texts : Found → List (List ℕ)
 only_texts words = unwrap_or (option_map raw_values (matched_of words (codes "only"))) (codes "/" ∷ [])
 

@@ -1,4 +1,4 @@
--- The words that the program takes, as clap has them: each argument by its name, and the commands with their arguments.
+-- The command line that the program takes, as clap has it: each argument by its name, and the commands with their arguments.
 use Rattle.std.specs.Prelude.{ℕ, Bool, true, false, not, Some, codes, pos}
 use Rattle.clap.specs.Words.{App, Rule, Text, new_app, new_rule, with_rule, with_subcommand}
 use Rattle.clap.specs.declared.builder.ArgAction.TheVariants.{Append, Set, SetTrue}
@@ -117,6 +117,6 @@ page_app given = with_inputs (with_rule (with_profile (codes "page") given.needs
 abbrev pub program : App
 program = record (new_app (codes "udfsalvage")) { top = record (new_app (codes "udfsalvage")).top { has_version = true; subcommand_required = true } }
 
--- the program, by what is found among the words
+-- the program, by what is found among the arguments before they are parsed
 abbrev pub program_app : Given → App
 program_app given = with_subcommand (with_subcommand (with_subcommand (with_subcommand (with_subcommand (with_subcommand (with_subcommand (with_subcommand (with_subcommand program (merge_app given.pairs).top) (report_app given).top) (reread_app given).top) (extract_app given).top) (forget_app given).top) (list_app given).top) (summary_app given).top) (image_app given).top) (page_app given).top

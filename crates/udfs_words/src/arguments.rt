@@ -56,7 +56,7 @@ pub fn force<'a>(alloc: Global) -> Arg<'a>
     )
 }
 
-/// An option with one value, which the usage shows by this word.
+/// An option with one value, for which the usage shows `value`.
 fn option<'a>(
     alloc: Global,
     name: &'a str,

@@ -1,4 +1,4 @@
-//! What the words of a command ask for: its inputs, its outputs and its flags.
+//! What the arguments of a command ask for: its inputs, its outputs and its flags.
 
 ghost use Rattle.std.specs.Prelude.{◌≡◌, ◌++◌, true, false, Some, None, IfOk, OnOk, codes, map};
 ghost use Rattle.clap.specs.Matches.{found_of, one_text};
@@ -44,7 +44,7 @@ fn push_streams<'a>(inputs: &mut Vec<InputPath<'a>>, paths: &[&'a str]) -> Resul
     Ok(())
 }
 
-/// Adds images, each with its mapfile behind it.
+/// Adds pairs of an image and its mapfile: `paths` holds each image, followed by its mapfile.
 #[tactic(auto, using(crate::proofs::AskingLemmas::one_more, crate::proofs::AskingLemmas::no_pair))]
 fn push_pairs<'a>(inputs: &mut Vec<InputPath<'a>>, paths: &[&'a str]) -> Result<(), AllocError>
     ensures { OnOk result (map asked_for inputs.new.items ≡ map asked_for inputs.old.items ++ pairs_of (map (λ path. path.now) paths.now)) }
@@ -83,21 +83,21 @@ pub fn asked_streams<'a>(
     Ok(inputs)
 }
 
-/// Whether the words ask to write over what is otherwise spared.
+/// Whether the arguments ask to write over what is otherwise spared: whether `--force` is given.
 pub fn asked_force(words: &ArgMatches<'_>) -> bool
     ensures { IsPicked (found_of words.now) (codes "force") true false result }
 {
     words.get_flag(FORCE)
 }
 
-/// The path of the output among the words, for which the grammar of its commands asks.
+/// The path that `--out` gives. The grammar of each command with this output requires it.
 pub fn asked_out<'a>(words: &ArgMatches<'a>) -> &'a str
     ensures { result.now ≡ out_text (found_of words.now) }
 {
     words.get_str(OUT).unwrap_or("")
 }
 
-/// The version of the table file that the words after `merge` ask for: 1 with `--v1`, and else 2.
+/// The version of the table file that the arguments of `merge` ask for: 1 with `--v1`, and else 2.
 pub fn asked_version(words: &ArgMatches<'_>) -> Version
     ensures unset { one_text (found_of words.now) (codes "v1") ≡ None → result ≡ Version.Two }
     ensures without { one_text (found_of words.now) (codes "v1") ≡ Some (codes "false") → result ≡ Version.Two }
@@ -109,7 +109,7 @@ pub fn asked_version(words: &ArgMatches<'_>) -> Version
     Version::Two
 }
 
-/// The form of the report that the words after `report` ask for: JSON with `--json`, and else text.
+/// The form of the report that the arguments of `report` ask for: JSON with `--json`, and else text.
 pub fn asked_form(words: &ArgMatches<'_>) -> Form
     ensures unset { one_text (found_of words.now) (codes "json") ≡ None → result ≡ Form.Text }
     ensures without { one_text (found_of words.now) (codes "json") ≡ Some (codes "false") → result ≡ Form.Text }
@@ -121,42 +121,42 @@ pub fn asked_form(words: &ArgMatches<'_>) -> Form
     Form::Text
 }
 
-/// Whether the words after `forget` name the blocks in conflict.
+/// Whether `--conflicts` is among the arguments of `forget`: the blocks in conflict are to be forgotten.
 pub fn asked_conflicts(words: &ArgMatches<'_>) -> bool
     ensures { IsPicked (found_of words.now) (codes "conflicts") true false result }
 {
     words.get_flag(CONFLICTS)
 }
 
-/// The path of the mapfile that is to be written, among the words.
+/// The path of the mapfile to write; `""` where the arguments give none.
 pub fn asked_mapfile<'a>(words: &ArgMatches<'a>) -> &'a str
     ensures { result.now ≡ mapfile_text (found_of words.now) }
 {
     words.get_str(MAPFILE).unwrap_or("")
 }
 
-/// The path of the manifest that is to be written, among the words.
+/// The path of the manifest to write; `""` where the arguments give none.
 pub fn asked_manifest<'a>(words: &ArgMatches<'a>) -> &'a str
     ensures { result.now ≡ manifest_text (found_of words.now) }
 {
     words.get_str(MANIFEST).unwrap_or("")
 }
 
-/// Whether a flag is among the words.
+/// Whether a flag is among the arguments.
 pub fn is_set(words: &ArgMatches<'_>, flag: &str) -> bool
     ensures { IsPicked (found_of words.now) flag.now true false result }
 {
     words.get_flag(flag)
 }
 
-/// The path of the folder among the words after `extract`. The grammar asks for it.
+/// The path of the new folder that the arguments of `extract` give. The grammar requires it.
 pub fn asked_folder<'a>(words: &ArgMatches<'a>) -> &'a str
     ensures { result.now ≡ folder_text (found_of words.now) }
 {
     words.get_str(TO).unwrap_or("")
 }
 
-/// The path of the folder for lost files among the words after `extract`.
+/// The path of the folder for lost files that the arguments of `extract` give; `""` where they give none.
 pub fn asked_lost_folder<'a>(words: &ArgMatches<'a>) -> &'a str
     ensures { result.now ≡ lost_text (found_of words.now) }
 {

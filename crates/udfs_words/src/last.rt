@@ -17,7 +17,7 @@ pub enum EndFault<'a> {
     Size(&'a str),
 }
 
-/// As clap says it of other words.
+/// In the wording that clap uses for other arguments.
 impl<'a> fmt::Display for EndFault<'a> {
     fn fmt<W: fmt::Write>(&self, f: &mut fmt::Formatter<W>) -> fmt::Result {
         match self {
@@ -56,7 +56,8 @@ pub fn end_fault<'a>(words: &ArgMatches<'a>) -> Option<EndFault<'a>>
     }
 }
 
-/// The block with which a disc of `size` bytes ends; 0, of which there is no report, where there is none that a number of 32 bits names.
+/// The number of the last block of a disc of `size` bytes. It is 0, for which there is no report, where `size` is not a multiple of 2048 above 0, or the
+/// number does not fit in 32 bits.
 pub fn last_of_size(size: u64) -> u32
     ensures { IsLastOfSize size result }
 {
@@ -70,7 +71,8 @@ pub fn last_of_size(size: u64) -> u32
     last as u32
 }
 
-/// The last block among the words, or that of the size among them; 0, of which there is no report, where neither is.
+/// The number of the last block, as `--last` gives it, or else [`last_of_size`] of what `--size` gives. It is 0, for which there is no report, where neither
+/// is a number.
 pub fn asked_last(words: &ArgMatches<'_>) -> u32
     ensures { IsToldLast (found_of words.now) result }
 {

@@ -1,5 +1,5 @@
 // SPDX-License-Identifier: MIT OR Apache-2.0
-//! The words of `udfsalvage`: their grammar, and what they ask for.
+//! The command-line arguments of `udfsalvage`: their grammar, and what they ask for.
 #![tactic(auto)]
 
 mod arguments;

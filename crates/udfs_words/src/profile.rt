@@ -1,4 +1,4 @@
-//! The rules by which the volume is read, by their name among the words.
+//! The rules by which the volume is read, by the name that `--profile` gives.
 
 ghost use Rattle.std.specs.Prelude.{MatchOption};
 ghost use Rattle.clap.specs.Matches.{found_of};
@@ -8,7 +8,7 @@ use crate::words::PROFILE;
 use clap::ArgMatches;
 use udfs_volume::Profile;
 
-/// What is given as the name of rules, where it is that of none.
+/// The value of `--profile`, where it is not the name of a profile.
 pub fn unknown_profile<'a>(words: &ArgMatches<'a>) -> Option<&'a str>
     ensures { MatchOption result (IsKnownProfile (found_of words.now)) (λ name. IsUnknownProfile (found_of words.now) name.now) }
 {
@@ -21,7 +21,7 @@ pub fn unknown_profile<'a>(words: &ArgMatches<'a>) -> Option<&'a str>
     Some(name)
 }
 
-/// The rules that the words name: the strict ones where they name none.
+/// The profile that `--profile` names: `Wide` for `wide`, and else `Strict`.
 pub fn asked_profile(words: &ArgMatches<'_>) -> Profile
     ensures { IsProfile (found_of words.now) result }
 {

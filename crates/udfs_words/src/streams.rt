@@ -1,4 +1,4 @@
-//! Standard input among the words: it is there but once.
+//! Standard input among the arguments: it can be read only once.
 
 ghost use Rattle.std.specs.Prelude.{◌≡◌, true, map};
 ghost use Rattle.clap.specs.Matches.{found_of};
@@ -39,7 +39,7 @@ fn is_twice(paths: &[&str]) -> bool
     }
 }
 
-/// Whether the words after a command's name take standard input more than once, among its inputs and its lists of blocks.
+/// Whether the command `name` takes `-` for standard input, and has it more than once among its inputs and its lists of blocks.
 pub fn are_two_streams(name: &str, words: &ArgMatches<'_>) -> bool
     ensures { result ≡ are_two_streams name.now (found_of words.now) }
 {

@@ -1,4 +1,4 @@
-//! The words of the command line.
+//! The arguments of the command line.
 
 ghost use Rattle.std.specs.Prelude.{◌≡◌, IfOk, codes, map};
 ghost use Rattle.std.specs.String.{string_bytes};
@@ -96,7 +96,7 @@ pub struct Given {
     pub conflicts: bool,
 }
 
-/// Whether a word is this option, or begins with the option and the sign of its value.
+/// Whether an argument is `option`, or begins with `signed`: the option and the `=` before its value.
 fn names(option: &str, signed: &[u8], word: &str) -> bool
     ensures { result ≡ names option.now signed.now word.now }
 {
@@ -104,7 +104,7 @@ fn names(option: &str, signed: &[u8], word: &str) -> bool
     word == option || (bytes.len() >= signed.len() && &bytes[..signed.len()] == signed)
 }
 
-/// Whether such a word is among these.
+/// Whether such an argument is among these.
 fn is_given(option: &str, signed: &[u8], words: &[String]) -> bool
     ensures { result ≡ is_given option.now signed.now (map string_bytes words.now) }
 {
@@ -119,7 +119,7 @@ fn is_given(option: &str, signed: &[u8], words: &[String]) -> bool
     }
 }
 
-/// What is found among the words.
+/// What is found among the arguments before they are parsed.
 pub fn given_in(words: &[String]) -> Given
     ensures { result ≡ given_in (map string_bytes words.now) }
 {

@@ -1,5 +1,5 @@
 // SPDX-License-Identifier: MIT OR Apache-2.0
-//! The command `udfsalvage`: its words, over the machine's files.
+//! The command `udfsalvage`: runs what its arguments ask for on the machine's files.
 #![tactic(auto)]
 
 mod screen;
@@ -13,7 +13,7 @@ use udfs_commands::{refuse_words, run};
 use udfs_files::Machine;
 use udfs_reading::Writer;
 
-/// The words of the command line, the program's name first. It fails where one of them is not text.
+/// The arguments of the command line, the program's name first. It fails if one of them is not text, or if memory runs out.
 fn words_of(rt: &HostRuntime, alloc: Global) -> io::Result<Vec<String>> {
     Ok(env::args(rt)?.collect(alloc)?)
 }

@@ -11,7 +11,7 @@ use udfs_reading::{DeviceFault, Sink};
 /// How long a run lasts before it says how far it is, in milliseconds.
 const SILENT: u64 = 1000;
 
-/// How long a line stands at least, in milliseconds.
+/// The least time between two updates of the line, in milliseconds.
 const STANDS: u64 = 100;
 
 /// What removes the line: the cursor goes to its beginning, and the terminal clears it.
@@ -27,7 +27,7 @@ pub struct Screen<'a, C: Clock, W: Write + Copy> {
     /// Whether remarks are written.
     remarks: Cell<bool>,
     reason: Cell<Option<Error>>,
-    /// When the line is written next, where it ever is.
+    /// When the line is written next, if ever.
     next: Cell<Option<Instant>>,
     is_shown: Cell<bool>,
     stage: Cell<Stage>,
@@ -78,7 +78,7 @@ impl<'a, C: Clock, W: Write + Copy> Screen<'a, C, W> {
         let _ = err.write_all(bytes);
     }
 
-    /// Removes the line, where it stands.
+    /// Removes the line, if it is shown.
     pub fn clear(&self) {
         if self.is_shown.get() {
             self.write(CLEARS);
@@ -140,7 +140,7 @@ impl<'a, C: Clock, W: Write + Copy> Screen<'a, C, W> {
     }
 }
 
-/// How many of a hundred these are, where they are not more than all.
+/// `part` as a percentage of `all`, rounded down; `None` if `all` is 0 or less than `part`.
 fn percent_of(part: u64, all: u64) -> Option<u128> {
     if all == 0 || part > all {
         return None;

@@ -102,8 +102,8 @@ fn a_standard_output_that_fails_after_any_count_is_told(rt: HostRuntime) -> Resu
     check(&rt, rt.alloc(), STANDARD_OUTPUT)
 }
 
-/// With ample memory the merge is done. Where one allocation is refused it is done, or fails with the line that memory ran
-/// out, and the old output stays. The test's own allocations may be refused too, and that is no fault of the merge.
+/// With ample memory the merge is done. Where one allocation fails it is done, or fails with the line that memory ran
+/// out, and the old output stays. The test's own allocations may fail too, and that is no fault of the merge.
 #[test]
 fn want_of_memory_is_told(rt: HostRuntime) {
     assert_case(

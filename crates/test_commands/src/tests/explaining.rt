@@ -1,4 +1,4 @@
-//! What is said to a person beneath a refusal's line.
+//! The explanations that are printed below the line of an error.
 
 use crate::tests::check;
 use std::test::Fail;

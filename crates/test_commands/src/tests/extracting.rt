@@ -222,7 +222,7 @@ fn files_and_folders_are_written(rt: HostRuntime) -> Result<(), Fail> {
     check(&rt, rt.alloc(), SCRIPT)
 }
 
-/// With ample memory the files are written. Where one allocation is refused, each file that is reported as written has its bytes, and
+/// With ample memory the files are written. Where one allocation fails, each file that is reported as written has its bytes, and
 /// an error says that memory ran out or that the folder was not made. Where the files in memory lacked memory, nothing is checked.
 #[test]
 fn want_of_memory_is_told(rt: HostRuntime) {

@@ -193,8 +193,8 @@ fn a_page_in_pieces(rt: HostRuntime) -> Result<(), Fail> {
     check(&rt, rt.alloc(), A_PAGE_IN_PIECES)
 }
 
-/// With ample memory the page is put. Where one allocation is refused it is put, or the run fails with the line that memory ran out, and the
-/// old page stays: also where a beginning of the new one was written.
+/// With ample memory the page is written. Where one allocation fails it is written, or the run fails with the line that memory ran out, and the
+/// old page stays, even if a beginning of the new one was written.
 #[test]
 fn want_of_memory_is_told(rt: HostRuntime) {
     assert_case(&rt, !matches!(page_wants_memory(rt.alloc()), Ok(false)), "");

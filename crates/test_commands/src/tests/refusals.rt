@@ -1,4 +1,4 @@
-//! What refuses `merge`, in which order, and what it leaves.
+//! Why `merge` fails, which of several faults it reports, and what it leaves.
 
 use crate::tests::check;
 use std::test::Fail;

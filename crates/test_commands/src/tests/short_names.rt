@@ -1,4 +1,4 @@
-//! What `extract --short-names` writes: a name whose escaped form has more than 255 bytes is cut, and `~` and the number of its block stand behind it.
+//! What `extract --short-names` writes: a name whose escaped form has more than 255 bytes is cut, and `~` and the number of its block are appended.
 
 use crate::tests::{assert_case, check};
 use std::test::Fail;
@@ -189,7 +189,7 @@ fn names_that_are_too_long(rt: HostRuntime) -> Result<(), Fail> {
     check(&rt, rt.alloc(), SCRIPT)
 }
 
-/// With ample memory the file is written. Where one allocation is refused, a file that is reported as written has its bytes.
+/// With ample memory the file is written. Where one allocation fails, a file that is reported as written has its bytes.
 #[test]
 fn want_of_memory_is_told(rt: HostRuntime) {
     let is_told = short_names_want_memory(rt.alloc());

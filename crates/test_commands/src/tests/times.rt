@@ -168,7 +168,7 @@ fn times_of_files_and_folders(rt: HostRuntime) -> Result<(), Fail> {
     check(&rt, rt.alloc(), SCRIPT)
 }
 
-/// With ample memory all times are set. Where one allocation is refused, that is reported, or a time is lacking, or all is as with ample memory.
+/// With ample memory all times are set. Where one allocation fails, that is reported, or a time is missing, or all is as with ample memory.
 #[test]
 fn want_of_memory_is_told(rt: HostRuntime) {
     assert_case(

@@ -165,7 +165,7 @@ fn files_that_have_no_name(rt: HostRuntime) -> Result<(), Fail> {
     check(&rt, rt.alloc(), SCRIPT)
 }
 
-/// With ample memory the files are written. Where one allocation is refused, each file that is reported as written has its bytes.
+/// With ample memory the files are written. Where one allocation fails, each file that is reported as written has its bytes.
 #[test]
 fn want_of_memory_is_told(rt: HostRuntime) {
     assert_case(

@@ -1,4 +1,4 @@
-//! The words of the command line.
+//! The arguments of the command line.
 
 use crate::tests::check;
 use std::process::Abort;
@@ -115,7 +115,7 @@ fn words_of_the_command_line(rt: HostRuntime) -> Result<(), Fail> {
     check(&rt, rt.alloc(), SCRIPT)
 }
 
-/// The words are refused with this text.
+/// Asserts that the arguments are rejected with status 2 and this text.
 fn assert_refused(rt: &impl Abort, told: (u8, String), text: &str) {
     assert_eq!(rt; told.0, 2);
     assert_eq!(rt; told.1.as_str(), text);

@@ -86,9 +86,9 @@ fn two_passes_are_taken_by_index(rt: HostRuntime) -> Result<(), Fail> {
     assert!(rt; error.is_none());
     assert!(rt; matches!(index.slot(5), Fact::Conflict));
     assert!(rt; matches!(index.slot(6), Fact::Unknown));
-    // The first input, behind its header, a record, and the number of a block.
+    // In the first input, after its header, a record, and the number of a block.
     assert!(rt; matches!(index.slot(7), Fact::Known(2072)));
-    // The second one, behind its header and the number of a block.
+    // In the second one, after its header and the number of a block.
     assert!(rt; matches!(index.slot(4_194_303), Fact::Known(17_592_186_044_436)));
     assert!(rt; index.failed().is_none());
     assert_same(&rt, index.known(), 2);

@@ -46,7 +46,7 @@ const TWO_MAPS: Tags = &[
     (520, 0, 261, 0),
 ];
 
-/// To write a tag anew changes nothing: it stands there already, with its checksum.
+/// Writing a tag again changes nothing: the tag is already there, with its checksum.
 #[test]
 fn tags(rt: HostRuntime) -> Result<(), Fail> {
     let alloc = rt.alloc();

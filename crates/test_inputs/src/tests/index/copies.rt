@@ -25,7 +25,7 @@ pub(super) fn two_states(alloc: Global) -> Result<Vec<u8>, AllocError> {
     Ok(file)
 }
 
-/// The first of three inputs: block 5 once more, block 8 behind block 7, block 300.
+/// The first of three inputs: block 5 twice, block 8 after block 7, and block 300.
 pub(super) fn first(alloc: Global) -> Result<Vec<u8>, AllocError> {
     reading(
         alloc,
@@ -38,8 +38,8 @@ pub(super) fn second(alloc: Global) -> Result<Vec<u8>, AllocError> {
     reading(alloc, &[(4_194_303, 0x64), (7, 0x62), (5, 0x63)])
 }
 
-/// All three in version 2: of packet 0 blocks 7 and 8 are known, and 5 is in conflict; packet 9 as it stood; of packet 131,071
-/// block 31 is known.
+/// All three in version 2: packet 0 has blocks 7 and 8 known, and 5 in conflict; packet 9 has block 301 known, and 300 in conflict;
+/// packet 131,071 has its last block known.
 fn packed(alloc: Global) -> Result<Vec<u8>, AllocError> {
     let mut file = Vec::new(alloc);
     file.extend_from_slice(b"UDFTABL2\x00\x08\x00\x00\x03\x00\x00\x00")?;
@@ -255,7 +255,7 @@ fn an_input_that_ends_early_is_named(rt: HostRuntime) -> Result<(), Fail> {
     let b = Shaky::new(two.as_slice());
     let (index, error) = index_of(alloc, &a, &b)?;
     assert!(rt; error.is_none());
-    // The last block stands at the front of the second input, behind its header and the block's number.
+    // The last block is at the beginning of the second input, after its header and the block's number.
     b.end.set(20 + 2047);
     assert_copy(&rt, alloc, &index, unread(1, 20));
     assert_copy_v1(&rt, alloc, &index, unread(1, 20));

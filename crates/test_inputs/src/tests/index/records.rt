@@ -21,7 +21,7 @@ fn the_record_of_a_position_is_told(rt: HostRuntime) -> Result<(), Fail> {
     for &(at, number) in &RECORDS {
         assert_same(&rt, record_at(&stored, at), number);
     }
-    // There is no content behind the last one: the number is that of all records.
+    // There is no content after the last one: the number is that of all records.
     assert_same(&rt, record_at(&stored, 8229), 5);
     assert_same(&rt, record_at(&stored, END), 5);
     assert_same(&rt, record_at(&stored, 0), 0);

@@ -1,4 +1,4 @@
-//! How often an input is read where its blocks stand one behind the other.
+//! How often an input is read where its blocks are consecutive.
 
 use super::copies::{Shaky, unread};
 use super::{index_of, reading};
@@ -44,7 +44,7 @@ fn blocks_in_order_are_read_at_once(rt: HostRuntime) -> Result<(), Fail> {
     let mut first = Writer::new(Vec::new(alloc));
     assert!(rt; write_table_v1(&table, &mut first).is_ok());
     let first = first.into_inner();
-    // Between two blocks of a reading stand 4 bytes, of a table file of version 1 5, of one of version 2 none, and 12 between
+    // Between two blocks of a reading are 4 bytes, of a table file of version 1 5, of one of version 2 none, and 12 between
     // two packets.
     for input in [file.as_slice(), first.as_slice(), second.as_slice()] {
         let (written, reads) = copied(alloc, input)?;
@@ -109,7 +109,7 @@ fn blocks_in_disorder_are_read_one_by_one(rt: HostRuntime) -> Result<(), Fail> {
     let alloc = rt.alloc();
     let file = reading(alloc, &[(3, 0x61), (2, 0x62), (9, 0x63), (4, 0x64)])?;
     let (written, reads) = copied(alloc, file.as_slice())?;
-    // Block 3 stands before block 2, block 4 two records behind block 3, and block 9 before block 4.
+    // Block 3 comes before block 2, block 4 after block 3 with two records between them, and block 9 before block 4.
     assert_same(&rt, reads, 4);
     assert_eq!(rt; written.len(), 28 + 4 * 2048);
     for (i, byte) in [0x62, 0x61, 0x64, 0x63].iter().enumerate() {

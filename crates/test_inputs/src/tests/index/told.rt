@@ -77,7 +77,7 @@ fn only_what_comes_again_is_read(rt: HostRuntime) -> Result<(), Fail> {
     let a = reading_of(one.as_slice(), &[5, 7]);
     let b = reading_of(two.as_slice(), &[7, 9]);
     let found = taken(alloc, &a, &b)?;
-    // The header and a record stand before the second record, and its number before its bytes.
+    // The header and a record come before the second record, and its number before its bytes.
     assert_same(&rt, found, (3, 0, Fact::Known(16 + 2052 + 4)));
     assert_same(&rt, a.reads.get(), 1);
     assert_same(&rt, b.reads.get(), 1);

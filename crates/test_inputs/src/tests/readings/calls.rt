@@ -84,8 +84,8 @@ enum Call {
     Join,
 }
 
-/// The call that a character stands for, whether it is made on an empty table, and whether the two tables change places
-/// behind it.
+/// The call that a character encodes, whether it is made on an empty table, and whether the two tables are swapped
+/// after it.
 fn call_of(character: u8) -> (Call, bool, bool) {
     let skipped = match character {
         ..=57 => 35,

@@ -53,7 +53,7 @@ fn known_pair(alloc: Global) -> Result<Vec<u8>, AllocError> {
     Ok(out)
 }
 
-/// A file of one packet: its number, its masks, and the bytes behind them.
+/// A file of one packet: its number, its masks, and the bytes after them.
 fn one_packet(
     alloc: Global,
     number: u32,
@@ -204,7 +204,7 @@ fn names_the_faults_of_packets(rt: HostRuntime) -> Result<(), Fail> {
     Ok(())
 }
 
-/// A second packet of this number, behind packet 9, is refused with this fault.
+/// Asserts that a second packet with this number, after packet 9, is rejected with this fault.
 fn assert_second_packet(
     rt: &impl Abort,
     alloc: Global,
@@ -303,7 +303,7 @@ fn both_versions_read_back(rt: HostRuntime) -> Result<(), Fail> {
     let bytes = reading(alloc, records.as_slice())?;
     let table = read_input(alloc, &mut Reader::new(bytes.as_slice()))?;
     let second = written(alloc, &table)?;
-    // Blocks 0 to 1495 stand in the packets 0 to 46.
+    // Blocks 0 to 1495 are in the packets 0 to 46.
     assert_same(&rt, second.len(), 16 + 47 * 12 + 300 * 2048);
     let mut out = Writer::new(Vec::new(alloc));
     assert!(rt; write_table_v1(&table, &mut out).is_ok());

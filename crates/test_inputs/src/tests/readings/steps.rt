@@ -2,7 +2,7 @@
 
 /// Ten thousand calls, a hundred a line. The characters from `#` on, without digits and `\`, are numbered from 0: the
 /// remainder by 19 is three times the place of a block among those of the row and one of three contents, or 18 for a join;
-/// from 38 on the call is made on an empty table; and where the quotient by 19 is odd, the two tables change places behind it.
+/// from 38 on the call is made on an empty table; and where the quotient by 19 is odd, the two tables are swapped after it.
 pub static STEPS: [&str; 100] = [
     "RR&&?R<:y*P?'*FR:BOM*+@/IMRP?I*#A(CR(N+KNILBRK?????hCRK`?>?,?H-@(AryR:>',PM+R:NQ):Q?;,%R,'Q,Q?Cl'R;A",
     ">Ry;'(&R??+?,RBDL$GJ,R?Mr'>y?*??kR,;I;K$=D??=(pR??=?)?@/&I??R'D?;f>RR*&?&*&;+G-,@I@/=$?C)*<Q?REC?IJF",

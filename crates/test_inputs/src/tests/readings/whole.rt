@@ -120,7 +120,7 @@ fn assert_joined(
 /// A fault at a record, if there is one.
 pub type Answer = Option<(ReadingFault, u32)>;
 
-/// `len` bytes got the result `found`, and are to get `answer`.
+/// Asserts that `found`, the result for `len` bytes, is `answer`.
 pub fn assert_answer(rt: &impl Abort, len: usize, found: Answer, answer: Answer) {
     assert_eq!(rt; found, answer, "{len} bytes");
 }
@@ -361,7 +361,7 @@ fn a_table_file_is_cut_at_each_length(rt: HostRuntime) {
     }
 }
 
-/// A second entry like this, behind one of block 5 in conflict, is refused with this fault.
+/// Asserts that a second entry with this number and state, after one of block 5 in conflict, is rejected with this fault.
 fn assert_second_entry(
     rt: &impl Abort,
     alloc: Global,
@@ -488,7 +488,7 @@ fn assert_two_known(rt: &impl Abort, table: &BlockTable) {
     assert!(rt; write_table(table, &mut out).is_ok());
 }
 
-/// With any one allocation refused (`rt try --test --fail-alloc N`) the result is the table, or out of memory.
+/// Where one allocation fails (`rt try --test --fail-alloc N`), the result is the table, or out of memory.
 #[test]
 fn want_of_memory_is_named(rt: HostRuntime) -> Result<(), Fail> {
     let alloc = rt.alloc();

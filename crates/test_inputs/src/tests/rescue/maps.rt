@@ -1,4 +1,4 @@
-//! What GNU ddrescue 1.27 takes and refuses, and what is read here.
+//! What GNU ddrescue 1.27 accepts and rejects, and what is read here.
 
 use crate::tests::{assert_case, assert_same};
 use std::test::Fail;
@@ -175,7 +175,7 @@ fn faults(rt: HostRuntime) -> Result<(), Fail> {
     Ok(())
 }
 
-/// A line that is the comment of a list of blocks to read again is a fault wherever it stands; a line that only has it in it is a comment.
+/// A line that is the comment of a list of blocks to read again is a fault wherever it is; a line that only contains it is a comment.
 #[test]
 fn marks(rt: HostRuntime) -> Result<(), Fail> {
     let not_pass = MapFault::NotPass;
@@ -252,7 +252,7 @@ fn marks(rt: HostRuntime) -> Result<(), Fail> {
     Ok(())
 }
 
-/// A text of 127 bytes is a line, and one of 128 is none; comments and blanks in front do not count.
+/// A text of 127 bytes is a line, and one of 128 is too long; comments and leading blanks do not count.
 #[test]
 fn long_lines(rt: HostRuntime) -> Result<(), Fail> {
     let alloc = rt.alloc();

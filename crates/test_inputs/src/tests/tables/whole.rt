@@ -73,7 +73,7 @@ fn two_tables(alloc: Global) -> Result<(BlockTable, BlockTable), TableError> {
     Ok((table, other))
 }
 
-/// With any one allocation refused (`rt try --test --fail-alloc N`): a refused join lies between the
+/// Where one allocation fails (`rt try --test --fail-alloc N`): a join that fails leaves a table between the
 /// old table and the join, and the same join again gives the join.
 #[test]
 fn a_refused_join_can_be_done_again(rt: HostRuntime) -> Result<(), Fail> {

@@ -12,7 +12,7 @@ use udfs_reading::Writer;
 use udfs_salvage::{RunError, survey_volume};
 use udfs_samples::{Disc, LAST};
 
-/// All nodes, their columns, a line feed behind each.
+/// All nodes, their columns, a line feed after each.
 const ALL: ListForm = ListForm {
     torn: false,
     null: false,

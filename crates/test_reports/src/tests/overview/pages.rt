@@ -17,7 +17,7 @@ fn page_of(alloc: Global, table: &BlockTable) -> Result<String, Fail> {
     Ok(String::from_utf8(text.into_inner())?)
 }
 
-/// What of a page stands behind the heading of all files.
+/// The part of a page after the heading of all files; empty if the page has no such heading.
 fn tree_of(page: &str) -> &str {
     match page.split_once("<h2>All files</h2>\n") {
         Some((_, tree)) => tree,

@@ -1,4 +1,4 @@
-//! Copies of a sparing table that disagree (UDF 2.01 2.2.11): those of the sample volumes stand in the blocks 100 and 200, and have 2,048
+//! Copies of a sparing table that disagree (UDF 2.01 2.2.11): those of the sample volumes are in the blocks 100 and 200, and have 2,048
 //! bytes.
 
 use super::whole_summary::summed_up;
@@ -35,7 +35,7 @@ fn copies_that_agree(rt: HostRuntime) -> Result<(), Fail> {
     Ok(())
 }
 
-/// A byte of the tag, which has its own place in each copy, and the bytes behind it up to the last.
+/// Bytes of the tag, which holds its own location in each copy, are not compared; the bytes after it, up to the last, are.
 #[test]
 fn from_byte_16_on(rt: HostRuntime) -> Result<(), Fail> {
     static POSITIONS: [(usize, bool); 5] = [

@@ -1,5 +1,5 @@
 //! Files with named streams: the entry of the file `A`, in block 275, is made an extended one (ECMA-167 4/14.17), whose stream
-//! directory's address stands at byte 152.
+//! directory's address is at byte 152.
 
 use super::whole_summary::summed_up;
 use crate::tests::{assert_same, assert_text};
@@ -54,7 +54,7 @@ fn each_name_counts(rt: HostRuntime) -> Result<(), Fail> {
     Ok(())
 }
 
-/// An address of length 0, with and without bits of a type; one of one byte; and one whose length stands in its highest byte alone.
+/// An address of length 0, with and without bits of a type; one of length 1; and one whose length has bits in its highest byte alone.
 #[test]
 fn the_length_decides(rt: HostRuntime) -> Result<(), Fail> {
     static CASES: [(&[u8], usize); 4] = [

@@ -90,7 +90,7 @@ fn assert_not_whole(
     Ok(())
 }
 
-/// Runs of equal bytes, one behind the other.
+/// Runs of equal bytes, one after the other.
 pub fn runs(alloc: Global, parts: &[(u8, usize)]) -> Result<Vec<u8>, Fail> {
     let mut bytes = Vec::new(alloc);
     for (byte, count) in parts {
@@ -188,7 +188,7 @@ fn two_files_of_one_path(rt: HostRuntime) -> Result<(), Fail> {
     assert_extracted(&rt, alloc, &table, 2, Fill::Refuse, &[(0, 5000)])
 }
 
-/// An extent that is allocated and not recorded has zeros, whatever stands in its blocks.
+/// An extent that is allocated and not recorded has zeros, whatever is in its blocks.
 #[test]
 fn what_is_not_recorded_is_zero(rt: HostRuntime) -> Result<(), Fail> {
     let alloc = rt.alloc();

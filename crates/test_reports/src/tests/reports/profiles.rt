@@ -28,7 +28,7 @@ fn text_by(alloc: Global, table: &BlockTable, profile: Profile) -> Result<String
     Ok(String::from_utf8(text.into_inner())?)
 }
 
-/// The text of the report that a survey stands for.
+/// The text of the report of a survey.
 fn survey_text_by(alloc: Global, table: &BlockTable, profile: Profile) -> Result<String, Fail> {
     let survey = survey_volume_by(alloc, table, LAST, profile)?;
     let mut text = Writer::new(Vec::new(alloc));

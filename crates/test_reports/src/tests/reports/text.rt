@@ -151,7 +151,7 @@ const EMPTY: &[u8] = b"UDFREAD1\x00\x08\x00\x00\x00\x00\x00\x00";
 const NOTHING: &[u8] =
     b"UDFREPORT1 last 600\nknown 0 conflict 0\nvolume holes 256 344 600\nreread 256 unknown\nreread 344 unknown\nreread 600 unknown\nend\n";
 
-/// With any one allocation refused the result is the report, or out of memory and a beginning of the report.
+/// Where one allocation fails, the result is the report, or out of memory and a beginning of the report.
 #[test]
 fn want_of_memory_is_told(rt: HostRuntime) -> Result<(), Fail> {
     let alloc = rt.alloc();

@@ -48,7 +48,7 @@ fn covered_bytes_past_the_end(rt: HostRuntime) {
     assert_same(&rt, Tag::check(&block, 256), Err(TagFault::CrcLength));
 }
 
-/// The bytes get this answer, whole and in two pieces, wherever they are cut.
+/// Asserts that the check of the bytes has this outcome, whole and cut into two pieces at any place.
 fn assert_answer(rt: &impl Abort, bytes: &[u8], location: u32, answer: Result<Tag, TagFault>)
     requires { 16 ≤ length bytes.now }
 {

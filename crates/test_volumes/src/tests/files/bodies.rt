@@ -174,7 +174,7 @@ fn continuation_faults(rt: HostRuntime) -> Result<(), Fail> {
 static UNREAD: [(Bytes, Bytes, &str); 4] = [
     // A file of length 0 whose only descriptor continues in the unread block.
     ((275, 56, &[0, 0]), (275, 176, &[0, 8, 0, 0xc0, 6]), "body"),
-    // The block behind the information length is not needed.
+    // The block after the information length is not needed.
     (
         (275, 56, &[0, 8]),
         (275, 176, &[0, 0x10, 0, 0, 5]),

@@ -43,7 +43,7 @@ fn front_of_a_file(rt: HostRuntime) -> Result<(), Fail> {
 
 /// The directory's block: two changes, and what the root then lists.
 static CHANGES: [(Bytes, Bytes, &str); 9] = [
-    // Deleted, and with a name that is none.
+    // Deleted, with a malformed name.
     ((274, 58, &[4]), (274, 78, &[9]), "front B 0:4"),
     ((274, 58, &[0]), (274, 78, &[9]), "front fault 11 Name"),
     ((274, 58, &[8]), (274, 78, &[9]), "front B 0:4"),
@@ -97,7 +97,7 @@ fn longest_identifier(rt: HostRuntime) -> Result<(), Fail> {
     assert_front(&rt, alloc, &disc, &[], "front fault 12 Cut")
 }
 
-/// A word, then `part` 51 times, and then `last`.
+/// `word`, then `part` 51 times, and then `last`.
 fn repeated(alloc: Global, word: &str, part: &str, last: &str) -> Result<String, AllocError> {
     let mut text = String::from_str(alloc, word)?;
     for _ in 0..51 {
@@ -159,7 +159,7 @@ fn identifiers_in_two_blocks(rt: HostRuntime) -> Result<(), Fail> {
     assert_long_front(&rt, alloc, &elsewhere, &[], " fault 10 IdentifierTag")
 }
 
-/// With at most `most` entries the root's front, or the reason that there is none, is this.
+/// Asserts that with at most `most` entries the root's front, or the reason that it has no front, is `expected`.
 fn assert_within(
     rt: &impl Abort,
     alloc: Global,
@@ -265,7 +265,7 @@ fn identifiers_in_two_extents(rt: HostRuntime) -> Result<(), Fail> {
 }
 
 /// An identifier whose last 32 bytes are not recorded: they are zeros, and so is the location in its tag, though
-/// its first byte stands in logical block 2. It is wrong whatever the checksum.
+/// its first byte is in logical block 2. It is wrong whatever the checksum.
 #[test]
 fn identifier_ends_in_zeros(rt: HostRuntime) -> Result<(), Fail> {
     let alloc = rt.alloc();
@@ -279,7 +279,7 @@ fn identifier_ends_in_zeros(rt: HostRuntime) -> Result<(), Fail> {
     Ok(())
 }
 
-/// A directory of one identifier that is embedded in its entry, which stands in logical block 1.
+/// A directory of one identifier that is embedded in its entry, which is in logical block 1.
 #[test]
 fn embedded_directory(rt: HostRuntime) -> Result<(), Fail> {
     let alloc = rt.alloc();

@@ -126,7 +126,7 @@ fn entry_faults(rt: HostRuntime) -> Result<(), Fail> {
     Ok(())
 }
 
-/// An extended file entry, whose times and lengths stand elsewhere.
+/// An extended file entry, whose times and lengths are at other offsets.
 #[test]
 fn extended_entry(rt: HostRuntime) -> Result<(), Fail> {
     let alloc = rt.alloc();

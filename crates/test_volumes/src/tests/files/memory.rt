@@ -1,4 +1,4 @@
-//! Out of memory: `rt try --test --fail-alloc N` refuses the allocation with this number in each test.
+//! Out of memory: `rt try --test --fail-alloc N` fails the allocation with this number in each test.
 
 use super::told::laid_out;
 use crate::tests::assert_same;
@@ -10,7 +10,7 @@ use udfs_file::faults::WalkError;
 use udfs_lattice::Fact;
 use udfs_samples::Disc;
 
-/// With any one allocation refused the result is that with ample memory, or out of memory.
+/// Where one allocation fails, the result is that with ample memory, or out of memory.
 #[test]
 fn want_of_memory_is_told(rt: HostRuntime) -> Result<(), Fail> {
     let alloc = rt.alloc();

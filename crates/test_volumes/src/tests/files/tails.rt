@@ -25,7 +25,7 @@ static ROWS: [(Bytes, Bytes, &str, &str); 19] = [
         "fault 9 Odd",
         "body recorded 0:5+0 4990",
     ),
-    // The same with a second extent behind it: the first is not the last.
+    // The same with a second extent after it: the first is not the last.
     (
         (275, 56, &[0x7e, 0x13]),
         (
@@ -38,7 +38,7 @@ static ROWS: [(Bytes, Bytes, &str, &str); 19] = [
         "fault 9 Odd",
         "fault 9 Odd",
     ),
-    // With a length of 0 behind it.
+    // With a length of 0 after it.
     (
         (275, 56, &[0x7e, 0x13]),
         (
@@ -51,7 +51,7 @@ static ROWS: [(Bytes, Bytes, &str, &str); 19] = [
         "fault 9 Odd",
         "body recorded 0:5+0 4990",
     ),
-    // What stands behind a length of 0 is not looked at.
+    // What follows a length of 0 is ignored.
     (
         (275, 56, &[0x7e, 0x13]),
         (
@@ -255,7 +255,7 @@ fn continued_last_extents(rt: HostRuntime) -> Result<(), Fail> {
     assert_cells(&rt, alloc, &disc, &[], 3, Profile::Wide, "fault 9 Odd")
 }
 
-/// Bytes that stand in the entry have no last extent.
+/// Bytes that are embedded in the entry have no last extent.
 #[test]
 fn embedded_bytes(rt: HostRuntime) -> Result<(), Fail> {
     let alloc = rt.alloc();

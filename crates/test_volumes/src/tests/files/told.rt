@@ -103,7 +103,7 @@ pub fn entry(alloc: Global, table: &BlockTable, reference: u16, b: u32) -> Resul
     Ok(text)
 }
 
-/// The body of an entry, or a text that says why there is none.
+/// The body of an entry, or a text that says why the entry has no body.
 fn body_of(
     alloc: Global,
     table: &BlockTable,

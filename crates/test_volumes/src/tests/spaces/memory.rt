@@ -1,4 +1,4 @@
-//! Out of memory: `rt try --test --fail-alloc N` refuses the allocation with this number in each test.
+//! Out of memory: `rt try --test --fail-alloc N` fails the allocation with this number in each test.
 
 use super::said::space_of;
 use crate::tests::assert_same;
@@ -6,7 +6,7 @@ use std::test::Fail;
 use udfs_samples::{Disc, LAST};
 use udfs_volume::Seen;
 
-/// With any one allocation refused the result is the space, or out of memory.
+/// Where one allocation fails, the result is the space, or out of memory.
 #[test]
 fn want_of_memory_is_told(rt: HostRuntime) -> Result<(), Fail> {
     let alloc = rt.alloc();

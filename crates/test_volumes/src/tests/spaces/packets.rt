@@ -1,13 +1,13 @@
-//! Where the blocks of a sparable partition stand with the packets that the wide rules accept.
+//! Where the blocks of a sparable partition are with the packets that the wide rules accept.
 
 use super::said::{assert_place, space_by};
 use std::test::Fail;
 use udfs_samples::{Bytes, Disc, LAST};
 use udfs_volume::{Profile, Seen};
 
-/// The length of the packets, where the last block of the spared packet stands, and where the next block.
+/// The length of the packets, where the last block of the spared packet is, and where the next block is.
 ///
-/// The packet at logical block 0 is spared and stands at 400; the partition begins at 272. A packet of 128
+/// The packet at logical block 0 is spared and is at 400; the partition begins at 272. A packet of 128
 /// blocks from 400 on ends before the last block, 600.
 static PACKETS: [(Bytes, u32, u32, u32); 4] = [
     ((32, 480, &[1]), 1, 400, 273),

@@ -54,7 +54,7 @@ fn one_copy_is_enough(rt: HostRuntime) -> Result<(), Fail> {
     Ok(())
 }
 
-/// The partition begins at 1024, and the packet at 64 stands at 500000.
+/// The partition begins at 1024, and the packet at 64 is at 500000.
 fn far_away(disc: &mut Disc) -> Result<(), Fail> {
     disc.write(&[
         (33, 188, &[0, 4, 0, 0, 0, 0x10, 0, 0]),
@@ -74,7 +74,7 @@ fn last_block_of_a_packet(rt: HostRuntime) -> Result<(), Fail> {
     Ok(())
 }
 
-/// The packet behind the spared one and the one before it stay in their places.
+/// The packet after the spared one and the one before it stay in their places.
 #[test]
 fn places_about_a_spared_packet(rt: HostRuntime) -> Result<(), Fail> {
     let alloc = rt.alloc();
@@ -248,7 +248,7 @@ fn assert_ahead(
     );
 }
 
-/// Blocks that stand one behind the other. The packet at 0 stands at 400.
+/// Logical blocks that are consecutive on the disc. The packet at 0 is at 400.
 #[test]
 fn blocks_one_behind_the_other(rt: HostRuntime) -> Result<(), Fail> {
     let alloc = rt.alloc();
@@ -273,7 +273,7 @@ fn blocks_one_behind_the_other(rt: HostRuntime) -> Result<(), Fail> {
     Ok(())
 }
 
-/// Unknown blocks that stand one behind the other.
+/// Unknown logical blocks that are consecutive on the disc.
 #[test]
 fn unknown_blocks_ahead(rt: HostRuntime) -> Result<(), Fail> {
     let alloc = rt.alloc();

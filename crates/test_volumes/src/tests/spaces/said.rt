@@ -32,7 +32,7 @@ pub fn space_by(alloc: Global, table: &BlockTable, last: u32, profile: Profile) 
     }
 }
 
-/// A logical block stands in this place.
+/// Asserts that the logical block is at `want`, or has no place if that is `None`.
 pub fn assert_place(rt: &impl Abort, space: &Space, reference: u16, block: u32, want: Option<u32>) {
     assert_eq!(rt; space.place(reference, block), want, "{reference} {block}");
 }
@@ -43,7 +43,7 @@ pub fn said_of(alloc: Global, disc: &Disc) -> Result<String, Fail> {
     said(alloc, &table, LAST)
 }
 
-/// What the space says: `ok` and where the first logical block stands, or holes, or a fault with its
+/// What the space reports: `ok` and where the first logical block is, or holes, or a fault with its
 /// number.
 pub fn said(alloc: Global, table: &BlockTable, last: u32) -> Result<String, Fail>
     requires from { 513 ≤ last }

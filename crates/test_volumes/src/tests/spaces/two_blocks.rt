@@ -6,7 +6,7 @@ use std::alloc::Global;
 use std::test::Fail;
 use udfs_samples::{Disc, LAST};
 
-/// Tables of 4096 bytes with 250 entries, of which the last stands at the front of the second block. In
+/// Tables of 4096 bytes with 250 entries, of which the last is at the beginning of the second block. In
 /// the second copy it is a number without a meaning.
 fn with_two_blocks(alloc: Global) -> Result<Disc, Fail> {
     let mut disc = Disc::sparable(alloc)?;

@@ -8,7 +8,7 @@ use udfs_samples::Disc;
 use udfs_walk::answers::{Node, NodesError};
 use udfs_walk::standings::Standing;
 
-/// A chain of directories: each has one name, and the last has none. The root stands at logical block 1.
+/// A chain of directories: each has one name, and the last has none. The root is at logical block 1.
 fn chain(rt: &HostRuntime, names: u32) -> Result<Disc, Fail> {
     let alloc = rt.alloc();
     let mut disc = Disc::type1(alloc)?;
@@ -47,7 +47,7 @@ fn names_64_deep(rt: HostRuntime) -> Result<(), Fail> {
 }
 
 /// A chain of 64 names whose last directory has one name more, and one name of the root that leads to that directory too:
-/// before the chain or behind it.
+/// before the name of the chain, or after it if `is_behind`.
 fn crossing(rt: &HostRuntime, is_behind: bool) -> Result<Disc, Fail> {
     let mut disc = chain(rt, 65)?;
     if is_behind {
@@ -58,7 +58,7 @@ fn crossing(rt: &HostRuntime, is_behind: bool) -> Result<Disc, Fail> {
     Ok(disc)
 }
 
-/// How many names lead to the node at this place, and a word for its standing: 0 and `none` where there is no such node.
+/// How many names lead to the node with index `at`, and its standing as text: 0 and `none` if there is no such node.
 fn told_at(nodes: &[Node], at: usize) -> (usize, &'static str) {
     let Some(node) = nodes.get(at) else {
         return (0, "none");

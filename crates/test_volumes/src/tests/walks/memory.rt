@@ -1,4 +1,4 @@
-//! Out of memory: `rt try --test --fail-alloc N` refuses the allocation with this number in each test.
+//! Out of memory: `rt try --test --fail-alloc N` fails the allocation with this number in each test.
 
 use super::told::rooted;
 use crate::tests::assert_same;
@@ -8,7 +8,7 @@ use udfs_walk::answers::NodesError;
 use udfs_walk::unnamed_entries::unnamed;
 use udfs_walk::{nodes, reread};
 
-/// With any one allocation refused the result is that with ample memory, or out of memory.
+/// Where one allocation fails, the result is that with ample memory, or out of memory.
 #[test]
 fn want_of_memory_is_told(rt: HostRuntime) -> Result<(), Fail> {
     let alloc = rt.alloc();

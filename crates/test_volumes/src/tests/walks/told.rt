@@ -29,7 +29,7 @@ pub fn rooted(alloc: Global, table: &BlockTable) -> Option<(Space, LongAd)> {
     }
 }
 
-/// The nodes of a volume, or why there are none.
+/// The nodes of a volume, or why it has no nodes; `None` if its root is not found.
 pub fn nodes_of(
     alloc: Global,
     table: &BlockTable,
@@ -114,7 +114,7 @@ fn push_unnamed(alloc: Global, text: &mut String, entry: &Unnamed) -> Result<(),
     text.push('\n')
 }
 
-/// The lines behind those of the nodes.
+/// Appends the lines after those of the nodes.
 fn push_others(
     alloc: Global,
     text: &mut String,

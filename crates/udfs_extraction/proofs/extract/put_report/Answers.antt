@@ -3,7 +3,7 @@ use Rattle.std.specs.List.{list_all}
 use Rattle.udfs_walk.specs.NodeFields.{NodeFields}
 use Rattle.udfs_lattice.specs.Tables.{state_of}
 use Rattle.udfs_salvage.specs.Found.{volume_now}
-use Rattle.udfs_salvage.specs.Reports.{is_whole}
+use Rattle.udfs_walk.specs.Unsettled.{is_whole}
 use Rattle.udfs_salvage.specs.Listings.{listing_now}
 use Rattle.udfs_extraction.specs.Choosing.{chosen, is_node}
 use Rattle.udfs_extraction.specs.Manifests.{notes_text}

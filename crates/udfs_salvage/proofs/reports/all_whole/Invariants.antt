@@ -1,6 +1,6 @@
 use Rattle.std.proofs.Common.{◌≡◌, drop}
 use Rattle.std.specs.List.{list_all}
-use Rattle.udfs_salvage.specs.Reports.{is_whole}
+use Rattle.udfs_walk.specs.Unsettled.{is_whole}
 use Rattle.udfs_salvage.proofs.reports.all_whole.Given as goal
 
 -- what is left decides

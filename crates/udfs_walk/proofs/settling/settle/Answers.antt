@@ -1,5 +1,5 @@
 use Rattle.std.proofs.Common.{◌∙◌, ap, subst, sym, true}
-use Rattle.udfs_lattice.specs.Volumes.{Includes}
+use Rattle.std.specs.Prelude.{Contains}
 use Rattle.udfs_tag.specs.Fields.{number_of}
 use Rattle.udfs_tag.specs.declared.layouts.LbAddr.{LbAddr}
 use Rattle.udfs_space.specs.Views.{view_now}
@@ -24,7 +24,7 @@ returns-then-not-waits-clause-within g c start icbs at counted = counted_once st
 pub returns-in_err-known-in-Entry-clause-within : goal.returns-in_err-known-in-Entry-clause-within
 returns-in_err-known-in-Entry-clause-within g c start icbs at counted =
     let icb = c.address.ensures ∙ ap (λ (n : NodeFields). icb_of n.icb) c.node.view_is in
-    c.in_err-known-in-Entry.ensures.within start icbs (subst (λ (a : LbAddr). Includes icbs (number_of a)) (sym icb) at) counted
+    c.in_err-known-in-Entry.ensures.within start icbs (subst (λ (a : LbAddr). Contains icbs (number_of a)) (sym icb) at) counted
 
 pub returns-in_ok-known-in-Entry-clause-settled : goal.returns-in_ok-known-in-Entry-clause-settled
 returns-in_ok-known-in-Entry-clause-settled g c =
@@ -41,12 +41,12 @@ returns-in_ok-known-in-Entry-clause-settled g c =
 pub returns-in_ok-known-in-Entry-clause-counted : goal.returns-in_ok-known-in-Entry-clause-counted
 returns-in_ok-known-in-Entry-clause-counted g c start icbs at counted =
     let icb = c.address.ensures ∙ ap (λ (n : NodeFields). icb_of n.icb) c.node.view_is in
-    c.in_ok-known-in-Entry.ensures.counted start icbs (subst (λ (a : LbAddr). Includes icbs (number_of a)) (sym icb) at) counted
+    c.in_ok-known-in-Entry.ensures.counted start icbs (subst (λ (a : LbAddr). Contains icbs (number_of a)) (sym icb) at) counted
 
 pub returns-in_ok-known-in-Entry-clause-within : goal.returns-in_ok-known-in-Entry-clause-within
 returns-in_ok-known-in-Entry-clause-within g c start icbs at counted =
     let icb = c.address.ensures ∙ ap (λ (n : NodeFields). icb_of n.icb) c.node.view_is in
-    c.in_ok-known-in-Entry.ensures.within start icbs (subst (λ (a : LbAddr). Includes icbs (number_of a)) (sym icb) at) counted
+    c.in_ok-known-in-Entry.ensures.within start icbs (subst (λ (a : LbAddr). Contains icbs (number_of a)) (sym icb) at) counted
 
 pub returns-in-Fault-clause-settled : goal.returns-in-Fault-clause-settled
 returns-in-Fault-clause-settled g c =

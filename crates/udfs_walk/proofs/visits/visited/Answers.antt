@@ -1,6 +1,6 @@
 use Rattle.std.proofs.Common.{◌∙◌, ap, cond, false, nat_le, subst, sym}
+use Rattle.std.specs.Prelude.{Contains}
 use Rattle.std.specs.List.{list_any}
-use Rattle.udfs_lattice.specs.Volumes.{Includes}
 use Rattle.udfs_tag.specs.Fields.{number_of}
 use Rattle.udfs_tag.specs.declared.layouts.LbAddr.{LbAddr}
 use Rattle.udfs_space.specs.Views.{view_now}
@@ -40,4 +40,4 @@ returns-in_ok-standing-in-Entry-clause-node g c =
 
 pub returns-in_ok-standing-in-Entry-clause-counted : goal.returns-in_ok-standing-in-Entry-clause-counted
 returns-in_ok-standing-in-Entry-clause-counted g c start icbs at counted =
-    c.in_ok-standing-in-Entry.ensures.counted start icbs (subst (λ (a : LbAddr). Includes icbs (number_of a)) (sym c.address-icb.ensures) at) counted
+    c.in_ok-standing-in-Entry.ensures.counted start icbs (subst (λ (a : LbAddr). Contains icbs (number_of a)) (sym c.address-icb.ensures) at) counted

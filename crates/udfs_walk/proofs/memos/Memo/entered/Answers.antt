@@ -1,11 +1,10 @@
 use Rattle.std.proofs.Common.{◌≡◌, ◌∙◌, ap, false, subst, sym}
-use Rattle.std.specs.Prelude.{IfOk, Some}
+use Rattle.std.specs.Prelude.{IfOk, Some, Contains}
 use Rattle.std.specs.BTreeMap.{Updates, get}
 use Rattle.std.specs.Ordering.{nat_cmp}
 use Rattle.udfs_space.specs.Views.{view_now}
 use Rattle.udfs_file.specs.Bodies.{body}
 use Rattle.udfs_file.specs.Entries.{entry_of}
-use Rattle.udfs_lattice.specs.Volumes.{Includes}
 use Rattle.udfs_walk.specs.Memos.{IsToldOf, known_of, known_standing, word_of}
 use Rattle.udfs_walk.specs.Visits.{AreListed}
 use Rattle.udfs_walk.specs.declared.memos.Kept.{Kept}
@@ -37,5 +36,5 @@ pub returns-clause-counted : goal.returns-clause-counted
 returns-clause-counted g c start icbs at counted =
     let kept : Kept = record { known = c.known_by.result; entries = c.in_ok-shared_entries.field-0 } in
     counted_kept start icbs c.args.self.now (record { kept = c.keep.new.memo }) c.number-number.result c.args.walks.now c.entered_walked.new.walks kept
-    (subst (Includes icbs) (sym c.number-number.ensures.value) at) c.in_ok-keep.ensures.entries (c.in_ok-keep.ensures.count (sym c.in_default.ensures.value)) c.in_ok-keep.ensures.ordered
+    (subst (Contains icbs) (sym c.number-number.ensures.value) at) c.in_ok-keep.ensures.entries (c.in_ok-keep.ensures.count (sym c.in_default.ensures.value)) c.in_ok-keep.ensures.ordered
     c.in_ok-told.ensures.walks counted

@@ -1,9 +1,8 @@
 use Rattle.std.proofs.Common.{◌∙◌, ap, arith, subst, sym, None}
-use Rattle.std.specs.Prelude.{Some}
+use Rattle.std.specs.Prelude.{Some, Contains}
 use Rattle.std.specs.BTreeMap.{Updates, get}
 use Rattle.std.specs.Ordering.{nat_cmp}
 use Rattle.udfs_space.specs.Views.{view_now}
-use Rattle.udfs_lattice.specs.Volumes.{Includes}
 use Rattle.udfs_walk.specs.Memos.{IsWordOf, word_of}
 use Rattle.udfs_walk.specs.declared.memos.Kept.{Kept}
 use Rattle.udfs_walk.proofs.CountLemmas.{counted_kept, counted_new, counted_once}
@@ -27,7 +26,7 @@ pub returns-clause-counted : goal.returns-clause-counted
 returns-clause-counted g c start icbs at counted =
     let kept : Kept = record { known = c.known_by-known.result; entries = None } in
     counted_kept start icbs c.args.self.now (record { kept = c.keep.new.memo }) c.number-number.result c.args.walks.now c.body_walked.new.walks kept
-    (subst (Includes icbs) (sym c.number-number.ensures.value) at) c.in_ok-keep.ensures.entries (c.in_ok-keep.ensures.count (sym c.in_default.ensures.value)) c.in_ok-keep.ensures.ordered
+    (subst (Contains icbs) (sym c.number-number.ensures.value) at) c.in_ok-keep.ensures.entries (c.in_ok-keep.ensures.count (sym c.in_default.ensures.value)) c.in_ok-keep.ensures.ordered
     c.in_ok-told.ensures.walks counted
 
 pub returns-in-Some-clause-within : goal.returns-in-Some-clause-within
@@ -35,15 +34,15 @@ returns-in-Some-clause-within g c start icbs at counted = counted_once start icb
 
 pub returns-in_err-told-clause-within : goal.returns-in_err-told-clause-within
 returns-in_err-told-clause-within g c start icbs at counted =
-    let fewer = counted_new start icbs c.args.self.now c.args.walks.now c.number-number.result counted (subst (Includes icbs) (sym c.number-number.ensures.value) at) (sym c.in_default.ensures.value) in
+    let fewer = counted_new start icbs c.args.self.now c.args.walks.now c.number-number.result counted (subst (Contains icbs) (sym c.number-number.ensures.value) at) (sym c.in_default.ensures.value) in
     omega (arith, fewer, c.body_walked.ensures.walks)
 
 pub returns-in_err-keep-clause-within : goal.returns-in_err-keep-clause-within
 returns-in_err-keep-clause-within g c start icbs at counted =
-    let fewer = counted_new start icbs c.args.self.now c.args.walks.now c.number-number.result counted (subst (Includes icbs) (sym c.number-number.ensures.value) at) (sym c.in_default.ensures.value) in
+    let fewer = counted_new start icbs c.args.self.now c.args.walks.now c.number-number.result counted (subst (Contains icbs) (sym c.number-number.ensures.value) at) (sym c.in_default.ensures.value) in
     omega (arith, fewer, c.body_walked.ensures.walks)
 
 pub returns-clause-within : goal.returns-clause-within
 returns-clause-within g c start icbs at counted =
-    let fewer = counted_new start icbs c.args.self.now c.args.walks.now c.number-number.result counted (subst (Includes icbs) (sym c.number-number.ensures.value) at) (sym c.in_default.ensures.value) in
+    let fewer = counted_new start icbs c.args.self.now c.args.walks.now c.number-number.result counted (subst (Contains icbs) (sym c.number-number.ensures.value) at) (sym c.in_default.ensures.value) in
     omega (arith, fewer, c.body_walked.ensures.walks)

@@ -1,8 +1,8 @@
 use Rattle.std.proofs.Common.{◌∙◌, ◌++◌, ◌∷◌, [], ap, subst}
+use Rattle.std.specs.Prelude.{Contains}
 use Rattle.udfs_space.specs.Views.{view_now}
 use Rattle.udfs_walk.specs.Routes.{entries_below}
 use Rattle.udfs_walk.specs.Visits.{AreListed, end_at}
-use Rattle.udfs_lattice.specs.Volumes.{Includes}
 use Rattle.udfs_tag.specs.Fields.{number_of}
 use Rattle.udfs_tag.specs.declared.layouts.LongAd.{LongAd}
 use Rattle.udfs_walk.specs.Targets.{icb_of}
@@ -23,10 +23,10 @@ pub returns-in_default-clause-counted : goal.returns-in_default-clause-counted
 returns-in_default-clause-counted g c start icbs at counted =
     let w = end_at c.args.address c.args.path c.args.above.now c.args.hidden in
     let icb = ap (λ (n : NodeFields). n.icb) c.in_ok-node.ensures.node ∙ unsettled_address (view_now c.args.view) w in
-    c.in_ok-node.ensures.counted start icbs (subst (λ (a : LongAd). Includes icbs (number_of (icb_of a))) icb at) counted
+    c.in_ok-node.ensures.counted start icbs (subst (λ (a : LongAd). Contains icbs (number_of (icb_of a))) icb at) counted
 
 pub returns-clause-counted : goal.returns-clause-counted
 returns-clause-counted g c start icbs at counted =
     let w = end_at c.args.address c.args.path c.args.above.now c.args.hidden in
     let icb = ap (λ (n : NodeFields). n.icb) c.in_ok-node.ensures.node ∙ unsettled_address (view_now c.args.view) w in
-    c.in_ok-node.ensures.counted start icbs (subst (λ (a : LongAd). Includes icbs (number_of (icb_of a))) icb at) counted
+    c.in_ok-node.ensures.counted start icbs (subst (λ (a : LongAd). Contains icbs (number_of (icb_of a))) icb at) counted
