@@ -1,10 +1,10 @@
 # What to type here:
-#   make            proves the program and all that it stands on, builds it, and says where it is
+#   make            proves the program and all that it depends on, builds it, and says where it is
 #   make demo       the same, and then runs it on the readings of examples/
 #   make test       judges the whole repository as the gate does, and then tries what make hostile and make try try, the demonstration, and the
 #                   commands that README.md and docs/READING.md show (not make test, nor what needs a tool that is not installed); the last line is
 #                   'N passed, M failed'
-#   make hostile    refuses each allocation of many runs in turn, makes each system call of the program's runs fail or ends it there,
+#   make hostile    makes each allocation of many runs fail in turn, makes each system call of the program's runs fail or ends it there,
 #                   and changes each byte of the sample discs' descriptors
 #   make try        tries the built program on this machine's own files and devices and on a terminal, and with GNU ddrescue where it is installed
 #   make install    puts the program, its man page and its completions below PREFIX; make uninstall takes them away
@@ -35,7 +35,7 @@ have-rt:
 	    echo "The toolchain's command rt is not on the PATH: put its folder bin there, or say make RT=/path/to/rt" >&2; \
 	    exit 1; }
 
-# The crates of this repository that the crate $(1) stands on, by its line in crates.txt.
+# The crates of this repository that the crate $(1) depends on, by its line in crates.txt.
 below = $(foreach name,$(shell sed -n 's/^$(1)\( [^:]*\)\{0,1\}:\([^\#]*\).*/\2/p' crates.txt),$(if $(wildcard crates/$(name)/src),$(name)))
 
 sources = $(shell find crates/$(1)/src crates/$(1)/specs crates/$(1)/proofs -name '*.rt' -o -name '*.antt' 2> /dev/null)
@@ -53,7 +53,7 @@ $(foreach name,$(notdir $(wildcard crates/*)),$(eval $(call crate-rule,$(name)))
 # Only a proved program is built. `rt ci` leaves it here too, so after `make test` it is not proved again.
 define program-rule
 crates/$(1)/out/$(1): out/marks/$(1)
-	@echo "proving $(1) and all that it stands on"
+	@echo "proving $(1) and all that it depends on"
 	@tools/prove $$(RT) $(1)
 	@touch $$@
 endef
