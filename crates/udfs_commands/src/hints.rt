@@ -113,7 +113,7 @@ fn of_file<F: Files>(
             )
         }
         ReadingFault::Truncated => of_cut(alloc, path, error.number, files),
-        ReadingFault::Trailing => { format!(in alloc; "{file} goes on behind its last record") }
+        ReadingFault::Trailing => { format!(in alloc; "{file} goes on after its last record") }
         ReadingFault::Io => format!(in alloc; "{file}: {}", Said(files.reason())),
         _ => {
             format!(in alloc;
@@ -278,7 +278,7 @@ fn of_output(
     let mut line = format!(in alloc; "{}: {}", Shown(out), Said(reason))?;
     if is_there(reason) {
         let more = format!(in alloc;
-            "; new files that ended runs left can be removed: {}.unfinished, and with ~ behind it",
+            "; new files that ended runs left can be removed: {}.unfinished, and the same with ~ added",
             Shown(out)
         )?;
         line.push_str(more.as_str())?;
@@ -343,7 +343,7 @@ fn of_no_node(
             Shown(path)
         )?)),
         Some(path) => Ok(Some(format!(in alloc;
-            "{} is none of the paths that list --paths prints",
+            "{} is not one of the paths that list --paths prints",
             Shown(path)
         )?)),
         None => Ok(None),

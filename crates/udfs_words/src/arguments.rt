@@ -52,7 +52,7 @@ pub fn force<'a>(alloc: Global) -> Arg<'a>
     flag(
         alloc,
         FORCE,
-        "Write over a reading that is none of the inputs",
+        "Write over a reading that is not one of the inputs",
     )
 }
 
@@ -144,7 +144,7 @@ pub fn image_file<'a>(alloc: Global) -> Arg<'a>
     output(
         alloc,
         "IMAGE",
-        "The image to write: zeros stand in the place of what is not known",
+        "The image to write: what is not known is zeros",
     )
 }
 

@@ -288,7 +288,7 @@ fn image<'a>(alloc: Global, given: Given) -> Result<Command<'a>, AllocError>
         .arg(flag(
             alloc,
             FORCE,
-            "Write over an image or a mapfile that is there and is none of the inputs",
+            "Write over an image or a mapfile that is there and is not one of the inputs",
         ))?;
     with_inputs(alloc, command, given.pairs)
 }

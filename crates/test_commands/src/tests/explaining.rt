@@ -25,7 +25,7 @@ $ merge --out t.tab a.rd short.rd --verbose
 refused udfsalvage: input 2: fault 4 Truncated at record 0\n  short.rd is cut short in its header\n
 
 $ merge --out t.tab -v long.rd
-refused udfsalvage: input 1: fault 5 Trailing at record 2\n  long.rd goes on behind its last record\n
+refused udfsalvage: input 1: fault 5 Trailing at record 2\n  long.rd goes on after its last record\n
 
 $ merge -v --out t.tab my.disc.iso
 refused udfsalvage: input 1: fault 1 Magic at record 0\n  my.disc.iso is no reading and no table; an image wants its map: --ddrescue my.disc.iso my.disc.map\n
@@ -68,7 +68,7 @@ $ extract -v --last 600 --to new --unnamed out disc.tab
 refused udfsalvage: cannot make the folder\n  out exists already, or is where another output goes, or the folder that it is in does not exist; --unnamed wants a new folder\n
 
 $ extract -v --last 600 --to new --only /A --only /none disc.tab
-refused udfsalvage: --only 2 is no node\n  /none is none of the paths that list --paths prints\n
+refused udfsalvage: --only 2 is no node\n  /none is not one of the paths that list --paths prints\n
 
 $ forget -v --out t.tab --blocks none.txt disc.tab
 refused udfsalvage: cannot open list\n  none.txt: the system does not say why\n
