@@ -7,7 +7,7 @@
 #   make hostile    makes each allocation of many runs fail in turn, makes each system call of the program's runs fail or ends it there,
 #                   and changes each byte of the sample discs' descriptors
 #   make try        tries the built program on this machine's own files and devices and on a terminal, and with GNU ddrescue where it is installed
-#   make install    puts the program, its man page and its completions below PREFIX; make uninstall takes them away
+#   make install    puts the program, the script udfsalvage-rescue, their man pages and the completions below PREFIX; make uninstall takes them away
 #   make clean      removes all that was made
 #   make dist       a tar of the sources, and one of the built program, in out/
 #   make deb        a Debian package of the built program in out/, looked at, installed, run and removed in a scratch root
@@ -81,13 +81,18 @@ try: all
 	@tools/try-terminal $(PROGRAM) examples
 	@tools/try-ddrescue $(PROGRAM) examples
 	@tools/try-volumes $(PROGRAM) examples
+	@tools/try-second-reader $(PROGRAM) examples
+	@tools/try-rescue $(PROGRAM)
 
 # Where the program is built, neither rt nor anything of the toolchain is needed.
 install:
 	@test -x $(PROGRAM) || $(MAKE) -s --no-print-directory all
 	install -d $(DESTDIR)$(PREFIX)/bin $(DESTDIR)$(PREFIX)/share/man/man1
 	install -m 755 $(PROGRAM) $(DESTDIR)$(PREFIX)/bin/udfsalvage
-	install -m 644 man/udfsalvage.1 $(DESTDIR)$(PREFIX)/share/man/man1/udfsalvage.1
+	@mkdir -p out
+	@tools/join-rescue out/udfsalvage-rescue
+	install -m 755 out/udfsalvage-rescue $(DESTDIR)$(PREFIX)/bin/udfsalvage-rescue
+	install -m 644 man/udfsalvage.1 man/udfsalvage-rescue.1 $(DESTDIR)$(PREFIX)/share/man/man1
 	@tools/make-completions $(PROGRAM) out/completions
 	install -D -m 644 out/completions/bash/udfsalvage $(DESTDIR)$(PREFIX)/share/bash-completion/completions/udfsalvage
 	install -D -m 644 out/completions/zsh/_udfsalvage $(DESTDIR)$(PREFIX)/share/zsh/site-functions/_udfsalvage
@@ -95,6 +100,7 @@ install:
 
 uninstall:
 	rm -f $(DESTDIR)$(PREFIX)/bin/udfsalvage $(DESTDIR)$(PREFIX)/share/man/man1/udfsalvage.1
+	rm -f $(DESTDIR)$(PREFIX)/bin/udfsalvage-rescue $(DESTDIR)$(PREFIX)/share/man/man1/udfsalvage-rescue.1
 	rm -f $(DESTDIR)$(PREFIX)/share/bash-completion/completions/udfsalvage $(DESTDIR)$(PREFIX)/share/zsh/site-functions/_udfsalvage
 	rm -f $(DESTDIR)$(PREFIX)/share/fish/vendor_completions.d/udfsalvage.fish
 

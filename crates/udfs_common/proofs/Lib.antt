@@ -2,3 +2,5 @@ pub mod BlamingLemmas
 pub mod KeepingLemmas
 pub mod PlacingLemmas
 pub mod JobLemmas
+pub mod PutsLemmas
+pub mod OldClauses

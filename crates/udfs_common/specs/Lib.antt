@@ -5,3 +5,6 @@ pub mod Guarding
 pub mod Sources
 pub mod Blaming
 pub mod Jobs
+pub mod Reach
+pub mod Puts
+pub mod Ends

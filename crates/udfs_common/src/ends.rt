@@ -3,11 +3,14 @@
 ghost use Rattle.std.specs.Prelude.{◌≡◌, ◌≢◌, ◌⊎◌, ◌%◌, true, [], IfOk, IfErr, IfSome};
 ghost use Rattle.clap.specs.Matches.{found_of};
 ghost use Rattle.udfs_common.specs.Blaming.{EndRefused, InputsRefused};
+ghost use Rattle.udfs_common.specs.Ends.{HasNoLast, IsEnd};
+ghost use Rattle.udfs_common.specs.Reach.{found_at};
 ghost use Rattle.udfs_common.specs.declared.sources.AnySource.{AnySource};
 ghost use Rattle.udfs_words.specs.Asking.{EndsAt, EndsMap, IsLast, MapsEndAt};
 
 use crate::files::Files;
 use crate::inputs::joined;
+use crate::known::Known;
 use crate::refusal::Refusal;
 use crate::sources::AnySource;
 use clap::ArgMatches;
@@ -17,6 +20,7 @@ use udfs_reading::Source;
 use udfs_rescue::{MapError, Mapfile};
 use udfs_words::input_path::InputPath;
 use udfs_words::last::{asked_last, is_whole, last_of_size};
+use udfs_words::request::LastSource;
 use udfs_words::words::{LAST, SIZE};
 
 /// Where the runs of a mapfile end, in bytes; nothing where it is no file, or none that is a mapfile with a run. A pipe is not read: it can be read but once.
@@ -107,6 +111,31 @@ fn no_end<F: Files>(alloc: Global, inputs: &[InputPath<'_>], files: &F) -> Refus
         return refusal;
     }
     Refusal::NoLast
+}
+
+/// The last block of a disc: the one that was given, or else the one with which the mapfiles of all inputs end.
+///
+/// # Errors
+///
+/// `NoLast` where none was given, and the inputs are not all images whose mapfiles end at one and the same multiple of 2048 bytes; what is wrong with the images
+/// comes first. `Memory` where memory ran out.
+pub fn last_block<F: Files>(
+    alloc: Global,
+    source: LastSource,
+    inputs: &[InputPath<'_>],
+    files: &F,
+) -> Result<u32, Refusal>
+    ensures ends { IfOk result (IsEnd (found_at ⟦<F as Known>⟧.reach files.now) source inputs.now) }
+    ensures blamed { IfErr result (HasNoLast ⟦<F as Known>⟧.reach files.now source inputs.now) }
+{
+    match source {
+        LastSource::Block(last) => Ok(last),
+        LastSource::OfMaps => match size_by_maps(alloc, inputs, files) {
+            Ok(Some(end)) => Ok(last_of_size(end)),
+            Ok(None) => Err(no_end(alloc, inputs, files)),
+            Err(AllocError) => Err(Refusal::Memory(AllocError)),
+        },
+    }
 }
 
 /// The last block: the one among the arguments, or that of the size among them, or else the one with which the mapfiles of all inputs end.

@@ -7,6 +7,7 @@ pub mod files;
 pub mod guard;
 pub mod inputs;
 pub mod job_putting;
+pub mod known;
 pub mod placing;
 pub mod putting;
 pub mod refusal;

@@ -3,9 +3,11 @@
 ghost use Rattle.std.specs.Prelude.{◌≡◌, ◌≢◌, ◌⊎◌, ℕ, List, Some, IfErr, OnOk, OnErr, IsErrOf};
 ghost use Rattle.udfs_files.specs.Disk.{Disk, After, IsOwn, Replaced, Fails, SinkFails};
 ghost use Rattle.udfs_common.specs.Keeping.{IsKept, IsTaken, RefusedOut};
+ghost use Rattle.udfs_common.specs.Puts.{Puts};
 ghost use Rattle.udfs_common.specs.Refusing.{IsUnput};
 
 use crate::files::Files;
+use crate::known::Known;
 use crate::refusal::Refusal;
 use std::alloc::{AllocError, Global};
 use udfs_files::{Content, Kind, ReplaceError, Stage, fill, replace};
@@ -33,6 +35,8 @@ pub fn put_file<F: Files, C: Content>(
     ensures left { OnErr result (RefusedOut F.tells F.holds F.real F.in_place (F.shut files.old out.now ⊎ Fails F.faults ⊎ SinkFails F.Output.stream) out.now files.old files.new (λ Put. Put (C.bytes content.now))) }
     ensures told { IfErr result (λ refusal. refusal ≢ Refusal.Spared) }
     ensures why { IfErr result (IsUnput (F.shut files.old out.now ⊎ Fails F.faults ⊎ SinkFails F.Output.stream)) }
+    // All of it as one fact.
+    ensures puts { Puts ⟦<F as Known>⟧.reach (λ bytes. bytes ≡ C.bytes content.now) out.now files.old files.new result }
 {
     files.begin(Stage::Writing);
     let target = match files.resolve(alloc, out) {

@@ -29,7 +29,7 @@ use udfs_files::Stage;
 use udfs_reading::{Sink, Source};
 use udfs_remarks::looking::listed;
 use udfs_remarks::no_reports::refused_run;
-use udfs_remarks::remarks::remark_on_listing;
+use udfs_remarks::remarks::{remark_on_left_out, remark_on_listing};
 use udfs_salvage::{Fill, Listing, Volume, write_volume_line};
 use udfs_volume::Profile;
 use udfs_words::input_path::InputPath;
@@ -205,6 +205,7 @@ pub fn put_report<F: Files, O: Sink>(
             if !told.heard {
                 return Err(Refusal::Output);
             }
+            remark_on_left_out(alloc, listing, files);
             Ok(Made {
                 good: is_all_good(told.good, whole),
                 manifest: Some(told.manifest),

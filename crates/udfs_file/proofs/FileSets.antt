@@ -43,7 +43,7 @@ rooted v a root e = go (address_fault v a) refl (v.place a.reference a.block) re
     go None p (Some n) q = record { good = p; block = n; place = q; is = sym (by_is v a None (Some n) p q) ∙ e }
 
 same_address : (s w : View) → IsPartOf s w → (a : LongAd) → address_fault s a ≡ address_fault w a
-same_address s w p a = λ i. address_fault (record { partitions = p.partitions i; place = λ r b. p.places r b i; blocks = s.blocks; takes_tail = p.tail i }) a
+same_address s w p a = λ i. address_fault (record { partitions = p.partitions i; place = λ r b. p.places r b i; blocks = s.blocks; profile = p.profile i }) a
 
 pub partial_file_set : PartialFileSet
 unfolding file_set_by

@@ -1,7 +1,6 @@
 -- A directory from the middle on: what was listed, before what the rest lists, is all of it.
-use Rattle.std.proofs.Common.{◌≡◌, refl, sym, ◌∙◌, ap, subst, ℕ, ◌+◌, ◌-◌, ◌<◌, ◌≤◌, List, [], ◌∷◌, ◌++◌, length, drop, arith, Option, Some, None, append_assoc, append-nil, nat_eq, true, false, cond, length-append}
-use Rattle.std.specs.Prelude.{zero, suc, Result, Ok, Err, IfErr, IsErrAnd}
-use Rattle.std.proofs.lemmas.Result.{err_from_is_err_and}
+use Rattle.std.proofs.Common.{◌≡◌, refl, sym, ◌∙◌, ap, subst, ℕ, ◌+◌, ◌<◌, ◌≤◌, List, [], ◌∷◌, ◌++◌, length, drop, arith, Option, Some, None, append_assoc, append-nil, nat_eq, true, false, cond, length-append}
+use Rattle.std.specs.Prelude.{zero, suc, Result, Ok, Err}
 use Rattle.udfs_tag.specs.Fields.{part, uint8_at, uint16_at, long_ad_at}
 use Rattle.udfs_osta.specs.Names.{units_of}
 use Rattle.udfs_osta.specs.declared.names.NameFault.{NameFault}
@@ -13,13 +12,11 @@ use Rattle.udfs_file.specs.Identifiers.{Rest}
 use Rattle.udfs_file.specs.Identifiers.{Step}
 use Rattle.udfs_file.specs.Identifiers.{AtRest, One}
 use Rattle.udfs_file.specs.declared.directories.DirFront.{DirFront}
-use Rattle.udfs_file.specs.Fronts.{step, read_on, read_from, directory, listed_entries, directory_entries, DirectoryText, missing_in, fault_in, IsFrontOf, IsFrontRefused, is_listed, identifier_in, entry_with, marks_of}
+use Rattle.udfs_file.specs.Fronts.{step, read_on, read_from, directory, listed_entries, directory_entries, DirectoryText, missing_in, fault_in, IsFrontOf, is_listed, identifier_in, entry_with, marks_of}
 use Rattle.udfs_file.specs.Steps.{IsDescriptor, IsListedIn, IsStep, bytes_of}
 use Rattle.udfs_file.specs.declared.cursors.Step as cursor
 use Rattle.udfs_file.specs.declared.cursors.Step.TheVariants.{Id}
 use Rattle.udfs_file.specs.declared.pieces.Pieces.{Pieces}
-use Rattle.udfs_file.specs.declared.faults.FrontError.{FrontError}
-use Rattle.udfs_file.specs.declared.faults.FrontError.TheVariants.{OutOfMemory}
 use Rattle.udfs_file.proofs.Readings.{StepOne, step_one}
 
 pub record IsFronting (cells left : List Cell) (listed : List DirEntry) : Type 0 where
@@ -112,17 +109,6 @@ pub nothing_behind : (first second : List ℕ) (o : Option DirEntry) → nat_eq 
 nothing_behind first [] o e l = subst (λ b. IsListedIn b o) (sym (append-nil first)) l
 nothing_behind first (x ∷ xs) o e l = absurd (let z : nat_eq (length (x ∷ xs)) 0 ≡ false = grind arith in let y : ⊥ = cc in y)
 
-pub fewer_left : (left behind : List Cell) (told : cursor.Step) (view : Pieces) → IsStep left told behind → told ≡ Id view → length behind < length left
-fewer_left left behind told view s t = go (subst (λ (x : cursor.Step). IsStep left x behind) t s)
-  where
-    go : IsStep left (Id view) behind → length behind < length left
-    go i = let one : StepOne left i.is.0 = step_one left i.is.0 i.is.2 in
-        let d : IsDescriptor (bytes_of view) i.is.0 = i.is.1 in
-        let size : i.is.0.size ≡ length (bytes_of view) = d.size in
-        let big : 38 ≤ i.is.0.size = one.big in let fits : i.is.0.size ≤ length left = one.fits in
-        let e : length behind ≡ length left - length (bytes_of view) = ap length i.behind ∙ length-drop (length (bytes_of view)) left in
-        omega (arith, size, big, fits, e)
-
 -- the front ends with what ends the descriptors
 pub front_ended : (cells left : List Cell) (listed : List DirEntry) (front : DirFront) (rest : Rest)
     → IsFronting cells left listed → (step left ≡ AtRest rest) → front.entries.items ≡ listed → front.missing ≡ missing_in rest → front.fault ≡ fault_in rest → IsFrontOf front cells
@@ -165,8 +151,3 @@ lists_some cells left listed behind view told f s t l = go (subst (λ (x : curso
     go : IsStep left (Id view) behind → length listed < length (directory_entries cells)
     go i = let w = listed_in (bytes_of view) i.is.0 l i.is.1.is in
         some_entry cells left listed f.fuel i.is.0.size w.0 f.enough (i.is.2 ∙ ap (λ o. One (record { size = i.is.0.size; listed = o })) w.1) f.entries
-
--- where memory is refused, there is an entry
-pub no_memory : {A : Type 0} (r : Result A FrontError) (most : ℕ) (cells : List Cell) (n : ℕ) → IsErrAnd r (λ e. e ≡ OutOfMemory) → n < length (directory_entries cells) → IfErr r (IsFrontRefused most cells)
-no_memory r most cells n h l = let p = err_from_is_err_and r h in
-    subst (λ x. IfErr x (IsFrontRefused most cells)) (sym (p.1 ∙ ap Err p.2)) (let z : 0 < length (directory_entries cells) = omega (arith, l) in z)

@@ -6,6 +6,7 @@ use Rattle.std.proofs.lemmas.List.Sums.{take_while-cons}
 use Rattle.udfs_volume.specs.Sequence.{Bytes}
 use Rattle.udfs_tag.specs.declared.layouts.LongAd.{LongAd}
 use Rattle.udfs_tag.specs.Fields.{part, uint32_at}
+use Rattle.udfs_volume.specs.Profiles.{takes_tail}
 use Rattle.udfs_file.specs.Entries.{EntryFields}
 use Rattle.udfs_file.specs.Laws.{IsBeginningOf}
 use Rattle.udfs_file.specs.Standard.{PartitionBlocks, Located, extent_bytes, extents_in, IsJoined, IsExtentsBody, IsEmbeddedBody, IsBodyOf}
@@ -32,7 +33,7 @@ joined_alike blocks form r area (a ∷ f) (b ∷ g) xs ys (d, later, n, o, k, v,
     same = some_same a b (sym k ∙ (λ i. blocks.at (at i).reference (at i).block) ∙ k')
 
     E : List LongAd
-    E = extents_in blocks.takes_tail form r area
+    E = extents_in (takes_tail blocks.profile) form r area
 
     go : AreAlike later later' → AreAlike xs ys
     go (inl (rest, w)) = inl (rest, e' ∙ ap (λ z. E ++ z) w ∙ sym (append_assoc E later rest) ∙ ap (λ z. z ++ rest) (sym e))

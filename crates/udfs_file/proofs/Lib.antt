@@ -33,3 +33,5 @@ pub mod StandardBodies
 pub mod StandardDirectories
 pub mod PublicLaws
 pub mod PortionCells
+mod StorePieces
+mod StoreSteps

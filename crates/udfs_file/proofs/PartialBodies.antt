@@ -8,6 +8,7 @@ use Rattle.udfs_lattice.specs.States.{is_known}
 use Rattle.udfs_lattice.proofs.Inclusion.{Includes, included, contained}
 use Rattle.udfs_tag.specs.declared.layouts.LongAd.{LongAd}
 use Rattle.udfs_space.specs.Places.{View, IsPartOf}
+use Rattle.udfs_volume.specs.Profiles.{takes_tail}
 use Rattle.udfs_file.specs.Entries.{EntryFields}
 use Rattle.udfs_file.specs.Bodies.{covers, with_start, used, allocation_descriptors, cells, chain, faulty_body, extents_body_by, embedded_body, body, IsRecordedFor, IsContinuedFor, IsNeededFor}
 use Rattle.udfs_file.specs.declared.cells.Cell.{Cell}
@@ -91,8 +92,8 @@ record Gaps (s w : View) (r : ℕ) (e : EntryFields) (part : List Cell) (k : ℕ
 
 descriptors_fit : (s w : View) → IsPartOf s w → (r : ℕ) (e : EntryFields) → ChainFits s w (allocation_descriptors s r e) (allocation_descriptors w r e)
 unfolding allocation_descriptors
-descriptors_fit s w p r e = subst (λ t. ChainFits s w (chain s.takes_tail s e.form r 256 e.area) (chain t w e.form r 256 e.area)) p.tail
-    (chain_fits s.takes_tail s w p e.form r 256 e.area)
+descriptors_fit s w p r e = subst (λ t. ChainFits s w (chain (takes_tail s.profile) s e.form r 256 e.area) (chain t w e.form r 256 e.area)) (ap takes_tail p.profile)
+    (chain_fits (takes_tail s.profile) s w p e.form r 256 e.area)
 
 gaps_of : (s w : View) → IsPartOf s w → (r b : ℕ) (e : EntryFields) (whole part : List Cell) → body w r b e ≡ cells whole → body s r b e ≡ cells part → length part ≡ length whole
     → (k : ℕ) → Gaps s w r e part k

@@ -10,6 +10,7 @@ use Rattle.udfs_lattice.specs.States.{State}
 use Rattle.udfs_lattice.specs.declared.facts.Fact.TheVariants.{Unknown, Known, Conflict}
 use Rattle.udfs_tag.specs.declared.layouts.LongAd.{LongAd}
 use Rattle.udfs_space.specs.Places.{View, IsPartOf}
+use Rattle.udfs_volume.specs.Profiles.{takes_tail}
 use Rattle.udfs_file.specs.Entries.{EntryFields}
 use Rattle.udfs_file.specs.Bodies.{Next, no_more, area_at, unread_at, broken, Descriptors, covers, cells_in, extent_fault, continuation_fault, next_of, next_if, next_area, next_descriptor, up_to_next, descriptors_in, joined, no_descriptors, chain, allocation_descriptors, cell_in, cell_at, extent_cells, recorded_cell, Body, cells, faulty_body, ended_body, body_unless, extents_body}
 use Rattle.udfs_file.specs.declared.cells.Cell.{Cell}
@@ -21,10 +22,10 @@ use Rattle.udfs_file.proofs.BodyFrom.{onto, from, le_or_lt, not_le, is_le, body-
 
 -- what depends on the places alone is the same
 pub same_fault : (s w : View) → IsPartOf s w → (size : ℕ) (e : ℕ × LongAd) → extent_fault s size e ≡ extent_fault w size e
-same_fault s w p size e = λ i. extent_fault (record { partitions = p.partitions i; place = λ r b. p.places r b i; blocks = s.blocks; takes_tail = p.tail i }) size e
+same_fault s w p size e = λ i. extent_fault (record { partitions = p.partitions i; place = λ r b. p.places r b i; blocks = s.blocks; profile = p.profile i }) size e
 
 pub same_continuation : (s w : View) → IsPartOf s w → (is_last : Bool) (d : LongAd) → continuation_fault s is_last d ≡ continuation_fault w is_last d
-same_continuation s w p is_last d = λ i. continuation_fault (record { partitions = p.partitions i; place = λ r b. p.places r b i; blocks = s.blocks; takes_tail = p.tail i }) is_last d
+same_continuation s w p is_last d = λ i. continuation_fault (record { partitions = p.partitions i; place = λ r b. p.places r b i; blocks = s.blocks; profile = p.profile i }) is_last d
 
 -- a cell is the complete one's or missing
 IsCellOf-refl : (c : Cell) → IsCellOf c c
@@ -286,8 +287,8 @@ chain_is t s w p form r (suc left) area = let ds : List LongAd = descriptors_in 
 
 pub descriptors_is : (s w : View) → IsPartOf s w → (r : ℕ) (e : EntryFields) → ChainIs s (allocation_descriptors s r e) (allocation_descriptors w r e)
 unfolding allocation_descriptors
-descriptors_is s w p r e = subst (λ t. ChainIs s (chain s.takes_tail s e.form r 256 e.area) (chain t w e.form r 256 e.area)) p.tail
-    (chain_is s.takes_tail s w p e.form r 256 e.area)
+descriptors_is s w p r e = subst (λ t. ChainIs s (chain (takes_tail s.profile) s e.form r 256 e.area) (chain t w e.form r 256 e.area)) (ap takes_tail p.profile)
+    (chain_is (takes_tail s.profile) s w p e.form r 256 e.area)
 
 pub part_extents : (s w : View) → IsPartOf s w → (size : ℕ) (ds dw : Descriptors) → ChainIs s ds dw → (whole : List Cell)
     → extents_body w size dw ≡ cells whole → PartIs (extents_body s size ds) whole

@@ -13,6 +13,7 @@ use Rattle.udfs_tag.specs.Faults.{first_fault}
 use Rattle.udfs_tag.specs.Fields.{part, uint32_at}
 use Rattle.udfs_tag.specs.Tags.{is_valid}
 use Rattle.udfs_space.specs.Places.{View}
+use Rattle.udfs_volume.specs.Profiles.{takes_tail}
 use Rattle.udfs_file.specs.Entries.{EntryFields, descriptor_size}
 use Rattle.udfs_file.specs.Bodies.{Next, no_more, area_at, broken, Descriptors, covers, cells_in, extent_fault, continuation_fault, next_of, next_if, next_area, next_descriptor, descriptors_in, joined, no_descriptors, chain, allocation_descriptors, extent_cells, Body, cells, faulty_body, body_unless, extents_body, extents_body_by, embedded_body, body}
 use Rattle.udfs_file.specs.declared.cells.Cell.{Cell}
@@ -284,16 +285,16 @@ area_back all blocks w has form r size below is_last later h (d ∷ ds) c f xs r
         cover = ap (λ b. cond b 0 d.length) (not_three (nat_eq d.kind 3) e)
     go ih false e (inr l) = on_next e l f refl j
 
-by_area : (blocks : PartitionBlocks) (form r : ℕ) (area : Bytes) (f : List Bytes) (xs : List LongAd) → IsJoined blocks form r area f xs → IsJoinedBy blocks form r (descriptors_in blocks.takes_tail form r area) f xs
+by_area : (blocks : PartitionBlocks) (form r : ℕ) (area : Bytes) (f : List Bytes) (xs : List LongAd) → IsJoined blocks form r area f xs → IsJoinedBy blocks form r (descriptors_in (takes_tail blocks.profile) form r area) f xs
 by_area blocks form r area [] xs h = h
 by_area blocks form r area (b ∷ f) xs h = h
 
 chain_back : (all : View) (blocks : PartitionBlocks) → IsComplete all blocks → HasPartitions all → (form r size most : ℕ) (area : Bytes) (c : ℕ) (f : List Bytes) (xs : List LongAd)
-    → IsJoined blocks form r area f xs → length f ≤ most → Left blocks size c xs → HasCells (from all size (chain blocks.takes_tail all form r most area).behind c (chain blocks.takes_tail all form r most area).all)
+    → IsJoined blocks form r area f xs → length f ≤ most → Left blocks size c xs → HasCells (from all size (chain (takes_tail blocks.profile) all form r most area).behind c (chain (takes_tail blocks.profile) all form r most area).all)
 chain_back all blocks w has form r size zero area c f xs j few left = area_back all blocks w has form r size 0 true (λ a. no_descriptors) (λ last. absurd (let z : ⊥ = cc in z))
-    (descriptors_in blocks.takes_tail form r area) c f xs (λ bytes more q. absurd (let p : length f ≡ suc (length more) = ap length q in let z : ⊥ = omega (arith, few, p) in z)) (by_area blocks form r area f xs j) left
-chain_back all blocks w has form r size (suc most) area c f xs j few left = area_back all blocks w has form r size most false (λ a. chain blocks.takes_tail all form r most a)
-    (λ last a. chain_back all blocks w has form r size most a) (descriptors_in blocks.takes_tail form r area) c f xs
+    (descriptors_in (takes_tail blocks.profile) form r area) c f xs (λ bytes more q. absurd (let p : length f ≡ suc (length more) = ap length q in let z : ⊥ = omega (arith, few, p) in z)) (by_area blocks form r area f xs j) left
+chain_back all blocks w has form r size (suc most) area c f xs j few left = area_back all blocks w has form r size most false (λ a. chain (takes_tail blocks.profile) all form r most a)
+    (λ last a. chain_back all blocks w has form r size most a) (descriptors_in (takes_tail blocks.profile) form r area) c f xs
     (λ bytes more q. (refl, let p : length f ≡ suc (length more) = ap length q in omega (arith, few, p))) (by_area blocks form r area f xs j) left
 
 extents_back : (all : View) (blocks : PartitionBlocks) → IsComplete all blocks → HasPartitions all → (r : ℕ) (entry : EntryFields) (whole : List Located) → IsExtentsBody blocks r entry whole
@@ -302,7 +303,7 @@ unfolding allocation_descriptors
 extents_back all blocks w has r entry whole x = (got.0, body-from all entry.size (allocation_descriptors all r entry) ∙ got.1)
   where
     got : HasCells (from all entry.size (allocation_descriptors all r entry).behind 0 (allocation_descriptors all r entry).all)
-    got = subst (λ t. HasCells (from all entry.size (chain t all entry.form r 256 entry.area).behind 0 (chain t all entry.form r 256 entry.area).all)) w.tail
+    got = subst (λ t. HasCells (from all entry.size (chain t all entry.form r 256 entry.area).behind 0 (chain t all entry.form r 256 entry.area).all)) (ap takes_tail w.profile)
         (chain_back all blocks w has entry.form r entry.size 256 entry.area 0 x.followed x.extents x.joined x.limit
         (record { sound = x.sound; enough = let e : entry.size ≤ length x.bytes = x.enough in let z : length x.bytes ≡ length (bytes_of blocks x.extents) = ap length x.together in omega (arith, e, z) }))
 

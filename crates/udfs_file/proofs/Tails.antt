@@ -8,6 +8,7 @@ use Rattle.udfs_volume.specs.Layout.{blocks_in}
 use Rattle.udfs_tag.specs.declared.layouts.LongAd.{LongAd}
 use Rattle.udfs_tag.specs.Faults.{first_fault}
 use Rattle.udfs_space.specs.Places.{View, is_past}
+use Rattle.udfs_volume.specs.Profiles.{takes_tail}
 use Rattle.udfs_file.specs.Entries.{EntryFields}
 use Rattle.udfs_file.specs.Bodies.{Next, no_more, area_at, unread_at, broken, Descriptors, in_whole_blocks, recorded_at, is_last_at, descriptor_at, descriptor_count, descriptors_in, covers, cells_in, extent_fault, extent_cells, recorded_cell, next_of, next_descriptor, up_to_next, joined, no_descriptors, chain, allocation_descriptors, Body, cells, faulty_body, body_unless, listed_body, or_body, extents_body, extents_body_by}
 use Rattle.udfs_file.specs.declared.cells.Cell.{Cell}
@@ -271,12 +272,12 @@ by_flag v form r size area cs true e = go (listed_body true v form r size area) 
 -- where a body has no fault it is that of the descriptors as they are counted
 pub counted_body : (v : View) (r : ℕ) (e : EntryFields) (cs : List Cell) → extents_body_by v e.form r e.size e.area ≡ cells cs → extents_body v e.size (allocation_descriptors v r e) ≡ cells cs
 unfolding extents_body_by listed_body allocation_descriptors
-counted_body v r e cs q = by_flag v e.form r e.size e.area cs v.takes_tail q
+counted_body v r e cs q = by_flag v e.form r e.size e.area cs (takes_tail v.profile) q
 
 -- and back
 pub body_counted : (v : View) (r : ℕ) (e : EntryFields) (cs : List Cell) → extents_body v e.size (allocation_descriptors v r e) ≡ cells cs → extents_body_by v e.form r e.size e.area ≡ cells cs
 unfolding extents_body_by listed_body allocation_descriptors
-body_counted v r e cs q = go v.takes_tail q
+body_counted v r e cs q = go (takes_tail v.profile) q
   where
     go : (t : Bool) → extents_body v e.size (chain t v e.form r 256 e.area) ≡ cells cs
         → cond t (or_body (extents_body v e.size (chain true v e.form r 256 e.area)) (extents_body v e.size (chain false v e.form r 256 e.area)))
@@ -285,15 +286,15 @@ body_counted v r e cs q = go v.takes_tail q
     go false k = k
 
 -- ---- one after the other
-pub with_tail : (v : View) (form r size : ℕ) (area : List ℕ) (cs : List Cell) → v.takes_tail ≡ true → listed_body true v form r size area ≡ cells cs → extents_body_by v form r size area ≡ cells cs
+pub with_tail : (v : View) (form r size : ℕ) (area : List ℕ) (cs : List Cell) → takes_tail v.profile ≡ true → listed_body true v form r size area ≡ cells cs → extents_body_by v form r size area ≡ cells cs
 unfolding extents_body_by
 with_tail v form r size area cs t e = λ i. cond (t i) (or_body (e i) (listed_body false v form r size area)) (listed_body false v form r size area)
 
-pub without_tail : (v : View) (form r size : ℕ) (area : List ℕ) (f : NodeFault) → v.takes_tail ≡ true → listed_body true v form r size area ≡ faulty_body f
+pub without_tail : (v : View) (form r size : ℕ) (area : List ℕ) (f : NodeFault) → takes_tail v.profile ≡ true → listed_body true v form r size area ≡ faulty_body f
     → extents_body_by v form r size area ≡ listed_body false v form r size area
 unfolding extents_body_by
 without_tail v form r size area f t e = λ i. cond (t i) (or_body (e i) (listed_body false v form r size area)) (listed_body false v form r size area)
 
-pub no_tail : (v : View) (form r size : ℕ) (area : List ℕ) → v.takes_tail ≡ false → extents_body_by v form r size area ≡ listed_body false v form r size area
+pub no_tail : (v : View) (form r size : ℕ) (area : List ℕ) → takes_tail v.profile ≡ false → extents_body_by v form r size area ≡ listed_body false v form r size area
 unfolding extents_body_by
 no_tail v form r size area t = ap (λ b. cond b (or_body (listed_body true v form r size area) (listed_body false v form r size area)) (listed_body false v form r size area)) t

@@ -1,5 +1,5 @@
 -- What the calls tell of partitions of which a part is known, by what they answer.
-use Rattle.std.proofs.Common.{◌≡◌, refl, sym, ◌∙◌, ap, subst, ℕ, ◌+◌, ◌<◌, ◌≤◌, Bool, true, false, List, [], ◌∷◌, ◌++◌, length, take, drop, map, cond, ◌||◌, arith, Option, Some, None, nat_lt, slice_get}
+use Rattle.std.proofs.Common.{◌≡◌, refl, sym, ◌∙◌, ap, subst, ℕ, ◌+◌, ◌<◌, Bool, true, false, List, [], ◌∷◌, ◌++◌, length, take, drop, map, cond, ◌||◌, arith, Option, Some, None, nat_lt, slice_get}
 use Rattle.std.specs.Prelude.{zero, suc, Result, Ok, Err, ⊤}
 use Rattle.std.specs.List.{AllZip, cons_option}
 use Rattle.std.proofs.lemmas.List.{length-append}
@@ -192,7 +192,7 @@ reads_on (i ∷ is) rest (j ∷ js) behind id e h =
     (fewer j.listed (listed_entries js) (listed_entries is) (subst (λ z. length (listed_entries (j ∷ js)) < length (listed_entries (z ∷ is))) same h)) in
     (later.0, λ t. same t ∷ later.1 t)
 
-tells_front : (part : List Cell) (front : DirFront) → IsFrontOf front part → TellsFront part front
+pub tells_front : (part : List Cell) (front : DirFront) → IsFrontOf front part → TellsFront part front
 tells_front part front f whole h = record {
   entries = subst (λ es. IsBeginningOf es (directory_entries whole)) (sym f.entries) law.entries;
   reached = λ before behind id entry e l. (clear before behind id e, listed before behind id entry e l);
@@ -235,7 +235,3 @@ tells_front part front f whole h = record {
     ends e Nothing q m = refl
     ends e (Stopped n) q m = absurd (let x : ⊥ = cc in x)
     ends e (Wrong fault) q m = absurd (law.no_fault e fault q)
-
-pub front_clauses : (part : List Cell) (front : DirFront) (most : ℕ) → IsFrontOf front part → length front.entries.items ≤ most
-    → record { value : IsFrontOf front part; complete : TellsFront part front; few : length front.entries.items ≤ most; refused : Unit {0} }
-front_clauses part front most f h = record { value = f; complete = tells_front part front f; few = h; refused = tt }

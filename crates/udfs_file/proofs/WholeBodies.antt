@@ -11,6 +11,7 @@ use Rattle.udfs_tag.specs.declared.layouts.LongAd.{LongAd}
 use Rattle.udfs_tag.specs.Fields.{part, uint32_at}
 use Rattle.udfs_tag.specs.Tags.{is_valid}
 use Rattle.udfs_space.specs.Places.{View}
+use Rattle.udfs_volume.specs.Profiles.{takes_tail}
 use Rattle.udfs_file.specs.Entries.{EntryFields, descriptor_size}
 use Rattle.udfs_file.specs.Bodies.{Next, no_more, area_at, broken, Descriptors, covers, cells_in, continuation_fault, next_of, next_if, next_area, next_descriptor, up_to_next, descriptors_in, joined, no_descriptors, chain, allocation_descriptors, extent_cells, cells, faulty_body, ended_body, extents_body, extents_body_by, embedded_body, body}
 use Rattle.udfs_file.specs.declared.cells.Cell.{Cell}
@@ -35,7 +36,7 @@ IsJoinedBy blocks form r ds (bytes ∷ more) xs = (d : LongAd) × (later : List 
     × IsJoined blocks form r (part bytes 24 (uint32_at bytes 20)) more later
     × (xs ≡ take_while is_other ds ++ later)
 
-pub joined_by : (blocks : PartitionBlocks) (form r : ℕ) (area : Bytes) (f : List Bytes) (xs : List LongAd) → IsJoinedBy blocks form r (descriptors_in blocks.takes_tail form r area) f xs
+pub joined_by : (blocks : PartitionBlocks) (form r : ℕ) (area : Bytes) (f : List Bytes) (xs : List LongAd) → IsJoinedBy blocks form r (descriptors_in (takes_tail blocks.profile) form r area) f xs
     → IsJoined blocks form r area f xs
 joined_by blocks form r area [] xs h = h
 joined_by blocks form r area (b ∷ f) xs h = h
@@ -340,7 +341,7 @@ area_reads all blocks w form r size most below is_last room later h (d ∷ ds) c
     go (inr l) false q ih = next_reads all blocks w form r size most below c is_last room later h d ds cs q l (next_of all form is_last (Some d)) (then_is all blocks w form is_last d)
         (to (joined (d ∷ []) (next_of all form is_last (Some d)) later) (area-cons all form is_last later d ds false q))
 
-of_area : (blocks : PartitionBlocks) (form r size most : ℕ) (area : Bytes) (c : ℕ) (cs : List Cell) → Reading blocks size most (IsJoinedBy blocks form r (descriptors_in blocks.takes_tail form r area)) c cs
+of_area : (blocks : PartitionBlocks) (form r size most : ℕ) (area : Bytes) (c : ℕ) (cs : List Cell) → Reading blocks size most (IsJoinedBy blocks form r (descriptors_in (takes_tail blocks.profile) form r area)) c cs
     → Reading blocks size most (IsJoined blocks form r area) c cs
 of_area blocks form r size most area c cs q = record { followed = q.followed; extents = q.extents; joined = joined_by blocks form r area q.followed q.extents q.joined; limit = q.limit; sound = q.sound; enough = q.enough; same = q.same }
 
@@ -348,18 +349,18 @@ no_less : (n : ℕ) → n ≤ n
 no_less n = omega arith
 
 chain_reads : (all : View) (blocks : PartitionBlocks) → IsComplete all blocks → (form r size left : ℕ) (area : Bytes) (c : ℕ) (cs : List Cell)
-    → from all size (chain blocks.takes_tail all form r left area).behind c (chain blocks.takes_tail all form r left area).all ≡ cells cs → Reading blocks size left (IsJoined blocks form r area) c cs
+    → from all size (chain (takes_tail blocks.profile) all form r left area).behind c (chain (takes_tail blocks.profile) all form r left area).all ≡ cells cs → Reading blocks size left (IsJoined blocks form r area) c cs
 chain_reads all blocks w form r size zero area c cs e = of_area blocks form r size 0 area c cs
-    (area_reads all blocks w form r size 0 0 true (λ t. absurd (let no : ⊥ = cc in no)) (λ a. no_descriptors) nothing_more (descriptors_in blocks.takes_tail form r area) c cs e)
+    (area_reads all blocks w form r size 0 0 true (λ t. absurd (let no : ⊥ = cc in no)) (λ a. no_descriptors) nothing_more (descriptors_in (takes_tail blocks.profile) form r area) c cs e)
   where
     nothing_more : (a : Bytes) (c : ℕ) (cs : List Cell) → from all size no_more c [] ≡ cells cs → Reading blocks size 0 (IsJoined blocks form r a) c cs
     nothing_more a c cs e = go (le_or_lt size c)
       where
         go : (size ≤ c) ⊎ (c < size) → Reading blocks size 0 (IsJoined blocks form r a) c cs
-        go (inl l) = reading_done all blocks size 0 (IsJoined blocks form r a) no_more c [] cs (extents_in blocks.takes_tail form r a) refl l e
+        go (inl l) = reading_done all blocks size 0 (IsJoined blocks form r a) no_more c [] cs (extents_in (takes_tail blocks.profile) form r a) refl l e
         go (inr l) = no_cells Short cs (sym (from-end all size no_more c l) ∙ e)
 chain_reads all blocks w form r size (suc left) area c cs e = of_area blocks form r size (suc left) area c cs
-    (area_reads all blocks w form r size (suc left) left false (λ t. no_less (suc left)) (λ a. chain blocks.takes_tail all form r left a) (λ a. chain_reads all blocks w form r size left a) (descriptors_in blocks.takes_tail form r area) c cs e)
+    (area_reads all blocks w form r size (suc left) left false (λ t. no_less (suc left)) (λ a. chain (takes_tail blocks.profile) all form r left a) (λ a. chain_reads all blocks w form r size left a) (descriptors_in (takes_tail blocks.profile) form r area) c cs e)
 
 -- the body is read
 record Found (blocks : PartitionBlocks) (cs : List Cell) (reads : List Located → Type 0) : Type 0 where
@@ -391,7 +392,7 @@ extents_read all blocks w r entry cs e = record {
 
     q : Reading blocks entry.size 256 (IsJoined blocks entry.form r entry.area) 0 cs
     q = chain_reads all blocks w entry.form r entry.size 256 entry.area 0 cs
-        (ap (λ t. from all entry.size (chain t all entry.form r 256 entry.area).behind 0 (chain t all entry.form r 256 entry.area).all) w.tail ∙ sym (body-from all entry.size (allocation_descriptors all r entry)) ∙ e)
+        (ap (λ t. from all entry.size (chain t all entry.form r 256 entry.area).behind 0 (chain t all entry.form r 256 entry.area).all) (ap takes_tail w.profile) ∙ sym (body-from all entry.size (allocation_descriptors all r entry)) ∙ e)
 
 le_is : (a b : ℕ) → nat_le a b ≡ true → a ≤ b
 le_is a b e = grind arith

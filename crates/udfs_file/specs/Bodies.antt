@@ -15,6 +15,7 @@ use Rattle.udfs_tag.specs.Faults.{first_fault}
 use Rattle.udfs_tag.specs.Tags.{is_valid}
 use Rattle.udfs_volume.specs.Layout.{blocks_in}
 use Rattle.udfs_space.specs.Places.{View, block_at, is_past}
+use Rattle.udfs_volume.specs.Profiles.{takes_tail}
 use Rattle.udfs_file.specs.Entries.{EntryFields, descriptor_size}
 use Rattle.udfs_file.specs.declared.cells.Cell.{Cell}
 use Rattle.udfs_file.specs.declared.cells.Cell.TheVariants.{Byte, Gap}
@@ -123,7 +124,7 @@ chain tail view form r (suc left) area = let ds = descriptors_in tail form r are
 
 -- the allocation descriptors of an entry, with those of at most 256 continuations
 unfoldable pub allocation_descriptors : View → ℕ → EntryFields → Descriptors
-allocation_descriptors view r entry = chain view.takes_tail view entry.form r 256 entry.area
+allocation_descriptors view r entry = chain (takes_tail view.profile) view entry.form r 256 entry.area
 
 -- how many cells a descriptor covers
 abbrev pub covers : LongAd → ℕ
@@ -235,7 +236,7 @@ or_body (faulty_body fault) other = other
 
 -- the body with the tail of the last extent, where the view takes it and it gives a body; else without the tail
 unfoldable pub extents_body_by : View → ℕ → ℕ → ℕ → List ℕ → Body
-extents_body_by view form r size area = cond view.takes_tail (or_body (listed_body true view form r size area) (listed_body false view form r size area))
+extents_body_by view form r size area = cond (takes_tail view.profile) (or_body (listed_body true view form r size area) (listed_body false view form r size area))
     (listed_body false view form r size area)
 
 -- the body that is embedded in its entry (ECMA-167 4/14.6.8)

@@ -23,12 +23,12 @@ use Rattle.udfs_volume.specs.Answers.{found}
 use Rattle.udfs_file.specs.Addresses.{file_set}
 use Rattle.udfs_file.specs.Standard.{PartitionBlocks, Located, IsFileSetAt, IsBodyOf, IsDirectoryBody}
 
--- the blocks of a view of which each block that has a place is known, and is whole; the last extent is read in one way
+-- the blocks of a view of which each block that has a place is known, and is whole; both are read by the same rules
 pub record IsComplete (all : View) (blocks : PartitionBlocks) : Type 0 where
   pub nowhere : (r b : ℕ) → all.place r b ≡ None → blocks.at r b ≡ None
   pub there : (r b n : ℕ) → all.place r b ≡ Some n
       → (bytes : Bytes) × (all.blocks n ≡ Known bytes) × (blocks.at r b ≡ Some bytes) × (length bytes ≡ 2048)
-  pub tail : blocks.takes_tail ≡ all.takes_tail
+  pub profile : blocks.profile ≡ all.profile
 
 -- a byte of the standard's, as a cell
 abbrev pub as_cell : Located → Cell

@@ -7,6 +7,8 @@ use Rattle.udfs_osta.specs.Parts.{IsPathPart}
 use Rattle.std.specs.Prelude.{Bool, true, false}
 use Rattle.udfs_space.specs.Places.{View, IsPartOf}
 use Rattle.udfs_tag.specs.declared.layouts.LongAd.{LongAd}
+use Rattle.udfs_volume.specs.declared.profiles.Profile.{Profile}
+use Rattle.udfs_volume.specs.declared.profiles.Profile.TheVariants.{Strict, Wide}
 use Rattle.udfs_volume.specs.Answers.{found, holes}
 use Rattle.udfs_file.specs.Addresses.{file_set}
 use Rattle.udfs_file.specs.Entries.{EntryFields}
@@ -95,14 +97,14 @@ PartialDescriptors = (part whole : List Cell) → AllZip IsCellOf part whole
 abbrev pub BodyLength : Type 0
 BodyLength = (v : View) (r b : ℕ) (entry : EntryFields) (cs : List Cell) → body v r b entry ≡ cells cs → length cs ≡ entry.size
 
--- the same view, whose last extents may end inside a block that goes on, or may not
-abbrev pub with_tail : Bool → View → View
-with_tail tail v = record { partitions = v.partitions; place = v.place; blocks = v.blocks; takes_tail = tail }
+-- the same view, by the rules of another profile
+abbrev pub by_profile : Profile → View → View
+by_profile profile v = record { partitions = v.partitions; place = v.place; blocks = v.blocks; profile = profile }
 
--- a body without a fault is the same where the tail of a last extent is taken
+-- a body without a fault by the strict rules is the same by the wide ones, which take the tail of a last extent
 abbrev pub TailKeepsBodies : Type 0
 TailKeepsBodies = (v : View) (r b : ℕ) (entry : EntryFields) (cs : List Cell)
-    → body (with_tail false v) r b entry ≡ cells cs → body (with_tail true v) r b entry ≡ cells cs
+    → body (by_profile Strict v) r b entry ≡ cells cs → body (by_profile Wide v) r b entry ≡ cells cs
 
 -- the escaped name of each entry of a directory is a valid path component
 abbrev pub NamesAreParts : Type 0

@@ -14,3 +14,4 @@ pub mod Complete
 pub mod Told
 pub mod Sample
 pub mod Portions
+pub mod StoreCells

@@ -10,6 +10,8 @@ use Rattle.udfs_tag.specs.declared.layouts.LongAd.{LongAd}
 use Rattle.udfs_tag.specs.Fields.{uint32_at, long_ad_at, part}
 use Rattle.udfs_tag.specs.Tags.{is_valid}
 use Rattle.udfs_volume.specs.Layout.{blocks_in}
+use Rattle.udfs_volume.specs.declared.profiles.Profile.{Profile}
+use Rattle.udfs_volume.specs.Profiles.{takes_tail}
 use Rattle.udfs_file.specs.Entries.{EntryFields, descriptor_size}
 use Rattle.udfs_file.specs.Bodies.{descriptors_in, next_descriptor}
 use Rattle.udfs_file.specs.Fronts.{identifier_size, identifier_in}
@@ -20,7 +22,7 @@ use Rattle.udfs_file.specs.Identifiers.{One}
 -- end inside a block that goes on.
 pub record PartitionBlocks : Type 0 where
   pub at : ℕ → ℕ → Option Bytes
-  pub takes_tail : Bool
+  pub profile : Profile
 
 -- the file set descriptor at an address names this ICB of the root directory (4/14.1)
 pub record IsFileSetAt (blocks : PartitionBlocks) (a root : LongAd) : Type 0 where
@@ -64,11 +66,11 @@ IsExtentAt form b bytes = (is_valid bytes b 258 ≡ true) × (24 + uint32_at byt
 
 -- the extents of an area, and those of each continuation in turn, as far as these blocks hold them
 abbrev pub IsJoined : PartitionBlocks → ℕ → ℕ → Bytes → List Bytes → List LongAd → Type 0
-IsJoined blocks form r area [] ds = ds ≡ extents_in blocks.takes_tail form r area
+IsJoined blocks form r area [] ds = ds ≡ extents_in (takes_tail blocks.profile) form r area
 IsJoined blocks form r area (bytes ∷ more) ds = (d : LongAd) × (later : List LongAd)
-    × (next_descriptor (descriptors_in blocks.takes_tail form r area) ≡ Some d) × IsOneBlock d × (blocks.at d.reference d.block ≡ Some bytes)
+    × (next_descriptor (descriptors_in (takes_tail blocks.profile) form r area) ≡ Some d) × IsOneBlock d × (blocks.at d.reference d.block ≡ Some bytes)
     × IsExtentAt form d.block bytes × IsJoined blocks form r (part bytes 24 (uint32_at bytes 20)) more later
-    × (ds ≡ extents_in blocks.takes_tail form r area ++ later)
+    × (ds ≡ extents_in (takes_tail blocks.profile) form r area ++ later)
 
 -- the extents up to one of length 0, which is the end (4/12.1)
 abbrev pub up_to_end : List LongAd → List LongAd

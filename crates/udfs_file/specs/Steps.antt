@@ -3,7 +3,7 @@
 --     StepIs told step         the step of the code is this step of the definition
 --     IsStep before told after what was next, and what is left after it
 --     StepsTo before told after   the same of the list of all descriptors and what ends it
-use Rattle.std.specs.Prelude.{◌≡◌, ◌≤◌, ℕ, List, [], ◌∷◌, ◌++◌, length, drop, Option}
+use Rattle.std.specs.Prelude.{◌≡◌, ◌≤◌, ℕ, List, [], ◌∷◌, ◌++◌, length, drop, Option, ⊤}
 use Rattle.udfs_file.specs.Fronts.{DirectoryText, identifier_in, step}
 use Rattle.udfs_file.specs.Identifiers.{Identifier, Rest, Nothing, Stopped, Wrong, AtRest, One}
 use Rattle.udfs_file.specs.Identifiers as identifiers
@@ -30,6 +30,13 @@ StepIs (Id view) s = (id : Identifier) × IsDescriptor (bytes_of view) id × (s 
 StepIs (Stop n) s = s ≡ AtRest (Stopped n)
 StepIs (Fault fault) s = s ≡ AtRest (Wrong fault)
 StepIs End s = s ≡ AtRest Nothing
+
+-- a descriptor that was told has these bytes
+abbrev pub HasBytes : List ℕ → Step → Type 0
+HasBytes bytes (Id view) = bytes_of view ≡ bytes
+HasBytes bytes (Stop n) = ⊤
+HasBytes bytes (Fault fault) = ⊤
+HasBytes bytes End = ⊤
 
 -- the cells left after a step: those after the descriptor, or all of them where the directory ends
 abbrev pub left_behind : Step → List Cell → List Cell

@@ -131,7 +131,7 @@ impl Body {
             (extents_body_by (view_now view.entry) form reference size area.now) }
         ensures memory { result ≡ Err WalkError.OutOfMemory → 0 < size }
     {
-        if view.space.takes_tail() {
+        if view.space.profile().takes_tail() {
             match Body::walk(alloc, view, true, form, reference, size, area) {
                 Ok(body) => return Ok(body),
                 Err(WalkError::OutOfMemory) => return Err(WalkError::OutOfMemory),

@@ -29,7 +29,7 @@ pub(crate) struct Cells<'a> {
 }
 
 /// Whether stretches have at least `count` cells.
-fn hold(stretches: &[Stretch], count: u64) -> bool
+pub(crate) fn hold(stretches: &[Stretch], count: u64) -> bool
     ensures { (v : places.View) → result ≡ nat_le count (length (cells_of v stretches.now)) }
 {
     let mut left = count;

@@ -8,7 +8,7 @@ ghost use Rattle.udfs_osta.specs.Names.{fault_of, units_of};
 ghost use Rattle.udfs_file.specs.CellsLeft.{cells_left};
 ghost use Rattle.udfs_file.specs.Fronts.{checked_identifier, directory, identifier_in, identifier_size, is_listed, sized_identifier, step};
 ghost use Rattle.udfs_file.specs.Stretches.{LieInBlocks, cells_of};
-ghost use Rattle.udfs_file.specs.Steps.{StepsTo, IsStep, StepIs, bytes_of};
+ghost use Rattle.udfs_file.specs.Steps.{HasBytes, StepsTo, IsStep, StepIs, bytes_of};
 
 use crate::bodies::Body;
 use crate::cells::Cells;
@@ -146,7 +146,8 @@ fn has_bad_name(view: &Pieces<'_>) -> bool
 fn named<'a>(view: Pieces<'a>) -> Step<'a>
     requires least { 38 ≤ length (bytes_of view) }
     requires most { length (bytes_of view) ≤ 2048 }
-    ensures { StepIs result (identifier_in (length (bytes_of view.entry)) (bytes_of view.entry)) }
+    ensures value { StepIs result (identifier_in (length (bytes_of view.entry)) (bytes_of view.entry)) }
+    ensures bytes { HasBytes (bytes_of view.entry) result }
 {
     if !view.is_listed() {
         return Step::Id(view);
@@ -158,10 +159,11 @@ fn named<'a>(view: Pieces<'a>) -> Step<'a>
 }
 
 /// The descriptor in these bytes.
-fn checked<'a>(view: Pieces<'a>) -> Step<'a>
+pub(crate) fn checked<'a>(view: Pieces<'a>) -> Step<'a>
     requires least { 38 ≤ length (bytes_of view) }
     requires most { length (bytes_of view) ≤ 2048 }
-    ensures { StepIs result (checked_identifier view.entry.holder (bytes_of view.entry)) }
+    ensures value { StepIs result (checked_identifier view.entry.holder (bytes_of view.entry)) }
+    ensures bytes { HasBytes (bytes_of view.entry) result }
 {
     match view.holder {
         Some(b) if is_identifier(&view, b) => named(view),

@@ -1,9 +1,9 @@
 //! Directories: the file identifier descriptors in the cells of a body (ECMA-167 4/14.4).
 
-ghost use Rattle.std.specs.Prelude.{◌≡◌, ◌≤◌, ◌<◌, ◌+◌, ◌++◌, ◌∷◌, [], length, true, Ok, Some, IfErr, IfOk};
+ghost use Rattle.std.specs.Prelude.{◌≡◌, ◌≤◌, ◌<◌, ◌+◌, ◌++◌, ◌∷◌, [], length, true, Ok, Some, IfErr, IfOk, OnErr};
 ghost use Rattle.udfs_lattice.specs.Tables.{state_of};
 ghost use Rattle.udfs_space.specs.Places.{view};
-ghost use Rattle.udfs_space.specs.Views.{view_now};
+ghost use Rattle.udfs_space.specs.Views.{view_by, view_now};
 ghost use Rattle.udfs_tag.specs.Fields.{uint8_at, uint16_at, part};
 ghost use Rattle.udfs_file.specs.Stretches.{cells_of};
 ghost use Rattle.udfs_file.specs.Fronts.{directory_entries, entry_with, is_listed, IsEndOf, IsFrontOf, IsFrontRefused};
@@ -12,15 +12,16 @@ ghost use Rattle.udfs_file.specs.Steps.{IsListedIn, bytes_of};
 ghost use Rattle.udfs_file.specs.Told.{TellsFront};
 
 use crate::bodies::Body;
-use crate::cursors::{Cursor, Step};
+use crate::cursors::Step;
 use crate::faults::{FrontError, NodeFault};
 use crate::marks::Marks;
 use crate::pieces::Pieces;
+use crate::store_cells::StoreCursor;
 use byteorder::{ByteOrder, LittleEndian};
 use std::alloc::{AllocError, Global};
-use udfs_lattice::BlockTable;
+use udfs_lattice::{BlockStore, BlockTable, ReadFault};
 use udfs_osta::{Name, NameFault, OutOfMemory};
-use udfs_space::{Space, View};
+use udfs_space::{Space, StoreView, View};
 use udfs_tag::LongAd;
 
 /// An entry of a directory.
@@ -203,22 +204,55 @@ impl Dir {
         ensures few { IfOk result (λ front. length front.entries.items ≤ most) }
         ensures refused { IfErr result (IsFrontRefused most (cells_of (view_now view.entry) body.now)) }
     {
-        let mut cursor = Cursor::new(view, body);
+        let view = StoreView {
+            blocks: view.table,
+            space: view.space,
+        };
+        match Dir::front_by(alloc, view, body, most) {
+            Ok(told) => told,
+            Err(_) => unreachable!(),
+        }
+    }
+
+    /// The same as [`Dir::front_within`], by any store of blocks.
+    ///
+    /// # Errors
+    ///
+    /// `ReadFault` where the bytes of a known block could not be read. Nothing is told of the directory then.
+    pub fn front_by<B: BlockStore>(
+        alloc: Global,
+        view: StoreView<'_, B>,
+        body: &Body,
+        most: usize,
+    ) -> Result<Result<DirFront, FrontError>, ReadFault>
+        ensures value { IfOk result (λ told. B.tells → IfOk told (λ front. IsFrontOf front (cells_of (view_by B.states view.entry) body.now))) }
+        ensures complete { IfOk result (λ told. B.tells → IfOk told (TellsFront (cells_of (view_by B.states view.entry) body.now))) }
+        ensures few { IfOk result (λ told. IfOk told (λ front. length front.entries.items ≤ most)) }
+        ensures refused { IfOk result (λ told. B.tells → IfErr told (IsFrontRefused most (cells_of (view_by B.states view.entry) body.now))) }
+        ensures fails { OnErr result B.fails }
+    {
+        let mut spare = [0; 2048];
+        let mut other = [0; 2048];
+        let mut cursor = StoreCursor::new(view, body);
         let mut entries = Vec::new(alloc);
         'steps: loop {
-            match cursor.next() {
-                Step::Id(pieces) => match listed(alloc, &pieces)? {
-                    Some(entry) => {
+            match cursor.next(&mut spare, &mut other)? {
+                Step::Id(pieces) => match listed(alloc, &pieces) {
+                    Ok(Some(entry)) => {
                         if entries.len() >= most {
-                            return Err(FrontError::TooMany);
+                            return Ok(Err(FrontError::TooMany));
                         }
-                        put(&mut entries, entry)?;
+                        match put(&mut entries, entry) {
+                            Ok(()) => {}
+                            Err(_) => return Ok(Err(FrontError::OutOfMemory)),
+                        }
                     }
-                    None => {}
+                    Ok(None) => {}
+                    Err(_) => return Ok(Err(FrontError::OutOfMemory)),
                 },
-                Step::Stop(n) => return Ok(ended(entries, Some(n), None)),
-                Step::Fault(fault) => return Ok(ended(entries, None, Some(fault))),
-                Step::End => return Ok(ended(entries, None, None)),
+                Step::Stop(n) => return Ok(Ok(ended(entries, Some(n), None))),
+                Step::Fault(fault) => return Ok(Ok(ended(entries, None, Some(fault)))),
+                Step::End => return Ok(Ok(ended(entries, None, None))),
             }
         }
     }
@@ -228,18 +262,39 @@ impl Dir {
     pub fn end(view: View<'_>, body: &Body) -> DirEnd
         ensures { IsEndOf result (cells_of (view_now view.entry) body.now) }
     {
-        let mut cursor = Cursor::new(view, body);
+        let view = StoreView {
+            blocks: view.table,
+            space: view.space,
+        };
+        match Dir::end_by(view, body) {
+            Ok(end) => end,
+            Err(_) => unreachable!(),
+        }
+    }
+
+    /// The same as [`Dir::end`], by any store of blocks.
+    ///
+    /// # Errors
+    ///
+    /// `ReadFault` where the bytes of a known block could not be read.
+    pub fn end_by<B: BlockStore>(view: StoreView<'_, B>, body: &Body) -> Result<DirEnd, ReadFault>
+        ensures value { IfOk result (λ end. B.tells → IsEndOf end (cells_of (view_by B.states view.entry) body.now)) }
+        ensures fails { OnErr result B.fails }
+    {
+        let mut spare = [0; 2048];
+        let mut other = [0; 2048];
+        let mut cursor = StoreCursor::new(view, body);
         let mut lists = false;
         'steps: loop {
-            match cursor.next() {
+            match cursor.next(&mut spare, &mut other)? {
                 Step::Id(pieces) => {
                     if pieces.is_listed() {
                         lists = true;
                     }
                 }
-                Step::Stop(n) => return end_at(lists, Some(n), None),
-                Step::Fault(fault) => return end_at(lists, None, Some(fault)),
-                Step::End => return end_at(lists, None, None),
+                Step::Stop(n) => return Ok(end_at(lists, Some(n), None)),
+                Step::Fault(fault) => return Ok(end_at(lists, None, Some(fault))),
+                Step::End => return Ok(end_at(lists, None, None)),
             }
         }
     }

@@ -19,6 +19,7 @@ pub mod laws;
 pub mod marks;
 mod pieces;
 pub mod portions;
+mod store_cells;
 pub mod stretches;
 
 pub use bodies::Body;
@@ -30,4 +31,5 @@ pub use file_sets::file_set;
 pub use marks::Marks;
 pub use pieces::Pieces;
 pub use portions::{Portion, Portions, Unread};
+pub use store_cells::StoreCursor;
 pub use stretches::{Run, Stretch};

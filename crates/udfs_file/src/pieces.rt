@@ -1,15 +1,15 @@
 //! Cells of a body that lie side by side, borrowed from the table's blocks.
 
-ghost use Rattle.std.specs.Prelude.{◌≡◌, ◌≤◌, ◌<◌, ◌+◌, ◌%◌, ◌^◌, length, map, min, replicate, take, drop};
+ghost use Rattle.std.specs.Prelude.{◌≡◌, ◌≤◌, ◌<◌, ◌+◌, ◌%◌, ◌^◌, length, map, min, replicate, take, drop, IfOk, OnErr};
 ghost use Rattle.std.specs.List.{range_with_len};
-ghost use Rattle.udfs_space.specs.Views.{view_now};
+ghost use Rattle.udfs_space.specs.Views.{view_by, view_now};
 ghost use Rattle.udfs_file.specs.Bodies.{recorded_cell};
-ghost use Rattle.udfs_file.specs.Pieces.{IsPieceOf, rest_in_block};
+ghost use Rattle.udfs_file.specs.Pieces.{FitsPiece, IsPieceOf, rest_in_block};
 ghost use Rattle.udfs_file.specs.Stretches.{stretch_cells, stretch_count};
 
 use crate::stretches::{Run, Stretch};
-use udfs_lattice::Fact;
-use udfs_space::View;
+use udfs_lattice::{BlockStore, Fact, ReadFault};
+use udfs_space::{StoreView, View};
 
 /// A block of zeros, for those that are not recorded.
 static ZEROS: [u8; 2048] = [0; 2048];
@@ -105,5 +105,67 @@ pub(crate) fn stretch_piece<'a>(
             Piece::Bytes(zeros(here as usize), None)
         }
         Stretch::Missing(n, _) => Piece::Gap(n),
+    }
+}
+
+/// `count` recorded cells in one block, from byte `at` on, counted from the start of the run's first block. The bytes of a known
+/// block are lent from the store's memory, or from `room`.
+pub(crate) fn recorded_in<'r, 'a, B: BlockStore>(
+    view: StoreView<'a, B>,
+    run: Run,
+    at: u64,
+    count: usize,
+    room: &'r mut [u8; 2048],
+) -> Result<Piece<'r>, ReadFault>
+where
+    'a: 'r,
+    requires inside { at % 2048 + count ≤ 2048 }
+    requires some { 1 ≤ count }
+    requires near { at < 2 ^ 33 }
+    ensures value { IfOk result (λ piece. B.tells → IsPieceOf piece (map (recorded_cell (view_by B.states view.entry) run.address.reference run.address.block) (range_with_len at count))) }
+    ensures size { IfOk result (λ piece. FitsPiece piece count) }
+    ensures fails { OnErr result B.fails }
+{
+    let behind = (at / 2048) as u32;
+    match view.block_behind(run.address, behind, room)? {
+        None => Ok(Piece::Bytes(zeros(count), None)),
+        Some((_, Fact::Known(bytes))) => {
+            let holder = run.address.block + behind;
+            Ok(Piece::Bytes(bytes_at(bytes, (at % 2048) as usize, count), Some(holder)))
+        }
+        Some((n, Fact::Unknown)) => Ok(Piece::Gap(n)),
+        Some((n, Fact::Conflict)) => Ok(Piece::Gap(n)),
+    }
+}
+
+/// The cells of a stretch after the first `passed`, as far as they lie in one block, and at most `want`.
+pub(crate) fn stretch_in<'r, 'a, B: BlockStore>(
+    view: StoreView<'a, B>,
+    stretch: Stretch,
+    passed: u64,
+    want: usize,
+    room: &'r mut [u8; 2048],
+) -> Result<Piece<'r>, ReadFault>
+where
+    'a: 'r,
+    requires left { passed < stretch_count stretch }
+    requires some { 1 ≤ want }
+    requires block { want ≤ 2048 }
+    ensures value { IfOk result (λ piece. B.tells → IsPieceOf piece (take (min want (rest_in_block stretch passed)) (drop passed (stretch_cells (view_by B.states view.entry) stretch)))) }
+    ensures size { IfOk result (λ piece. FitsPiece piece (min want (rest_in_block stretch passed))) }
+    ensures fails { OnErr result B.fails }
+{
+    match stretch {
+        Stretch::Recorded(run, count) => {
+            let at = u64::from(run.offset) + passed;
+            let here = (2048 - at % 2048).min(u64::from(count) - passed);
+            let piece = recorded_in(view, run, at, here.min(want as u64) as usize, room)?;
+            Ok(piece)
+        }
+        Stretch::Zeros(count) => {
+            let here = (u64::from(count) - passed).min(want as u64);
+            Ok(Piece::Bytes(zeros(here as usize), None))
+        }
+        Stretch::Missing(n, _) => Ok(Piece::Gap(n)),
     }
 }

@@ -6,3 +6,4 @@ pub mod WindowLemmas
 pub mod CopyLemmas
 pub mod PackLemmas
 pub mod EntryLemmas
+pub mod StoreLemmas

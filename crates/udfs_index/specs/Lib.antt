@@ -4,3 +4,4 @@ pub mod Recorded
 pub mod Index
 pub mod Windows
 pub mod Copying
+pub mod Stores

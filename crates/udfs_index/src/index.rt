@@ -1,6 +1,6 @@
 //! The table of what was taken, as the places of its bytes.
 
-ghost use Rattle.std.specs.Prelude.{◌≡◌, ℕ, ◌+◌, ◌*◌, ◌^◌, ◌≤◌, ◌<◌, List, length, take, drop, IfOk, IfSome, OnOk, OnErr};
+ghost use Rattle.std.specs.Prelude.{◌≡◌, ℕ, ◌+◌, ◌*◌, ◌^◌, ◌≤◌, ◌<◌, List, Some, map, length, take, drop, IfOk, IfSome, OnOk, OnErr};
 ghost use Rattle.udfs_lattice.specs.declared.facts.Fact.TheVariants.{Unknown, Known, Conflict};
 ghost use Rattle.udfs_lattice.specs.Tables.{Table, IsTable, conflict_count, empty_table, known_count, join_tables, one_entry, one_record};
 ghost use Rattle.udfs_reading.specs.PacketFile.{table_bytes};
@@ -8,6 +8,7 @@ ghost use Rattle.udfs_reading.specs.Places.{HasBlockAt};
 ghost use Rattle.udfs_reading.specs.TableFile.{table_bytes_v1};
 ghost use Rattle.udfs_index.specs.Copying.{AreAllTold, BlamesNone, Copies, CountsSink, NoneFails};
 ghost use Rattle.udfs_index.specs.Index.{Took, IsAtPlace, IsPlaceOf, contents_of, input_by};
+ghost use Rattle.udfs_index.specs.Places.{AreHeld};
 ghost use Rattle.udfs_index.specs.Recorded.{IsOf, IsRecordedAt, TakesNext};
 ghost use Rattle.udfs_index.specs.Slots.{slot_at};
 
@@ -236,6 +237,21 @@ impl<'a, S: Stored> Index<'a, S> {
         let mut there = [0; 2048];
         match read_from(&self.inputs, place, &mut there) {
             Ok(()) => Ok(there),
+            Err(unread) => Err(unread),
+        }
+    }
+
+    /// Fills `there` with the bytes at a place.
+    ///
+    /// # Errors
+    ///
+    /// `Unread` where they could not be read.
+    pub(crate) fn fill_from(&self, place: u64, there: &mut [u8; 2048]) -> Result<(), Unread>
+        ensures there { IfOk result (λ _. IsAtPlace (contents_of S.content self.now.inputs.items) place there.new) }
+        ensures reads { OnErr result ((wholes : List (List ℕ)) → contents_of S.content self.now.inputs.items ≡ map Some wholes → NoneFails S.fails → AreHeld wholes place 2048 → ⊥) }
+    {
+        match read_from(&self.inputs, place, there) {
+            Ok(()) => Ok(()),
             Err(unread) => Err(unread),
         }
     }

@@ -2,6 +2,7 @@
 //! A table of blocks by index: for each known block it keeps not its bytes, but which input holds them and at what offset.
 #![tactic(auto)]
 
+mod blocks;
 mod bytes;
 mod counting;
 mod cursor;

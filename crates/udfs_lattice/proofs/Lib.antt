@@ -16,3 +16,4 @@ pub mod Forgetting
 pub mod VolumeLaws
 pub mod EntryStates
 pub mod PublicLaws
+pub mod StoreResults

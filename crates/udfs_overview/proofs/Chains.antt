@@ -1,9 +1,11 @@
 -- Texts that are appended one behind the other.
-use Rattle.std.proofs.Common.{◌≡◌, ◌∙◌, ap, sym, subst, ℕ, ◌+◌, ◌<◌, List, [], ◌∷◌, ◌++◌, length, take, get_or, append-nil}
+use Rattle.std.proofs.Common.{◌≡◌, ◌∙◌, ap, sym, subst, arith, ℕ, ◌+◌, ◌<◌, Bool, List, [], ◌∷◌, ◌++◌, true, false, cond, length, take, get_or, append-nil, Option, Some, None}
 use Rattle.std.specs.Prelude.{Result, Ok, Err, OnOk, is_ok, if◌then◌else◌}
-use Rattle.std.specs.List.{flat_map}
-use Rattle.std.proofs.lemmas.List.{append_assoc, take_more}
+use Rattle.std.specs.List.{cons_option, filter, filter_map, flat_map, range_with_len}
+use Rattle.std.proofs.lemmas.List.{append_assoc, map-id, take_more}
 use Rattle.std.proofs.lemmas.List.Concat.{flat_map-append}
+use Rattle.std.proofs.lemmas.List.Elements.{filter_map-append}
+use Rattle.std.proofs.lemmas.List.FromFn.{filter_of_map_range_with_len_more}
 
 -- two texts are one
 pub both_appended : (old middle new first second : List ℕ) → middle ≡ old ++ first → new ≡ middle ++ second → new ≡ old ++ (first ++ second)
@@ -35,3 +37,43 @@ text_more f xs i x old middle new l is e h =
     ∙ ap (λ t. old ++ t)
     (ap (λ y. flat_map f (take i xs) ++ f y) is ∙ ap (λ t. flat_map f (take i xs) ++ t) (sym (append-nil (f (get_or xs i x))))
     ∙ sym (flat_map-append f (take i xs) (get_or xs i x ∷ [])) ∙ ap (flat_map f) (sym (take_more xs i x l)))
+
+-- what is found at the elements of a list, with one more
+pub found_more : {A B : Type 0} (h : A → Option B) (xs : List A) (i : ℕ) (x : A) → i < length xs → x ≡ get_or xs i x
+    → filter_map h (take (i + 1) xs) ≡ filter_map h (take i xs) ++ cons_option (h x) []
+found_more h xs i x l is =
+    ap (filter_map h) (take_more xs i x l) ∙ filter_map-append h (take i xs) (get_or xs i x ∷ [])
+    ∙ ap (λ y. filter_map h (take i xs) ++ cons_option (h y) []) (sym is)
+
+-- the numbers that pass a test, with one more
+pub passed_more : (p : ℕ → Bool) (n : ℕ) → filter p (range_with_len 0 (n + 1)) ≡ filter p (range_with_len 0 n) ++ cond (p n) (n ∷ []) []
+passed_more p n =
+    ap (filter p) (sym (map-id (range_with_len 0 (n + 1)))) ∙ filter_of_map_range_with_len_more p (λ x. x) 0 n n (omega arith)
+    ∙ ap (λ xs. filter p xs ++ cond (p n) (n ∷ []) []) (map-id (range_with_len 0 n))
+
+-- where the next number passes the test, and where it does not
+pub passed_yes : (p : ℕ → Bool) (n : ℕ) (old new : List ℕ) → old ≡ filter p (range_with_len 0 n) → p n ≡ true → new ≡ old ++ n ∷ [] → new ≡ filter p (range_with_len 0 (n + 1))
+passed_yes p n old new e t is = is ∙ ap (λ xs. xs ++ n ∷ []) e ∙ ap (λ b. filter p (range_with_len 0 n) ++ cond b (n ∷ []) []) (sym t) ∙ sym (passed_more p n)
+
+pub passed_no : (p : ℕ → Bool) (n : ℕ) (old new : List ℕ) → old ≡ filter p (range_with_len 0 n) → p n ≡ false → new ≡ old → new ≡ filter p (range_with_len 0 (n + 1))
+passed_no p n old new e t is = is ∙ e ∙ sym (append-nil (filter p (range_with_len 0 n))) ∙ ap (λ b. filter p (range_with_len 0 n) ++ cond b (n ∷ []) []) (sym t) ∙ sym (passed_more p n)
+
+-- where something is found at the next element, and where nothing is
+pub found_some : {A B : Type 0} (h : A → Option B) (xs : List A) (i : ℕ) (x : A) (y : B) (old new : List B) → i < length xs → x ≡ get_or xs i x
+    → old ≡ filter_map h (take i xs) → h x ≡ Some y → new ≡ old ++ y ∷ [] → new ≡ filter_map h (take (i + 1) xs)
+found_some h xs i x y old new l is e t n =
+    n ∙ ap (λ z. z ++ y ∷ []) e ∙ ap (λ o. filter_map h (take i xs) ++ cons_option o []) (sym t) ∙ sym (found_more h xs i x l is)
+
+pub found_none : {A B : Type 0} (h : A → Option B) (xs : List A) (i : ℕ) (x : A) (old new : List B) → i < length xs → x ≡ get_or xs i x
+    → old ≡ filter_map h (take i xs) → h x ≡ None → new ≡ old → new ≡ filter_map h (take (i + 1) xs)
+found_none h xs i x old new l is e t n =
+    n ∙ e ∙ sym (append-nil (filter_map h (take i xs))) ∙ ap (λ o. filter_map h (take i xs) ++ cons_option o []) (sym t) ∙ sym (found_more h xs i x l is)
+
+-- the texts of a list of numbers, with one more
+pub text_more_at : (f : ℕ → List ℕ) (xs : List ℕ) (i d : ℕ) (old middle new : List ℕ) → i < length xs
+    → middle ≡ old ++ flat_map f (take i xs) → new ≡ middle ++ f (get_or xs i d) → new ≡ old ++ flat_map f (take (i + 1) xs)
+text_more_at f xs i d old middle new l e h =
+    h ∙ ap (λ t. t ++ f (get_or xs i d)) e ∙ append_assoc old (flat_map f (take i xs)) (f (get_or xs i d))
+    ∙ ap (λ t. old ++ t)
+    (ap (λ t. flat_map f (take i xs) ++ t) (sym (append-nil (f (get_or xs i d))))
+    ∙ sym (flat_map-append f (take i xs) (get_or xs i d ∷ [])) ∙ ap (flat_map f) (sym (take_more xs i d l)))

@@ -2,6 +2,7 @@ pub mod Figures
 pub mod SafeFronts
 pub mod SafeNames
 pub mod NodeLists
+pub mod LeftOut
 pub mod Tallies
 pub mod DiscTallies
 pub mod SummaryTexts

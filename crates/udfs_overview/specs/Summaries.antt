@@ -12,6 +12,7 @@ use Rattle.udfs_salvage.specs.Found.{Found}
 use Rattle.udfs_salvage.specs.Reports.{Report}
 use Rattle.udfs_overview.specs.DiscTallies.{disc_of, unnamed_of}
 use Rattle.udfs_overview.specs.Figures.{grouped}
+use Rattle.udfs_overview.specs.LeftOut.{left_out_line, left_out_types}
 use Rattle.udfs_overview.specs.Spares.{spares_disagree, spares_line}
 use Rattle.udfs_overview.specs.Streams.{stream_count, streams_line}
 use Rattle.udfs_overview.specs.SummaryTexts.{counted, disc_line, files_line, others_line, unnamed_line}
@@ -47,7 +48,8 @@ folders_line t path =
 -- the lines of what is found of a volume that opens
 unfoldable pub nodes_lines : Report → List ℕ
 nodes_lines r =
-    files_line (tally_of r.nodes) ++ folders_line (tally_of r.nodes) (torn_folder r.nodes) ++ others_line (tally_of r.nodes) ++ unnamed_line (unnamed_of r.unnamed)
+    files_line (tally_of r.nodes) ++ folders_line (tally_of r.nodes) (torn_folder r.nodes) ++ others_line (tally_of r.nodes)
+    ++ left_out_line (left_out_types r.nodes) ++ unnamed_line (unnamed_of r.unnamed)
 
 -- there is nothing found of a volume that does not open
 abbrev pub found_lines : Table → Answer Found → Report → List ℕ

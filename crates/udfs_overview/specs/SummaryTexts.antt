@@ -24,7 +24,7 @@ unfoldable pub files_line : Tally → List ℕ
 files_line t =
     codes "Files      " ++ whole_files_text t ++ codes "   " ++ torn_files_text t ++ codes "   " ++ counted t.unread (codes " not yet known\n")
 
--- the line of links and devices, of faults and of loops, if there are any
+-- the line of links and devices, of faults and of loops, if there are any; files of a type that is not written have their own
 unfoldable pub others_line : Tally → List ℕ
 others_line t =
     if t.others == 0 && t.faulty == 0 && t.loops == 0 then []

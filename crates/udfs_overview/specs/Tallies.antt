@@ -4,7 +4,7 @@
 --     bytes_of sort nodes          how many bytes they have
 --     lost_in sort nodes           how many bytes of theirs are lost
 --     tally_of nodes               all that is counted of nodes
-use Rattle.std.specs.Prelude.{ℕ, ◌+◌, ◌^◌, ◌-◌, ◌&&◌, ◌||◌, Bool, true, false, List, cond, count_by, sum_by, min, Option, Some, None}
+use Rattle.std.specs.Prelude.{ℕ, ◌+◌, ◌^◌, ◌-◌, ◌&&◌, ◌||◌, Bool, true, false, List, cond, count_by, sum_by, min, Option, Some, None, is_none, is_some}
 use Rattle.udfs_file.specs.declared.faults.Kind.{Kind}
 use Rattle.udfs_file.specs.declared.faults.Kind.TheVariants as kind
 use Rattle.udfs_walk.specs.NodeFields.{NodeFields}
@@ -12,6 +12,7 @@ use Rattle.udfs_walk.specs.declared.standings.Standing.{Standing}
 use Rattle.udfs_walk.specs.declared.standings.Standing.TheVariants as standing
 use Rattle.udfs_walk.specs.Unsettled.{is_whole}
 use Rattle.udfs_salvage.specs.UnnamedExtraction.{is_file}
+use Rattle.udfs_overview.specs.LeftOut.{left_out_type}
 use Rattle.udfs_overview.specs.NodeLists.{lost_of}
 use Rattle.udfs_overview.specs.declared.tallies.Tally.{Tally}
 use Rattle.udfs_overview.specs.declared.tallies.NodeSort.{NodeSort}
@@ -54,7 +55,7 @@ is_unread kind.Link = false
 is_unread (kind.Other t) = false
 is_unread kind.Unread = true
 
--- it is a link, or a device
+-- it is a link, or of another type than directories, files and links
 abbrev pub is_other : Kind → Bool
 is_other kind.Directory = false
 is_other kind.File = false
@@ -76,6 +77,14 @@ is_of sort.Loop s k = is_loop s
 -- the node is of the sort
 abbrev pub is_node_of : NodeSort → NodeFields → Bool
 is_node_of a n = is_of a n.standing n.kind
+
+-- it is a link or a device, or an empty one of another type: not among the files that are left out
+abbrev pub is_aside : NodeFields → Bool
+is_aside n = is_node_of sort.Other n && is_none (left_out_type n)
+
+-- it is a file of a type that is not written
+abbrev pub is_left_out : NodeFields → Bool
+is_left_out n = is_some (left_out_type n)
 
 -- how many nodes are of the sort
 abbrev pub count_of : NodeSort → List NodeFields → ℕ
@@ -109,11 +118,12 @@ tally_of nodes = record {
   unread = count_of sort.Unread nodes;
   whole_folders = count_of sort.WholeFolder nodes;
   torn_folders = count_of sort.TornFolder nodes;
-  others = count_of sort.Other nodes;
+  others = count_by is_aside nodes;
+  left_out = count_by is_left_out nodes;
   faulty = count_of sort.Faulty nodes;
   loops = count_of sort.Loop nodes;
 }
 
 -- how many nodes are counted, of all sorts
 abbrev pub node_count : Tally → ℕ
-node_count t = t.whole_files + t.torn_files + t.unread + t.whole_folders + t.torn_folders + t.others + t.faulty + t.loops
+node_count t = t.whole_files + t.torn_files + t.unread + t.whole_folders + t.torn_folders + t.others + t.left_out + t.faulty + t.loops

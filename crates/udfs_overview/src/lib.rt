@@ -4,6 +4,7 @@
 
 mod disc_tallies;
 mod figures;
+mod left_out;
 mod node_columns;
 mod node_list;
 mod safe_names;
@@ -18,6 +19,7 @@ mod volume_lines;
 
 pub use disc_tallies::{DiscTally, UnnamedTally, count_disc, count_unnamed};
 pub use figures::{push_grouped, push_percent, push_size};
+pub use left_out::{left_out_remark, left_out_types, push_left_out};
 pub use node_columns::lost_of;
 pub use node_list::{ListForm, write_list};
 pub use safe_names::{push_safe_name, safe_names_are_safe, safe_names_tell_units};

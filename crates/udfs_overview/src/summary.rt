@@ -9,6 +9,7 @@ ghost use Rattle.udfs_salvage.specs.Found.{volume_now};
 ghost use Rattle.udfs_salvage.specs.Printing.{Prints};
 ghost use Rattle.udfs_salvage.specs.Surveys.{survey_now};
 ghost use Rattle.udfs_overview.specs.Summaries.{folders_line, forget_lines, found_lines, missing_in, names_missing, needed_lines, next_line, no_need_line, nodes_lines, other_folders, reread_line, rules_words, summary_text, torn_folder, torn_lines};
+ghost use Rattle.udfs_overview.specs.LeftOut.{left_out_line};
 ghost use Rattle.udfs_overview.specs.Spares.{spares_disagree, spares_line};
 ghost use Rattle.udfs_overview.specs.Streams.{stream_count, streams_line};
 ghost use Rattle.udfs_overview.specs.SummaryTexts.{files_line, others_line, unnamed_line};
@@ -17,6 +18,7 @@ ghost use Rattle.udfs_overview.specs.TornLists.{by_loss, torn_rows, torn_text};
 
 use crate::disc_tallies::{UnnamedTally, count_disc, count_unnamed};
 use crate::figures::push_grouped;
+use crate::left_out::{left_out_types, push_left_out};
 use crate::spares::{push_spares, spares_disagree};
 use crate::streams::{count_streams, push_streams};
 use crate::summary_lines::{push_counted, push_disc, push_files, push_others, push_unnamed};
@@ -106,17 +108,20 @@ fn push_folders(text: &mut String, tally: &Tally, path: Option<&Path>) -> Result
 
 /// The lines of what is found of a volume that opens.
 fn push_nodes(
+    alloc: Global,
     text: &mut String,
     tally: &Tally,
     path: Option<&Path>,
+    types: &[u8],
     unnamed: &UnnamedTally,
 ) -> Result<(), OutOfMemory>
     ensures { OnOk result (string_bytes text.new ≡ string_bytes text.old
-        ++ (files_line tally.now ++ folders_line tally.now (option_map (λ path. path.now) path.entry) ++ others_line tally.now ++ unnamed_line unnamed.now)) }
+        ++ (files_line tally.now ++ folders_line tally.now (option_map (λ path. path.now) path.entry) ++ others_line tally.now ++ left_out_line types.now ++ unnamed_line unnamed.now)) }
 {
     push_files(text, tally)?;
     push_folders(text, tally, path)?;
     push_others(text, tally)?;
+    push_left_out(alloc, text, types)?;
     push_unnamed(text, unnamed)
 }
 
@@ -126,8 +131,16 @@ fn push_found(alloc: Global, text: &mut String, survey: &Survey<'_>) -> Result<(
     ensures { OnOk result (string_bytes text.new ≡ string_bytes text.old ++ nodes_lines (survey_now survey.now)) }
 {
     let tally = count_nodes(alloc, survey)?;
+    let types = left_out_types(alloc, survey)?;
     let unnamed = count_unnamed(survey);
-    push_nodes(text, &tally, torn_folder(&survey.nodes), &unnamed)
+    push_nodes(
+        alloc,
+        text,
+        &tally,
+        torn_folder(&survey.nodes),
+        &types,
+        &unnamed,
+    )
 }
 
 /// These lines, that of the files with named streams, and that of sparing copies which disagree.
@@ -271,8 +284,8 @@ fn push_summary(alloc: Global, text: &mut String, survey: &Survey<'_>) -> Result
     push_next(text, survey, disc.needed_in_conflict)
 }
 
-/// Writes the summary of the report that a survey represents: what the volume is, how many files and folders are whole, torn, links or
-/// without a name, how many files have named streams, whether sparing copies disagree, the blocks of the disc, the torn files of which most is lost, and what
+/// Writes the summary of the report that a survey represents: what the volume is, how many files and folders are whole, torn, links, of a type
+/// that is not written or without a name, how many files have named streams, whether sparing copies disagree, the blocks of the disc, the torn files of which most is lost, and what
 /// to read again. A volume that does not open has a line that says why, that of the blocks, and what to read again. The blocks and holes of one
 /// node are held at a time.
 ///

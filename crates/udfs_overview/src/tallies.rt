@@ -1,14 +1,15 @@
 //! What is counted of nodes.
 
-ghost use Rattle.std.specs.Prelude.{◌≡◌, ℕ, List, IfOk, cond, length, map};
+ghost use Rattle.std.specs.Prelude.{◌≡◌, ℕ, List, IfOk, cond, count_by, length, map};
 ghost use Rattle.udfs_space.specs.Views.{view_now};
 ghost use Rattle.udfs_walk.specs.Bare.{full_node, node_with};
 ghost use Rattle.udfs_walk.specs.NodeFields.{NodeFields};
 ghost use Rattle.udfs_salvage.specs.Surveys.{survey_now};
 ghost use Rattle.udfs_overview.specs.NodeLists.{lost_of};
-ghost use Rattle.udfs_overview.specs.Tallies.{at_most_128_bits, bytes_of, count_of, is_faulty, is_folder, is_loop, is_node_of, is_of, is_other, is_torn, is_unread, lost_in, node_count, or_zero, tally_of};
+ghost use Rattle.udfs_overview.specs.Tallies.{at_most_128_bits, bytes_of, count_of, is_aside, is_faulty, is_folder, is_left_out, is_loop, is_node_of, is_of, is_other, is_torn, is_unread, lost_in, node_count, or_zero, tally_of};
 ghost use Rattle.udfs_salvage.specs.UnnamedExtraction.{is_file};
 
+use crate::left_out::left_out_type;
 use crate::node_columns::{is_whole, lost_of};
 use std::alloc::Global;
 use udfs_file::Kind;
@@ -30,7 +31,7 @@ pub(crate) enum NodeSort {
     WholeFolder,
     /// Torn directories.
     TornFolder,
-    /// Links and devices, whole or torn.
+    /// Links, devices and all else that is neither a directory nor a file, whole or torn.
     Other,
     /// Nodes with a fault.
     Faulty,
@@ -98,7 +99,7 @@ fn is_unread(kind: Kind) -> bool
     }
 }
 
-/// Whether a node is a link or a device.
+/// Whether a node is a link, or of another type than directories, files and links.
 fn is_other(kind: Kind) -> bool
     ensures { result ≡ is_other kind }
 {
@@ -134,6 +135,32 @@ pub(crate) fn count_of(sort: NodeSort, nodes: &[Node]) -> usize
     let mut count = 0;
     for node in nodes {
         if sort.has(&node.standing, node.kind) {
+            count += 1;
+        }
+    }
+    count
+}
+
+/// How many nodes are links or devices, or empty ones of another type: not among the files that are left out.
+fn count_aside(nodes: &[Node]) -> usize
+    ensures { result ≡ count_by is_aside nodes.now }
+{
+    let mut count = 0;
+    for node in nodes {
+        if NodeSort::Other.has(&node.standing, node.kind) && left_out_type(node).is_none() {
+            count += 1;
+        }
+    }
+    count
+}
+
+/// How many files are of a type that is not written.
+fn count_left_out(nodes: &[Node]) -> usize
+    ensures { result ≡ count_by is_left_out nodes.now }
+{
+    let mut count = 0;
+    for node in nodes {
+        if left_out_type(node).is_some() {
             count += 1;
         }
     }
@@ -251,8 +278,10 @@ pub struct Tally {
     pub whole_folders: usize,
     /// How many directories are torn.
     pub torn_folders: usize,
-    /// How many links and devices there are, whole or torn.
+    /// How many links and devices there are, whole or torn, and empty ones of other types.
     pub others: usize,
+    /// How many files of a type that is not written have bytes, whole or torn.
+    pub left_out: usize,
     /// How many nodes have a fault.
     pub faulty: usize,
     /// How many directories are on their own path.
@@ -281,7 +310,8 @@ pub fn count_nodes(alloc: Global, survey: &Survey<'_>) -> Result<Tally, OutOfMem
         unread: count_of(NodeSort::Unread, nodes),
         whole_folders: count_of(NodeSort::WholeFolder, nodes),
         torn_folders: count_of(NodeSort::TornFolder, nodes),
-        others: count_of(NodeSort::Other, nodes),
+        others: count_aside(nodes),
+        left_out: count_left_out(nodes),
         faulty: count_of(NodeSort::Faulty, nodes),
         loops: count_of(NodeSort::Loop, nodes),
     })

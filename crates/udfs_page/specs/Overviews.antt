@@ -8,6 +8,7 @@ use Rattle.udfs_salvage.specs.Found.{Found}
 use Rattle.udfs_salvage.specs.Reports.{Report}
 use Rattle.udfs_overview.specs.DiscTallies.{disc_of, unnamed_of}
 use Rattle.udfs_overview.specs.Figures.{grouped}
+use Rattle.udfs_overview.specs.LeftOut.{left_out_line, left_out_types}
 use Rattle.udfs_overview.specs.Summaries.{torn_folder}
 use Rattle.udfs_overview.specs.SummaryTexts.{disc_line, files_line, others_line, unnamed_line}
 use Rattle.udfs_overview.specs.Tallies.{tally_of}
@@ -56,8 +57,9 @@ folders_html t path =
     else folder_counts_html t ++ names_missing_html t.torn_folders path ++ next_line
 
 -- the lines of what is found of a volume that opens
-abbrev pub found_html : Tally → Option (List (List ℕ)) → UnnamedTally → List ℕ
-found_html t path u = html_lines (files_line t) ++ folders_html t path ++ html_lines (others_line t) ++ html_lines (unnamed_line u)
+abbrev pub found_html : Tally → Option (List (List ℕ)) → List ℕ → UnnamedTally → List ℕ
+found_html t path types u =
+    html_lines (files_line t) ++ folders_html t path ++ html_lines (others_line t) ++ html_lines (left_out_line types) ++ html_lines (unnamed_line u)
 
 -- the first line of a volume that opens: its name, its revision, and its size
 abbrev pub open_html : Found → ℕ → List ℕ
@@ -66,7 +68,7 @@ open_html f last =
 
 -- the lines of a volume that opens
 abbrev pub opened_html : Found → ℕ → Report → List ℕ
-opened_html f last r = open_html f last ++ found_html (tally_of r.nodes) (torn_folder r.nodes) (unnamed_of r.unnamed)
+opened_html f last r = open_html f last ++ found_html (tally_of r.nodes) (torn_folder r.nodes) (left_out_types r.nodes) (unnamed_of r.unnamed)
 
 -- the lines of the volume: of one that does not open, why
 abbrev pub volume_html : Answer Found → ℕ → Report → List ℕ

@@ -6,6 +6,7 @@ ghost use Rattle.udfs_volume.specs.LayoutParts.{parts_now};
 ghost use Rattle.udfs_salvage.specs.Found.{found_now, volume_now};
 ghost use Rattle.udfs_salvage.specs.Surveys.{survey_now};
 ghost use Rattle.udfs_overview.specs.DiscTallies.{disc_of};
+ghost use Rattle.udfs_overview.specs.LeftOut.{left_out_line};
 ghost use Rattle.udfs_overview.specs.SummaryTexts.{disc_line, files_line, others_line, unnamed_line};
 ghost use Rattle.udfs_overview.specs.TornLists.{shown_path};
 ghost use Rattle.udfs_overview.specs.VolumeLines.{label_text, volume_line};
@@ -18,9 +19,9 @@ use crate::markups::{push_markup, push_shown};
 use std::alloc::Global;
 use udfs_osta::{Label, OutOfMemory};
 use udfs_overview::{
-    Tally, UnnamedTally, count_disc, count_nodes, count_unnamed, first_torn_folder, push_disc,
-    push_disc_size, push_files, push_grouped, push_label, push_others, push_revision,
-    push_shown_path, push_unnamed, push_volume,
+    Tally, UnnamedTally, count_disc, count_nodes, count_unnamed, first_torn_folder, left_out_types,
+    push_disc, push_disc_size, push_files, push_grouped, push_label, push_left_out, push_others,
+    push_revision, push_shown_path, push_unnamed, push_volume,
 };
 use udfs_salvage::{OpenVolume, Survey, Volume};
 use udfs_walk::Path;
@@ -184,6 +185,15 @@ fn push_other_lines(alloc: Global, text: &mut String, tally: &Tally) -> Result<(
     push_lines(text, &lines)
 }
 
+/// The line of the files of a type that is not written.
+fn push_left_out_lines(alloc: Global, text: &mut String, types: &[u8]) -> Result<(), OutOfMemory>
+    ensures { OnOk result (string_bytes text.new ≡ string_bytes text.old ++ html_lines (left_out_line types.now)) }
+{
+    let mut lines = String::new(alloc);
+    push_left_out(alloc, &mut lines, types)?;
+    push_lines(text, &lines)
+}
+
 /// The line of whole files that no name leads to.
 fn push_unnamed_lines(
     alloc: Global,
@@ -226,13 +236,15 @@ fn push_found(
     text: &mut String,
     tally: &Tally,
     path: Option<&Path>,
+    types: &[u8],
     unnamed: &UnnamedTally,
 ) -> Result<(), OutOfMemory>
-    ensures { OnOk result (string_bytes text.new ≡ string_bytes text.old ++ found_html tally.now (option_map (λ path. path.now) path.entry) unnamed.now) }
+    ensures { OnOk result (string_bytes text.new ≡ string_bytes text.old ++ found_html tally.now (option_map (λ path. path.now) path.entry) types.now unnamed.now) }
 {
     push_file_lines(alloc, text, tally)?;
     push_folders(alloc, text, tally, path)?;
     push_other_lines(alloc, text, tally)?;
+    push_left_out_lines(alloc, text, types)?;
     push_unnamed_lines(alloc, text, unnamed)
 }
 
@@ -246,9 +258,11 @@ fn push_opened(
     ensures { OnOk result (string_bytes text.new ≡ string_bytes text.old ++ opened_html (found_now opened.now) survey.now.last (survey_now survey.now)) }
 {
     let tally = count_nodes(alloc, survey)?;
+    let types = left_out_types(alloc, survey)?;
     let unnamed = count_unnamed(survey);
     push_open(alloc, text, opened, survey.last)?;
-    push_found(alloc, text, &tally, first_torn_folder(survey), &unnamed)
+    let path = first_torn_folder(survey);
+    push_found(alloc, text, &tally, path, &types, &unnamed)
 }
 
 /// The lines of the volume: of one that does not open, why.

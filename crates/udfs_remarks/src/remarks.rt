@@ -3,10 +3,11 @@
 use std::alloc::{AllocError, Global};
 use udfs_common::files::Files;
 use udfs_lattice::BlockTable;
-use udfs_overview::{push_volume, spares_disagree};
+use udfs_overview::{left_out_remark, push_volume, spares_disagree};
 use udfs_salvage::{Listing, Survey, Volume};
 use udfs_volume::sequences::sequence;
 use udfs_volume::{Profile, Seen, VolumeFault};
+use udfs_walk::Node;
 
 /// What remarks on a volume are made from: its table, its last block, by which rules, and what came of opening it.
 #[derive(Clone, Copy)]
@@ -28,7 +29,7 @@ fn revision_of(alloc: Global, told: Told<'_>) -> Option<u16> {
     let Some(volume) = descriptors.logical_volume() else {
         return None;
     };
-    let block = volume.block;
+    let block = &volume.block;
     if &block[217..240] != b"*OSTA UDF Compliant\0\0\0\0".as_slice() {
         return None;
     }
@@ -111,12 +112,21 @@ fn remark_closed<F: Files>(alloc: Global, told: Told<'_>, files: &F) {
 const SPARES: &str =
     "sparing copies disagree: the volume is not lawful, and files in spared packets may be old";
 
-/// Says in a remark why a volume does not open, where it does not; and of one that opens, that sparing copies disagree, where they do.
+/// Says in a remark how many of these nodes are files of a type that is not written, where some are.
+fn remark_left_out<F: Files>(alloc: Global, nodes: &[Node], files: &F) {
+    if let Ok(Some(text)) = left_out_remark(alloc, nodes) {
+        files.remark(text.as_str());
+    }
+}
+
+/// Says in a remark why a volume does not open, where it does not; and of one that opens, that sparing copies disagree, where they do, and
+/// how many of its files are of a type that is not written, where some are.
 pub fn remark_on<F: Files>(alloc: Global, survey: &Survey<'_>, files: &F) {
     if let Volume::Open(_) = &survey.volume {
         if spares_disagree(survey) {
             files.remark(SPARES);
         }
+        remark_left_out(alloc, &survey.nodes, files);
         return;
     }
     remark_unopened(alloc, survey, files);
@@ -131,6 +141,11 @@ fn remark_unopened<F: Files>(alloc: Global, survey: &Survey<'_>, files: &F) {
         volume: &survey.volume,
     };
     remark_closed(alloc, told, files);
+}
+
+/// Says in a remark how many files of the volume of a listing are of a type that is not written, where some are.
+pub fn remark_on_left_out<F: Files>(alloc: Global, listing: &Listing<'_>, files: &F) {
+    remark_left_out(alloc, &listing.nodes, files);
 }
 
 /// Says in a remark why the volume of a listing does not open, where it does not.

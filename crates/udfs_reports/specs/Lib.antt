@@ -1,3 +1,4 @@
+pub mod Comparing
 pub mod Telling
 pub mod Rereading
 pub mod Listing

@@ -2,6 +2,7 @@
 //! The commands that report on a volume: `report`, `reread`, `list`, `summary` and `page`.
 #![tactic(auto)]
 
+mod comparing;
 mod list;
 mod page;
 pub mod page_words;

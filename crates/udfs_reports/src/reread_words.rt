@@ -1,6 +1,6 @@
 //! The command `reread`, with its arguments.
 
-ghost use Rattle.std.specs.Prelude.{◌≡◌, ◌≢◌, ◌⊎◌, ℕ, List, [], true, false, IfOk, IfErr, OnErr, OnOk, alloc_error, map};
+ghost use Rattle.std.specs.Prelude.{◌≡◌, ◌≢◌, ◌⊎◌, ℕ, Bool, List, [], true, false, IfOk, IfErr, OnErr, OnOk, alloc_error, map};
 ghost use Rattle.clap.specs.Matches.{found_of};
 ghost use Rattle.udfs_volume.specs.declared.profiles.Profile.{Profile};
 ghost use Rattle.udfs_files.specs.Disk.{After, Disk, Fails, SinkFails, IsOwn};
@@ -9,7 +9,7 @@ ghost use Rattle.udfs_common.specs.Guarding.{IsFreeMap, IsSparedMap, MayNotBeSee
 ghost use Rattle.udfs_common.specs.Keeping.{IsKept, IsTaken, OfPaths, RefusedOut};
 ghost use Rattle.udfs_common.specs.declared.sources.AnySource.{AnySource};
 ghost use Rattle.udfs_words.specs.declared.input_path.InputPath.{InputPath};
-ghost use Rattle.udfs_reports.specs.Rereading.{DomainAsked, IsRefusedDomain, PrintsNumbers, WritesDomain, MayDomainAsked, numbers_of};
+ghost use Rattle.udfs_reports.specs.Rereading.{DomainAsked, IsCompared, IsRefusedDomain, PrintsNumbers, WritesDomain, MayDomainAsked, numbers_of};
 ghost use Rattle.udfs_reports.specs.Telling.{IsRefusedTelling};
 ghost use Rattle.udfs_remarks.specs.PathsRefused.{AskedRefused};
 
@@ -25,7 +25,7 @@ use udfs_common::inputs::unwritten;
 use udfs_common::refusal::Refusal;
 use udfs_common::sources::AnySource;
 use udfs_reading::{Sink, Source};
-use udfs_words::asking::{asked_inputs, asked_mapfile};
+use udfs_words::asking::{asked_inputs, asked_mapfile, asked_witnesses};
 use udfs_words::profile::asked_profile;
 use udfs_words::words::{MAPFILE, PAIRS};
 
@@ -68,14 +68,15 @@ fn reread_map_words<F: Files, O: Sink>(
     // report, or the count was not printed, or the mapfile was not put.
     ensures refused { IfErr result (λ refusal. ((files.new ≡ files.old) × (O.stream out.new ≡ O.stream out.old) × (refusal ≡ Refusal.Memory alloc_error)) ⊎ ((refusal ≡ Refusal.Spared) × (F.tells → IsSparedMap (F.holds files.old) (F.real files.old) (pair_texts (found_of words.now)) (mapfile_text (found_of words.now)))) ⊎
         ((refusal ≡ Refusal.Output) × MayNotBeSeen (F.shut files.old) (Fails F.Input.faults) [] (pair_texts (found_of words.now)) (mapfile_text (found_of words.now))) ⊎
-        AskedRefused (λ path. F.holds files.old (F.real files.old path)) (F.shut files.old) (⟦<AnySource<F::Input, F::Image> as Source>⟧.remaining) (⟦<AnySource<F::Input, F::Image> as Source>⟧.faults) (found_of words.now) (asked_inputs (found_of words.now)) ((files.new ≡ files.old) × (O.stream out.new ≡ O.stream out.old))
-        (λ profile last. IsRefusedDomain (F.shut files.old (mapfile_text (found_of words.now)) ⊎ Fails F.faults ⊎ SinkFails F.Output.stream) profile last (O.stream out.old) (O.stream out.new)) refusal) }
+        ((compares : Bool) × IsCompared (found_of words.now) compares × AskedRefused (λ path. F.holds files.old (F.real files.old path)) (F.shut files.old) (⟦<AnySource<F::Input, F::Image> as Source>⟧.remaining) (⟦<AnySource<F::Input, F::Image> as Source>⟧.faults) (found_of words.now) (asked_inputs (found_of words.now)) ((files.new ≡ files.old) × (O.stream out.new ≡ O.stream out.old))
+        (λ profile last. IsRefusedDomain (F.shut files.old (mapfile_text (found_of words.now)) ⊎ Fails F.faults ⊎ SinkFails F.Output.stream) compares profile last (O.stream out.old) (O.stream out.new)) refusal)) }
 {
     let inputs = match asked_inputs(alloc, words) {
         Ok(inputs) => inputs,
         Err(AllocError) => return Err(Refusal::Memory(AllocError)),
     };
     let paths = inputs.as_slice();
+    let compares = asked_witnesses(words);
     match asked_map_outlook(alloc, words, files) {
         Ok(Outlook::Free) => {}
         Ok(Outlook::Spared) => return Err(Refusal::Spared),
@@ -92,6 +93,7 @@ fn reread_map_words<F: Files, O: Sink>(
         paths,
         last,
         profile,
+        compares,
         asked_mapfile(words),
         files,
         out,
@@ -154,8 +156,8 @@ pub fn reread_as<F: Files, O: Sink>(
         (O.stream out.new ≡ O.stream out.old) (λ profile last. IsRefusedTelling numbers_of profile last (O.stream out.old) (O.stream out.new)) refusal) }
     ensures map_refused { IfErr result (λ refusal. is_mapped (found_of words.now) ≡ true → ((files.new ≡ files.old) × (O.stream out.new ≡ O.stream out.old) × (refusal ≡ Refusal.Memory alloc_error)) ⊎ ((refusal ≡ Refusal.Spared) × (F.tells → IsSparedMap (F.holds files.old) (F.real files.old) (pair_texts (found_of words.now)) (mapfile_text (found_of words.now)))) ⊎
         ((refusal ≡ Refusal.Output) × MayNotBeSeen (F.shut files.old) (Fails F.Input.faults) [] (pair_texts (found_of words.now)) (mapfile_text (found_of words.now))) ⊎
-        AskedRefused (λ path. F.holds files.old (F.real files.old path)) (F.shut files.old) (⟦<AnySource<F::Input, F::Image> as Source>⟧.remaining) (⟦<AnySource<F::Input, F::Image> as Source>⟧.faults) (found_of words.now) (asked_inputs (found_of words.now)) ((files.new ≡ files.old) × (O.stream out.new ≡ O.stream out.old))
-        (λ profile last. IsRefusedDomain (F.shut files.old (mapfile_text (found_of words.now)) ⊎ Fails F.faults ⊎ SinkFails F.Output.stream) profile last (O.stream out.old) (O.stream out.new)) refusal) }
+        ((compares : Bool) × IsCompared (found_of words.now) compares × AskedRefused (λ path. F.holds files.old (F.real files.old path)) (F.shut files.old) (⟦<AnySource<F::Input, F::Image> as Source>⟧.remaining) (⟦<AnySource<F::Input, F::Image> as Source>⟧.faults) (found_of words.now) (asked_inputs (found_of words.now)) ((files.new ≡ files.old) × (O.stream out.new ≡ O.stream out.old))
+        (λ profile last. IsRefusedDomain (F.shut files.old (mapfile_text (found_of words.now)) ⊎ Fails F.faults ⊎ SinkFails F.Output.stream) compares profile last (O.stream out.old) (O.stream out.new)) refusal)) }
 {
     if words.contains_id(MAPFILE) {
         return match reread_map_words(alloc, words, files, out) {

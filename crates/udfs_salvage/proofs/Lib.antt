@@ -6,6 +6,7 @@ pub mod NumberedNodes
 pub mod Founds
 pub mod Passing
 pub mod Opens
+pub mod RulesFound
 pub mod Openings
 pub mod Pieces
 pub mod PastEnds

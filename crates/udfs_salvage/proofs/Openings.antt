@@ -37,7 +37,7 @@ pub record ReadAs (P : Profile) (V : Volume) (N : ℕ) (f : Found) : Type 0 wher
 pub open_as : (P : Profile) (V : Volume) (N : ℕ) (lawful : IsLawfulVolumeBy P V N) → ReadAs P V N lawful.found_is
 open_as P V N lawful = record {
   opened = opened;
-  is_opened = record { anchor = std.0; is_anchor = std.1; layout_is = std.2 ∙ by.layout_is; reads = there.reads; tail = sym (ap (λ s. s.takes_tail) there.space_is); root_is = set.reads };
+  is_opened = record { anchor = std.0; is_anchor = std.1; layout_is = std.2 ∙ by.layout_is; reads = there.reads; rules = sym (ap (λ s. s.profile) there.space_is); root_is = set.reads };
   is_found = λ i. record { layout = f.layout; space = there.space_is i; root = f.root };
   is_whole = is_whole;
   only = only;
@@ -59,7 +59,7 @@ open_as P V N lawful = record {
     there = blocks_of_standard_by P V N f.layout f.space lawful.volume_is by.layout_is lawful.sparing by.space_is
 
     blocks : PartitionBlocks
-    blocks = record { at = blocks_by V f.space; takes_tail = f.space.takes_tail }
+    blocks = record { at = blocks_by V f.space; profile = f.space.profile }
 
     opened : Opened
     opened = record { layout = f.layout; blocks = blocks; root = f.root }
@@ -69,7 +69,7 @@ open_as P V N lawful = record {
       nowhere = λ r b p. ap (option_map V) p;
       there = λ r b n p. let inside : n ≤ N = there.inside r b n p in
           (V n, (complete_knows V N n (V n)).1 (inside, refl), ap (option_map V) p, (lawful.volume_is.each n inside).whole);
-      tail = refl;
+      profile = refl;
     }
 
     set : IsReadFileSet blocks f.layout.file_set f.root
@@ -84,11 +84,11 @@ open_as P V N lawful = record {
         layout : other.layout ≡ f.layout
         layout = found_same other.layout f.layout (sym o.layout_is ∙ ap (standard_layout_by P V N) (some_same o.anchor std.0 (sym o.is_anchor ∙ std.1)) ∙ std.2 ∙ by.layout_is)
 
-        tail_same : other.blocks.takes_tail ≡ f.space.takes_tail
-        tail_same = o.tail ∙ ap (λ l. l.takes_tail) layout ∙ ap (λ s. s.takes_tail) there.space_is
+        rules_same : other.blocks.profile ≡ f.space.profile
+        rules_same = o.rules ∙ ap (λ l. l.profile) layout ∙ ap (λ s. s.profile) there.space_is
 
         same : other.blocks ≡ blocks
-        same = λ i. record { at = there.only other.blocks.at (subst (λ z. AreBlocksOf V (standard_space V z) other.blocks.at) layout o.reads) i; takes_tail = tail_same i }
+        same = λ i. record { at = there.only other.blocks.at (subst (λ z. AreBlocksOf V (standard_space V z) other.blocks.at) layout o.reads) i; profile = rules_same i }
 
         set_is : IsFileSetAt blocks f.layout.file_set other.root
         set_is = subst (λ z. IsFileSetAt blocks z.file_set other.root) layout (subst (λ z. IsFileSetAt z other.layout.file_set other.root) same o.root_is)

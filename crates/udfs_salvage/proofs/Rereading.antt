@@ -32,6 +32,7 @@ use Rattle.udfs_salvage.specs.VolumeTrees.{IsInVolumeBy, IsLawfulBy, NeedsOf, fo
 use Rattle.udfs_salvage.proofs.Founds.{found_same, known_not_unread}
 use Rattle.udfs_salvage.proofs.Opens.{FoundBy, found_by}
 use Rattle.udfs_salvage.proofs.Openings.{ReadAs, lawful_tree, read_as}
+use Rattle.udfs_salvage.proofs.RulesFound.{found_rules}
 use Rattle.udfs_salvage.proofs.VolumeLaw.{volume_law, tells_lawful}
 
 -- ---- the volume, and its complete view
@@ -124,7 +125,7 @@ record IsWholeAndMet (P : Profile) (T : Blocks) (V : Volume) (N : ℕ) (report :
   other : TreeFile
   in_volume : IsInVolumeBy P V N path other
   is_met : IsMetBy P T V N path
-  alike : (m : NodeFields) (es : List Cell) → IsWholeAs m other es → IsWholeAs m file es
+  alike : (m : NodeFields) (es : List Cell) → IsWholeAs P m other es → IsWholeAs P m file es
 
 -- what is whole has a known block in each group, since what is whole over a part has
 whole_and_met : (P : Profile) (T : Blocks) (V : Volume) (N : ℕ) (l : IsLawfulBy P V N) → Agrees T V N → (report : Report) → IsReportBy P T N report → (path : List (List ℕ)) (file : TreeFile)
@@ -147,13 +148,14 @@ whole_and_met P T V N l a report r path file w = go (open_or_shut P T V N l a re
       other = o.file;
       in_volume = subst (λ z. IsInVolumeBy P V N z o.file) named (tree_up P V N l n.path o.file o.in_tree);
       is_met = met known (subst (IsMet (part_of P T V N l) (all_of P V N l) (blocks_of P V N l) f.root) named whole.1);
-      alike = whole_alike (part_of P T V N l) f.root i n file o.file cs whole.0.0 at whole.0.1 is whole.0.2;
+      alike = subst (λ p. (m : NodeFields) (es : List Cell) → IsWholeAs p m o.file es → IsWholeAs p m file es) (found_rules P (complete V N) N f l.is_volume.finds)
+          (whole_alike (part_of P T V N l) f.root i n file o.file cs whole.0.0 at whole.0.1 is whole.0.2);
     }
       where
         o : IsNodeOf (part_of P T V N l) (all_of P V N l) (blocks_of P V N l) f.root i n
         o = partial_nodes (part_of P T V N l) (all_of P V N l) (blocks_of P V N l) (part_is P T V N l a) (read_as P V N l).is_whole f.root (lawful_tree P V N l) report.nodes are i n get
 
-        whole : ((ds : List Cell) × HasCellsAt (part_of P T V N l) f.root i ds × IsWholeAs n o.file ds) × IsMet (part_of P T V N l) (all_of P V N l) (blocks_of P V N l) f.root n.path
+        whole : ((ds : List Cell) × HasCellsAt (part_of P T V N l) f.root i ds × IsWholeAs f.space.profile n o.file ds) × IsMet (part_of P T V N l) (all_of P V N l) (blocks_of P V N l) f.root n.path
         whole = o.whole is.standing
 
     go : IsOpenOrShut T V N f report → IsWholeAndMet P T V N report path file
@@ -260,7 +262,8 @@ stays_whole P T N report r V l a M other b q k path file w = go (met_is_reported
     more g needs = let h : HasKnown T g = x.is_met g needs in (h.0, h.1, (h.2.0, known_above (T h.0) (M h.0) h.2.0 h.2.1 (k.below h.0) (k.undisputed h.0 h.2)))
 
     go : IsReportedWhole M other path x.other → IsReportedWhole M other path file
-    go (f, e, (i, n, cs, get, named, at, is)) = (f, e, (i, n, cs, get, named, at, x.alike n cs is))
+    go (f, e, (i, n, cs, get, named, at, is)) = let rules : f.space.profile ≡ P = found_rules P M N f (sym q.volume_is ∙ e) in
+        (f, e, (i, n, cs, get, named, at, subst (λ p. IsWholeAs p n file cs) (sym rules) (x.alike n cs (subst (λ p. IsWholeAs p n x.other cs) rules is))))
 
 -- what neither of two tables knows, their join does not know
 unread_join : (a b : State) → is_known a ≡ false → is_known b ≡ false → is_known (join_of a b) ≡ false

@@ -19,7 +19,7 @@ use Rattle.udfs_salvage.specs.VolumeTrees.{AllIsWhole, IsInVolumeBy, IsLawfulBy}
 use Rattle.udfs_salvage.specs.WideVolumes.{IsTakenByWide}
 use Rattle.udfs_salvage.proofs.Openings.{ReadAs, lawful_by, open_as}
 use Rattle.udfs_salvage.proofs.TreeReports.{in_volume}
-use Rattle.udfs_salvage.proofs.WideLayouts.{layout_kept, taking_tail}
+use Rattle.udfs_salvage.proofs.WideLayouts.{layout_kept, read_wide}
 use Rattle.udfs_salvage.proofs.WideVolumes.{wide_takes_strict}
 
 abbrev pub volume : Maps → Volume
@@ -83,7 +83,7 @@ some_lawful_by Wide maps = (
   volume maps,
   600,
   taken.lawful,
-  (taking_tail (sample_layout maps), (layout_kept (blocks maps) 600 (sample_layout maps) (lawful_layout maps).layout_is).0, refl),
+  (read_wide (sample_layout maps), (layout_kept (blocks maps) 600 (sample_layout maps) (lawful_layout maps).layout_is).0, refl),
   (0x42 ∷ [], (sample_has_b maps).0, (taken.files ((0x42 ∷ []) ∷ []) (sample_has_b maps).0).0 (sample_has_b maps).1),
 )
   where

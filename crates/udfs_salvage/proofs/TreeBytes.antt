@@ -15,7 +15,7 @@ use Rattle.udfs_walk.specs.NodeFields.{NodeFields}
 use Rattle.udfs_walk.specs.declared.standings.Standing.{Standing}
 use Rattle.udfs_walk.specs.declared.standings.Standing.TheVariants.{Whole, Torn, Loop, Fault}
 use Rattle.udfs_walk.specs.Rereads.{holes_of}
-use Rattle.udfs_tree.specs.Cells.{HasCellsAt, IsByteOf, IsByteOrMissing, IsTornAs, IsUntold}
+use Rattle.udfs_tree.specs.Cells.{HasCellsAt, IsByteOf, IsByteOrMissing, IsToldAs, IsTornAs, IsUntold}
 use Rattle.udfs_tree.specs.Laws.{IsTold}
 use Rattle.udfs_tree.proofs.PublicLaws.{one_reading}
 use Rattle.udfs_salvage.specs.Found.{Found, volume_by}
@@ -42,7 +42,7 @@ as_tree P M N index cs f e h = subst (λ (g : Found). HasCellsAt (view M g.space
 -- what holds of the cells that are written holds of the file's bytes
 pub writes_file : (P : Profile) (M : Blocks) (N index : ℕ) (report : Report) (fill : ℕ) (Writes : List ℕ → Type 0) → IsReportBy P M N report → (n : NodeFields) → slice_get report.nodes index ≡ Some n → n.standing ≡ Whole
     → ((cs : List Cell) × HasCellsInBy P M N index cs × Writes (filled fill cs)) → WritesFileBy P M N n Writes
-writes_file P M N index report fill Writes is n at whole w V lawful agrees = (y.file, y.in_volume, told.2.told, subst Writes (all_there fill cs y.file.body bytes) w.2)
+writes_file P M N index report fill Writes is n at whole w V lawful agrees = (y.file, y.in_volume, subst (λ p. IsToldAs p n y.file) y.rules told.2.told, subst Writes (all_there fill cs y.file.body bytes) w.2)
   where
     y : IsNodeOfVolume P M V N report.volume index n
     y = (tells_tree P M N report is V lawful agrees).nodes index n at
@@ -85,7 +85,7 @@ as_long x (c ∷ cs) (l ∷ ls) z = ap suc (as_long x cs ls z.1)
 -- what holds of the cells that are written holds of the file's bytes, with the node's holes filled
 pub fills_file : (P : Profile) (M : Blocks) (N index : ℕ) (report : Report) (fill : ℕ) (given : Fill) (Writes : List ℕ → Type 0) → IsReportBy P M N report → (n : NodeFields) → slice_get report.nodes index ≡ Some n
     → is_offered n.standing n.size given ≡ true → ((cs : List Cell) × HasCellsInBy P M N index cs × Writes (filled fill cs)) → FillsFileBy P M N n fill Writes
-fills_file P M N index report fill given Writes is n at offered w V lawful agrees = (y.file, y.in_volume, told.2.told, (filled fill cs, bytes, w.2))
+fills_file P M N index report fill given Writes is n at offered w V lawful agrees = (y.file, y.in_volume, subst (λ p. IsToldAs p n y.file) y.rules told.2.told, (filled fill cs, bytes, w.2))
   where
     y : IsNodeOfVolume P M V N report.volume index n
     y = (tells_tree P M N report is V lawful agrees).nodes index n at
@@ -97,11 +97,11 @@ fills_file P M N index report fill given Writes is n at offered w V lawful agree
     known u Loop e = let z : false ≡ true = sym (ap (λ s. is_offered s n.size given) e) ∙ offered in let q : ⊥ = cc in q
     known u (Fault f) e = let z : false ≡ true = sym (ap (λ s. is_offered s n.size given) e) ∙ offered in let q : ⊥ = cc in q
 
-    told_by : IsTold (view M y.opened.space) y.opened.root index n y.file → (ds : List Cell) × HasCellsAt (view M y.opened.space) y.opened.root index ds × IsTornAs n y.file ds
+    told_by : IsTold (view M y.opened.space) y.opened.root index n y.file → (ds : List Cell) × HasCellsAt (view M y.opened.space) y.opened.root index ds × IsTornAs y.opened.space.profile n y.file ds
     told_by (inl u) = absurd (known u n.standing refl)
     told_by (inr t) = t
 
-    told : (ds : List Cell) × HasCellsAt (view M y.opened.space) y.opened.root index ds × IsTornAs n y.file ds
+    told : (ds : List Cell) × HasCellsAt (view M y.opened.space) y.opened.root index ds × IsTornAs y.opened.space.profile n y.file ds
     told = told_by y.as_far
 
     cs : List Cell
@@ -110,8 +110,8 @@ fills_file P M N index report fill given Writes is n at offered w V lawful agree
     same : told.0 ≡ cs
     same = one_reading (view M y.opened.space) y.opened.root index told.0 cs told.1 (as_tree P M N index cs y.opened (sym is.volume_is ∙ y.opens) w.1)
 
-    torn : IsTornAs n y.file cs
-    torn = subst (λ z. IsTornAs n y.file z) same told.2
+    torn : IsTornAs y.opened.space.profile n y.file cs
+    torn = subst (λ z. IsTornAs y.opened.space.profile n y.file z) same told.2
 
     bytes : AreFilled (holes_of n.standing) fill (file_bytes y.file) (filled fill cs)
     bytes = record {

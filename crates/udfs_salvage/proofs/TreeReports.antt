@@ -20,6 +20,7 @@ use Rattle.udfs_salvage.specs.declared.errors.SalvageError.{SalvageError}
 use Rattle.udfs_salvage.specs.declared.errors.SalvageError.TheVariants as errors
 use Rattle.udfs_salvage.proofs.Opens.{FoundBy, found_by}
 use Rattle.udfs_salvage.proofs.Openings.{ReadAs, lawful_tree, read_as}
+use Rattle.udfs_salvage.proofs.RulesFound.{found_rules}
 use Rattle.udfs_salvage.proofs.VolumeLaw.{tells_lawful}
 
 -- what is known of the partitions is part of the complete ones
@@ -58,6 +59,7 @@ node_in : (P : Profile) (M : Blocks) (V : Volume) (N : ℕ) (l : IsLawfulBy P V 
 node_in P M V N l a known told e report x index n at = record {
   opened = f;
   opens = e;
+  rules = found_rules P (complete V N) N f l.is_volume.finds;
   file = y.file;
   in_volume = in_volume P V N f r n.path y.file y.in_tree;
   no_fault = y.no_fault;
@@ -108,6 +110,7 @@ whole_report : (P : Profile) (V : Volume) (N : ℕ) → IsLawfulBy P V N → (re
 whole_report P V N l report x = record {
   opened = f;
   opens = opens;
+  rules = found_rules P (complete V N) N f l.is_volume.finds;
   in_volume = λ index n at. let y = t.in_tree index n at in (y.0, in_volume P V N f r n.path y.0 y.2, (y.1, y.3, y.4));
   is_listed = λ path file i. let y = t.is_listed path file (from_volume P V N f r path file i) in (y.0, y.1, y.3, y.4, (y.2, y.5, y.6));
   once = t.once;

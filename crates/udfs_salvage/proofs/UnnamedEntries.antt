@@ -15,6 +15,7 @@ use Rattle.udfs_file.specs.Bodies.{Body, body, cells, faulty_body}
 use Rattle.udfs_file.specs.declared.cells.Cell.{Cell}
 use Rattle.udfs_file.specs.declared.faults.Kind.{Kind}
 use Rattle.udfs_file.specs.declared.faults.Kind.TheVariants as kind
+use Rattle.udfs_walk.specs.Kinds.{kind_by}
 use Rattle.udfs_walk.specs.NodeBodies.{HasCells}
 use Rattle.udfs_walk.specs.NodeFields.{NodeFields}
 use Rattle.udfs_walk.specs.Standings.{body_standing, cells_standing, missing_blocks, runs_from, torn_or_whole}
@@ -65,14 +66,15 @@ none_missing : (cs : List Cell) → cells_standing cs ≡ Whole → missing_bloc
 unfolding cells_standing
 none_missing cs e = none_ascending (missing_blocks cs) (none_torn (ascending (missing_blocks cs)) (runs_from 0 cs) e)
 
--- a file that is whole has a body of which nothing is missing
-whole_body : (k : Kind) (b : Body) → is_file k ≡ true → body_standing k false b ≡ Whole → (cs : List Cell) × (b ≡ cells cs) × (missing_blocks cs ≡ [])
-whole_body kind.Directory b file whole = absurd (let z : ⊥ = cc in z)
-whole_body kind.File (faulty_body f) file whole = absurd (let z : ⊥ = cc in z)
-whole_body kind.File (cells cs) file whole = (cs, refl, none_missing cs whole)
-whole_body kind.Link b file whole = absurd (let z : ⊥ = cc in z)
-whole_body (kind.Other t) b file whole = absurd (let z : ⊥ = cc in z)
-whole_body kind.Unread b file whole = absurd (let z : ⊥ = cc in z)
+-- what is a file by the rules and is whole has a body of which nothing is missing
+whole_body : (P : Profile) (k : Kind) (b : Body) → is_file (kind_by P k) ≡ true → body_standing k false b ≡ Whole → (cs : List Cell) × (b ≡ cells cs) × (missing_blocks cs ≡ [])
+whole_body P kind.Directory b file whole = absurd (let z : ⊥ = cc in z)
+whole_body P kind.File (faulty_body f) file whole = absurd (let z : ⊥ = cc in z)
+whole_body P kind.File (cells cs) file whole = (cs, refl, none_missing cs whole)
+whole_body P kind.Link b file whole = absurd (let z : ⊥ = cc in z)
+whole_body P (kind.Other t) (faulty_body f) file whole = absurd (let z : ⊥ = cc in z)
+whole_body P (kind.Other t) (cells cs) file whole = (cs, refl, none_missing cs whole)
+whole_body P kind.Unread b file whole = absurd (let z : ⊥ = cc in z)
 
 is_whole_is : (s : Standing) → is_whole s ≡ true → s ≡ Whole
 is_whole_is Whole e = refl
@@ -104,8 +106,8 @@ of_target v icb (entry e) u is at lost =
     here : is_lost_file (unnamed_with v icb e) ≡ true → (cs : List Cell) × HasCells v (address_of icb) cs × (missing_blocks cs ≡ [])
     here file =
         let s = body_standing e.kind false (body v icb.reference icb.block e) in
-        let rest = and_right (is_file e.kind) (nat_lt 0 e.size && is_whole s) file in
-        let w = whole_body e.kind (body v icb.reference icb.block e) (and_left (is_file e.kind) _ file) (is_whole_is s (and_right (nat_lt 0 e.size) (is_whole s) rest)) in
+        let rest = and_right (is_file (kind_by v.profile e.kind)) (nat_lt 0 e.size && is_whole s) file in
+        let w = whole_body v.profile e.kind (body v icb.reference icb.block e) (and_left (is_file (kind_by v.profile e.kind)) _ file) (is_whole_is s (and_right (nat_lt 0 e.size) (is_whole s) rest)) in
         (w.0, record { fields = e; is_entry = is; has_body = w.1 }, w.2)
 
 at_icb : (v : View) (nodes : List NodeFields) (icb : Icb) (u : Unnamed) → unnamed_at v nodes icb ≡ Some u → HasBodyOf v u

@@ -30,7 +30,7 @@ use Rattle.udfs_salvage.specs.VolumeTrees.{Opened, IsOpenedBy, IsInVolumeBy, IsL
 use Rattle.udfs_salvage.specs.WideVolumes.{IsTakenByWide, WideTakesMore}
 use Rattle.udfs_salvage.proofs.Founds.{found_same}
 use Rattle.udfs_salvage.proofs.SampleLawful.{sample_has_b, sample_is_lawful}
-use Rattle.udfs_salvage.proofs.WideLayouts.{taking_tail}
+use Rattle.udfs_salvage.proofs.WideLayouts.{read_wide}
 use Rattle.udfs_salvage.proofs.WideSample.{revised, revised_anchor, revised_is_lawful, revised_is_refused, revised_is_volume, revised_layout, revised_layout_is, revised_standard, sample_anchor, sample_standard}
 use Rattle.udfs_salvage.proofs.WideVolumes.{wide_takes_strict}
 
@@ -46,7 +46,7 @@ second = revised contents
 
 -- ---- what is found
 abbrev second_space : Space
-second_space = record { spans = sample_spans one_type1; takes_tail = true }
+second_space = record { spans = sample_spans one_type1; profile = Wide }
 
 abbrev second_found : Found
 second_found = record { layout = revised_layout; space = second_space; root = sample_root }
@@ -85,8 +85,8 @@ taken = wide_takes_strict first 600 (sample_is_lawful one_type1)
 some_same : {A : Type 0} (x y : A) → Some x ≡ Some y → x ≡ y
 some_same x y e = cc
 
-layout_of_first : (o : Opened) → IsOpenedBy Wide first 600 o → o.layout ≡ taking_tail (sample_layout one_type1)
-layout_of_first o h = found_same o.layout (taking_tail (sample_layout one_type1))
+layout_of_first : (o : Opened) → IsOpenedBy Wide first 600 o → o.layout ≡ read_wide (sample_layout one_type1)
+layout_of_first o h = found_same o.layout (read_wide (sample_layout one_type1))
     (sym h.layout_is ∙ ap (standard_layout_by Wide first 600) (some_same h.anchor 256 (sym h.is_anchor ∙ sample_anchor contents)) ∙ sample_standard contents)
 
 -- the two differ in the two descriptors alone
@@ -117,11 +117,11 @@ opened_alike o h = record {
     block = λ r b n s. h.reads.block r b n (subst (λ l. StandsIn (standard_space first l) r b n) (sym is) s) ∙ ap Some (same_block n (stands_behind r b n s));
     no_block = λ r b none. h.reads.no_block r b (λ n s. none n (subst (λ l. StandsIn (standard_space first l) r b n) is s));
   };
-  tail = h.tail ∙ ap (λ l. l.takes_tail) is;
+  rules = h.rules ∙ ap (λ l. l.profile) is;
   root_is = subst (λ l. IsFileSetAt o.blocks l.file_set o.root) is h.root_is;
 }
   where
-    is : o.layout ≡ taking_tail (sample_layout one_type1)
+    is : o.layout ≡ read_wide (sample_layout one_type1)
     is = layout_of_first o h
 
 lawful : IsLawfulBy Wide second 600

@@ -1,4 +1,4 @@
--- The layout that the strict rules find is found by the wide ones too, and is the same but for the tail of a last extent.
+-- The layout that the strict rules find is found by the wide ones too, and is the same but for the rules.
 use Rattle.std.proofs.Common.{◌≡◌, refl, sym, ◌∙◌, ap, inl, inr, ◌⊎◌, ℕ, ◌-◌, Bool, true, false, not, List, [], ◌∷◌, ◌++◌, map, drop, cond, ◌&&◌, ◌||◌, Option, Some, None, nat_eq, nat_le}
 use Rattle.std.specs.Prelude.{zero, suc, is_none, option_map}
 use Rattle.std.specs.List.{list_any}
@@ -7,6 +7,7 @@ use Rattle.udfs_tag.specs.Fields.{uint8_at, uint16_at, uint32_at, long_ad_at, pa
 use Rattle.udfs_tag.specs.Faults.{is_within}
 use Rattle.udfs_osta.specs.Labels.{label_of}
 use Rattle.udfs_volume.specs.Answers.{Answer, found, and_then, unless_fault}
+use Rattle.udfs_volume.specs.declared.profiles.Profile.{Profile}
 use Rattle.udfs_volume.specs.declared.profiles.Profile.TheVariants.{Strict, Wide}
 use Rattle.udfs_volume.specs.declared.faults.VolumeFault.{VolumeFault}
 use Rattle.udfs_volume.specs.declared.faults.VolumeFault.TheVariants.{Domain, BlockSize, MapCount, MapKind}
@@ -144,30 +145,30 @@ volume_fault_kept last lv ms m = no_fault_kept Domain BlockSize MapCount MapKind
     (λ e. ap is_none (the_maps_kept last lv ms m))
 
 -- ---- the layout
--- the same layout, whose last extents are read with their tails
-abbrev pub taking_tail : Layout → Layout
-taking_tail l = record { last = l.last; revision = l.revision; label = l.label; partitions = l.partitions; file_set = l.file_set; takes_tail = true }
+-- the same layout, read by the wide rules
+abbrev pub read_wide : Layout → Layout
+read_wide l = record { last = l.last; revision = l.revision; label = l.label; partitions = l.partitions; file_set = l.file_set; profile = Wide }
 
 -- a layout that the strict rules find, and the answer of the wide ones
 abbrev IsKept : Layout → Answer Layout → Type 0
-IsKept l wide = (wide ≡ found (taking_tail l)) × (l.takes_tail ≡ false)
+IsKept l wide = (wide ≡ found (read_wide l)) × (l.profile ≡ Strict)
 
 laid_kept : (last : ℕ) (lv : Descriptor) (o : Option (List Described)) (l : Layout) → laid_out Strict last lv o ≡ found l → IsKept l (laid_out Wide last lv o)
 laid_kept last lv None l e = absurd (let z : ⊥ = cc in z)
 laid_kept last lv (Some ps) l e = go (partitions_fault last ps) e
   where
-    it : Bool → Layout
-    it tail = record {
+    it : Profile → Layout
+    it profile = record {
       last = last;
       revision = uint16_at lv.content (bp 240);
       label = label_of (part lv.content (bp 84) 128);
       partitions = map partition_of ps;
       file_set = long_ad_at lv.content (bp 248);
-      takes_tail = tail;
+      profile = profile;
     }
 
-    go : (o : Option VolumeFault) → unless_fault o (it false) ≡ found l → IsKept l (unless_fault o (it true))
-    go None e = let q : it false ≡ l = found_same (it false) l e in (ap (λ x. found (taking_tail x)) q, sym (ap (λ x. x.takes_tail) q))
+    go : (o : Option VolumeFault) → unless_fault o (it Strict) ≡ found l → IsKept l (unless_fault o (it Wide))
+    go None e = let q : it Strict ≡ l = found_same (it Strict) l e in (ap (λ x. found (read_wide x)) q, sym (ap (λ x. x.profile) q))
     go (Some f) e = absurd (let z : ⊥ = cc in z)
 
 volume_kept : (last : ℕ) (ds : List Descriptor) (o : Option Descriptor) (l : Layout) → with_volume Strict last ds o ≡ found l → IsKept l (with_volume Wide last ds o)
@@ -183,11 +184,11 @@ volume_kept last ds (Some lv) l e = go (volume_fault Strict last lv) refl e
     go None f p = then (the_maps Strict last lv) refl f p
     go (Some fault) f p = absurd (let z : ⊥ = cc in z)
 
-pub sequence_kept : (last : ℕ) (ds : List Descriptor) (l : Layout) → layout_of Strict last ds ≡ found l → (layout_of Wide last ds ≡ found (taking_tail l)) × (l.takes_tail ≡ false)
+pub sequence_kept : (last : ℕ) (ds : List Descriptor) (l : Layout) → layout_of Strict last ds ≡ found l → (layout_of Wide last ds ≡ found (read_wide l)) × (l.profile ≡ Strict)
 unfolding layout_of
 sequence_kept last ds l e = volume_kept last ds (logical_volume ds) l e
 
-pub layout_kept : (T : Blocks) (last : ℕ) (l : Layout) → layout_by Strict T last ≡ found l → (layout_by Wide T last ≡ found (taking_tail l)) × (l.takes_tail ≡ false)
+pub layout_kept : (T : Blocks) (last : ℕ) (l : Layout) → layout_by Strict T last ≡ found l → (layout_by Wide T last ≡ found (read_wide l)) × (l.profile ≡ Strict)
 unfolding layout_by
 layout_kept T last l e = let q : (ds : List Descriptor) × (sequence T last ≡ found ds) × (layout_of Strict last ds ≡ found l) = and_then-found (sequence T last) (layout_of Strict last) l e in
     let k : IsKept l (layout_of Wide last q.0) = sequence_kept last q.0 l q.2 in

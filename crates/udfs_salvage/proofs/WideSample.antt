@@ -22,7 +22,7 @@ use Rattle.udfs_volume.specs.Laws.{valid_anchors, IsThroughEnd, SaysTheSame, IsL
 use Rattle.udfs_volume.specs.Sample.{one_type1, logical_volume_at, patch, sample, sample_layout}
 use Rattle.udfs_volume.proofs.PublicLaws.{sample_layout_is_lawful}
 use Rattle.udfs_salvage.proofs.Founds.{found_same}
-use Rattle.udfs_salvage.proofs.WideLayouts.{taking_tail}
+use Rattle.udfs_salvage.proofs.WideLayouts.{read_wide}
 
 -- the logical volume descriptor of the sample with a map of type 1, of revision 2.00
 abbrev pub revised_at : ℕ → ℕ → Bytes
@@ -33,7 +33,7 @@ abbrev pub revised : (ℕ → Bytes) → Volume
 revised contents n = cond (nat_eq n 32) (revised_at 0x28 0x20) (cond (nat_eq n 48) (revised_at 0x38 0x30) (sample one_type1 contents n))
 
 abbrev pub revised_layout : Layout
-revised_layout = let l = sample_layout one_type1 in record { last = l.last; revision = 0x200; label = l.label; partitions = l.partitions; file_set = l.file_set; takes_tail = true }
+revised_layout = let l = sample_layout one_type1 in record { last = l.last; revision = 0x200; label = l.label; partitions = l.partitions; file_set = l.file_set; profile = Wide }
 
 -- ---- blocks
 below_256 : (x : ℕ) → nat_lt x 256 ≡ true → x < 256
@@ -124,6 +124,6 @@ pub sample_anchor : (contents : ℕ → Bytes) → standard_anchor (sample one_t
 unfolding polynomial reduced crc_of tag_of
 sample_anchor contents = refl
 
-pub sample_standard : (contents : ℕ → Bytes) → standard_layout_by Wide (sample one_type1 contents) 600 256 ≡ found (taking_tail (sample_layout one_type1))
+pub sample_standard : (contents : ℕ → Bytes) → standard_layout_by Wide (sample one_type1 contents) 600 256 ≡ found (read_wide (sample_layout one_type1))
 unfolding polynomial reduced crc_of tag_of layout_of
 sample_standard contents = refl

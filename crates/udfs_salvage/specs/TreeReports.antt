@@ -37,14 +37,16 @@ OpensOrHasHoles told = ((f : Found) × (told ≡ found f)) ⊎ ((listed : List �
 abbrev pub HasReportCells : Blocks → Found → ℕ → List Cell → Type 0
 HasReportCells blocks f index cs = HasCellsAt (view blocks f.space) f.root index cs
 
--- the node is whole, has the file's kind, size and stamp, and all of its bytes
+-- the node is whole, told as the file by the rules of the space, and has all of its bytes
 abbrev pub IsReportedAs : Blocks → Found → ℕ → NodeFields → TreeFile → Type 0
-IsReportedAs blocks f index n file = (cs : List Cell) × HasReportCells blocks f index cs × IsWholeAs n file cs
+IsReportedAs blocks f index n file = (cs : List Cell) × HasReportCells blocks f index cs × IsWholeAs f.space.profile n file cs
 
 -- Of the node at this place in the report of a volume that opens.
 pub record IsNodeOfVolume (profile : Profile) (blocks : Blocks) (volume : Volume) (last : ℕ) (told : Answer Found) (index : ℕ) (n : NodeFields) : Type 0 where
   pub opened : Found
   pub opens : told ≡ found opened
+  -- it is read by these rules, which say what kind a file's entry is
+  pub rules : opened.space.profile ≡ profile
   -- it is one of the tree at its path
   pub file : TreeFile
   pub in_volume : IsInVolumeBy profile volume last n.path file
@@ -68,6 +70,7 @@ TellsTreeBy profile blocks last report = (volume : Volume) → IsLawfulBy profil
 pub record IsWholeReportOf (profile : Profile) (blocks : Blocks) (volume : Volume) (last : ℕ) (report : Report) : Type 0 where
   pub opened : Found
   pub opens : report.volume ≡ found opened
+  pub rules : opened.space.profile ≡ profile
   pub in_volume : (index : ℕ) (n : NodeFields) → slice_get report.nodes index ≡ Some n
       → (file : TreeFile) × IsInVolumeBy profile volume last n.path file × IsReportedAs blocks opened index n file
   pub is_listed : (path : List (List ℕ)) (file : TreeFile) → IsInVolumeBy profile volume last path file
@@ -155,10 +158,10 @@ abbrev pub file_bytes : TreeFile → List ℕ
 file_bytes file = map (λ x. x.0) file.body
 
 -- of every lawful volume with which the table agrees: this is done with the bytes of the file of its tree that is at the
--- node's path and has its kind, size and stamp
+-- node's path and is told so, by these rules
 abbrev pub WritesFileBy : Profile → Blocks → ℕ → NodeFields → (List ℕ → Type 0) → Type 0
 WritesFileBy profile blocks last n Writes = (volume : Volume) → IsLawfulBy profile volume last → Agrees blocks volume last
-    → (file : TreeFile) × IsInVolumeBy profile volume last n.path file × IsToldAs n file × Writes (file_bytes file)
+    → (file : TreeFile) × IsInVolumeBy profile volume last n.path file × IsToldAs profile n file × Writes (file_bytes file)
 
 -- the same by the strict rules
 abbrev pub WritesFile : Blocks → ℕ → NodeFields → (List ℕ → Type 0) → Type 0
@@ -171,10 +174,10 @@ pub record AreFilled (runs : List (ℕ × ℕ)) (fill : ℕ) (file out : List �
   pub inside : (k : ℕ) → IsInRuns runs k → slice_get out k ≡ Some fill
 
 -- of every lawful volume with which the table agrees: this is done with the bytes of the file of its tree that is at the
--- node's path and has its kind, size and stamp, with the node's holes filled with this byte
+-- node's path and is told so, by these rules, with the node's holes filled with this byte
 abbrev pub FillsFileBy : Profile → Blocks → ℕ → NodeFields → ℕ → (List ℕ → Type 0) → Type 0
 FillsFileBy profile blocks last n fill Writes = (volume : Volume) → IsLawfulBy profile volume last → Agrees blocks volume last
-    → (file : TreeFile) × IsInVolumeBy profile volume last n.path file × IsToldAs n file × ((bytes : List ℕ) × AreFilled (holes_of n.standing) fill (file_bytes file) bytes × Writes bytes)
+    → (file : TreeFile) × IsInVolumeBy profile volume last n.path file × IsToldAs profile n file × ((bytes : List ℕ) × AreFilled (holes_of n.standing) fill (file_bytes file) bytes × Writes bytes)
 
 -- the same by the strict rules
 abbrev pub FillsFile : Blocks → ℕ → NodeFields → ℕ → (List ℕ → Type 0) → Type 0

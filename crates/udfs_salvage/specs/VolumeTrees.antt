@@ -39,7 +39,7 @@ pub record IsOpenedBy (profile : Profile) (volume : Volume) (last : ℕ) (opened
   pub is_anchor : standard_anchor volume last ≡ Some anchor
   pub layout_is : standard_layout_by profile volume last anchor ≡ found opened.layout
   pub reads : AreBlocksOf volume (standard_space volume opened.layout) opened.blocks.at
-  pub tail : opened.blocks.takes_tail ≡ opened.layout.takes_tail
+  pub rules : opened.blocks.profile ≡ opened.layout.profile
   pub root_is : IsFileSetAt opened.blocks opened.layout.file_set opened.root
 
 -- the same by the strict rules

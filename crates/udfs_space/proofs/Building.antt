@@ -54,7 +54,7 @@ as_many b last (p ∷ ps) ss e =
 
 -- the spans of a layout as its space
 abbrev pub in_space : Layout → Answer Spans → Answer Space
-in_space l a = and_then a (λ ss. found (record { spans = ss; takes_tail = l.takes_tail }))
+in_space l a = and_then a (λ ss. found (record { spans = ss; profile = l.profile }))
 
 pub space_by : {A : Type 0} (b : Blocks) (l : Layout) (f : A → Partition) (ds xs : List A) (a : Answer Spans) → ds ≡ xs → l.partitions ≡ map f xs → spans b l.last (map f ds) ≡ a → space b l ≡ in_space l a
 unfolding space

@@ -146,31 +146,31 @@ any_within last ss all r b n e = go (slice_get ss.spans r) refl e
 
 -- the spans of a space that is found
 pub space_found : (T : Blocks) (l : Layout) (ss : Space) → space T l ≡ found ss
-    → (xs : Spans) × (spans T l.last l.partitions ≡ found xs) × (found (record { spans = xs; takes_tail = l.takes_tail }) ≡ found ss)
+    → (xs : Spans) × (spans T l.last l.partitions ≡ found xs) × (found (record { spans = xs; profile = l.profile }) ≡ found ss)
 unfolding space
-space_found T l ss e = and_then-found (spans T l.last l.partitions) (λ xs. found (record { spans = xs; takes_tail = l.takes_tail })) ss e
+space_found T l ss e = and_then-found (spans T l.last l.partitions) (λ xs. found (record { spans = xs; profile = l.profile })) ss e
 
 pub space_spans : (T : Blocks) (l : Layout) (ss : Space)
-    → (q : (xs : Spans) × (spans T l.last l.partitions ≡ found xs) × (found (record { spans = xs; takes_tail = l.takes_tail }) ≡ found ss)) → q.0 ≡ ss.spans
-space_spans T l ss q = ap (λ z. z.spans) (found_same (record { spans = q.0; takes_tail = l.takes_tail }) ss q.2)
+    → (q : (xs : Spans) × (spans T l.last l.partitions ≡ found xs) × (found (record { spans = xs; profile = l.profile }) ≡ found ss)) → q.0 ≡ ss.spans
+space_spans T l ss q = ap (λ z. z.spans) (found_same (record { spans = q.0; profile = l.profile }) ss q.2)
 
 space_within : (profile : Profile) (T : Blocks) (last : ℕ) (l : Layout) (ss : Space) → layout_by profile T last ≡ found l → space T l ≡ found ss → (r b n : ℕ) → place ss r b ≡ Some n → n ≤ last
 unfolding space
 space_within profile T last l ss h e = let bounds : IsBounded last l = layout_is_bounded_by profile T last l h in
-    let q : (xs : Spans) × (spans T l.last l.partitions ≡ found xs) × (found (record { spans = xs; takes_tail = l.takes_tail }) ≡ found ss) = space_found T l ss e in
+    let q : (xs : Spans) × (spans T l.last l.partitions ≡ found xs) × (found (record { spans = xs; profile = l.profile }) ≡ found ss) = space_found T l ss e in
     any_within last ss (subst (λ xs. (s : Span) → Contains xs s → IsWithin last s) (space_spans T l ss q)
     (spans_within T last l.partitions q.0 bounds.of_each (ap (λ x. spans T x l.partitions) (sym bounds.is_last) ∙ q.1)))
 
 pub places_up_to : (T : Blocks) (l : Layout) (ss : Space) → IsBounded l.last l → space T l ≡ found ss → (r b n : ℕ) → place ss r b ≡ Some n → n ≤ l.last
 unfolding space
-places_up_to T l ss bounds e = let q : (xs : Spans) × (spans T l.last l.partitions ≡ found xs) × (found (record { spans = xs; takes_tail = l.takes_tail }) ≡ found ss) = space_found T l ss e in
+places_up_to T l ss bounds e = let q : (xs : Spans) × (spans T l.last l.partitions ≡ found xs) × (found (record { spans = xs; profile = l.profile }) ≡ found ss) = space_found T l ss e in
     any_within l.last ss (subst (λ xs. (s : Span) → Contains xs s → IsWithin l.last s) (space_spans T l ss q) (spans_within T l.last l.partitions q.0 bounds.of_each q.1))
 
 pub place_law : (profile : Profile) → PlaceLawBy profile
 place_law profile M V N l s hv hl hs a = record {
   partitions = refl;
   places = λ r b. refl;
-  tail = refl;
+  profile = refl;
   complete = λ r b n e. (V n, complete-known V N n (space_within profile (complete V N) N l s hl hs r b n e));
   agrees = λ r b n bytes e k. complete-known V N n (space_within profile (complete V N) N l s hl hs r b n e) ∙ sym (known_is M V N a n bytes k) ∙ k;
 }

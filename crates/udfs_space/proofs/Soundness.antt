@@ -61,6 +61,6 @@ span_sound T last p s l b e = let q : (sp : Spared) × (spared T last p.kind ≡
 pub sound_space : SoundSpace
 unfolding space
 sound_space profile T last l ss h k e r s g = let bounds : IsBounded last l = layout_is_bounded_by profile T last l k in
-    let q : (xs : Spans) × (spans T l.last l.partitions ≡ found xs) × (found (record { spans = xs; takes_tail = l.takes_tail }) ≡ found ss) = space_found T l ss e in
+    let q : (xs : Spans) × (spans T l.last l.partitions ≡ found xs) × (found (record { spans = xs; profile = l.profile }) ≡ found ss) = space_found T l ss e in
     spans_each IsSound T last l.partitions q.0 (λ p x i f. span_sound T last p x h (bounds.of_each p i) f)
     (ap (λ x. spans T x l.partitions) (sym bounds.is_last) ∙ q.1) s (subst (λ xs. Contains xs s) (sym (space_spans T l ss q)) (span_in ss.spans r s g))

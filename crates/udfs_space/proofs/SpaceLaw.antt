@@ -351,8 +351,8 @@ answer_then M G some all f (unread_answer listed e x) = unread_answer listed (ap
 pub space_law : (profile : Profile) → SpaceLawBy profile
 unfolding space
 space_law profile M V N l hv h lawful a = let bounds : IsBounded N l = layout_is_bounded_by profile (complete V N) N l h in
-    let q : (xs : Spans) × (spans (complete V N) l.last l.partitions ≡ found xs) × (found (record { spans = xs; takes_tail = l.takes_tail }) ≡ found lawful.placed.0) = space_found (complete V N) l lawful.placed.0 lawful.placed.1 in
-    answer_then M (IsSparingGroup l.partitions) (spans M l.last l.partitions) (spans (complete V N) l.last l.partitions) (λ ss. found (record { spans = ss; takes_tail = l.takes_tail }))
+    let q : (xs : Spans) × (spans (complete V N) l.last l.partitions ≡ found xs) × (found (record { spans = xs; profile = l.profile }) ≡ found lawful.placed.0) = space_found (complete V N) l lawful.placed.0 lawful.placed.1 in
+    answer_then M (IsSparingGroup l.partitions) (spans M l.last l.partitions) (spans (complete V N) l.last l.partitions) (λ ss. found (record { spans = ss; profile = l.profile }))
     (spans_law M V N l.last l.partitions q.0 hv (λ p i. (bounds.of_each p i).bounded_map) lawful.tables a q.1)
 
 -- with all known, the packets are those of the first table
@@ -384,6 +384,6 @@ spans_are V N last (p ∷ ps) ss hv b same e =
 pub standard_space_law : StandardSpace
 unfolding space
 standard_space_law profile V N l hv h lawful = let bounds : IsBounded N l = layout_is_bounded_by profile (complete V N) N l h in
-    let q : (xs : Spans) × (spans (complete V N) l.last l.partitions ≡ found xs) × (found (record { spans = xs; takes_tail = l.takes_tail }) ≡ found lawful.placed.0) = space_found (complete V N) l lawful.placed.0 lawful.placed.1 in
+    let q : (xs : Spans) × (spans (complete V N) l.last l.partitions ≡ found xs) × (found (record { spans = xs; profile = l.profile }) ≡ found lawful.placed.0) = space_found (complete V N) l lawful.placed.0 lawful.placed.1 in
     let is : map (λ p. span_of p (first_table V p.kind)) l.partitions ≡ q.0 = spans_are V N l.last l.partitions q.0 hv (λ p i. (bounds.of_each p i).bounded_map) lawful.tables q.1 in
-    lawful.placed.1 ∙ sym q.2 ∙ (λ i. found (record { spans = sym is i; takes_tail = l.takes_tail }))
+    lawful.placed.1 ∙ sym q.2 ∙ (λ i. found (record { spans = sym is i; profile = l.profile }))

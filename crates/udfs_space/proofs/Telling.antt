@@ -89,7 +89,7 @@ spans_rise T last (p ∷ ps) = then_rises (span T last p) (λ s. and_then (spans
 
 space_rises : (T : Blocks) (l : Layout) → Rises (space T l)
 unfolding space
-space_rises T l = then_rises (spans T l.last l.partitions) (λ ss. found (record { spans = ss; takes_tail = l.takes_tail })) (spans_rise T l.last l.partitions) (λ ss. tt)
+space_rises T l = then_rises (spans T l.last l.partitions) (λ ss. found (record { spans = ss; profile = l.profile })) (spans_rise T l.last l.partitions) (λ ss. tt)
 
 got_up_to : (T : Blocks) (l : Layout) (seen : Seen code_space.Space) → IsBounded l.last l → Sees (λ s. s) seen (space T l) → IfGot seen (ArePlacesUpTo l.last)
 got_up_to T l (Got got) bounds s = places_up_to T l got bounds s
@@ -97,8 +97,12 @@ got_up_to T l (Holes blocks) bounds s = tt
 got_up_to T l (Fault fault) bounds s = tt
 got_up_to T l OutOfMemory bounds s = tt
 
+abbrev pub SpaceClauses : Blocks → Layout → Seen code_space.Space → Type 0
+SpaceClauses T l seen = record { value : Sees (λ s. s) seen (space T l); lawful : TellsLawfulSpace T l seen; rising : HolesRise seen; within : IfGot seen (ArePlacesUpTo l.last) }
+
+-- the same, by what it saw
 pub space_clauses : (T : Blocks) (l : Layout) (seen : Seen code_space.Space) → IsBounded l.last l → Sees (λ s. s) seen (space T l)
-    → record { value : Sees (λ s. s) seen (space T l); lawful : TellsLawfulSpace T l seen; rising : HolesRise seen; within : IfGot seen (ArePlacesUpTo l.last) }
+    → SpaceClauses T l seen
 space_clauses T l seen bounds s = record {
   value = s;
   lawful = tells_lawful T l seen s;

@@ -12,6 +12,7 @@ use Rattle.udfs_lattice.specs.Volumes.{Blocks}
 use Rattle.udfs_lattice.specs.States.{State, fact_now}
 use Rattle.udfs_lattice.specs.declared.facts.Fact.{Fact}
 use Rattle.udfs_lattice.specs.declared.facts.Fact.TheVariants.{Known}
+use Rattle.udfs_volume.specs.declared.profiles.Profile.{Profile}
 use Rattle.udfs_volume.specs.Sequence.{Bytes}
 use Rattle.udfs_space.specs.declared.entries.SparingEntry.{SparingEntry}
 use Rattle.udfs_space.specs.Sparing.{Space, Span}
@@ -68,12 +69,12 @@ pub record View : Type 0 where
   pub partitions : ℕ
   pub place : ℕ → ℕ → Option ℕ
   pub blocks : Blocks
-  -- whether the last extent of a body may end inside a block that goes on
-  pub takes_tail : Bool
+  -- the rules by which the volume is read
+  pub profile : Profile
 
 -- what is known of logical blocks, by what is known of the volume's blocks and where they are placed
 abbrev pub view : Blocks → Space → View
-view blocks space = record { partitions = length space.spans; place = place space; blocks = blocks; takes_tail = space.takes_tail }
+view blocks space = record { partitions = length space.spans; place = place space; blocks = blocks; profile = space.profile }
 
 -- the block at a logical address, and its state
 abbrev pub block_at : View → ℕ → ℕ → Option (ℕ × State)
@@ -92,7 +93,7 @@ is_past places r b count = list_any (λ j. is_none (places r (b + j))) (range_wi
 pub record IsPartOf (some all : View) : Type 0 where
   pub partitions : some.partitions ≡ all.partitions
   pub places : (r b : ℕ) → some.place r b ≡ all.place r b
-  pub tail : some.takes_tail ≡ all.takes_tail
+  pub profile : some.profile ≡ all.profile
   pub complete : (r b n : ℕ) → all.place r b ≡ Some n → (bytes : Bytes) × (all.blocks n ≡ Known bytes)
   pub agrees : (r b n : ℕ) (bytes : Bytes) → all.place r b ≡ Some n → some.blocks n ≡ Known bytes → all.blocks n ≡ Known bytes
 

@@ -1,7 +1,8 @@
 -- The places of the sample volumes of udfs_volume: with one partition of type 1, one sparable partition, and both.
 --     sample_space     them; in a sparable partition the first packet is spared
 --     SampleSpace      whatever the partitions hold, they are those of that layout, and lawful
-use Rattle.std.specs.Prelude.{◌≡◌, ℕ, false, [], ◌∷◌}
+use Rattle.std.specs.Prelude.{◌≡◌, ℕ, [], ◌∷◌}
+use Rattle.udfs_volume.specs.declared.profiles.Profile.TheVariants.{Strict}
 use Rattle.udfs_volume.specs.Answers.{found}
 use Rattle.udfs_volume.specs.Sample.{Maps, one_type1, one_sparable, type1_and_sparable, sample, sample_blocks, sample_layout}
 use Rattle.udfs_volume.specs.Sequence.{Bytes}
@@ -21,7 +22,7 @@ sample_spans type1_and_sparable = record { start = 272; size = 300; packet = 1; 
 
 -- these places, by the strict rules
 abbrev pub sample_space : Maps → Space
-sample_space maps = record { spans = sample_spans maps; takes_tail = false }
+sample_space maps = record { spans = sample_spans maps; profile = Strict }
 
 -- whatever its partitions hold, each sample volume has the sample's places, and lawful ones
 abbrev pub SampleSpace : Type 0

@@ -10,6 +10,7 @@ use Rattle.udfs_tag.specs.Fields.{uint16_at, uint32_at, regid_at, zero_filled}
 use Rattle.udfs_tag.specs.Faults.{is_within, first_fault}
 use Rattle.udfs_tag.specs.Tags.{is_valid}
 use Rattle.udfs_volume.specs.Answers.{Answer, found, holes, and_then, unless_fault}
+use Rattle.udfs_volume.specs.declared.profiles.Profile.{Profile}
 use Rattle.udfs_volume.specs.Layout.{Layout, Partition, PartitionMap, type1, sparable, bp, blocks_in}
 use Rattle.udfs_space.specs.declared.entries.SparingEntry.{SparingEntry}
 use Rattle.udfs_volume.specs.declared.faults.VolumeFault.{VolumeFault}
@@ -30,10 +31,10 @@ pub record Span : Type 0 where
 abbrev pub Spans : Type 0
 Spans = List Span
 
--- Where the logical blocks of each partition are, and whether the last extent of a file may end inside a block.
+-- Where the logical blocks of each partition are, and the rules by which the volume is read.
 pub record Space : Type 0 where
   pub spans : Spans
-  pub takes_tail : Bool
+  pub profile : Profile
 
 -- the blocks that hold block k of the table, in map order
 abbrev pub copies : List ℕ → ℕ → List ℕ
@@ -155,4 +156,4 @@ spans blocks last (p ∷ ps) = and_then (span blocks last p) (λ s. and_then (sp
 
 -- the places of all partitions' blocks; one map at most is sparable, so there is no order among faults or holes of several tables
 unfoldable pub space : Blocks → Layout → Answer Space
-space blocks layout = and_then (spans blocks layout.last layout.partitions) (λ ss. found (record { spans = ss; takes_tail = layout.takes_tail }))
+space blocks layout = and_then (spans blocks layout.last layout.partitions) (λ ss. found (record { spans = ss; profile = layout.profile }))

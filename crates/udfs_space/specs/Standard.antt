@@ -19,4 +19,4 @@ first_table volume (sparable packet size (place ∷ places)) = spared_in (drop 1
 
 -- the places of a volume's blocks, by the first sparing table of each partition
 abbrev pub standard_space : Volume → Layout → Space
-standard_space volume l = record { spans = map (λ p. span_of p (first_table volume p.kind)) l.partitions; takes_tail = l.takes_tail }
+standard_space volume l = record { spans = map (λ p. span_of p (first_table volume p.kind)) l.partitions; profile = l.profile }

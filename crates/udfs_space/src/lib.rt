@@ -12,4 +12,4 @@ pub mod views;
 
 pub use entries::SparingEntry;
 pub use spaces::Space;
-pub use views::View;
+pub use views::{StoreView, View};

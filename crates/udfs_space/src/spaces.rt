@@ -1,6 +1,6 @@
 //! Where the logical blocks of a volume's partitions are.
 
-ghost use Rattle.std.specs.Prelude.{◌≡◌, ◌≤◌, ◌<◌, ◌↔◌, ℕ, All, IfOk, IfSome, IsSome, Some, length, map, option_map, slice_get};
+ghost use Rattle.std.specs.Prelude.{◌≡◌, ◌≤◌, ◌<◌, ◌↔◌, ℕ, All, IfOk, IfSome, IsErrOf, IsSome, OnErr, Some, length, map, option_map, slice_get};
 ghost use Rattle.udfs_lattice.specs.States.{fact_now};
 ghost use Rattle.udfs_lattice.specs.Tables.{state_of};
 ghost use Rattle.udfs_volume.specs.LayoutParts.{partition_now, parts_now};
@@ -12,11 +12,11 @@ ghost use Rattle.udfs_space.specs.Sparing.{Span, space, spans};
 ghost use Rattle.udfs_space.specs.Told.{ArePlacesUpTo, TellsLawfulSpace};
 
 use crate::spans::Span;
-use std::alloc::{AllocError, Global};
+use std::alloc::Global;
 use std::marker::Model;
-use udfs_lattice::{BlockTable, Fact};
+use udfs_lattice::{BlockStore, BlockTable, Fact, GaveUp, ReadFault};
 use udfs_tag::LbAddr;
-use udfs_volume::{Partition, Seen, VolumeParts};
+use udfs_volume::{Partition, Profile, Seen, VolumeParts};
 
 /// Where the logical blocks of each partition are (UDF 2.2.11, ECMA-167 3/10.5.8).
 ///
@@ -25,7 +25,7 @@ use udfs_volume::{Partition, Seen, VolumeParts};
 #[derive(Debug, Drop)]
 pub struct Space {
     spans: Vec<Span>,
-    takes_tail: bool,
+    profile: Profile,
 }
 
 impl Model for Space {
@@ -34,27 +34,29 @@ impl Model for Space {
 
     ghost Value = { sparing.Space };
 
-    ghost view = { λ s. record { spans = s.spans.items; takes_tail = s.takes_tail } };
+    ghost view = { λ s. record { spans = s.spans.items; profile = s.profile } };
 
     ghost invariant = { λ s. (1 ≤ length s.spans.items) × (length s.spans.items ≤ 2) };
 }
 
 /// The spans of partitions, in their order.
-fn spans(
+fn spans<B: BlockStore>(
     alloc: Global,
-    table: &BlockTable,
+    blocks: &B,
     last: u32,
     partitions: &[Partition],
-) -> Result<Seen<Vec<Span>>, AllocError>
+) -> Result<Seen<Vec<Span>>, GaveUp>
     requires last { last ≤ 4194303 }
     requires bounded { All (λ p. IsBoundedPartition last (partition_now p)) partitions.now }
-    ensures { IfOk result (λ seen. Sees (λ found. found.items) seen (spans (state_of table.now) last (map partition_now partitions.now))) }
+    ensures value { IfOk result (λ seen. B.tells → Sees (λ found. found.items) seen (spans (B.states blocks.now) last (map partition_now partitions.now))) }
+    ensures many { IfOk result (λ seen. IfGot seen (λ found. length found.items ≡ length partitions.now)) }
+    ensures fails { IsErrOf result GaveUp.Unread → B.fails }
 {
     let mut spans = Vec::new(alloc);
     for partition in partitions {
-        match Span::build(alloc, table, last, partition)? {
+        match Span::build(alloc, blocks, last, partition)? {
             Seen::Got(span) => spans.push(span)?,
-            Seen::Holes(blocks) => return Ok(Seen::Holes(blocks)),
+            Seen::Holes(holes) => return Ok(Seen::Holes(holes)),
             Seen::Fault(fault) => return Ok(Seen::Fault(fault)),
             Seen::OutOfMemory => return Ok(Seen::OutOfMemory),
         }
@@ -63,6 +65,36 @@ fn spans(
 }
 
 impl Space {
+    /// The same as [`build`](Self::build), by any store of blocks.
+    ///
+    /// # Errors
+    ///
+    /// `ReadFault` where the bytes of a known block could not be read. Nothing is told of the places then.
+    pub fn build_in<B: BlockStore>(
+        alloc: Global,
+        blocks: &B,
+        parts: &VolumeParts,
+    ) -> Result<Seen<Space>, ReadFault>
+        requires to { parts.now.last ≤ 4194303 }
+        requires bounded { IsBounded parts.now.last (parts_now parts.now) }
+        ensures value { IfOk result (λ seen. B.tells → Sees (λ s. s) seen (space (B.states blocks.now) (parts_now parts.now))) }
+        ensures lawful { IfOk result (λ seen. B.tells → TellsLawfulSpace (B.states blocks.now) (parts_now parts.now) seen) }
+        ensures rising { IfOk result (λ seen. B.tells → HolesRise seen) }
+        ensures within { IfOk result (λ seen. B.tells → IfGot seen (ArePlacesUpTo parts.now.last)) }
+        ensures fails { OnErr result B.fails }
+    {
+        match spans(alloc, blocks, parts.last, &parts.partitions) {
+            Ok(Seen::Got(spans)) => Ok(Seen::Got(Space {
+                spans,
+                profile: parts.profile,
+            })),
+            Ok(Seen::Holes(listed)) => Ok(Seen::Holes(listed)),
+            Ok(Seen::Fault(fault)) => Ok(Seen::Fault(fault)),
+            Err(GaveUp::Unread) => Err(ReadFault),
+            _ => Ok(Seen::OutOfMemory),
+        }
+    }
+
     /// Finds where the blocks of the partitions of a layout are: those of a type 1 map one after the other
     /// (ECMA-167 3/10.7.2), and so those of a sparable map, except for the packets that its sparing table
     /// maps elsewhere (UDF 2.2.9, 2.2.11).
@@ -87,14 +119,9 @@ impl Space {
         ensures rising { HolesRise result }
         ensures within { IfGot result (ArePlacesUpTo parts.now.last) }
     {
-        match spans(alloc, table, parts.last, &parts.partitions) {
-            Ok(Seen::Got(spans)) => Seen::Got(Space {
-                spans,
-                takes_tail: parts.takes_tail,
-            }),
-            Ok(Seen::Holes(listed)) => Seen::Holes(listed),
-            Ok(Seen::Fault(fault)) => Seen::Fault(fault),
-            _ => Seen::OutOfMemory,
+        match Self::build_in(alloc, table, parts) {
+            Ok(seen) => seen,
+            Err(_) => unreachable!(),
         }
     }
 
@@ -107,12 +134,11 @@ impl Space {
         self.spans.len() as u16
     }
 
-    /// Whether the last extent of a file may end inside a block, short of the file's length, while the rest of that
-    /// block is the file's too: by the strict rules it may not. It takes no memory.
-    pub fn takes_tail(&self) -> bool
-        ensures { result ≡ self.now.takes_tail }
+    /// The rules by which the volume is read. It takes no memory.
+    pub fn profile(&self) -> Profile
+        ensures { result ≡ self.now.profile }
     {
-        self.takes_tail
+        self.profile
     }
 
     /// The number of logical blocks of a partition, and 0 where there is no such partition.
@@ -218,5 +244,35 @@ impl Space {
         }
         let place = self.place(reference, block as u32)?;
         Some((place, table.state(place)))
+    }
+
+    /// The same as [`block_at`](Self::block_at), by any store of blocks. The bytes of a known block are lent from the store's memory,
+    /// or from `room`.
+    ///
+    /// # Errors
+    ///
+    /// `ReadFault` where the bytes of a known block could not be read.
+    pub fn block_in<'r, B: BlockStore>(
+        &self,
+        blocks: &'r B,
+        reference: u16,
+        block: u64,
+        room: &'r mut [u8; 2048],
+    ) -> Result<Option<(u32, Fact<&'r [u8; 2048]>)>, ReadFault>
+        ensures value { IfOk result (λ found. B.tells → block_now found ≡ block_at (view (B.states blocks.now) self.now) reference block) }
+        ensures small { IfOk result (λ found. IsSome found → block < 4294967296) }
+        ensures fits { IfOk result (λ found. IfSome found (λ found. found.0 ≤ 4194303)) }
+        ensures fails { OnErr result B.fails }
+    {
+        if block >= u64::from(self.size(reference)) {
+            return Ok(None);
+        }
+        match self.place(reference, block as u32) {
+            None => Ok(None),
+            Some(place) => {
+                let fact = blocks.lend(place, room)?;
+                Ok(Some((place, fact)))
+            }
+        }
     }
 }

@@ -1,7 +1,6 @@
 //! Where the logical blocks of one partition are.
 
-ghost use Rattle.std.specs.Prelude.{◌≡◌, ◌≤◌, ◌<◌, ℕ, All, IfOk, IfSome, find, nat_eq};
-ghost use Rattle.udfs_lattice.specs.Tables.{state_of};
+ghost use Rattle.std.specs.Prelude.{◌≡◌, ◌≤◌, ◌<◌, ℕ, All, IfOk, IfSome, IsErrOf, find, nat_eq};
 ghost use Rattle.udfs_volume.specs.Laws.{IsBoundedPartition};
 ghost use Rattle.udfs_volume.specs.Layout.{blocks_in};
 ghost use Rattle.udfs_volume.specs.LayoutParts.{partition_now};
@@ -13,9 +12,9 @@ ghost use Rattle.udfs_space.specs.Sparing.{span, spared};
 
 use crate::copies::{first_place, holes, table_bytes};
 use crate::entries::{SparingEntry, spared_by};
-use std::alloc::{AllocError, Global};
+use std::alloc::Global;
 use std::marker::Model;
-use udfs_lattice::BlockTable;
+use udfs_lattice::{BlockStore, GaveUp};
 use udfs_volume::{Partition, PartitionMap, Seen, SparableMap};
 
 /// Where the logical blocks of one partition are.
@@ -42,15 +41,16 @@ impl Model for Span {
 
 impl Span {
     /// The span of a partition, by its map and, if it is sparable, by its sparing table.
-    pub(crate) fn build(
+    pub(crate) fn build<B: BlockStore>(
         alloc: Global,
-        table: &BlockTable,
+        blocks: &B,
         last: u32,
         partition: &Partition,
-    ) -> Result<Seen<Self>, AllocError>
+    ) -> Result<Seen<Self>, GaveUp>
         requires last { last ≤ 4194303 }
         requires bounded { IsBoundedPartition last (partition_now partition.now) }
-        ensures { IfOk result (λ seen. Sees (λ s. s) seen (span (state_of table.now) last (partition_now partition.now))) }
+        ensures value { IfOk result (λ seen. B.tells → Sees (λ s. s) seen (span (B.states blocks.now) last (partition_now partition.now))) }
+        ensures fails { IsErrOf result GaveUp.Unread → B.fails }
     {
         match &partition.kind {
             PartitionMap::Type1 => Ok(Seen::Got(Span {
@@ -59,14 +59,14 @@ impl Span {
                 packet: 1,
                 spared: Vec::new(alloc),
             })),
-            PartitionMap::Sparable(map) => match spared(alloc, table, last, map)? {
+            PartitionMap::Sparable(map) => match spared(alloc, blocks, last, map)? {
                 Seen::Got(spared) => Ok(Seen::Got(Span {
                     start: partition.start,
                     length: partition.length,
                     packet: u32::from(map.packet),
                     spared,
                 })),
-                Seen::Holes(blocks) => Ok(Seen::Holes(blocks)),
+                Seen::Holes(holes) => Ok(Seen::Holes(holes)),
                 Seen::Fault(fault) => Ok(Seen::Fault(fault)),
                 Seen::OutOfMemory => Ok(Seen::OutOfMemory),
             },
@@ -126,22 +126,23 @@ fn entry_at(spared: &[SparingEntry], first: u32) -> Option<SparingEntry>
 }
 
 /// The packets that the sparing table of a map spares, or the holes or the first fault of the table.
-fn spared(
+fn spared<B: BlockStore>(
     alloc: Global,
-    table: &BlockTable,
+    blocks: &B,
     last: u32,
     map: &SparableMap,
-) -> Result<Seen<Vec<SparingEntry>>, AllocError>
+) -> Result<Seen<Vec<SparingEntry>>, GaveUp>
     requires last { last ≤ 4194303 }
     requires packet { 1 ≤ map.now.packet }
     requires size { 56 ≤ map.now.size }
     requires fit { FitAll (blocks_in map.now.size) map.now.tables.items }
-    ensures value { IfOk result (λ seen. Sees (λ packets. packets.items) seen (spared (state_of table.now) last (sparable_now map.now))) }
+    ensures value { IfOk result (λ seen. B.tells → Sees (λ packets. packets.items) seen (spared (B.states blocks.now) last (sparable_now map.now))) }
     ensures sound { IfOk result (λ seen. IfGot seen (λ packets. AreSound map.now.packet packets.items)) }
+    ensures fails { IsErrOf result GaveUp.Unread → B.fails }
 {
-    let Some(bytes) = table_bytes(alloc, table, map)? else {
-        return Ok(Seen::Holes(holes(alloc, table, map)?));
+    let Some(bytes) = table_bytes(alloc, blocks, map)? else {
+        return Ok(Seen::Holes(holes(alloc, blocks, map)?));
     };
-    let place = first_place(table, &map.tables);
-    spared_by(alloc, last, map.packet, place, &bytes)
+    let place = first_place(blocks, &map.tables);
+    Ok(spared_by(alloc, last, map.packet, place, &bytes)?)
 }

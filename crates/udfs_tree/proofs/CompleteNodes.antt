@@ -26,7 +26,7 @@ part_of_itself : (all : View) (blocks : PartitionBlocks) → IsComplete all bloc
 part_of_itself all blocks c = record {
   partitions = refl;
   places = λ r b. refl;
-  tail = refl;
+  profile = refl;
   complete = λ r b n p. let t : (bytes : Bytes) × (all.blocks n ≡ Known bytes) × (blocks.at r b ≡ Some bytes) × (length bytes ≡ 2048) = c.there r b n p in (t.0, t.1);
   agrees = λ r b n bytes p k. k;
 }
@@ -36,7 +36,7 @@ all_bytes [] = tt
 all_bytes (x ∷ xs) = (refl, all_bytes xs)
 
 -- the node at the end of a route is whole, as the file there
-whole_here : (all : View) (blocks : PartitionBlocks) (root : LongAd) (s : Setting all all blocks root) (w : Walked) (h : Here all all blocks root w) → IsWholeAs (node all w) h.file.file h.at.cs
+whole_here : (all : View) (blocks : PartitionBlocks) (root : LongAd) (s : Setting all all blocks root) (w : Walked) (h : Here all all blocks root w) → IsWholeAs all.profile (node all w) h.file.file h.at.cs
 whole_here all blocks root s w h = record {
   standing = s.lawful.nodes h.route w h.walks;
   told = told_as all w h.at.fields h.file.file h.at.is_entry h.file.fields;
@@ -83,7 +83,7 @@ complete_nodes all blocks c root l nodes are = record { in_tree = in_tree; is_li
         h = here_all all all blocks root s x.route x.end x.walks
 
     is_listed : (path : List (List ℕ)) (file : TreeFile) → InTree blocks root path file
-        → (index : ℕ) × (n : NodeFields) × (cs : List Cell) × (slice_get nodes index ≡ Some n) × (n.path ≡ path) × HasCellsAt all root index cs × IsWholeAs n file cs
+        → (index : ℕ) × (n : NodeFields) × (cs : List Cell) × (slice_get nodes index ≡ Some n) × (n.path ≡ path) × HasCellsAt all root index cs × IsWholeAs all.profile n file cs
     is_listed path file t = (
       p.index,
       node all u.end,
@@ -91,7 +91,7 @@ complete_nodes all blocks c root l nodes are = record { in_tree = in_tree; is_li
       p.listed,
       path_is all u.end ∙ u.path_is,
       record { walks = are.walks; walk = are.walk; end = u.end; at = p.at; has_cells = has_here all blocks root u.end h },
-      subst (λ z. IsWholeAs (node all u.end) z h.at.cs) (sym same) (whole_here all blocks root s u.end h),
+      subst (λ z. IsWholeAs all.profile (node all u.end) z h.at.cs) (sym same) (whole_here all blocks root s u.end h),
     )
       where
         u : IsRouteTo all root path t.address

@@ -11,6 +11,7 @@ use Rattle.udfs_file.specs.Laws.{IsCellOf, IsMissingAt, IsPartialBody}
 use Rattle.udfs_file.specs.Standard.{Located}
 use Rattle.udfs_file.specs.declared.cells.Cell.{Cell}
 use Rattle.udfs_file.specs.declared.cells.Cell.TheVariants.{Byte, Gap}
+use Rattle.udfs_walk.specs.Kinds.{kind_by}
 use Rattle.udfs_walk.specs.NodeFields.{NodeFields}
 use Rattle.udfs_walk.specs.Nodes.{node_at, node}
 use Rattle.udfs_walk.specs.Routes.{Route, Walked, walked}
@@ -47,10 +48,10 @@ all_there (Byte y o ∷ cs) (x ∷ xs) e h = (h.0, all_there cs xs e h.1)
 all_there (Gap n ∷ cs) (x ∷ xs) e h = absurd (let z : ⊥ = cc in z)
 
 -- ---- the node at the end of a route
-pub told_as : (v : View) (w : Walked) (e : EntryFields) (file : TreeFile) → target v w.address ≡ entry e → file.fields ≡ e → IsToldAs (node v w) file
+pub told_as : (v : View) (w : Walked) (e : EntryFields) (file : TreeFile) → target v w.address ≡ entry e → file.fields ≡ e → IsToldAs v.profile (node v w) file
 unfolding node
 told_as v w e file t f = record {
-  kind = ap (λ z. (node_at v w z).kind) t ∙ ap (λ z. z.kind) (sym f);
+  kind = ap (λ z. (node_at v w z).kind) t ∙ ap (λ z. kind_by v.profile z.kind) (sym f);
   size = ap (λ z. (node_at v w z).size) t ∙ ap (λ z. Some z.size) (sym f);
   stamp = ap (λ z. (node_at v w z).stamp) t ∙ ap (λ z. Some z.stamp) (sym f);
 }
@@ -76,7 +77,7 @@ pub cells_here : (some all : View) (blocks : PartitionBlocks) (root : LongAd) (s
 cells_here some all blocks root s w h t = record { fields = h.at.fields; is_entry = t; has_body = (part_here some all blocks root s w h).is }
 
 torn_as : (some all : View) (blocks : PartitionBlocks) (root : LongAd) (s : Setting some all blocks root) (w : Walked) (h : Here some all blocks root w) → target some w.address ≡ entry h.at.fields
-    → (node some w).standing ≡ cells_standing (part_here some all blocks root s w h).part → IsTornAs (node some w) h.file.file (part_here some all blocks root s w h).part
+    → (node some w).standing ≡ cells_standing (part_here some all blocks root s w h).part → IsTornAs some.profile (node some w) h.file.file (part_here some all blocks root s w h).part
 torn_as some all blocks root s w h t e = record {
   told = told_as some w h.at.fields h.file.file t h.file.fields;
   bytes = part_bytes some all blocks root s w h;
@@ -88,7 +89,7 @@ torn_as some all blocks root s w h t e = record {
 
 pub whole_as : (some all : View) (blocks : PartitionBlocks) (root : LongAd) (s : Setting some all blocks root) (w : Walked) (h : Here some all blocks root w) → target some w.address ≡ entry h.at.fields
     → (node some w).standing ≡ cells_standing (part_here some all blocks root s w h).part → (node some w).standing ≡ Whole
-    → IsWholeAs (node some w) h.file.file (part_here some all blocks root s w h).part
+    → IsWholeAs some.profile (node some w) h.file.file (part_here some all blocks root s w h).part
 whole_as some all blocks root s w h t e is_whole = record {
   standing = is_whole;
   told = told_as some w h.at.fields h.file.file t h.file.fields;
@@ -129,7 +130,7 @@ node_of some all blocks root s nodes are index route w at walks = record {
     clear e q k = none_at cs k (none_missing cs (sym e ∙ q))
 
     whole : NodePart some all s.part w h.at → (node some w).standing ≡ Whole
-        → ((cs : List Cell) × HasCellsAt some root index cs × IsWholeAs (node some w) h.file.file cs) × IsMet some all blocks root (node some w).path
+        → ((cs : List Cell) × HasCellsAt some root index cs × IsWholeAs some.profile (node some w) h.file.file cs) × IsMet some all blocks root (node some w).path
     whole (node_unread n e u t) q = not_whole some w n t q
     whole (node_read t e) q = (
       (cs, has t, whole_as some all blocks root s w h t e q),

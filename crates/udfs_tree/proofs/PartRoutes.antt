@@ -44,7 +44,7 @@ target_part s w p a = go (address_fault w a) refl (w.place a.reference a.block) 
     F v f o = target_at f a.block (option_map (λ n. (n, v.blocks n)) o)
 
     same : address_fault s a ≡ address_fault w a
-    same = λ i. address_fault (record { partitions = p.partitions i; place = λ r b. p.places r b i; blocks = s.blocks; takes_tail = p.tail i }) a
+    same = λ i. address_fault (record { partitions = p.partitions i; place = λ r b. p.places r b i; blocks = s.blocks; profile = p.profile i }) a
 
     s_is : (f : Option NodeFault) (o : Option ℕ) → address_fault w a ≡ f → w.place a.reference a.block ≡ o → F s (address_fault s a) (s.place a.reference a.block) ≡ F s f o
     s_is f o x y = λ i. F s ((same ∙ x) i) ((p.places a.reference a.block ∙ y) i)

@@ -99,7 +99,7 @@ settle some all blocks p c root lawful nodes listed path file t = by_rise (rise 
           place.listed,
           path_is some w ∙ path_of,
           record { walks = listed.walks; walk = listed.walk; end = w; at = place.at; has_cells = cells_here some all blocks root s w h is_entry },
-          subst (λ z. IsWholeAs (node some w) z part.part) (sym same) (whole_as some all blocks root s w h is_entry stands (stands ∙ whole_cells part.part none)),
+          subst (λ z. IsWholeAs some.profile (node some w) z part.part) (sym same) (whole_as some all blocks root s w h is_entry stands (stands ∙ whole_cells part.part none)),
         )
           where
             place : Placed some root nodes listed w

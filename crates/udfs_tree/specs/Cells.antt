@@ -1,10 +1,11 @@
 -- The cells of a node's body, beside the bytes of a file of the tree.
 --     HasCellsAt view root i cells     the cells of the body at the end of route i in their order
---     IsToldAs n file                  the node has the kind, the size and the stamp of the file
---     IsTornAs n file cells            so it has, and each byte outside its holes is the file's
+--     IsToldAs profile n file          the node has the kind that these rules give the file, and its size and stamp
+--     IsTornAs profile n file cells    so it has, and each byte outside its holes is the file's
 use Rattle.std.specs.Prelude.{◌≡◌, ◌≢◌, ◌↔◌, ⊤, ℕ, ◌+◌, ◌<◌, ◌≤◌, List, Some, None, slice_get, Contains}
 use Rattle.std.specs.List.{AllZip}
 use Rattle.udfs_tag.specs.declared.layouts.LongAd.{LongAd}
+use Rattle.udfs_volume.specs.declared.profiles.Profile.{Profile}
 use Rattle.udfs_space.specs.Places.{View}
 use Rattle.udfs_file.specs.Laws.{IsMissingAt}
 use Rattle.udfs_file.specs.Standard.{Located}
@@ -12,6 +13,7 @@ use Rattle.udfs_file.specs.declared.cells.Cell.{Cell}
 use Rattle.udfs_file.specs.declared.cells.Cell.TheVariants.{Byte, Gap}
 use Rattle.udfs_file.specs.declared.faults.Kind.TheVariants.{Unread}
 use Rattle.udfs_file.specs.declared.faults.NodeFault.{NodeFault}
+use Rattle.udfs_walk.specs.Kinds.{kind_by}
 use Rattle.udfs_walk.specs.NodeBodies.{HasCells}
 use Rattle.udfs_walk.specs.NodeFields.{NodeFields}
 use Rattle.udfs_walk.specs.Rereads.{holes_of}
@@ -41,9 +43,9 @@ IsByteOrMissing (Gap n) located = ⊤
 abbrev pub HasNoFault : NodeFields → Type 0
 HasNoFault n = (n.standing ≢ Loop) × ((f : NodeFault) → n.standing ≢ Fault f)
 
--- the node has the kind, the size and the stamp of the file
-pub record IsToldAs (n : NodeFields) (file : TreeFile) : Type 0 where
-  pub kind : n.kind ≡ file.fields.kind
+-- the node has the kind that these rules give the file's entry, and the file's size and stamp
+pub record IsToldAs (profile : Profile) (n : NodeFields) (file : TreeFile) : Type 0 where
+  pub kind : n.kind ≡ kind_by profile file.fields.kind
   pub size : n.size ≡ Some file.fields.size
   pub stamp : n.stamp ≡ Some file.fields.stamp
 
@@ -57,15 +59,15 @@ pub record IsUntold (n : NodeFields) : Type 0 where
 abbrev pub IsInRuns : List (ℕ × ℕ) → ℕ → Type 0
 IsInRuns runs k = (run : ℕ × ℕ) × Contains runs run × (run.0 ≤ k) × (k < run.0 + run.1)
 
--- the node has the file's kind, size and stamp; each of these cells is the file's byte or missing, and the node's
+-- the node is told as the file; each of these cells is the file's byte or missing, and the node's
 -- holes are the places of the missing ones
-pub record IsTornAs (n : NodeFields) (file : TreeFile) (cs : List Cell) : Type 0 where
-  pub told : IsToldAs n file
+pub record IsTornAs (profile : Profile) (n : NodeFields) (file : TreeFile) (cs : List Cell) : Type 0 where
+  pub told : IsToldAs profile n file
   pub bytes : AllZip IsByteOrMissing cs file.body
   pub holes : (k : ℕ) → IsMissingAt cs k ↔ IsInRuns (holes_of n.standing) k
 
--- the node is whole, with the file's kind, size and stamp, and these cells are all the file's bytes
-pub record IsWholeAs (n : NodeFields) (file : TreeFile) (cs : List Cell) : Type 0 where
+-- the node is whole and told as the file, and these cells are all the file's bytes
+pub record IsWholeAs (profile : Profile) (n : NodeFields) (file : TreeFile) (cs : List Cell) : Type 0 where
   pub standing : n.standing ≡ Whole
-  pub told : IsToldAs n file
+  pub told : IsToldAs profile n file
   pub bytes : AllZip IsByteOf cs file.body

@@ -18,7 +18,7 @@ use Rattle.udfs_tree.specs.Cells.{HasCellsAt, IsWholeAs}
 -- the list has a node with this path that is whole, as the file
 abbrev pub IsListedWhole : View → LongAd → List NodeFields → List (List ℕ) → TreeFile → Type 0
 IsListedWhole v root nodes path file = (index : ℕ) × (n : NodeFields) × (cs : List Cell) × (slice_get nodes index ≡ Some n) × (n.path ≡ path)
-    × HasCellsAt v root index cs × IsWholeAs n file cs
+    × HasCellsAt v root index cs × IsWholeAs v.profile n file cs
 
 -- for any lawful tree, of any part of its view, and of the nodes of that part
 abbrev pub OverParts : (View → View → PartitionBlocks → LongAd → List NodeFields → Type 0) → Type 0

@@ -24,7 +24,7 @@ use Rattle.udfs_tree.specs.Cells.{HasCellsAt, HasNoFault, IsUntold, IsTornAs, Is
 -- the node at this place in the list is whole, as the tree has it
 abbrev pub IsWholeNode : View → PartitionBlocks → LongAd → ℕ → NodeFields → Type 0
 IsWholeNode v blocks root index n = (file : TreeFile) × (cs : List Cell) × InTree blocks root n.path file
-    × HasCellsAt v root index cs × IsWholeAs n file cs
+    × HasCellsAt v root index cs × IsWholeAs v.profile n file cs
 
 -- no two nodes of the list have one path
 abbrev pub HasPathsOnce : List NodeFields → Type 0
@@ -35,7 +35,7 @@ pub record AreTheTree (all : View) (blocks : PartitionBlocks) (root : LongAd) (n
   pub in_tree : (index : ℕ) (n : NodeFields) → slice_get nodes index ≡ Some n → IsWholeNode all blocks root index n
   pub is_listed : (path : List (List ℕ)) (file : TreeFile) → InTree blocks root path file
       → (index : ℕ) × (n : NodeFields) × (cs : List Cell) × (slice_get nodes index ≡ Some n) × (n.path ≡ path)
-      × HasCellsAt all root index cs × IsWholeAs n file cs
+      × HasCellsAt all root index cs × IsWholeAs all.profile n file cs
   pub once : HasPathsOnce nodes
 
 -- over a complete view with a lawful tree the nodes are the tree, each file once, all whole
@@ -43,9 +43,9 @@ abbrev pub CompleteNodes : Type 0
 CompleteNodes = (all : View) (blocks : PartitionBlocks) → IsComplete all blocks → (root : LongAd) → IsLawfulTree all root
     → (nodes : List NodeFields) → AreNodes all root nodes → AreTheTree all blocks root nodes
 
--- the node's entry was not read, or its kind, size and stamp are the file's, as are the bytes outside its holes
+-- the node's entry was not read, or it is told as the file, by the view's rules, and the bytes outside its holes are the file's
 abbrev pub IsTold : View → LongAd → ℕ → NodeFields → TreeFile → Type 0
-IsTold v root index n file = IsUntold n ⊎ ((cs : List Cell) × HasCellsAt v root index cs × IsTornAs n file cs)
+IsTold v root index n file = IsUntold n ⊎ ((cs : List Cell) × HasCellsAt v root index cs × IsTornAs v.profile n file cs)
 
 -- Of the node at this place in the list: it is one of the tree at its path, with no fault and no loop, and `IsTold` of
 -- its file; and if it is whole, all bytes are the tree's, and each group that it needs has a known block.
@@ -54,7 +54,7 @@ pub record IsNodeOf (some all : View) (blocks : PartitionBlocks) (root : LongAd)
   pub in_tree : InTree blocks root n.path file
   pub no_fault : HasNoFault n
   pub told : IsTold some root index n file
-  pub whole : n.standing ≡ Whole → ((cs : List Cell) × HasCellsAt some root index cs × IsWholeAs n file cs) × IsMet some all blocks root n.path
+  pub whole : n.standing ≡ Whole → ((cs : List Cell) × HasCellsAt some root index cs × IsWholeAs some.profile n file cs) × IsMet some all blocks root n.path
 
 -- over a part of it each node is a file of the tree, as `IsNodeOf` says
 abbrev pub PartialNodes : Type 0
@@ -88,5 +88,5 @@ OneReading = (v : View) (root : LongAd) (index : ℕ) (cs ds : List Cell) → Ha
 -- where a node is whole as two files, whatever is whole as the one is whole as the other
 abbrev pub WholeAlike : Type 0
 WholeAlike = (v : View) (root : LongAd) (index : ℕ) (n : NodeFields) (file other : TreeFile) (cs ds : List Cell)
-    → HasCellsAt v root index cs → HasCellsAt v root index ds → IsWholeAs n file cs → IsWholeAs n other ds
-    → (m : NodeFields) (es : List Cell) → IsWholeAs m other es → IsWholeAs m file es
+    → HasCellsAt v root index cs → HasCellsAt v root index ds → IsWholeAs v.profile n file cs → IsWholeAs v.profile n other ds
+    → (m : NodeFields) (es : List Cell) → IsWholeAs v.profile m other es → IsWholeAs v.profile m file es

@@ -15,7 +15,7 @@ use Rattle.udfs_osta.specs.Labels.{label_of}
 use Rattle.udfs_volume.specs.Answers.{Answer, found, holes, faulty, and_then, unless_fault}
 use Rattle.udfs_volume.specs.declared.profiles.Profile.{Profile}
 use Rattle.udfs_volume.specs.declared.profiles.Profile.TheVariants.{Strict, Wide}
-use Rattle.udfs_volume.specs.Profiles.{accepts_packet, packet_lengths, takes_tail}
+use Rattle.udfs_volume.specs.Profiles.{accepts_packet, packet_lengths}
 use Rattle.udfs_volume.specs.declared.faults.VolumeFault.{VolumeFault}
 use Rattle.udfs_volume.specs.declared.faults.VolumeFault.TheVariants.{Domain, BlockSize, MapCount, MapKind, Contents, PartitionRange}
 use Rattle.udfs_volume.specs.Layout.{Layout, Partition, PartitionMap, type1, sparable, NumberedMap, Described, bp, blocks_in, is_type1, is_sparable, are_tables, table_places, read_map, map_size, before_maps, read_maps, repeats_kind, unless_repeated, map_count, the_maps, volume_fault, partition, before_described, has_revision, described, has_contents, partition_of, is_in_range, partitions_fault, laid_out, with_maps, with_volume, logical_volume, layout_of, layout_by}
@@ -230,7 +230,7 @@ laid_bounded profile last n ds lv ms l a c r (Some ps) d e = subst (IsBounded la
       label = label_of (part lv.content (bp 84) 128);
       partitions = map partition_of ps;
       file_set = long_ad_at lv.content (bp 248);
-      takes_tail = takes_tail profile;
+      profile = profile;
     }
 
     q : (partitions_fault last ps ≡ None) × (it ≡ l)

@@ -1,7 +1,8 @@
 -- A fault of the anchor, and the extents that it gives, are judged before memory is taken.
-use Rattle.std.proofs.Common.{◌≡◌, refl, sym, ◌∙◌, ap, subst, ℕ, ◌≤◌, Bool, true, false, List, cond, nat_eq, Option, Some, None, length, slice_get}
+use Rattle.std.proofs.Common.{◌≡◌, refl, sym, ◌∙◌, ap, subst, ℕ, ◌≤◌, Bool, true, false, List, cond, nat_eq, Option, Some, None, Result, Ok, Err, IfOk, length, slice_get}
 use Rattle.std.specs.Prelude.{⊤, take_while}
 use Rattle.udfs_lattice.specs.Volumes.{Blocks}
+use Rattle.udfs_lattice.specs.declared.blocks.ReadFault.{ReadFault}
 use Rattle.udfs_volume.specs.declared.anchors.AnchorExtents.{AnchorExtents}
 use Rattle.udfs_volume.specs.declared.faults.VolumeFault.{VolumeFault}
 use Rattle.udfs_volume.specs.declared.faults.VolumeFault.TheVariants.{NoAnchor, Extents, Pointer}
@@ -111,3 +112,17 @@ sequence_from T last (Fault fault) seen Next from is none goes next = subst (Seq
     (sequence_clauses T last (Fault fault) from (sequence_faulty T last fault is) (λ f early no eq. let z : ⊥ = cc in z))
 sequence_from T last OutOfMemory seen Next from is none goes next = subst (SequenceClauses T last) (sym goes)
     (sequence_clauses T last OutOfMemory from tt (λ f early no eq. no_fault_of_holes T last f (none refl) eq))
+
+-- what `sequence_by` promises, where an anchor was got
+pub sequence_got : (Told : Type 0) (T : Blocks) (last : ℕ) (e : AnchorExtents) (r : Result (Seen code_sequence.Sequence) ReadFault) → 513 ≤ last → (Told → anchor T last ≡ found e)
+    → IfOk r (λ seen. Told → Sees sequence_now seen (sequence_at T last e)) → IfOk r (λ seen. seen ≡ OutOfMemory → are_extents last e ≡ true)
+    → IfOk r (λ seen. Told → SequenceClauses T last seen)
+sequence_got Told T last e (Ok seen) from is value memory = λ told. let found = sequence-found T last e (is told) in
+    sequence_clauses T last seen from (subst (Sees sequence_now seen) (sym found) (value told))
+    (λ f early no eq. no_early_in T last e f early (memory no) (sym found ∙ eq))
+sequence_got Told T last e (Err fault) from is value memory = tt
+
+-- the same, where none was
+pub sequence_stopped : (T : Blocks) (last : ℕ) (a : Seen AnchorExtents) (seen : Seen code_sequence.Sequence) → 513 ≤ last
+    → Sees (λ extents. extents) a (anchor T last) → (a ≡ OutOfMemory → IsHoles (anchor T last)) → GoesOn a (λ e s. ⊥) seen → SequenceClauses T last seen
+sequence_stopped T last a seen from is none goes = sequence_from T last a seen (λ e s. ⊥) from is none goes (λ e no. absurd no)

@@ -7,7 +7,6 @@ use Rattle.udfs_tag.specs.Faults.{first_fault}
 use Rattle.udfs_tag.specs.Fields.{uint16_at, uint32_at, long_ad_at, part}
 use Rattle.udfs_osta.specs.Labels.{label_of}
 use Rattle.udfs_volume.specs.declared.profiles.Profile.{Profile}
-use Rattle.udfs_volume.specs.Profiles.{takes_tail}
 use Rattle.udfs_volume.specs.declared.faults.VolumeFault.{VolumeFault}
 use Rattle.udfs_volume.specs.declared.faults.VolumeFault.TheVariants.{Domain, BlockSize, MapCount, MapKind, NoLogicalVolume, Contents, PartitionRange}
 use Rattle.udfs_volume.specs.Answers.{found, holes, faulty, and_then, unless_fault}
@@ -22,7 +21,7 @@ layout_by_parts profile last lv ps = record {
   label = label_of (part lv.content (bp 84) 128);
   partitions = map partition_of ps;
   file_set = long_ad_at lv.content (bp 248);
-  takes_tail = takes_tail profile;
+  profile = profile;
 }
 
 pub laid_out-range : (profile : Profile) (last : ℕ) (lv : Descriptor) (ps : List Described) → list_all has_contents ps ≡ true → list_all (λ p. is_in_range last (partition_of p)) ps ≡ false → laid_out profile last lv (Some ps) ≡ faulty PartitionRange

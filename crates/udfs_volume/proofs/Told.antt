@@ -71,6 +71,13 @@ got_bounded profile T N (Holes blocks) s = tt
 got_bounded profile T N (Fault fault) s = tt
 got_bounded profile T N OutOfMemory s = tt
 
+-- the same of any descriptors, whatever they were read from
+pub got_bounded_of : (profile : Profile) (N : ℕ) (ds : List Descriptor) (seen : Seen VolumeParts) → Sees parts_now seen (layout_of profile N ds) → IfGot seen (λ parts. IsBounded N (parts_now parts))
+got_bounded_of profile N ds (Got parts) s = layout_bounds profile N ds (parts_now parts) s
+got_bounded_of profile N ds (Holes blocks) s = tt
+got_bounded_of profile N ds (Fault fault) s = tt
+got_bounded_of profile N ds OutOfMemory s = tt
+
 -- ---- what descriptors give is no hole, and no fault of an anchor
 
 late_unless : {A B : Type 0} (o : Option VolumeFault) (x : A) (f : A → Answer B) → IsLateFault o → IsLate (f x) → IsLate (and_then (unless_fault o x) f)

@@ -15,7 +15,7 @@ use Rattle.udfs_osta.specs.Labels.{label_of}
 use Rattle.udfs_volume.specs.Answers.{Answer, faulty, and_then, unless_fault}
 use Rattle.udfs_volume.specs.declared.profiles.Profile.{Profile}
 use Rattle.udfs_volume.specs.declared.profiles.Profile.TheVariants.{Strict}
-use Rattle.udfs_volume.specs.Profiles.{accepts_packet, accepts_revision, takes_tail}
+use Rattle.udfs_volume.specs.Profiles.{accepts_packet, accepts_revision}
 use Rattle.udfs_volume.specs.declared.faults.VolumeFault.{VolumeFault}
 use Rattle.udfs_volume.specs.declared.faults.VolumeFault.TheVariants.{NoLogicalVolume, Domain, BlockSize, MapCount, MapKind, NoPartition, Contents, PartitionRange}
 
@@ -66,8 +66,8 @@ pub record Layout : Type 0 where
   pub label : Label
   pub partitions : List Partition
   pub file_set : LongAd
-  -- whether the last extent of a file may end inside a block that goes on
-  pub takes_tail : Bool
+  -- the rules by which the volume is read
+  pub profile : Profile
 
 -- how many blocks this many bytes take
 abbrev pub blocks_in : ℕ → ℕ
@@ -212,7 +212,7 @@ laid_out profile last lv (Some ps) = unless_fault (partitions_fault last ps) (re
   label = label_of (part lv.content (bp 84) 128);
   partitions = map partition_of ps;
   file_set = long_ad_at lv.content (bp 248);
-  takes_tail = takes_tail profile;
+  profile = profile;
 })
 
 -- the layout by the maps of a logical volume

@@ -25,12 +25,12 @@ parts_now v = record {
   label = v.label;
   partitions = map partition_now v.partitions.items;
   file_set = v.file_set;
-  takes_tail = v.takes_tail;
+  profile = v.profile;
 }
 
 -- a map with its descriptor, as the definitions see it
 abbrev pub described_now : code_described.Described → Described
-described_now d = (map_now d.kind, descriptor_now d.descriptor)
+described_now d = (map_now d.kind, descriptor_now d.descriptor.now)
 
 -- the tests of a logical volume descriptor before those of its maps
 abbrev pub field_tests : Profile → Descriptor → List (Bool × VolumeFault)

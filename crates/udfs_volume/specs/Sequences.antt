@@ -1,5 +1,6 @@
 -- The descriptors of the code, as the definitions have them.
 use Rattle.std.specs.Prelude.{ℕ, List, map, drop, cond}
+use Rattle.std.specs.Borrow.{Bor}
 use Rattle.udfs_lattice.specs.Volumes.{ascending}
 use Rattle.udfs_tag.specs.Tags.{is_sound, identifier}
 use Rattle.udfs_volume.specs.Sequence.{Bytes, Descriptor, Position, unread, invalid, descriptor}
@@ -10,7 +11,11 @@ use Rattle.udfs_volume.specs.declared.sequences.Position.TheVariants as variants
 
 -- a descriptor of the code, as the definitions see it
 abbrev pub descriptor_now : code_descriptor.Descriptor → Descriptor
-descriptor_now d = record { identifier = d.identifier; content = drop 16 d.block.now }
+descriptor_now d = record { identifier = d.identifier; content = drop 16 d.block.value }
+
+-- a descriptor that is lent
+abbrev pub lent_now : Bor code_descriptor.Descriptor → Descriptor
+lent_now d = descriptor_now d.now
 
 -- the descriptors of a sequence
 abbrev pub sequence_now : code_sequence.Sequence → List Descriptor

@@ -1,6 +1,6 @@
 //! Anchors (ECMA-167 3/10.2).
 
-ghost use Rattle.std.specs.Prelude.{◌≡◌, ◌≢◌, ◌≤◌, ◌∷◌, [], IfOk, IfErr, None, option_map};
+ghost use Rattle.std.specs.Prelude.{◌≡◌, ◌≢◌, ◌≤◌, ◌∷◌, [], IfOk, IfErr, OnErr, None, option_map};
 ghost use Rattle.udfs_lattice.specs.States.{is_known};
 ghost use Rattle.udfs_lattice.specs.Tables.{state_of};
 ghost use Rattle.udfs_lattice.specs.Volumes.{not_known};
@@ -11,7 +11,7 @@ ghost use Rattle.udfs_volume.specs.Sequence.{anchor, anchor_here, anchor_or, anc
 use crate::faults::VolumeFault;
 use crate::seen::Seen;
 use std::alloc::{AllocError, Global};
-use udfs_lattice::{BlockTable, Fact};
+use udfs_lattice::{BlockStore, BlockTable, Fact, ReadFault};
 use udfs_tag::{ExtentAd, Tag, identifiers};
 
 /// The extents of the two copies of the volume descriptor sequence, as an anchor gives them.
@@ -37,36 +37,42 @@ impl AnchorExtents {
 }
 
 /// The extents of the anchor at this place, if the block is known and valid there.
-fn anchor_at(table: &BlockTable, place: u32) -> Option<AnchorExtents>
-    ensures { result ≡ option_map extents_of (anchor_here place (state_of table.now place)) }
+fn anchor_at<B: BlockStore>(blocks: &B, place: u32) -> Result<Option<AnchorExtents>, ReadFault>
+    ensures value { IfOk result (λ here. B.tells → here ≡ option_map extents_of (anchor_here place (B.states blocks.now place))) }
+    ensures fails { OnErr result B.fails }
 {
-    match table.state(place) {
+    let mut room = [0; 2048];
+    match blocks.lend(place, &mut room)? {
         Fact::Known(block) => {
             if Tag::is_valid(block, place, identifiers::ANCHOR) {
-                Some(AnchorExtents::read(block))
+                Ok(Some(AnchorExtents::read(block)))
             } else {
-                None
+                Ok(None)
             }
         }
-        _ => None,
+        _ => Ok(None),
     }
 }
 
 /// Whether the block is known.
-fn is_known(table: &BlockTable, n: u32) -> bool
-    ensures { result ≡ is_known (state_of table.now n) }
+fn is_known<B: BlockStore>(blocks: &B, n: u32) -> bool
+    ensures { B.tells → result ≡ is_known (B.states blocks.now n) }
 {
-    matches!(table.state(n), Fact::Known(_))
+    matches!(blocks.knowledge(n), Fact::Known(_))
 }
 
 /// Those of these blocks that are not known. It takes no memory where all are.
-fn not_known(alloc: Global, table: &BlockTable, places: &[u32]) -> Result<Vec<u32>, AllocError>
-    ensures value { IfOk result (λ unread. unread.items ≡ not_known (state_of table.now) places.now) }
-    ensures memory { IfErr result (λ error. not_known (state_of table.now) places.now ≢ []) }
+fn not_known<B: BlockStore>(
+    alloc: Global,
+    blocks: &B,
+    places: &[u32],
+) -> Result<Vec<u32>, AllocError>
+    ensures value { IfOk result (λ unread. B.tells → unread.items ≡ not_known (B.states blocks.now) places.now) }
+    ensures memory { IfErr result (λ error. B.tells → not_known (B.states blocks.now) places.now ≢ []) }
 {
     let mut unread = Vec::new(alloc);
     for place in places {
-        if !is_known(table, *place) {
+        if !is_known(blocks, *place) {
             unread.push(*place)?;
         }
     }
@@ -74,15 +80,19 @@ fn not_known(alloc: Global, table: &BlockTable, places: &[u32]) -> Result<Vec<u3
 }
 
 /// The extents of the first of these places that is known and valid there.
-fn first_anchor(table: &BlockTable, places: &[u32]) -> Option<AnchorExtents>
-    ensures { result ≡ option_map extents_of (first_anchor (state_of table.now) places.now) }
+fn first_anchor<B: BlockStore>(
+    blocks: &B,
+    places: &[u32],
+) -> Result<Option<AnchorExtents>, ReadFault>
+    ensures value { IfOk result (λ first. B.tells → first ≡ option_map extents_of (first_anchor (B.states blocks.now) places.now)) }
+    ensures fails { OnErr result B.fails }
 {
     for place in places {
-        if let Some(extents) = anchor_at(table, *place) {
-            return Some(extents);
+        if let Some(extents) = anchor_at(blocks, *place)? {
+            return Ok(Some(extents));
         }
     }
-    None
+    Ok(None)
 }
 
 /// The places of an anchor (ECMA-167 3/8.4.2.1, UDF 2.2.3).
@@ -104,6 +114,33 @@ fn without_anchor(unread: Vec<u32>) -> Seen<AnchorExtents>
     Seen::Holes(unread)
 }
 
+/// The same as [`anchor`], by any store of blocks.
+///
+/// # Errors
+///
+/// `ReadFault` where the bytes of a known block could not be read. Nothing is told of the volume then.
+pub fn anchor_by<B: BlockStore>(
+    alloc: Global,
+    blocks: &B,
+    last: u32,
+) -> Result<Seen<AnchorExtents>, ReadFault>
+    requires from { 513 ≤ last }
+    requires to { last ≤ 4194303 }
+    ensures value { IfOk result (λ seen. B.tells → Sees (λ extents. extents) seen (anchor (B.states blocks.now) last)) }
+    ensures rising { IfOk result (λ seen. B.tells → HolesRise seen) }
+    ensures memory { IfOk result (λ seen. B.tells → seen ≡ Seen.OutOfMemory → IsHoles (anchor (B.states blocks.now) last)) }
+    ensures fails { OnErr result B.fails }
+{
+    let places = places(last);
+    if let Some(extents) = first_anchor(blocks, &places)? {
+        return Ok(Seen::Got(extents));
+    }
+    match not_known(alloc, blocks, &places) {
+        Ok(unread) => Ok(without_anchor(unread)),
+        Err(_) => Ok(Seen::OutOfMemory),
+    }
+}
+
 /// The extents of the first anchor: of the blocks 256, `last - 256` and `last` the first that is known and
 /// valid there with identifier 2 (ECMA-167 3/8.4.2.1, UDF 2.2.3). Without one, those of the three that are
 /// not known are holes, and where all three are known the fault is `NoAnchor`.
@@ -116,12 +153,8 @@ pub fn anchor(alloc: Global, table: &BlockTable, last: u32) -> Seen<AnchorExtent
     ensures rising { HolesRise result }
     ensures memory { result ≡ Seen.OutOfMemory → IsHoles (anchor (state_of table.now) last) }
 {
-    let places = places(last);
-    if let Some(extents) = first_anchor(table, &places) {
-        return Seen::Got(extents);
-    }
-    match not_known(alloc, table, &places) {
-        Ok(unread) => without_anchor(unread),
-        Err(_) => Seen::OutOfMemory,
+    match anchor_by(alloc, table, last) {
+        Ok(seen) => seen,
+        Err(_) => unreachable!(),
     }
 }

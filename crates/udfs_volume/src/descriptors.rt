@@ -5,33 +5,32 @@ ghost use Rattle.std.specs.Str.{bytes_eq};
 ghost use Rattle.udfs_tag.specs.Fields.{regid_of, uint16_at, uint32_at};
 ghost use Rattle.udfs_volume.specs.Layout.{bp, logical_volume, sequence_number, partition, partition_number};
 ghost use Rattle.udfs_volume.specs.Prevailing.{best_of, later_of};
-ghost use Rattle.udfs_volume.specs.Sequences.{descriptor_now, sequence_now};
+ghost use Rattle.udfs_volume.specs.Sequences.{descriptor_now, lent_now, sequence_now};
 
 use byteorder::{ByteOrder, LittleEndian};
 use udfs_tag::{RegId, identifiers};
 
 /// A descriptor of a sequence, sound at the place of the copy that was read.
-#[derive(Clone, Copy, Debug)]
-pub struct Descriptor<'a> {
+#[derive(Debug, Drop)]
+pub struct Descriptor {
     /// What kind of descriptor it is (ECMA-167 3/7.2.1).
     pub identifier: u16,
     /// The block that it fills.
-    pub block: &'a [u8; 2048],
+    pub block: Box<[u8; 2048]>,
 }
 
-impl<'a> Descriptor<'a> {
+impl Descriptor {
     /// The 2032 bytes after the tag.
-    pub(crate) fn content(&self) -> &'a [u8]
+    pub(crate) fn content(&self) -> &[u8]
         ensures content { result.now ≡ (descriptor_now self.now).content }
         ensures size { length result.now ≡ 2032 }
     {
-        let block = self.block;
-        let (_, content) = block.split_at(16);
+        let (_, content) = self.block.split_at(16);
         content
     }
 
     /// The bytes from `position` on, counted from the descriptor's first byte; `position` is after the tag.
-    pub(crate) fn from(&self, position: usize) -> &'a [u8]
+    pub(crate) fn from(&self, position: usize) -> &[u8]
         requires from { 16 ≤ position }
         requires to { position ≤ 2048 }
         ensures value { result.now ≡ drop (bp position) (descriptor_now self.now).content }
@@ -74,8 +73,8 @@ impl<'a> Descriptor<'a> {
 }
 
 /// The later one of the descriptor that prevails so far and the next one: on a tie the first.
-fn later<'a>(best: Option<Descriptor<'a>>, next: Descriptor<'a>) -> Descriptor<'a>
-    ensures { descriptor_now result ≡ later_of (option_map descriptor_now best.entry) (descriptor_now next.entry) }
+fn later<'a>(best: Option<&'a Descriptor>, next: &'a Descriptor) -> &'a Descriptor
+    ensures { descriptor_now result.now ≡ later_of (option_map lent_now best.entry) (descriptor_now next.now) }
 {
     match best {
         Some(first) => {
@@ -91,20 +90,20 @@ fn later<'a>(best: Option<Descriptor<'a>>, next: Descriptor<'a>) -> Descriptor<'
 
 /// The descriptors of a volume descriptor sequence before its end, in their order.
 #[derive(Debug, Drop)]
-pub struct Sequence<'a> {
-    pub descriptors: Vec<Descriptor<'a>>,
+pub struct Sequence {
+    pub descriptors: Vec<Descriptor>,
 }
 
-impl<'a> Sequence<'a> {
+impl Sequence {
     /// The logical volume descriptor that prevails: the first one with the greatest sequence number
     /// (ECMA-167 3/8.4.3, 3/10.6).
-    pub fn logical_volume(&self) -> Option<Descriptor<'a>>
-        ensures { option_map descriptor_now result ≡ logical_volume (sequence_now self.now) }
+    pub fn logical_volume(&self) -> Option<&Descriptor>
+        ensures { option_map lent_now result ≡ logical_volume (sequence_now self.now) }
     {
         let mut best = None;
         for descriptor in &self.descriptors {
             if descriptor.identifier == identifiers::LOGICAL_VOLUME {
-                best = Some(later(best, *descriptor));
+                best = Some(later(best, descriptor));
             }
         }
         best
@@ -112,15 +111,15 @@ impl<'a> Sequence<'a> {
 
     /// The partition descriptor with this partition number that prevails, as with the logical volume
     /// descriptors (ECMA-167 3/8.4.3, 3/10.5).
-    pub fn partition(&self, number: u16) -> Option<Descriptor<'a>>
-        ensures { option_map descriptor_now result ≡ partition number (sequence_now self.now) }
+    pub fn partition(&self, number: u16) -> Option<&Descriptor>
+        ensures { option_map lent_now result ≡ partition number (sequence_now self.now) }
     {
         let mut best = None;
         for descriptor in &self.descriptors {
             if descriptor.identifier == identifiers::PARTITION
                 && descriptor.partition_number() == number
             {
-                best = Some(later(best, *descriptor));
+                best = Some(later(best, descriptor));
             }
         }
         best

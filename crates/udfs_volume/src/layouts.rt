@@ -1,6 +1,6 @@
 //! The layout of a volume (ECMA-167 3/10.5, 3/10.6, UDF 2.2.4).
 
-ghost use Rattle.std.specs.Prelude.{◌≡◌, ◌≤◌, ◌⊎◌, ◌∷◌, [], not, ◌||◌, nat_eq, map, option_map, IfOk, MatchOption, ⊤};
+ghost use Rattle.std.specs.Prelude.{◌≡◌, ◌≤◌, ◌⊎◌, ◌∷◌, [], not, ◌||◌, nat_eq, map, option_map, IfOk, OnErr, MatchOption, ⊤};
 ghost use Rattle.std.specs.List.{list_all};
 ghost use Rattle.udfs_lattice.specs.Tables.{state_of};
 ghost use Rattle.udfs_tag.specs.Faults.{first_fault};
@@ -19,9 +19,9 @@ use crate::faults::VolumeFault;
 use crate::maps::{NumberedMap, PartitionMap, read_maps};
 use crate::profiles::Profile;
 use crate::seen::Seen;
-use crate::sequences::sequence;
+use crate::sequences::sequence_by;
 use std::alloc::{AllocError, Global};
-use udfs_lattice::BlockTable;
+use udfs_lattice::{BlockStore, BlockTable, ReadFault};
 use udfs_osta::Label;
 use udfs_tag::LongAd;
 
@@ -49,34 +49,33 @@ pub struct VolumeParts {
     pub partitions: Vec<Partition>,
     /// The address of the file set descriptor.
     pub file_set: LongAd,
-    /// Whether the last extent of a file may end inside a block, short of the file's length, while the rest of that
-    /// block is the file's too: by the strict rules it may not.
-    pub takes_tail: bool,
+    /// The rules by which the volume is read.
+    pub profile: Profile,
 }
 
 /// A map's kind and the prevailing descriptor of its partition.
 #[derive(Debug, Drop)]
 struct Described<'a> {
     kind: PartitionMap,
-    descriptor: Descriptor<'a>,
+    descriptor: &'a Descriptor,
 }
 
 /// Whether the domain is that of OSTA UDF (UDF 2.2.4.3).
-fn has_domain(volume: &Descriptor<'_>) -> bool
+fn has_domain(volume: &Descriptor) -> bool
     ensures { result ≡ has_domain (descriptor_now volume.now) }
 {
     is_named(volume.from(216), b"*OSTA UDF Compliant\0\0\0\0")
 }
 
 /// Whether the profile accepts the domain's revision (UDF 2.2.4.3).
-fn has_revision(profile: Profile, volume: &Descriptor<'_>) -> bool
+fn has_revision(profile: Profile, volume: &Descriptor) -> bool
     ensures { result ≡ has_revision profile (descriptor_now volume.now) }
 {
     profile.accepts_revision(volume.uint16(240))
 }
 
 /// The first fault of a logical volume descriptor's domain, block size and number of maps.
-fn field_fault(profile: Profile, volume: &Descriptor<'_>) -> Option<VolumeFault>
+fn field_fault(profile: Profile, volume: &Descriptor) -> Option<VolumeFault>
     ensures value { result ≡ first_fault (field_tests profile (descriptor_now volume.now)) }
     ensures count { MatchOption result
         ((map_count (descriptor_now volume.now) ≡ 1) ⊎ (map_count (descriptor_now volume.now) ≡ 2)) (λ fault. ⊤) }
@@ -97,7 +96,7 @@ fn field_fault(profile: Profile, volume: &Descriptor<'_>) -> Option<VolumeFault>
 /// Each map with its partition's descriptor, if each has one.
 fn describe<'a>(
     alloc: Global,
-    sequence: &Sequence<'a>,
+    sequence: &'a Sequence,
     maps: Vec<NumberedMap>,
 ) -> Result<Option<Vec<Described<'a>>>, AllocError>
     ensures { IfOk result (λ read. option_map (λ all. map described_now all.items) read ≡ described (sequence_now sequence.now) (map numbered_now maps.items)) }
@@ -120,7 +119,7 @@ fn have_contents(all: &[Described<'_>]) -> bool
     ensures { result ≡ list_all has_contents (map described_now all.now) }
 {
     for described in all {
-        if !has_contents(&described.descriptor) {
+        if !has_contents(described.descriptor) {
             return false;
         }
     }
@@ -128,7 +127,7 @@ fn have_contents(all: &[Described<'_>]) -> bool
 }
 
 /// Whether the contents are those of `NSR02` or `NSR03`.
-fn has_contents(partition: &Descriptor<'_>) -> bool
+fn has_contents(partition: &Descriptor) -> bool
     ensures { result ≡ has_contents_of (descriptor_now partition.now) }
 {
     let name = partition.from(24);
@@ -137,7 +136,7 @@ fn has_contents(partition: &Descriptor<'_>) -> bool
 }
 
 /// Whether the partition is not empty and ends at the last block or before (ECMA-167 3/10.5.8, 3/10.5.9).
-fn is_in_range(last: u32, partition: &Descriptor<'_>) -> bool
+fn is_in_range(last: u32, partition: &Descriptor) -> bool
     ensures { result ≡ is_range last (uint32_at (descriptor_now partition.now).content (bp 188)) (uint32_at (descriptor_now partition.now).content (bp 192)) }
 {
     let start = partition.uint32(188);
@@ -150,7 +149,7 @@ fn are_in_range(last: u32, all: &[Described<'_>]) -> bool
     ensures { result ≡ list_all (λ p. is_in_range last (partition_of p)) (map described_now all.now) }
 {
     for described in all {
-        if !is_in_range(last, &described.descriptor) {
+        if !is_in_range(last, described.descriptor) {
             return false;
         }
     }
@@ -175,7 +174,7 @@ fn partitions(alloc: Global, all: Vec<Described<'_>>) -> Result<Vec<Partition>, 
 }
 
 /// The label of a logical volume descriptor (ECMA-167 3/10.6.4).
-fn read_label(alloc: Global, volume: &Descriptor<'_>) -> Result<Label, AllocError>
+fn read_label(alloc: Global, volume: &Descriptor) -> Result<Label, AllocError>
     ensures { IfOk result (λ label. label ≡ label_of (part (descriptor_now volume.now).content (bp 84) 128)) }
 {
     let mut field = [0; 128];
@@ -189,8 +188,8 @@ fn lay_out(
     alloc: Global,
     profile: Profile,
     last: u32,
-    volume: &Descriptor<'_>,
-    sequence: &Sequence<'_>,
+    volume: &Descriptor,
+    sequence: &Sequence,
     maps: Vec<NumberedMap>,
 ) -> Result<Seen<VolumeParts>, AllocError>
     ensures { IfOk result (λ seen. Sees parts_now seen
@@ -215,7 +214,7 @@ fn lay_out(
         label,
         partitions,
         file_set,
-        takes_tail: profile.takes_tail(),
+        profile,
     }))
 }
 
@@ -224,34 +223,58 @@ fn layout_of(
     alloc: Global,
     profile: Profile,
     last: u32,
-    sequence: &Sequence<'_>,
+    sequence: &Sequence,
 ) -> Result<Seen<VolumeParts>, AllocError>
     ensures { IfOk result (λ seen. Sees parts_now seen (layout_of profile last (sequence_now sequence.now))) }
 {
     let Some(volume) = sequence.logical_volume() else {
         return Ok(Seen::Fault(VolumeFault::NoLogicalVolume));
     };
-    if let Some(fault) = field_fault(profile, &volume) {
+    if let Some(fault) = field_fault(profile, volume) {
         return Ok(Seen::Fault(fault));
     }
-    let Some(maps) = read_maps(alloc, profile, last, &volume)? else {
+    let Some(maps) = read_maps(alloc, profile, last, volume)? else {
         return Ok(Seen::Fault(VolumeFault::MapKind));
     };
-    lay_out(alloc, profile, last, &volume, sequence, maps)
+    lay_out(alloc, profile, last, volume, sequence, maps)
 }
 
 /// The layout by the descriptors of a sequence, or `OutOfMemory` where memory runs out.
-fn see_layout(
-    alloc: Global,
-    profile: Profile,
-    last: u32,
-    sequence: Sequence<'_>,
-) -> Seen<VolumeParts>
-    ensures { Sees parts_now result (layout_of profile last (sequence_now sequence.entry)) }
+fn see_layout(alloc: Global, profile: Profile, last: u32, sequence: Sequence) -> Seen<VolumeParts>
+    ensures { Sees parts_now result (layout_of profile last (sequence_now sequence)) }
 {
     match layout_of(alloc, profile, last, &sequence) {
         Ok(seen) => seen,
         Err(_) => Seen::OutOfMemory,
+    }
+}
+
+/// The same as [`layout_by`], by any store of blocks.
+///
+/// # Errors
+///
+/// `ReadFault` where the bytes of a known block could not be read. Nothing is told of the volume then.
+pub fn layout_in<B: BlockStore>(
+    alloc: Global,
+    blocks: &B,
+    last: u32,
+    profile: Profile,
+) -> Result<Seen<VolumeParts>, ReadFault>
+    requires from { 513 ≤ last }
+    requires to { last ≤ 4194303 }
+    ensures value { IfOk result (λ seen. B.tells → Sees parts_now seen (layout_by profile (B.states blocks.now) last)) }
+    ensures lawful { IfOk result (λ seen. B.tells → TellsLawfulLayoutBy profile (B.states blocks.now) last seen) }
+    ensures bounded { IfOk result (λ seen. IfGot seen (λ parts. IsBounded last (parts_now parts))) }
+    ensures rising { IfOk result (λ seen. B.tells → HolesRise seen) }
+    ensures no_anchor { IfOk result (λ seen. B.tells → TellsFault VolumeFault.NoAnchor seen (layout_by profile (B.states blocks.now) last)) }
+    ensures extents { IfOk result (λ seen. B.tells → TellsFault VolumeFault.Extents seen (layout_by profile (B.states blocks.now) last)) }
+    ensures fails { OnErr result B.fails }
+{
+    match sequence_by(alloc, blocks, last)? {
+        Seen::Got(found) => Ok(see_layout(alloc, profile, last, found)),
+        Seen::Holes(holes) => Ok(Seen::Holes(holes)),
+        Seen::Fault(fault) => Ok(Seen::Fault(fault)),
+        Seen::OutOfMemory => Ok(Seen::OutOfMemory),
     }
 }
 
@@ -265,7 +288,6 @@ fn see_layout(
 /// volume.
 ///
 /// `NoAnchor` and `Extents` are reported even where memory runs out.
-#[tactic(auto, using(crate::proofs::LayoutSteps::layout_faulty, crate::proofs::Early::same_fault, crate::proofs::Told::no_fault))]
 pub fn layout_by(
     alloc: Global,
     table: &BlockTable,
@@ -281,7 +303,10 @@ pub fn layout_by(
     ensures no_anchor { TellsFault VolumeFault.NoAnchor result (layout_by profile (state_of table.now) last) }
     ensures extents { TellsFault VolumeFault.Extents result (layout_by profile (state_of table.now) last) }
 {
-    sequence(alloc, table, last).and_then(|found| see_layout(alloc, profile, last, found))
+    match layout_in(alloc, table, last, profile) {
+        Ok(seen) => seen,
+        Err(_) => unreachable!(),
+    }
 }
 
 /// The layout of a volume by the strict rules: [`layout_by`] with [`Profile::Strict`].

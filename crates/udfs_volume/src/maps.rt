@@ -207,7 +207,7 @@ pub(crate) fn read_maps(
     alloc: Global,
     profile: Profile,
     last: u32,
-    volume: &Descriptor<'_>,
+    volume: &Descriptor,
 ) -> Result<Option<Vec<NumberedMap>>, AllocError>
     requires { (map_count (descriptor_now volume.now) ≡ 1) ⊎ (map_count (descriptor_now volume.now) ≡ 2) }
     ensures { IfOk result (λ read. option_map (λ maps. map numbered_now maps.items) read ≡ the_maps profile last (descriptor_now volume.now)) }

@@ -1,15 +1,17 @@
 //! The rules by which a volume is read.
 
 ghost use Rattle.std.specs.Prelude.{◌≡◌};
-ghost use Rattle.udfs_volume.specs.Profiles.{accepts_packet, accepts_revision, takes_tail};
+ghost use Rattle.udfs_volume.specs.Profiles.{accepts_packet, accepts_revision, is_file_type, takes_tail};
 
-/// A set of rules: which revisions of UDF and which packets are read, and what a last extent may leave out.
+/// A set of rules: which revisions of UDF and which packets are read, what a last extent may leave out, and which types of
+/// entries are files.
 #[derive(Clone, Copy, Debug, PartialEq, Eq)]
 pub enum Profile {
-    /// Revisions 1.50 and 2.01, and packets of 16 or 32 blocks; an extent that ends inside a block ends its file.
+    /// Revisions 1.50 and 2.01, and packets of 16 or 32 blocks; an extent that ends inside a block ends its file, and files are
+    /// of type 5.
     Strict,
     /// Also revisions 1.02 and 2.00, whose layouts are the same, packets of each power of two from 1 to 128
-    /// blocks, and last extents that were not made longer with their file.
+    /// blocks, last extents that were not made longer with their file, and files of the types 0 and 249 too.
     Wide,
 }
 
@@ -42,6 +44,17 @@ impl Profile {
         match self {
             Profile::Strict => false,
             Profile::Wide => true,
+        }
+    }
+
+    /// Whether an entry of this file type is a file: 5, a file of bytes (ECMA-167 4/14.6.6), and by the wide rules also 0, "not
+    /// specified", and 249, a real-time file, as camcorders record their movies (UDF 2.01 2.3.5.2). It takes no memory.
+    pub fn is_file_type(self, file_type: u8) -> bool
+        ensures { result ≡ is_file_type self file_type }
+    {
+        match self {
+            Profile::Strict => [5].contains(&file_type),
+            Profile::Wide => [0, 5, 249].contains(&file_type),
         }
     }
 }

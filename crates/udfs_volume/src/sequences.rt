@@ -1,55 +1,62 @@
 //! Volume descriptor sequences (ECMA-167 3/8.4).
 
-ghost use Rattle.std.specs.Prelude.{◌≡◌, ◌≤◌, ◌<◌, ◌+◌, ◌/◌, ◌∷◌, [], ℕ, IfOk, IsTrue, IsOk, length, true};
+ghost use Rattle.std.specs.Prelude.{◌≡◌, ◌≤◌, ◌<◌, ◌+◌, ◌/◌, ◌∷◌, [], ℕ, IfOk, IsTrue, IsOk, IsErrOf, OnErr, length, true};
 ghost use Rattle.udfs_lattice.specs.Tables.{state_of};
 ghost use Rattle.udfs_lattice.specs.Volumes.{ascending};
 ghost use Rattle.udfs_volume.specs.Seen.{Sees, HolesRise, TellsFault};
 ghost use Rattle.udfs_volume.specs.Sequence.{are_extents, fits_to, position, positions, read_positions, sequence, sequence_at};
 ghost use Rattle.udfs_volume.specs.Sequences.{descriptor_of, position_now, sequence_now};
 
-use crate::anchors::{AnchorExtents, anchor};
+use crate::anchors::{AnchorExtents, anchor_by};
 use crate::descriptors::{Descriptor, Sequence};
 use crate::faults::VolumeFault;
 use crate::seen::Seen;
 use std::alloc::{AllocError, Global};
-use udfs_lattice::{BlockTable, Fact};
+use udfs_lattice::{BlockStore, BlockTable, Fact, GaveUp, ReadFault};
 use udfs_tag::{ExtentAd, Tag, identifiers};
 
 /// What is at a position of a sequence, which has two copies of each position.
-#[derive(Clone, Copy)]
-enum Position<'a> {
+#[derive(Drop)]
+enum Position {
     /// Neither copy is known.
     Unread,
     /// The first known copy is no sound descriptor at its block.
     Invalid,
     /// The first known copy is this descriptor.
-    Descriptor(Descriptor<'a>),
+    Descriptor(Descriptor),
 }
 
 /// The descriptor that fills a block at its place.
-fn descriptor_at<'a>(block: &'a [u8; 2048], place: u32) -> Position<'a>
-    ensures { position_now [] result ≡ descriptor_of block.now place }
+fn descriptor_at(alloc: Global, block: &[u8; 2048], place: u32) -> Result<Position, AllocError>
+    ensures { IfOk result (λ position. position_now [] position ≡ descriptor_of block.now place) }
 {
     match Tag::check(block, place) {
-        Ok(tag) => Position::Descriptor(Descriptor {
+        Ok(tag) => Ok(Position::Descriptor(Descriptor {
             identifier: tag.identifier,
-            block,
-        }),
-        Err(_) => Position::Invalid,
+            block: Box::new(alloc, *block)?,
+        })),
+        Err(_) => Ok(Position::Invalid),
     }
 }
 
 /// Of the two copies the first that is known, at its own place.
 #[tactic(auto, unfolding(crate::specs::Sequence::position))]
-fn read_position<'a>(table: &'a BlockTable, main: u32, reserve: u32) -> Position<'a>
-    ensures { position_now (main ∷ reserve ∷ []) result ≡ position (state_of table.now) main reserve }
+fn read_position<B: BlockStore>(
+    alloc: Global,
+    blocks: &B,
+    main: u32,
+    reserve: u32,
+) -> Result<Position, GaveUp>
+    ensures value { IfOk result (λ here. B.tells → position_now (main ∷ reserve ∷ []) here ≡ position (B.states blocks.now) main reserve) }
+    ensures fails { IsErrOf result GaveUp.Unread → B.fails }
 {
-    if let Fact::Known(block) = table.state(main) {
-        return descriptor_at(block, main);
+    let mut room = [0; 2048];
+    if let Fact::Known(block) = blocks.lend(main, &mut room)? {
+        return Ok(descriptor_at(alloc, block, main)?);
     }
-    match table.state(reserve) {
-        Fact::Known(block) => descriptor_at(block, reserve),
-        _ => Position::Unread,
+    match blocks.lend(reserve, &mut room)? {
+        Fact::Known(block) => Ok(descriptor_at(alloc, block, reserve)?),
+        _ => Ok(Position::Unread),
     }
 }
 
@@ -87,20 +94,21 @@ fn are_extents(last: u32, extents: AnchorExtents) -> bool
 }
 
 /// Reads the positions in turn, up to the end.
-fn read_positions<'a>(
+fn read_positions<B: BlockStore>(
     alloc: Global,
-    table: &'a BlockTable,
+    blocks: &B,
     extents: AnchorExtents,
-) -> Result<Seen<Sequence<'a>>, AllocError>
+) -> Result<Seen<Sequence>, GaveUp>
     requires main { extents.main.block + extents.main.length / 2048 ≤ 4194304 }
     requires reserve { extents.reserve.block + extents.main.length / 2048 ≤ 4194304 }
-    ensures { IfOk result (λ seen. Sees sequence_now seen (read_positions (positions (state_of table.now) extents))) }
+    ensures value { IfOk result (λ seen. B.tells → Sees sequence_now seen (read_positions (positions (B.states blocks.now) extents))) }
+    ensures fails { IsErrOf result GaveUp.Unread → B.fails }
 {
     let mut descriptors = Vec::new(alloc);
     for i in 0..extents.main.length / 2048 {
         let main = extents.main.block + i;
         let reserve = extents.reserve.block + i;
-        match read_position(table, main, reserve) {
+        match read_position(alloc, blocks, main, reserve)? {
             Position::Unread => return Ok(Seen::Holes(ascending(alloc, main, reserve)?)),
             Position::Invalid => return Ok(Seen::Got(Sequence { descriptors })),
             Position::Descriptor(descriptor) => {
@@ -119,22 +127,50 @@ fn read_positions<'a>(
 
 /// The sequence in these extents, or the fault `Extents` where [`are_extents`] does not hold.
 #[tactic(auto, using(crate::proofs::Walking::unfit))]
-fn sequence_at<'a>(
+fn sequence_at<B: BlockStore>(
     alloc: Global,
-    table: &'a BlockTable,
+    blocks: &B,
     last: u32,
     extents: AnchorExtents,
-) -> Seen<Sequence<'a>>
+) -> Result<Seen<Sequence>, ReadFault>
     requires { last ≤ 4194303 }
-    ensures value { Sees sequence_now result (sequence_at (state_of table.now) last extents) }
-    ensures memory { result ≡ Seen.OutOfMemory → IsTrue (are_extents last extents) }
+    ensures value { IfOk result (λ seen. B.tells → Sees sequence_now seen (sequence_at (B.states blocks.now) last extents)) }
+    ensures memory { IfOk result (λ seen. seen ≡ Seen.OutOfMemory → IsTrue (are_extents last extents)) }
+    ensures fails { OnErr result B.fails }
 {
     if !are_extents(last, extents) {
-        return Seen::Fault(VolumeFault::Extents);
+        return Ok(Seen::Fault(VolumeFault::Extents));
     }
-    match read_positions(alloc, table, extents) {
-        Ok(seen) => seen,
-        Err(_) => Seen::OutOfMemory,
+    match read_positions(alloc, blocks, extents) {
+        Ok(seen) => Ok(seen),
+        Err(GaveUp::OutOfMemory) => Ok(Seen::OutOfMemory),
+        Err(GaveUp::Unread) => Err(ReadFault),
+    }
+}
+
+/// The same as [`sequence`], by any store of blocks.
+///
+/// # Errors
+///
+/// `ReadFault` where the bytes of a known block could not be read. Nothing is told of the volume then.
+pub fn sequence_by<B: BlockStore>(
+    alloc: Global,
+    blocks: &B,
+    last: u32,
+) -> Result<Seen<Sequence>, ReadFault>
+    requires from { 513 ≤ last }
+    requires to { last ≤ 4194303 }
+    ensures value { IfOk result (λ seen. B.tells → Sees sequence_now seen (sequence (B.states blocks.now) last)) }
+    ensures rising { IfOk result (λ seen. B.tells → HolesRise seen) }
+    ensures no_anchor { IfOk result (λ seen. B.tells → TellsFault VolumeFault.NoAnchor seen (sequence (B.states blocks.now) last)) }
+    ensures extents { IfOk result (λ seen. B.tells → TellsFault VolumeFault.Extents seen (sequence (B.states blocks.now) last)) }
+    ensures fails { OnErr result B.fails }
+{
+    match anchor_by(alloc, blocks, last)? {
+        Seen::Got(extents) => sequence_at(alloc, blocks, last, extents),
+        Seen::Holes(holes) => Ok(Seen::Holes(holes)),
+        Seen::Fault(fault) => Ok(Seen::Fault(fault)),
+        Seen::OutOfMemory => Ok(Seen::OutOfMemory),
     }
 }
 
@@ -145,8 +181,7 @@ fn sequence_at<'a>(
 ///
 /// Holes and descriptors take memory, and the result is `OutOfMemory` where it runs out. `NoAnchor` and
 /// `Extents` are reported even then.
-#[tactic(auto, using(crate::proofs::Walking::sequence_faulty, crate::proofs::Early::same_fault))]
-pub fn sequence<'a>(alloc: Global, table: &'a BlockTable, last: u32) -> Seen<Sequence<'a>>
+pub fn sequence(alloc: Global, table: &BlockTable, last: u32) -> Seen<Sequence>
     requires from { 513 ≤ last }
     requires to { last ≤ 4194303 }
     ensures value { Sees sequence_now result (sequence (state_of table.now) last) }
@@ -154,5 +189,8 @@ pub fn sequence<'a>(alloc: Global, table: &'a BlockTable, last: u32) -> Seen<Seq
     ensures no_anchor { TellsFault VolumeFault.NoAnchor result (sequence (state_of table.now) last) }
     ensures extents { TellsFault VolumeFault.Extents result (sequence (state_of table.now) last) }
 {
-    anchor(alloc, table, last).and_then(|extents| sequence_at(alloc, table, last, extents))
+    match sequence_by(alloc, table, last) {
+        Ok(seen) => seen,
+        Err(_) => unreachable!(),
+    }
 }

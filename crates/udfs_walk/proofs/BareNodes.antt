@@ -17,6 +17,7 @@ use Rattle.udfs_file.specs.declared.faults.NodeFault.{NodeFault}
 use Rattle.udfs_walk.specs.Bare.{bare_standing, bare_entry, bare_node, body_lists, full_entry, full_node, lists_at, lists_of, target_lists, with_lists}
 use Rattle.udfs_walk.specs.NodeFields.{NodeFields}
 use Rattle.udfs_walk.specs.TornFields.{TornFields}
+use Rattle.udfs_walk.specs.Kinds.{kind_by}
 use Rattle.udfs_walk.specs.Nodes.{node, node_at, told}
 use Rattle.udfs_walk.specs.Routes.{Walked, is_deep, is_loop}
 use Rattle.udfs_walk.specs.Standings.{body_standing, cells_standing, depth_or, kind_standing, standing_or_fault}
@@ -66,7 +67,7 @@ node_with_lists n lists = record { path = n.path; icb = n.icb; kind = n.kind; si
 at_target : (v : View) (w : Walked) (t : Target) (lists : TornFields) → lists ≡ target_lists v w.address t → node_with_lists (node_at v w t) lists ≡ node_at v w t
 at_target v w (bad f) lists e = refl
 at_target v w (unread n) lists e = ap (node_with_lists (node_at v w (unread n))) e
-at_target v w (entry e) lists h = ap (told w e) (loop_again (is_loop w) (body_standing e.kind (is_deep w) (body v w.address.reference w.address.block e)) lists
+at_target v w (entry e) lists h = ap (told v.profile w e) (loop_again (is_loop w) (body_standing e.kind (is_deep w) (body v w.address.reference w.address.block e)) lists
     (body_again e.kind (is_deep w) (body v w.address.reference w.address.block e) lists h))
 
 icb_in : (v : View) (w : Walked) (t : Target) → (node_at v w t).icb ≡ w.address
@@ -95,7 +96,7 @@ entry_again v icb f u t e = ap (full_entry v) e ∙ with_entry
     lists = lists_entry v (address_of icb) f t
 
     with_entry : full_entry v (bare_entry (unnamed_with v icb f)) ≡ unnamed_with v icb f
-    with_entry = λ i. record { reference = icb.reference; block = icb.block; kind = f.kind; size = f.size; stamp = f.stamp; standing = body_again f.kind false (body v icb.reference icb.block f) (lists_at v (address_of icb)) lists i }
+    with_entry = λ i. record { reference = icb.reference; block = icb.block; kind = kind_by v.profile f.kind; size = f.size; stamp = f.stamp; standing = body_again f.kind false (body v icb.reference icb.block f) (lists_at v (address_of icb)) lists i }
 
 -- one entry more
 pub entries_more : (v : View) (old new : List Unnamed) (u : Unnamed) → new ≡ old ++ u ∷ [] → map (full_entry v) new ≡ map (full_entry v) old ++ full_entry v u ∷ []

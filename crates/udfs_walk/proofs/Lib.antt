@@ -14,6 +14,7 @@ pub mod PortionGaps
 pub mod BlockOrder
 pub mod BareNodes
 pub mod BareRereads
+pub mod KindLemmas
 pub mod MemoLemmas
 pub mod SettleLemmas
 pub mod FirstGaps

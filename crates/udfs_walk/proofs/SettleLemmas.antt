@@ -39,11 +39,11 @@ short_stays v n t e = ap (λ b. cond (b && is_whole n.standing) (settled_at v n 
 
 entry_settled : (v : View) (w : Walked) (e : EntryFields) (l d : Bool) → is_deep w ≡ d → (s : Bool → Standing)
     → s ≡ (λ b. body_standing e.kind b (body v w.address.reference w.address.block e))
-    → cond (waits (told w e (cond l Loop (cond d Whole (bare_standing (s false)))))) (settled_at v (told w e (cond l Loop (cond d Whole (bare_standing (s false))))) (entry e))
-    (told w e (cond l Loop (cond d Whole (bare_standing (s false))))) ≡ told w e (bare_standing (cond l Loop (s d)))
-entry_settled v w e true d deep s is = stays v (told w e Loop) (entry e) refl
-entry_settled v w e false true deep s is = ap (λ b. cond (b && true) (settled_at v (told w e Whole) (entry e)) (told w e Whole)) deep ∙ ap (λ f. told w e (bare_standing (f true))) (sym is)
-entry_settled v w e false false deep s is = short_stays v (told w e (bare_standing (s false))) (entry e) deep
+    → cond (waits (told v.profile w e (cond l Loop (cond d Whole (bare_standing (s false)))))) (settled_at v (told v.profile w e (cond l Loop (cond d Whole (bare_standing (s false))))) (entry e))
+    (told v.profile w e (cond l Loop (cond d Whole (bare_standing (s false))))) ≡ told v.profile w e (bare_standing (cond l Loop (s d)))
+entry_settled v w e true d deep s is = stays v (told v.profile w e Loop) (entry e) refl
+entry_settled v w e false true deep s is = ap (λ b. cond (b && true) (settled_at v (told v.profile w e Whole) (entry e)) (told v.profile w e Whole)) deep ∙ ap (λ f. told v.profile w e (bare_standing (f true))) (sym is)
+entry_settled v w e false false deep s is = short_stays v (told v.profile w e (bare_standing (s false))) (entry e) deep
 
 at_target : (v : View) (w : Walked) (t : Target) → cond (waits (unsettled_at v w t)) (settled_at v (unsettled_at v w t) t) (unsettled_at v w t) ≡ bare_node (node_at v w t)
 at_target v w (bad f) = stays v (unsettled_at v w (bad f)) (bad f) refl

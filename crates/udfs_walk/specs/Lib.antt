@@ -7,6 +7,7 @@ pub mod NodeFields
 pub mod Paths
 pub mod Targets
 pub mod Routes
+pub mod Kinds
 pub mod Nodes
 pub mod Unsettled
 pub mod Visits

@@ -9,6 +9,7 @@ use Rattle.udfs_file.specs.Addresses.{address_fault}
 use Rattle.udfs_file.specs.Entries.{EntryFields}
 use Rattle.udfs_file.specs.Bodies.{body}
 use Rattle.std.specs.Prelude.{Bool}
+use Rattle.udfs_walk.specs.Kinds.{kind_by}
 use Rattle.udfs_walk.specs.NodeFields.{NodeFields}
 use Rattle.udfs_walk.specs.Standings.{body_standing}
 use Rattle.udfs_walk.specs.Targets.{Target, bad, unread, entry, target, Icb, icb_at, icb_of, is_icb}
@@ -27,7 +28,7 @@ abbrev pub unnamed_with : View → Icb → EntryFields → Unnamed
 unnamed_with view icb e = record {
   reference = icb.reference;
   block = icb.block;
-  kind = e.kind;
+  kind = kind_by view.profile e.kind;
   size = e.size;
   stamp = e.stamp;
   standing = body_standing e.kind false (body view icb.reference icb.block e);

@@ -26,7 +26,7 @@ unsettled_standing view w e = cond (is_loop w) Loop
 abbrev pub unsettled_at : View → Walked → Target → NodeFields
 unsettled_at view w (bad f) = untold w (Fault f)
 unsettled_at view w (unread n) = untold w (Torn no_lists)
-unsettled_at view w (entry e) = told w e (unsettled_standing view w e)
+unsettled_at view w (entry e) = told view.profile w e (unsettled_standing view w e)
 
 -- the node that a walk has come to, as it is first recorded, without its blocks and holes
 unfoldable pub unsettled : View → Walked → NodeFields

@@ -19,7 +19,7 @@ pub struct Node {
     pub path: Path,
     /// The recorded address of its information control block.
     pub icb: LongAd,
-    /// Its kind.
+    /// Its kind, by the rules by which the volume is read: by the wide ones the file types 0 and 249 are files too.
     pub kind: Kind,
     /// Its information length, if its entry is read.
     pub size: Option<u64>,
@@ -54,7 +54,7 @@ pub struct Unnamed {
     pub reference: u16,
     /// The logical block that holds it.
     pub block: u32,
-    /// Its kind.
+    /// Its kind, by the same rules as a node's.
     pub kind: Kind,
     /// Its information length.
     pub size: u64,

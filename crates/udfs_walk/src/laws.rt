@@ -1,5 +1,6 @@
 //! Laws of the walk over all routes, each the contract of a function that does nothing.
 ghost use Rattle.udfs_walk.specs.Laws.{MoreRoutes, NoMoreRoutes, NodeCells, OnlyWalk, PathsHaveParts, RoutesStandOnce, SomeWalk};
+ghost use Rattle.udfs_walk.specs.Kinds.{KindsByRules};
 ghost use Rattle.udfs_walk.specs.Sample.{HaveSampleNodes};
 
 /// Every volume has a walk: at most 64 names lead anywhere.
@@ -38,6 +39,11 @@ pub fn paths_have_parts()
 /// without a fault is known there, whose body has cells.
 pub fn node_has_cells()
     ensures { NodeCells }
+{}
+
+/// By the strict rules an entry is what its file type says. By the wide ones the types 0 and 249 are files too, and no other.
+pub fn kinds_go_by_the_rules()
+    ensures { KindsByRules }
 {}
 
 /// In each sample volume the root and the files A and B are whole nodes, and nothing else is reached.

@@ -10,6 +10,7 @@ mod block_runs;
 mod children;
 pub mod counting;
 mod gaps;
+mod kinds;
 pub mod laws;
 mod memos;
 mod node_bodies;

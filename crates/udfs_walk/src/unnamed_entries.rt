@@ -15,6 +15,7 @@ ghost use Rattle.udfs_walk.specs.NamedKeys.{AreNamed};
 use crate::answers::{Node, Unnamed};
 use crate::bare::full_entries;
 use crate::counting::{Walks, body_walked};
+use crate::kinds::kind_by;
 use crate::targets::{Target, entry_address, target_at};
 use std::alloc::{AllocError, Global};
 use std::marker::Brand;
@@ -104,7 +105,7 @@ fn unnamed_at<L: Ledger>(
             Ok(Some(Unnamed {
                 reference: address.reference,
                 block: address.block,
-                kind: entry.kind(),
+                kind: kind_by(view.space.profile(), entry.kind()),
                 size: entry.size(),
                 stamp: entry.stamp(),
                 standing: told.standing,

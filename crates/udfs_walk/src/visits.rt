@@ -21,6 +21,7 @@ use crate::answers::{Node, NodesError};
 use crate::bare::no_lists;
 use crate::children::Children;
 use crate::counting::Walks;
+use crate::kinds::kind_by;
 use crate::memos::Memo;
 use crate::paths::Path;
 use crate::standings::Standing;
@@ -30,6 +31,7 @@ use std::sync::ledger::Ledger;
 use udfs_file::{Entry, Kind};
 use udfs_space::View;
 use udfs_tag::{LbAddr, LongAd};
+use udfs_volume::Profile;
 
 /// A directory with this many names in its path is not entered.
 pub(crate) const MOST_NAMES: usize = 64;
@@ -106,14 +108,21 @@ fn unread(address: LongAd, path: Path, hidden: bool, standing: Standing) -> Node
     }
 }
 
-/// A node whose entry is read.
-fn read(entry: &Entry<'_>, address: LongAd, path: Path, hidden: bool, standing: Standing) -> Node
-    ensures { (above : List Icb) → result ≡ told (end_at address path above hidden) (entry_of entry.now) standing }
+/// A node whose entry is read, by these rules.
+fn read(
+    profile: Profile,
+    entry: &Entry<'_>,
+    address: LongAd,
+    path: Path,
+    hidden: bool,
+    standing: Standing,
+) -> Node
+    ensures { (above : List Icb) → result ≡ told profile (end_at address path above hidden) (entry_of entry.now) standing }
 {
     Node {
         path,
         icb: address,
-        kind: entry.kind(),
+        kind: kind_by(profile, entry.kind()),
         size: Some(entry.size()),
         stamp: Some(entry.stamp()),
         hidden,
@@ -157,11 +166,12 @@ pub(crate) fn visited<L: Ledger>(
             let icb = address.address();
             let is_loop = is_loop(icb, above);
             let is_deep = path.len() >= MOST_NAMES;
+            let profile = view.space.profile();
             let (standing, entries) = entry_told(
                 alloc, view, &entry, icb, is_loop, is_deep, most, memo, walks,
             )?;
             Ok(Visit {
-                node: read(&entry, address, path, hidden, standing),
+                node: read(profile, &entry, address, path, hidden, standing),
                 entries,
             })
         }

@@ -73,9 +73,9 @@ with_profile name size = with_rule (with_last name size) profile_rule
 abbrev pub report_app : Given → App
 report_app given = with_inputs (with_rule (with_profile (codes "report") given.needs_last) (flag_rule (codes "json"))) given.pairs
 
--- `reread (--last N | --size BYTES) [--profile PROFILE] [--mapfile FILE] IN...`
+-- `reread (--last N | --size BYTES) [--profile PROFILE] [--mapfile FILE] [--no-witnesses] IN...`
 abbrev pub reread_app : Given → App
-reread_app given = with_inputs (with_rule (with_profile (codes "reread") given.needs_last) mapfile_rule) given.pairs
+reread_app given = with_inputs (with_rule (with_rule (with_profile (codes "reread") given.needs_last) mapfile_rule) (flag_rule (codes "no-witnesses"))) given.pairs
 
 -- `--only PATH`, any number of times
 abbrev pub only_rule : Rule

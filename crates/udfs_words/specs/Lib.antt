@@ -1,3 +1,5 @@
 pub mod Asking
 pub mod Grammar
 pub mod Obeying
+pub mod Requests
+pub mod Lines

@@ -10,7 +10,7 @@ ghost use Rattle.udfs_words.specs.Asking.Asked.{AskedFile};
 use crate::forms::{Form, Version};
 use crate::input_path::InputPath;
 use crate::words::{
-    CONFLICTS, FORCE, INPUTS, JSON, MANIFEST, MAPFILE, OUT, PAIRS, TO, UNNAMED, V1,
+    CONFLICTS, FORCE, INPUTS, JSON, MANIFEST, MAPFILE, NO_WITNESSES, OUT, PAIRS, TO, UNNAMED, V1,
 };
 use clap::ArgMatches;
 use std::alloc::{AllocError, Global};
@@ -133,6 +133,13 @@ pub fn asked_mapfile<'a>(words: &ArgMatches<'a>) -> &'a str
     ensures { result.now ≡ mapfile_text (found_of words.now) }
 {
     words.get_str(MAPFILE).unwrap_or("")
+}
+
+/// Whether the mapfile to write is to have known blocks too, by which a pass of another disc shows: unless `--no-witnesses` is given.
+pub fn asked_witnesses(words: &ArgMatches<'_>) -> bool
+    ensures { IsPicked (found_of words.now) (codes "no-witnesses") false true result }
+{
+    !words.get_flag(NO_WITNESSES)
 }
 
 /// The path of the manifest to write; `""` where the arguments give none.

@@ -37,6 +37,9 @@ pub const PROFILE: &str = "profile";
 /// The id of the mapfile to write among the matches.
 pub const MAPFILE: &str = "mapfile";
 
+/// The id of the flag for leaving known blocks out of the mapfile among the matches.
+pub const NO_WITNESSES: &str = "no-witnesses";
+
 /// The id of the flag for forgetting blocks in conflict.
 pub const CONFLICTS: &str = "conflicts";
 
@@ -183,7 +186,7 @@ fn report<'a>(alloc: Global, given: Given) -> Result<Command<'a>, AllocError>
     with_inputs(alloc, command, given.pairs)
 }
 
-/// `reread (--last N | --size BYTES) [--profile PROFILE] [--mapfile FILE] IN...`
+/// `reread (--last N | --size BYTES) [--profile PROFILE] [--mapfile FILE] [--no-witnesses] IN...`
 fn reread<'a>(alloc: Global, given: Given) -> Result<Command<'a>, AllocError>
     ensures { IfOk result (λ command. app_of command ≡ reread_app given) }
 {
@@ -193,7 +196,12 @@ fn reread<'a>(alloc: Global, given: Given) -> Result<Command<'a>, AllocError>
         .arg(last(alloc, given.needs_last))?
         .arg(disc_size(alloc))?
         .arg(profile(alloc))?
-        .arg(domain(alloc))?;
+        .arg(domain(alloc))?
+        .arg(flag(
+            alloc,
+            NO_WITNESSES,
+            "Leave out of the mapfile the known blocks by which a pass of another disc shows",
+        ))?;
     with_inputs(alloc, command, given.pairs)
 }
 

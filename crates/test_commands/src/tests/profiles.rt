@@ -1,4 +1,4 @@
-//! The rules by which a volume is read: the strict ones, and the wide ones, which take revision 2.00 too.
+//! The rules by which a volume is read: the strict ones, and the wide ones, which take revision 2.00 and the files of a camcorder too.
 
 use crate::tests::check;
 use std::test::Fail;
@@ -54,7 +54,7 @@ write 32 240 \0\x02
 but 278
 $ reread --last 600 --profile wide --mapfile want.map disc.tab
 status 1
-out 1 blocks in 1 runs\n
+out 1 blocks in 1 runs, and 6 known ones to compare\n
 
 write 32 240 \0\x02
 but
@@ -118,6 +118,193 @@ error-begins error: the argument '--profile <PROFILE>' cannot be used multiple t
 $ merge --profile wide --out a.tab disc.tab
 error-begins error: unexpected argument '--profile' found
 "#;
+
+static FILE_TYPES: &str = r"
+= a_movie_is_a_file_by_the_wide_rules
+# The volume of a camcorder: its revision is 2.00, and A is a real-time file, of type 249.
+write 32 240 \0\x02
+write 48 240 \0\x02
+write 275 27 \xf9
+but
+then status 0
+then error
+
+$ report -v --last 600 --profile wide disc.tab
+out UDFREPORT1 last 600\nprofile wide\nknown 601 conflict 0\nvolume ok revision 2.00 map type1\nlabel name TEST\nnode 0 whole directory 120 2001-07-04T09:30:00.000000Z /\nnode 1 whole file 5000 2001-07-04T09:30:00.000000Z /A\nnode 2 whole file 2 2001-07-04T09:30:00.000000Z /B\nend\n
+remarked
+
+$ extract -v --last 600 --profile wide --to out disc.tab
+out written /A\nwritten /B\n
+remarked
+has out/A text «2048*a»«2048*b»«904*c»
+has out/B text Hi
+
+$ list -v --paths --last 600 --profile wide disc.tab
+out /A\n/B\n
+remarked
+
+$ summary --last 600 --profile wide disc.tab
+out TEST   UDF 2.00, type 1   601 blocks, 1.2 MB\nFiles      2 whole (5.0 kB)   0 torn (0 B of 0 B lost)   0 not yet known\nFolders    1 whole   0 torn\nDisc       601 known   0 not known, of which 0 are needed (0 runs)   0 in conflict\n
+
+= a_torn_movie_by_the_wide_rules
+# The second block of A is not known.
+write 32 240 \0\x02
+write 48 240 \0\x02
+write 275 27 \xf9
+but 278
+then status 1
+then error
+
+$ extract --last 600 --profile wide --to out disc.tab
+out skipped /A\nwritten /B\n
+files 2
+
+$ extract --last 600 --profile wide --to out --fill disc.tab
+out written /A\nwritten /B\n
+has out/A text «2048*a»«2048*\0»«904*c»
+
+$ summary --last 600 --profile wide disc.tab
+out TEST   UDF 2.00, type 1   601 blocks, 1.2 MB\nFiles      1 whole (2 B)   1 torn (2.0 kB of 5.0 kB lost)   0 not yet known\nFolders    1 whole   0 torn\nDisc       600 known   1 not known, of which 1 are needed (1 runs)   0 in conflict\nTorn       41.0 %  /A   2.0 kB of 5.0 kB lost\nNext       udfsalvage reread --last 600 --profile wide --mapfile want.map ...\n
+
+= a_movie_without_a_name
+# The directory is not known, so no name leads to A and B.
+write 275 27 \xf9
+but 274
+then status 1
+then error
+
+$ extract --last 600 --profile wide --to out --unnamed lost disc.tab
+out written unnamed 3\nwritten unnamed 4\n
+has lost/3 text «2048*a»«2048*b»«904*c»
+
+$ extract --last 600 --to out --unnamed lost disc.tab
+out written unnamed 4\n
+
+$ summary --last 600 --profile wide disc.tab
+out-has \nNo name    2 whole files with data, 0 empty\n
+
+$ summary --last 600 disc.tab
+out-has \nNo name    1 whole files with data, 0 empty\n
+
+= a_file_of_no_type_is_one_by_the_wide_rules
+# Old writers left the type 0, which says nothing.
+write 275 27 \0
+but
+then status 0
+then error
+
+$ report --last 600 --profile wide disc.tab
+out UDFREPORT1 last 600\nprofile wide\nknown 601 conflict 0\nvolume ok revision 1.50 map type1\nlabel name TEST\nnode 0 whole directory 120 2001-07-04T09:30:00.000000Z /\nnode 1 whole file 5000 2001-07-04T09:30:00.000000Z /A\nnode 2 whole file 2 2001-07-04T09:30:00.000000Z /B\nend\n
+
+$ extract --last 600 --profile wide --to out disc.tab
+out written /A\nwritten /B\n
+has out/A text «2048*a»«2048*b»«904*c»
+
+= other_types_are_no_files_by_the_wide_rules
+# Type 250 is that of a metadata file.
+write 275 27 \xfa
+but
+then status 0
+
+$ report --last 600 --profile wide disc.tab
+out-has \nnode 1 whole other-250 5000 2001-07-04
+
+$ extract -v --last 600 --profile wide --to out disc.tab
+out skipped /A\nwritten /B\n
+remarked 1 file of a type that is not written (250)\n
+
+$ summary --last 600 --profile wide disc.tab
+out-has \nOther      1 file of a type that is not written (250)\nDisc
+
+= a_movie_is_left_out_by_the_strict_rules
+# The report says what it said, and a second line what is left out.
+write 275 27 \xf9
+but
+then status 0
+then error
+
+$ report -v --last 600 disc.tab
+out UDFREPORT1 last 600\nknown 601 conflict 0\nvolume ok revision 1.50 map type1\nlabel name TEST\nnode 0 whole directory 120 2001-07-04T09:30:00.000000Z /\nnode 1 whole other-249 5000 2001-07-04T09:30:00.000000Z /A\nnode 2 whole file 2 2001-07-04T09:30:00.000000Z /B\nend\n
+remarked 1 file of a type that is not written (249, real-time): --profile wide writes it\n
+
+$ report --last 600 disc.tab
+out-has \nnode 1 whole other-249 5000 2001-07-04
+remarked
+
+$ report -v -q --last 600 disc.tab
+out-has \nnode 1 whole other-249 5000 2001-07-04
+remarked
+
+$ list -v --paths --last 600 disc.tab
+out /A\n/B\n
+remarked 1 file of a type that is not written (249, real-time): --profile wide writes it\n
+
+$ extract -v --last 600 --to out disc.tab
+out skipped /A\nwritten /B\n
+remarked 1 file of a type that is not written (249, real-time): --profile wide writes it\n
+files 2
+
+$ summary --last 600 disc.tab
+out TEST   UDF 1.50, type 1   601 blocks, 1.2 MB\nFiles      1 whole (2 B)   0 torn (0 B of 0 B lost)   0 not yet known\nFolders    1 whole   0 torn\nOther      1 file of a type that is not written (249, real-time): --profile wide writes it\nDisc       601 known   0 not known, of which 0 are needed (0 runs)   0 in conflict\n
+
+= what_is_said_of_files_of_other_types
+# Torn ones too, several, and none that is empty.
+then error
+
+write 275 27 \xf9
+but 278
+$ report -v --last 600 disc.tab
+status 1
+remarked 1 file of a type that is not written (249, real-time): --profile wide writes it\n
+
+write 275 27 \xf9
+write 276 27 \xf9
+but
+$ report -v --last 600 disc.tab
+status 0
+remarked 2 files of a type that is not written (249, real-time): --profile wide writes them\n
+
+write 275 27 \xf9
+write 276 27 \0
+but
+$ report -v --last 600 disc.tab
+status 0
+remarked 2 files of types that are not written (0, not specified; 249, real-time): --profile wide writes them\n
+
+write 275 27 \x07
+write 276 27 \xf9
+but
+$ report -v --last 600 disc.tab
+status 0
+remarked 2 files of types that are not written (7, character device; 249, real-time): --profile wide writes 1 of them\n
+
+write 276 27 \xf9
+write 276 56 \0
+write 276 172 \0
+but
+$ report -v --last 600 disc.tab
+status 0
+remarked
+
+write 276 27 \xf9
+write 276 56 \0
+write 276 172 \0
+but
+$ summary --last 600 disc.tab
+status 0
+out-has \nOther      1 links and devices   0 with faults   0 loops\nDisc
+
+write 276 27 \x0c
+but
+$ report -v --last 600 disc.tab
+status 0
+remarked
+";
+
+#[test]
+fn types_of_files(rt: HostRuntime) -> Result<(), Fail> {
+    check(&rt, rt.alloc(), FILE_TYPES)
+}
 
 #[test]
 fn strict_and_wide_rules(rt: HostRuntime) -> Result<(), Fail> {

@@ -64,22 +64,25 @@ file old.map text # Mapfile. Created by udfsalvage 0.1.0\n# Blocks to read again
 file note text # Mapfile. Created by udfsalvage 0.1.0\n# Blocks to read again, for ddrescue -m: not the mapfile of a pass
 
 = the_blocks_to_read_again_are_a_mapfile
-# Of the disc whose file `A` lacks block 278 that block is wanted. An old mapfile is written over, and nothing else.
+# Of the disc whose file `A` lacks block 278 that block is wanted. Beside it the known blocks are asked for that name the volume: the anchor at 256, the
+# logical volume descriptor at 32, the file set at 272 and the root's entry at 273. An old mapfile is written over, and nothing else.
 at 32 33 34 256 272 273 274 275 276 277 279
 then status 1
-then out 1 blocks in 1 runs\n
+then out 1 blocks in 1 runs, and 4 known ones to compare\n
 then error
-then has want.map text # Mapfile. Created by udfsalvage 0.1.0\n# Blocks to read again, for ddrescue -m: not the mapfile of a pass\n0x00000000     +               1\n0x00000000  0x0008B000  ?\n0x0008B000  0x00000800  +\n0x0008B800  0x000A1000  ?\n
-then survives want.map text # Mapfile. Created by udfsalvage 0.1.0\n# Blocks to read again, for ddrescue -m: not the mapfile of a pass\n0x00000000     +               1\n0x00000000  0x0008B000  ?\n0x0008B000  0x00000800  +\n0x0008B800  0x000A1000  ?\n
+then has want.map text # Mapfile. Created by udfsalvage 0.1.0\n# Blocks to read again, for ddrescue -m: not the mapfile of a pass\n0x00000000     +               1\n0x00000000  0x00010000  ?\n0x00010000  0x00000800  +\n0x00010800  0x0006F800  ?\n0x00080000  0x00000800  +\n0x00080800  0x00007800  ?\n0x00088000  0x00001000  +\n0x00089000  0x00002000  ?\n0x0008B000  0x00000800  +\n0x0008B800  0x000A1000  ?\n
+then survives want.map text # Mapfile. Created by udfsalvage 0.1.0\n# Blocks to read again, for ddrescue -m: not the mapfile of a pass\n0x00000000     +               1\n0x00000000  0x00010000  ?\n0x00010000  0x00000800  +\n0x00010800  0x0006F800  ?\n0x00080000  0x00000800  +\n0x00080800  0x00007800  ?\n0x00088000  0x00001000  +\n0x00089000  0x00002000  ?\n0x0008B000  0x00000800  +\n0x0008B800  0x000A1000  ?\n
 
 $ reread --last 600 --mapfile want.map disc.tab
 
 $ reread --last 600 --mapfile want.map disc.tab
-done 1 1 blocks in 1 runs\n
+done 1 1 blocks in 1 runs, and 4 known ones to compare\n
 $ reread --size 1230848 disc.tab --mapfile=want.map
 
 = the_counts_of_a_mapfile
-# Nothing is wanted of a disc of which all is known; of an unread one the anchors are, and blocks 277 and 278 are one run.
+# Nothing is wanted of a disc of which all is known, and then nothing is compared; of an unread one the anchors are wanted, and no block is known. Blocks 277
+# and 278 are one run. Where the partition's descriptors are not read the volume does not open: its file set and its root are not found then, but block
+# 272 is the first of the fifth ninth of the disc whose bytes are not all equal. The anchors at 344, all zeros here, and 600 are known too.
 
 but
 $ reread --last 600 --mapfile m disc.tab
@@ -89,17 +92,17 @@ out 0 blocks in 0 runs\n
 but 33 49
 $ reread --last 600 --mapfile m disc.tab
 status 1
-out 2 blocks in 2 runs\n
+out 2 blocks in 2 runs, and 5 known ones to compare\n
 
 but 277 278
 $ reread --last 600 --mapfile m disc.tab
 status 1
-out 2 blocks in 1 runs\n
+out 2 blocks in 1 runs, and 6 known ones to compare\n
 
 but 277 279
 $ reread --last 600 --mapfile m disc.tab
 status 1
-out 2 blocks in 2 runs\n
+out 2 blocks in 2 runs, and 6 known ones to compare\n
 
 but
 $ reread --last 600 --mapfile m disc.tab
@@ -111,6 +114,34 @@ $ reread --last 600 --mapfile m empty.rd
 status 1
 out 3 blocks in 3 runs\n
 has m text # Mapfile. Created by udfsalvage 0.1.0\n# Blocks to read again, for ddrescue -m: not the mapfile of a pass\n0x00000000     +               1\n0x00000000  0x00080000  ?\n0x00080000  0x00000800  +\n0x00080800  0x0002B800  ?\n0x000AC000  0x00000800  +\n0x000AC800  0x0007F800  ?\n0x0012C000  0x00000800  +\n
+
+= known_blocks_are_asked_for_beside_those_to_read_again
+# Of the whole disc but block 278: the three anchors, the logical volume descriptor at 32, the file set at 272 and the root's entry at 273. In each ninth
+# of the disc the first block whose bytes are not all equal is one of them, or there is none. They are left out where that is asked for.
+
+but 278
+$ reread --last 600 --mapfile m disc.tab
+status 1
+out 1 blocks in 1 runs, and 6 known ones to compare\n
+has m text # Mapfile. Created by udfsalvage 0.1.0\n# Blocks to read again, for ddrescue -m: not the mapfile of a pass\n0x00000000     +               1\n0x00000000  0x00010000  ?\n0x00010000  0x00000800  +\n0x00010800  0x0006F800  ?\n0x00080000  0x00000800  +\n0x00080800  0x00007800  ?\n0x00088000  0x00001000  +\n0x00089000  0x00002000  ?\n0x0008B000  0x00000800  +\n0x0008B800  0x00020800  ?\n0x000AC000  0x00000800  +\n0x000AC800  0x0007F800  ?\n0x0012C000  0x00000800  +\n
+
+but 278
+$ reread --last 600 --no-witnesses --mapfile m disc.tab
+status 1
+out 1 blocks in 1 runs\n
+has m text # Mapfile. Created by udfsalvage 0.1.0\n# Blocks to read again, for ddrescue -m: not the mapfile of a pass\n0x00000000     +               1\n0x00000000  0x0008B000  ?\n0x0008B000  0x00000800  +\n0x0008B800  0x000A1000  ?\n
+
+= known_blocks_from_all_over_the_disc
+# Of a disc whose anchors are not read the blocks 70 and 140 stand for the second and the third ninth: block 68, of zeros throughout, does not, nor does 71,
+# which is not the first. Only the anchors are wanted, and no volume opens.
+
+write 70 0 a
+write 71 0 a
+write 140 9 b
+at 68 70 71 140 141
+$ reread --last 600 --mapfile m disc.tab
+status 1
+out 3 blocks in 3 runs, and 2 known ones to compare\n
 
 = what_a_mapfile_is_not_written_over, 1
 # No file but a map of blocks to read again is written over, no mapfile of a pass, and no image or mapfile of the inputs; no input is read then.
@@ -155,7 +186,7 @@ status 0
 has old.map text # Mapfile. Created by udfsalvage 0.1.0\n# Blocks to read again, for ddrescue -m: not the mapfile of a pass\n0x00000000     +               1\n0x00000000  0x0012C800  ?\n
 
 = a_line_that_cannot_be_printed_leaves_the_mapfile
-# Where the line cannot be printed, which has 19 bytes, the mapfile is not begun: what was there stays.
+# Where the line cannot be printed, which has 48 bytes, the mapfile is not begun: what was there stays.
 but 278
 file p.img text x
 file p.map text # Mapfile. Created by GNU ddrescue\n0 + 1\n
@@ -163,14 +194,14 @@ file image.map text # Mapfile. Created by udfsalvage 0.1.0\n0x00000000     +    
 file old.map text # Mapfile. Created by udfsalvage 0.1.0\n# Blocks to read again, for ddrescue -m: not the mapfile of a pass\n0x00000000     +               1\n0x00000000  0x00000800  +\n
 file note text # Mapfile. Created by udfsalvage 0.1.0\n# Blocks to read again, for ddrescue -m: not the mapfile of a pass
 
-each 0 19
+each 0 48
 terminal-fails «n»
 $ reread --last 600 --mapfile old.map disc.tab
 status 2
 error udfsalvage: cannot write output\n
 calls 0
 
-each 19 20
+each 48 49
 terminal-fails «n»
 $ reread --last 600 --mapfile old.map disc.tab
 status 1

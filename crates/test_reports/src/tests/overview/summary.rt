@@ -5,11 +5,12 @@ use std::alloc::Global;
 use std::process::Abort;
 use std::test::Fail;
 use udfs_overview::{
-    DiscTally, Tally, UnnamedTally, count_disc, count_nodes, count_unnamed, push_disc, push_files,
-    push_others, push_unnamed,
+    DiscTally, Tally, UnnamedTally, count_disc, count_nodes, count_unnamed, left_out_remark,
+    left_out_types, push_disc, push_files, push_left_out, push_others, push_unnamed,
 };
-use udfs_salvage::survey_volume;
+use udfs_salvage::{survey_volume, survey_volume_by};
 use udfs_samples::{Disc, LAST};
+use udfs_volume::Profile;
 
 /// The blocks that are not known of the volume with one map, and what is counted: whole and torn files, nodes that were not
 /// read, whole and torn folders; the bytes of the files and what of these is lost; needed blocks and runs; files without a name.
@@ -105,6 +106,60 @@ fn a_loop_is_counted(rt: HostRuntime) -> Result<(), Fail> {
     Ok(())
 }
 
+/// A is a real-time file (type 249) and B an empty one of type 0: by the strict rules neither is a file, and A alone is said to be left out.
+#[test]
+fn files_that_are_left_out(rt: HostRuntime) -> Result<(), Fail> {
+    let alloc = rt.alloc();
+    let mut disc = Disc::type1(alloc)?;
+    disc.write(&[
+        (275, 27, &[249]),
+        (276, 27, &[0]),
+        (276, 56, &[0]),
+        (276, 172, &[0]),
+    ])?;
+    let table = disc.known_but(alloc, &[])?;
+    let strict = survey_volume(alloc, &table, LAST)?;
+    let tally = count_nodes(alloc, &strict)?;
+    assert_same(
+        &rt,
+        [tally.whole_files, tally.others, tally.left_out],
+        [0, 1, 1],
+    );
+    assert_same(
+        &rt,
+        left_out_types(alloc, &strict)?.as_slice(),
+        [249].as_slice(),
+    );
+    let wide = survey_volume_by(alloc, &table, LAST, Profile::Wide)?;
+    let tally = count_nodes(alloc, &wide)?;
+    assert_same(
+        &rt,
+        [tally.whole_files, tally.others, tally.left_out],
+        [2, 0, 0],
+    );
+    assert!(rt; left_out_types(alloc, &wide)?.is_empty());
+    assert!(rt; left_out_remark(alloc, &wide.nodes)?.is_none());
+    Ok(())
+}
+
+/// The line of files that are left out, and none where there are none.
+#[test]
+fn the_line_of_what_is_left_out(rt: HostRuntime) -> Result<(), Fail> {
+    let alloc = rt.alloc();
+    let mut text = String::new(alloc);
+    push_left_out(alloc, &mut text, &[])?;
+    assert_same(&rt, text.as_str(), "");
+    push_left_out(alloc, &mut text, &[249])?;
+    push_left_out(alloc, &mut text, &[249, 0, 249])?;
+    push_left_out(alloc, &mut text, &[6, 9, 10])?;
+    assert_same(
+        &rt,
+        text.as_str(),
+        "Other      1 file of a type that is not written (249, real-time): --profile wide writes it\nOther      3 files of types that are not written (0, not specified; 249, real-time): --profile wide writes them\nOther      3 files of types that are not written (6, block device; 9, FIFO; 10, socket)\n",
+    );
+    Ok(())
+}
+
 #[test]
 fn a_block_in_conflict_is_counted(rt: HostRuntime) -> Result<(), Fail> {
     let alloc = rt.alloc();
@@ -141,6 +196,7 @@ fn lines(rt: HostRuntime) -> Result<(), Fail> {
         whole_folders: 51,
         torn_folders: 1,
         others: 7,
+        left_out: 0,
         faulty: 2,
         loops: 0,
     };
@@ -182,6 +238,7 @@ fn lines_of_nothing(rt: HostRuntime) -> Result<(), Fail> {
         whole_folders: 0,
         torn_folders: 0,
         others: 0,
+        left_out: 0,
         faulty: 0,
         loops: 0,
     };

@@ -116,6 +116,19 @@ fn accepted_numbers(rt: HostRuntime) -> Result<(), Fail> {
         assert_same(&rt, Profile::Strict.accepts_packet(packet), strict);
         assert_same(&rt, Profile::Wide.accepts_packet(packet), wide);
     }
+    static FILE_TYPES: [(u8, bool, bool); 7] = [
+        (0, false, true),
+        (4, false, false),
+        (5, true, true),
+        (6, false, false),
+        (12, false, false),
+        (249, false, true),
+        (250, false, false),
+    ];
+    for &(file_type, strict, wide) in &FILE_TYPES {
+        assert_same(&rt, Profile::Strict.is_file_type(file_type), strict);
+        assert_same(&rt, Profile::Wide.is_file_type(file_type), wide);
+    }
     assert!(rt; !Profile::Strict.takes_tail());
     assert!(rt; Profile::Wide.takes_tail());
     Ok(())

@@ -1,5 +1,6 @@
-use Rattle.std.proofs.Common.{inl, inr, rules}
+use Rattle.std.proofs.Common.{inl, inr, refl, rules}
 use Rattle.std.proofs.lemmas.Result.{on_err_weaker}
+use Rattle.udfs_files.specs.Disk.{After, Replaced}
 use Rattle.udfs_common.proofs.putting.put_file.Goals as goal
 
 pub returns-in-Err-NotKept-clause-left : goal.returns-in-Err-NotKept-clause-left
@@ -14,3 +15,29 @@ returns-in-Other-clause-left g c =
 
 pub returns-clause-left : goal.returns-clause-left
 returns-clause-left g c = inr (record { failed = inr (c.in-Err-replace.ensures.cause (search rules)); stands = λ tells file. inl (search rules); elsewhere = search rules })
+
+pub returns-in-Err-NotKept-clause-puts : goal.returns-in-Err-NotKept-clause-puts
+returns-in-Err-NotKept-clause-puts g c =
+    let F = g.F.Files in
+    let bytes = g.C.Content.bytes c.args.content.now in
+    record {
+      put = tt;
+      left = inr (inr (refl, search rules, λ tells. (bytes, refl, search rules)));
+      any_moment = λ tells place d since.
+          let a : After (F.may_leave c.args.files.now) (Replaced (F.real c.args.files.now c.args.out.now) bytes) d = search rules in
+          (a.0, a.1, inr (bytes, refl, a.2));
+      elsewhere = search rules;
+    }
+
+pub returns-clause-puts : goal.returns-clause-puts
+returns-clause-puts g c =
+    let F = g.F.Files in
+    let bytes = g.C.Content.bytes c.args.content.now in
+    record {
+      put = tt;
+      left = inr (inl (inl refl, inr (c.in-Err-replace.ensures.cause (search rules)), search rules));
+      any_moment = λ tells place d since.
+          let a : After (F.may_leave c.args.files.now) (Replaced (F.real c.args.files.now c.args.out.now) bytes) d = search rules in
+          (a.0, a.1, inr (bytes, refl, a.2));
+      elsewhere = search rules;
+    }

@@ -6,4 +6,4 @@ use Rattle.udfs_file.proofs.cursors.sized.Goals as goal
 
 pub returns-in-Bytes : goal.returns-in-Bytes
 returns-in-Bytes c = subst (StepIs c.checked.result)
-    (sized_whole (cells_left c.args.cells.now) c.args.size c.in-Bytes.view c.requires.least c.if-size-gt2048.false (sym c.holds.ensures ∙ c.if-not-holds.false) c.in-Bytes.ensures) c.checked.ensures
+    (sized_whole (cells_left c.args.cells.now) c.args.size c.in-Bytes.view c.requires.least c.if-size-gt2048.false (sym c.holds.ensures ∙ c.if-not-holds.false) c.in-Bytes.ensures) c.checked.ensures.value

@@ -1,10 +1,11 @@
 use Rattle.std.proofs.Common.{◌∙◌, ap, sym}
+use Rattle.std.specs.Prelude.{count_by}
 use Rattle.udfs_lattice.specs.Tables.{state_of}
 use Rattle.udfs_salvage.specs.Found.{volume_now}
 use Rattle.udfs_salvage.specs.Surveys.{full_nodes}
 use Rattle.udfs_overview.specs.declared.tallies.NodeSort.TheVariants as sort
-use Rattle.udfs_overview.specs.Tallies.{bytes_of, count_of, tally_of}
-use Rattle.udfs_overview.proofs.Counting.{bytes_full, count_full, tally_counts_all}
+use Rattle.udfs_overview.specs.Tallies.{bytes_of, count_of, is_aside, is_left_out, tally_of}
+use Rattle.udfs_overview.proofs.Counting.{aside_full, bytes_full, count_full, left_full, tally_counts_all}
 use Rattle.udfs_overview.proofs.tallies.count_nodes.Goals as goal
 
 pub returns-clause-value : goal.returns-clause-value
@@ -22,9 +23,10 @@ returns-clause-value c =
     let unread = c.count_of-3.ensures ∙ ap (count_of sort.Unread) same ∙ sym (count_full M answer sort.Unread ns) in
     let whole_folders = c.count_of-4.ensures ∙ ap (count_of sort.WholeFolder) same ∙ sym (count_full M answer sort.WholeFolder ns) in
     let torn_folders = c.count_of-5.ensures ∙ ap (count_of sort.TornFolder) same ∙ sym (count_full M answer sort.TornFolder ns) in
-    let others = c.count_of-6.ensures ∙ ap (count_of sort.Other) same ∙ sym (count_full M answer sort.Other ns) in
-    let faulty = c.count_of-7.ensures ∙ ap (count_of sort.Faulty) same ∙ sym (count_full M answer sort.Faulty ns) in
-    let loops = c.count_of-8.ensures ∙ ap (count_of sort.Loop) same ∙ sym (count_full M answer sort.Loop ns) in
+    let others = c.count_aside.ensures ∙ ap (count_by is_aside) same ∙ sym (aside_full M answer ns) in
+    let left_out = c.count_left_out.ensures ∙ ap (count_by is_left_out) same ∙ sym (left_full M answer ns) in
+    let faulty = c.count_of-6.ensures ∙ ap (count_of sort.Faulty) same ∙ sym (count_full M answer sort.Faulty ns) in
+    let loops = c.count_of-7.ensures ∙ ap (count_of sort.Loop) same ∙ sym (count_full M answer sort.Loop ns) in
     λ j. record {
       whole_files = whole_files j;
       whole_bytes = whole_bytes j;
@@ -35,6 +37,7 @@ returns-clause-value c =
       whole_folders = whole_folders j;
       torn_folders = torn_folders j;
       others = others j;
+      left_out = left_out j;
       faulty = faulty j;
       loops = loops j;
     }

@@ -34,5 +34,5 @@ returns c =
       label = sym c.in_ok-label.ensures i;
       partitions = sym c.in_ok-partitions.ensures i;
       file_set = sym file_set i;
-      takes_tail = sym c.takes_tail.ensures i;
+      profile = c.args.profile;
     }))

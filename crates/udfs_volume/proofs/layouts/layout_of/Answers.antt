@@ -13,16 +13,16 @@ returns-in_default c = layout_of-no_volume c.args.profile c.args.last (sequence_
 
 pub returns-in-Some-field_fault : goal.returns-in-Some-field_fault
 returns-in-Some-field_fault c =
-    layout_of-fault c.args.profile c.args.last (sequence_now c.args.sequence.now) (descriptor_now c.in-Some.volume) c.in-Some-field_fault.fault c.in-Some.ensures c.in-Some-field_fault.ensures.value
+    layout_of-fault c.args.profile c.args.last (sequence_now c.args.sequence.now) (descriptor_now c.in-Some.volume.now) c.in-Some-field_fault.fault c.in-Some.ensures c.in-Some-field_fault.ensures.value
 
 pub returns-in_default-2 : goal.returns-in_default-2
 returns-in_default-2 c =
-    layout_of-no_maps c.args.profile c.args.last (sequence_now c.args.sequence.now) (descriptor_now c.in-Some.volume) c.in-Some.ensures c.in_default-field_fault.ensures.value (ap (option_map (λ maps. map numbered_now maps.items)) (sym c.in_default-2.is) ∙ c.in_ok-maps.ensures)
+    layout_of-no_maps c.args.profile c.args.last (sequence_now c.args.sequence.now) (descriptor_now c.in-Some.volume.now) c.in-Some.ensures c.in_default-field_fault.ensures.value (ap (option_map (λ maps. map numbered_now maps.items)) (sym c.in_default-2.is) ∙ c.in_ok-maps.ensures)
 
 pub returns : goal.returns
 returns c =
     let ds = sequence_now c.args.sequence.now in
-    let lv = descriptor_now c.in-Some.volume in
+    let lv = descriptor_now c.in-Some.volume.now in
     let ms = map numbered_now c.in-Some-2.maps.items in
     let given : Some ms ≡ the_maps c.args.profile c.args.last lv = ap (option_map (λ maps. map numbered_now maps.items)) (sym c.in-Some-2.is) ∙ c.in_ok-maps.ensures in
     let is : layout_of c.args.profile c.args.last ds ≡ laid_out c.args.profile c.args.last lv (described ds ms) = layout_of-maps c.args.profile c.args.last ds lv ms c.in-Some.ensures c.in_default-field_fault.ensures.value given in

@@ -2,6 +2,7 @@ use Rattle.std.proofs.Common.{◌∙◌, ap, refl, sym, true}
 use Rattle.udfs_space.specs.Views.{view_now}
 use Rattle.udfs_file.specs.Entries.{entry_of}
 use Rattle.udfs_walk.specs.Targets.{bad, target, unread}
+use Rattle.udfs_walk.specs.Kinds.{kind_by}
 use Rattle.udfs_walk.proofs.BareNodes.{entry_again}
 use Rattle.udfs_walk.proofs.NamedLemmas.{no_entry, is_named, is_unnamed}
 use Rattle.udfs_walk.proofs.unnamed_entries.unnamed_at.Goals as goal
@@ -26,7 +27,7 @@ returns-in_ok-told-in-Entry-clause-entry g c = λ nodes a. let there = c.in-Entr
     (entry_again (view_now c.args.view) c.args.address (entry_of c.in-Entry.entry) _ there (λ i. record {
       reference = c.args.address.reference;
       block = c.args.address.block;
-      kind = c.kind.ensures i;
+      kind = (c.kind_by.ensures ∙ (λ j. kind_by (c.profile.ensures j) (c.kind.ensures j))) i;
       size = c.size.ensures i;
       stamp = c.stamp.ensures i;
       standing = c.in_ok-told-in-Entry.ensures.standing i;

@@ -1,6 +1,6 @@
-use Rattle.std.proofs.Common.{refl, ap₂, ◌≡◌, ◌∙◌}
+use Rattle.std.proofs.Common.{refl, ap₂, ◌∙◌}
 use Rattle.std.proofs.lemmas.Result.{IfOk-weaker}
-use Rattle.clap.specs.Words.{app_of, with_rule}
+use Rattle.clap.specs.Words.{with_rule}
 use Rattle.udfs_words.proofs.words.with_inputs.Goals as goal
 
 pub returns : goal.returns

@@ -1,5 +1,4 @@
 use Rattle.std.proofs.Common.{subst, ap}
-use Rattle.udfs_lattice.specs.Tables.{state_of}
 use Rattle.udfs_volume.specs.LayoutParts.{partition_now}
 use Rattle.udfs_volume.specs.Laws.{IsBoundedMap}
 use Rattle.udfs_volume.specs.Parts.{map_now}
@@ -7,8 +6,8 @@ use Rattle.udfs_space.proofs.Tables.{fit_all, span-type1}
 use Rattle.udfs_space.proofs.spans.Span.build.Goals as goal
 
 pub spared-requires-clause-fit : goal.spared-requires-clause-fit
-spared-requires-clause-fit c = fit_all c.args.last c.in-Sparable.map.packet c.in-Sparable.map.size c.in-Sparable.map.tables.items c.requires.last
+spared-requires-clause-fit g c = fit_all c.args.last c.in-Sparable.map.packet c.in-Sparable.map.size c.in-Sparable.map.tables.items c.requires.last
     (subst (λ k. IsBoundedMap c.args.last (map_now k)) c.in-Sparable.is c.requires.bounded.bounded_map)
 
-pub returns-in-Type1 : goal.returns-in-Type1
-returns-in-Type1 c = span-type1 (state_of c.args.table.now) c.args.last (partition_now c.args.partition.now) c.new.result.items (ap map_now c.in-Type1.is) c.new.ensures.items
+pub returns-in-Type1-clause-value : goal.returns-in-Type1-clause-value
+returns-in-Type1-clause-value g c told = span-type1 (g.B.BlockStore.states c.args.blocks.now) c.args.last (partition_now c.args.partition.now) c.new.result.items (ap map_now c.in-Type1.is) c.new.ensures.items

@@ -1,0 +1,19 @@
+-- What a command reaches: what is known of its files, and what their inputs and outputs have left and have taken.
+--     Reach                      all of it, as one value
+--     found_at reach at path     what the path leads to, at some moment
+use Rattle.std.specs.Prelude.{ℕ, List, Option}
+use Rattle.udfs_files.specs.declared.files.Files.{Ghosts}
+use Rattle.udfs_reading.specs.Device.{Stream}
+use Rattle.udfs_common.specs.declared.sources.AnySource.{AnySource}
+
+-- the files, what an output has taken, how often reading a file failed, what an input has left, and how often reading it failed
+pub record Reach (F I M S W : Type 0) : Type 1 where
+  pub files : Ghosts F I M S W
+  pub output : W → Stream
+  pub read_faults : I → ℕ
+  pub remaining : AnySource I M → Option (List ℕ)
+  pub faults : AnySource I M → ℕ
+
+-- what the path leads to, at some moment
+abbrev pub found_at : {F I M S W : Type 0} → Reach F I M S W → F → List ℕ → Option (Option (List ℕ))
+found_at reach at path = reach.files.holds at (reach.files.real at path)

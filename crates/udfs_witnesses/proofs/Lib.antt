@@ -1,0 +1,3 @@
+pub mod RisingLists
+pub mod WitnessLaws
+pub mod WitnessLemmas
