@@ -112,6 +112,8 @@ def rescued_runs(data):
             runs[-1][1] = end
         elif words[2] == b"+":
             runs.append([first, end])
+    if end is None:
+        refuse("no runs")
     return runs
 
 

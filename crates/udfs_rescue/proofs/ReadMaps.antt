@@ -10,7 +10,7 @@ use Rattle.udfs_rescue.specs.declared.fault.MapFault.TheVariants.{NotPass}
 use Rattle.udfs_rescue.specs.declared.run.Run.{Run}
 use Rattle.udfs_rescue.specs.declared.run.RunStatus.{RunStatus}
 use Rattle.udfs_rescue.specs.declared.run.RunStatus.TheVariants.{NonTried, NonTrimmed, NonScraped, BadSector, Finished}
-use Rattle.udfs_rescue.specs.Lines.{Progress, mark, is_mark, text_of, lines_of, outcome, after_lines, after_line, after_text, after_words, after_run, next_line, is_due, unlike}
+use Rattle.udfs_rescue.specs.Lines.{Progress, mark, is_mark, text_of, lines_of, outcome, after_lines, after_line, after_text, after_words, after_run, next_line, line_before, ended, is_due, unlike}
 use Rattle.udfs_rescue.specs.Writing.{status_byte, joined_run, block_run, runs_of_blocks, run_line, run_lines, made_by, mark_line, status_line, map_text, wanted_status, table_status, state_status}
 use Rattle.udfs_rescue.specs.Words.{words}
 use Rattle.udfs_rescue.specs.Known.{IsRescued, IsKnown}
@@ -56,14 +56,17 @@ line_taken : (due : Option ℕ) (runs : List Run) (r : Run) → is_due due r.at 
 line_taken due runs r is some few =
     chosen (is_mark (line_text r)) false (Err NotPass) (after_text (behind due runs) (text_of (line_text r))) (no_mark_line r) ∙ text_taken due runs r is some few
 
-lines_taken : (n : ℕ) (due : Option ℕ) (runs rs : List Run) → Follow due rs → after_lines n (behind due runs) (lines_of (run_lines rs)) ≡ Ok (runs ++ rs)
+has_runs : (n : ℕ) (runs : List Run) → 0 < length runs → ended n runs ≡ Ok runs
+has_runs n runs some = chosen (eqb (length runs) 0) false _ (Ok runs) (ne_eqb (length runs) 0 (λ e. omega (arith, e, some)))
+
+lines_taken : (n : ℕ) (due : Option ℕ) (runs rs : List Run) → Follow due rs → 0 < length (runs ++ rs) → after_lines n (behind due runs) (lines_of (run_lines rs)) ≡ Ok (runs ++ rs)
 unfolding is_mark mark
-lines_taken n due runs [] h = ap Ok (sym (append-nil runs))
-lines_taken n due runs (r ∷ rs) h =
+lines_taken n due runs [] h some = has_runs (line_before (next_line n)) runs (subst (λ l. 0 < length l) (append-nil runs) some) ∙ ap Ok (sym (append-nil runs))
+lines_taken n due runs (r ∷ rs) h some =
     line_ok n (behind due runs) (behind (Some (r.at + r.size)) (runs ++ r ∷ [])) (line_text r) (lines_of (run_line r ++ run_lines rs)) (lines_of (run_lines rs))
     (ap lines_of (line_is r (run_lines rs)) ∙ line_of (line_text r) (run_lines rs) (written_line r))
     (line_taken due runs r h.0 h.1 h.2)
-    ∙ lines_taken (next_line n) (Some (r.at + r.size)) (runs ++ r ∷ []) rs h.3
+    ∙ lines_taken (next_line n) (Some (r.at + r.size)) (runs ++ r ∷ []) rs h.3 (subst (λ l. 0 < length l) (sym (append_assoc runs (r ∷ []) rs)) some)
     ∙ ap Ok (append_assoc runs (r ∷ []) rs)
 
 headed : (rest : List ℕ) → outcome ((made_by ++ status_line) ++ rest) ≡ after_lines 3 (behind None []) (lines_of rest)
@@ -80,6 +83,10 @@ Tiled p (r ∷ rs) e = (r.at ≡ p) × (0 < r.size) × Tiled (p + r.size) rs e
 tiled_up : (p : ℕ) (rs : List Run) (e : ℕ) → Tiled p rs e → p ≤ e
 tiled_up p [] e h = omega (arith, h)
 tiled_up p (r ∷ rs) e h = omega (arith, tiled_up (p + r.size) rs e h.2)
+
+some_tiled : (p : ℕ) (rs : List Run) (e : ℕ) → Tiled p rs e → p < e → 0 < length rs
+some_tiled p [] e h low = absurd (omega (arith, h, low))
+some_tiled p (r ∷ rs) e h low = omega arith
 
 follow : (due : Option ℕ) (p : ℕ) (rs : List Run) (e : ℕ) → Tiled p rs e → e < 2 ^ 36 → is_due due p ≡ true → Follow due rs
 follow due p [] e h few is = tt
@@ -111,6 +118,7 @@ reads status last low =
     let tiled = blocks_tile status 0 (last + 1) in
     headed (run_lines (runs_of_blocks status 0 (last + 1)))
     ∙ lines_taken 3 None [] (runs_of_blocks status 0 (last + 1)) (follow None (2048 * 0) (runs_of_blocks status 0 (last + 1)) (2048 * (0 + (last + 1))) tiled (omega (arith, low)) refl)
+    (some_tiled (2048 * 0) (runs_of_blocks status 0 (last + 1)) (2048 * (0 + (last + 1))) tiled (omega arith))
 
 -- ---- what is rescued in them
 

@@ -4,13 +4,13 @@ use Rattle.std.proofs.lemmas.Bool.{eq-eqb, ne_eqb, lt-ltb, cases_lt}
 use Rattle.std.specs.Prelude.{◌&&◌, ◌||◌}
 use Rattle.std.specs.Str.{bytes_eq}
 use Rattle.udfs_rescue.specs.declared.run.Run.{Run}
-use Rattle.udfs_rescue.specs.declared.fault.MapFault.TheVariants.{NotPass}
+use Rattle.udfs_rescue.specs.declared.fault.MapFault.TheVariants.{NoRuns, NotPass}
 use Rattle.udfs_rescue.specs.declared.fault.MapError.{MapError}
 use Rattle.udfs_rescue.specs.declared.fault.MapError.TheVariants as errors
 use Rattle.udfs_rescue.specs.declared.fault.LineFault.{LineFault}
 use Rattle.udfs_rescue.specs.declared.stream.MapReader.{MapReader}
 use Rattle.udfs_rescue.specs.Words.{words}
-use Rattle.udfs_rescue.specs.Lines.{Progress, nothing, outcome, mark, is_mark, after_words, after_text, after_line, unlike, text_of, after_lines, with_first, onto, lines_of}
+use Rattle.udfs_rescue.specs.Lines.{Progress, nothing, outcome, mark, is_mark, after_words, after_text, after_line, unlike, text_of, line_before, after_lines, with_first, onto, lines_of}
 use Rattle.udfs_rescue.specs.Held.{Keeps}
 use Rattle.udfs_rescue.specs.Views.{Refuses}
 use Rattle.udfs_rescue.specs.Stream.{StandsFor, EndsLine, LineFails, comes_to}
@@ -99,9 +99,18 @@ stands_new r n v f k =
 pub last_end : (line : List ℕ) → onto line (lines_of []) ≡ line ∷ []
 last_end line = ap (λ l. l ∷ []) (append-nil line)
 
-pub finish_ok : (old new : MapReader) (says : List ℕ → Result (List Run) LineFault) → EndsLine old new → StandsFor old says → says [] ≡ Ok new.runs.runs
-finish_ok old new says h s =
+-- there is a run, or none
+pub finish_ok : (old new : MapReader) (says : List ℕ → Result (List Run) LineFault) → EndsLine old new → StandsFor old says → eqb (length new.runs.runs) 0 ≡ false → says [] ≡ Ok new.runs.runs
+finish_ok old new says h s some =
     s.left [] ∙ line_ok old.line old.runs new.runs s.line _ [] (last_end s.line) (sym (kept_so old s.line s.front s.keeps) ∙ h.took)
+    ∙ chosen (eqb (length new.runs.runs) 0) false _ (Ok new.runs.runs) some
+
+pub finish_none : (old new : MapReader) (says : List ℕ → Result (List Run) LineFault) → EndsLine old new → StandsFor old says → eqb (length new.runs.runs) 0 ≡ true
+    → says [] ≡ Err (record { line = line_before new.line; fault = NoRuns })
+finish_none old new says h s none =
+    s.left [] ∙ line_ok old.line old.runs new.runs s.line _ [] (last_end s.line) (sym (kept_so old s.line s.front s.keeps) ∙ h.took)
+    ∙ chosen (eqb (length new.runs.runs) 0) true _ (Ok new.runs.runs) none
+    ∙ ap (λ n. Err (record { line = line_before n; fault = NoRuns })) (sym h.next)
 
 pub finish_fails : (old : MapReader) (says : List ℕ → Result (List Run) LineFault) (e : MapError) → LineFails old e → StandsFor old says → Refuses e (says [])
 finish_fails old says errors.OutOfMemory h s = tt

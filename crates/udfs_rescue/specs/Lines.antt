@@ -1,11 +1,11 @@
 -- What the lines of a mapfile say, and the first fault.
-use Rattle.std.specs.Prelude.{◌≡◌, ℕ, ◌+◌, ◌^◌, ◌%◌, Bool, true, false, not, List, [], ◌∷◌, ◌++◌, length, Option, Some, None, Result, Ok, Err, nat_lt, ◌==◌, ◌&&◌, ◌||◌, if◌then◌else◌, codes}
+use Rattle.std.specs.Prelude.{◌≡◌, ℕ, ◌+◌, ◌-◌, ◌^◌, ◌%◌, Bool, true, false, not, List, [], ◌∷◌, ◌++◌, length, Option, Some, None, Result, Ok, Err, nat_lt, ◌==◌, ◌&&◌, ◌||◌, if◌then◌else◌, codes}
 use Rattle.std.specs.Str.{bytes_eq}
 use Rattle.udfs_rescue.specs.declared.run.Run.{Run}
 use Rattle.udfs_rescue.specs.declared.run.RunStatus.{RunStatus}
 use Rattle.udfs_rescue.specs.declared.run.RunStatus.TheVariants.{NonTried, NonTrimmed, NonScraped, BadSector, Finished}
 use Rattle.udfs_rescue.specs.declared.fault.MapFault.{MapFault}
-use Rattle.udfs_rescue.specs.declared.fault.MapFault.TheVariants.{NotStatusLine, NotRun, TooLarge, NotContiguous, SizeZero, NotPass}
+use Rattle.udfs_rescue.specs.declared.fault.MapFault.TheVariants.{NotStatusLine, NotRun, TooLarge, NotContiguous, SizeZero, NoRuns, NotPass}
 use Rattle.udfs_rescue.specs.declared.fault.LineFault.{LineFault}
 use Rattle.udfs_rescue.specs.Numbers.{number_of, decimal_of}
 use Rattle.udfs_rescue.specs.Words.{is_blank, skip, words}
@@ -159,9 +159,17 @@ lines_of (b ∷ bs) = if b == 10 then [] ∷ lines_of bs else with_first b (line
 abbrev pub next_line : ℕ → ℕ
 next_line n = (n + 1) % 2 ^ 64
 
+-- and the line before is the one that comes to it
+abbrev pub line_before : ℕ → ℕ
+line_before n = (n + (2 ^ 64 - 1)) % 2 ^ 64
+
+-- what a mapfile comes to that ends with this line: its runs, or its fault where it has none
+abbrev pub ended : ℕ → List Run → Result (List Run) LineFault
+ended n runs = if length runs == 0 then Err (record { line = n; fault = NoRuns }) else Ok runs
+
 -- the runs, or the first fault and its line, of these lines, the first of which has number n, after the lines that came to p
 abbrev pub after_lines : ℕ → Progress → List (List ℕ) → Result (List Run) LineFault
-after_lines n p [] = Ok p.runs
+after_lines n p [] = ended (line_before n) p.runs
 after_lines n p (line ∷ lines) = elim (after_line p line) as (λ r. Result (List Run) LineFault) [ Ok q ↦ after_lines (next_line n) q lines | Err fault ↦ Err (record { line = n; fault = fault }) ]
 
 -- the outcome for every list of bytes

@@ -20,6 +20,9 @@ pub enum MapFault {
     /// A run of no bytes, at a position other than 0.
     #[error("run of size 0")]
     SizeZero,
+    /// The mapfile ends without a run: it is empty, or has comments and a status line alone. The line is its last one, which may be empty.
+    #[error("no runs")]
+    NoRuns,
     /// The comment of a list of blocks to read again, which `write_domain` writes: no drive has read what it marks `+`.
     #[error("blocks to read again, not a pass")]
     NotPass,

@@ -1,6 +1,6 @@
 //! What one line of a mapfile says.
 
-ghost use Rattle.std.specs.Prelude.{◌≡◌, ℕ, Option, Some, None, IfSome, IfNone};
+ghost use Rattle.std.specs.Prelude.{◌≡◌, ◌==◌, ℕ, length, Option, Some, None, IfSome, IfNone};
 ghost use Rattle.udfs_rescue.specs.declared.line.StepError.TheVariants.{OutOfMemory};
 ghost use Rattle.udfs_rescue.specs.Numbers.{capped};
 ghost use Rattle.udfs_rescue.specs.Words.{words};
@@ -173,6 +173,13 @@ impl MapRuns {
             due: None,
             runs: Vec::new(alloc),
         }
+    }
+
+    /// Whether none of the lines so far is a run.
+    pub fn is_empty(&self) -> bool
+        ensures { result ≡ (length self.now.runs == 0) }
+    {
+        self.runs.is_empty()
     }
 
     /// The mapfile of the lines so far.

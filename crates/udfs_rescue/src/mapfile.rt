@@ -1,6 +1,6 @@
 //! A mapfile, read from a source.
 
-ghost use Rattle.std.specs.Prelude.{◌≡◌, ◌≢◌, ◌↔◌, ℕ, List, IfSome, IfErr, IsErrOf};
+ghost use Rattle.std.specs.Prelude.{◌≡◌, ◌≢◌, ◌↔◌, ◌<◌, ℕ, List, length, IfSome, IfOk, IfErr, IsErrOf};
 ghost use Rattle.udfs_reading.specs.Answers.{HadGiven};
 ghost use Rattle.udfs_rescue.specs.declared.fault.MapError.TheVariants.{Io};
 ghost use Rattle.udfs_rescue.specs.Lines.{outcome, HasNoFaultYet};
@@ -37,7 +37,8 @@ impl Model for Mapfile {
 
 /// Reads to the end of the source.
 fn read_lines<R: Source>(alloc: Global, source: &mut R) -> Result<Mapfile, MapError>
-    ensures { ReadsMap (R.remaining source.old) (R.remaining source.new) (R.faults source.old) (R.faults source.new) result }
+    ensures reads { ReadsMap (R.remaining source.old) (R.remaining source.new) (R.faults source.old) (R.faults source.new) result }
+    ensures some { IfOk result (λ runs. 0 < length runs) }
 {
     let mut reader = MapReader::new(alloc);
     let mut piece = [0u8; 4096];
@@ -70,12 +71,14 @@ impl Mapfile {
     ///
     /// # Errors
     ///
-    /// `Line` with the first fault of the mapfile and its line. `Io` exactly where the source failed; the lines that
+    /// `Line` with the first fault of the mapfile and its line; a mapfile without a run is one, at its last line. `Io` exactly where the source failed; the lines that
     /// had come whole have no fault then. `OutOfMemory` where there is no memory for another run, or where the source
     /// has not ended after 2^64 - 1 reads. After an error the source is read no further.
     pub fn read<R: Source>(alloc: Global, source: &mut R) -> Result<Mapfile, MapError>
         // The runs, or the first fault, are those of the bytes.
         ensures outcome { IfSome (R.remaining source.old) (λ bytes. ReadsRuns result (outcome bytes)) }
+        // There is a run: a file that is empty, or has none, is no mapfile.
+        ensures some { IfOk result (λ runs. 0 < length runs) }
         // It is the source that failed exactly where its count changed.
         ensures io { IsErrOf result Io ↔ (R.faults source.new ≢ R.faults source.old) }
         ensures kept { ¬ IsErrOf result Io → R.faults source.new ≡ R.faults source.old }
@@ -94,7 +97,7 @@ impl Mapfile {
         &self.runs
     }
 
-    /// Where the last run ends, in bytes; `None` where there is no run.
+    /// Where the last run ends, in bytes. `None` where there is no run, as in no mapfile that was read.
     pub fn end(&self) -> Option<u64>
         ensures { result ≡ end_of_runs self.now }
     {

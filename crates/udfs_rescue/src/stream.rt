@@ -1,6 +1,6 @@
 //! A mapfile that comes byte by byte. Memory grows with its runs alone.
 
-ghost use Rattle.std.specs.Prelude.{◌≡◌, ℕ, List, [], ◌∷◌, ◌++◌, Result, OnOk, IfOk, IfErr, take};
+ghost use Rattle.std.specs.Prelude.{◌≡◌, ◌<◌, ℕ, List, [], ◌∷◌, ◌++◌, Result, OnOk, IfOk, IfErr, length, take};
 ghost use Rattle.udfs_rescue.specs.declared.fault.LineFault.{LineFault};
 ghost use Rattle.udfs_rescue.specs.declared.run.Run.{Run};
 ghost use Rattle.udfs_rescue.specs.Lines.{outcome};
@@ -107,13 +107,21 @@ impl MapReader {
         Ok(())
     }
 
-    /// The runs, where no byte follows.
+    /// The runs, where no byte follows. Without a run that is an error.
     pub fn finish(mut self) -> Result<Mapfile, MapError>
-        ensures { (says : List ℕ → Result (List Run) LineFault) → StandsFor self says → Parses result (says []) }
+        ensures says { (says : List ℕ → Result (List Run) LineFault) → StandsFor self says → Parses result (says []) }
+        ensures some { IfOk result (λ runs. 0 < length runs) }
     {
         match self.end_line() {
-            Ok(()) => Ok(self.runs.into_mapfile()),
-            Err(e) => Err(e),
+            Ok(()) => {}
+            Err(e) => return Err(e),
         }
+        if self.runs.is_empty() {
+            return Err(MapError::Line(LineFault {
+                line: self.line.wrapping_sub(1),
+                fault: MapFault::NoRuns,
+            }));
+        }
+        Ok(self.runs.into_mapfile())
     }
 }

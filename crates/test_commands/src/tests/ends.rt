@@ -108,11 +108,11 @@ $ summary --ddrescue a.img c.map --ddrescue b.img b.map
 
 $ list --ddrescue a.img odd.map
 
-$ reread --ddrescue a.img none.map
+$ reread --ddrescue a.img zero.map
 
 $ extract --to out --ddrescue a.img zero.map
 
-$ image --out i.img --mapfile i.map --ddrescue a.img none.map
+$ image --out i.img --mapfile i.map --ddrescue a.img zero.map
 
 = the_inputs_are_judged_first
 # What is wrong with the inputs is told before it, and a number that is none of a disc after it.
@@ -120,6 +120,9 @@ $ image --out i.img --mapfile i.map --ddrescue a.img none.map
 
 $ report --ddrescue a.img bad.map
 refused udfsalvage: input 1: mapfile line 2: not a run\n
+
+$ reread --ddrescue a.img none.map
+refused udfsalvage: input 1: mapfile line 2: no runs\n
 
 $ report --ddrescue a.img a.map --ddrescue b.img absent.map
 refused udfsalvage: cannot open input 2\n

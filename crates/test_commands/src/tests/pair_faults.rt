@@ -17,6 +17,15 @@ file t.map text 0 0x800 +\n
 $ merge --out t.tab --ddrescue p.img p.map --ddrescue p.img t.map
 refused udfsalvage: input 2: mapfile line 1: not a status line\n
 
+# A mapfile that is empty, or has no run, is no pass that has read nothing.
+file t.map text
+$ merge --out t.tab --ddrescue p.img p.map --ddrescue p.img t.map
+refused udfsalvage: input 2: mapfile line 1: no runs\n
+
+file t.map text # Mapfile. Created by GNU ddrescue\n0 + 1\n# pos size status\n
+$ merge --out t.tab --ddrescue p.img p.map --ddrescue p.img t.map
+refused udfsalvage: input 2: mapfile line 4: no runs\n
+
 file t.map text # c\r\n\r\n0 + 0\r\n
 $ merge --out t.tab --ddrescue p.img p.map --ddrescue p.img t.map
 refused udfsalvage: input 2: mapfile line 3: not a status line\n

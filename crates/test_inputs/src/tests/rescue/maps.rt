@@ -85,10 +85,7 @@ fn whole_maps(rt: HostRuntime) -> Result<(), Fail> {
         is_range(rt, b"0 +\n0 0 ?\n0 0x800 +\n", 0, 1),
         "size 0 at 0",
     );
-    assert_case(&rt, is_none(rt, b""), "empty");
-    assert_case(&rt, is_none(rt, b"# c\n"), "a comment");
-    assert_case(&rt, is_none(rt, b"0 +\n"), "a status line");
-    assert_case(&rt, is_none(rt, b"0 +\n0 0 ?\n"), "an empty map");
+    assert_case(&rt, is_none(rt, b"0 +\n0 0 ?\n"), "a run of no bytes");
     assert_case(
         &rt,
         is_none(
@@ -171,6 +168,28 @@ fn faults(rt: HostRuntime) -> Result<(), Fail> {
         &rt,
         is_fault(rt, b"0 +\n0 5 ?\n6 0 ?\n", 3, MapFault::NotContiguous),
         "a gap comes before size 0",
+    );
+    Ok(())
+}
+
+/// A mapfile without a run is none: the fault is at its last line, the one behind the last line feed.
+#[test]
+fn no_runs(rt: HostRuntime) -> Result<(), Fail> {
+    let no_runs = MapFault::NoRuns;
+    assert_case(&rt, is_fault(rt, b"", 1, no_runs), "empty");
+    assert_case(&rt, is_fault(rt, b"\n", 2, no_runs), "a line feed");
+    assert_case(&rt, is_fault(rt, b"# c", 1, no_runs), "a comment");
+    assert_case(&rt, is_fault(rt, b"# c\n", 2, no_runs), "and its line feed");
+    assert_case(&rt, is_fault(rt, b"0 +\n", 2, no_runs), "a status line");
+    assert_case(
+        &rt,
+        is_fault(rt, b"# c\n0 + 1\n#  pos  size  status\n", 4, no_runs),
+        "the front of what ddrescue writes",
+    );
+    assert_case(
+        &rt,
+        is_fault(rt, b"0 x", 1, MapFault::NotStatusLine),
+        "an earlier fault",
     );
     Ok(())
 }
@@ -307,12 +326,15 @@ fn what_a_map_tells(rt: HostRuntime) -> Result<(), Fail> {
     let map = read(rt, b"0 +\n0 2048 +\n2048 512 -\n")?;
     assert_same(&rt, map.end(), Some(2560));
     assert_eq!(rt; map.runs().len(), 2);
-    let none = read(rt, b"0 +\n")?;
-    assert_same(&rt, none.end(), None);
     let fault = match read(rt, b"0 +\n1 0 ?\n") {
         Ok(_) => String::new(alloc),
         Err(e) => e.to_string(alloc)?,
     };
     assert_same(&rt, fault.as_str(), "mapfile line 2: run of size 0");
+    let fault = match read(rt, b"0 +\n") {
+        Ok(_) => String::new(alloc),
+        Err(e) => e.to_string(alloc)?,
+    };
+    assert_same(&rt, fault.as_str(), "mapfile line 2: no runs");
     Ok(())
 }

@@ -132,9 +132,9 @@ fn the_bytes_of_a_pair(rt: HostRuntime) -> Result<(), Fail> {
 }
 
 #[test]
-fn an_empty_map_is_an_empty_reading(rt: HostRuntime) -> Result<(), Fail> {
+fn a_map_that_rescued_nothing_is_an_empty_reading(rt: HostRuntime) -> Result<(), Fail> {
     let alloc = rt.alloc();
-    let mut pair = pair_of(alloc, &[], 1, u64::MAX, b"")?;
+    let mut pair = pair_of(alloc, &[], 1, u64::MAX, b"0 + 1\n0 2048 ?\n")?;
     let table = read_input(alloc, &mut pair)?;
     assert_same(&rt, table.known(), 0);
     Ok(())
