@@ -1,0 +1,4 @@
+pub mod Disk
+pub mod Files
+pub mod Log
+pub mod Paths
