@@ -81,10 +81,10 @@ the_end contents = refl
 
 copies_by : (contents : ℕ → Bytes) (i : ℕ) → IsThroughEnd (revised contents) 600 extents i → SaysTheSame (revised contents) (32 + i) (48 + i)
 unfolding polynomial reduced crc_of tag_of
-copies_by contents zero h = record { soundness = refl; identifiers = λ e. refl; contents = λ e. refl }
-copies_by contents (suc zero) h = record { soundness = refl; identifiers = λ e. refl; contents = λ e. refl }
-copies_by contents (suc (suc zero)) h = record { soundness = refl; identifiers = λ e. refl; contents = λ e. refl }
-copies_by contents (suc (suc (suc zero))) h = record { soundness = refl; identifiers = λ e. refl; contents = λ e. refl }
+copies_by contents zero h = record { soundness = refl; identifiers = λ e. refl; contents = λ e r. refl }
+copies_by contents (suc zero) h = record { soundness = refl; identifiers = λ e. refl; contents = λ e r. refl }
+copies_by contents (suc (suc zero)) h = record { soundness = refl; identifiers = λ e. refl; contents = λ e r. refl }
+copies_by contents (suc (suc (suc zero))) h = record { soundness = refl; identifiers = λ e. refl; contents = λ e r. refl }
 copies_by contents (suc (suc (suc (suc i)))) h = absurd (let t : true ≡ false = sym (h.before 3 (omega arith)) ∙ the_end contents in let z : ⊥ = cc in z)
 
 -- ---- the layout

@@ -18,6 +18,8 @@ use Rattle.udfs_volume.specs.Layout.{Layout, layout_by, layout_of}
 use Rattle.udfs_volume.specs.Laws.{LayoutLawBy, IsLawfulLayoutBy, IsThroughEnd, IsPair, IsSequenceGroup, valid_anchors, IsAnswerOf, the_same}
 use Rattle.udfs_lattice.proofs.PublicLaws.{ascending_contains, complete_agrees}
 use Rattle.udfs_volume.proofs.Known.{complete-known, true_false, both, some_in, Includes-filter, Includes-from_filter, FirstAnchor, one_known, none_known, first_anchor_lem}
+use Rattle.udfs_volume.proofs.Needed.{needed, goes_needed}
+use Rattle.udfs_volume.proofs.NeededLayouts.{reads_needed, layout_by_needed}
 use Rattle.udfs_volume.proofs.Positions.{PositionIs, same, neither, position_lem, before, read-on, read-stop}
 use Rattle.udfs_volume.specs.Laws.IsAnswerOf.{unread as unread_answer}
 
@@ -207,37 +209,47 @@ row T e i = position T (e.main.block + i) (e.reserve.block + i)
 abbrev count : AnchorExtents → ℕ
 count e = e.main.length / 2048
 
-through_end : (V : Volume) (N : ℕ) (e : AnchorExtents) (i : ℕ) → Through (row (complete V N) e) 0 (count e) i → IsThroughEnd V N e i
-through_end V N e i (l, h, all) = record { inside = omega arith; before = λ j x. all j (omega arith) x }
+-- what the layout needs of each position
+abbrev needs : Blocks → AnchorExtents → ℕ → Position
+needs T e i = needed (row T e i)
 
-from_through_end : (V : Volume) (N : ℕ) (e : AnchorExtents) (i : ℕ) → IsThroughEnd V N e i → Through (row (complete V N) e) 0 (count e) i
-from_through_end V N e i t = (omega arith, (let h : i < e.main.length / 2048 = t.inside in omega arith), λ j l x. t.before j x)
+through_end : (V : Volume) (N : ℕ) (e : AnchorExtents) (i : ℕ) → Through (needs (complete V N) e) 0 (count e) i → IsThroughEnd V N e i
+through_end V N e i (l, h, all) = record { inside = omega arith; before = λ j x. sym (goes_needed (row (complete V N) e j)) ∙ all j (omega arith) x }
+
+from_through_end : (V : Volume) (N : ℕ) (e : AnchorExtents) (i : ℕ) → IsThroughEnd V N e i → Through (needs (complete V N) e) 0 (count e) i
+from_through_end V N e i t = (omega arith, (let h : i < e.main.length / 2048 = t.inside in omega arith), λ j l x. goes_needed (row (complete V N) e j) ∙ t.before j x)
+
+-- with the anchor's extents, the layout is what the positions give, by what it needs of them
+needed_at : (profile : Profile) (T : Blocks) (N : ℕ) (e : AnchorExtents) → anchor T N ≡ found e → are_extents N e ≡ true
+    → layout_by profile T N ≡ and_then (read_positions (map (needs T e) (range_with_len 0 (count e)))) (layout_of profile N)
+needed_at profile T N e q b = layout_at profile T N e q b ∙ sym (layout_by_needed profile N (read_positions (positions T e)))
+    ∙ sym (ap (λ x. and_then x (layout_of profile N)) (reads_needed (row T e) (range_with_len 0 (count e))))
 
 -- the rows of positions of a table that has the volume's extents, beside the complete ones
 rows_alike : (profile : Profile) (M : Blocks) (V : Volume) (N : ℕ) → Agrees M V N → IsLawfulLayoutBy profile V N → (e : AnchorExtents)
     → anchor (complete V N) N ≡ found e → are_extents N e ≡ true
-    → ReadsAlike (row M e) (row (complete V N) e) (λ i. ascending (pair e i)) (λ i. IsHere M (pair e i)) (AreUnread M e) 0 (count e)
-rows_alike profile M V N a lw e q b = reads_alike (row M e) (row (complete V N) e) (λ i. ascending (pair e i)) (λ i. IsHere M (pair e i)) (AreUnread M e) 0 (count e) each
+    → ReadsAlike (needs M e) (needs (complete V N) e) (λ i. ascending (pair e i)) (λ i. IsHere M (pair e i)) (AreUnread M e) 0 (count e)
+rows_alike profile M V N a lw e q b = reads_alike (needs M e) (needs (complete V N) e) (λ i. ascending (pair e i)) (λ i. IsHere M (pair e i)) (AreUnread M e) 0 (count e) each
   where
     fits : (i : ℕ) → i < 0 + count e → e.main.block + i ≤ N
     fits i h = let m : e.main.block + e.main.length / 2048 ≤ N + 1 = main_fits N e b in omega arith
 
     tell : (i : ℕ) → PositionIs M V N (e.main.block + i) (e.reserve.block + i)
-        → Alike (row M e) (row (complete V N) e) (λ i. ascending (pair e i)) (λ i. IsHere M (pair e i)) (AreUnread M e) i
+        → Alike (needs M e) (needs (complete V N) e) (λ i. ascending (pair e i)) (λ i. IsHere M (pair e i)) (AreUnread M e) i
     tell i (same p n h k) = inl (p, (n, contained (pair e i) n h, (V n, k)))
-    tell i (neither p u v) = inr (p, (u, v))
+    tell i (neither p u v) = inr (ap needed p, (u, v))
 
-    each : (i : ℕ) → Through (row (complete V N) e) 0 (count e) i
-        → Alike (row M e) (row (complete V N) e) (λ i. ascending (pair e i)) (λ i. IsHere M (pair e i)) (AreUnread M e) i
+    each : (i : ℕ) → Through (needs (complete V N) e) 0 (count e) i
+        → Alike (needs M e) (needs (complete V N) e) (λ i. ascending (pair e i)) (λ i. IsHere M (pair e i)) (AreUnread M e) i
     each i t = tell i (position_lem M V N a (e.main.block + i) (e.reserve.block + i) (fits i t.1) (lw.copies e i q (through_end V N e i t)))
 
 answer_with : (profile : Profile) (M : Blocks) (V : Volume) (N : ℕ) → IsLawfulLayoutBy profile V N → (e : AnchorExtents)
     → anchor (complete V N) N ≡ found e → anchor M N ≡ found e → are_extents N e ≡ true
     → IsHere M (valid_anchors V N)
-    → ReadsAlike (row M e) (row (complete V N) e) (λ i. ascending (pair e i)) (λ i. IsHere M (pair e i)) (AreUnread M e) 0 (count e)
+    → ReadsAlike (needs M e) (needs (complete V N) e) (λ i. ascending (pair e i)) (λ i. IsHere M (pair e i)) (AreUnread M e) 0 (count e)
     → IsAnswerOf M (valid_anchors V N) (anchor_places N) (IsSequenceGroup V N) (layout_by profile M N) (layout_by profile (complete V N) N)
 answer_with profile M V N lw e q r b here (all_same eq all) = the_same
-    (layout_at profile M N e r b ∙ ap (λ x. and_then x (layout_of profile N)) eq ∙ sym (layout_at profile (complete V N) N e q b)) groups
+    (needed_at profile M N e r b ∙ ap (λ x. and_then x (layout_of profile N)) eq ∙ sym (needed_at profile (complete V N) N e q b)) groups
   where
     at_pair : (x : AnchorExtents) → e ≡ x → (i : ℕ) → IsThroughEnd V N x i → IsHere M (pair x i)
     at_pair x p = let Q : AnchorExtents → Type 0 = λ x. (i : ℕ) → IsThroughEnd V N x i → IsHere M (pair x i) in
@@ -247,7 +259,7 @@ answer_with profile M V N lw e q r b here (all_same eq all) = the_same
     groups g (inl p) = subst (IsHere M) (sym p) here
     groups g (inr p) = subst (IsHere M) (sym p.is) (at_pair p.extents (found_same e p.extents (sym q ∙ p.from)) p.place p.through)
 answer_with profile M V N lw e q r b here (one_unread i t eq u) = unread_answer (ascending (pair e i))
-    (layout_at profile M N e r b ∙ ap (λ x. and_then x (layout_of profile N)) eq)
+    (needed_at profile M N e r b ∙ ap (λ x. and_then x (layout_of profile N)) eq)
     (record {
       group = pair e i;
       is_group = inr a_pair;

@@ -81,21 +81,21 @@ the_end maps contents = refl
 
 same_0 : (maps : Maps) (contents : ℕ → Bytes) → SaysTheSame (sample maps contents) 32 48
 unfolding polynomial reduced crc_of tag_of
-same_0 one_type1 contents = record { soundness = refl; identifiers = λ e. refl; contents = λ e. refl }
-same_0 one_sparable contents = record { soundness = refl; identifiers = λ e. refl; contents = λ e. refl }
-same_0 type1_and_sparable contents = record { soundness = refl; identifiers = λ e. refl; contents = λ e. refl }
+same_0 one_type1 contents = record { soundness = refl; identifiers = λ e. refl; contents = λ e r. refl }
+same_0 one_sparable contents = record { soundness = refl; identifiers = λ e. refl; contents = λ e r. refl }
+same_0 type1_and_sparable contents = record { soundness = refl; identifiers = λ e. refl; contents = λ e r. refl }
 
 same_1 : (maps : Maps) (contents : ℕ → Bytes) → SaysTheSame (sample maps contents) 33 49
 unfolding polynomial reduced crc_of tag_of
-same_1 maps contents = record { soundness = refl; identifiers = λ e. refl; contents = λ e. refl }
+same_1 maps contents = record { soundness = refl; identifiers = λ e. refl; contents = λ e r. refl }
 
 same_2 : (maps : Maps) (contents : ℕ → Bytes) → SaysTheSame (sample maps contents) 34 50
 unfolding polynomial reduced crc_of tag_of
-same_2 maps contents = record { soundness = refl; identifiers = λ e. refl; contents = λ e. refl }
+same_2 maps contents = record { soundness = refl; identifiers = λ e. refl; contents = λ e r. refl }
 
 same_3 : (maps : Maps) (contents : ℕ → Bytes) → SaysTheSame (sample maps contents) 35 51
 unfolding polynomial reduced crc_of tag_of
-same_3 maps contents = record { soundness = refl; identifiers = λ e. refl; contents = λ e. refl }
+same_3 maps contents = record { soundness = refl; identifiers = λ e. refl; contents = λ e r. refl }
 
 copies_by : (maps : Maps) (contents : ℕ → Bytes) (i : ℕ) → IsThroughEnd (sample maps contents) 600 extents i → SaysTheSame (sample maps contents) (32 + i) (48 + i)
 copies_by maps contents zero h = same_0 maps contents
