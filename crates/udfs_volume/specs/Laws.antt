@@ -6,6 +6,7 @@
 --     LayoutBounds, FoundBoundsBy profile       a layout that is found lies within the volume
 --     StandardLayoutBy profile                  with all known it is that of the first anchor and the main sequence
 --     EqualCopiesAreLawfulBy profile            where all copies are equal, the layout is lawful
+--     StrictSequence                            by the strict rules the extents have one length
 --     AscendingRises                            what is listed ascending rises
 -- IsLawfulLayout, LayoutLaw, FoundBounds, StandardLayout and EqualCopiesAreLawful are these by the strict rules.
 use Rattle.std.specs.Prelude.{◌≡◌, ◌≢◌, ℕ, ◌+◌, ◌/◌, ◌<◌, ◌≤◌, ◌||◌, Bool, true, false, nat_eq, List, [], ◌∷◌, filter, map, length, drop, ◌⊎◌, ⊤, Some, Contains}
@@ -17,7 +18,7 @@ use Rattle.udfs_volume.specs.declared.anchors.AnchorExtents.{AnchorExtents}
 use Rattle.udfs_volume.specs.declared.profiles.Profile.{Profile}
 use Rattle.udfs_volume.specs.declared.profiles.Profile.TheVariants.{Strict}
 use Rattle.udfs_volume.specs.Seen.{IsRising}
-use Rattle.udfs_volume.specs.Sequence.{Descriptor, anchor, anchor_places, position, goes_on}
+use Rattle.udfs_volume.specs.Sequence.{Descriptor, anchor, anchor_places, are_extents, position, goes_on, shared}
 use Rattle.udfs_volume.specs.Standard.{standard_anchor, standard_layout_by}
 use Rattle.udfs_volume.specs.Layout.{Layout, Partition, PartitionMap, type1, sparable, repeats_kind, blocks_in, layout_by, layout_of}
 
@@ -27,7 +28,7 @@ valid_anchors volume last = filter (λ n. is_valid (volume n) n 2) (anchor_place
 
 -- position i is before the one that ends the sequence, or is that one
 pub record IsThroughEnd (volume : Volume) (last : ℕ) (e : AnchorExtents) (i : ℕ) : Type 0 where
-  pub inside : i < e.main.length / 2048
+  pub inside : i < (shared e).main.length / 2048
   pub before : (j : ℕ) → j < i → goes_on (position (complete volume last) (e.main.block + j) (e.reserve.block + j)) ≡ true
 
 -- whether the layout is read from descriptors of this kind: partition descriptors (5) and logical volume descriptors (6; ECMA-167 3/7.2.1)
@@ -164,6 +165,10 @@ StandardLayoutBy profile = (volume : Volume) (last : ℕ) → IsVolume volume la
 -- the same by the strict rules
 abbrev pub StandardLayout : Type 0
 StandardLayout = StandardLayoutBy Strict
+
+-- by the strict rules both extents have one length, so the sequence has all of their blocks
+abbrev pub StrictSequence : Type 0
+StrictSequence = (last : ℕ) (e : AnchorExtents) → are_extents last e ≡ true → shared e ≡ e
 
 -- the ascending list of some numbers rises strictly
 abbrev pub AscendingRises : Type 0

@@ -4,7 +4,7 @@ ghost use Rattle.udfs_lattice.specs.declared.facts.Fact.TheVariants.{Unknown};
 ghost use Rattle.udfs_volume.specs.Answers.{holes};
 ghost use Rattle.udfs_volume.specs.Layout.{layout};
 ghost use Rattle.udfs_volume.specs.Sequence.{anchor_places};
-ghost use Rattle.udfs_volume.specs.Laws.{AscendingRises, EqualCopiesAreLawful, EqualCopiesAreLawfulBy, FoundBounds, FoundBoundsBy, LayoutBounds, LayoutLaw, LayoutLawBy, StandardLayout, StandardLayoutBy};
+ghost use Rattle.udfs_volume.specs.Laws.{AscendingRises, EqualCopiesAreLawful, EqualCopiesAreLawfulBy, FoundBounds, FoundBoundsBy, LayoutBounds, LayoutLaw, LayoutLawBy, StandardLayout, StandardLayoutBy, StrictSequence};
 ghost use Rattle.udfs_volume.specs.declared.profiles.Profile.{Profile};
 ghost use Rattle.udfs_volume.specs.Primaries.{PrimariesMayDiffer};
 ghost use Rattle.udfs_volume.specs.Sample.{SampleLayout};
@@ -58,4 +58,9 @@ pub fn equal_copies_are_lawful()
 /// set identifiers.
 pub fn primaries_may_differ()
     ensures { PrimariesMayDiffer }
+{}
+
+/// By the strict rules both extents of an anchor have one length, so the sequence has all of their blocks.
+pub fn strict_sequence()
+    ensures { StrictSequence }
 {}
