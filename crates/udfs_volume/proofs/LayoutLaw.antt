@@ -290,6 +290,20 @@ found_anchor : (M : Blocks) (V : Volume) (N n m : ℕ) → first_anchor M (ancho
 unfolding anchor
 found_anchor M V N n m f p = ap (λ o. anchor_or o (not_known M (anchor_places N))) f ∙ ap found (same_extents (V m) (V n) p)
 
+none_of : (e : AnchorExtents) (ns : List ℕ) → anchor_or None ns ≡ found e → ⊥
+none_of e [] x = cc
+none_of e (k ∷ ks) x = cc
+
+-- an anchor that is found by a table that agrees is the volume's
+pub anchor_of_lawful : (profile : Profile) (M : Blocks) (V : Volume) (N : ℕ) → 513 ≤ N → IsLawfulLayoutBy profile V N → Agrees M V N
+    → (e : AnchorExtents) → anchor M N ≡ found e → anchor (complete V N) N ≡ found e
+unfolding anchor
+anchor_of_lawful profile M V N h lw a e p = go (complete_anchor profile V N h lw) (first_anchor_lem M V N a (anchor_places N))
+  where
+    go : (n : ℕ) × Includes (valid_anchors V N) n × (anchor (complete V N) N ≡ found (extents_of (V n))) → FirstAnchor M V (anchor_places N) → anchor (complete V N) N ≡ found e
+    go (n, i, q) (one_known m im vm km fm) = q ∙ sym (found_anchor M V N n m fm (lw.anchors m n (contained (valid_anchors V N) m (is_valid_one V N m im vm)) (contained (valid_anchors V N) n i))) ∙ p
+    go (n, i, q) (none_known f all) = absurd (none_of e (not_known M (anchor_places N)) (sym (ap (λ o. anchor_or o (not_known M (anchor_places N))) f) ∙ p))
+
 pub layout_law : (profile : Profile) → LayoutLawBy profile
 layout_law profile M V N hv lw a = by_complete (complete_anchor profile V N hv.from lw) (first_anchor_lem M V N a (anchor_places N))
   where

@@ -103,7 +103,7 @@ fn is_extent(last: u32, extent: ExtentAd) -> bool
 }
 
 /// Whether the extents are taken: by the strict rules those of [`are_extents`], by the wide ones two of [`is_extent`].
-fn are_extents_by(profile: Profile, last: u32, extents: AnchorExtents) -> bool
+pub(crate) fn are_extents_by(profile: Profile, last: u32, extents: AnchorExtents) -> bool
     requires { last ≤ 4194303 }
     ensures { result ≡ are_extents_by profile last extents }
 {
@@ -114,7 +114,7 @@ fn are_extents_by(profile: Profile, last: u32, extents: AnchorExtents) -> bool
 }
 
 /// Both extents as far as the shorter one goes.
-fn shared(extents: AnchorExtents) -> AnchorExtents
+pub(crate) fn shared(extents: AnchorExtents) -> AnchorExtents
     ensures { result ≡ shared extents }
 {
     let length = if extents.main.length <= extents.reserve.length {
