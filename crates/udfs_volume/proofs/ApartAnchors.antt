@@ -1,6 +1,6 @@
 -- Where known copies differ, no lawful layout agrees with the table.
 use Rattle.std.proofs.Common.{◌≡◌, refl, sym, ◌∙◌, ap, inl, inr, ℕ, Bool, true, false, not, List, [], ◌∷◌, cond, Option, Some, None}
-use Rattle.std.specs.Prelude.{find, is_none, option_map, Contains}
+use Rattle.std.specs.Prelude.{find, option_map, Contains}
 use Rattle.std.specs.Str.{bytes_eq}
 use Rattle.udfs_lattice.specs.States.{State, same_refl}
 use Rattle.udfs_lattice.specs.Volumes.{Agrees, Blocks, Volume}
@@ -9,7 +9,7 @@ use Rattle.udfs_lattice.proofs.Inclusion.{Includes, contained}
 use Rattle.udfs_tag.specs.Fields.{part}
 use Rattle.udfs_tag.specs.Tags.{is_valid}
 use Rattle.udfs_volume.specs.declared.profiles.Profile.{Profile}
-use Rattle.udfs_volume.specs.Differences.{anchors_apart, anchors_differ, apart_from, are_apart, has_anchor, named_at, AnchorsAgreeBy}
+use Rattle.udfs_volume.specs.Differences.{anchors_differ, apart_from, are_apart, has_anchor, named_at, AnchorsAgreeBy}
 use Rattle.udfs_volume.specs.Laws.{IsLawfulLayoutBy, valid_anchors}
 use Rattle.udfs_volume.specs.Sequence.{Bytes, anchor_here, anchor_places}
 use Rattle.udfs_volume.proofs.Known.{Includes-filter}

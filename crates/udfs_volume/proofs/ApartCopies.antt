@@ -1,20 +1,19 @@
 -- The known copies of the sequence of a lawful layout do not differ in what is read of them.
-use Rattle.std.proofs.Common.{◌≡◌, refl, sym, ◌∙◌, ap, subst, inl, inr, ◌⊎◌, ℕ, ◌+◌, ◌-◌, ◌/◌, ◌<◌, ◌≤◌, Bool, true, false, not, ◌&&◌, ◌||◌, nat_eq, List, [], ◌∷◌, drop, arith, Option, Some, None}
+use Rattle.std.proofs.Common.{◌≡◌, refl, sym, ◌∙◌, ap, subst, inl, inr, ◌⊎◌, ℕ, ◌+◌, ◌-◌, ◌/◌, ◌<◌, ◌≤◌, Bool, true, false, not, ◌&&◌, ◌||◌, nat_eq, ◌∷◌, drop, arith}
 use Rattle.std.specs.Prelude.{zero, suc}
 use Rattle.std.specs.List.{list_all, list_any, range_with_len}
 use Rattle.std.specs.Str.{bytes_eq}
 use Rattle.std.proofs.lemmas.Bool.{eq-eqb}
 use Rattle.udfs_lattice.specs.States.{State, same_refl}
-use Rattle.udfs_lattice.specs.Volumes.{Agrees, Blocks, IsVolume, Volume, complete, ascending}
+use Rattle.udfs_lattice.specs.Volumes.{Agrees, Blocks, Volume, complete}
 use Rattle.udfs_lattice.specs.declared.facts.Fact.TheVariants.{Unknown, Known, Conflict}
-use Rattle.udfs_lattice.proofs.Inclusion.{Includes, contained}
 use Rattle.udfs_tag.specs.Tags.{is_sound, identifier}
 use Rattle.udfs_volume.specs.Answers.{Answer, found, holes, faulty, IsHoles}
 use Rattle.udfs_volume.specs.declared.anchors.AnchorExtents.{AnchorExtents}
 use Rattle.udfs_volume.specs.declared.profiles.Profile.{Profile}
-use Rattle.udfs_volume.specs.Differences.{contents_differ, copies_differ, differ_at, differ_by, differ_in, gives_layout, known_differ, reaches, say_the_same, CopiesAgreeBy}
-use Rattle.udfs_volume.specs.Laws.{IsLawfulLayoutBy, IsThroughEnd, SaysTheSame, is_of_layout}
-use Rattle.udfs_volume.specs.Sequence.{Bytes, anchor, are_extents_by, goes_on, position, shared, shorter}
+use Rattle.udfs_volume.specs.Differences.{contents_differ, differ_at, differ_by, differ_in, known_differ, reaches, CopiesAgreeBy}
+use Rattle.udfs_volume.specs.Laws.{IsLawfulLayoutBy, SaysTheSame, is_of_layout}
+use Rattle.udfs_volume.specs.Sequence.{anchor, are_extents_by, goes_on, position, shared, shorter}
 use Rattle.udfs_volume.proofs.Known.{both, true_false}
 use Rattle.udfs_volume.proofs.LayoutLaw.{anchor_of_lawful, main_fits}
 use Rattle.udfs_volume.proofs.Needed.{goes_needed}

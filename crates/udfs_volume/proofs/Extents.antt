@@ -1,10 +1,10 @@
 -- The extents of an anchor.
-use Rattle.std.proofs.Common.{◌≡◌, refl, sym, ◌∙◌, ap, ℕ, ◌%◌, ◌≤◌, arith, Bool, true, ◌&&◌, nat_eq, nat_le, cond}
+use Rattle.std.proofs.Common.{◌≡◌, ◌∙◌, ap, ℕ, ◌%◌, arith, Bool, true, ◌&&◌, nat_eq, nat_le, cond}
 use Rattle.std.proofs.lemmas.Bool.{eqb-true, le-leb}
 use Rattle.udfs_tag.specs.Faults.{is_within}
 use Rattle.udfs_volume.specs.declared.anchors.AnchorExtents.{AnchorExtents}
 use Rattle.udfs_volume.specs.Laws.{StrictSequence}
-use Rattle.udfs_volume.specs.Sequence.{are_extents, fits_to, shared, shorter}
+use Rattle.udfs_volume.specs.Sequence.{are_extents, fits_to, shorter}
 use Rattle.udfs_volume.proofs.Known.{both}
 
 -- extents that the strict rules take have one length

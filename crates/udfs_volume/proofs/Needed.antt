@@ -1,6 +1,5 @@
 -- What the layout needs of a position: of descriptors other than those of partitions and logical volumes the identifier alone.
 use Rattle.std.proofs.Common.{◌≡◌, refl, sym, ◌∙◌, ap, ℕ, Bool, true, false, List, [], ◌∷◌, map, cond, ◌||◌, nat_eq}
-use Rattle.std.specs.Prelude.{filter}
 use Rattle.udfs_volume.specs.Sequence.{Bytes, Descriptor, Position, unread, invalid, descriptor, goes_on}
 use Rattle.udfs_volume.specs.Layout.{with_identifier}
 use Rattle.udfs_volume.specs.Laws.{is_of_layout}

@@ -4,8 +4,8 @@ use Rattle.std.specs.Prelude.{filter}
 use Rattle.udfs_volume.specs.declared.profiles.Profile.{Profile}
 use Rattle.udfs_volume.specs.declared.faults.VolumeFault.TheVariants.{Pointer}
 use Rattle.udfs_volume.specs.Answers.{Answer, found, holes, faulty, and_then, unless_fault}
-use Rattle.udfs_volume.specs.Sequence.{Descriptor, Position, unread, invalid, descriptor, goes_on, cons_descriptor, read_positions, ended_by}
-use Rattle.udfs_volume.specs.Layout.{NumberedMap, prevailing, with_identifier, logical_volume, partition, partition_number, before_described, described, laid_out, with_maps, with_volume, the_maps, volume_fault, layout_of}
+use Rattle.udfs_volume.specs.Sequence.{Descriptor, Position, unread, invalid, descriptor, goes_on, read_positions, ended_by}
+use Rattle.udfs_volume.specs.Layout.{NumberedMap, prevailing, logical_volume, partition, partition_number, before_described, described, laid_out, with_maps, with_volume, the_maps, volume_fault, layout_of}
 use Rattle.udfs_volume.proofs.Needed.{needed, needed_of, same_identifier, goes_needed, partitions_needed, volumes_needed}
 use Rattle.udfs_volume.proofs.Positions.{before, read-on, read-stop}
 

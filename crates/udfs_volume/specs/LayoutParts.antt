@@ -1,5 +1,5 @@
 -- The layout of the code, as the definitions have it.
-use Rattle.std.specs.Prelude.{ℕ, Bool, List, [], ◌∷◌, map, not, nat_eq, ◌||◌, codes}
+use Rattle.std.specs.Prelude.{Bool, List, [], ◌∷◌, map, not, nat_eq, ◌||◌, codes}
 use Rattle.std.specs.Str.{bytes_eq}
 use Rattle.udfs_tag.specs.Fields.{uint32_at, regid_at, zero_filled}
 use Rattle.udfs_volume.specs.declared.faults.VolumeFault.{VolumeFault}

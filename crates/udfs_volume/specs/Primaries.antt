@@ -1,6 +1,6 @@
 -- A sample volume of which the reserve primary volume descriptor has another volume set identifier than the main one, as a writer makes it that takes
 -- the identifier from the clock each time.
-use Rattle.std.specs.Prelude.{◌≡◌, ◌≢◌, ℕ, true, List, [], ◌∷◌, drop, cond, nat_eq}
+use Rattle.std.specs.Prelude.{◌≡◌, ◌≢◌, ℕ, true, [], ◌∷◌, drop, cond, nat_eq}
 use Rattle.udfs_lattice.specs.States.{IsBlock}
 use Rattle.udfs_lattice.specs.Volumes.{Volume, IsVolume}
 use Rattle.udfs_tag.specs.Tags.{is_sound, identifier}

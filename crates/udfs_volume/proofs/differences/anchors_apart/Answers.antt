@@ -1,5 +1,5 @@
-use Rattle.std.proofs.Common.{◌≡◌, sym, ◌∙◌, ap, Option, None}
-use Rattle.std.specs.Prelude.{ℕ, find}
+use Rattle.std.proofs.Common.{◌≡◌, ◌∙◌, ap}
+use Rattle.std.specs.Prelude.{find}
 use Rattle.udfs_lattice.specs.Tables.{state_of}
 use Rattle.udfs_volume.specs.Differences.{anchors_apart, apart_from, has_anchor}
 use Rattle.udfs_volume.proofs.ApartAnchors.{anchors_agree}

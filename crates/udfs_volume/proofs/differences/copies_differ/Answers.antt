@@ -1,4 +1,4 @@
-use Rattle.std.proofs.Common.{◌≡◌, ◌∙◌, sym, false}
+use Rattle.std.proofs.Common.{◌∙◌, sym}
 use Rattle.udfs_lattice.specs.Tables.{state_of}
 use Rattle.udfs_volume.specs.Differences.{copies_differ}
 use Rattle.udfs_volume.proofs.ApartCopies.{copies_agree}
