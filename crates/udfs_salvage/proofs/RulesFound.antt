@@ -4,7 +4,7 @@ use Rattle.udfs_lattice.specs.Volumes.{Blocks}
 use Rattle.udfs_volume.specs.declared.profiles.Profile.{Profile}
 use Rattle.udfs_volume.specs.declared.faults.VolumeFault.{VolumeFault}
 use Rattle.udfs_volume.specs.Answers.{found, unless_fault}
-use Rattle.udfs_volume.specs.Sequence.{Descriptor, sequence}
+use Rattle.udfs_volume.specs.Sequence.{Descriptor, sequence_by}
 use Rattle.udfs_volume.specs.Layout.{Layout, Described, NumberedMap, described, laid_out, layout_by, layout_of, logical_volume, partitions_fault, the_maps, volume_fault, with_maps, with_volume}
 use Rattle.udfs_space.specs.Sparing.{Space, Spans, space, spans}
 use Rattle.udfs_salvage.specs.Found.{Found, volume_by}
@@ -18,7 +18,7 @@ unless_found (Some f) x y e = absurd (let z : ⊥ = cc in z)
 
 laid_rules : (P : Profile) (last : ℕ) (lv : Descriptor) (o : Option (List Described)) (l : Layout) → laid_out P last lv o ≡ found l → l.profile ≡ P
 laid_rules P last lv None l e = absurd (let z : ⊥ = cc in z)
-laid_rules P last lv (Some ps) l e = sym (ap (λ x. x.profile) (unless_found (partitions_fault last ps) _ l e))
+laid_rules P last lv (Some ps) l e = sym (ap (λ x. x.profile) (unless_found (partitions_fault P last ps) _ l e))
 
 maps_rules : (P : Profile) (last : ℕ) (ds : List Descriptor) (lv : Descriptor) (o : Option (List NumberedMap)) (l : Layout) → with_maps P last ds lv o ≡ found l → l.profile ≡ P
 maps_rules P last ds lv None l e = absurd (let z : ⊥ = cc in z)
@@ -31,8 +31,8 @@ volume_rules P last ds (Some lv) l e = let q : (v : Descriptor) × (unless_fault
 
 layout_rules : (P : Profile) (T : Blocks) (last : ℕ) (l : Layout) → layout_by P T last ≡ found l → l.profile ≡ P
 unfolding layout_by layout_of
-layout_rules P T last l e = let q : (ds : List Descriptor) × (sequence T last ≡ found ds) × (with_volume P last ds (logical_volume ds) ≡ found l) =
-    and_then-found (sequence T last) (λ ds. with_volume P last ds (logical_volume ds)) l e in volume_rules P last q.0 (logical_volume q.0) l q.2
+layout_rules P T last l e = let q : (ds : List Descriptor) × (sequence_by P T last ≡ found ds) × (with_volume P last ds (logical_volume ds) ≡ found l) =
+    and_then-found (sequence_by P T last) (λ ds. with_volume P last ds (logical_volume ds)) l e in volume_rules P last q.0 (logical_volume q.0) l q.2
 
 space_rules : (T : Blocks) (l : Layout) (s : Space) → space T l ≡ found s → s.profile ≡ l.profile
 unfolding space

@@ -1,19 +1,21 @@
 -- The layout that the strict rules find is found by the wide ones too, and is the same but for the rules.
-use Rattle.std.proofs.Common.{◌≡◌, refl, sym, ◌∙◌, ap, inl, inr, ◌⊎◌, ℕ, ◌-◌, Bool, true, false, not, List, [], ◌∷◌, ◌++◌, map, drop, cond, ◌&&◌, ◌||◌, Option, Some, None, nat_eq, nat_le}
+use Rattle.std.proofs.Common.{◌≡◌, refl, sym, ◌∙◌, ap, subst, inl, inr, ◌⊎◌, ℕ, ◌+◌, ◌-◌, ◌%◌, ◌<◌, ◌≤◌, arith, Bool, true, false, not, List, [], ◌∷◌, ◌++◌, map, drop, cond, ◌&&◌, ◌||◌, Option, Some, None, nat_eq, nat_le, nat_lt}
 use Rattle.std.specs.Prelude.{zero, suc, is_none, option_map}
-use Rattle.std.specs.List.{list_any}
+use Rattle.std.specs.List.{list_all, list_any}
+use Rattle.std.proofs.lemmas.Bool.{eqb-true, leb-true, le-leb}
 use Rattle.udfs_lattice.specs.Volumes.{Blocks}
 use Rattle.udfs_tag.specs.Fields.{uint8_at, uint16_at, uint32_at, long_ad_at, part}
 use Rattle.udfs_tag.specs.Faults.{is_within}
 use Rattle.udfs_osta.specs.Labels.{label_of}
-use Rattle.udfs_volume.specs.Answers.{Answer, found, and_then, unless_fault}
+use Rattle.udfs_volume.specs.Answers.{Answer, found, faulty, and_then, unless_fault}
+use Rattle.udfs_volume.specs.declared.anchors.AnchorExtents.{AnchorExtents}
 use Rattle.udfs_volume.specs.declared.profiles.Profile.{Profile}
 use Rattle.udfs_volume.specs.declared.profiles.Profile.TheVariants.{Strict, Wide}
 use Rattle.udfs_volume.specs.declared.faults.VolumeFault.{VolumeFault}
-use Rattle.udfs_volume.specs.declared.faults.VolumeFault.TheVariants.{Domain, BlockSize, MapCount, MapKind}
+use Rattle.udfs_volume.specs.declared.faults.VolumeFault.TheVariants.{Extents, Domain, BlockSize, MapCount, MapKind, Contents, PartitionRange}
 use Rattle.udfs_volume.specs.Profiles.{accepts_packet, accepts_revision}
-use Rattle.udfs_volume.specs.Sequence.{Bytes, Descriptor, sequence}
-use Rattle.udfs_volume.specs.Layout.{Layout, type1, sparable, NumberedMap, Described, bp, is_type1, is_sparable, table_places, has_numbers, are_within, are_tables, map_size, read_map, before_maps, read_maps, unless_repeated, map_count, the_maps, has_domain, has_revision, volume_fault, described, partition_of, partitions_fault, laid_out, with_maps, with_volume, logical_volume, layout_of, layout_by}
+use Rattle.udfs_volume.specs.Sequence.{Bytes, Descriptor, anchor, are_extents, are_extents_by, fits_to, positions, read_positions, sequence_at, sequence_by, shared}
+use Rattle.udfs_volume.specs.Layout.{Layout, Partition, type1, sparable, NumberedMap, Described, bp, is_type1, is_sparable, table_places, has_numbers, are_within, are_tables, map_size, read_map, before_maps, read_maps, unless_repeated, map_count, the_maps, has_domain, has_revision, volume_fault, described, has_contents, partition_of, placed_of, is_in_range, partitions_fault, laid_out, with_maps, with_volume, logical_volume, layout_of, layout_by}
 use Rattle.udfs_salvage.proofs.Founds.{and_then-found, found_same}
 
 -- ---- tests of which one takes more than the other
@@ -28,6 +30,11 @@ and_front false b c h e = absurd (let z : ⊥ = cc in z)
 and_back : (a b c : Bool) → (b ≡ true → c ≡ true) → (a && b) ≡ true → (a && c) ≡ true
 and_back true b c h e = h e
 and_back false b c h e = e
+
+both : (a b : Bool) → (a && b) ≡ true → (a ≡ true) × (b ≡ true)
+both true true h = (refl, refl)
+both true false h = absurd (let z : ⊥ = cc in z)
+both false b h = absurd (let z : ⊥ = cc in z)
 
 or_not : (a b c : Bool) → (b ≡ true → c ≡ true) → (a || not b) ≡ false → (a || not c) ≡ false
 or_not true b c h e = e
@@ -52,8 +59,8 @@ revision_kept : (n : ℕ) → accepts_revision Strict n ≡ true → accepts_rev
 revision_kept n e = go (one_of_two (λ m. nat_eq m n) 0x0150 0x0201 e)
   where
     go : (nat_eq 0x0150 n ≡ true) ⊎ (nat_eq 0x0201 n ≡ true) → accepts_revision Wide n ≡ true
-    go (inl h) = any_at (λ m. nat_eq m n) (0x0102 ∷ []) 0x0150 (0x0200 ∷ 0x0201 ∷ []) h
-    go (inr h) = any_at (λ m. nat_eq m n) (0x0102 ∷ 0x0150 ∷ 0x0200 ∷ []) 0x0201 [] h
+    go (inl h) = any_at (λ m. nat_eq m n) (0x0100 ∷ 0x0101 ∷ 0x0102 ∷ []) 0x0150 (0x0200 ∷ 0x0201 ∷ []) h
+    go (inr h) = any_at (λ m. nat_eq m n) (0x0100 ∷ 0x0101 ∷ 0x0102 ∷ 0x0150 ∷ 0x0200 ∷ []) 0x0201 [] h
 
 packet_kept : (n : ℕ) → accepts_packet Strict n ≡ true → accepts_packet Wide n ≡ true
 packet_kept n e = go (one_of_two (λ m. nat_eq m n) 16 32 e)
@@ -153,23 +160,62 @@ read_wide l = record { last = l.last; revision = l.revision; label = l.label; pa
 abbrev IsKept : Layout → Answer Layout → Type 0
 IsKept l wide = (wide ≡ found (read_wide l)) × (l.profile ≡ Strict)
 
+-- a partition within the volume begins there, and each of its blocks can have a place
+range_kept : (last : ℕ) (p : Partition) → is_in_range Strict last p ≡ true → (is_in_range Wide last p ≡ true) × (placed_of Wide last p ≡ placed_of Strict last p)
+range_kept last p h = (
+  (λ i. q.0 i && le-leb p.start last below i),
+  (λ i. record { kind = p.kind; start = p.start; size = cond (q.1 i) p.size (last + 1 - p.start) }),
+)
+  where
+    q : (nat_lt 0 p.size ≡ true) × (nat_le (p.start + p.size) (last + 1) ≡ true)
+    q = both (nat_lt 0 p.size) (nat_le (p.start + p.size) (last + 1)) h
+
+    below : p.start ≤ last
+    below = let a : 1 ≤ p.size = leb-true 1 p.size q.0 in let b : p.start + p.size ≤ last + 1 = leb-true (p.start + p.size) (last + 1) q.1 in omega (arith, a, b)
+
+ranges_kept : (last : ℕ) (ps : List Described) → list_all (λ p. is_in_range Strict last (partition_of p)) ps ≡ true
+    → (list_all (λ p. is_in_range Wide last (partition_of p)) ps ≡ true) × (map (λ p. placed_of Wide last (partition_of p)) ps ≡ map (λ p. placed_of Strict last (partition_of p)) ps)
+ranges_kept last [] h = (refl, refl)
+ranges_kept last (d ∷ ds) h = go (ranges_kept last ds q.1) (range_kept last (partition_of d) q.0)
+  where
+    q : (is_in_range Strict last (partition_of d) ≡ true) × (list_all (λ p. is_in_range Strict last (partition_of p)) ds ≡ true)
+    q = both (is_in_range Strict last (partition_of d)) (list_all (λ p. is_in_range Strict last (partition_of p)) ds) h
+
+    go : (list_all (λ p. is_in_range Wide last (partition_of p)) ds ≡ true) × (map (λ p. placed_of Wide last (partition_of p)) ds ≡ map (λ p. placed_of Strict last (partition_of p)) ds)
+        → (is_in_range Wide last (partition_of d) ≡ true) × (placed_of Wide last (partition_of d) ≡ placed_of Strict last (partition_of d))
+        → (list_all (λ p. is_in_range Wide last (partition_of p)) (d ∷ ds) ≡ true) × (map (λ p. placed_of Wide last (partition_of p)) (d ∷ ds) ≡ map (λ p. placed_of Strict last (partition_of p)) (d ∷ ds))
+    go later here = ((λ i. here.0 i && later.0 i), (λ i. here.1 i ∷ later.1 i))
+
+-- no fault of the partitions: both of its tests pass
+both_pass : (f g : VolumeFault) (a b : Bool) → cond (not a) (Some f) (cond (not b) (Some g) None) ≡ None → (a ≡ true) × (b ≡ true)
+both_pass f g true true e = (refl, refl)
+both_pass f g true false e = absurd (let z : ⊥ = cc in z)
+both_pass f g false b e = absurd (let z : ⊥ = cc in z)
+
 laid_kept : (last : ℕ) (lv : Descriptor) (o : Option (List Described)) (l : Layout) → laid_out Strict last lv o ≡ found l → IsKept l (laid_out Wide last lv o)
 laid_kept last lv None l e = absurd (let z : ⊥ = cc in z)
-laid_kept last lv (Some ps) l e = go (partitions_fault last ps) e
+laid_kept last lv (Some ps) l e = go (partitions_fault Strict last ps) refl e
   where
-    it : Profile → Layout
-    it profile = record {
+    with : Profile → List Partition → Layout
+    with profile partitions = record {
       last = last;
       revision = uint16_at lv.content (bp 240);
       label = label_of (part lv.content (bp 84) 128);
-      partitions = map partition_of ps;
+      partitions = partitions;
       file_set = long_ad_at lv.content (bp 248);
       profile = profile;
     }
 
-    go : (o : Option VolumeFault) → unless_fault o (it Strict) ≡ found l → IsKept l (unless_fault o (it Wide))
-    go None e = let q : it Strict ≡ l = found_same (it Strict) l e in (ap (λ x. found (read_wide x)) q, sym (ap (λ x. x.profile) q))
-    go (Some f) e = absurd (let z : ⊥ = cc in z)
+    it : Profile → Layout
+    it profile = with profile (map (λ p. placed_of profile last (partition_of p)) ps)
+
+    go : (o : Option VolumeFault) → partitions_fault Strict last ps ≡ o → unless_fault o (it Strict) ≡ found l → IsKept l (laid_out Wide last lv (Some ps))
+    go None f e = let q : it Strict ≡ l = found_same (it Strict) l e in
+        let pass = both_pass Contents PartitionRange (list_all has_contents ps) (list_all (λ p. is_in_range Strict last (partition_of p)) ps) f in
+        let k = ranges_kept last ps pass.1 in
+        let none : partitions_fault Wide last ps ≡ None = λ i. cond (not (pass.0 i)) (Some Contents) (cond (not (k.0 i)) (Some PartitionRange) None) in
+        (ap (λ o. unless_fault o (it Wide)) none ∙ ap (λ qs. found (with Wide qs)) k.1 ∙ ap (λ x. found (read_wide x)) q, sym (ap (λ x. x.profile) q))
+    go (Some f) p e = absurd (let z : ⊥ = cc in z)
 
 volume_kept : (last : ℕ) (ds : List Descriptor) (o : Option Descriptor) (l : Layout) → with_volume Strict last ds o ≡ found l → IsKept l (with_volume Wide last ds o)
 volume_kept last ds None l e = absurd (let z : ⊥ = cc in z)
@@ -188,8 +234,59 @@ pub sequence_kept : (last : ℕ) (ds : List Descriptor) (l : Layout) → layout_
 unfolding layout_of
 sequence_kept last ds l e = volume_kept last ds (logical_volume ds) l e
 
+-- so many bytes are no fewer than one block has
+within_kept : (n : ℕ) → is_within 32768 524288 n ≡ true → is_within 2048 524288 n ≡ true
+within_kept n e = go (nat_le 32768 n) refl e
+  where
+    go : (b : Bool) → nat_le 32768 n ≡ b → cond b (nat_le n 524288) false ≡ true → is_within 2048 524288 n ≡ true
+    go true q p = let l : 32768 ≤ n = leb-true 32768 n q in ap (λ b. cond b (nat_le n 524288) false) (le-leb 2048 n (omega (arith, l))) ∙ p
+    go false q p = absurd (let z : ⊥ = cc in z)
+
+-- extents that the strict rules take have one length, which the wide rules take of each
+extents_kept : (last : ℕ) (e : AnchorExtents) → are_extents last e ≡ true → are_extents_by Wide last e ≡ true
+extents_kept last e h = λ i. (whole i && t.1 i) && (reserve i && r i)
+  where
+    same_length : Bool
+    same_length = nat_eq e.main.length e.reserve.length
+
+    blocks : ℕ → Bool
+    blocks n = nat_eq (n % 2048) 0
+
+    r : fits_to last e.reserve ≡ true
+    r = (both (same_length && blocks e.main.length && is_within 32768 524288 e.main.length && fits_to last e.main) (fits_to last e.reserve) h).1
+
+    t : ((same_length && blocks e.main.length && is_within 32768 524288 e.main.length) ≡ true) × (fits_to last e.main ≡ true)
+    t = both (same_length && blocks e.main.length && is_within 32768 524288 e.main.length) (fits_to last e.main)
+        (both (same_length && blocks e.main.length && is_within 32768 524288 e.main.length && fits_to last e.main) (fits_to last e.reserve) h).0
+
+    w : ((same_length && blocks e.main.length) ≡ true) × (is_within 32768 524288 e.main.length ≡ true)
+    w = both (same_length && blocks e.main.length) (is_within 32768 524288 e.main.length) t.0
+
+    q : (same_length ≡ true) × (blocks e.main.length ≡ true)
+    q = both same_length (blocks e.main.length) w.0
+
+    whole : (blocks e.main.length && is_within 2048 524288 e.main.length) ≡ true
+    whole = λ i. q.1 i && within_kept e.main.length w.1 i
+
+    same : e.main.length ≡ e.reserve.length
+    same = eqb-true e.main.length e.reserve.length q.0
+
+    reserve : (blocks e.reserve.length && is_within 2048 524288 e.reserve.length) ≡ true
+    reserve = subst (λ n. (blocks n && is_within 2048 524288 n) ≡ true) same whole
+
+descriptors_kept : (T : Blocks) (last : ℕ) (ds : List Descriptor) → sequence_by Strict T last ≡ found ds → sequence_by Wide T last ≡ found ds
+unfolding sequence_by
+descriptors_kept T last ds e = go (are_extents last q.0) refl q.2
+  where
+    q : (x : AnchorExtents) × (anchor T last ≡ found x) × (sequence_at Strict T last x ≡ found ds)
+    q = and_then-found (anchor T last) (sequence_at Strict T last) ds e
+
+    go : (b : Bool) → are_extents last q.0 ≡ b → cond b (read_positions (positions T (shared q.0))) (faulty Extents) ≡ found ds → and_then (anchor T last) (sequence_at Wide T last) ≡ found ds
+    go true b p = ap (λ x. and_then x (sequence_at Wide T last)) q.1 ∙ ap (λ c. cond c (read_positions (positions T (shared q.0))) (faulty Extents)) (extents_kept last q.0 b) ∙ p
+    go false b p = absurd (let z : ⊥ = cc in z)
+
 pub layout_kept : (T : Blocks) (last : ℕ) (l : Layout) → layout_by Strict T last ≡ found l → (layout_by Wide T last ≡ found (read_wide l)) × (l.profile ≡ Strict)
 unfolding layout_by
-layout_kept T last l e = let q : (ds : List Descriptor) × (sequence T last ≡ found ds) × (layout_of Strict last ds ≡ found l) = and_then-found (sequence T last) (layout_of Strict last) l e in
+layout_kept T last l e = let q : (ds : List Descriptor) × (sequence_by Strict T last ≡ found ds) × (layout_of Strict last ds ≡ found l) = and_then-found (sequence_by Strict T last) (layout_of Strict last) l e in
     let k : IsKept l (layout_of Wide last q.0) = sequence_kept last q.0 l q.2 in
-    (ap (λ x. and_then x (layout_of Wide last)) q.1 ∙ k.0, k.1)
+    (ap (λ x. and_then x (layout_of Wide last)) (descriptors_kept T last q.0 q.1) ∙ k.0, k.1)

@@ -15,7 +15,7 @@ use Rattle.udfs_volume.specs.Answers.{found, faulty}
 use Rattle.udfs_volume.specs.declared.anchors.AnchorExtents.{AnchorExtents}
 use Rattle.udfs_volume.specs.declared.faults.VolumeFault.TheVariants.{Domain}
 use Rattle.udfs_volume.specs.declared.profiles.Profile.TheVariants.{Strict, Wide}
-use Rattle.udfs_volume.specs.Sequence.{Bytes, anchor, position, goes_on, sequence}
+use Rattle.udfs_volume.specs.Sequence.{Bytes, anchor, position, goes_on, sequence_by}
 use Rattle.udfs_volume.specs.Standard.{standard_anchor, standard_layout_by}
 use Rattle.udfs_volume.specs.Layout.{Layout, layout_of, layout_by}
 use Rattle.udfs_volume.specs.Laws.{valid_anchors, IsThroughEnd, SaysTheSame, IsLawfulLayoutBy}
@@ -81,20 +81,20 @@ the_end contents = refl
 
 copies_by : (contents : ℕ → Bytes) (i : ℕ) → IsThroughEnd (revised contents) 600 extents i → SaysTheSame (revised contents) (32 + i) (48 + i)
 unfolding polynomial reduced crc_of tag_of
-copies_by contents zero h = record { soundness = refl; identifiers = λ e. refl; contents = λ e. refl }
-copies_by contents (suc zero) h = record { soundness = refl; identifiers = λ e. refl; contents = λ e. refl }
-copies_by contents (suc (suc zero)) h = record { soundness = refl; identifiers = λ e. refl; contents = λ e. refl }
-copies_by contents (suc (suc (suc zero))) h = record { soundness = refl; identifiers = λ e. refl; contents = λ e. refl }
+copies_by contents zero h = record { soundness = refl; identifiers = λ e. refl; contents = λ e r. refl }
+copies_by contents (suc zero) h = record { soundness = refl; identifiers = λ e. refl; contents = λ e r. refl }
+copies_by contents (suc (suc zero)) h = record { soundness = refl; identifiers = λ e. refl; contents = λ e r. refl }
+copies_by contents (suc (suc (suc zero))) h = record { soundness = refl; identifiers = λ e. refl; contents = λ e r. refl }
 copies_by contents (suc (suc (suc (suc i)))) h = absurd (let t : true ≡ false = sym (h.before 3 (omega arith)) ∙ the_end contents in let z : ⊥ = cc in z)
 
 -- ---- the layout
 pub revised_layout_is : (contents : ℕ → Bytes) → layout_by Wide (complete (revised contents) 600) 600 ≡ found revised_layout
-unfolding polynomial reduced crc_of tag_of anchor position sequence layout_of layout_by
+unfolding polynomial reduced crc_of tag_of anchor position sequence_by layout_of layout_by
 revised_layout_is contents = refl
 
 -- the strict rules take no such revision
 pub revised_is_refused : (contents : ℕ → Bytes) → layout_by Strict (complete (revised contents) 600) 600 ≡ faulty Domain
-unfolding polynomial reduced crc_of tag_of anchor position sequence layout_of layout_by
+unfolding polynomial reduced crc_of tag_of anchor position sequence_by layout_of layout_by
 revised_is_refused contents = refl
 
 pub revised_is_lawful : (contents : ℕ → Bytes) → IsLawfulLayoutBy Wide (revised contents) 600

@@ -46,8 +46,9 @@ volume_fault_number fault.FileSet = 16
 
 -- the revision, as it is printed
 unfoldable pub revision_text : ℕ → List ℕ
-revision_text revision = cond (nat_eq revision 0x0102) (codes "1.02") (cond (nat_eq revision 0x0150) (codes "1.50")
-    (cond (nat_eq revision 0x0200) (codes "2.00") (codes "2.01")))
+revision_text revision = cond (nat_eq revision 0x0100) (codes "1.00") (cond (nat_eq revision 0x0101) (codes "1.01")
+    (cond (nat_eq revision 0x0102) (codes "1.02") (cond (nat_eq revision 0x0150) (codes "1.50")
+    (cond (nat_eq revision 0x0200) (codes "2.00") (codes "2.01")))))
 
 -- the beginning of the line of a volume that opens: its revision, and the keyword before its maps
 abbrev pub open_text : ℕ → List ℕ

@@ -60,13 +60,15 @@ pub(crate) fn fault_number(fault: VolumeFault) -> u8
     fault as u8
 }
 
-/// A revision of UDF as it is printed: `1.02`, `1.50`, `2.00`, or else `2.01`, since no profile accepts another.
+/// A revision of UDF as it is printed: `1.00`, `1.01`, `1.02`, `1.50`, `2.00`, or else `2.01`, since no profile accepts another.
 #[tactic(auto, unfolding(crate::specs::Texts::revision_text))]
 pub fn revision_name(revision: u16) -> &'static str
     ensures name { result.now ≡ revision_text revision }
     ensures short { length result.now ≤ 2048 }
 {
     match revision {
+        0x0100 => "1.00",
+        0x0101 => "1.01",
         0x0102 => "1.02",
         0x0150 => "1.50",
         0x0200 => "2.00",

@@ -6,7 +6,7 @@ use Rattle.std.specs.Str.{bytes_eq}
 use Rattle.std.proofs.lemmas.Bool.{leb-true, eqb-true}
 use Rattle.std.proofs.lemmas.List.{length-map}
 use Rattle.std.proofs.lemmas.List.FromFn.{length-map-range_with_len}
-use Rattle.udfs_volume.specs.Sequence.{Bytes, Descriptor, sequence}
+use Rattle.udfs_volume.specs.Sequence.{Bytes, Descriptor, sequence_by}
 use Rattle.udfs_lattice.specs.Volumes.{Blocks}
 use Rattle.udfs_lattice.proofs.Inclusion.{Includes, included}
 use Rattle.udfs_tag.specs.Fields.{uint8_at, uint16_at, uint32_at, long_ad_at, part, regid_at, zero_filled}
@@ -18,7 +18,7 @@ use Rattle.udfs_volume.specs.declared.profiles.Profile.TheVariants.{Strict, Wide
 use Rattle.udfs_volume.specs.Profiles.{accepts_packet, packet_lengths}
 use Rattle.udfs_volume.specs.declared.faults.VolumeFault.{VolumeFault}
 use Rattle.udfs_volume.specs.declared.faults.VolumeFault.TheVariants.{Domain, BlockSize, MapCount, MapKind, Contents, PartitionRange}
-use Rattle.udfs_volume.specs.Layout.{Layout, Partition, PartitionMap, type1, sparable, NumberedMap, Described, bp, blocks_in, is_type1, is_sparable, are_tables, table_places, read_map, map_size, before_maps, read_maps, repeats_kind, unless_repeated, map_count, the_maps, volume_fault, partition, before_described, has_revision, described, has_contents, partition_of, is_in_range, partitions_fault, laid_out, with_maps, with_volume, logical_volume, layout_of, layout_by}
+use Rattle.udfs_volume.specs.Layout.{Layout, Partition, PartitionMap, type1, sparable, NumberedMap, Described, bp, blocks_in, is_type1, is_sparable, are_tables, table_places, read_map, map_size, before_maps, read_maps, repeats_kind, unless_repeated, map_count, the_maps, volume_fault, partition, before_described, has_revision, described, has_contents, partition_of, placed_of, is_in_range, partitions_fault, laid_out, with_maps, with_volume, logical_volume, layout_of, layout_by}
 use Rattle.udfs_volume.specs.Laws.{AreBounded, IsBoundedMap, IsBoundedPartition, IsBounded, LayoutBounds}
 use Rattle.udfs_volume.proofs.Known.{both}
 
@@ -164,15 +164,15 @@ unrepeated (Some x) ms e = go (repeats_kind (map (λ m. m.0) x)) refl e
     go false q p = (p, subst (λ y. repeats_kind (map (λ m. m.0) y) ≡ false) (some_same x ms p) q)
 
 -- the partitions have the kinds of their maps
-described_kinds : (ds : List Descriptor) (ms : List NumberedMap) (ps : List Described) → described ds ms ≡ Some ps → map (λ p. p.kind) (map partition_of ps) ≡ map (λ m. m.0) ms
-described_kinds ds [] ps e = sym (ap (λ x. map (λ p. p.kind) (map partition_of x)) (some_same [] ps e))
-described_kinds ds (m ∷ ms) ps e = go (described_kinds ds ms) (partition m.1 ds) (described ds ms) refl e
+described_kinds : (profile : Profile) (last : ℕ) (ds : List Descriptor) (ms : List NumberedMap) (ps : List Described) → described ds ms ≡ Some ps → map (λ p. p.kind) (map (λ d. placed_of profile last (partition_of d)) ps) ≡ map (λ m. m.0) ms
+described_kinds profile last ds [] ps e = sym (ap (λ x. map (λ p. p.kind) (map (λ d. placed_of profile last (partition_of d)) x)) (some_same [] ps e))
+described_kinds profile last ds (m ∷ ms) ps e = go (described_kinds profile last ds ms) (partition m.1 ds) (described ds ms) refl e
   where
-    go : ((qs : List Described) → described ds ms ≡ Some qs → map (λ p. p.kind) (map partition_of qs) ≡ map (λ m. m.0) ms)
-        → (o : Option Descriptor) (later : Option (List Described)) → described ds ms ≡ later → before_described m.0 o later ≡ Some ps → map (λ p. p.kind) (map partition_of ps) ≡ map (λ m. m.0) (m ∷ ms)
+    go : ((qs : List Described) → described ds ms ≡ Some qs → map (λ p. p.kind) (map (λ d. placed_of profile last (partition_of d)) qs) ≡ map (λ m. m.0) ms)
+        → (o : Option Descriptor) (later : Option (List Described)) → described ds ms ≡ later → before_described m.0 o later ≡ Some ps → map (λ p. p.kind) (map (λ d. placed_of profile last (partition_of d)) ps) ≡ map (λ m. m.0) (m ∷ ms)
     go h None later q p = absurd (let z : ⊥ = cc in z)
     go h (Some d) None q p = absurd (let z : ⊥ = cc in z)
-    go h (Some d) (Some later) q p = sym (ap (λ x. map (λ p. p.kind) (map partition_of x)) (some_same ((m.0, d) ∷ later) ps p)) ∙ ap (λ x. m.0 ∷ x) (h later q)
+    go h (Some d) (Some later) q p = sym (ap (λ x. map (λ p. p.kind) (map (λ d. placed_of profile last (partition_of d)) x)) (some_same ((m.0, d) ∷ later) ps p)) ∙ ap (λ x. m.0 ∷ x) (h later q)
 
 not-false : (b : Bool) → not b ≡ false → b ≡ true
 not-false true h = refl
@@ -203,14 +203,25 @@ one_or_two : (n : ℕ) → (n ≡ 1) ⊎ (n ≡ 2) → (1 ≤ n) × (n ≤ 2)
 one_or_two n (inl e) = (omega (arith, e), omega (arith, e))
 one_or_two n (inr e) = (omega (arith, e), omega (arith, e))
 
-in_range : (last : ℕ) (p : Partition) → is_in_range last p ≡ true → (0 < p.size) × (p.start + p.size ≤ last + 1)
-in_range last p h = let q : (nat_lt 0 p.size ≡ true) × (nat_le (p.start + p.size) (last + 1) ≡ true) = both (nat_lt 0 p.size) (nat_le (p.start + p.size) (last + 1)) h in
+in_range : (profile : Profile) (last : ℕ) (p : Partition) → is_in_range profile last p ≡ true
+    → (0 < (placed_of profile last p).size) × (p.start + (placed_of profile last p).size ≤ last + 1)
+in_range Strict last p h = let q : (nat_lt 0 p.size ≡ true) × (nat_le (p.start + p.size) (last + 1) ≡ true) = both (nat_lt 0 p.size) (nat_le (p.start + p.size) (last + 1)) h in
     (leb-true 1 p.size q.0, leb-true (p.start + p.size) (last + 1) q.1)
+in_range Wide last p h = go (nat_le (p.start + p.size) (last + 1)) refl
+  where
+    q : (nat_lt 0 p.size ≡ true) × (nat_le p.start last ≡ true)
+    q = both (nat_lt 0 p.size) (nat_le p.start last) h
 
-ranges : (last : ℕ) (ps : List Described) → list_all (λ p. is_in_range last (partition_of p)) ps ≡ true → (p : Partition) → Includes (map partition_of ps) p → is_in_range last p ≡ true
-ranges last [] h p i = absurd i
-ranges last (d ∷ ds) h p (inl e) = sym (ap (is_in_range last) e) ∙ (both (is_in_range last (partition_of d)) (list_all (λ p. is_in_range last (partition_of p)) ds) h).0
-ranges last (d ∷ ds) h p (inr i) = ranges last ds (both (is_in_range last (partition_of d)) (list_all (λ p. is_in_range last (partition_of p)) ds) h).1 p i
+    go : (b : Bool) → nat_le (p.start + p.size) (last + 1) ≡ b → (0 < cond b p.size (last + 1 - p.start)) × (p.start + cond b p.size (last + 1 - p.start) ≤ last + 1)
+    go true e = (leb-true 1 p.size q.0, leb-true (p.start + p.size) (last + 1) e)
+    go false e = let l : p.start ≤ last = leb-true p.start last q.1 in (omega (arith, l), omega (arith, l))
+
+ranges : (profile : Profile) (last : ℕ) (ps : List Described) → list_all (λ p. is_in_range profile last (partition_of p)) ps ≡ true
+    → (p : Partition) → Includes (map (λ d. placed_of profile last (partition_of d)) ps) p → (0 < p.size) × (p.start + p.size ≤ last + 1)
+ranges profile last [] h p i = absurd i
+ranges profile last (d ∷ ds) h p (inl e) = subst (λ x. (0 < x.size) × (x.start + x.size ≤ last + 1)) e
+    (in_range profile last (partition_of d) (both (is_in_range profile last (partition_of d)) (list_all (λ p. is_in_range profile last (partition_of p)) ds) h).0)
+ranges profile last (d ∷ ds) h p (inr i) = ranges profile last ds (both (is_in_range profile last (partition_of d)) (list_all (λ p. is_in_range profile last (partition_of p)) ds) h).1 p i
 
 laid_bounded : (profile : Profile) (last n : ℕ) (ds : List Descriptor) (lv : Descriptor) (ms : List NumberedMap) (l : Layout) → AreMaps last n ms → (n ≡ 1) ⊎ (n ≡ 2)
     → repeats_kind (map (λ m. m.0) ms) ≡ false → (o : Option (List Described)) → described ds ms ≡ o → laid_out profile last lv o ≡ found l → IsBounded last l
@@ -219,8 +230,8 @@ laid_bounded profile last n ds lv ms l a c r (Some ps) d e = subst (IsBounded la
   is_last = refl;
   one = subst (λ x. 1 ≤ x) (sym len) (one_or_two n c).0;
   two = subst (λ x. x ≤ 2) (sym len) (one_or_two n c).1;
-  of_each = λ p c. of_each p (included (map partition_of ps) p c);
-  kinds = ap repeats_kind (described_kinds ds ms ps d) ∙ r;
+  of_each = λ p c. of_each p (included (map (λ d. placed_of profile last (partition_of d)) ps) p c);
+  kinds = ap repeats_kind (described_kinds profile last ds ms ps d) ∙ r;
 })
   where
     it : Layout
@@ -228,27 +239,27 @@ laid_bounded profile last n ds lv ms l a c r (Some ps) d e = subst (IsBounded la
       last = last;
       revision = uint16_at lv.content (bp 240);
       label = label_of (part lv.content (bp 84) 128);
-      partitions = map partition_of ps;
+      partitions = map (λ d. placed_of profile last (partition_of d)) ps;
       file_set = long_ad_at lv.content (bp 248);
       profile = profile;
     }
 
-    q : (partitions_fault last ps ≡ None) × (it ≡ l)
-    q = unless_fault-found (partitions_fault last ps) it l e
+    q : (partitions_fault profile last ps ≡ None) × (it ≡ l)
+    q = unless_fault-found (partitions_fault profile last ps) it l e
 
-    range : list_all (λ p. is_in_range last (partition_of p)) ps ≡ true
-    range = not-false (list_all (λ p. is_in_range last (partition_of p)) ps)
-        (last_fault Contents PartitionRange (not (list_all has_contents ps)) (not (list_all (λ p. is_in_range last (partition_of p)) ps)) q.0)
+    range : list_all (λ p. is_in_range profile last (partition_of p)) ps ≡ true
+    range = not-false (list_all (λ p. is_in_range profile last (partition_of p)) ps)
+        (last_fault Contents PartitionRange (not (list_all has_contents ps)) (not (list_all (λ p. is_in_range profile last (partition_of p)) ps)) q.0)
 
-    len : length (map partition_of ps) ≡ n
-    len = sym (length-map (map partition_of ps) (λ p. p.kind)) ∙ ap length (described_kinds ds ms ps d) ∙ length-map ms (λ m. m.0) ∙ a.count
+    len : length (map (λ d. placed_of profile last (partition_of d)) ps) ≡ n
+    len = sym (length-map (map (λ d. placed_of profile last (partition_of d)) ps) (λ p. p.kind)) ∙ ap length (described_kinds profile last ds ms ps d) ∙ length-map ms (λ m. m.0) ∙ a.count
 
-    of_each : (p : Partition) → Includes (map partition_of ps) p → IsBoundedPartition last p
-    of_each p i = let h : (0 < p.size) × (p.start + p.size ≤ last + 1) = in_range last p (ranges last ps range p i) in
+    of_each : (p : Partition) → Includes (map (λ d. placed_of profile last (partition_of d)) ps) p → IsBoundedPartition last p
+    of_each p i = let h : (0 < p.size) × (p.start + p.size ≤ last + 1) = ranges profile last ps range p i in
         record {
           not_empty = h.0;
           ends = h.1;
-          bounded_map = a.each p.kind (subst (λ ks. Includes ks p.kind) (described_kinds ds ms ps d) (Includes-map (λ p. p.kind) (map partition_of ps) p i));
+          bounded_map = a.each p.kind (subst (λ ks. Includes ks p.kind) (described_kinds profile last ds ms ps d) (Includes-map (λ p. p.kind) (map (λ d. placed_of profile last (partition_of d)) ps) p i));
         }
 
 maps_laid : (profile : Profile) (last : ℕ) (ds : List Descriptor) (lv : Descriptor) (l : Layout) → (map_count lv ≡ 1) ⊎ (map_count lv ≡ 2)
@@ -271,5 +282,5 @@ layout_bounds profile last ds l e = by_volume profile last ds (logical_volume ds
 
 pub layout_is_bounded : (profile : Profile) (T : Blocks) (last : ℕ) (l : Layout) → layout_by profile T last ≡ found l → IsBounded last l
 unfolding layout_by
-layout_is_bounded profile T last l e = let q : (ds : List Descriptor) × (sequence T last ≡ found ds) × (layout_of profile last ds ≡ found l) = and_then-found (sequence T last) (layout_of profile last) l e in
+layout_is_bounded profile T last l e = let q : (ds : List Descriptor) × (sequence_by profile T last ≡ found ds) × (layout_of profile last ds ≡ found l) = and_then-found (sequence_by profile T last) (layout_of profile last) l e in
     layout_bounds profile last q.0 l q.2

@@ -1,23 +1,26 @@
 -- Over a lawful volume that agrees with the table, the layout is the volume's, or a group is unread.
-use Rattle.std.proofs.Common.{◌≡◌, refl, sym, ◌∙◌, ap, subst, inl, inr, ◌⊎◌, ℕ, ◌+◌, ◌/◌, ◌%◌, ◌<◌, ◌≤◌, Bool, true, false, not, List, [], ◌∷◌, map, cond, ◌&&◌, arith, Some, None, nat_eq}
+use Rattle.std.proofs.Common.{◌≡◌, refl, sym, ◌∙◌, ap, subst, inl, inr, ◌⊎◌, ℕ, ◌+◌, ◌/◌, ◌%◌, ◌<◌, ◌≤◌, Bool, true, false, not, List, [], ◌∷◌, map, cond, ◌&&◌, arith, Some, None, nat_eq, nat_le}
 use Rattle.std.specs.Prelude.{zero, suc, Contains}
 use Rattle.std.specs.List.{range_with_len}
-use Rattle.std.proofs.lemmas.Bool.{leb-true}
+use Rattle.std.proofs.lemmas.Bool.{leb-true, leb-false}
 use Rattle.udfs_lattice.specs.States.{is_known}
 use Rattle.udfs_volume.specs.declared.anchors.AnchorExtents.{AnchorExtents}
-use Rattle.udfs_volume.specs.Sequence.{Bytes, extents_of, anchor, anchor_places, anchor_or, first_anchor, are_extents, fits_to, sequence, sequence_at, Position, unread, position, positions, goes_on, read_positions, ended_by}
+use Rattle.udfs_volume.specs.Sequence.{Bytes, extents_of, anchor, anchor_places, anchor_or, first_anchor, are_extents_by, fits_to, is_extent, shared, shorter, sequence_by, sequence_at, Position, unread, position, positions, goes_on, read_positions, ended_by}
 use Rattle.udfs_lattice.specs.Volumes.{Blocks, ascending, not_known, Volume, Agrees, complete, IsKnownAt, IsUnread}
 use Rattle.udfs_lattice.proofs.Inclusion.{Includes, included, contained}
 use Rattle.udfs_tag.specs.Fields.{part, extent_ad_at}
 use Rattle.udfs_tag.specs.Tags.{is_valid}
 use Rattle.udfs_tag.specs.Faults.{is_within}
 use Rattle.udfs_volume.specs.declared.profiles.Profile.{Profile}
+use Rattle.udfs_volume.specs.declared.profiles.Profile.TheVariants.{Strict, Wide}
 use Rattle.udfs_volume.specs.Answers.{found, holes, faulty, and_then}
 use Rattle.udfs_volume.specs.declared.faults.VolumeFault.TheVariants.{Extents}
 use Rattle.udfs_volume.specs.Layout.{Layout, layout_by, layout_of}
 use Rattle.udfs_volume.specs.Laws.{LayoutLawBy, IsLawfulLayoutBy, IsThroughEnd, IsPair, IsSequenceGroup, valid_anchors, IsAnswerOf, the_same}
 use Rattle.udfs_lattice.proofs.PublicLaws.{ascending_contains, complete_agrees}
 use Rattle.udfs_volume.proofs.Known.{complete-known, true_false, both, some_in, Includes-filter, Includes-from_filter, FirstAnchor, one_known, none_known, first_anchor_lem}
+use Rattle.udfs_volume.proofs.Needed.{needed, goes_needed}
+use Rattle.udfs_volume.proofs.NeededLayouts.{reads_needed, layout_by_needed}
 use Rattle.udfs_volume.proofs.Positions.{PositionIs, same, neither, position_lem, before, read-on, read-stop}
 use Rattle.udfs_volume.specs.Laws.IsAnswerOf.{unread as unread_answer}
 
@@ -132,9 +135,9 @@ complete_anchor profile V N h lw = go (first_anchor_lem (complete V N) V N (comp
 no_anchor : (profile : Profile) (M : Blocks) (V : Volume) (N : ℕ) → IsLawfulLayoutBy profile V N → first_anchor M (anchor_places N) ≡ None
     → ((n : ℕ) → Includes (anchor_places N) n → is_valid (V n) n 2 ≡ true → is_known (M n) ≡ false)
     → IsAnswerOf M (valid_anchors V N) (anchor_places N) (IsSequenceGroup V N) (layout_by profile M N) (layout_by profile (complete V N) N)
-unfolding layout_by sequence anchor
+unfolding layout_by sequence_by anchor
 no_anchor profile M V N lw f all = unread_answer (not_known M (anchor_places N))
-    (ap (λ x. and_then (and_then x (sequence_at M N)) (layout_of profile N)) (ap (λ o. anchor_or o (not_known M (anchor_places N))) f ∙ anchor_or-none (not_known M (anchor_places N)) one.0 (in_listed one.0 one.1)))
+    (ap (λ x. and_then (and_then x (sequence_at profile M N)) (layout_of profile N)) (ap (λ o. anchor_or o (not_known M (anchor_places N))) f ∙ anchor_or-none (not_known M (anchor_places N)) one.0 (in_listed one.0 one.1)))
     (record {
       group = valid_anchors V N;
       is_group = inl refl;
@@ -161,28 +164,40 @@ found_same x y e = cc
 
 -- the extents of a volume that has a layout keep the rules
 pub are_extents_of : (profile : Profile) (V : Volume) (N : ℕ) (e : AnchorExtents) (l : Layout) → anchor (complete V N) N ≡ found e
-    → layout_by profile (complete V N) N ≡ found l → are_extents N e ≡ true
-unfolding layout_by sequence
-are_extents_of profile V N e l q h = go (are_extents N e) refl
+    → layout_by profile (complete V N) N ≡ found l → are_extents_by profile N e ≡ true
+unfolding layout_by sequence_by
+are_extents_of profile V N e l q h = go (are_extents_by profile N e) refl
   where
-    go : (b : Bool) → are_extents N e ≡ b → are_extents N e ≡ true
+    go : (b : Bool) → are_extents_by profile N e ≡ b → are_extents_by profile N e ≡ true
     go true b = b
     go false b = absurd (
-        let chain : faulty Extents ≡ found l = sym (ap (λ x. and_then (and_then x (sequence_at (complete V N) N)) (layout_of profile N)) q
-        ∙ ap (λ c. and_then (cond c (read_positions (positions (complete V N) e)) (faulty Extents)) (layout_of profile N)) b) ∙ h in
+        let chain : faulty Extents ≡ found l = sym (ap (λ x. and_then (and_then x (sequence_at profile (complete V N) N)) (layout_of profile N)) q
+        ∙ ap (λ c. and_then (cond c (read_positions (positions (complete V N) (shared e))) (faulty Extents)) (layout_of profile N)) b) ∙ h in
         let no : ⊥ = cc in no)
 
-pub main_fits : (N : ℕ) (e : AnchorExtents) → are_extents N e ≡ true → e.main.block + e.main.length / 2048 ≤ N + 1
-main_fits N e h = leb-true (e.main.block + e.main.length / 2048) (N + 1) (both (nat_eq e.main.length e.reserve.length && nat_eq (e.main.length % 2048) 0
+-- the shorter extent is no longer than the main one
+shorter_blocks : (e : AnchorExtents) → shorter e / 2048 ≤ e.main.length / 2048
+shorter_blocks e = go (nat_le e.main.length e.reserve.length) refl
+  where
+    go : (b : Bool) → nat_le e.main.length e.reserve.length ≡ b → cond b e.main.length e.reserve.length / 2048 ≤ e.main.length / 2048
+    go true q = omega arith
+    go false q = let l : e.reserve.length < e.main.length = leb-false e.main.length e.reserve.length q in omega (arith, l)
+
+pub main_fits : (profile : Profile) (N : ℕ) (e : AnchorExtents) → are_extents_by profile N e ≡ true → e.main.block + shorter e / 2048 ≤ N + 1
+main_fits Strict N e h = let s : shorter e / 2048 ≤ e.main.length / 2048 = shorter_blocks e in
+    let m : e.main.block + e.main.length / 2048 ≤ N + 1 = leb-true (e.main.block + e.main.length / 2048) (N + 1) (both (nat_eq e.main.length e.reserve.length && nat_eq (e.main.length % 2048) 0
     && is_within 32768 524288 e.main.length) (fits_to N e.main) (both (nat_eq e.main.length e.reserve.length && nat_eq (e.main.length % 2048) 0
-    && is_within 32768 524288 e.main.length && fits_to N e.main) (fits_to N e.reserve) h).0).1
+    && is_within 32768 524288 e.main.length && fits_to N e.main) (fits_to N e.reserve) h).0).1 in omega (arith, s, m)
+main_fits Wide N e h = let s : shorter e / 2048 ≤ e.main.length / 2048 = shorter_blocks e in
+    let m : e.main.block + e.main.length / 2048 ≤ N + 1 = leb-true (e.main.block + e.main.length / 2048) (N + 1)
+    (both (nat_eq (e.main.length % 2048) 0 && is_within 2048 524288 e.main.length) (fits_to N e.main) (both (is_extent N e.main) (is_extent N e.reserve) h).0).1 in omega (arith, s, m)
 
 -- with the anchor's extents, the layout is what the positions give
-pub layout_at : (profile : Profile) (T : Blocks) (N : ℕ) (e : AnchorExtents) → anchor T N ≡ found e → are_extents N e ≡ true
-    → layout_by profile T N ≡ and_then (read_positions (positions T e)) (layout_of profile N)
-unfolding layout_by sequence
-layout_at profile T N e q b = ap (λ x. and_then (and_then x (sequence_at T N)) (layout_of profile N)) q
-    ∙ ap (λ c. and_then (cond c (read_positions (positions T e)) (faulty Extents)) (layout_of profile N)) b
+pub layout_at : (profile : Profile) (T : Blocks) (N : ℕ) (e : AnchorExtents) → anchor T N ≡ found e → are_extents_by profile N e ≡ true
+    → layout_by profile T N ≡ and_then (read_positions (positions T (shared e))) (layout_of profile N)
+unfolding layout_by sequence_by
+layout_at profile T N e q b = ap (λ x. and_then (and_then x (sequence_at profile T N)) (layout_of profile N)) q
+    ∙ ap (λ c. and_then (cond c (read_positions (positions T (shared e))) (faulty Extents)) (layout_of profile N)) b
 
 abbrev pair : AnchorExtents → ℕ → List ℕ
 pair e i = (e.main.block + i) ∷ (e.reserve.block + i) ∷ []
@@ -205,39 +220,49 @@ abbrev row : Blocks → AnchorExtents → ℕ → Position
 row T e i = position T (e.main.block + i) (e.reserve.block + i)
 
 abbrev count : AnchorExtents → ℕ
-count e = e.main.length / 2048
+count e = shorter e / 2048
 
-through_end : (V : Volume) (N : ℕ) (e : AnchorExtents) (i : ℕ) → Through (row (complete V N) e) 0 (count e) i → IsThroughEnd V N e i
-through_end V N e i (l, h, all) = record { inside = omega arith; before = λ j x. all j (omega arith) x }
+-- what the layout needs of each position
+abbrev needs : Blocks → AnchorExtents → ℕ → Position
+needs T e i = needed (row T e i)
 
-from_through_end : (V : Volume) (N : ℕ) (e : AnchorExtents) (i : ℕ) → IsThroughEnd V N e i → Through (row (complete V N) e) 0 (count e) i
-from_through_end V N e i t = (omega arith, (let h : i < e.main.length / 2048 = t.inside in omega arith), λ j l x. t.before j x)
+through_end : (V : Volume) (N : ℕ) (e : AnchorExtents) (i : ℕ) → Through (needs (complete V N) e) 0 (count e) i → IsThroughEnd V N e i
+through_end V N e i (l, h, all) = record { inside = omega arith; before = λ j x. sym (goes_needed (row (complete V N) e j)) ∙ all j (omega arith) x }
+
+from_through_end : (V : Volume) (N : ℕ) (e : AnchorExtents) (i : ℕ) → IsThroughEnd V N e i → Through (needs (complete V N) e) 0 (count e) i
+from_through_end V N e i t = (omega arith, (let h : i < shorter e / 2048 = t.inside in omega arith), λ j l x. goes_needed (row (complete V N) e j) ∙ t.before j x)
+
+-- with the anchor's extents, the layout is what the positions give, by what it needs of them
+needed_at : (profile : Profile) (T : Blocks) (N : ℕ) (e : AnchorExtents) → anchor T N ≡ found e → are_extents_by profile N e ≡ true
+    → layout_by profile T N ≡ and_then (read_positions (map (needs T e) (range_with_len 0 (count e)))) (layout_of profile N)
+needed_at profile T N e q b = layout_at profile T N e q b ∙ sym (layout_by_needed profile N (read_positions (positions T (shared e))))
+    ∙ sym (ap (λ x. and_then x (layout_of profile N)) (reads_needed (row T e) (range_with_len 0 (count e))))
 
 -- the rows of positions of a table that has the volume's extents, beside the complete ones
 rows_alike : (profile : Profile) (M : Blocks) (V : Volume) (N : ℕ) → Agrees M V N → IsLawfulLayoutBy profile V N → (e : AnchorExtents)
-    → anchor (complete V N) N ≡ found e → are_extents N e ≡ true
-    → ReadsAlike (row M e) (row (complete V N) e) (λ i. ascending (pair e i)) (λ i. IsHere M (pair e i)) (AreUnread M e) 0 (count e)
-rows_alike profile M V N a lw e q b = reads_alike (row M e) (row (complete V N) e) (λ i. ascending (pair e i)) (λ i. IsHere M (pair e i)) (AreUnread M e) 0 (count e) each
+    → anchor (complete V N) N ≡ found e → are_extents_by profile N e ≡ true
+    → ReadsAlike (needs M e) (needs (complete V N) e) (λ i. ascending (pair e i)) (λ i. IsHere M (pair e i)) (AreUnread M e) 0 (count e)
+rows_alike profile M V N a lw e q b = reads_alike (needs M e) (needs (complete V N) e) (λ i. ascending (pair e i)) (λ i. IsHere M (pair e i)) (AreUnread M e) 0 (count e) each
   where
     fits : (i : ℕ) → i < 0 + count e → e.main.block + i ≤ N
-    fits i h = let m : e.main.block + e.main.length / 2048 ≤ N + 1 = main_fits N e b in omega arith
+    fits i h = let m : e.main.block + shorter e / 2048 ≤ N + 1 = main_fits profile N e b in omega arith
 
     tell : (i : ℕ) → PositionIs M V N (e.main.block + i) (e.reserve.block + i)
-        → Alike (row M e) (row (complete V N) e) (λ i. ascending (pair e i)) (λ i. IsHere M (pair e i)) (AreUnread M e) i
+        → Alike (needs M e) (needs (complete V N) e) (λ i. ascending (pair e i)) (λ i. IsHere M (pair e i)) (AreUnread M e) i
     tell i (same p n h k) = inl (p, (n, contained (pair e i) n h, (V n, k)))
-    tell i (neither p u v) = inr (p, (u, v))
+    tell i (neither p u v) = inr (ap needed p, (u, v))
 
-    each : (i : ℕ) → Through (row (complete V N) e) 0 (count e) i
-        → Alike (row M e) (row (complete V N) e) (λ i. ascending (pair e i)) (λ i. IsHere M (pair e i)) (AreUnread M e) i
+    each : (i : ℕ) → Through (needs (complete V N) e) 0 (count e) i
+        → Alike (needs M e) (needs (complete V N) e) (λ i. ascending (pair e i)) (λ i. IsHere M (pair e i)) (AreUnread M e) i
     each i t = tell i (position_lem M V N a (e.main.block + i) (e.reserve.block + i) (fits i t.1) (lw.copies e i q (through_end V N e i t)))
 
 answer_with : (profile : Profile) (M : Blocks) (V : Volume) (N : ℕ) → IsLawfulLayoutBy profile V N → (e : AnchorExtents)
-    → anchor (complete V N) N ≡ found e → anchor M N ≡ found e → are_extents N e ≡ true
+    → anchor (complete V N) N ≡ found e → anchor M N ≡ found e → are_extents_by profile N e ≡ true
     → IsHere M (valid_anchors V N)
-    → ReadsAlike (row M e) (row (complete V N) e) (λ i. ascending (pair e i)) (λ i. IsHere M (pair e i)) (AreUnread M e) 0 (count e)
+    → ReadsAlike (needs M e) (needs (complete V N) e) (λ i. ascending (pair e i)) (λ i. IsHere M (pair e i)) (AreUnread M e) 0 (count e)
     → IsAnswerOf M (valid_anchors V N) (anchor_places N) (IsSequenceGroup V N) (layout_by profile M N) (layout_by profile (complete V N) N)
 answer_with profile M V N lw e q r b here (all_same eq all) = the_same
-    (layout_at profile M N e r b ∙ ap (λ x. and_then x (layout_of profile N)) eq ∙ sym (layout_at profile (complete V N) N e q b)) groups
+    (needed_at profile M N e r b ∙ ap (λ x. and_then x (layout_of profile N)) eq ∙ sym (needed_at profile (complete V N) N e q b)) groups
   where
     at_pair : (x : AnchorExtents) → e ≡ x → (i : ℕ) → IsThroughEnd V N x i → IsHere M (pair x i)
     at_pair x p = let Q : AnchorExtents → Type 0 = λ x. (i : ℕ) → IsThroughEnd V N x i → IsHere M (pair x i) in
@@ -247,7 +272,7 @@ answer_with profile M V N lw e q r b here (all_same eq all) = the_same
     groups g (inl p) = subst (IsHere M) (sym p) here
     groups g (inr p) = subst (IsHere M) (sym p.is) (at_pair p.extents (found_same e p.extents (sym q ∙ p.from)) p.place p.through)
 answer_with profile M V N lw e q r b here (one_unread i t eq u) = unread_answer (ascending (pair e i))
-    (layout_at profile M N e r b ∙ ap (λ x. and_then x (layout_of profile N)) eq)
+    (needed_at profile M N e r b ∙ ap (λ x. and_then x (layout_of profile N)) eq)
     (record {
       group = pair e i;
       is_group = inr a_pair;
@@ -265,12 +290,26 @@ found_anchor : (M : Blocks) (V : Volume) (N n m : ℕ) → first_anchor M (ancho
 unfolding anchor
 found_anchor M V N n m f p = ap (λ o. anchor_or o (not_known M (anchor_places N))) f ∙ ap found (same_extents (V m) (V n) p)
 
+none_of : (e : AnchorExtents) (ns : List ℕ) → anchor_or None ns ≡ found e → ⊥
+none_of e [] x = cc
+none_of e (k ∷ ks) x = cc
+
+-- an anchor that is found by a table that agrees is the volume's
+pub anchor_of_lawful : (profile : Profile) (M : Blocks) (V : Volume) (N : ℕ) → 513 ≤ N → IsLawfulLayoutBy profile V N → Agrees M V N
+    → (e : AnchorExtents) → anchor M N ≡ found e → anchor (complete V N) N ≡ found e
+unfolding anchor
+anchor_of_lawful profile M V N h lw a e p = go (complete_anchor profile V N h lw) (first_anchor_lem M V N a (anchor_places N))
+  where
+    go : (n : ℕ) × Includes (valid_anchors V N) n × (anchor (complete V N) N ≡ found (extents_of (V n))) → FirstAnchor M V (anchor_places N) → anchor (complete V N) N ≡ found e
+    go (n, i, q) (one_known m im vm km fm) = q ∙ sym (found_anchor M V N n m fm (lw.anchors m n (contained (valid_anchors V N) m (is_valid_one V N m im vm)) (contained (valid_anchors V N) n i))) ∙ p
+    go (n, i, q) (none_known f all) = absurd (none_of e (not_known M (anchor_places N)) (sym (ap (λ o. anchor_or o (not_known M (anchor_places N))) f) ∙ p))
+
 pub layout_law : (profile : Profile) → LayoutLawBy profile
 layout_law profile M V N hv lw a = by_complete (complete_anchor profile V N hv.from lw) (first_anchor_lem M V N a (anchor_places N))
   where
     by_complete : (n : ℕ) × Includes (valid_anchors V N) n × (anchor (complete V N) N ≡ found (extents_of (V n))) → FirstAnchor M V (anchor_places N)
         → IsAnswerOf M (valid_anchors V N) (anchor_places N) (IsSequenceGroup V N) (layout_by profile M N) (layout_by profile (complete V N) N)
-    by_complete (n, i, q) (one_known m im vm km fm) = let b : are_extents N (extents_of (V n)) ≡ true = are_extents_of profile V N (extents_of (V n)) lw.laid_out.0 q lw.laid_out.1 in
+    by_complete (n, i, q) (one_known m im vm km fm) = let b : are_extents_by profile N (extents_of (V n)) ≡ true = are_extents_of profile V N (extents_of (V n)) lw.laid_out.0 q lw.laid_out.1 in
         let va : Includes (valid_anchors V N) m = is_valid_one V N m im vm in
         answer_with profile M V N lw (extents_of (V n)) q (found_anchor M V N n m fm (lw.anchors m n (contained (valid_anchors V N) m va) (contained (valid_anchors V N) n i))) b (m, contained (valid_anchors V N) m va, (V m, km))
         (rows_alike profile M V N a lw (extents_of (V n)) q b)

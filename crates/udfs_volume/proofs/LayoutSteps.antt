@@ -10,8 +10,8 @@ use Rattle.udfs_volume.specs.declared.profiles.Profile.{Profile}
 use Rattle.udfs_volume.specs.declared.faults.VolumeFault.{VolumeFault}
 use Rattle.udfs_volume.specs.declared.faults.VolumeFault.TheVariants.{Domain, BlockSize, MapCount, MapKind, NoLogicalVolume, Contents, PartitionRange}
 use Rattle.udfs_volume.specs.Answers.{found, holes, faulty, and_then, unless_fault}
-use Rattle.udfs_volume.specs.Sequence.{Descriptor, sequence}
-use Rattle.udfs_volume.specs.Layout.{Layout, NumberedMap, Described, bp, has_domain, has_revision, map_count, the_maps, volume_fault, described, has_contents, partition_of, is_in_range, laid_out, with_maps, with_volume, logical_volume, layout_of, layout_by}
+use Rattle.udfs_volume.specs.Sequence.{Descriptor, sequence_by}
+use Rattle.udfs_volume.specs.Layout.{Layout, NumberedMap, Described, bp, has_domain, has_revision, map_count, the_maps, volume_fault, described, has_contents, partition_of, placed_of, is_in_range, laid_out, with_maps, with_volume, logical_volume, layout_of, layout_by}
 use Rattle.udfs_volume.specs.LayoutParts.{field_tests}
 
 abbrev pub layout_by_parts : Profile → ℕ → Descriptor → List Described → Layout
@@ -19,15 +19,15 @@ layout_by_parts profile last lv ps = record {
   last = last;
   revision = uint16_at lv.content (bp 240);
   label = label_of (part lv.content (bp 84) 128);
-  partitions = map partition_of ps;
+  partitions = map (λ p. placed_of profile last (partition_of p)) ps;
   file_set = long_ad_at lv.content (bp 248);
   profile = profile;
 }
 
-pub laid_out-range : (profile : Profile) (last : ℕ) (lv : Descriptor) (ps : List Described) → list_all has_contents ps ≡ true → list_all (λ p. is_in_range last (partition_of p)) ps ≡ false → laid_out profile last lv (Some ps) ≡ faulty PartitionRange
+pub laid_out-range : (profile : Profile) (last : ℕ) (lv : Descriptor) (ps : List Described) → list_all has_contents ps ≡ true → list_all (λ p. is_in_range profile last (partition_of p)) ps ≡ false → laid_out profile last lv (Some ps) ≡ faulty PartitionRange
 laid_out-range profile last lv ps p q = λ i. unless_fault (cond (not (p i)) (Some Contents) (cond (not (q i)) (Some PartitionRange) None)) (layout_by_parts profile last lv ps)
 
-pub laid_out-found : (profile : Profile) (last : ℕ) (lv : Descriptor) (ps : List Described) → list_all has_contents ps ≡ true → list_all (λ p. is_in_range last (partition_of p)) ps ≡ true → laid_out profile last lv (Some ps) ≡ found (layout_by_parts profile last lv ps)
+pub laid_out-found : (profile : Profile) (last : ℕ) (lv : Descriptor) (ps : List Described) → list_all has_contents ps ≡ true → list_all (λ p. is_in_range profile last (partition_of p)) ps ≡ true → laid_out profile last lv (Some ps) ≡ found (layout_by_parts profile last lv ps)
 laid_out-found profile last lv ps p q = λ i. unless_fault (cond (not (p i)) (Some Contents) (cond (not (q i)) (Some PartitionRange) None)) (layout_by_parts profile last lv ps)
 
 some_of : (a b c d : Bool) (f : VolumeFault) → cond a (Some Domain) (cond b (Some BlockSize) (cond c (Some MapCount) None)) ≡ Some f
@@ -74,14 +74,14 @@ layout_of-maps profile last ds lv ms e h m = sym (ap (with_volume profile last d
     ∙ with_lv profile last ds lv None (fault-none profile last lv (sym h) ∙ ap (λ o. cond (is_none o) (Some MapKind) None) (sym m))
     ∙ ap (with_maps profile last ds lv) (sym m)
 
-pub layout-holes : (profile : Profile) (T : Blocks) (last : ℕ) (ns : List ℕ) → sequence T last ≡ holes ns → layout_by profile T last ≡ holes ns
+pub layout-holes : (profile : Profile) (T : Blocks) (last : ℕ) (ns : List ℕ) → sequence_by profile T last ≡ holes ns → layout_by profile T last ≡ holes ns
 unfolding layout_by
 layout-holes profile T last ns h = ap (λ a. and_then a (layout_of profile last)) h
 
-pub layout_faulty : (profile : Profile) (T : Blocks) (last : ℕ) (f : VolumeFault) → sequence T last ≡ faulty f → layout_by profile T last ≡ faulty f
+pub layout_faulty : (profile : Profile) (T : Blocks) (last : ℕ) (f : VolumeFault) → sequence_by profile T last ≡ faulty f → layout_by profile T last ≡ faulty f
 unfolding layout_by
 layout_faulty profile T last f h = ap (λ a. and_then a (layout_of profile last)) h
 
-pub layout-read : (profile : Profile) (T : Blocks) (last : ℕ) (ds : List Descriptor) → sequence T last ≡ found ds → layout_by profile T last ≡ layout_of profile last ds
+pub layout-read : (profile : Profile) (T : Blocks) (last : ℕ) (ds : List Descriptor) → sequence_by profile T last ≡ found ds → layout_by profile T last ≡ layout_of profile last ds
 unfolding layout_by
 layout-read profile T last ds h = ap (λ a. and_then a (layout_of profile last)) h

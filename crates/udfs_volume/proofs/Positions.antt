@@ -10,26 +10,38 @@ use Rattle.udfs_tag.specs.Tags.{is_sound, identifier}
 use Rattle.udfs_volume.specs.Answers.{Answer, found, holes, faulty}
 use Rattle.udfs_volume.specs.declared.faults.VolumeFault.TheVariants.{Pointer}
 use Rattle.udfs_volume.specs.Sequence.{Position, Descriptor, unread, invalid, descriptor, position, position_of, goes_on, cons_descriptor, descriptors, ended_by, read_positions}
-use Rattle.udfs_volume.specs.Laws.{SaysTheSame}
+use Rattle.udfs_volume.specs.Laws.{SaysTheSame, is_of_layout}
+use Rattle.udfs_volume.proofs.Needed.{needed, needed_else}
 use Rattle.udfs_volume.proofs.Known.{complete-known, known_is, true_false}
 
+-- a position as the layout needs it is the volume's, and one of its copies is known; or neither is
 pub data PositionIs (M : Blocks) (V : Volume) (N m r : ℕ) : Type 0 where
-  same : position M m r ≡ position (complete V N) m r → (n : ℕ) → Includes (m ∷ r ∷ []) n → M n ≡ Known (V n) → PositionIs M V N m r
+  same : needed (position M m r) ≡ needed (position (complete V N) m r) → (n : ℕ) → Includes (m ∷ r ∷ []) n → M n ≡ Known (V n) → PositionIs M V N m r
   neither : position M m r ≡ unread (ascending (m ∷ r ∷ [])) → is_known (M m) ≡ false → is_known (M r) ≡ false → PositionIs M V N m r
 
 -- what stands at a block that is known
 abbrev pub described : Volume → ℕ → Position
 described V n = cond (is_sound (V n) n) (descriptor (record { identifier = identifier (V n); content = drop 16 (V n) })) invalid
 
-same_described : (V : Volume) (m r : ℕ) → SaysTheSame V m r → described V r ≡ described V m
+same_described : (V : Volume) (m r : ℕ) → SaysTheSame V m r → needed (described V r) ≡ needed (described V m)
 same_described V m r s = go (is_sound (V m) m) refl
   where
-    go : (b : Bool) → is_sound (V m) m ≡ b → described V r ≡ described V m
-    go true e = ap (λ b. cond b (descriptor (record { identifier = identifier (V r); content = drop 16 (V r) })) invalid) (sym s.soundness ∙ e)
-        ∙ (λ i. descriptor (record { identifier = sym (s.identifiers e) i; content = sym (s.contents e) i }))
-        ∙ sym (ap (λ b. cond b (descriptor (record { identifier = identifier (V m); content = drop 16 (V m) })) invalid) e)
-    go false e = ap (λ b. cond b (descriptor (record { identifier = identifier (V r); content = drop 16 (V r) })) invalid) (sym s.soundness ∙ e)
-        ∙ sym (ap (λ b. cond b (descriptor (record { identifier = identifier (V m); content = drop 16 (V m) })) invalid) e)
+    at : ℕ → Position
+    at n = descriptor (record { identifier = identifier (V n); content = drop 16 (V n) })
+
+    by : (b : Bool) → is_of_layout (identifier (V m)) ≡ b → is_sound (V m) m ≡ true → needed (at r) ≡ needed (at m)
+    by true q e = let x : identifier (V m) ≡ identifier (V r) = s.identifiers e in let y : drop 16 (V m) ≡ drop 16 (V r) = s.contents e q in
+        λ i. needed (descriptor (record { identifier = sym x i; content = sym y i }))
+    by false q e = let x : identifier (V m) ≡ identifier (V r) = s.identifiers e in
+        ap (λ n. needed (descriptor (record { identifier = n; content = drop 16 (V r) }))) (sym x)
+        ∙ needed_else (identifier (V m)) (drop 16 (V r)) (drop 16 (V m)) q
+
+    go : (b : Bool) → is_sound (V m) m ≡ b → needed (described V r) ≡ needed (described V m)
+    go true e = ap (λ b. needed (cond b (at r) invalid)) (sym s.soundness ∙ e)
+        ∙ by (is_of_layout (identifier (V m))) refl e
+        ∙ sym (ap (λ b. needed (cond b (at m) invalid)) e)
+    go false e = ap (λ b. needed (cond b (at r) invalid)) (sym s.soundness ∙ e)
+        ∙ sym (ap (λ b. needed (cond b (at m) invalid)) e)
 
 pub main_is : (T : Blocks) (V : Volume) (m r : ℕ) → T m ≡ Known (V m) → position T m r ≡ described V m
 unfolding position
@@ -64,12 +76,12 @@ position_lem M V N a m r fits says = at_main (M m) refl
     at_reserve : is_known (M m) ≡ false → (s : State) → M r ≡ s → PositionIs M V N m r
     at_reserve u Unknown q = neither (reserve_unread M m r u (ap is_known q)) u (ap is_known q)
     at_reserve u (Known bytes) q = let k : M r ≡ Known (V r) = known_is M V N a r bytes q in
-        same (reserve_is M V m r u k ∙ same_described V m r says ∙ sym whole) r (inr (inl refl)) k
+        same (ap needed (reserve_is M V m r u k) ∙ same_described V m r says ∙ sym (ap needed whole)) r (inr (inl refl)) k
     at_reserve u Conflict q = neither (reserve_unread M m r u (ap is_known q)) u (ap is_known q)
 
     at_main : (s : State) → M m ≡ s → PositionIs M V N m r
     at_main Unknown q = at_reserve (ap is_known q) (M r) refl
-    at_main (Known bytes) q = let k : M m ≡ Known (V m) = known_is M V N a m bytes q in same (main_is M V m r k ∙ sym whole) m (inl refl) k
+    at_main (Known bytes) q = let k : M m ≡ Known (V m) = known_is M V N a m bytes q in same (ap needed (main_is M V m r k ∙ sym whole)) m (inl refl) k
     at_main Conflict q = at_reserve (ap is_known q) (M r) refl
 
 -- a descriptor that goes on stands before what follows

@@ -2,11 +2,15 @@
 -- those that end in `_by` for every profile, the others by the strict rules.
 use Rattle.udfs_volume.specs.declared.profiles.Profile.{Profile}
 use Rattle.udfs_volume.specs.declared.profiles.Profile.TheVariants.{Strict}
-use Rattle.udfs_volume.specs.Laws.{AscendingRises, FoundBounds, FoundBoundsBy, LayoutLaw, LayoutLawBy, StandardLayout, StandardLayoutBy}
+use Rattle.udfs_volume.specs.Laws.{AscendingRises, EqualCopiesAreLawful, EqualCopiesAreLawfulBy, FoundBounds, FoundBoundsBy, LayoutLaw, LayoutLawBy, StandardLayout, StandardLayoutBy, StrictSequence}
+use Rattle.udfs_volume.specs.Primaries.{PrimariesMayDiffer}
 use Rattle.udfs_volume.specs.Sample.{SampleLayout}
 use Rattle.udfs_volume.proofs.Bounds as bounds
+use Rattle.udfs_volume.proofs.EqualCopies.{equal_copies}
+use Rattle.udfs_volume.proofs.PrimariesLaw as primaries
 use Rattle.udfs_volume.proofs.LayoutLaw as lawful
 use Rattle.udfs_volume.proofs.StandardLaw as standard
+use Rattle.udfs_volume.proofs.Extents as extents
 use Rattle.udfs_volume.proofs.Rising as rising
 use Rattle.udfs_volume.proofs.SampleLaw as sample
 
@@ -33,3 +37,15 @@ ascending_rises = rising.rising_ascending
 
 pub sample_layout_is_lawful : SampleLayout
 sample_layout_is_lawful = sample.sample_layout_law
+
+pub equal_copies_are_lawful_by : (profile : Profile) → EqualCopiesAreLawfulBy profile
+equal_copies_are_lawful_by = equal_copies
+
+pub equal_copies_are_lawful : EqualCopiesAreLawful
+equal_copies_are_lawful = equal_copies_are_lawful_by Strict
+
+pub primaries_may_differ : PrimariesMayDiffer
+primaries_may_differ = primaries.primaries_may_differ
+
+pub strict_sequence : StrictSequence
+strict_sequence = extents.strict_sequence

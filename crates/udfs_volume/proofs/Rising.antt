@@ -10,9 +10,10 @@ use Rattle.udfs_volume.specs.declared.anchors.AnchorExtents.{AnchorExtents}
 use Rattle.udfs_volume.specs.declared.faults.VolumeFault.TheVariants.{Extents, Pointer}
 use Rattle.udfs_volume.specs.declared.seen.Seen.{Seen}
 use Rattle.udfs_volume.specs.declared.seen.Seen.TheVariants.{Got, Holes, Fault, OutOfMemory}
+use Rattle.udfs_volume.specs.declared.profiles.Profile.{Profile}
 use Rattle.udfs_volume.specs.Answers.{Answer, found, holes, faulty, and_then}
 use Rattle.udfs_volume.specs.Seen.{Sees, IsRising, HolesRise}
-use Rattle.udfs_volume.specs.Sequence.{Bytes, Descriptor, Position, unread, invalid, descriptor, anchor, anchor_or, anchor_places, first_anchor, position, position_of, positions, goes_on, read_positions, ended_by, are_extents, sequence_at, sequence}
+use Rattle.udfs_volume.specs.Sequence.{Bytes, Descriptor, Position, unread, invalid, descriptor, anchor, anchor_or, anchor_places, first_anchor, position, position_of, positions, goes_on, read_positions, ended_by, are_extents_by, sequence_at, sequence_by, shared}
 use Rattle.udfs_volume.proofs.Known.{Includes-from_filter}
 use Rattle.udfs_volume.proofs.Positions.{before, read-on, read-stop}
 
@@ -155,13 +156,13 @@ read_rises (p ∷ ps) all = go (read_rises ps all.1) (goes_on p) refl
     go later true e = subst Rises (sym (read-on p ps e)) (rises_before p (read_positions ps) later)
     go later false e = subst Rises (sym (read-stop p ps e)) (rises_ended p all.0)
 
-sequence_at_rises : (T : Blocks) (last : ℕ) (e : AnchorExtents) → Rises (sequence_at T last e)
-sequence_at_rises T last e = go (are_extents last e)
+sequence_at_rises : (profile : Profile) (T : Blocks) (last : ℕ) (e : AnchorExtents) → Rises (sequence_at profile T last e)
+sequence_at_rises profile T last e = go (are_extents_by profile last e)
   where
-    go : (b : Bool) → Rises (cond b (read_positions (positions T e)) (faulty Extents))
-    go true = read_rises (positions T e) (all_rise _ (λ i. position_rises T (e.main.block + i) (e.reserve.block + i)) _)
+    go : (b : Bool) → Rises (cond b (read_positions (positions T (shared e))) (faulty Extents))
+    go true = read_rises (positions T (shared e)) (all_rise _ (λ i. position_rises T (e.main.block + i) (e.reserve.block + i)) _)
     go false = tt
 
-pub sequence_rises : (T : Blocks) (last : ℕ) → 513 ≤ last → Rises (sequence T last)
-unfolding sequence
-sequence_rises T last from = rises_and_then (anchor T last) (sequence_at T last) (anchor_rises T last from) (sequence_at_rises T last)
+pub sequence_rises : (profile : Profile) (T : Blocks) (last : ℕ) → 513 ≤ last → Rises (sequence_by profile T last)
+unfolding sequence_by
+sequence_rises profile T last from = rises_and_then (anchor T last) (sequence_at profile T last) (anchor_rises T last from) (sequence_at_rises profile T last)

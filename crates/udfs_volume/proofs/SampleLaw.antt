@@ -12,7 +12,7 @@ use Rattle.udfs_tag.specs.Fields.{part}
 use Rattle.udfs_tag.specs.Tags.{tag_of}
 use Rattle.udfs_volume.specs.Answers.{found}
 use Rattle.udfs_volume.specs.declared.anchors.AnchorExtents.{AnchorExtents}
-use Rattle.udfs_volume.specs.Sequence.{Bytes, anchor, position, goes_on, sequence}
+use Rattle.udfs_volume.specs.Sequence.{Bytes, anchor, position, goes_on, sequence_by}
 use Rattle.udfs_volume.specs.Layout.{layout_of, layout_by, layout}
 use Rattle.udfs_volume.specs.Laws.{valid_anchors, IsThroughEnd, SaysTheSame, IsLawfulLayout}
 use Rattle.udfs_volume.specs.Sample.{Maps, one_type1, one_sparable, type1_and_sparable, SampleLayout, anchor_at, logical_volume_at, other_partition_at, partition_at, sample, sample_blocks, sample_layout, sparing_table_at, terminator_at}
@@ -81,21 +81,21 @@ the_end maps contents = refl
 
 same_0 : (maps : Maps) (contents : ℕ → Bytes) → SaysTheSame (sample maps contents) 32 48
 unfolding polynomial reduced crc_of tag_of
-same_0 one_type1 contents = record { soundness = refl; identifiers = λ e. refl; contents = λ e. refl }
-same_0 one_sparable contents = record { soundness = refl; identifiers = λ e. refl; contents = λ e. refl }
-same_0 type1_and_sparable contents = record { soundness = refl; identifiers = λ e. refl; contents = λ e. refl }
+same_0 one_type1 contents = record { soundness = refl; identifiers = λ e. refl; contents = λ e r. refl }
+same_0 one_sparable contents = record { soundness = refl; identifiers = λ e. refl; contents = λ e r. refl }
+same_0 type1_and_sparable contents = record { soundness = refl; identifiers = λ e. refl; contents = λ e r. refl }
 
 same_1 : (maps : Maps) (contents : ℕ → Bytes) → SaysTheSame (sample maps contents) 33 49
 unfolding polynomial reduced crc_of tag_of
-same_1 maps contents = record { soundness = refl; identifiers = λ e. refl; contents = λ e. refl }
+same_1 maps contents = record { soundness = refl; identifiers = λ e. refl; contents = λ e r. refl }
 
 same_2 : (maps : Maps) (contents : ℕ → Bytes) → SaysTheSame (sample maps contents) 34 50
 unfolding polynomial reduced crc_of tag_of
-same_2 maps contents = record { soundness = refl; identifiers = λ e. refl; contents = λ e. refl }
+same_2 maps contents = record { soundness = refl; identifiers = λ e. refl; contents = λ e r. refl }
 
 same_3 : (maps : Maps) (contents : ℕ → Bytes) → SaysTheSame (sample maps contents) 35 51
 unfolding polynomial reduced crc_of tag_of
-same_3 maps contents = record { soundness = refl; identifiers = λ e. refl; contents = λ e. refl }
+same_3 maps contents = record { soundness = refl; identifiers = λ e. refl; contents = λ e r. refl }
 
 copies_by : (maps : Maps) (contents : ℕ → Bytes) (i : ℕ) → IsThroughEnd (sample maps contents) 600 extents i → SaysTheSame (sample maps contents) (32 + i) (48 + i)
 copies_by maps contents zero h = same_0 maps contents
@@ -106,7 +106,7 @@ copies_by maps contents (suc (suc (suc (suc i)))) h = absurd (let t : true ≡ f
 
 -- ---- the layout
 layout_is : (maps : Maps) (contents : ℕ → Bytes) → layout (sample_blocks maps contents) 600 ≡ found (sample_layout maps)
-unfolding polynomial reduced crc_of tag_of anchor position sequence layout_of layout_by
+unfolding polynomial reduced crc_of tag_of anchor position sequence_by layout_of layout_by
 layout_is one_type1 contents = refl
 layout_is one_sparable contents = refl
 layout_is type1_and_sparable contents = refl

@@ -10,7 +10,7 @@ use Rattle.udfs_volume.specs.Answers.{Answer, found, holes, faulty, and_then}
 use Rattle.udfs_volume.specs.declared.faults.VolumeFault.TheVariants.{Pointer}
 use Rattle.udfs_volume.specs.declared.profiles.Profile.{Profile}
 use Rattle.udfs_volume.specs.declared.anchors.AnchorExtents.{AnchorExtents}
-use Rattle.udfs_volume.specs.Sequence.{extents_of, anchor, anchor_places, anchor_or, first_anchor, or_else, anchor_here, are_extents, Position, Descriptor, invalid, descriptor, position, positions, goes_on, read_positions, ended_by}
+use Rattle.udfs_volume.specs.Sequence.{extents_of, anchor, anchor_places, anchor_or, first_anchor, or_else, anchor_here, are_extents_by, shared, shorter, Position, Descriptor, invalid, descriptor, position, positions, goes_on, read_positions, ended_by}
 use Rattle.udfs_volume.specs.Layout.{layout_by, layout_of}
 use Rattle.udfs_volume.specs.Standard.{standard_anchor, standard_layout_by, main_sequence}
 use Rattle.udfs_volume.specs.Laws.{StandardLayoutBy, IsLawfulLayoutBy}
@@ -137,23 +137,23 @@ standard_layout_law profile V N hv lw = go (standard_anchor_is profile V N hv.fr
         e : AnchorExtents
         e = extents_of (V n)
 
-        b : are_extents N e ≡ true
+        b : are_extents_by profile N e ≡ true
         b = are_extents_of profile V N e lw.laid_out.0 q lw.laid_out.1
 
-        by : layout_by profile C N ≡ and_then (read_positions (positions C e)) (layout_of profile N)
+        by : layout_by profile C N ≡ and_then (read_positions (positions C (shared e))) (layout_of profile N)
         by = layout_at profile C N e q b
 
-        r : (ds : List Descriptor) × (read_positions (positions C e) ≡ found ds) × (layout_of profile N ds ≡ found lw.laid_out.0)
-        r = and_then-found (read_positions (positions C e)) (layout_of profile N) lw.laid_out.0 (sym by ∙ lw.laid_out.1)
+        r : (ds : List Descriptor) × (read_positions (positions C (shared e)) ≡ found ds) × (layout_of profile N ds ≡ found lw.laid_out.0)
+        r = and_then-found (read_positions (positions C (shared e))) (layout_of profile N) lw.laid_out.0 (sym by ∙ lw.laid_out.1)
 
-        rows : map (λ i. described V (e.main.block + i)) (range_with_len 0 (e.main.length / 2048)) ≡ positions C e
-        rows = rows_same (λ i. described V (e.main.block + i)) (λ i. position C (e.main.block + i) (e.reserve.block + i)) 0 (e.main.length / 2048)
+        rows : map (λ i. described V (e.main.block + i)) (range_with_len 0 (shorter e / 2048)) ≡ positions C (shared e)
+        rows = rows_same (λ i. described V (e.main.block + i)) (λ i. position C (e.main.block + i) (e.reserve.block + i)) 0 (shorter e / 2048)
             (λ i l m. sym (main_is C V (e.main.block + i) (e.reserve.block + i) (complete-known V N (e.main.block + i)
-            (let h : e.main.block + e.main.length / 2048 ≤ N + 1 = main_fits N e b in omega (arith, m, h)))))
+            (let h : e.main.block + shorter e / 2048 ≤ N + 1 = main_fits profile N e b in omega (arith, m, h)))))
 
         none : (q : ℕ) → q ≡ q + 0
         none q = omega arith
 
         main_is_ds : main_sequence V e ≡ r.0
-        main_is_ds = ap (λ y. map (desc V) (take_while (runs V) (range_with_len y (e.main.length / 2048)))) (none e.main.block)
-            ∙ main_reads V e.main.block 0 (e.main.length / 2048) r.0 (ap read_positions rows ∙ r.1)
+        main_is_ds = ap (λ y. map (desc V) (take_while (runs V) (range_with_len y (shorter e / 2048)))) (none e.main.block)
+            ∙ main_reads V e.main.block 0 (shorter e / 2048) r.0 (ap read_positions rows ∙ r.1)

@@ -10,7 +10,7 @@ use Rattle.udfs_volume.specs.declared.seen.Seen.{Seen}
 use Rattle.udfs_volume.specs.declared.seen.Seen.TheVariants.{Got, Holes, Fault, OutOfMemory}
 use Rattle.udfs_volume.specs.Answers.{Answer, found, holes, faulty, and_then, unless_fault}
 use Rattle.udfs_volume.specs.Seen.{Sees, HolesRise, IfGot, TellsFault, GoesOn}
-use Rattle.udfs_volume.specs.Sequence.{Descriptor, anchor_places, sequence}
+use Rattle.udfs_volume.specs.Sequence.{Descriptor, anchor_places, sequence_by}
 use Rattle.udfs_volume.specs.Layout.{Layout, NumberedMap, Described, has_contents, partition_of, is_in_range, laid_out, with_maps, with_volume, the_maps, volume_fault, described, logical_volume, layout_of, layout_by}
 use Rattle.udfs_volume.specs.LayoutParts.{parts_now}
 use Rattle.udfs_volume.specs.Sequences.{sequence_now}
@@ -63,7 +63,7 @@ by_descriptors profile N (faulty f) l e = absurd (let no : ⊥ = cc in no)
 
 found_bounded : (profile : Profile) (T : Blocks) (N : ℕ) (l : Layout) → layout_by profile T N ≡ found l → IsBounded N l
 unfolding layout_by
-found_bounded profile T N l e = by_descriptors profile N (sequence T N) l e
+found_bounded profile T N l e = by_descriptors profile N (sequence_by profile T N) l e
 
 pub got_bounded : (profile : Profile) (T : Blocks) (N : ℕ) (seen : Seen VolumeParts) → Sees parts_now seen (layout_by profile T N) → IfGot seen (λ parts. IsBounded N (parts_now parts))
 got_bounded profile T N (Got parts) s = found_bounded profile T N (parts_now parts) s
@@ -98,7 +98,7 @@ late_two false false l = tt
 
 late_laid_out : (profile : Profile) (N : ℕ) (lv : Descriptor) (o : Option (List Described)) → IsLate (laid_out profile N lv o)
 late_laid_out profile N lv None = refl
-late_laid_out profile N lv (Some ps) = late_two (not (list_all has_contents ps)) (not (list_all (λ p. is_in_range N (partition_of p)) ps)) _
+late_laid_out profile N lv (Some ps) = late_two (not (list_all has_contents ps)) (not (list_all (λ p. is_in_range profile N (partition_of p)) ps)) _
 
 late_maps : (profile : Profile) (N : ℕ) (ds : List Descriptor) (lv : Descriptor) (o : Option (List NumberedMap)) → IsLate (with_maps profile N ds lv o)
 late_maps profile N ds lv None = refl
@@ -121,7 +121,7 @@ rises_late (faulty fault) l = tt
 
 pub layout_rises : (profile : Profile) (T : Blocks) (N : ℕ) → 513 ≤ N → Rises (layout_by profile T N)
 unfolding layout_by
-layout_rises profile T N from = go (sequence T N) (sequence_rises T N from)
+layout_rises profile T N from = go (sequence_by profile T N) (sequence_rises profile T N from)
   where
     go : (a : Answer (List Descriptor)) → Rises a → Rises (and_then a (layout_of profile N))
     go (found ds) r = rises_late (layout_of profile N ds) (late_layout_of profile N ds)
@@ -134,9 +134,9 @@ early_from profile N f early (holes ns) e = absurd (let no : ⊥ = cc in no)
 early_from profile N f early (faulty g) e = let same : g ≡ f = cc in ap faulty same
 
 -- a fault of the anchor is the sequence's
-pub early_of_layout : (profile : Profile) (T : Blocks) (N : ℕ) (f : VolumeFault) → is_early f ≡ true → layout_by profile T N ≡ faulty f → sequence T N ≡ faulty f
+pub early_of_layout : (profile : Profile) (T : Blocks) (N : ℕ) (f : VolumeFault) → is_early f ≡ true → layout_by profile T N ≡ faulty f → sequence_by profile T N ≡ faulty f
 unfolding layout_by
-early_of_layout profile T N f early e = early_from profile N f early (sequence T N) e
+early_of_layout profile T N f early e = early_from profile N f early (sequence_by profile T N) e
 
 -- what `layout` promises
 abbrev pub LayoutClauses : Profile → Blocks → ℕ → Seen VolumeParts → Type 0
@@ -151,7 +151,7 @@ LayoutClauses profile T last seen = record {
 
 -- the same, by what it saw
 pub layout_clauses : (profile : Profile) (T : Blocks) (last : ℕ) (seen : Seen VolumeParts) → 513 ≤ last → Sees parts_now seen (layout_by profile T last)
-    → (seen ≡ OutOfMemory → sequence T last ≡ faulty NoAnchor → ⊥) → (seen ≡ OutOfMemory → sequence T last ≡ faulty Extents → ⊥)
+    → (seen ≡ OutOfMemory → sequence_by profile T last ≡ faulty NoAnchor → ⊥) → (seen ≡ OutOfMemory → sequence_by profile T last ≡ faulty Extents → ⊥)
     → LayoutClauses profile T last seen
 layout_clauses profile T last seen from value anchored fits = record {
   value = value;
@@ -164,7 +164,7 @@ layout_clauses profile T last seen from value anchored fits = record {
 
 -- the same, by what was seen of the sequence
 pub layout_from : (profile : Profile) (T : Blocks) (last : ℕ) (a : Seen code_sequence.Sequence) (seen : Seen VolumeParts) (Next : code_sequence.Sequence → Seen VolumeParts → Type 0) → 513 ≤ last
-    → Sees sequence_now a (sequence T last) → TellsFault NoAnchor a (sequence T last) → TellsFault Extents a (sequence T last) → GoesOn a Next seen
+    → Sees sequence_now a (sequence_by profile T last) → TellsFault NoAnchor a (sequence_by profile T last) → TellsFault Extents a (sequence_by profile T last) → GoesOn a Next seen
     → ((s : code_sequence.Sequence) → Next s seen → Sees parts_now seen (layout_of profile last (sequence_now s))) → LayoutClauses profile T last seen
 layout_from profile T last (Got s) seen Next from is none fits goes next =
     layout_clauses profile T last seen from (subst (Sees parts_now seen) (sym (layout-read profile T last (sequence_now s) is)) (next s goes))

@@ -6,8 +6,9 @@ use Rattle.udfs_lattice.specs.Volumes.{Blocks}
 use Rattle.udfs_volume.specs.declared.anchors.AnchorExtents.{AnchorExtents}
 use Rattle.udfs_volume.specs.declared.faults.VolumeFault.{VolumeFault}
 use Rattle.udfs_volume.specs.declared.faults.VolumeFault.TheVariants.{Extents, Pointer}
+use Rattle.udfs_volume.specs.declared.profiles.Profile.{Profile}
 use Rattle.udfs_volume.specs.Answers.{Answer, found, holes, faulty, and_then}
-use Rattle.udfs_volume.specs.Sequence.{Descriptor, Position, unread, invalid, descriptor, position, goes_on, ended_by, read_positions, positions, anchor, are_extents, sequence, sequence_at}
+use Rattle.udfs_volume.specs.Sequence.{Descriptor, Position, unread, invalid, descriptor, position, goes_on, ended_by, read_positions, positions, anchor, are_extents_by, sequence_by, sequence_at, shared}
 use Rattle.udfs_volume.proofs.Positions.{before, read-on, read-stop}
 
 -- position i of the two extents
@@ -71,20 +72,20 @@ goes-on f i n ds x d h e not3 not8 inv = sym (after-before ds d (read_positions 
 
 -- ---- from the anchor on
 
-pub sequence-holes : (T : Blocks) (last : ℕ) (ns : List ℕ) → anchor T last ≡ holes ns → sequence T last ≡ holes ns
-unfolding sequence
-sequence-holes T last ns h = ap (λ a. and_then a (sequence_at T last)) h
+pub sequence-holes : (profile : Profile) (T : Blocks) (last : ℕ) (ns : List ℕ) → anchor T last ≡ holes ns → sequence_by profile T last ≡ holes ns
+unfolding sequence_by
+sequence-holes profile T last ns h = ap (λ a. and_then a (sequence_at profile T last)) h
 
-pub sequence_faulty : (T : Blocks) (last : ℕ) (f : VolumeFault) → anchor T last ≡ faulty f → sequence T last ≡ faulty f
-unfolding sequence
-sequence_faulty T last f h = ap (λ a. and_then a (sequence_at T last)) h
+pub sequence_faulty : (profile : Profile) (T : Blocks) (last : ℕ) (f : VolumeFault) → anchor T last ≡ faulty f → sequence_by profile T last ≡ faulty f
+unfolding sequence_by
+sequence_faulty profile T last f h = ap (λ a. and_then a (sequence_at profile T last)) h
 
-pub sequence-found : (T : Blocks) (last : ℕ) (e : AnchorExtents) → anchor T last ≡ found e → sequence T last ≡ sequence_at T last e
-unfolding sequence
-sequence-found T last e h = ap (λ a. and_then a (sequence_at T last)) h
+pub sequence-found : (profile : Profile) (T : Blocks) (last : ℕ) (e : AnchorExtents) → anchor T last ≡ found e → sequence_by profile T last ≡ sequence_at profile T last e
+unfolding sequence_by
+sequence-found profile T last e h = ap (λ a. and_then a (sequence_at profile T last)) h
 
-pub unfit : (T : Blocks) (last : ℕ) (e : AnchorExtents) → are_extents last e ≡ false → sequence_at T last e ≡ faulty Extents
-unfit T last e b = ap (λ c. cond c (read_positions (positions T e)) (faulty Extents)) b
+pub unfit : (profile : Profile) (T : Blocks) (last : ℕ) (e : AnchorExtents) → are_extents_by profile last e ≡ false → sequence_at profile T last e ≡ faulty Extents
+unfit profile T last e b = ap (λ c. cond c (read_positions (positions T (shared e))) (faulty Extents)) b
 
-pub fit : (T : Blocks) (last : ℕ) (e : AnchorExtents) → are_extents last e ≡ true → sequence_at T last e ≡ read_positions (positions T e)
-fit T last e b = ap (λ c. cond c (read_positions (positions T e)) (faulty Extents)) b
+pub fit : (profile : Profile) (T : Blocks) (last : ℕ) (e : AnchorExtents) → are_extents_by profile last e ≡ true → sequence_at profile T last e ≡ read_positions (positions T (shared e))
+fit profile T last e b = ap (λ c. cond c (read_positions (positions T (shared e))) (faulty Extents)) b

@@ -1,12 +1,15 @@
 -- What holds of the layout of a lawful volume of which a part is known.
 --     IsLawfulLayoutBy profile volume last      anchors and copies of the sequence that say the same, and no fault
+--     IsLayoutOfEqualCopiesBy profile volume last   the same, with copies that are equal in every descriptor
 --     IsSequenceGroup                           blocks of which one has to be known: the valid anchors, and each pair
 --     LayoutLawBy profile                       the layout is the volume's, or a group is unread
 --     LayoutBounds, FoundBoundsBy profile       a layout that is found lies within the volume
 --     StandardLayoutBy profile                  with all known it is that of the first anchor and the main sequence
+--     EqualCopiesAreLawfulBy profile            where all copies are equal, the layout is lawful
+--     StrictSequence                            by the strict rules the extents have one length
 --     AscendingRises                            what is listed ascending rises
--- IsLawfulLayout, LayoutLaw, FoundBounds and StandardLayout are these by the strict rules.
-use Rattle.std.specs.Prelude.{◌≡◌, ◌≢◌, ℕ, ◌+◌, ◌/◌, ◌<◌, ◌≤◌, true, false, List, [], ◌∷◌, filter, map, length, drop, ◌⊎◌, ⊤, Some, Contains}
+-- IsLawfulLayout, LayoutLaw, FoundBounds, StandardLayout and EqualCopiesAreLawful are these by the strict rules.
+use Rattle.std.specs.Prelude.{◌≡◌, ◌≢◌, ℕ, ◌+◌, ◌/◌, ◌<◌, ◌≤◌, ◌||◌, Bool, true, false, nat_eq, List, [], ◌∷◌, filter, map, length, drop, ◌⊎◌, ⊤, Some, Contains}
 use Rattle.udfs_lattice.specs.Volumes.{Blocks, Volume, IsVolume, Agrees, ascending, complete, IsUnread, IsKnownAt}
 use Rattle.udfs_tag.specs.Fields.{part}
 use Rattle.udfs_tag.specs.Tags.{is_valid, is_sound, identifier}
@@ -15,7 +18,7 @@ use Rattle.udfs_volume.specs.declared.anchors.AnchorExtents.{AnchorExtents}
 use Rattle.udfs_volume.specs.declared.profiles.Profile.{Profile}
 use Rattle.udfs_volume.specs.declared.profiles.Profile.TheVariants.{Strict}
 use Rattle.udfs_volume.specs.Seen.{IsRising}
-use Rattle.udfs_volume.specs.Sequence.{Descriptor, anchor, anchor_places, position, goes_on}
+use Rattle.udfs_volume.specs.Sequence.{Descriptor, anchor, anchor_places, are_extents, position, goes_on, shared}
 use Rattle.udfs_volume.specs.Standard.{standard_anchor, standard_layout_by}
 use Rattle.udfs_volume.specs.Layout.{Layout, Partition, PartitionMap, type1, sparable, repeats_kind, blocks_in, layout_by, layout_of}
 
@@ -25,16 +28,21 @@ valid_anchors volume last = filter (λ n. is_valid (volume n) n 2) (anchor_place
 
 -- position i is before the one that ends the sequence, or is that one
 pub record IsThroughEnd (volume : Volume) (last : ℕ) (e : AnchorExtents) (i : ℕ) : Type 0 where
-  pub inside : i < e.main.length / 2048
+  pub inside : i < (shared e).main.length / 2048
   pub before : (j : ℕ) → j < i → goes_on (position (complete volume last) (e.main.block + j) (e.reserve.block + j)) ≡ true
 
--- both are descriptors with the same identifier and bytes from 16 on, or neither is one
+-- whether the layout is read from descriptors of this kind: partition descriptors (5) and logical volume descriptors (6; ECMA-167 3/7.2.1)
+abbrev pub is_of_layout : ℕ → Bool
+is_of_layout id = nat_eq id 5 || nat_eq id 6
+
+-- both are descriptors with the same identifier, or neither is one; those of which the layout is read have the same bytes from 16 on
 pub record SaysTheSame (volume : Volume) (main reserve : ℕ) : Type 0 where
   pub soundness : is_sound (volume main) main ≡ is_sound (volume reserve) reserve
   pub identifiers : is_sound (volume main) main ≡ true → identifier (volume main) ≡ identifier (volume reserve)
-  pub contents : is_sound (volume main) main ≡ true → drop 16 (volume main) ≡ drop 16 (volume reserve)
+  pub contents : is_sound (volume main) main ≡ true → is_of_layout (identifier (volume main)) ≡ true → drop 16 (volume main) ≡ drop 16 (volume reserve)
 
--- a volume has an anchor, its anchors name the same extents, both copies of its descriptor sequence say the same, and with all known it has a layout
+-- a volume has an anchor, its anchors name the same extents, both copies of its descriptor sequence say the same of the layout, and with all known it
+-- has one
 pub record IsLawfulLayoutBy (profile : Profile) (volume : Volume) (last : ℕ) : Type 0 where
   pub anchored : valid_anchors volume last ≢ []
   pub anchors : (a b : ℕ) → Contains (valid_anchors volume last) a → Contains (valid_anchors volume last) b
@@ -46,6 +54,30 @@ pub record IsLawfulLayoutBy (profile : Profile) (volume : Volume) (last : ℕ) :
 -- the same by the strict rules
 abbrev pub IsLawfulLayout : Volume → ℕ → Type 0
 IsLawfulLayout = IsLawfulLayoutBy Strict
+
+-- both are descriptors with the same identifier and bytes from 16 on, whatever their kind, or neither is one
+pub record AreEqualCopies (volume : Volume) (main reserve : ℕ) : Type 0 where
+  pub soundness : is_sound (volume main) main ≡ is_sound (volume reserve) reserve
+  pub identifiers : is_sound (volume main) main ≡ true → identifier (volume main) ≡ identifier (volume reserve)
+  pub contents : is_sound (volume main) main ≡ true → drop 16 (volume main) ≡ drop 16 (volume reserve)
+
+-- what a lawful layout asks for, and at each position through the one that ends the sequence copies that are equal, also of descriptors from which
+-- no layout is read
+pub record IsLayoutOfEqualCopiesBy (profile : Profile) (volume : Volume) (last : ℕ) : Type 0 where
+  pub anchored : valid_anchors volume last ≢ []
+  pub anchors : (a b : ℕ) → Contains (valid_anchors volume last) a → Contains (valid_anchors volume last) b
+      → part (volume a) 16 16 ≡ part (volume b) 16 16
+  pub copies : (e : AnchorExtents) (i : ℕ) → anchor (complete volume last) last ≡ found e → IsThroughEnd volume last e i
+      → AreEqualCopies volume (e.main.block + i) (e.reserve.block + i)
+  pub laid_out : (l : Layout) × (layout_by profile (complete volume last) last ≡ found l)
+
+-- where the copies of each position are equal, the layout is lawful
+abbrev pub EqualCopiesAreLawfulBy : Profile → Type 0
+EqualCopiesAreLawfulBy profile = (volume : Volume) (last : ℕ) → IsLayoutOfEqualCopiesBy profile volume last → IsLawfulLayoutBy profile volume last
+
+-- the same by the strict rules
+abbrev pub EqualCopiesAreLawful : Type 0
+EqualCopiesAreLawful = EqualCopiesAreLawfulBy Strict
 
 -- the two copies of one position of the sequence, up to the one that ends it
 pub record IsPair (volume : Volume) (last : ℕ) (group : List ℕ) : Type 0 where
@@ -133,6 +165,10 @@ StandardLayoutBy profile = (volume : Volume) (last : ℕ) → IsVolume volume la
 -- the same by the strict rules
 abbrev pub StandardLayout : Type 0
 StandardLayout = StandardLayoutBy Strict
+
+-- by the strict rules both extents have one length, so the sequence has all of their blocks
+abbrev pub StrictSequence : Type 0
+StrictSequence = (last : ℕ) (e : AnchorExtents) → are_extents last e ≡ true → shared e ≡ e
 
 -- the ascending list of some numbers rises strictly
 abbrev pub AscendingRises : Type 0

@@ -6,7 +6,7 @@ use Rattle.std.specs.Prelude.{ℕ, zero, suc, ◌+◌, ◌-◌, ◌*◌, ◌/◌
 use Rattle.std.specs.List.{range_with_len, list_all, list_any}
 use Rattle.std.specs.Str.{bytes_eq}
 use Rattle.udfs_lattice.specs.Volumes.{Blocks}
-use Rattle.udfs_volume.specs.Sequence.{Bytes, Descriptor, sequence}
+use Rattle.udfs_volume.specs.Sequence.{Bytes, Descriptor, sequence_by}
 use Rattle.udfs_tag.specs.declared.layouts.LongAd.{LongAd}
 use Rattle.udfs_tag.specs.Fields.{uint8_at, uint16_at, uint32_at, long_ad_at, part, regid_at, zero_filled}
 use Rattle.udfs_tag.specs.Faults.{is_within, first_fault}
@@ -14,7 +14,7 @@ use Rattle.udfs_osta.specs.declared.labels.Label.{Label}
 use Rattle.udfs_osta.specs.Labels.{label_of}
 use Rattle.udfs_volume.specs.Answers.{Answer, faulty, and_then, unless_fault}
 use Rattle.udfs_volume.specs.declared.profiles.Profile.{Profile}
-use Rattle.udfs_volume.specs.declared.profiles.Profile.TheVariants.{Strict}
+use Rattle.udfs_volume.specs.declared.profiles.Profile.TheVariants.{Strict, Wide}
 use Rattle.udfs_volume.specs.Profiles.{accepts_packet, accepts_revision}
 use Rattle.udfs_volume.specs.declared.faults.VolumeFault.{VolumeFault}
 use Rattle.udfs_volume.specs.declared.faults.VolumeFault.TheVariants.{NoLogicalVolume, Domain, BlockSize, MapCount, MapKind, NoPartition, Contents, PartitionRange}
@@ -192,25 +192,39 @@ has_contents p = bytes_eq ((regid_at (p.1).content (bp 24)).name) (zero_filled 2
 abbrev pub partition_of : Described → Partition
 partition_of p = record { kind = p.0; start = uint32_at (p.1).content (bp 188); size = uint32_at (p.1).content (bp 192) }
 
--- whether a partition has a block and lies within the volume
-abbrev pub is_in_range : ℕ → Partition → Bool
-is_in_range last p = nat_lt 0 p.size && nat_le (p.start + p.size) (last + 1)
+-- whether a partition of this first block and size has a block, and all of it is within the volume; by the wide rules it is enough that it begins there
+abbrev pub is_range : Profile → ℕ → ℕ → ℕ → Bool
+is_range Strict last start size = nat_lt 0 size && nat_le (start + size) (last + 1)
+is_range Wide last start size = nat_lt 0 size && nat_le start last
+
+-- the same of a partition
+abbrev pub is_in_range : Profile → ℕ → Partition → Bool
+is_in_range profile last p = is_range profile last p.start p.size
+
+-- how many of its blocks can have a place: by the wide rules those up to the last block of the volume
+abbrev pub size_within : Profile → ℕ → ℕ → ℕ → ℕ
+size_within Strict last start size = size
+size_within Wide last start size = cond (nat_le (start + size) (last + 1)) size (last + 1 - start)
+
+-- a partition with the blocks that can have a place
+abbrev pub placed_of : Profile → ℕ → Partition → Partition
+placed_of profile last p = record { kind = p.kind; start = p.start; size = size_within profile last p.start p.size }
 
 -- the first rule that some partition breaks
-abbrev pub partitions_fault : ℕ → List Described → Option VolumeFault
-partitions_fault last ps = first_fault (
+abbrev pub partitions_fault : Profile → ℕ → List Described → Option VolumeFault
+partitions_fault profile last ps = first_fault (
     (not (list_all has_contents ps), Contents)
-    ∷ (not (list_all (λ p. is_in_range last (partition_of p)) ps), PartitionRange)
+    ∷ (not (list_all (λ p. is_in_range profile last (partition_of p)) ps), PartitionRange)
     ∷ [])
 
 -- the layout of a logical volume whose partitions are described
 abbrev pub laid_out : Profile → ℕ → Descriptor → Option (List Described) → Answer Layout
 laid_out profile last lv None = faulty NoPartition
-laid_out profile last lv (Some ps) = unless_fault (partitions_fault last ps) (record {
+laid_out profile last lv (Some ps) = unless_fault (partitions_fault profile last ps) (record {
   last = last;
   revision = uint16_at lv.content (bp 240);
   label = label_of (part lv.content (bp 84) 128);
-  partitions = map partition_of ps;
+  partitions = map (λ p. placed_of profile last (partition_of p)) ps;
   file_set = long_ad_at lv.content (bp 248);
   profile = profile;
 })
@@ -231,7 +245,7 @@ layout_of profile last ds = with_volume profile last ds (logical_volume ds)
 
 -- the layout of a volume, by what is known of its blocks
 unfoldable pub layout_by : Profile → Blocks → ℕ → Answer Layout
-layout_by profile blocks last = and_then (sequence blocks last) (layout_of profile last)
+layout_by profile blocks last = and_then (sequence_by profile blocks last) (layout_of profile last)
 
 -- the same by the strict rules
 abbrev pub layout : Blocks → ℕ → Answer Layout

@@ -1,5 +1,5 @@
 -- The layout of the code, as the definitions have it.
-use Rattle.std.specs.Prelude.{ℕ, Bool, List, [], ◌∷◌, map, not, nat_eq, nat_lt, nat_le, ◌||◌, ◌&&◌, ◌+◌, codes}
+use Rattle.std.specs.Prelude.{Bool, List, [], ◌∷◌, map, not, nat_eq, ◌||◌, codes}
 use Rattle.std.specs.Str.{bytes_eq}
 use Rattle.udfs_tag.specs.Fields.{uint32_at, regid_at, zero_filled}
 use Rattle.udfs_volume.specs.declared.faults.VolumeFault.{VolumeFault}
@@ -44,7 +44,3 @@ field_tests profile lv =
 abbrev pub has_contents_of : Descriptor → Bool
 has_contents_of d = bytes_eq (regid_at d.content (bp 24)).name (zero_filled 23 (codes "+NSR02"))
     || bytes_eq (regid_at d.content (bp 24)).name (zero_filled 23 (codes "+NSR03"))
-
--- whether a range has a block and lies within the volume
-abbrev pub is_range : ℕ → ℕ → ℕ → Bool
-is_range last start size = nat_lt 0 size && nat_le (start + size) (last + 1)

@@ -1,7 +1,8 @@
 -- Anchors (ECMA-167 3/10.2) and volume descriptor sequences (3/8.4).
 --     anchor blocks last                the extents of the first anchor that is known and valid
 --     position blocks main reserve      one position of a sequence, in two copies
---     sequence blocks last              the descriptors before the end
+--     sequence_by profile blocks last   the descriptors before the end, by the rules of a profile
+--     sequence blocks last              the same by the strict rules
 use Rattle.std.specs.Prelude.{ℕ, ◌+◌, ◌-◌, ◌/◌, ◌%◌, Bool, false, not, List, [], ◌∷◌, length, drop, map, cond, nat_eq, nat_le, ◌&&◌, ◌||◌, Option, Some, None, take_while, slice_get}
 use Rattle.std.specs.List.{range_with_len}
 use Rattle.udfs_lattice.specs.Volumes.{Blocks, first_known, not_known, ascending}
@@ -9,6 +10,8 @@ use Rattle.udfs_lattice.specs.States.{State}
 use Rattle.udfs_lattice.specs.declared.facts.Fact.TheVariants.{Unknown, Known, Conflict}
 use Rattle.udfs_tag.specs.declared.layouts.ExtentAd.{ExtentAd}
 use Rattle.udfs_volume.specs.declared.anchors.AnchorExtents.{AnchorExtents}
+use Rattle.udfs_volume.specs.declared.profiles.Profile.{Profile}
+use Rattle.udfs_volume.specs.declared.profiles.Profile.TheVariants.{Strict, Wide}
 use Rattle.udfs_tag.specs.Fields.{extent_ad_at, part}
 use Rattle.udfs_tag.specs.Faults.{is_within}
 use Rattle.udfs_tag.specs.Tags.{is_valid, is_sound, identifier}
@@ -62,6 +65,23 @@ fits_to last e = nat_le (e.block + e.length / 2048) (last + 1)
 abbrev pub are_extents : ℕ → AnchorExtents → Bool
 are_extents last e = nat_eq e.main.length e.reserve.length && nat_eq (e.main.length % 2048) 0
     && is_within 32768 524288 e.main.length && fits_to last e.main && fits_to last e.reserve
+
+-- whether an extent has 1 to 256 whole blocks, and ends at the last block or before it
+abbrev pub is_extent : ℕ → ExtentAd → Bool
+is_extent last e = nat_eq (e.length % 2048) 0 && is_within 2048 524288 e.length && fits_to last e
+
+-- whether the extents are taken: by the wide rules each may have a length of its own, from 1 block on
+abbrev pub are_extents_by : Profile → ℕ → AnchorExtents → Bool
+are_extents_by Strict last e = are_extents last e
+are_extents_by Wide last e = is_extent last e.main && is_extent last e.reserve
+
+-- the length of the shorter extent
+abbrev pub shorter : AnchorExtents → ℕ
+shorter e = cond (nat_le e.main.length e.reserve.length) e.main.length e.reserve.length
+
+-- both extents as far as the shorter one goes; where they have one length, as by the strict rules, these are the extents themselves
+abbrev pub shared : AnchorExtents → AnchorExtents
+shared e = record { main = record { length = shorter e; block = e.main.block }; reserve = record { length = shorter e; block = e.reserve.block } }
 
 -- A descriptor of a sequence: its identifier, and its bytes from byte position 16 on.
 pub record Descriptor : Type 0 where
@@ -118,10 +138,14 @@ ended_by (Some (descriptor d)) ds = cond (nat_eq d.identifier 3) (faulty Pointer
 abbrev pub read_positions : List Position → Answer (List Descriptor)
 read_positions all = let front = take_while goes_on all in ended_by (slice_get all (length front)) (descriptors front)
 
--- the descriptor sequence in an anchor's extents
-abbrev pub sequence_at : Blocks → ℕ → AnchorExtents → Answer (List Descriptor)
-sequence_at blocks last e = cond (are_extents last e) (read_positions (positions blocks e)) (faulty Extents)
+-- the descriptor sequence in an anchor's extents, as long as the shorter one
+abbrev pub sequence_at : Profile → Blocks → ℕ → AnchorExtents → Answer (List Descriptor)
+sequence_at profile blocks last e = cond (are_extents_by profile last e) (read_positions (positions blocks (shared e))) (faulty Extents)
 
--- the descriptor sequence of a volume
-unfoldable pub sequence : Blocks → ℕ → Answer (List Descriptor)
-sequence blocks last = and_then (anchor blocks last) (sequence_at blocks last)
+-- the descriptor sequence of a volume, by the rules of a profile
+unfoldable pub sequence_by : Profile → Blocks → ℕ → Answer (List Descriptor)
+sequence_by profile blocks last = and_then (anchor blocks last) (sequence_at profile blocks last)
+
+-- the same by the strict rules
+abbrev pub sequence : Blocks → ℕ → Answer (List Descriptor)
+sequence = sequence_by Strict

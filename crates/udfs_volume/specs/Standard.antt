@@ -11,17 +11,17 @@ use Rattle.udfs_volume.specs.Answers.{Answer}
 use Rattle.udfs_volume.specs.declared.anchors.AnchorExtents.{AnchorExtents}
 use Rattle.udfs_volume.specs.declared.profiles.Profile.{Profile}
 use Rattle.udfs_volume.specs.declared.profiles.Profile.TheVariants.{Strict}
-use Rattle.udfs_volume.specs.Sequence.{Descriptor, extents_of, anchor_places}
+use Rattle.udfs_volume.specs.Sequence.{Descriptor, extents_of, anchor_places, shared}
 use Rattle.udfs_volume.specs.Layout.{Layout, layout_of}
 
 -- the first place that has a valid anchor
 abbrev pub standard_anchor : Volume → ℕ → Option ℕ
 standard_anchor volume last = find (λ n. is_valid (volume n) n 2) (anchor_places last)
 
--- the main extent's blocks before the first that has no sound tag at its place, or that is a terminating descriptor (8)
+-- the main extent's blocks, as many as both extents have, before the first that has no sound tag at its place, or that is a terminating descriptor (8)
 abbrev pub main_blocks : Volume → AnchorExtents → List ℕ
 main_blocks volume e = take_while (λ n. is_sound (volume n) n && not (nat_eq (identifier (volume n)) 8))
-    (range_with_len e.main.block (e.main.length / 2048))
+    (range_with_len e.main.block ((shared e).main.length / 2048))
 
 -- the descriptors of the main sequence, as the standard reads them
 abbrev pub main_sequence : Volume → AnchorExtents → List Descriptor

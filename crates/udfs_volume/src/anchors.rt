@@ -96,7 +96,7 @@ fn first_anchor<B: BlockStore>(
 }
 
 /// The places of an anchor (ECMA-167 3/8.4.2.1, UDF 2.2.3).
-fn places(last: u32) -> [u32; 3]
+pub(crate) fn places(last: u32) -> [u32; 3]
     requires { 513 ≤ last }
     ensures { result ≡ anchor_places last }
 {

@@ -12,7 +12,8 @@ pub enum VolumeFault {
     /// All three places of an anchor are known, and none has one (ECMA-167 3/8.4.2.1).
     NoAnchor = 1,
     /// The anchor's extents differ in length, their length is not of 16 to 256 whole blocks, or one
-    /// passes the last block (UDF 2.2.3.1 requires at least 16 sectors).
+    /// passes the last block (UDF 2.2.3.1 requires at least 16 sectors). By the wide rules only where the length of
+    /// one is not of 1 to 256 whole blocks, or one passes the last block.
     Extents = 2,
     /// The sequence goes on elsewhere: a volume descriptor pointer (ECMA-167 3/10.3).
     Pointer = 3,
@@ -32,7 +33,8 @@ pub enum VolumeFault {
     NoPartition = 9,
     /// The contents of a partition are not those of `NSR02` or `NSR03` (ECMA-167 3/10.5.5).
     Contents = 10,
-    /// A partition is empty, or passes the last block (ECMA-167 3/10.5.8, 3/10.5.9).
+    /// A partition is empty, or passes the last block (ECMA-167 3/10.5.8, 3/10.5.9); by the wide rules only
+    /// where it begins after it.
     PartitionRange = 11,
     /// A sparing table's tag or name is not right (UDF 2.2.11).
     SparingTag = 12,

@@ -4,8 +4,9 @@ ghost use Rattle.udfs_lattice.specs.declared.facts.Fact.TheVariants.{Unknown};
 ghost use Rattle.udfs_volume.specs.Answers.{holes};
 ghost use Rattle.udfs_volume.specs.Layout.{layout};
 ghost use Rattle.udfs_volume.specs.Sequence.{anchor_places};
-ghost use Rattle.udfs_volume.specs.Laws.{AscendingRises, FoundBounds, FoundBoundsBy, LayoutBounds, LayoutLaw, LayoutLawBy, StandardLayout, StandardLayoutBy};
+ghost use Rattle.udfs_volume.specs.Laws.{AscendingRises, EqualCopiesAreLawful, EqualCopiesAreLawfulBy, FoundBounds, FoundBoundsBy, LayoutBounds, LayoutLaw, LayoutLawBy, StandardLayout, StandardLayoutBy, StrictSequence};
 ghost use Rattle.udfs_volume.specs.declared.profiles.Profile.{Profile};
+ghost use Rattle.udfs_volume.specs.Primaries.{PrimariesMayDiffer};
 ghost use Rattle.udfs_volume.specs.Sample.{SampleLayout};
 
 /// Over a table that agrees with a lawful volume, the layout is the volume's and each group of blocks of
@@ -44,4 +45,22 @@ pub fn ascending_rises()
 /// partitions hold.
 pub fn sample_layout_is_lawful()
     ensures { SampleLayout }
+{}
+
+/// Where both copies of each position of the sequence are equal from byte 16 on, whatever kind of descriptor they are, the layout is
+/// lawful: it asks this of partition descriptors and logical volume descriptors alone, of which the layout is read.
+pub fn equal_copies_are_lawful()
+    ensures strict { EqualCopiesAreLawful }
+    ensures by_profile { (profile : Profile) → EqualCopiesAreLawfulBy profile }
+{}
+
+/// And there are lawful layouts whose copies are not all equal: a sample volume has two primary volume descriptors with different volume
+/// set identifiers.
+pub fn primaries_may_differ()
+    ensures { PrimariesMayDiffer }
+{}
+
+/// By the strict rules both extents of an anchor have one length, so the sequence has all of their blocks.
+pub fn strict_sequence()
+    ensures { StrictSequence }
 {}

@@ -5,8 +5,8 @@ ghost use Rattle.std.specs.List.{list_all};
 ghost use Rattle.udfs_lattice.specs.Tables.{state_of};
 ghost use Rattle.udfs_tag.specs.Faults.{first_fault};
 ghost use Rattle.udfs_tag.specs.Fields.{part, uint32_at};
-ghost use Rattle.udfs_volume.specs.Layout.{bp, described, has_contents, has_domain, has_revision, is_in_range, laid_out, layout, layout_by, layout_of, map_count, partition_of};
-ghost use Rattle.udfs_volume.specs.LayoutParts.{described_now, field_tests, has_contents_of, is_range, parts_now, partition_now};
+ghost use Rattle.udfs_volume.specs.Layout.{bp, described, has_contents, has_domain, has_revision, is_in_range, is_range, laid_out, layout, layout_by, layout_of, map_count, partition_of, placed_of, size_within};
+ghost use Rattle.udfs_volume.specs.LayoutParts.{described_now, field_tests, has_contents_of, parts_now, partition_now};
 ghost use Rattle.udfs_osta.specs.Labels.{label_of};
 ghost use Rattle.udfs_volume.specs.Laws.{IsBounded};
 ghost use Rattle.udfs_volume.specs.Seen.{Sees, HolesRise, IfGot, TellsFault};
@@ -19,7 +19,7 @@ use crate::faults::VolumeFault;
 use crate::maps::{NumberedMap, PartitionMap, read_maps};
 use crate::profiles::Profile;
 use crate::seen::Seen;
-use crate::sequences::sequence_by;
+use crate::sequences::sequence_in;
 use std::alloc::{AllocError, Global};
 use udfs_lattice::{BlockStore, BlockTable, ReadFault};
 use udfs_osta::Label;
@@ -32,7 +32,8 @@ pub struct Partition {
     pub kind: PartitionMap,
     /// The first block.
     pub start: u32,
-    /// The number of blocks.
+    /// The number of blocks. By the wide rules those after the last block of the volume, which have no place,
+    /// are not among them.
     pub length: u32,
 }
 
@@ -135,35 +136,58 @@ fn has_contents(partition: &Descriptor) -> bool
         || is_named(name, b"+NSR03\0\0\0\0\0\0\0\0\0\0\0\0\0\0\0\0\0")
 }
 
-/// Whether the partition is not empty and ends at the last block or before (ECMA-167 3/10.5.8, 3/10.5.9).
-fn is_in_range(last: u32, partition: &Descriptor) -> bool
-    ensures { result ≡ is_range last (uint32_at (descriptor_now partition.now).content (bp 188)) (uint32_at (descriptor_now partition.now).content (bp 192)) }
+/// Whether a partition with this first block and this number of blocks is not empty, and ends at the last block or before; by the
+/// wide rules it is enough that it begins there (ECMA-167 3/10.5.8, 3/10.5.9).
+fn is_range(profile: Profile, last: u32, start: u32, length: u32) -> bool
+    ensures { result ≡ is_range profile last start length }
 {
-    let start = partition.uint32(188);
-    let length = partition.uint32(192);
-    0 < length && u64::from(start) + u64::from(length) <= u64::from(last) + 1
+    match profile {
+        Profile::Strict => {
+            0 < length && u64::from(start) + u64::from(length) <= u64::from(last) + 1
+        }
+        Profile::Wide => 0 < length && start <= last,
+    }
+}
+
+/// How many of the blocks can have a place: by the wide rules those up to the last block of the volume.
+fn length_within(profile: Profile, last: u32, start: u32, length: u32) -> u32
+    ensures { result ≡ size_within profile last start length }
+{
+    let end = u64::from(last) + 1;
+    match profile {
+        Profile::Strict => length,
+        Profile::Wide if u64::from(start) + u64::from(length) <= end => length,
+        Profile::Wide => end.saturating_sub(u64::from(start)) as u32,
+    }
 }
 
 /// Whether each partition is in range.
-fn are_in_range(last: u32, all: &[Described<'_>]) -> bool
-    ensures { result ≡ list_all (λ p. is_in_range last (partition_of p)) (map described_now all.now) }
+fn are_in_range(profile: Profile, last: u32, all: &[Described<'_>]) -> bool
+    ensures { result ≡ list_all (λ p. is_in_range profile last (partition_of p)) (map described_now all.now) }
 {
     for described in all {
-        if !is_in_range(last, described.descriptor) {
+        let start = described.descriptor.uint32(188);
+        let length = described.descriptor.uint32(192);
+        if !is_range(profile, last, start, length) {
             return false;
         }
     }
     true
 }
 
-/// The partitions that the maps and descriptors give.
-fn partitions(alloc: Global, all: Vec<Described<'_>>) -> Result<Vec<Partition>, AllocError>
-    ensures { IfOk result (λ made. map partition_now made.items ≡ map partition_of (map described_now all.entry.items)) }
+/// The partitions that the maps and descriptors give, with the blocks that can have a place.
+fn partitions(
+    alloc: Global,
+    profile: Profile,
+    last: u32,
+    all: Vec<Described<'_>>,
+) -> Result<Vec<Partition>, AllocError>
+    ensures { IfOk result (λ made. map partition_now made.items ≡ map (λ p. placed_of profile last (partition_of p)) (map described_now all.entry.items)) }
 {
     let mut made = Vec::new(alloc);
     for described in all {
         let start = described.descriptor.uint32(188);
-        let length = described.descriptor.uint32(192);
+        let length = length_within(profile, last, start, described.descriptor.uint32(192));
         made.push(Partition {
             kind: described.kind,
             start,
@@ -201,11 +225,11 @@ fn lay_out(
     if !have_contents(&all) {
         return Ok(Seen::Fault(VolumeFault::Contents));
     }
-    if !are_in_range(last, &all) {
+    if !are_in_range(profile, last, &all) {
         return Ok(Seen::Fault(VolumeFault::PartitionRange));
     }
     let label = read_label(alloc, volume)?;
-    let partitions = partitions(alloc, all)?;
+    let partitions = partitions(alloc, profile, last, all)?;
     let revision = volume.uint16(240);
     let file_set = LongAd::read(volume.from(248));
     Ok(Seen::Got(VolumeParts {
@@ -270,7 +294,7 @@ pub fn layout_in<B: BlockStore>(
     ensures extents { IfOk result (λ seen. B.tells → TellsFault VolumeFault.Extents seen (layout_by profile (B.states blocks.now) last)) }
     ensures fails { OnErr result B.fails }
 {
-    match sequence_by(alloc, blocks, last)? {
+    match sequence_in(alloc, blocks, last, profile)? {
         Seen::Got(found) => Ok(see_layout(alloc, profile, last, found)),
         Seen::Holes(holes) => Ok(Seen::Holes(holes)),
         Seen::Fault(fault) => Ok(Seen::Fault(fault)),

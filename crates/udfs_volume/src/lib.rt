@@ -4,6 +4,7 @@
 
 pub mod anchors;
 pub mod descriptors;
+pub mod differences;
 pub mod faults;
 pub mod laws;
 pub mod layouts;

@@ -4,12 +4,13 @@ ghost use Rattle.std.specs.Prelude.{◌≡◌, ◌≤◌, ◌<◌, ◌+◌, ◌/
 ghost use Rattle.udfs_lattice.specs.Tables.{state_of};
 ghost use Rattle.udfs_lattice.specs.Volumes.{ascending};
 ghost use Rattle.udfs_volume.specs.Seen.{Sees, HolesRise, TellsFault};
-ghost use Rattle.udfs_volume.specs.Sequence.{are_extents, fits_to, position, positions, read_positions, sequence, sequence_at};
+ghost use Rattle.udfs_volume.specs.Sequence.{are_extents, are_extents_by, fits_to, is_extent, position, positions, read_positions, sequence, sequence_at, sequence_by, shared};
 ghost use Rattle.udfs_volume.specs.Sequences.{descriptor_of, position_now, sequence_now};
 
 use crate::anchors::{AnchorExtents, anchor_by};
 use crate::descriptors::{Descriptor, Sequence};
 use crate::faults::VolumeFault;
+use crate::profiles::Profile;
 use crate::seen::Seen;
 use std::alloc::{AllocError, Global};
 use udfs_lattice::{BlockStore, BlockTable, Fact, GaveUp, ReadFault};
@@ -93,6 +94,46 @@ fn are_extents(last: u32, extents: AnchorExtents) -> bool
         && fits_to(last, extents.reserve)
 }
 
+/// Whether the extent has 1 to 256 whole blocks and does not pass the last block.
+fn is_extent(last: u32, extent: ExtentAd) -> bool
+    requires { last ≤ 4194303 }
+    ensures { result ≡ is_extent last extent }
+{
+    extent.length % 2048 == 0 && (2_048..=524_288).contains(&extent.length) && fits_to(last, extent)
+}
+
+/// Whether the extents are taken: by the strict rules those of [`are_extents`], by the wide ones two of [`is_extent`].
+pub(crate) fn are_extents_by(profile: Profile, last: u32, extents: AnchorExtents) -> bool
+    requires { last ≤ 4194303 }
+    ensures { result ≡ are_extents_by profile last extents }
+{
+    match profile {
+        Profile::Strict => are_extents(last, extents),
+        Profile::Wide => is_extent(last, extents.main) && is_extent(last, extents.reserve),
+    }
+}
+
+/// Both extents as far as the shorter one goes.
+pub(crate) fn shared(extents: AnchorExtents) -> AnchorExtents
+    ensures { result ≡ shared extents }
+{
+    let length = if extents.main.length <= extents.reserve.length {
+        extents.main.length
+    } else {
+        extents.reserve.length
+    };
+    AnchorExtents {
+        main: ExtentAd {
+            length,
+            block: extents.main.block,
+        },
+        reserve: ExtentAd {
+            length,
+            block: extents.reserve.block,
+        },
+    }
+}
+
 /// Reads the positions in turn, up to the end.
 fn read_positions<B: BlockStore>(
     alloc: Global,
@@ -125,49 +166,51 @@ fn read_positions<B: BlockStore>(
     Ok(Seen::Got(Sequence { descriptors }))
 }
 
-/// The sequence in these extents, or the fault `Extents` where [`are_extents`] does not hold.
+/// The sequence in these extents, or the fault `Extents` where [`are_extents_by`] does not hold.
 #[tactic(auto, using(crate::proofs::Walking::unfit))]
 fn sequence_at<B: BlockStore>(
     alloc: Global,
     blocks: &B,
     last: u32,
     extents: AnchorExtents,
+    profile: Profile,
 ) -> Result<Seen<Sequence>, ReadFault>
     requires { last ≤ 4194303 }
-    ensures value { IfOk result (λ seen. B.tells → Sees sequence_now seen (sequence_at (B.states blocks.now) last extents)) }
-    ensures memory { IfOk result (λ seen. seen ≡ Seen.OutOfMemory → IsTrue (are_extents last extents)) }
+    ensures value { IfOk result (λ seen. B.tells → Sees sequence_now seen (sequence_at profile (B.states blocks.now) last extents)) }
+    ensures memory { IfOk result (λ seen. seen ≡ Seen.OutOfMemory → IsTrue (are_extents_by profile last extents)) }
     ensures fails { OnErr result B.fails }
 {
-    if !are_extents(last, extents) {
+    if !are_extents_by(profile, last, extents) {
         return Ok(Seen::Fault(VolumeFault::Extents));
     }
-    match read_positions(alloc, blocks, extents) {
+    match read_positions(alloc, blocks, shared(extents)) {
         Ok(seen) => Ok(seen),
         Err(GaveUp::OutOfMemory) => Ok(Seen::OutOfMemory),
         Err(GaveUp::Unread) => Err(ReadFault),
     }
 }
 
-/// The same as [`sequence`], by any store of blocks.
+/// The same as [`sequence_by`], by any store of blocks.
 ///
 /// # Errors
 ///
 /// `ReadFault` where the bytes of a known block could not be read. Nothing is told of the volume then.
-pub fn sequence_by<B: BlockStore>(
+pub fn sequence_in<B: BlockStore>(
     alloc: Global,
     blocks: &B,
     last: u32,
+    profile: Profile,
 ) -> Result<Seen<Sequence>, ReadFault>
     requires from { 513 ≤ last }
     requires to { last ≤ 4194303 }
-    ensures value { IfOk result (λ seen. B.tells → Sees sequence_now seen (sequence (B.states blocks.now) last)) }
+    ensures value { IfOk result (λ seen. B.tells → Sees sequence_now seen (sequence_by profile (B.states blocks.now) last)) }
     ensures rising { IfOk result (λ seen. B.tells → HolesRise seen) }
-    ensures no_anchor { IfOk result (λ seen. B.tells → TellsFault VolumeFault.NoAnchor seen (sequence (B.states blocks.now) last)) }
-    ensures extents { IfOk result (λ seen. B.tells → TellsFault VolumeFault.Extents seen (sequence (B.states blocks.now) last)) }
+    ensures no_anchor { IfOk result (λ seen. B.tells → TellsFault VolumeFault.NoAnchor seen (sequence_by profile (B.states blocks.now) last)) }
+    ensures extents { IfOk result (λ seen. B.tells → TellsFault VolumeFault.Extents seen (sequence_by profile (B.states blocks.now) last)) }
     ensures fails { OnErr result B.fails }
 {
     match anchor_by(alloc, blocks, last)? {
-        Seen::Got(extents) => sequence_at(alloc, blocks, last, extents),
+        Seen::Got(extents) => sequence_at(alloc, blocks, last, extents, profile),
         Seen::Holes(holes) => Ok(Seen::Holes(holes)),
         Seen::Fault(fault) => Ok(Seen::Fault(fault)),
         Seen::OutOfMemory => Ok(Seen::OutOfMemory),
@@ -179,8 +222,26 @@ pub fn sequence_by<B: BlockStore>(
 /// main copy is read where it is known, else the reserve copy; where neither is known, the two are holes.
 /// A volume descriptor pointer before the end is the fault `Pointer`.
 ///
+/// By the strict rules both extents have one length, of 16 to 256 whole blocks. By the wide ones each has a length of its own,
+/// of 1 to 256 whole blocks, and the sequence is as long as the shorter one. Other extents are the fault `Extents`.
+///
 /// Holes and descriptors take memory, and the result is `OutOfMemory` where it runs out. `NoAnchor` and
 /// `Extents` are reported even then.
+pub fn sequence_by(alloc: Global, table: &BlockTable, last: u32, profile: Profile) -> Seen<Sequence>
+    requires from { 513 ≤ last }
+    requires to { last ≤ 4194303 }
+    ensures value { Sees sequence_now result (sequence_by profile (state_of table.now) last) }
+    ensures rising { HolesRise result }
+    ensures no_anchor { TellsFault VolumeFault.NoAnchor result (sequence_by profile (state_of table.now) last) }
+    ensures extents { TellsFault VolumeFault.Extents result (sequence_by profile (state_of table.now) last) }
+{
+    match sequence_in(alloc, table, last, profile) {
+        Ok(seen) => seen,
+        Err(_) => unreachable!(),
+    }
+}
+
+/// The volume descriptor sequence by the strict rules: [`sequence_by`] with [`Profile::Strict`].
 pub fn sequence(alloc: Global, table: &BlockTable, last: u32) -> Seen<Sequence>
     requires from { 513 ≤ last }
     requires to { last ≤ 4194303 }
@@ -189,8 +250,5 @@ pub fn sequence(alloc: Global, table: &BlockTable, last: u32) -> Seen<Sequence>
     ensures no_anchor { TellsFault VolumeFault.NoAnchor result (sequence (state_of table.now) last) }
     ensures extents { TellsFault VolumeFault.Extents result (sequence (state_of table.now) last) }
 {
-    match sequence_by(alloc, table, last) {
-        Ok(seen) => seen,
-        Err(_) => unreachable!(),
-    }
+    sequence_by(alloc, table, last, Profile::Strict)
 }

@@ -3,6 +3,7 @@
 mod faults;
 mod memory;
 mod packets;
+mod past_the_last;
 mod places;
 mod said;
 mod two_blocks;

@@ -1,5 +1,6 @@
 //! Layouts, holes and faults of small volumes. What is expected comes from the formats' description, byte by byte.
 
+mod differences;
 mod memory;
 mod profiles;
 mod said;

@@ -230,6 +230,8 @@ fn a_wide_report_of_a_volume_as_json(rt: HostRuntime) -> Result<(), Fail> {
 #[test]
 fn names_of_revisions(rt: HostRuntime) -> Result<(), Fail> {
     for (revision, name) in [
+        (0x0100, "1.00"),
+        (0x0101, "1.01"),
         (0x0102, "1.02"),
         (0x0150, "1.50"),
         (0x0200, "2.00"),

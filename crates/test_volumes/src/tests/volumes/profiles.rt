@@ -1,7 +1,7 @@
 //! What the strict rules and the wide ones say of a volume with one sparable map.
 
 use super::said::{said, said_by};
-use crate::tests::{assert_same, assert_text_in};
+use crate::tests::{assert_same, assert_text, assert_text_in};
 use std::alloc::Global;
 use std::process::Abort;
 use std::test::Fail;
@@ -10,7 +10,7 @@ use udfs_volume::Profile;
 
 /// With all blocks known: a change of the revision or of the packets, what the layout is by the strict rules,
 /// and by the wide ones.
-static CHANGES: [(Bytes, &str, &str); 13] = [
+static CHANGES: [(Bytes, &str, &str); 26] = [
     (
         (32, 240, &[2, 1]),
         "fault 5 Domain",
@@ -32,7 +32,17 @@ static CHANGES: [(Bytes, &str, &str); 13] = [
         "ok revision 2.01 map sparable 32",
     ),
     ((32, 240, &[0x50, 2]), "fault 5 Domain", "fault 5 Domain"),
-    ((32, 240, &[1, 1]), "fault 5 Domain", "fault 5 Domain"),
+    (
+        (32, 240, &[1, 1]),
+        "fault 5 Domain",
+        "ok revision 1.01 map sparable 32",
+    ),
+    (
+        (32, 240, &[0, 1]),
+        "fault 5 Domain",
+        "ok revision 1.00 map sparable 32",
+    ),
+    ((32, 240, &[3, 1]), "fault 5 Domain", "fault 5 Domain"),
     (
         (32, 480, &[1]),
         "fault 8 MapKind",
@@ -56,6 +66,50 @@ static CHANGES: [(Bytes, &str, &str); 13] = [
     ((32, 480, &[0, 1]), "fault 8 MapKind", "fault 8 MapKind"),
     ((32, 480, &[3]), "fault 8 MapKind", "fault 8 MapKind"),
     ((32, 480, &[0]), "fault 8 MapKind", "fault 8 MapKind"),
+    // the partition begins at block 272: of 330 blocks the last one is 601, of 329 it is 600
+    (
+        (33, 192, &[0x4a, 1]),
+        "fault 11 PartitionRange",
+        "ok revision 1.50 map sparable 32",
+    ),
+    (
+        (33, 192, &[0x49, 1]),
+        "ok revision 1.50 map sparable 32",
+        "ok revision 1.50 map sparable 32",
+    ),
+    (
+        (33, 188, &[0x58, 2]),
+        "fault 11 PartitionRange",
+        "ok revision 1.50 map sparable 32",
+    ),
+    (
+        (33, 188, &[0x59, 2]),
+        "fault 11 PartitionRange",
+        "fault 11 PartitionRange",
+    ),
+    (
+        (33, 192, &[0, 0]),
+        "fault 11 PartitionRange",
+        "fault 11 PartitionRange",
+    ),
+    // the main extent has 8 blocks, the reserve one 16
+    (
+        (256, 16, &[0, 0x40]),
+        "fault 2 Extents",
+        "ok revision 1.50 map sparable 32",
+    ),
+    // both have 2 blocks, and no terminating descriptor is among them
+    (
+        (256, 16, &[0, 0x10, 0, 0, 0x20, 0, 0, 0, 0, 0x10]),
+        "fault 2 Extents",
+        "ok revision 1.50 map sparable 32",
+    ),
+    // the reserve extent has 1 block, so that no partition descriptor is in the sequence
+    ((256, 24, &[0, 8]), "fault 2 Extents", "fault 9 NoPartition"),
+    // no block, part of one, 257 blocks
+    ((256, 24, &[0, 0]), "fault 2 Extents", "fault 2 Extents"),
+    ((256, 16, &[1, 0x40]), "fault 2 Extents", "fault 2 Extents"),
+    ((256, 16, &[0, 8, 8]), "fault 2 Extents", "fault 2 Extents"),
 ];
 
 /// With this change the layout says this by the strict rules, and that by the wide ones.
@@ -83,15 +137,50 @@ fn both_rules(rt: HostRuntime) -> Result<(), Fail> {
     Ok(())
 }
 
+/// The sequence is as long as the shorter of its extents, where no terminating descriptor is before it.
+#[test]
+fn sequence_of_the_shorter_extent(rt: HostRuntime) -> Result<(), Fail> {
+    let alloc = rt.alloc();
+    let mut disc = Disc::type1(alloc)?;
+    disc.write(&[(256, 24, &[0, 0x10])])?;
+    let table = disc.known_but(alloc, &[34, 50])?;
+    assert_text(
+        &rt,
+        said_by(alloc, &table, Profile::Wide)?,
+        "ok revision 1.50 map type1",
+    );
+    assert_text(&rt, said(alloc, &table)?, "fault 2 Extents");
+    Ok(())
+}
+
+/// A volume of which the reserve primary volume descriptor has another volume set identifier than the main one.
+#[test]
+fn primaries_that_differ(rt: HostRuntime) -> Result<(), Fail> {
+    let alloc = rt.alloc();
+    let mut disc = Disc::type1(alloc)?;
+    disc.write_tag(34, 0, 1, 34)?;
+    disc.write(&[(34, 72, b"\x081"), (34, 199, &[2])])?;
+    disc.write_tag(50, 0, 1, 50)?;
+    disc.write(&[(50, 72, b"\x082"), (50, 199, &[2])])?;
+    static UNREAD: [&[u32]; 5] = [&[], &[34], &[50], &[32, 49, 34], &[48, 33, 50]];
+    for &unread in &UNREAD {
+        let table = disc.known_but(alloc, unread)?;
+        assert_text(&rt, said(alloc, &table)?, "ok revision 1.50 map type1");
+    }
+    Ok(())
+}
+
 /// The rules themselves, number by number.
 #[test]
 fn accepted_numbers(rt: HostRuntime) -> Result<(), Fail> {
-    static REVISIONS: [(u16, bool, bool); 8] = [
+    static REVISIONS: [(u16, bool, bool); 10] = [
         (0x0102, false, true),
         (0x0150, true, true),
         (0x0200, false, true),
         (0x0201, true, true),
-        (0x0101, false, false),
+        (0x0100, false, true),
+        (0x0101, false, true),
+        (0x0103, false, false),
         (0x0250, false, false),
         (0x0260, false, false),
         (0, false, false),

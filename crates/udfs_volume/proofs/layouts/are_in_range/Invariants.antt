@@ -5,4 +5,4 @@ use Rattle.udfs_volume.specs.LayoutParts.{described_now}
 use Rattle.udfs_volume.proofs.layouts.are_in_range.Given as goal
 
 abbrev pub invariant-loop-described : goal.invariant-loop-described
-invariant-loop-described l = list_all (λ p. is_in_range l.last (partition_of p)) (map described_now (drop l.described-index l.all)) ≡ list_all (λ p. is_in_range l.last (partition_of p)) (map described_now l.all)
+invariant-loop-described l = list_all (λ p. is_in_range l.profile l.last (partition_of p)) (map described_now (drop l.described-index l.all)) ≡ list_all (λ p. is_in_range l.profile l.last (partition_of p)) (map described_now l.all)

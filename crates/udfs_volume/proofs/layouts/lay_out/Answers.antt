@@ -16,7 +16,7 @@ returns-then-not-are_in_range c =
     let ps = map described_now c.in-Some.all.items in
     let is : described (sequence_now c.args.sequence.now) (map numbered_now c.args.maps.items) ≡ Some ps = sym c.in_ok-all.ensures ∙ ap (option_map (λ all. map described_now all.items)) c.in-Some.is in
     let contents = ap (λ xs. list_all has_contents (map described_now xs)) (sym c.deref.ensures.value) ∙ sym c.have_contents.ensures ∙ c.if-not-have_contents.false in
-    let range = ap (λ xs. list_all (λ p. is_in_range c.args.last (partition_of p)) (map described_now xs)) (sym c.deref-2.ensures.value) ∙ sym c.are_in_range.ensures ∙ c.if-not-are_in_range.true in
+    let range = ap (λ xs. list_all (λ p. is_in_range c.args.profile c.args.last (partition_of p)) (map described_now xs)) (sym c.deref-2.ensures.value) ∙ sym c.are_in_range.ensures ∙ c.if-not-are_in_range.true in
     ap (laid_out c.args.profile c.args.last lv) is ∙ laid_out-range c.args.profile c.args.last lv ps contents range
 
 pub returns : goal.returns
@@ -25,7 +25,7 @@ returns c =
     let ps = map described_now c.in-Some.all.items in
     let is : described (sequence_now c.args.sequence.now) (map numbered_now c.args.maps.items) ≡ Some ps = sym c.in_ok-all.ensures ∙ ap (option_map (λ all. map described_now all.items)) c.in-Some.is in
     let contents = ap (λ xs. list_all has_contents (map described_now xs)) (sym c.deref.ensures.value) ∙ sym c.have_contents.ensures ∙ c.if-not-have_contents.false in
-    let range = ap (λ xs. list_all (λ p. is_in_range c.args.last (partition_of p)) (map described_now xs)) (sym c.deref-2.ensures.value) ∙ sym c.are_in_range.ensures ∙ c.if-not-are_in_range.false in
+    let range = ap (λ xs. list_all (λ p. is_in_range c.args.profile c.args.last (partition_of p)) (map described_now xs)) (sym c.deref-2.ensures.value) ∙ sym c.are_in_range.ensures ∙ c.if-not-are_in_range.false in
     let file_set = c.read-file_set.ensures.value ∙ ap long_ad_of c.from.ensures.value in
     ap (laid_out c.args.profile c.args.last lv) is ∙ laid_out-found c.args.profile c.args.last lv ps contents range
     ∙ (λ i. found (record {

@@ -1,0 +1,245 @@
+//! Known copies that do not say the same, as on a disc of several sessions, or one that was formatted twice.
+
+ghost use Rattle.std.specs.Prelude.{◌≡◌, ◌≢◌, ◌≤◌, ◌+◌, ◌/◌, IsTrue, None, find, option_map};
+ghost use Rattle.std.specs.Borrow.{Bor};
+ghost use Rattle.udfs_lattice.specs.States.{fact_now};
+ghost use Rattle.udfs_lattice.specs.Tables.{state_of};
+ghost use Rattle.udfs_volume.specs.Answers.{IsHoles};
+ghost use Rattle.udfs_volume.specs.Seen.{Sees};
+ghost use Rattle.udfs_volume.specs.Sequence.{anchor, goes_on, position};
+ghost use Rattle.udfs_volume.specs.Sequences.{descriptor_of};
+ghost use Rattle.udfs_volume.specs.Differences.{AgreesWithNoLayoutBy, AnchorsAgreeBy, CopiesAgreeBy, anchors_apart, anchors_differ, apart_from, contents_differ, copies_differ, differ_in, differs_known, gives_layout, has_anchor, known_differ, named_at, say_the_same};
+
+use crate::anchors::{AnchorExtents, anchor, places};
+use crate::descriptors::behind;
+use crate::profiles::Profile;
+use crate::seen::Seen;
+use crate::sequences::{are_extents_by, shared};
+use std::alloc::Global;
+use udfs_lattice::{BlockTable, Fact};
+use udfs_tag::{Tag, identifiers};
+
+/// The bytes 16 to 31 of the anchor at a place, if it is known and valid there.
+fn named_at(table: &BlockTable, place: u32) -> Option<&[u8]>
+    ensures { option_map (λ bytes. bytes.now) result ≡ named_at (state_of table.now) place }
+{
+    match table.state(place) {
+        Fact::Known(block) => {
+            if Tag::is_valid(block, place, identifiers::ANCHOR) {
+                Some(&block[16..32])
+            } else {
+                None
+            }
+        }
+        _ => None,
+    }
+}
+
+/// Whether there is a known, valid anchor at a place.
+fn has_anchor(table: &BlockTable, place: u32) -> bool
+    ensures { result ≡ has_anchor (state_of table.now) place }
+{
+    match named_at(table, place) {
+        Some(_) => true,
+        None => false,
+    }
+}
+
+/// Whether there are known, valid anchors at two places, and they name different extents.
+fn anchors_differ(table: &BlockTable, one: u32, other: u32) -> bool
+    ensures { result ≡ anchors_differ (state_of table.now) one other }
+{
+    let Some(first) = named_at(table, one) else {
+        return false;
+    };
+    match named_at(table, other) {
+        Some(second) => first != second,
+        None => false,
+    }
+}
+
+/// The first of these places that has a known, valid anchor.
+fn first_anchor_place(table: &BlockTable, places: &[u32]) -> Option<u32>
+    ensures { result ≡ find (has_anchor (state_of table.now)) places.now }
+{
+    for place in places {
+        if has_anchor(table, *place) {
+            return Some(*place);
+        }
+    }
+    None
+}
+
+/// The first of these places whose anchor names other extents than the one at `one`.
+fn first_other(table: &BlockTable, one: u32, places: &[u32]) -> Option<u32>
+    ensures { result ≡ find (anchors_differ (state_of table.now) one) places.now }
+{
+    for place in places {
+        if anchors_differ(table, one, *place) {
+            return Some(*place);
+        }
+    }
+    None
+}
+
+/// The first of these places that has a known, valid anchor, and the first whose anchor names other extents.
+fn apart_in(table: &BlockTable, places: &[u32]) -> Option<(u32, u32)>
+    ensures { result ≡ apart_from (state_of table.now) places.now (find (has_anchor (state_of table.now)) places.now) }
+{
+    let one = first_anchor_place(table, places)?;
+    let other = first_other(table, one, places)?;
+    Some((one, other))
+}
+
+/// Of the places of an anchor, the blocks 256, `last - 256` and `last`, the first that is known and valid there, and the first whose
+/// anchor names other extents of the volume descriptor sequence in its bytes 16 to 31 (ECMA-167 3/10.2); `None` where all known, valid
+/// anchors name the same. Where there are two, as on a disc of several sessions or one that was formatted twice, the volume that
+/// is opened depends on which of them was read: no lawful volume agrees with the table, by whatever rules. It takes no memory.
+pub fn anchors_apart(table: &BlockTable, last: u32) -> Option<(u32, u32)>
+    requires from { 513 ≤ last }
+    requires to { last ≤ 4194303 }
+    ensures value { result ≡ anchors_apart (state_of table.now) last }
+    ensures not_lawful { result ≢ None → (profile : Profile) → AgreesWithNoLayoutBy profile (state_of table.now) last }
+{
+    apart_in(table, &places(last))
+}
+
+/// Whether the block is, at its place, a descriptor from which the layout is read: a partition descriptor or a logical volume
+/// descriptor (ECMA-167 3/10.5, 3/10.6).
+fn gives_layout(block: &[u8; 2048], place: u32) -> bool
+    ensures { result ≡ gives_layout block.now place }
+{
+    match Tag::check(block, place) {
+        Ok(tag) => {
+            tag.identifier == identifiers::PARTITION
+                || tag.identifier == identifiers::LOGICAL_VOLUME
+        }
+        Err(_) => false,
+    }
+}
+
+/// Whether both blocks are descriptors at their places, with one identifier and the same bytes from 16 on.
+fn say_the_same(one: &[u8; 2048], n: u32, other: &[u8; 2048], m: u32) -> bool
+    ensures { result ≡ say_the_same one.now n other.now m }
+{
+    match Tag::check(one, n) {
+        Ok(first) => match Tag::check(other, m) {
+            Ok(second) => {
+                first.identifier == second.identifier && behind(one, 16) == behind(other, 16)
+            }
+            Err(_) => false,
+        },
+        Err(_) => false,
+    }
+}
+
+/// Whether one of the blocks is a descriptor from which the layout is read, and the other does not say the same.
+fn contents_differ(one: &[u8; 2048], n: u32, other: &[u8; 2048], m: u32) -> bool
+    ensures { result ≡ contents_differ one.now n other.now m }
+{
+    (gives_layout(one, n) || gives_layout(other, m)) && !say_the_same(one, n, other, m)
+}
+
+/// The same of a block and what is known of another.
+fn differs_known(one: &[u8; 2048], n: u32, other: Fact<&[u8; 2048]>, m: u32) -> bool
+    ensures { result ≡ differs_known one.now n (fact_now other.entry) m }
+{
+    match other {
+        Fact::Known(other) => contents_differ(one, n, other, m),
+        _ => false,
+    }
+}
+
+/// The same where both are known.
+fn known_differ(one: Fact<&[u8; 2048]>, n: u32, other: Fact<&[u8; 2048]>, m: u32) -> bool
+    ensures { result ≡ known_differ (fact_now one.entry) n (fact_now other.entry) m }
+{
+    match one {
+        Fact::Known(one) => differs_known(one, n, other, m),
+        _ => false,
+    }
+}
+
+/// Whether the sequence goes on after a block: it is a descriptor at its place, and neither a terminating one nor a pointer.
+fn goes_on(block: &[u8; 2048], place: u32) -> bool
+    ensures { result ≡ goes_on (descriptor_of block.now place) }
+{
+    match Tag::check(block, place) {
+        Ok(tag) => {
+            tag.identifier != identifiers::TERMINATING
+                && tag.identifier != identifiers::VOLUME_DESCRIPTOR_POINTER
+        }
+        Err(_) => false,
+    }
+}
+
+/// Whether it is known to go on after a position, by the first of its copies that is known.
+#[tactic(auto, unfolding(crate::specs::Sequence::position))]
+fn goes_on_at(table: &BlockTable, main: u32, reserve: u32) -> bool
+    ensures { result ≡ goes_on (position (state_of table.now) main reserve) }
+{
+    if let Fact::Known(block) = table.state(main) {
+        return goes_on(block, main);
+    }
+    match table.state(reserve) {
+        Fact::Known(block) => goes_on(block, reserve),
+        _ => false,
+    }
+}
+
+/// Whether the copies of a position that is known to be reached differ.
+fn differ_in(table: &BlockTable, extents: AnchorExtents) -> bool
+    requires main { extents.main.block + extents.main.length / 2048 ≤ 4194304 }
+    requires reserve { extents.reserve.block + extents.main.length / 2048 ≤ 4194304 }
+    ensures { result ≡ differ_in (state_of table.now) extents }
+{
+    for i in 0..extents.main.length / 2048 {
+        let main = extents.main.block + i;
+        let reserve = extents.reserve.block + i;
+        if known_differ(table.state(main), main, table.state(reserve), reserve) {
+            return true;
+        }
+        if !goes_on_at(table, main, reserve) {
+            return false;
+        }
+    }
+    false
+}
+
+/// Whether copies differ in the extents of the anchor, where they are taken.
+fn differ_by(profile: Profile, table: &BlockTable, last: u32, seen: Seen<AnchorExtents>) -> bool
+    requires to { last ≤ 4194303 }
+    requires value { Sees (λ extents. extents) seen (anchor (state_of table.now) last) }
+    requires memory { seen ≡ Seen.OutOfMemory → IsHoles (anchor (state_of table.now) last) }
+    ensures { result ≡ copies_differ profile (state_of table.now) last }
+{
+    match seen {
+        Seen::Got(extents) => {
+            are_extents_by(profile, last, extents) && differ_in(table, shared(extents))
+        }
+        _ => false,
+    }
+}
+
+/// Whether a block of the main sequence and its copy in the reserve one are both known, and differ in a partition descriptor or a
+/// logical volume descriptor, up to the position that ends the sequence: one of the two is such a descriptor (ECMA-167 3/10.5, 3/10.6),
+/// and the other is none with the same identifier and the same bytes 16 to 2047. The volume that is opened then depends on which of them was
+/// read: no lawful volume agrees with the table. `false` where no anchor is known.
+pub fn copies_differ(alloc: Global, table: &BlockTable, last: u32, profile: Profile) -> bool
+    requires from { 513 ≤ last }
+    requires to { last ≤ 4194303 }
+    ensures value { result ≡ copies_differ profile (state_of table.now) last }
+    ensures not_lawful { IsTrue result → AgreesWithNoLayoutBy profile (state_of table.now) last }
+{
+    differ_by(profile, table, last, anchor(alloc, table, last))
+}
+
+/// The known anchors of a volume whose layout is lawful name the same extents.
+pub fn anchors_agree()
+    ensures { (profile : Profile) → AnchorsAgreeBy profile }
+{}
+
+/// The known copies of the volume descriptor sequence of a volume whose layout is lawful do not differ in what is read of them.
+pub fn copies_agree()
+    ensures { (profile : Profile) → CopiesAgreeBy profile }
+{}
