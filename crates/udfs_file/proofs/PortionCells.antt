@@ -140,3 +140,11 @@ none_left v (s ∷ ss) p whole e w = absurd (let z : ⊥ = omega (arith, e) in z
 pub shorter : (r : Portion) (s t : List Cell) → IsFirst r s t → length t < length s
 shorter r s t f = let q : length t ≡ length s - portion_count r = ap length f.rest ∙ length-drop (portion_count r) s in
     let o : 1 ≤ portion_count r = f.some in let h : portion_count r ≤ length s = f.there in omega (arith, q, o, h)
+
+-- how many cells are left after a portion, whatever its cells are
+pub counted : (v : View) (all : List Stretch) (s : Stretch) (ss : List Stretch) (p k : ℕ) (r : Portion) (whole t : List Cell) → all ≡ s ∷ ss → p < stretch_count s
+    → k ≡ portion_count r → p + portion_count r ≤ stretch_count s → drop p (cells_of v all) ≡ whole → t ≡ drop k (drop p (cells_of v all)) → length whole ≡ portion_count r + length t
+counted v all s ss p k r whole t e h d m w b =
+    let q : length (drop p (cells_of v all)) ≡ stretch_count s - p + length (cells_of v ss) = left_in v all s ss p e h in
+    let z : length t ≡ length (drop p (cells_of v all)) - k = ap length b ∙ length-drop k (drop p (cells_of v all)) in
+    let y : length (drop p (cells_of v all)) ≡ length whole = ap length w in omega (arith, q, m, z, y, d)

@@ -63,7 +63,7 @@ tells_file_set some a told s m all p root e =
     }
 
 -- ---- a body
-tells_body : (some : View) (r b : ℕ) (entry : EntryFields) (told : Result (List Stretch) WalkError) → GivesStretches some told (body some r b entry)
+pub tells_body : (some : View) (r b : ℕ) (entry : EntryFields) (told : Result (List Stretch) WalkError) → GivesStretches some told (body some r b entry)
     → TellsBody some r b entry told
 tells_body some r b entry (Ok stretches) g all p whole e =
     let law : IsPartialBody some all r b entry whole = partial_bodies some all p r b entry whole e in

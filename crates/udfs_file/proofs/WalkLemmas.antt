@@ -2,7 +2,7 @@
 --     chain_from t v form r left ds     all descriptors from here on: those that this area has left, and what follows
 --     rest_from ..                    the body from cell c on, where descriptor i is the next one of the area
 -- What the rest gives, put behind what was taken, is the whole: each lemma is one way to go on.
-use Rattle.std.proofs.Common.{◌≡◌, ◌≢◌, refl, sym, ◌∙◌, ap, inl, inr, ◌⊎◌, ℕ, ◌+◌, ◌-◌, ◌%◌, ◌<◌, ◌≤◌, min, Bool, true, false, not, cond, ◌&&◌, List, [], ◌∷◌, ◌++◌, length, take, map, arith, Option, Some, None, slice_get, nat_lt, nat_le, replicate, add-zero, append_assoc, append-nil}
+use Rattle.std.proofs.Common.{◌≡◌, ◌≢◌, refl, sym, ◌∙◌, ap, inl, inr, ◌⊎◌, ℕ, ◌+◌, ◌-◌, ◌%◌, ◌<◌, ◌≤◌, min, Bool, true, false, not, cond, ◌&&◌, List, [], ◌∷◌, ◌++◌, length, take, map, arith, Option, Some, None, slice_get, nat_lt, nat_le, replicate, add-zero, append_assoc, append-nil, length-append}
 use Rattle.std.proofs.lemmas.List.Concat.{flat_map-append}
 use Rattle.std.specs.Prelude.{take_while, zero, suc, flat_map, ◌==◌}
 use Rattle.std.specs.List.{range_with_len}
@@ -18,6 +18,7 @@ use Rattle.udfs_file.specs.declared.stretches.Stretch.{Stretch}
 use Rattle.udfs_file.specs.declared.stretches.Stretch.TheVariants.{Missing}
 use Rattle.udfs_file.specs.declared.faults.NodeFault.{NodeFault}
 use Rattle.udfs_file.specs.declared.faults.NodeFault.TheVariants.{Short, Reference, Range, Odd}
+use Rattle.udfs_file.proofs.CellLemmas.{length-stretch}
 use Rattle.udfs_file.proofs.BodyFrom.{from, onto, body-from, le_or_lt, not_le, not_lt, is_le, is_lt}
 use Rattle.udfs_file.proofs.ExtentLemmas.{is_not, is_same, none_of_three}
 
@@ -279,3 +280,14 @@ module _ (t : Bool) (v : View) (size form r : ℕ) (whole : Body) (left c : ℕ)
     pub walk-broken : d.length ≢ 0 → d.kind ≡ 3 → (f : NodeFault) → next_by v form (left == 0) d ≡ broken f → whole ≡ faulty_body f
     walk-broken e k f g = onto-fault t v size form r whole left c area i taken f w (rest-next t v size form r left c area i d (broken f) is_here is k g
         ∙ from-next v size (broken f) c d [] here e k ∙ from-end v size (broken f) c here)
+
+-- ---- how many cells there are, whatever is known of the blocks
+pub count_none : (v : View) → length (cells_of v []) ≡ 0
+unfolding cells_of
+count_none v = refl
+
+pub count_push : (v : View) (taken : List Stretch) (s : Stretch) → length (cells_of v (taken ++ s ∷ [])) ≡ length (cells_of v taken) + stretch_count s
+count_push v taken s = ap length (cells_of-push v taken s) ∙ length-append (cells_of v taken) (stretch_cells v s) ∙ ap (λ n. length (cells_of v taken) + n) (length-stretch v s)
+
+pub count_one : (v : View) (s : Stretch) → length (cells_of v (s ∷ [])) ≡ stretch_count s
+count_one v s = count_push v [] s ∙ ap (λ n. n + stretch_count s) (count_none v) ∙ (let z : 0 + stretch_count s ≡ stretch_count s = omega arith in z)

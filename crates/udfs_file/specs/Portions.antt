@@ -3,6 +3,7 @@
 --     AreUnread n k cells      all are missing: some with block n, then some with block n + 1, and so on for k blocks
 --     IsPortion p cells        these cells are the portion
 --     GivesPortion s r t       the portion r was taken from the beginning of the cells s, and t is left
+--     GivesCount m r n         the same of the numbers of cells alone
 use Rattle.std.specs.Prelude.{◌≡◌, ⊤, ℕ, zero, suc, ◌+◌, ◌-◌, ◌≤◌, List, [], ◌++◌, length, take, drop, replicate, Option, Some, None, MatchOption}
 use Rattle.udfs_lattice.specs.States.{State}
 use Rattle.udfs_lattice.specs.declared.facts.Fact.TheVariants.{Unknown, Known, Conflict}
@@ -50,3 +51,7 @@ pub record IsFirst (p : Portion) (s t : List Cell) : Type 0 where
 -- the next portion was taken from the beginning of the cells, or no cell was left
 abbrev pub GivesPortion : List Cell → Option Portion → List Cell → Type 0
 GivesPortion s r t = MatchOption r ((s ≡ []) × (t ≡ [])) (λ p. IsFirst p s t)
+
+-- so many cells were left, this portion has at least one of them, and so many are left after it; or none was left
+abbrev pub GivesCount : ℕ → Option Portion → ℕ → Type 0
+GivesCount before r after = MatchOption r ((before ≡ 0) × (after ≡ 0)) (λ p. (1 ≤ portion_count p) × (before ≡ portion_count p + after))

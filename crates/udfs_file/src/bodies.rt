@@ -1,18 +1,20 @@
 //! The bodies of entries (ECMA-167 4/12.1, 4/14.5, 4/14.14).
 
-ghost use Rattle.std.specs.Prelude.{◌≡◌, ◌≤◌, length};
+ghost use Rattle.std.specs.Prelude.{◌≡◌, ◌≤◌, length, IfOk, OnErr};
 ghost use Rattle.udfs_lattice.specs.Tables.{state_of};
+ghost use Rattle.udfs_space.specs.Places as places;
 ghost use Rattle.udfs_space.specs.Places.{view};
-ghost use Rattle.udfs_space.specs.Views.{view_now};
+ghost use Rattle.udfs_space.specs.Views.{view_by};
 
+use crate::areas::Area;
 use crate::entries::Entry;
-use crate::extents::{descriptor, descriptor_count, extent, follow};
+use crate::extents::{extent, follow};
 use crate::faults::{NodeFault, WalkError};
 use crate::stretches::{Follow, Run, Stretch};
 use std::alloc::Global;
 use std::marker::Model;
-use udfs_lattice::BlockTable;
-use udfs_space::{Space, View};
+use udfs_lattice::{BlockStore, BlockTable, ReadFault};
+use udfs_space::{Space, StoreView};
 use udfs_tag::{LbAddr, extent_types};
 
 /// The body of an entry: as many bytes as its information length says, each of them known, zero or missing.
@@ -35,7 +37,7 @@ impl Model for Body {
 }
 
 impl Body {
-    ghost use Rattle.udfs_file.specs.Stretches.{GivesStretches, LieInBlocks, IsStanding};
+    ghost use Rattle.udfs_file.specs.Stretches.{GivesStretches, LieInBlocks, IsStanding, cells_of};
     ghost use Rattle.udfs_file.specs.Entries.{entry_of};
     ghost use Rattle.udfs_file.specs.Bodies.{body, extents_body_by, listed_body};
     ghost use Rattle.udfs_file.specs.Told.{TellsBody};
@@ -88,10 +90,40 @@ impl Body {
         ensures complete { TellsBody (view (state_of table.now) space.now) reference b (entry_of entry.now) result }
         ensures memory { result ≡ Err WalkError.OutOfMemory → ((entry_of entry.now).form ≡ 3) ⊎ (0 < (entry_of entry.now).size) }
     {
+        let view = StoreView {
+            blocks: table,
+            space,
+        };
+        match Body::read_by(alloc, view, entry, reference, b) {
+            Ok(told) => told,
+            Err(_) => unreachable!(),
+        }
+    }
+
+    /// The same as [`Body::read`], by any store of blocks.
+    ///
+    /// # Errors
+    ///
+    /// `ReadFault` where the bytes of a known block could not be read. Nothing is told of the body then.
+    pub fn read_by<B: BlockStore>(
+        alloc: Global,
+        view: StoreView<'_, B>,
+        entry: &Entry<'_>,
+        reference: u16,
+        b: u32,
+    ) -> Result<Result<Body, WalkError>, ReadFault>
+        requires { B.tells → IsStanding (view_by B.states view) reference b entry.now }
+        ensures value { IfOk result (λ told. B.tells → GivesStretches (view_by B.states view.entry) told (body (view_by B.states view.entry) reference b (entry_of entry.now))) }
+        ensures complete { IfOk result (λ told. B.tells → TellsBody (view_by B.states view.entry) reference b (entry_of entry.now) told) }
+        // Whatever is known of the blocks.
+        ensures size { IfOk result (λ told. IfOk told (λ body. (v : places.View) → length (cells_of v body) ≡ (entry_of entry.now).size)) }
+        ensures memory { IfOk result (λ told. told ≡ Err WalkError.OutOfMemory → ((entry_of entry.now).form ≡ 3) ⊎ (0 < (entry_of entry.now).size)) }
+        ensures fails { OnErr result B.fails }
+    {
         if entry.form() != 3 {
             return Body::listed(
                 alloc,
-                View { table, space },
+                view,
                 entry.form(),
                 reference,
                 entry.size(),
@@ -100,7 +132,7 @@ impl Body {
         }
         let size = entry.size();
         if size > entry.area().len() as u64 {
-            return Err(WalkError::Fault(NodeFault::Short));
+            return Ok(Err(WalkError::Fault(NodeFault::Short)));
         }
         let run = Run {
             address: LbAddr {
@@ -111,85 +143,91 @@ impl Body {
         };
         let mut stretches = Vec::new(alloc);
         if stretches.push(Stretch::Recorded(run, size as u32)).is_err() {
-            return Err(WalkError::OutOfMemory);
+            return Ok(Err(WalkError::OutOfMemory));
         }
-        Ok(Body { stretches })
+        Ok(Ok(Body { stretches }))
     }
 
     /// The body of the descriptors in this area: with the tail of the last extent where the rules take it and it gives
     /// a body, else without it, and so with the fault that there is without it.
-    fn listed(
+    fn listed<B: BlockStore>(
         alloc: Global,
-        view: View<'_>,
+        view: StoreView<'_, B>,
         form: u16,
         reference: u16,
         size: u64,
         area: &[u8],
-    ) -> Result<Body, WalkError>
+    ) -> Result<Result<Body, WalkError>, ReadFault>
         requires { length area.now ≤ 2048 }
-        ensures value { GivesStretches (view_now view.entry) result
-            (extents_body_by (view_now view.entry) form reference size area.now) }
-        ensures memory { result ≡ Err WalkError.OutOfMemory → 0 < size }
+        ensures value { IfOk result (λ told. B.tells → GivesStretches (view_by B.states view.entry) told
+            (extents_body_by (view_by B.states view.entry) form reference size area.now)) }
+        ensures size { IfOk result (λ told. IfOk told (λ body. (v : places.View) → length (cells_of v body) ≡ size)) }
+        ensures memory { IfOk result (λ told. told ≡ Err WalkError.OutOfMemory → 0 < size) }
+        ensures fails { OnErr result B.fails }
     {
+        let mut room = [0; 2048];
         if view.space.profile().takes_tail() {
-            match Body::walk(alloc, view, true, form, reference, size, area) {
-                Ok(body) => return Ok(body),
-                Err(WalkError::OutOfMemory) => return Err(WalkError::OutOfMemory),
+            match Body::walk(alloc, view, true, form, reference, size, area, &mut room)? {
+                Ok(body) => return Ok(Ok(body)),
+                Err(WalkError::OutOfMemory) => return Ok(Err(WalkError::OutOfMemory)),
                 Err(WalkError::Fault(_)) => {}
             }
         }
-        Body::walk(alloc, view, false, form, reference, size, area)
+        Body::walk(alloc, view, false, form, reference, size, area, &mut room)
     }
 
     /// Follows the descriptors in this area, and at most 256 continuations.
-    fn walk(
+    fn walk<B: BlockStore>(
         alloc: Global,
-        view: View<'_>,
+        view: StoreView<'_, B>,
         tail: bool,
         form: u16,
         reference: u16,
         size: u64,
         area: &[u8],
-    ) -> Result<Body, WalkError>
+        room: &mut [u8; 2048],
+    ) -> Result<Result<Body, WalkError>, ReadFault>
         requires { length area.now ≤ 2048 }
-        ensures value { GivesStretches (view_now view.entry) result
-            (listed_body tail (view_now view.entry) form reference size area.now) }
-        ensures memory { result ≡ Err WalkError.OutOfMemory → 0 < size }
+        ensures value { IfOk result (λ told. B.tells → GivesStretches (view_by B.states view.entry) told
+            (listed_body tail (view_by B.states view.entry) form reference size area.now)) }
+        ensures size { IfOk result (λ told. IfOk told (λ body. (v : places.View) → length (cells_of v body) ≡ size)) }
+        ensures memory { IfOk result (λ told. told ≡ Err WalkError.OutOfMemory → 0 < size) }
+        ensures fails { OnErr result B.fails }
     {
         let mut stretches = Vec::new(alloc);
-        let mut area = area;
+        let mut area = Area::of(area);
         let mut i = 0;
         let mut left: u32 = 256;
         let mut c = 0;
         'walk: while c < size {
-            if i >= descriptor_count(form, area) {
-                return Err(WalkError::Fault(NodeFault::Short));
+            if i >= area.descriptor_count(form) {
+                return Ok(Err(WalkError::Fault(NodeFault::Short)));
             }
-            let d = descriptor(tail, form, reference, area, i);
+            let d = area.descriptor(tail, form, reference, i);
             if d.length == 0 {
-                return Err(WalkError::Fault(NodeFault::Short));
+                return Ok(Err(WalkError::Fault(NodeFault::Short)));
             }
             if d.kind == extent_types::NEXT_EXTENT {
-                match follow(view, form, left == 0, d) {
-                    Follow::Broken(fault) => return Err(WalkError::Fault(fault)),
+                match follow(view, form, left == 0, d, room)? {
+                    Follow::Broken(fault) => return Ok(Err(WalkError::Fault(fault))),
                     Follow::Unread(n) => {
                         if stretches.push(Stretch::Missing(n, size - c)).is_err() {
-                            return Err(WalkError::OutOfMemory);
+                            return Ok(Err(WalkError::OutOfMemory));
                         }
-                        return Ok(Body { stretches });
+                        return Ok(Ok(Body { stretches }));
                     }
                     Follow::Area(next) => {
-                        area = next;
+                        area = Area::of(next);
                         i = 0;
                         left -= 1;
                     }
                 }
             } else {
                 match extent(view.space, size, c, d) {
-                    Err(fault) => return Err(WalkError::Fault(fault)),
+                    Err(fault) => return Ok(Err(WalkError::Fault(fault))),
                     Ok(stretch) => {
                         if stretches.push(stretch).is_err() {
-                            return Err(WalkError::OutOfMemory);
+                            return Ok(Err(WalkError::OutOfMemory));
                         }
                         c += stretch.count();
                         i += 1;
@@ -197,6 +235,6 @@ impl Body {
                 }
             }
         }
-        Ok(Body { stretches })
+        Ok(Ok(Body { stretches }))
     }
 }

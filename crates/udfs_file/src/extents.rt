@@ -1,10 +1,10 @@
 //! Descriptors one at a time: what each gives, and what follows an area.
 
-ghost use Rattle.std.specs.Prelude.{◌≡◌, ◌≢◌, ℕ, ◌≤◌, ◌<◌, ◌/◌, ◌&&◌, min, length, Bool, true, false, IsNone, is_none};
+ghost use Rattle.std.specs.Prelude.{◌≡◌, ◌≢◌, ℕ, ◌≤◌, ◌<◌, ◌/◌, ◌&&◌, min, length, Bool, true, false, IsNone, is_none, IfOk, OnErr};
 ghost use Rattle.udfs_lattice.specs.Volumes.{Blocks};
 ghost use Rattle.udfs_lattice.specs.States.{fact_now};
 ghost use Rattle.udfs_space.specs.Places.{view as seen, place, block_now};
-ghost use Rattle.udfs_space.specs.Views.{view_now};
+ghost use Rattle.udfs_space.specs.Views.{view_by};
 ghost use Rattle.udfs_file.specs.Bodies.{descriptor_at, recorded_at, is_last_at, in_whole_blocks, descriptor_count, continuation_fault, is_misreferred, is_misplaced, is_odd, cells_in, is_extent, next_area, next_if, next_by};
 ghost use Rattle.udfs_tag.specs.Fields.{uint32_at};
 ghost use Rattle.udfs_tag.specs.Fields.{part};
@@ -14,8 +14,8 @@ use crate::entries::descriptor_size;
 use crate::faults::NodeFault;
 use crate::stretches::{Follow, Run, Stretch};
 use byteorder::{ByteOrder, LittleEndian};
-use udfs_lattice::Fact;
-use udfs_space::{Space, View};
+use udfs_lattice::{BlockStore, Fact, ReadFault};
+use udfs_space::{Space, StoreView};
 use udfs_tag::{LbAddr, LongAd, ShortAd, Tag, extent_types, identifiers};
 
 /// How many descriptors an area has.
@@ -206,13 +206,25 @@ fn area_at<'a>(form: u16, b: u32, block: Option<(u32, Fact<&'a [u8; 2048]>)>) ->
     }
 }
 
-/// What follows the area that ends in this descriptor.
-pub(crate) fn follow<'a>(view: View<'a>, form: u16, is_last: bool, d: LongAd) -> Follow<'a>
-    ensures value { next_now result ≡ next_by (view_now view.entry) form is_last d }
-    ensures allowed { IsFollowed result is_last }
+/// What follows the area that ends in this descriptor. The bytes of a continuation are lent from the store's memory, or from `room`.
+pub(crate) fn follow<'r, 'a, B: BlockStore>(
+    view: StoreView<'a, B>,
+    form: u16,
+    is_last: bool,
+    d: LongAd,
+    room: &'r mut [u8; 2048],
+) -> Result<Follow<'r>, ReadFault>
+where
+    'a: 'r,
+    ensures value { IfOk result (λ next. B.tells → next_now next ≡ next_by (view_by B.states view.entry) form is_last d) }
+    ensures allowed { IfOk result (λ next. IsFollowed next is_last) }
+    ensures fails { OnErr result B.fails }
 {
     match continuation_fault(view.space, is_last, d) {
-        Some(fault) => Follow::Broken(fault),
-        None => area_at(form, d.block, view.block_at(d.address())),
+        Some(fault) => Ok(Follow::Broken(fault)),
+        None => {
+            let block = view.block_at(d.address(), room)?;
+            Ok(area_at(form, d.block, block))
+        }
     }
 }

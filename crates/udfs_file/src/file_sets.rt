@@ -1,10 +1,11 @@
 //! The file set (ECMA-167 4/14.1).
 
-ghost use Rattle.std.specs.Prelude.{◌≡◌, None};
+ghost use Rattle.std.specs.Prelude.{◌≡◌, None, IfOk, OnErr};
 ghost use Rattle.udfs_lattice.specs.Tables.{state_of};
 ghost use Rattle.udfs_lattice.specs.States.{fact_now};
 ghost use Rattle.udfs_lattice.specs.Volumes.{Blocks};
 ghost use Rattle.udfs_space.specs.Places.{block_now, view};
+ghost use Rattle.udfs_space.specs.Views.{view_by};
 ghost use Rattle.udfs_volume.specs.Answers.{IsHoles};
 ghost use Rattle.udfs_volume.specs.Seen.{HolesRise, Sees};
 ghost use Rattle.udfs_file.specs.Addresses.{address_fault, file_set, file_set_at, file_set_in, is_no_reference};
@@ -14,8 +15,8 @@ use crate::entries::behind;
 use crate::extents::is_unplaced;
 use crate::faults::NodeFault;
 use std::alloc::Global;
-use udfs_lattice::{BlockTable, Fact};
-use udfs_space::{Space, View};
+use udfs_lattice::{BlockStore, BlockTable, Fact, ReadFault};
+use udfs_space::{Space, StoreView};
 use udfs_tag::{LongAd, Tag, extent_types, identifiers};
 use udfs_volume::{Seen, VolumeFault};
 
@@ -85,18 +86,45 @@ fn file_set_at(
 ///
 /// Where the partitions are a part of complete ones, whose file set names a root as the standard reads it, this root
 /// is returned, and the descriptor's block is known; or that block is not known, and is the hole or memory ran out.
-#[tactic(auto, unfolding(crate::specs::Addresses::file_set))]
 pub fn file_set(alloc: Global, table: &BlockTable, space: &Space, address: LongAd) -> Seen<LongAd>
     ensures value { Sees (λ a. a) result (file_set (view (state_of table.now) space.now) address) }
     ensures complete { TellsFileSet (view (state_of table.now) space.now) address result }
     ensures rising { HolesRise result }
     ensures memory { result ≡ Seen.OutOfMemory → IsHoles (file_set (view (state_of table.now) space.now) address) }
 {
-    match address_fault(space, address) {
-        Some(_) => Seen::Fault(VolumeFault::FileSet),
+    let view = StoreView {
+        blocks: table,
+        space,
+    };
+    match file_set_by(alloc, view, address) {
+        Ok(seen) => seen,
+        Err(_) => unreachable!(),
+    }
+}
+
+/// The same as [`file_set`], by any store of blocks.
+///
+/// # Errors
+///
+/// `ReadFault` where the bytes of a known block could not be read. Nothing is told of the file set then.
+#[tactic(auto, unfolding(crate::specs::Addresses::file_set))]
+pub fn file_set_by<B: BlockStore>(
+    alloc: Global,
+    view: StoreView<'_, B>,
+    address: LongAd,
+) -> Result<Seen<LongAd>, ReadFault>
+    ensures value { IfOk result (λ seen. B.tells → Sees (λ a. a) seen (file_set (view_by B.states view.entry) address)) }
+    ensures complete { IfOk result (λ seen. B.tells → TellsFileSet (view_by B.states view.entry) address seen) }
+    ensures rising { IfOk result HolesRise }
+    ensures memory { IfOk result (λ seen. B.tells → seen ≡ Seen.OutOfMemory → IsHoles (file_set (view_by B.states view.entry) address)) }
+    ensures fails { OnErr result B.fails }
+{
+    match address_fault(view.space, address) {
+        Some(_) => Ok(Seen::Fault(VolumeFault::FileSet)),
         None => {
-            let block = View { table, space }.block_at(address.address());
-            file_set_at(alloc, address, block)
+            let mut room = [0; 2048];
+            let block = view.block_at(address.address(), &mut room)?;
+            Ok(file_set_at(alloc, address, block))
         }
     }
 }

@@ -7,6 +7,7 @@
 //! it, and says as much as is known without it; nothing is guessed. The laws in [`laws`] say what that means.
 #![tactic(auto)]
 
+mod areas;
 pub mod bodies;
 pub mod cells;
 pub mod cursors;
@@ -20,6 +21,7 @@ pub mod marks;
 mod pieces;
 pub mod portions;
 mod store_cells;
+pub mod store_portions;
 pub mod stretches;
 
 pub use bodies::Body;
@@ -32,4 +34,5 @@ pub use marks::Marks;
 pub use pieces::Pieces;
 pub use portions::{Portion, Portions, Unread};
 pub use store_cells::StoreCursor;
+pub use store_portions::StorePortions;
 pub use stretches::{Run, Stretch};

@@ -1,22 +1,21 @@
 //! The bytes of a body, run by run.
 
-ghost use Rattle.std.specs.Prelude.{◌≡◌, ℕ, ◌≤◌, ◌<◌, ◌+◌, ◌/◌, ◌^◌, true, drop, length, map, take};
+ghost use Rattle.std.specs.Prelude.{◌≡◌, ◌≤◌, ◌<◌, ◌+◌, ◌^◌, drop, length, map, take};
 ghost use Rattle.std.specs.Iterator.{at_most};
 ghost use Rattle.std.specs.List.{range_with_len};
-ghost use Rattle.udfs_space.specs.Places.{block_at};
 ghost use Rattle.udfs_space.specs.Views.{view_now};
 ghost use Rattle.udfs_file.specs.Bodies.{recorded_cell};
 ghost use Rattle.udfs_file.specs.Stretches.{cells_of, stretch_cells, stretch_count};
-ghost use Rattle.udfs_file.specs.Portions.{GivesPortion, IsPortion, IsUnreadAt, portion_count};
+ghost use Rattle.udfs_file.specs.Portions.{GivesPortion, IsPortion, portion_count};
 
 use crate::bodies::Body;
 use crate::cells::Cells;
 use crate::pieces::bytes_at;
+use crate::store_portions::unread_portion;
 use crate::stretches::{Run, Stretch};
 use std::marker::Model;
 use udfs_lattice::Fact;
-use udfs_space::View;
-use udfs_tag::LbAddr;
+use udfs_space::{StoreView, View};
 
 /// Bytes of a body that lie side by side, at least one.
 #[derive(Clone, Copy, Debug)]
@@ -53,74 +52,6 @@ impl<'a> Portion<'a> {
     }
 }
 
-/// Whether the block `behind` logical blocks after an address is not known and has the number `n`.
-fn is_unread(view: View<'_>, address: LbAddr, behind: u32, n: u32) -> bool
-    ensures { result ≡ true → IsUnreadAt (block_at (view_now view.entry) address.reference (address.block + behind)) n }
-{
-    match view.block_behind(address, behind) {
-        Some((found, Fact::Unknown)) => found == n,
-        Some((found, Fact::Conflict)) => found == n,
-        _ => false,
-    }
-}
-
-/// How many consecutive logical blocks, from `behind` blocks after an address on, are not known and lie one after the other from block
-/// `n` of the volume on, as far as a step goes: several at once only where they are unknown; none only where the first is not
-/// such a block.
-fn unread_step(view: View<'_>, address: LbAddr, behind: u32, n: u32) -> u32
-    ensures { (j : ℕ) → j < result → IsUnreadAt (block_at (view_now view.entry) address.reference (address.block + behind + j)) (n + j) }
-{
-    match view.unknown_ahead(address, behind) {
-        Some((found, count)) => {
-            if found == n && count > 0 {
-                return count;
-            }
-        }
-        None => {}
-    }
-    u32::from(is_unread(view, address, behind, n))
-}
-
-/// How many consecutive logical blocks, from `behind` blocks after an address on, are not known and lie one after the other from block
-/// `n` of the volume on: at most `most`.
-fn unread_run(view: View<'_>, address: LbAddr, behind: u32, n: u32, most: u32) -> u32
-    requires near { behind + most < 2 ^ 32 }
-    requires low { n + most < 2 ^ 32 }
-    ensures most { result ≤ most }
-    ensures unread { (j : ℕ) → j < result → IsUnreadAt (block_at (view_now view.entry) address.reference (address.block + behind + j)) (n + j) }
-{
-    let mut count = 0;
-    'blocks: while count < most {
-        let step = unread_step(view, address, behind + count, n + count);
-        if step == 0 {
-            break 'blocks;
-        }
-        count += step.min(most - count);
-    }
-    count
-}
-
-/// The missing bytes from byte `at` on, counted from the start of the run's first block, of which the first is in block `n`: at most `left`.
-fn unread_portion<'a>(view: View<'a>, run: Run, at: u64, n: u32, left: u64) -> Portion<'a>
-    requires some { 1 ≤ left }
-    requires far { left < 2 ^ 32 }
-    requires near { at < 2 ^ 33 }
-    requires low { n ≤ 4194303 }
-    requires unread { IsUnreadAt (block_at (view_now view) run.address.reference (run.address.block + at / 2048)) n }
-    ensures cells { IsPortion result (map (recorded_cell (view_now view.entry) run.address.reference run.address.block) (range_with_len at (portion_count result))) }
-    ensures some { 1 ≤ portion_count result }
-    ensures most { portion_count result ≤ left }
-{
-    let more = ((at % 2048 + left - 1) / 2048) as u32;
-    let behind = unread_run(view, run.address, (at / 2048) as u32 + 1, n + 1, more);
-    let count = left.min(2048 * (u64::from(behind) + 1) - at % 2048);
-    Portion::Missing(Unread {
-        first: n,
-        last: n + behind,
-        count,
-    })
-}
-
 /// The recorded bytes from byte `at` on, counted from the start of the run's first block, as far as one portion goes: at most `left`.
 fn recorded_portion<'a>(view: View<'a>, run: Run, at: u64, left: u64) -> Portion<'a>
     requires some { 1 ≤ left }
@@ -131,13 +62,17 @@ fn recorded_portion<'a>(view: View<'a>, run: Run, at: u64, left: u64) -> Portion
     ensures most { portion_count result ≤ left }
 {
     let here = left.min(2048 - at % 2048);
+    let stored = StoreView {
+        blocks: view.table,
+        space: view.space,
+    };
     match view.block_behind(run.address, (at / 2048) as u32) {
         None => Portion::Zeros(here),
         Some((_, Fact::Known(bytes))) => {
             Portion::Bytes(bytes_at(bytes, (at % 2048) as usize, here as usize))
         }
-        Some((n, Fact::Unknown)) => unread_portion(view, run, at, n, left),
-        Some((n, Fact::Conflict)) => unread_portion(view, run, at, n, left),
+        Some((n, Fact::Unknown)) => unread_portion(stored, run, at, n, left),
+        Some((n, Fact::Conflict)) => unread_portion(stored, run, at, n, left),
     }
 }
 

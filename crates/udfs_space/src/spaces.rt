@@ -2,6 +2,7 @@
 
 ghost use Rattle.std.specs.Prelude.{◌≡◌, ◌≤◌, ◌<◌, ◌↔◌, ℕ, All, IfOk, IfSome, IsErrOf, IsSome, OnErr, Some, length, map, option_map, slice_get};
 ghost use Rattle.udfs_lattice.specs.States.{fact_now};
+ghost use Rattle.udfs_lattice.specs.Stores.{known_as};
 ghost use Rattle.udfs_lattice.specs.Tables.{state_of};
 ghost use Rattle.udfs_volume.specs.LayoutParts.{partition_now, parts_now};
 ghost use Rattle.udfs_volume.specs.Laws.{IsBounded, IsBoundedPartition};
@@ -274,5 +275,22 @@ impl Space {
                 Ok(Some((place, fact)))
             }
         }
+    }
+
+    /// The same as [`block_in`](Self::block_in), without the bytes of a known block. It takes no memory, reads nothing and cannot
+    /// fail.
+    pub fn knowledge_in<B: BlockStore>(
+        &self,
+        blocks: &B,
+        reference: u16,
+        block: u64,
+    ) -> Option<(u32, Fact<()>)>
+        ensures { B.tells → result ≡ option_map (λ found. (found.0, known_as found.1)) (block_at (view (B.states blocks.now) self.now) reference block) }
+    {
+        if block >= u64::from(self.size(reference)) {
+            return None;
+        }
+        let place = self.place(reference, block as u32)?;
+        Some((place, blocks.knowledge(place)))
     }
 }

@@ -1,7 +1,7 @@
 //! A table of blocks and the places in it, which always travel together.
 
-ghost use Rattle.std.specs.Prelude.{◌≡◌, ◌≤◌, ◌<◌, ◌+◌, ℕ, IfOk, IfSome, IsSome, OnErr, Some};
-ghost use Rattle.udfs_lattice.specs.Tables.{state_of};
+ghost use Rattle.std.specs.Prelude.{◌≡◌, ◌≤◌, ◌<◌, ◌+◌, ℕ, IfOk, IfSome, IsSome, OnErr, Some, option_map};
+ghost use Rattle.udfs_lattice.specs.Stores.{known_as};
 ghost use Rattle.udfs_lattice.specs.declared.facts.Fact.TheVariants.{Unknown};
 ghost use Rattle.udfs_space.specs.Places.{block_at, block_now};
 ghost use Rattle.udfs_space.specs.Views.{view_by, view_now};
@@ -28,16 +28,6 @@ pub struct View<'a> {
 }
 
 impl<'a> View<'a> {
-    /// The same volume, as that of a store of blocks: the table is one.
-    pub fn stored(self) -> StoreView<'a, BlockTable>
-        ensures { view_by state_of result ≡ view_now self.entry }
-    {
-        StoreView {
-            blocks: self.table,
-            space: self.space,
-        }
-    }
-
     /// The block of the volume that holds a logical block, and what is known of it: none where the logical
     /// block has no place. It takes no memory.
     pub fn block_at(self, address: LbAddr) -> Option<(u32, Fact<&'a [u8; 2048]>)>
@@ -105,5 +95,49 @@ impl<'a, B: BlockStore> StoreView<'a, B> {
         ensures fails { OnErr result B.fails }
     {
         self.space.block_in(self.blocks, address.reference, behind(address, count), room)
+    }
+
+    /// The block of the volume that holds a logical block, and what is known of it, as [`View::block_at`]. The bytes of a known block
+    /// are lent from the store's memory, or from `room`.
+    ///
+    /// # Errors
+    ///
+    /// `ReadFault` where the bytes of a known block could not be read.
+    pub fn block_at<'r>(
+        self,
+        address: LbAddr,
+        room: &'r mut [u8; 2048],
+    ) -> Result<Option<(u32, Fact<&'r [u8; 2048]>)>, ReadFault>
+    where
+        'a: 'r,
+        ensures value { IfOk result (λ found. B.tells → block_now found ≡ block_at (view_by B.states self.entry) address.reference address.block) }
+        ensures fits { IfOk result (λ found. IfSome found (λ found. found.0 ≤ 4194303)) }
+        ensures fails { OnErr result B.fails }
+    {
+        self.block_behind(address, 0, room)
+    }
+
+    /// The block of the volume that holds the logical block `count` blocks after an address, and what is known of it, without its
+    /// bytes: none where the logical block has no place. It takes no memory, reads nothing and cannot fail.
+    pub fn knowledge_behind(self, address: LbAddr, count: u32) -> Option<(u32, Fact<()>)>
+        ensures { B.tells → result ≡ option_map (λ block. (block.0, known_as block.1)) (block_at (view_by B.states self.entry) address.reference (address.block + count)) }
+    {
+        self.space
+            .knowledge_in(self.blocks, address.reference, behind(address, count))
+    }
+
+    /// The block of the volume that holds the logical block `count` blocks after an address, and how many logical blocks from that one
+    /// on are unknown and lie one after the other in the volume, as [`View::unknown_ahead`]. It takes no memory, reads nothing and
+    /// cannot fail.
+    pub fn unknown_ahead(self, address: LbAddr, count: u32) -> Option<(u32, u32)>
+        ensures { B.tells → IfSome result (λ ahead. (j : ℕ) → j < ahead.1 → block_at (view_by B.states self.entry) address.reference (address.block + count + j) ≡ Some (ahead.0 + j, Unknown)) }
+    {
+        let first = address.block.checked_add(count)?;
+        let place = self.space.place(address.reference, first)?;
+        let beside = self.space.beside(LbAddr {
+            block: first,
+            reference: address.reference,
+        });
+        Some((place, beside.min(self.blocks.unknown_ahead(place))))
     }
 }
