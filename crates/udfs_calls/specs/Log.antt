@@ -169,8 +169,8 @@ moment_of (Some log) = length log.calls
 
 -- the file that a path names, where the log is known
 abbrev pub Names : Option Log → List ℕ → Option Node → Type 0
-Names None p node = ⊤
-Names (Some log) p node = node_at log.start log.calls p ≡ node
+Names None p entry = ⊤
+Names (Some log) p entry = node_at log.start log.calls p ≡ entry
 
 -- a path names something, where the log is known
 abbrev pub NamesSome : Option Log → List ℕ → Type 0
