@@ -127,7 +127,8 @@ def bounds_of(disc, kind, data):
 
 def of_anchor(disc, data):
     size, main, _, reserve = struct.unpack_from("<4I", data, 16)
-    sizes = [(n, main, n, reserve) for n in (15 * BLOCK, 16 * BLOCK, 256 * BLOCK, 257 * BLOCK, size + 1)]
+    sizes = [(n, main, n, reserve) for n in (0, BLOCK, 15 * BLOCK, 16 * BLOCK, 256 * BLOCK, 257 * BLOCK, size + 1)]
+    sizes += [each for n in (BLOCK, 3 * BLOCK, 0) for each in ((n, main, size, reserve), (size, main, n, reserve))]
     ends = [disc.last + 1 - size // BLOCK + i for i in (0, 1)]
     extents = sizes + [(size, main, size, end) for end in ends] + [(size, end, size, reserve) for end in ends] + [(size, main, size + BLOCK, reserve)]
     return [(16, struct.pack("<4I", *each)) for each in extents]
@@ -135,7 +136,8 @@ def of_anchor(disc, data):
 
 def of_partition(disc, data):
     start, length = struct.unpack_from("<II", data, 188)
-    ranges = words(192, disc.last + 1 - start, disc.last + 2 - start, 0, 1) + words(188, disc.last + 1 - length, disc.last + 2 - length)
+    ranges = words(192, disc.last + 1 - start, disc.last + 2 - start, 0, 1, -1)
+    ranges += words(188, disc.last + 1 - length, disc.last + 2 - length, disc.last, disc.last + 1)
     return ranges + [(25, b"+NSR04"), (25, b"+NSR02\1"), (25, b"+NSR03")]
 
 
@@ -143,7 +145,7 @@ def of_logical_volume(disc, data):
     kinds = [map["kind"] for map in disc.maps]
     used = sum(6 if kind == "type1" else 64 for kind in kinds)
     bounds = words(268, 0, 1, 2, 3) + words(264, used, used - 1, 0) + words(212, 512, 4096) + octets(211, 1, 2, 126, 127, 128)
-    bounds += halves(240, 0x101, 0x102, 0x150, 0x200, 0x201, 0x250, 0x260) + of_address(disc, data, 248)
+    bounds += halves(240, 0xff, 0x100, 0x101, 0x102, 0x150, 0x200, 0x201, 0x250, 0x260) + of_address(disc, data, 248)
     bounds.append((264, struct.pack("<II", 12, 2) + bytes(168) + struct.pack("<BBHH", 1, 6, 1, 0) + struct.pack("<BBHH", 1, 6, 1, 0)))
     if "sparable" in kinds:
         at = 440 + (6 if kinds[0] == "type1" else 0)

@@ -4,10 +4,12 @@ import struct
 from descriptors import label_of, long_address, tag_of
 from inputs import BLOCK, number
 
-# The two sets of rules: which revisions of UDF and packet lengths are taken, which file types (4/14.6.6, UDF 2.01 2.3.5.2) are
-# files, and whether the last extent of a file goes on to the end of its block where the file does.
-STRICT = {"revisions": (0x150, 0x201), "packets": (16, 32), "files": (5,), "tail": False}
-WIDE = {"revisions": (0x102, 0x150, 0x200, 0x201), "packets": (1, 2, 4, 8, 16, 32, 64, 128), "files": (0, 5, 249), "tail": True}
+# The two sets of rules: which revisions of UDF and packet lengths are taken, how many blocks each extent of the descriptor sequence
+# has at least and whether both have one length, whether a partition may pass the last block, which file types (4/14.6.6, UDF 2.01
+# 2.3.5.2) are files, and whether the last extent of a file goes on to the end of its block where the file does.
+STRICT = {"revisions": (0x150, 0x201), "packets": (16, 32), "least": 16, "apart": False, "passes": False, "files": (5,), "tail": False}
+WIDE = {"revisions": (0x100, 0x101, 0x102, 0x150, 0x200, 0x201), "packets": (1, 2, 4, 8, 16, 32, 64, 128), "least": 1, "apart": True, "passes": True,
+        "files": (0, 5, 249), "tail": True}
 VOLUME_FAULTS = """NoAnchor Extents Pointer NoLogicalVolume Domain BlockSize MapCount MapKind NoPartition Contents PartitionRange
     SparingTag SparingShape SparingOrder MappedRange FileSet""".split()
 
@@ -45,10 +47,12 @@ class Volume:
             block = self.known(place)
             if block and tag_of(block, place) == 2:
                 size, main, reserve_size, reserve = struct.unpack_from("<4I", block, 16)
-                ends = max(main, reserve) + size // BLOCK - 1
-                if size != reserve_size or size % BLOCK or not 16 <= size // BLOCK <= 256 or ends > self.last:
+                for length, first in ((size, main), (reserve_size, reserve)):
+                    if length % BLOCK or not self.rules["least"] <= length // BLOCK <= 256 or first + length // BLOCK - 1 > self.last:
+                        raise VolumeFault(2)
+                if size != reserve_size and not self.rules["apart"]:
                     raise VolumeFault(2)
-                return main, reserve, size // BLOCK
+                return main, reserve, min(size, reserve_size) // BLOCK
         raise_holes(place for place in places if not self.known(place))
         raise VolumeFault(1)
 
@@ -94,8 +98,12 @@ class Volume:
             raise VolumeFault(10)
         for map, block in zip(self.maps, found):
             map["start"], map["length"] = struct.unpack_from("<II", block, 188)
-        if any(map["length"] == 0 or map["start"] + map["length"] > self.last + 1 for map in self.maps):
-            raise VolumeFault(11)
+        for map in self.maps:
+            end = min(map["start"] + 1, map["start"] + map["length"]) if self.rules["passes"] else map["start"] + map["length"]
+            if map["length"] == 0 or end > self.last + 1:
+                raise VolumeFault(11)
+        for map in self.maps:
+            map["length"] = min(map["length"], self.last + 1 - map["start"])
 
     def read_map(self, data):
         """A partition map (3/10.7, UDF 2.2.9)."""
