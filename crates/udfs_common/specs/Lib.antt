@@ -8,3 +8,4 @@ pub mod Jobs
 pub mod Reach
 pub mod Puts
 pub mod Ends
+pub mod Volumes

@@ -110,6 +110,7 @@ pub record IsReport (words : Found) (request : ReportRequest) : Type 0 where
 pub record IsReread (words : Found) (request : RereadRequest) : Type 0 where
   pub volume : IsVolumeSource (input_texts words) words request.volume
   pub mapfile : option_map (λ path. path.now) request.mapfile ≡ optional_text words (codes "mapfile")
+  pub witnesses : IsPicked words (codes "no-witnesses") false true request.witnesses
 
 -- the arguments of `list`
 pub record IsList (words : Found) (request : ListRequest) : Type 0 where

@@ -89,6 +89,8 @@ pub struct RereadRequest<'a> {
     pub volume: VolumeSource<'a>,
     /// The path of the mapfile in which they are to be wanted; where there is none, their numbers are to be printed.
     pub mapfile: Option<&'a str>,
+    /// Known blocks are to be wanted in it too, by which a pass of another disc shows.
+    pub witnesses: bool,
 }
 
 /// The files and folders of a volume are to be listed, a line for each.
