@@ -11,7 +11,7 @@ ghost use Rattle.udfs_commands.specs.Doing.{Does, Leaves, MayFail};
 
 use crate::performing::perform;
 use crate::printing::send;
-use crate::refusing::{ask_for_last, command_of, explain, refuse, show, tell, tell_profile};
+use crate::refusing::{ask_for_last, explain, refuse, show, tell, tell_profile};
 use clap::ArgMatches;
 use std::alloc::{AllocError, Global};
 use udfs_common::files::Files;
@@ -20,6 +20,7 @@ use udfs_common::refusal::Refusal;
 use udfs_extraction::times::keep_times;
 use udfs_reading::Sink;
 use udfs_words::reading::{UsageFault, read};
+use udfs_words::request::Request;
 use udfs_words::words::{QUIET, VERBOSE, given_in, grammar};
 
 /// What is said where standard input is to be read twice.
@@ -69,7 +70,7 @@ pub fn run<F: Files, O: Sink, E: Sink>(
         return refuse(alloc, &Refusal::Memory(AllocError), err);
     }
     let outcome = perform(alloc, name, found, &request, files, out);
-    finish(alloc, outcome, found, words, files, err)
+    finish(alloc, outcome, &request, found, words, files, err)
 }
 
 /// Says why arguments that clap takes are no request, and returns the exit status, 2.
@@ -104,6 +105,7 @@ fn set_tone<F: Files>(words: &ArgMatches<'_>, files: &F) {
 fn finish<F: Files, E: Sink>(
     alloc: Global,
     outcome: Result<bool, Refusal>,
+    request: &Request<'_>,
     words: &ArgMatches<'_>,
     line: &[String],
     files: &F,
@@ -120,7 +122,7 @@ fn finish<F: Files, E: Sink>(
         Err(Refusal::NoLast) => ask_for_last(alloc, line, err),
         Err(refusal) => {
             let status = refuse(alloc, &refusal, err);
-            explain(alloc, &refusal, command_of(line), words, files, err);
+            explain(alloc, &refusal, request, words, files, err);
             status
         }
     }
