@@ -23,6 +23,7 @@ ghost use Rattle.udfs_extraction.specs.LostFiles.{lost_others};
 ghost use Rattle.udfs_reports.specs.Listing.{IsListForm, PrintsList};
 ghost use Rattle.udfs_reports.specs.Paging.{IsFreePage, MayPageAsked, PageAsked, ReplacesPage, WritesPage, page_path};
 ghost use Rattle.udfs_reports.specs.Summarizing.{PrintsSummary};
+ghost use Rattle.udfs_words.specs.Requests.{streamed_texts};
 ghost use Rattle.udfs_words.specs.Obeying.{Asks, GrammarTakes, IsAsked, given_in};
 ghost use Rattle.udfs_words.specs.Grammar.{program_app};
 ghost use Rattle.udfs_overview.specs.declared.node_list.ListForm.{ListForm};
@@ -101,7 +102,7 @@ pub fn run<F: Files, O: Sink, E: Sink>(
         PutsForgotten (λ path. F.holds files.old (F.real files.old path)) (⟦<AnySource<F::Input, F::Image> as Source>⟧.remaining) found
         (λ bytes. (F.tells → IsKept (F.holds files.new) (F.may_leave files.new) (F.real files.old (out_text found)) bytes) ⊎ (F.in_place files.old (out_text found) × IsTaken F.Output.stream bytes)) ×
         ((force : Bool) × IsPicked found (codes "force") true false force ×
-        (F.tells → IsFree (F.holds files.old) (F.real files.old) (F.in_place files.old) (input_texts found) (pair_texts found) force (out_text found))) }
+        (F.tells → IsFree (F.holds files.old) (F.real files.old) (F.in_place files.old) (streamed_texts found) (pair_texts found) force (out_text found))) }
     ensures list { GrammarTakes (map string_bytes words.now) → Asks (map string_bytes words.now) (codes "list") → result ≢ 2 → (whole : Bool) × (result ≡ cond whole 0 1) × (found : Found) × IsAsked (map string_bytes words.now) (codes "list") found ×
         ((form : ListForm) × (last : ℕ) × (profile : Profile) × (inputs : List InputPath) × (map asked_for inputs ≡ asked_streams found) ×
         IsListForm found form × IsLast (λ path. F.holds files.old (F.real files.old path)) inputs found last × IsProfile found profile × OfPaths (λ path. F.holds files.old (F.real files.old path)) (⟦<AnySource<F::Input, F::Image> as Source>⟧.remaining) inputs
@@ -114,7 +115,7 @@ pub fn run<F: Files, O: Sink, E: Sink>(
         WritesImage (λ path. F.holds files.old (F.real files.old path)) (⟦<AnySource<F::Input, F::Image> as Source>⟧.remaining) found
         (λ bytes text. F.tells → IsKept (F.holds files.new) (F.may_leave files.new) (F.real files.old (out_text found)) bytes × IsKept (F.holds files.new) (F.may_leave files.new) (F.real files.old (mapfile_text found)) text) ×
         ((force : Bool) × IsPicked found (codes "force") true false force ×
-        (F.tells → IsFreePair (F.holds files.old) (F.real files.old) (input_texts found) (pair_texts found) force (out_text found) (mapfile_text found))) }
+        (F.tells → IsFreePair (F.holds files.old) (F.real files.old) (streamed_texts found) (pair_texts found) force (out_text found) (mapfile_text found))) }
     ensures page { GrammarTakes (map string_bytes words.now) → Asks (map string_bytes words.now) (codes "page") → result ≢ 2 → (whole : Bool) × (result ≡ cond whole 0 1) × (found : Found) × IsAsked (map string_bytes words.now) (codes "page") found ×
         (WritesPage (λ path. F.holds files.old (F.real files.old path)) (⟦<AnySource<F::Input, F::Image> as Source>⟧.remaining) found
         (λ bytes. (F.tells → IsKept (F.holds files.new) (F.may_leave files.new) (F.real files.old (page_path found)) bytes) ⊎ (F.in_place files.old (page_path found) × IsTaken F.Output.stream bytes)) whole ×
@@ -234,7 +235,7 @@ fn obey<F: Files, O: Sink>(
         (PutsForgotten (λ path. F.holds files.old (F.real files.old path)) (⟦<AnySource<F::Input, F::Image> as Source>⟧.remaining) (found_of words.now)
         (λ bytes. (F.tells → IsKept (F.holds files.new) (F.may_leave files.new) (F.real files.old (out_text (found_of words.now))) bytes) ⊎ (F.in_place files.old (out_text (found_of words.now)) × IsTaken F.Output.stream bytes)))) }
     ensures free_forget { name.now ≡ codes "forget" → IfSome result (λ outcome. OnOk outcome ((force : Bool) × IsPicked (found_of words.now) (codes "force") true false force ×
-        (F.tells → IsFree (F.holds files.old) (F.real files.old) (F.in_place files.old) (input_texts (found_of words.now)) (pair_texts (found_of words.now)) force (out_text (found_of words.now))))) }
+        (F.tells → IsFree (F.holds files.old) (F.real files.old) (F.in_place files.old) (streamed_texts (found_of words.now)) (pair_texts (found_of words.now)) force (out_text (found_of words.now))))) }
     ensures list { name.now ≡ codes "list" → IfSome result (λ outcome. IfOk outcome (λ whole. (form : ListForm) × (last : ℕ) × (profile : Profile) × (inputs : List InputPath) × (map asked_for inputs ≡ asked_streams (found_of words.now)) ×
         IsListForm (found_of words.now) form × IsLast (λ path. F.holds files.old (F.real files.old path)) inputs (found_of words.now) last × IsProfile (found_of words.now) profile × OfPaths (λ path. F.holds files.old (F.real files.old path)) (⟦<AnySource<F::Input, F::Image> as Source>⟧.remaining) inputs
         (PrintsList profile form last (O.stream out.old) (O.stream out.new) whole))) }
@@ -246,7 +247,7 @@ fn obey<F: Files, O: Sink>(
         (WritesImage (λ path. F.holds files.old (F.real files.old path)) (⟦<AnySource<F::Input, F::Image> as Source>⟧.remaining) (found_of words.now)
         (λ bytes text. F.tells → IsKept (F.holds files.new) (F.may_leave files.new) (F.real files.old (out_text (found_of words.now))) bytes × IsKept (F.holds files.new) (F.may_leave files.new) (F.real files.old (mapfile_text (found_of words.now))) text))) }
     ensures free_image { name.now ≡ codes "image" → IfSome result (λ outcome. OnOk outcome ((force : Bool) × IsPicked (found_of words.now) (codes "force") true false force ×
-        (F.tells → IsFreePair (F.holds files.old) (F.real files.old) (input_texts (found_of words.now)) (pair_texts (found_of words.now)) force (out_text (found_of words.now)) (mapfile_text (found_of words.now))))) }
+        (F.tells → IsFreePair (F.holds files.old) (F.real files.old) (streamed_texts (found_of words.now)) (pair_texts (found_of words.now)) force (out_text (found_of words.now)) (mapfile_text (found_of words.now))))) }
     ensures page { name.now ≡ codes "page" → IfSome result (λ outcome. IfOk outcome (λ whole. WritesPage (λ path. F.holds files.old (F.real files.old path)) (⟦<AnySource<F::Input, F::Image> as Source>⟧.remaining) (found_of words.now)
         (λ bytes. (F.tells → IsKept (F.holds files.new) (F.may_leave files.new) (F.real files.old (page_path (found_of words.now))) bytes) ⊎ (F.in_place files.old (page_path (found_of words.now)) × IsTaken F.Output.stream bytes)) whole ×
         (F.tells → IsFreePage (F.holds files.old) (F.real files.old) (F.in_place files.old) (input_texts (found_of words.now)) (pair_texts (found_of words.now)) (page_path (found_of words.now))))) }

@@ -1,7 +1,9 @@
 pub mod ForgettingLemmas
-pub mod LeavingLemmas
+mod OutlookLemmas
+mod MergingLemmas
+pub mod OldClauses
 pub mod ImagingLemmas
 mod PastEnds
-pub mod ImageWordsLemmas
+pub mod PairingLemmas
 mod StoredLemmas
 mod EntryTables

@@ -12,7 +12,7 @@ use Rattle.udfs_reading.specs.Inputs.{inputs}
 use Rattle.udfs_reading.specs.Several.{HasTable, InputFails, TablesAre}
 use Rattle.udfs_reading.specs.declared.inputs.InputError.{InputError}
 use Rattle.udfs_common.specs.Blaming.{AreJudgedFor, BlamesInput, InputsRefused, IsJudged, IsJudgedFor, IsShut, source_reason, stored_reason}
-use Rattle.udfs_common.specs.Keeping.{FailedOut, Joined, Opens, RefusedOut}
+use Rattle.udfs_common.specs.Keeping.{Joined, Opens}
 use Rattle.udfs_common.specs.Refusing.{refusal_for}
 use Rattle.udfs_common.specs.Sources.{IsPathOpened, left_in}
 use Rattle.udfs_common.specs.declared.refusal.Refusal.{Refusal}
@@ -103,15 +103,6 @@ one_more_source remaining content rs r ss i d lt same is =
 pub taken_by : {S W : Type 0} (content : S → Option (List ℕ)) (stream : W → Stream) (bytes : List ℕ) (before after : W) → ToldOrSilent content stream → (AreAllTold content → Appends (stream before).contents (stream after).contents bytes) → Appends (stream before).contents (stream after).contents bytes
 taken_by content stream bytes before after (inl told) wrote = wrote told
 taken_by content stream bytes before after (inr none) wrote = subst (λ (o : Option (List ℕ)). Appends o (stream after).contents bytes) (sym (none before)) tt
-
--- a job that was refused leaves what the path held
-pub stays : {F : Type 0} {tells Failed : Type 0} {holds : F → List ℕ → Option (Option (List ℕ))} {real : F → List ℕ → List ℕ} {in_place : F → List ℕ → Type 0} {out : List ℕ} {old new : F} →
-    FailedOut tells holds real in_place Failed out old new (λ Put. ⊥) → tells → (in_place old out → ⊥) → holds new (real old out) ≡ holds old (real old out)
-stays failed t p = ⊎_elim (λ same. same) (λ no. absurd no) (failed.stands t p)
-
-pub gave_up : {F : Type 0} {tells Shut Failed : Type 0} {holds : F → List ℕ → Option (Option (List ℕ))} {real : F → List ℕ → List ℕ} {in_place : F → List ℕ → Type 0} {out : List ℕ} {old new : F} (Puts : (List ℕ → Type 0) → Type 0) →
-    FailedOut tells holds real in_place Failed out old new (λ Put. ⊥) → RefusedOut tells holds real in_place (Shut ⊎ Failed) out old new Puts
-gave_up Puts failed = inr (record { failed = inr failed.failed; stands = λ t p. ⊎_elim (λ same. inl same) (λ no. absurd no) (failed.stands t p); elsewhere = failed.elsewhere })
 
 -- ---- inputs of both kinds
 

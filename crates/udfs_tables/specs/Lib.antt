@@ -4,3 +4,4 @@ pub mod Indexing
 pub mod Imaging
 pub mod Refused
 pub mod Merging
+pub mod Pairing

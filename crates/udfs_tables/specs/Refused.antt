@@ -6,9 +6,11 @@
 --     BlamesPath                     the same of the inputs of some paths
 --     IsUncompared, IsRereadOf         bytes of one of this many inputs could not be read again, to be compared or to be written
 --     StoredRefused                  inputs that are read at positions were not taken, and why
+--     OutRefused                     an output would take the place of what is to stay, or could not be looked at
 --     MergeRefused                   the inputs of some paths were not merged, and why
 --     WordsRefused                   a command with these arguments failed, and why
-use Rattle.std.specs.Prelude.{◌≡◌, ◌⊎◌, ◌<◌, ◌+◌, ℕ, List, ◌∷◌, ◌++◌, Option, None, Some, Err, alloc_error, length, map}
+use Rattle.std.specs.Prelude.{◌≡◌, ◌⊎◌, ◌<◌, ◌+◌, ℕ, Bool, List, ◌∷◌, ◌++◌, Option, None, Some, Err, alloc_error, length, map}
+use Rattle.udfs_files.specs.Disk.{Fails}
 use Rattle.udfs_lattice.specs.Tables.{Table}
 use Rattle.udfs_pairs.specs.declared.any_stored.AnyStored.{AnyStored}
 use Rattle.udfs_pairs.specs.declared.any_stored.AnyStored.TheVariants.{File, Paired, Refused}
@@ -20,7 +22,11 @@ use Rattle.udfs_reading.specs.declared.inputs.InputError.{InputError}
 use Rattle.udfs_rescue.specs.declared.opening.PairFault.{PairFault}
 use Rattle.udfs_words.specs.Asking.{Asked, asked_for}
 use Rattle.udfs_words.specs.declared.input_path.InputPath.{InputPath}
-use Rattle.udfs_common.specs.Blaming.{AreJudgedFor, IsShut, source_reason}
+use Rattle.udfs_words.specs.Requests.{texts}
+use Rattle.udfs_words.specs.declared.request.Inputs.{Inputs}
+use Rattle.udfs_common.specs.Blaming.{AreJudgedFor, InputsRefused, IsShut, source_reason}
+use Rattle.udfs_common.specs.Guarding.{IsSpared, MayNotBeSeen}
+use Rattle.udfs_common.specs.Reach.{Reach, found_at}
 use Rattle.udfs_common.specs.Keeping.{Opens}
 use Rattle.udfs_common.specs.Refusing.{refusal_of, refused_pair}
 use Rattle.udfs_common.specs.declared.refusal.Refusal.{Refusal}
@@ -76,6 +82,13 @@ IsRereadOf count r = (place : ℕ) × (number : ℕ) × (place < count) × (r �
 -- memory ran out, or one of them was not taken, or its bytes could not be compared with those of another
 abbrev pub StoredRefused : {S : Type 0} → (S → Option (List ℕ)) → (S → Option PairFault) → List S → Refusal → Type 0
 StoredRefused content reason stored r = (r ≡ refusal.Memory alloc_error) ⊎ BlamesOne content reason stored r ⊎ IsUncompared (length stored) r
+
+-- memory ran out; or the output would take the place of what is to stay; or it could not be looked at, or the inputs were not joined then
+abbrev pub OutRefused : {F I M S W : Type 0} → Reach F I M S W → F → Inputs → Bool → List ℕ → Refusal → Type 0
+OutRefused reach old inputs force out r = (r ≡ refusal.Memory alloc_error) ⊎
+    ((r ≡ refusal.Spared) × (reach.files.tells → IsSpared (reach.files.holds old) (reach.files.real old) (texts inputs.files.items) (texts inputs.parts.items) force out)) ⊎
+    ((r ≡ refusal.Output) × MayNotBeSeen (reach.files.shut old) (Fails reach.read_faults) (texts inputs.files.items) (texts inputs.parts.items) out) ⊎
+    InputsRefused (found_at reach old) (reach.files.shut old) reach.remaining reach.faults inputs.paths.items r
 
 -- memory ran out; or one of the paths is shut, and it is named; or what it leads to has no table, and why; or bytes of an input could not be read again
 pub record MergeRefused {R I : Type 0} (found : List ℕ → Option (Option (List ℕ))) (shut : List ℕ → Type 0) (remaining : AnySource R I → Option (List ℕ)) (paths : List InputPath) (refused : Refusal) : Type 0 where

@@ -2,17 +2,19 @@
 //! The commands that join and keep what was read: `merge`, `forget` and `image`.
 #![tactic(auto)]
 
+mod asked;
 mod beside;
 mod closing;
-mod forget;
+pub mod forget;
 pub mod forget_words;
-mod image;
+pub mod image;
 pub mod image_words;
 mod index_tally;
 mod indexed;
-mod merge;
+pub mod merge;
 mod merge_stored;
 mod merge_tally;
 pub mod merge_words;
+mod outlook;
 mod pairing;
 mod said;

@@ -1,21 +1,20 @@
 //! `merge` of inputs that are read at positions: its output is written from an index, and no block is held.
 
-ghost use Rattle.std.specs.Prelude.{◌≡◌, ◌≢◌, ◌⊎◌, ◌<◌, IfErr, OnErr, OnOk, IsErrOf, length};
+ghost use Rattle.std.specs.Prelude.{◌≡◌, ◌<◌, IfErr, length};
 ghost use Rattle.udfs_common.specs.Blaming.{AreJudgedFor, stored_reason};
 ghost use Rattle.udfs_common.specs.Keeping.{Opens};
-ghost use Rattle.udfs_tables.specs.Indexing.{IsReread};
-ghost use Rattle.udfs_tables.specs.Merging.{CrashesMerged, IsMerged, IsUnmerged, KeepsOthers, KeepsOut, LeavesMerge, PutFails, StandsMerged};
+ghost use Rattle.udfs_common.specs.Puts.{Puts};
+ghost use Rattle.udfs_tables.specs.Merging.{IsJoinOf, IsUnmerged};
 
 use crate::closing::remark_on_merge;
 use crate::indexed::{IndexedFile, indexed};
 use std::alloc::Global;
 use udfs_common::files::Files;
 use udfs_common::job_putting::put_job;
+use udfs_common::known::Known;
 use udfs_common::refusal::Refusal;
-use udfs_common::sources::AnySource;
 use udfs_index::{CopyFault, Stored};
 use udfs_pairs::AnyStored;
-use udfs_reading::Source;
 use udfs_words::forms::Version;
 use udfs_words::input_path::InputPath;
 
@@ -33,17 +32,8 @@ pub fn merge_stored<F: Files>(
     requires opened { Opens (λ path. F.holds files.now (F.real files.now path)) ⟦<AnyStored<F::Stored> as Stored>⟧.content inputs.now stored.now }
     requires judged { AreJudgedFor (λ path. F.holds files.now (F.real files.now path)) stored_reason inputs.now stored.now }
     requires some { 0 < length inputs.now }
-    ensures written { OnOk result (IsMerged F.Files F.Output.stream (⟦<AnySource<F::Input, F::Image> as Source>⟧.remaining) inputs.now out.now version files.old files.new) }
-    ensures any_moment { CrashesMerged F.Files F.Output.stream (⟦<AnySource<F::Input, F::Image> as Source>⟧.remaining) inputs.now out.now version files.old files.new }
-    ensures untouched { IfErr result (λ refusal. refusal ≢ Refusal.Output → refusal ≢ Refusal.Unkept → (¬ IsReread refusal) → files.new ≡ files.old) }
-    ensures reread { IfErr result (λ refusal. IsReread refusal → KeepsOut F.Files out.now files.old files.new) }
-    ensures refused { IsErrOf result Refusal.Output → KeepsOut F.Files out.now files.old files.new }
-    ensures unkept { IsErrOf result Refusal.Unkept → StandsMerged F.Files F.Output.stream (⟦<AnySource<F::Input, F::Image> as Source>⟧.remaining) inputs.now out.now version files.old files.new }
-    ensures elsewhere { KeepsOthers F.Files out.now files.old files.new }
-    ensures cause { IfErr result (λ refusal. (refusal ≡ Refusal.Output) ⊎ (refusal ≡ Refusal.Unkept) → PutFails F.Files F.Output.stream out.now files.old) }
-    ensures left { OnErr result (LeavesMerge F.Files F.Output.stream (⟦<AnySource<F::Input, F::Image> as Source>⟧.remaining) inputs.now out.now version files.old files.new) }
-    ensures told { IfErr result (λ refusal. refusal ≢ Refusal.Spared) }
-    ensures why { IfErr result (IsUnmerged F.Files F.Output.stream (⟦<AnySource<F::Input, F::Image> as Source>⟧.remaining) inputs.now out.now version files.old files.new) }
+    ensures puts { Puts ⟦<F as Known>⟧.reach (IsJoinOf ⟦<F as Known>⟧.reach files.old inputs.now version) out.now files.old files.new result }
+    ensures why { IfErr result (IsUnmerged ⟦<F as Known>⟧.reach files.old inputs.now out.now) }
 {
     let mut tally = match indexed(alloc, stored) {
         Ok(tally) => tally,

@@ -3,7 +3,7 @@
 ghost use Rattle.std.specs.Prelude.{◌≡◌, ◌≢◌, ◌⊎◌, ℕ, List, Option, Some, None, IfErr, OnOk, OnErr};
 ghost use Rattle.udfs_files.specs.Disk.{Disk, Fails, SinkFails, Goes, Gone, IsOwn, Replaced};
 ghost use Rattle.udfs_files.specs.declared.files.Kind.{Kind};
-ghost use Rattle.udfs_tables.specs.Imaging.{BothReplaced, Stands};
+ghost use Rattle.udfs_tables.specs.Pairing.{BothReplaced, Stands};
 ghost use Rattle.udfs_common.specs.Guarding.{IsApart};
 ghost use Rattle.udfs_common.specs.Refusing.{IsUnput};
 

@@ -1,16 +1,16 @@
-use Rattle.std.proofs.Common.{inl}
-use Rattle.udfs_tables.proofs.LeavingLemmas.{reread_keeps}
-use Rattle.udfs_tables.proofs.StoredLemmas.{of_shut}
+use Rattle.std.proofs.Common.{inl, inr}
+use Rattle.udfs_common.proofs.PutsLemmas.{wider}
+use Rattle.udfs_tables.proofs.MergingLemmas.{join_of}
 use Rattle.udfs_tables.proofs.merge.merge.Goals as goal
 
-pub merge_stored-requires-clause-opened : goal.merge_stored-requires-clause-opened
-merge_stored-requires-clause-opened g c = rw c.as_slice.ensures.value (rw c.in-Ok-Some.field-0-is at c.in-Ok-Some.ensures.opened)
+pub returns-in-Ok-merge_paths-clause-puts : goal.returns-in-Ok-merge_paths-clause-puts
+returns-in-Ok-merge_paths-clause-puts g c = wider _ _ (λ bytes is. join_of _ _ _ _ _ _ c.as_slice-inputs.ensures.value is) c.in-Ok-merge_paths.ensures.puts
 
-pub merge_stored-requires-clause-judged : goal.merge_stored-requires-clause-judged
-merge_stored-requires-clause-judged g c = rw c.as_slice.ensures.value (rw c.in-Ok-Some.field-0-is at c.in-Ok-Some.ensures.judged)
+pub returns-clause-puts : goal.returns-clause-puts
+returns-clause-puts g c = wider _ _ (λ bytes is. join_of _ _ _ _ _ _ c.as_slice-inputs.ensures.value is) c.in-Err-merge_paths.ensures.puts
 
 pub returns-in-Err-clause-why : goal.returns-in-Err-clause-why
-returns-in-Err-clause-why g c = inl (of_shut _ _ _ _ _ c.in-Err.ensures.blamed)
+returns-in-Err-clause-why g c = inl c.in-Err.ensures.why
 
-pub returns-in-Ok-None-clause-reread : goal.returns-in-Ok-None-clause-reread
-returns-in-Ok-None-clause-reread g c = reread_keeps g.F.Files c.args.out.now c.args.files.now c.merge_held-in-Ok-None.new.files c.merge_held-in-Ok-None.result c.merge_held-in-Ok-None.ensures.untouched
+pub returns-clause-why : goal.returns-clause-why
+returns-clause-why g c = inr (rw (← c.as_slice-inputs.ensures.value) c.in-Err-merge_paths.ensures.why)
