@@ -14,6 +14,7 @@ mod listing;
 mod manifests;
 mod merging;
 mod only;
+mod other_discs;
 mod paging;
 mod pair_faults;
 mod pairs;

@@ -4,3 +4,4 @@ pub mod PlacingLemmas
 pub mod JobLemmas
 pub mod PutsLemmas
 pub mod OldClauses
+pub mod TakingLemmas

@@ -3,6 +3,8 @@ pub mod Spelling
 pub mod Keeping
 pub mod Guarding
 pub mod Sources
+pub mod OtherDiscs
+pub mod Taking
 pub mod Blaming
 pub mod Jobs
 pub mod Reach

@@ -146,6 +146,7 @@ fn page_of<F: Files>(
 pub fn page<F: Files>(
     alloc: Global,
     inputs: &[InputPath<'_>],
+    force: bool,
     last: u32,
     profile: Profile,
     path: &str,
@@ -164,7 +165,7 @@ pub fn page<F: Files>(
     ensures refused { IfErr result (OfPathsRefused (λ path. F.holds files.old (F.real files.old path)) (F.shut files.old) (⟦<AnySource<F::Input, F::Image> as Source>⟧.remaining) (⟦<AnySource<F::Input, F::Image> as Source>⟧.faults) inputs.now
         (files.new ≡ files.old) (IsRefusedPut (F.shut files.old path.now ⊎ Fails F.faults ⊎ SinkFails F.Output.stream) profile last)) }
 {
-    let table = match joined(alloc, inputs, files) {
+    let table = match joined(alloc, inputs, force, files) {
         Ok(table) => table,
         Err(refusal) => return Err(refusal),
     };

@@ -21,7 +21,7 @@ use udfs_common::inputs::unwritten;
 use udfs_common::refusal::Refusal;
 use udfs_common::sources::AnySource;
 use udfs_reading::Source;
-use udfs_words::asking::{asked_out, asked_streams};
+use udfs_words::asking::{asked_force, asked_out, asked_streams};
 use udfs_words::profile::asked_profile;
 use udfs_words::words::{INPUTS, PAIRS};
 
@@ -82,7 +82,7 @@ pub fn page_words<F: Files>(
     match asked_page_outlook(alloc, words, files) {
         Ok(Outlook::Free) => {}
         Ok(Outlook::Spared) => return Err(Refusal::Spared),
-        Ok(Outlook::Unknown) => return Err(unwritten(alloc, paths, files)),
+        Ok(Outlook::Unknown) => return Err(unwritten(alloc, paths, asked_force(words), files)),
         Err(AllocError) => return Err(Refusal::Memory(AllocError)),
     }
     let last = match asked_end(alloc, words, paths, files) {
@@ -90,7 +90,15 @@ pub fn page_words<F: Files>(
         Err(refusal) => return Err(refusal),
     };
     let profile = asked_profile(words);
-    match page(alloc, paths, last, profile, asked_page(words), files) {
+    match page(
+        alloc,
+        paths,
+        asked_force(words),
+        last,
+        profile,
+        asked_page(words),
+        files,
+    ) {
         Ok(whole) => Ok(whole),
         Err(refusal) => Err(refusal),
     }

@@ -213,6 +213,7 @@ fn map_of<F: Files, O: Sink>(
 pub fn reread_map<F: Files, O: Sink>(
     alloc: Global,
     inputs: &[InputPath<'_>],
+    force: bool,
     last: u32,
     profile: Profile,
     compares: bool,
@@ -234,7 +235,7 @@ pub fn reread_map<F: Files, O: Sink>(
     ensures refused { IfErr result (OfPathsRefused (λ path. F.holds files.old (F.real files.old path)) (F.shut files.old) (⟦<AnySource<F::Input, F::Image> as Source>⟧.remaining) (⟦<AnySource<F::Input, F::Image> as Source>⟧.faults) inputs.now
         ((files.new ≡ files.old) × (O.stream out.new ≡ O.stream out.old)) (IsRefusedDomain (F.shut files.old path.now ⊎ Fails F.faults ⊎ SinkFails F.Output.stream) compares profile last (O.stream out.old) (O.stream out.new))) }
 {
-    let table = match joined(alloc, inputs, files) {
+    let table = match joined(alloc, inputs, force, files) {
         Ok(table) => table,
         Err(refusal) => return Err(refusal),
     };

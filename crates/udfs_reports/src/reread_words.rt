@@ -25,7 +25,7 @@ use udfs_common::inputs::unwritten;
 use udfs_common::refusal::Refusal;
 use udfs_common::sources::AnySource;
 use udfs_reading::{Sink, Source};
-use udfs_words::asking::{asked_inputs, asked_mapfile, asked_witnesses};
+use udfs_words::asking::{asked_force, asked_inputs, asked_mapfile, asked_witnesses};
 use udfs_words::profile::asked_profile;
 use udfs_words::words::{MAPFILE, PAIRS};
 
@@ -80,7 +80,7 @@ fn reread_map_words<F: Files, O: Sink>(
     match asked_map_outlook(alloc, words, files) {
         Ok(Outlook::Free) => {}
         Ok(Outlook::Spared) => return Err(Refusal::Spared),
-        Ok(Outlook::Unknown) => return Err(unwritten(alloc, paths, files)),
+        Ok(Outlook::Unknown) => return Err(unwritten(alloc, paths, asked_force(words), files)),
         Err(AllocError) => return Err(Refusal::Memory(AllocError)),
     }
     let last = match asked_end(alloc, words, paths, files) {
@@ -91,6 +91,7 @@ fn reread_map_words<F: Files, O: Sink>(
     match reread_map(
         alloc,
         paths,
+        asked_force(words),
         last,
         profile,
         compares,

@@ -21,6 +21,7 @@ use udfs_common::sources::AnySource;
 use udfs_lattice::BlockTable;
 use udfs_reading::{Sink, Source};
 use udfs_volume::Profile;
+use udfs_words::asking::asked_force;
 use udfs_words::input_path::InputPath;
 use udfs_words::profile::asked_profile;
 
@@ -55,6 +56,7 @@ pub trait Telling {
 pub fn tell<F: Files, O: Sink, T: Telling>(
     alloc: Global,
     inputs: &[InputPath<'_>],
+    force: bool,
     last: u32,
     profile: Profile,
     telling: &T,
@@ -67,7 +69,7 @@ pub fn tell<F: Files, O: Sink, T: Telling>(
     ensures refused { IfErr result (OfPathsRefused (λ path. F.holds files.now (F.real files.now path)) (F.shut files.now) (⟦<AnySource<F::Input, F::Image> as Source>⟧.remaining) (⟦<AnySource<F::Input, F::Image> as Source>⟧.faults) inputs.now
         (O.stream out.new ≡ O.stream out.old) (IsRefusedTelling (T.text telling.now) profile last (O.stream out.old) (O.stream out.new))) }
 {
-    let table = match joined(alloc, inputs, files) {
+    let table = match joined(alloc, inputs, force, files) {
         Ok(table) => table,
         Err(refusal) => return Err(refusal),
     };
@@ -96,7 +98,16 @@ pub fn tell_asked<F: Files, O: Sink, T: Telling>(
         Err(refusal) => return Err(refusal),
     };
     let profile = asked_profile(words);
-    match tell(alloc, inputs, last, profile, telling, files, out) {
+    match tell(
+        alloc,
+        inputs,
+        asked_force(words),
+        last,
+        profile,
+        telling,
+        files,
+        out,
+    ) {
         Ok(whole) => Ok(whole),
         Err(refusal) => Err(refusal),
     }

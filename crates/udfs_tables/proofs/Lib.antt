@@ -5,3 +5,4 @@ mod PastEnds
 pub mod ImageWordsLemmas
 mod StoredLemmas
 mod EntryTables
+pub mod CountingLemmas

@@ -70,11 +70,12 @@ abbrev pub IsLastSource : Found → LastSource → Type 0
 IsLastSource words (Block last) = ((is_some (matched_of words (codes "last")) || is_some (matched_of words (codes "size"))) ≡ true) × IsToldLast words last
 IsLastSource words OfMaps = (is_some (matched_of words (codes "last")) ≡ false) × (is_some (matched_of words (codes "size")) ≡ false)
 
--- what was read of the disc, where it ends, and the rules
+-- what was read of the disc, where it ends, the rules, and whether what is of another disc is to be joined
 pub record IsVolumeSource (given : List (List ℕ)) (words : Found) (volume : VolumeSource) : Type 0 where
   pub inputs : AreInputs given (pair_texts words) volume.inputs
   pub last : IsLastSource words volume.last
   pub profile : IsProfile words volume.profile
+  pub force : IsPicked words (codes "force") true false volume.force
 
 -- ---- the commands
 

@@ -152,6 +152,7 @@ fn read_volume<'a>(alloc: Global, words: &ArgMatches<'a>) -> Result<VolumeSource
         inputs,
         last: read_last(words),
         profile: asked_profile(words),
+        force: asked_force(words),
     })
 }
 
@@ -167,6 +168,7 @@ fn read_streamed_volume<'a>(
         inputs,
         last: read_last(words),
         profile: asked_profile(words),
+        force: asked_force(words),
     })
 }
 

@@ -12,5 +12,6 @@ returns c =
     let three = c.in_ok-arg-3.ensures.shape c.profile.ensures.1 ∙ ap₂ with_rule two c.profile.ensures.0 in
     let four = c.in_ok-arg-4.ensures.shape c.flag.ensures.1 ∙ ap₂ with_rule three c.flag.ensures.0 in
     let five = c.in_ok-arg-5.ensures.shape c.flag-2.ensures.1 ∙ ap₂ with_rule four c.flag-2.ensures.0 in
-    let six = c.in_ok-command.ensures.shape c.flag-3.ensures.1 ∙ ap₂ with_rule five c.flag-3.ensures.0 in
-    IfOk-weaker c.with_inputs.result _ _ (λ m h. h ∙ ap₂ with_inputs six refl) c.with_inputs.ensures
+    let six = c.in_ok-arg-6.ensures.shape c.flag-3.ensures.1 ∙ ap₂ with_rule five c.flag-3.ensures.0 in
+    let seven = c.in_ok-command.ensures.shape c.joining.ensures.1 ∙ ap₂ with_rule six c.joining.ensures.0 in
+    IfOk-weaker c.with_inputs.result _ _ (λ m h. h ∙ ap₂ with_inputs seven refl) c.with_inputs.ensures
