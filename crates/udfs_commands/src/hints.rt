@@ -239,6 +239,18 @@ fn of_reread(alloc: Global, input: InputPath<'_>) -> Result<String, AllocError> 
     }
 }
 
+/// What is said of an image that is of another disc by its blocks.
+fn of_other_disc(alloc: Global, input: InputPath<'_>) -> Result<String, AllocError> {
+    match input {
+        InputPath::File(path) | InputPath::Pair(path, _) => {
+            format!(in alloc;
+                "{} is of another disc than the inputs before it; if it is not, --force joins it, and the blocks that differ are in conflict then",
+                Shown(path)
+            )
+        }
+    }
+}
+
 /// What is said of an error that names an input; `None` of any other.
 fn of_named_input<F: Files>(
     alloc: Global,
@@ -252,6 +264,7 @@ fn of_named_input<F: Files>(
         Refusal::ImageEnds(_, block) => of_short_image(alloc, input, *block)?,
         Refusal::Open(_) => of_unopened(alloc, input, files)?,
         Refusal::Reread(_, _) => of_reread(alloc, input)?,
+        Refusal::OtherDisc(_, _, _) => of_other_disc(alloc, input)?,
         _ => return Ok(None),
     };
     Ok(Some(line))
@@ -420,6 +433,7 @@ fn named_input(refusal: &Refusal) -> Option<usize> {
         | Refusal::Mapfile(number, _)
         | Refusal::ImageEnds(number, _)
         | Refusal::Reread(number, _)
+        | Refusal::OtherDisc(number, _, _)
         | Refusal::Open(number) => Some(*number),
         _ => None,
     }
