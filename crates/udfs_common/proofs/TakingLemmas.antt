@@ -1,5 +1,5 @@
 -- Sources are taken one after the other.
-use Rattle.std.proofs.Common.{◌≡◌, ◌≢◌, ◌⊎◌, ◌<◌, ◌+◌, ◌-◌, ◌∙◌, arith, ap, sym, refl, subst, inl, inr, cond, count_by, ℕ, zero, suc, Bool, true, false, List, [], ◌∷◌, ◌++◌, Option, Some, IfSome, Err, length, slice_get, take, drop}
+use Rattle.std.proofs.Common.{◌≡◌, ◌≢◌, ◌⊎◌, ◌<◌, ◌+◌, ◌-◌, ◌∙◌, arith, ap, sym, refl, subst, inl, inr, alloc_error, cond, count_by, ℕ, zero, suc, Bool, true, false, List, [], ◌∷◌, ◌++◌, Option, Some, IfSome, Err, length, slice_get, take, drop}
 use Rattle.std.proofs.lemmas.List.Recursion.{is_count_by}
 use Rattle.udfs_lattice.specs.Records.{join_all}
 use Rattle.udfs_lattice.specs.States.{State}
@@ -12,12 +12,13 @@ use Rattle.udfs_reading.specs.Several.{HasTable, InputFails, TablesAre}
 use Rattle.udfs_reading.specs.declared.error.ReadingFault.TheVariants.{Io}
 use Rattle.udfs_reading.specs.declared.inputs.InputError.{InputError}
 use Rattle.udfs_common.proofs.KeepingLemmas.{last_of}
-use Rattle.udfs_common.specs.Blaming.{BlamesSource}
+use Rattle.udfs_common.specs.Blaming.{AreJudged, BlamesSource, InputsRefused}
 use Rattle.udfs_common.specs.Keeping.{Joined, Opens}
 use Rattle.udfs_common.specs.OtherDiscs.{EachIsOne, IsOneDisc, IsOtherDisc, pair_at}
 use Rattle.udfs_common.specs.Refusing.{refusal_for}
 use Rattle.udfs_common.specs.Taking.{BlamesAlone, IsOther, IsOtherSource, Taken, Takes}
 use Rattle.udfs_common.specs.declared.refusal.Refusal.{Refusal}
+use Rattle.udfs_common.specs.declared.refusal.Refusal.TheVariants.{Memory}
 use Rattle.udfs_common.specs.declared.sources.AnySource.{AnySource}
 use Rattle.udfs_words.specs.declared.input_path.InputPath.{InputPath}
 
@@ -59,13 +60,13 @@ get_take (y ∷ xs) zero k x e = absurd (let b : ⊥ = cc in b)
 get_take (y ∷ xs) (suc n) zero x e = e
 get_take (y ∷ xs) (suc n) (suc k) x e = get_take xs n k x e
 
-no_rest : {A : Type 0} (as : List A) (o : A) (l : List A) → [] ≡ as ++ o ∷ l → ⊥
+no_rest : {A : Type 0} (xs : List A) (o : A) (l : List A) → [] ≡ xs ++ o ∷ l → ⊥
 no_rest [] o l e = cc
-no_rest (a ∷ as) o l e = cc
+no_rest (a ∷ xs) o l e = cc
 
-only_one : {A : Type 0} (as : List A) (o : A) (l : List A) (s : A) → s ∷ [] ≡ as ++ o ∷ l → o ≡ s
+only_one : {A : Type 0} (xs : List A) (o : A) (l : List A) (s : A) → s ∷ [] ≡ xs ++ o ∷ l → o ≡ s
 only_one [] o l s e = cc
-only_one (a ∷ as) o l s e = absurd (no_rest as o l (let same : [] ≡ as ++ o ∷ l = cc in same))
+only_one (a ∷ xs) o l s e = absurd (no_rest xs o l (let same : [] ≡ xs ++ o ∷ l = cc in same))
 
 -- ---- tables
 pub join_all-last : (ts : List Table) (u : Table) → join_all (ts ++ u ∷ []) ≡ join_tables (join_all ts) u
@@ -127,7 +128,7 @@ taken_more remaining paths done force Old Mid New x taken takes =
       took = λ t old. subst New (join_tables-assoc t (join_all taken.tables) takes.own ∙ ap (join_tables t) (sym (join_all-last taken.tables takes.own))) (takes.took (join_tables t (join_all taken.tables)) (taken.took t old));
       each = λ old unforced. each_last paths taken.tables takes.own (taken.each old unforced)
           (λ pair. last_is_one taken.tables (length done) takes.own long
-              (λ some. takes.one (unforced, subst (λ (n : ℕ). pair_at paths n ≡ true) long pair, some) (join_all taken.tables) (joined_now remaining paths done force Old Mid taken old)));
+          (λ some. takes.one (unforced, subst (λ (n : ℕ). pair_at paths n ≡ true) long pair, some) (join_all taken.tables) (joined_now remaining paths done force Old Mid taken old)));
     }
 
 -- ---- what was not
@@ -190,3 +191,13 @@ other_disc found remaining paths sources refusal each opened other = record {
   };
   other = other.other;
 }
+
+-- so the inputs were not joined
+pub inputs_refused : {R I : Type 0} (found : List ℕ → Option (Option (List ℕ))) (shut : List ℕ → Type 0) (remaining : AnySource R I → Option (List ℕ)) (faults : AnySource R I → ℕ) (paths : List InputPath) (sources : List (AnySource R I)) (None : Type 0) (refusal : Refusal) →
+    length sources ≡ length paths → Opens found remaining paths sources → AreJudged found paths sources → None →
+    (refusal ≡ Memory alloc_error) ⊎ ((after : List (AnySource R I)) × BlamesSource remaining faults sources after refusal) ⊎ (None → IsOtherSource remaining paths sources refusal) → InputsRefused found shut remaining faults paths refusal
+inputs_refused found shut remaining faults paths sources None refusal each opened judged none (inl memory) = record { why = inl memory }
+inputs_refused found shut remaining faults paths sources None refusal each opened judged none (inr (inl blames)) =
+    record { why = inr (inr (inl (record { sources = sources; after = blames.0; each = each; opened = opened; judged = judged; blames = blames.1 }))) }
+inputs_refused found shut remaining faults paths sources None refusal each opened judged none (inr (inr other)) =
+    record { why = inr (inr (inr (other_disc found remaining paths sources refusal each opened (other none)))) }

@@ -101,12 +101,7 @@ fn size_by_maps<F: Files>(
 }
 
 /// Why no last block is known: where there are images alone, what is wrong with them, and else that it has to be given.
-fn no_end<F: Files>(
-    alloc: Global,
-    inputs: &[InputPath<'_>],
-    force: bool,
-    files: &F,
-) -> Refusal
+fn no_end<F: Files>(alloc: Global, inputs: &[InputPath<'_>], force: bool, files: &F) -> Refusal
     ensures told { (result ≢ Refusal.Output) × (result ≢ Refusal.Unkept) × (result ≢ Refusal.Spared) }
     ensures blamed { (result ≡ Refusal.NoLast) ⊎ InputsRefused (λ path. F.holds files.now (F.real files.now path)) (F.shut files.now) (⟦<AnySource<F::Input, F::Image> as Source>⟧.remaining) (⟦<AnySource<F::Input, F::Image> as Source>⟧.faults) inputs.now result }
 {

@@ -24,7 +24,9 @@ use udfs_common::inputs::unwritten;
 use udfs_common::refusal::Refusal;
 use udfs_common::sources::AnySource;
 use udfs_reading::{Sink, Source};
-use udfs_words::asking::{asked_folder, asked_force, asked_inputs, asked_lost_folder, asked_manifest};
+use udfs_words::asking::{
+    asked_folder, asked_force, asked_inputs, asked_lost_folder, asked_manifest,
+};
 use udfs_words::profile::asked_profile;
 use udfs_words::words::{MANIFEST, ONLY, UNNAMED};
 

@@ -117,7 +117,10 @@ pub fn refusal_of<S: Stored>(
 }
 
 /// Each stored input as a source that is read from its beginning.
-pub fn cursors<'a, S: Stored>(alloc: Global, stored: &'a [S]) -> Result<Vec<Cursor<'a, S>>, AllocError>
+pub fn cursors<'a, S: Stored>(
+    alloc: Global,
+    stored: &'a [S],
+) -> Result<Vec<Cursor<'a, S>>, AllocError>
     ensures { IfOk result (λ all. map ⟦<Cursor<'a, S> as Source>⟧.remaining all.items ≡ map S.content stored.now) }
 {
     let mut all = Vec::new(alloc);

@@ -1,6 +1,6 @@
 //! Whether an image that is read at positions is of another disc, where it may be.
 
-ghost use Rattle.std.specs.Prelude.{◌≡◌, ◌≢◌, ◌⊎◌, ◌<◌, ◌+◌, ◌^◌, ℕ, List, [], ◌∷◌, IfOk, IfErr, OnOk, length, take, drop, alloc_error};
+ghost use Rattle.std.specs.Prelude.{◌≡◌, ◌≢◌, ◌⊎◌, ◌<◌, ◌≤◌, cond, ◌+◌, ◌^◌, ℕ, List, [], ◌∷◌, IfOk, IfErr, OnOk, length, take, drop, alloc_error};
 ghost use Rattle.udfs_compare.specs.Comparing.{are_known, are_other, disagreeing, shared};
 ghost use Rattle.udfs_index.specs.Copying.{AreAllTold};
 ghost use Rattle.udfs_lattice.specs.Records.{join_all};
@@ -42,6 +42,14 @@ fn compare_block<A: BlockStore, B: BlockStore>(
     }
 }
 
+/// 1 where it is so, and else 0.
+fn one_if(is_so: bool) -> u32
+    ensures value { result ≡ cond is_so 1 0 }
+    ensures most { result ≤ 1 }
+{
+    if is_so { 1 } else { 0 }
+}
+
 /// In how many blocks two stores disagree, of how many that both know. The bytes of these are read.
 fn compare_stores<A: BlockStore, B: BlockStore>(
     before: &A,
@@ -54,12 +62,8 @@ fn compare_stores<A: BlockStore, B: BlockStore>(
     let mut of = 0u32;
     for block in 0..4_194_304 {
         let (known, other) = compare_block(before, own, block)?;
-        if known {
-            of += 1;
-        }
-        if other {
-            blocks += 1;
-        }
+        of += one_if(known);
+        blocks += one_if(other);
     }
     Ok(Comparison { blocks, of })
 }
