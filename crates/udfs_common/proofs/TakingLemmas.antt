@@ -1,6 +1,8 @@
 -- Sources are taken one after the other.
-use Rattle.std.proofs.Common.{◌≡◌, ◌≢◌, ◌⊎◌, ◌<◌, ◌+◌, ◌-◌, ◌∙◌, arith, ap, sym, refl, subst, inl, inr, alloc_error, cond, count_by, ℕ, zero, suc, Bool, true, false, List, [], ◌∷◌, ◌++◌, Option, Some, IfSome, Err, length, slice_get, take, drop}
+use Rattle.std.proofs.Common.{◌≡◌, ◌≢◌, ◌⊎◌, ◌<◌, ◌+◌, ◌-◌, ◌∙◌, arith, ap, sym, refl, subst, inl, inr, alloc_error, ap₂, not, nat_lt, ◌&&◌, cond, count_by, ℕ, zero, suc, Bool, true, false, List, [], ◌∷◌, ◌++◌, Option, Some, IfSome, Err, length, slice_get, take, drop}
 use Rattle.std.proofs.lemmas.List.Recursion.{is_count_by}
+use Rattle.std.proofs.lemmas.Bool.{true≢false}
+use Rattle.std.specs.Prelude.{⊤, ◌↔◌}
 use Rattle.udfs_lattice.specs.Records.{join_all}
 use Rattle.udfs_lattice.specs.States.{State}
 use Rattle.udfs_lattice.specs.TableLaws.{join_tables-assoc, join_tables-empty, join_tables-empty_right, state_of-empty}
@@ -12,14 +14,15 @@ use Rattle.udfs_reading.specs.Several.{HasTable, InputFails, TablesAre}
 use Rattle.udfs_reading.specs.declared.error.ReadingFault.TheVariants.{Io}
 use Rattle.udfs_reading.specs.declared.inputs.InputError.{InputError}
 use Rattle.udfs_common.proofs.KeepingLemmas.{last_of}
-use Rattle.udfs_common.specs.Blaming.{AreJudged, BlamesSource, InputsRefused}
+use Rattle.udfs_common.specs.Blaming.{AreJudged, BlamesSource, InputsRefused, source_reason}
 use Rattle.udfs_common.specs.Keeping.{Joined, Opens}
-use Rattle.udfs_common.specs.OtherDiscs.{EachIsOne, IsOneDisc, IsOtherDisc, pair_at}
-use Rattle.udfs_common.specs.Refusing.{refusal_for}
+use Rattle.udfs_common.specs.OtherDiscs.{EachIsOne, IsOneDisc, IsOtherBy, IsOtherDisc, is_compared, pair_at}
+use Rattle.udfs_common.specs.Refusing.{refusal_for, refusal_with}
 use Rattle.udfs_common.specs.Taking.{BlamesAlone, IsOther, IsOtherSource, Taken, Takes}
 use Rattle.udfs_common.specs.declared.refusal.Refusal.{Refusal}
-use Rattle.udfs_common.specs.declared.refusal.Refusal.TheVariants.{Memory}
+use Rattle.udfs_common.specs.declared.refusal.Refusal.TheVariants.{Memory, OtherDisc}
 use Rattle.udfs_common.specs.declared.sources.AnySource.{AnySource}
+use Rattle.udfs_common.specs.declared.sources.AnySource.TheVariants.{File, Paired, Refused}
 use Rattle.udfs_words.specs.declared.input_path.InputPath.{InputPath}
 
 -- ---- lists
@@ -106,6 +109,59 @@ each_by paths ts u each last place own pair (inr h) =
 each_last : (paths : List InputPath) (ts : List Table) (u : Table) → EachIsOne paths ts → (pair_at paths (length ts) ≡ true → IsOneDisc (join_all ts) u) → EachIsOne paths (ts ++ u ∷ [])
 each_last paths ts u each last place own pair at = each_by paths ts u each last place own pair (last_of ts u place own at)
 
+-- ---- an input that is compared
+compared_by : (paths : List InputPath) (n : ℕ) (force : Bool) → force ≡ false → pair_at paths n ≡ true → n ≢ 0 → is_compared paths n force ≡ true
+compared_by paths zero force unforced pair some = absurd (some refl)
+compared_by paths (suc n) true unforced pair some = absurd (true≢false unforced)
+compared_by paths (suc n) false unforced pair some = pair
+
+both_so : (a b c : Bool) → (not a && (b && c)) ≡ true → (a ≡ false) × (c ≡ true)
+both_so true b c h = absurd (true≢false (sym h))
+both_so false true c h = (refl, h)
+both_so false false c h = absurd (true≢false (sym h))
+
+pub compared_is : (paths : List InputPath) (n : ℕ) (force : Bool) → is_compared paths n force ≡ true → (force ≡ false) × (pair_at paths n ≡ true)
+compared_is paths n force h = both_so force (nat_lt 0 n) (pair_at paths n) h
+
+-- ---- one source
+pub with_reason : {R I : Type 0} (source : AnySource R I) (error : InputError) → refusal_with (source_reason source) error ≡ refusal_for (Some source) error
+with_reason (File s) error = refl
+with_reason (Paired s) error = refl
+with_reason (Refused fault count) error = refl
+
+pub one_taken : {R : Type 0} (remaining : R → Option (List ℕ)) (source : R) (ts : List Table) (Old New : Table → Type 0) → TablesAre remaining (source ∷ []) ts → ((t : Table) → Old t → New (join_tables t (join_all ts))) → Takes remaining source Old New ⊥
+one_taken remaining source [] Old New are took = absurd are
+one_taken remaining source (own ∷ []) Old New are took = record { own = own; has = are.0; took = λ t old. subst (λ (u : Table). New (join_tables t u)) (join_tables-empty_right own) (took t old); one = λ no t old. absurd no }
+one_taken remaining source (own ∷ u ∷ ts) Old New are took = absurd are.1
+
+pub takes_by : {R : Type 0} {remaining : R → Option (List ℕ)} {source : R} {Old New : Table → Type 0} {A B : Type 0} → (B → A) → Takes remaining source Old New A → Takes remaining source Old New B
+takes_by f takes = record { own = takes.own; has = takes.has; took = takes.took; one = λ b. takes.one (f b) }
+
+pub other_by : (before own now : Table) (number blocks of : ℕ) → now ≡ before → blocks ≡ disagreeing now own → of ≡ shared now own → is_other_disc blocks of ≡ true → IsOtherBy before own number (OtherDisc number blocks of)
+other_by before own now number blocks of same b o other =
+    let bb : blocks ≡ disagreeing before own = b ∙ ap (λ (t : Table). disagreeing t own) same in
+    let oo : of ≡ shared before own = o ∙ ap (λ (t : Table). shared t own) same in
+    record { other = ap₂ is_other_disc (sym bb) (sym oo) ∙ other; named = ap₂ (OtherDisc number) bb oo }
+
+pub one_by : (before own now : Table) (blocks of : ℕ) → now ≡ before → blocks ≡ disagreeing now own → of ≡ shared now own → is_other_disc blocks of ≡ false → IsOneDisc before own
+one_by before own now blocks of same b o one =
+    ap₂ is_other_disc (sym (b ∙ ap (λ (t : Table). disagreeing t own) same)) (sym (o ∙ ap (λ (t : Table). shared t own) same)) ∙ one
+
+own_is : {R : Type 0} (remaining : R → Option (List ℕ)) (source : R) (empty now : Table) (takes : Takes remaining source (λ t. empty ≡ t) (λ t. now ≡ t) ⊥) → empty ≡ empty_table → now ≡ takes.own
+own_is remaining source empty now takes none = takes.took empty_table none ∙ join_tables-empty takes.own
+
+pub apart_taken : {R : Type 0} (remaining : R → Option (List ℕ)) (source : R) (Old New : Table → Type 0) (empty now : Table) → Takes remaining source (λ t. empty ≡ t) (λ t. now ≡ t) ⊥ → empty ≡ empty_table →
+    ((t : Table) → Old t → New (join_tables t now)) → ((t : Table) → Old t → IsOneDisc t now) → Takes remaining source Old New ⊤
+apart_taken remaining source Old New empty now takes none took one =
+    let is = own_is remaining source empty now takes none in
+    record { own = takes.own; has = takes.has; took = λ t old. subst (λ (u : Table). New (join_tables t u)) is (took t old); one = λ so t old. subst (λ (u : Table). IsOneDisc t u) is (one t old) }
+
+pub apart_other : {R : Type 0} (remaining : R → Option (List ℕ)) (source : R) (Old : Table → Type 0) (empty now : Table) (number : ℕ) (refusal : Refusal) → Takes remaining source (λ t. empty ≡ t) (λ t. now ≡ t) ⊥ → empty ≡ empty_table →
+    ((t : Table) → Old t → IsOtherBy t now number refusal) → IsOther remaining source Old number refusal
+apart_other remaining source Old empty now number refusal takes none other =
+    let is = own_is remaining source empty now takes none in
+    record { own = takes.own; has = takes.has; other = λ t old. subst (λ (u : Table). IsOtherBy t u number refusal) is (other t old) }
+
 -- ---- what was taken
 pub taken_none : {R : Type 0} (remaining : R → Option (List ℕ)) (paths : List InputPath) (force : Bool) (Old : Table → Type 0) → Taken remaining paths [] force Old Old
 taken_none remaining paths force Old = record {
@@ -119,7 +175,7 @@ joined_now : {R : Type 0} (remaining : R → Option (List ℕ)) (paths : List In
 joined_now remaining paths done force Old Mid taken old = subst Mid (join_tables-empty (join_all taken.tables)) (taken.took empty_table old)
 
 pub taken_more : {R : Type 0} (remaining : R → Option (List ℕ)) (paths : List InputPath) (done : List R) (force : Bool) (Old Mid New : Table → Type 0) (x : R) →
-    Taken remaining paths done force Old Mid → Takes remaining x Mid New ((force ≡ false) × (pair_at paths (length done) ≡ true) × (length done ≢ 0)) → Taken remaining paths (done ++ x ∷ []) force Old New
+    Taken remaining paths done force Old Mid → Takes remaining x Mid New (is_compared paths (length done) force ≡ true) → Taken remaining paths (done ++ x ∷ []) force Old New
 taken_more remaining paths done force Old Mid New x taken takes =
     let long : length taken.tables ≡ length done = tables_length remaining done taken.tables taken.are in
     record {
@@ -128,7 +184,7 @@ taken_more remaining paths done force Old Mid New x taken takes =
       took = λ t old. subst New (join_tables-assoc t (join_all taken.tables) takes.own ∙ ap (join_tables t) (sym (join_all-last taken.tables takes.own))) (takes.took (join_tables t (join_all taken.tables)) (taken.took t old));
       each = λ old unforced. each_last paths taken.tables takes.own (taken.each old unforced)
           (λ pair. last_is_one taken.tables (length done) takes.own long
-          (λ some. takes.one (unforced, subst (λ (n : ℕ). pair_at paths n ≡ true) long pair, some) (join_all taken.tables) (joined_now remaining paths done force Old Mid taken old)));
+          (λ some. takes.one (compared_by paths (length done) force unforced (subst (λ (n : ℕ). pair_at paths n ≡ true) long pair) some) (join_all taken.tables) (joined_now remaining paths done force Old Mid taken old)));
     }
 
 -- ---- what was not

@@ -1,10 +1,11 @@
 -- Images of another disc among the inputs.
 --     pair_at paths place                   the input at this place is an image with its mapfile
+--     is_compared paths place force         the input at this place is compared with those before it
 --     IsOneDisc before own                  what was read may be of the disc of what was read before
 --     IsOtherBy before own input refusal    it is not, and in how many blocks the two disagree
 --     AreOneDisc found remaining paths      no image among the inputs is of another disc than the inputs before it
 --     IsOtherDisc found remaining paths refusal     one is, and it is named, counted from 1
-use Rattle.std.specs.Prelude.{◌≡◌, ◌+◌, ℕ, Bool, true, false, List, [], ◌∷◌, ◌++◌, Option, None, Some, take, slice_get}
+use Rattle.std.specs.Prelude.{◌≡◌, ◌+◌, ℕ, Bool, true, false, List, [], ◌∷◌, ◌++◌, ◌&&◌, Option, None, Some, not, nat_lt, take, slice_get}
 use Rattle.udfs_lattice.specs.Records.{join_all}
 use Rattle.udfs_lattice.specs.Tables.{Table}
 use Rattle.udfs_compare.specs.Comparing.{disagreeing, is_other_disc, shared}
@@ -23,6 +24,10 @@ is_pair (Some (path.Pair image map)) = true
 -- the input at this place, counted from 0
 abbrev pub pair_at : List InputPath → ℕ → Bool
 pair_at paths place = is_pair (slice_get paths place)
+
+-- it is an image that is not the first input, unless by force
+abbrev pub is_compared : List InputPath → ℕ → Bool → Bool
+is_compared paths place force = not force && (nat_lt 0 place && pair_at paths place)
 
 -- it does not disagree in so many blocks
 abbrev pub IsOneDisc : Table → Table → Type 0

@@ -3,7 +3,7 @@
 ghost use Rattle.std.specs.Prelude.{◌≡◌, ◌≢◌, ◌⊎◌, ◌+◌, ◌<◌, ◌^◌, ⊤, List, true, false, IfErr, OnOk, alloc_error};
 ghost use Rattle.udfs_lattice.specs.Tables.{Table, empty_table, join_tables};
 ghost use Rattle.udfs_common.specs.Blaming.{BlamesSource, source_reason};
-ghost use Rattle.udfs_common.specs.OtherDiscs.{IsOneDisc, IsOtherBy, pair_at};
+ghost use Rattle.udfs_common.specs.OtherDiscs.{IsOneDisc, IsOtherBy, is_compared, pair_at};
 ghost use Rattle.udfs_common.specs.Refusing.{NamesNoOther, refusal_with};
 ghost use Rattle.udfs_common.specs.Taking.{BlamesAlone, IsOther, IsOtherSource, Taken, Takes};
 
@@ -80,8 +80,9 @@ fn take_alone<R: Source + Drop, I: Image + Drop, T: Taker<AnySource<R, I>>>(
 {
     let why = reason(&source);
     let mut one = Vec::new(alloc);
-    if one.push(source).is_err() {
-        return Err(Refusal::Memory(AllocError));
+    match one.push(source) {
+        Ok(()) => {}
+        Err(_) => return Err(Refusal::Memory(AllocError)),
     }
     match take_inputs(one.as_mut_slice(), taker) {
         Ok(()) => Ok(()),
@@ -139,10 +140,17 @@ fn take_apart<R: Source + Drop, I: Image + Drop, T: TableTaker<AnySource<R, I>>>
 }
 
 /// Whether the input at this place is an image with its mapfile.
-pub fn is_pair_at(paths: &[InputPath<'_>], place: usize) -> bool
+fn is_pair_at(paths: &[InputPath<'_>], place: usize) -> bool
     ensures { result ≡ pair_at paths.now place }
 {
     matches!(paths.get(place), Some(InputPath::Pair(_, _)))
+}
+
+/// Whether the input at this place is compared with those before it: an image that is not the first input, unless `force` is set.
+pub fn is_compared(paths: &[InputPath<'_>], place: usize, force: bool) -> bool
+    ensures { result ≡ is_compared paths.now place force }
+{
+    !force && place > 0 && is_pair_at(paths, place)
 }
 
 /// Hands the blocks of the source of the input at this place to the taker. An image of another disc than what was taken is refused, unless it is the first
@@ -156,13 +164,16 @@ fn take_next<R: Source + Drop, I: Image + Drop, T: TableTaker<AnySource<R, I>>>(
     taker: &mut T,
 ) -> Result<(), Refusal>
     requires { place + 1 < 2 ^ 64 }
-    ensures table { OnOk result (Takes (⟦<AnySource<R, I> as Source>⟧.remaining) source (T.took taker.old) (T.took taker.new) ((force ≡ false) × (pair_at paths.now place ≡ true) × (place ≢ 0))) }
+    ensures table { OnOk result (Takes (⟦<AnySource<R, I> as Source>⟧.remaining) source (T.took taker.old) (T.took taker.new) (is_compared paths.now place force ≡ true)) }
     ensures told { IfErr result (λ refusal. (refusal ≢ Refusal.Output) × (refusal ≢ Refusal.Unkept) × (refusal ≢ Refusal.Spared)) }
     ensures forced { IfErr result (λ refusal. force ≡ true → NamesNoOther refusal) }
     ensures blamed { IfErr result (λ refusal. (refusal ≡ Refusal.Memory alloc_error) ⊎ BlamesAlone (⟦<AnySource<R, I> as Source>⟧.remaining) (⟦<AnySource<R, I> as Source>⟧.faults) source (place + 1) refusal ⊎ ((pair_at paths.now place ≡ true) × IsOther (⟦<AnySource<R, I> as Source>⟧.remaining) source (T.took taker.old) (place + 1) refusal)) }
 {
-    if place > 0 && !force && is_pair_at(paths, place) {
-        return take_apart(alloc, source, place + 1, taker);
+    if is_compared(paths, place, force) {
+        return match take_apart(alloc, source, place + 1, taker) {
+            Ok(()) => Ok(()),
+            Err(refusal) => Err(refusal),
+        };
     }
     match take_alone(alloc, source, place + 1, taker) {
         Ok(()) => Ok(()),
