@@ -1,7 +1,7 @@
 -- Sources are taken one after the other.
 use Rattle.std.proofs.Common.{◌≡◌, ◌≢◌, ◌⊎◌, ◌<◌, ◌+◌, ◌-◌, ◌∙◌, arith, ap, sym, refl, subst, inl, inr, alloc_error, ap₂, not, nat_lt, ◌&&◌, cond, count_by, ℕ, zero, suc, Bool, true, false, List, [], ◌∷◌, ◌++◌, Option, Some, IfSome, Err, length, slice_get, take, drop}
 use Rattle.std.proofs.lemmas.List.Recursion.{is_count_by}
-use Rattle.std.proofs.lemmas.Bool.{true≢false}
+use Rattle.std.proofs.lemmas.Bool.{lt-ltb, true≢false}
 use Rattle.std.specs.Prelude.{⊤, ◌↔◌}
 use Rattle.udfs_lattice.specs.Records.{join_all}
 use Rattle.udfs_lattice.specs.States.{State}
@@ -38,12 +38,12 @@ take_front (x ∷ xs) ys = ap (λ (l : List _). x ∷ l) (take_front xs ys)
 pub take_next : {A : Type 0} (xs : List A) (n : ℕ) (x : A) → slice_get xs n ≡ Some x → take (n + 1) xs ≡ take n xs ++ x ∷ []
 take_next [] n x e = absurd (let b : ⊥ = cc in b)
 take_next (y ∷ xs) zero x e = let same : y ≡ x = cc in ap (λ (z : _). z ∷ []) same
-take_next (y ∷ xs) (suc n) x e = ap (λ (l : List _). y ∷ l) (take_next xs n x e)
+take_next (y ∷ xs) (suc n) x e = let z : suc n + 1 ≡ suc (n + 1) = omega arith in ap (λ (k : ℕ). take k (y ∷ xs)) z ∙ ap (λ (l : List _). y ∷ l) (take_next xs n x e)
 
 split_at : {A : Type 0} (xs : List A) (n : ℕ) (x : A) → slice_get xs n ≡ Some x → xs ≡ take n xs ++ x ∷ drop (n + 1) xs
 split_at [] n x e = absurd (let b : ⊥ = cc in b)
 split_at (y ∷ xs) zero x e = let same : y ≡ x = cc in ap (λ (z : _). z ∷ xs) same
-split_at (y ∷ xs) (suc n) x e = ap (λ (l : List _). y ∷ l) (split_at xs n x e)
+split_at (y ∷ xs) (suc n) x e = let z : suc (n + 1) ≡ suc n + 1 = omega arith in ap (λ (l : List _). y ∷ l) (split_at xs n x e) ∙ ap (λ (k : ℕ). take (suc n) (y ∷ xs) ++ x ∷ drop k (y ∷ xs)) z
 
 length_within : {A : Type 0} (xs : List A) (n : ℕ) (x : A) → slice_get xs n ≡ Some x → length (take n xs) ≡ n
 length_within [] n x e = absurd (let b : ⊥ = cc in b)
@@ -51,14 +51,16 @@ length_within (y ∷ xs) zero x e = refl
 length_within (y ∷ xs) (suc n) x e = ap suc (length_within xs n x e)
 
 same_take : {A B : Type 0} (xs : List A) (ys : List B) (n : ℕ) → length xs ≡ length ys → length (take n xs) ≡ length (take n ys)
-same_take [] [] n e = refl
+same_take [] [] zero e = refl
+same_take [] [] (suc n) e = refl
 same_take [] (y ∷ ys) n e = absurd (omega (arith, e))
 same_take (x ∷ xs) [] n e = absurd (omega (arith, e))
 same_take (x ∷ xs) (y ∷ ys) zero e = refl
 same_take (x ∷ xs) (y ∷ ys) (suc n) e = ap suc (same_take xs ys n (omega (arith, e)))
 
 get_take : {A : Type 0} (xs : List A) (n k : ℕ) (x : A) → slice_get (take n xs) k ≡ Some x → slice_get xs k ≡ Some x
-get_take [] n k x e = absurd (let b : ⊥ = cc in b)
+get_take [] zero k x e = absurd (let b : ⊥ = cc in b)
+get_take [] (suc n) k x e = absurd (let b : ⊥ = cc in b)
 get_take (y ∷ xs) zero k x e = absurd (let b : ⊥ = cc in b)
 get_take (y ∷ xs) (suc n) zero x e = e
 get_take (y ∷ xs) (suc n) (suc k) x e = get_take xs n k x e
@@ -113,7 +115,7 @@ each_last paths ts u each last place own pair at = each_by paths ts u each last 
 compared_by : (paths : List InputPath) (n : ℕ) (force : Bool) → force ≡ false → pair_at paths n ≡ true → n ≢ 0 → is_compared paths n force ≡ true
 compared_by paths zero force unforced pair some = absurd (some refl)
 compared_by paths (suc n) true unforced pair some = absurd (true≢false unforced)
-compared_by paths (suc n) false unforced pair some = pair
+compared_by paths (suc n) false unforced pair some = rw (lt-ltb 0 (suc n) (omega arith)) pair
 
 both_so : (a b c : Bool) → (not a && (b && c)) ≡ true → (a ≡ false) × (c ≡ true)
 both_so true b c h = absurd (true≢false (sym h))
@@ -190,7 +192,7 @@ taken_more remaining paths done force Old Mid New x taken takes =
 -- ---- what was not
 pub blamed_alone : {R I : Type 0} (remaining : AnySource R I → Option (List ℕ)) (faults : AnySource R I → ℕ) (all : List (AnySource R I)) (k : ℕ) (source : AnySource R I) (tables : List Table) (refusal : Refusal) →
     slice_get all k ≡ Some source → TablesAre remaining (take k all) tables → BlamesAlone remaining faults source (k + 1) refusal → (after : List (AnySource R I)) × BlamesSource remaining faults all after refusal
-blamed_alone remaining faults all k source tables refusal at have alone =
+blamed_alone {R = R} {I = I} remaining faults all k source tables refusal at have alone =
     let f = alone.fails in
     let same : f.old ≡ source = only_one f.earlier f.old f.later source f.were in
     let place : k + 1 - 1 ≡ k = omega arith in

@@ -265,15 +265,22 @@ fn forget<'a>(alloc: Global, given: Given) -> Result<Command<'a>, AllocError>
     with_inputs(alloc, command, given.pairs)
 }
 
-/// `list [--torn] [--null] [--paths] [--force] (--last N | --size BYTES) [--profile PROFILE] IN...`
-fn list<'a>(alloc: Global, given: Given) -> Result<Command<'a>, AllocError>
-    ensures { IfOk result (λ command. app_of command ≡ list_app given) }
+/// `list` before its arguments.
+fn bare_list<'a>(alloc: Global) -> Command<'a>
+    ensures { app_of result ≡ new_app (codes "list") }
 {
-    let command = Command::new(alloc, "list")
+    Command::new(alloc, "list")
         .about(
             "Prints a line for each file and folder: standing, kind, bytes lost, size, time and path",
         )
         .override_usage("udfsalvage list [OPTIONS] [--last <N> | --size <BYTES>] <IN>...")
+}
+
+/// `list [--torn] [--null] [--paths] [--force] (--last N | --size BYTES) [--profile PROFILE] IN...`
+fn list<'a>(alloc: Global, given: Given) -> Result<Command<'a>, AllocError>
+    ensures { IfOk result (λ command. app_of command ≡ list_app given) }
+{
+    let command = bare_list(alloc)
         .arg(last(alloc, given.needs_last))?
         .arg(disc_size(alloc))?
         .arg(profile(alloc))?

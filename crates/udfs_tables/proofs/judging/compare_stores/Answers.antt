@@ -2,7 +2,7 @@ use Rattle.std.proofs.Common.{◌≡◌, ◌+◌, ◌∙◌, arith, ap, ap₂, s
 use Rattle.udfs_compare.specs.Comparing.{are_known, are_other}
 use Rattle.udfs_lattice.specs.Tables.{state_of}
 use Rattle.udfs_tables.proofs.CountingLemmas.{counted_all, counted_none, known_next, other_next}
-use Rattle.udfs_tables.proofs.judging.compare_stores.Goals first goal
+use Rattle.udfs_tables.proofs.judging.compare_stores.Goals as goal
 
 pub loop-block-init : goal.loop-block-init
 loop-block-init g c = record {

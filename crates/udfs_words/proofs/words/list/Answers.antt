@@ -1,13 +1,12 @@
-use Rattle.std.proofs.Common.{rules, refl, ap₂, codes, ◌≡◌, ◌∙◌}
+use Rattle.std.proofs.Common.{refl, ap₂, ◌∙◌}
 use Rattle.std.proofs.lemmas.Result.{IfOk-weaker}
-use Rattle.clap.specs.Words.{app_of, new_app, with_rule}
+use Rattle.clap.specs.Words.{with_rule}
 use Rattle.udfs_words.specs.Grammar.{with_inputs}
 use Rattle.udfs_words.proofs.words.list.Goals as goal
 
 pub returns : goal.returns
 returns c =
-    let start : app_of c.override_usage.result ≡ new_app (codes "list") = search rules in
-    let one = c.in_ok-arg.ensures.shape c.last.ensures.1 ∙ ap₂ with_rule start c.last.ensures.0 in
+    let one = c.in_ok-arg.ensures.shape c.last.ensures.1 ∙ ap₂ with_rule c.bare_list.ensures c.last.ensures.0 in
     let two = c.in_ok-arg-2.ensures.shape c.disc_size.ensures.1 ∙ ap₂ with_rule one c.disc_size.ensures.0 in
     let three = c.in_ok-arg-3.ensures.shape c.profile.ensures.1 ∙ ap₂ with_rule two c.profile.ensures.0 in
     let four = c.in_ok-arg-4.ensures.shape c.flag.ensures.1 ∙ ap₂ with_rule three c.flag.ensures.0 in
