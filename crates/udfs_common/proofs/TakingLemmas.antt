@@ -233,6 +233,49 @@ other_alone remaining paths all force Old Mid k source refusal at within taken p
   other = other.other (join_all taken.tables) (joined_now remaining paths (take k all) force Old Mid taken old);
 }
 
+-- ---- one source after the other
+left_zero : {A : Type 0} (xs rest : List A) (x : A) → x ∷ rest ≡ xs → (slice_get xs 0 ≡ Some x) × (rest ≡ drop 1 xs)
+left_zero [] rest x e = absurd (let b : ⊥ = cc in b)
+left_zero (y ∷ xs) rest x e =
+    let head : y ≡ x = cc in
+    let tail : rest ≡ xs = cc in
+    (ap Some head, tail)
+
+pub left_next : {A : Type 0} (xs rest : List A) (n : ℕ) (x : A) → x ∷ rest ≡ drop n xs → (slice_get xs n ≡ Some x) × (rest ≡ drop (n + 1) xs)
+left_next xs rest zero x e = left_zero xs rest x e
+left_next [] rest (suc n) x e = absurd (let b : ⊥ = cc in b)
+left_next (y ∷ xs) rest (suc n) x e =
+    let z : suc (n + 1) ≡ suc n + 1 = omega arith in
+    let h = left_next xs rest n x e in
+    (h.0, h.1 ∙ ap (λ (k : ℕ). drop k (y ∷ xs)) z)
+
+pub left_none : {A : Type 0} (xs : List A) (n : ℕ) → [] ≡ drop n xs → take n xs ≡ xs
+left_none [] zero e = refl
+left_none [] (suc n) e = refl
+left_none (y ∷ xs) zero e = absurd (let b : ⊥ = cc in b)
+left_none (y ∷ xs) (suc n) e = ap (λ (l : List _). y ∷ l) (left_none xs n e)
+
+get_within : {A : Type 0} (xs : List A) (n : ℕ) (x : A) → slice_get xs n ≡ Some x → n < length xs
+get_within [] n x e = absurd (let b : ⊥ = cc in b)
+get_within (y ∷ xs) zero x e = omega arith
+get_within (y ∷ xs) (suc n) x e = let h = get_within xs n x e in omega (arith, h)
+
+pub taken_start : {R : Type 0} (remaining : R → Option (List ℕ)) (paths : List InputPath) (all : List R) (n : ℕ) (force : Bool) (Old : Table → Type 0) → n ≡ 0 → Taken remaining paths (take n all) force Old Old
+taken_start remaining paths all n force Old e = subst (λ (k : ℕ). Taken remaining paths (take k all) force Old Old) (sym e) (taken_none remaining paths force Old)
+
+pub taken_then : {R : Type 0} (remaining : R → Option (List ℕ)) (paths : List InputPath) (all : List R) (n : ℕ) (x : R) (force : Bool) (Old Mid New : Table → Type 0) →
+    slice_get all n ≡ Some x → Taken remaining paths (take n all) force Old Mid → Takes remaining x Mid New (is_compared paths n force ≡ true) → Taken remaining paths (take (n + 1) all) force Old New
+taken_then remaining paths all n x force Old Mid New at taken takes =
+    subst (λ (l : List _). Taken remaining paths l force Old New) (sym (take_next all n x at))
+    (taken_more remaining paths (take n all) force Old Mid New x taken (takes_by (λ h. subst (λ (k : ℕ). is_compared paths k force ≡ true) (length_within all n x at) h) takes))
+
+pub not_taken : {R I : Type 0} (remaining : AnySource R I → Option (List ℕ)) (faults : AnySource R I → ℕ) (paths : List InputPath) (all : List (AnySource R I)) (n : ℕ) (x : AnySource R I) (force : Bool) (Old Mid : Table → Type 0) (refusal : Refusal) →
+    slice_get all n ≡ Some x → Taken remaining paths (take n all) force Old Mid → (refusal ≡ Memory alloc_error) ⊎ BlamesAlone remaining faults x (n + 1) refusal ⊎ ((pair_at paths n ≡ true) × IsOther remaining x Mid (n + 1) refusal) →
+    (refusal ≡ Memory alloc_error) ⊎ ((after : List (AnySource R I)) × BlamesSource remaining faults all after refusal) ⊎ (Old empty_table → IsOtherSource remaining paths all refusal)
+not_taken remaining faults paths all n x force Old Mid refusal at taken (inl memory) = inl memory
+not_taken remaining faults paths all n x force Old Mid refusal at taken (inr (inl alone)) = inr (inl (blamed_alone remaining faults all n x taken.tables refusal at taken.are alone))
+not_taken remaining faults paths all n x force Old Mid refusal at taken (inr (inr other)) = inr (inr (λ old. other_alone remaining paths all force Old Mid n x refusal at (get_within all n x at) taken other.0 other.1 old))
+
 -- ---- by the paths
 pub other_disc : {R : Type 0} (found : List ℕ → Option (Option (List ℕ))) (remaining : R → Option (List ℕ)) (paths : List InputPath) (sources : List R) (refusal : Refusal) →
     length sources ≡ length paths → Opens found remaining paths sources → IsOtherSource remaining paths sources refusal → IsOtherDisc found remaining paths refusal
