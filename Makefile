@@ -1,6 +1,7 @@
 # What to type here:
 #   make            proves the program and all that it depends on, builds it, and says where it is
-#   make demo       the same, and then runs it on the readings of examples/
+#   make demo       runs it on the readings of examples/: the built program, where there is one; else one command, by the toolchain's interpreter, from the
+#                   sources, of which nothing is proved yet
 #   make test       judges the whole repository as the gate does, and then tries what make hostile and make try try, the demonstration, and the
 #                   commands that README.md and docs/READING.md show (not make test, nor what needs a tool that is not installed); the last line is
 #                   'N passed, M failed'
@@ -60,11 +61,20 @@ endef
 
 $(foreach name,udfsalvage try_samples bench_crc bench_table bench_space,$(eval $(call program-rule,$(name))))
 
-demo: all
+demo:
 	@mkdir -p out
+	@if $(MAKE) -q -s --no-print-directory $(PROGRAM); then $(MAKE) -s --no-print-directory demo-built; else $(MAKE) -s --no-print-directory first-look; fi
+
+demo-built:
 	@tools/demo $(PROGRAM) examples out/demo > out/demo.txt || { cat out/demo.txt; exit 1; }
 	@cat out/demo.txt
 	@tools/check-readme README.md out/demo.txt
+
+first-look: have-rt
+	@tools/first-look $(RT) examples | tee out/first-look.txt
+	@tools/check-readme --some README.md out/first-look.txt
+	@echo
+	@echo "After make, which takes an hour or two, make demo shows more, with the proved program."
 
 # The marks are set before, so that a source that is changed meanwhile is newer than they are.
 test: have-rt $(addprefix out/marks/,$(notdir $(wildcard crates/*)))
@@ -125,4 +135,4 @@ examples:
 	tools/make-disc examples
 	cp examples/a.rd examples/b.rd crates/udfsalvage/data
 
-.PHONY: all have-rt demo test hostile try install uninstall clean dist deb bench examples
+.PHONY: all have-rt demo demo-built first-look test hostile try install uninstall clean dist deb bench examples
