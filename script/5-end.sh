@@ -169,7 +169,8 @@ take_up() {
     if [ -n "$left" ] && [ "$(readlink "/proc/$left/cwd" 2> /dev/null)" = "$(pwd -P)" ] && tr '\0' '\n' < "/proc/$left/cmdline" | grep -q '^passes/'; then
         say "A ddrescue of an earlier run still reads (process $left): ending it"
         kill -INT "$left" 2> /dev/null
-        while kill -0 "$left" 2> /dev/null; do sleep 1; done
+        # (one that has ended and is not waited for by its parent has no folder any more)
+        while [ "$(readlink "/proc/$left/cwd" 2> /dev/null)" = "$(pwd -P)" ]; do sleep 1; done
     fi
     rm -f work/reader
     sed -n '/ done$/d; s/^pass \([^ ]*\) .*/\1/p' state > work/left
