@@ -71,7 +71,7 @@ demo-built:
 	@tools/check-readme README.md out/demo.txt
 
 first-look: have-rt
-	@tools/first-look $(RT) examples | tee out/first-look.txt
+	@{ tools/first-look $(RT) examples || echo "failed"; } | tee out/first-look.txt; ! grep -qx failed out/first-look.txt
 	@tools/check-readme --some README.md out/first-look.txt
 	@echo
 	@echo "After make, which takes an hour or two, make demo shows more, with the proved program."
