@@ -1,2 +1,4 @@
+pub mod Calling
 pub mod Going
+pub mod Taken
 pub mod Untold

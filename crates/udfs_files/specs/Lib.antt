@@ -1,3 +1,5 @@
+pub mod Crashes
 pub mod Disk
 pub mod Jobs
+pub mod Opened
 pub mod Telling
