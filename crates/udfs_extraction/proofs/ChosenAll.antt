@@ -10,7 +10,7 @@ use Rattle.udfs_salvage.specs.Found.{Found}
 use Rattle.udfs_salvage.specs.Reports.{Report, all_whole}
 use Rattle.udfs_walk.specs.Unsettled.{is_whole}
 use Rattle.udfs_salvage.specs.declared.extraction.Fill.{Fill}
-use Rattle.udfs_extraction.specs.Choosing.{chosen, is_node}
+use Rattle.udfs_salvage.specs.Choosing.{chosen, is_node}
 use Rattle.udfs_extraction.specs.Extracting.{ExtractsAll, ExtractsChosen, PutsAll, PutsBy, PutsChosen, all_good}
 use Rattle.udfs_extraction.specs.ShortNames.{own_name}
 use Rattle.udfs_extraction.specs.declared.extract.Fate.{Fate}

@@ -1,7 +1,5 @@
-pub mod ChoosingLemmas
 mod PutNodes
 mod ChosenAll
-pub mod AskedNames
 mod DigestLemmas
 mod ManifestLemmas
 pub mod LostLemmas

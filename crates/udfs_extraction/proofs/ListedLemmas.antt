@@ -20,7 +20,7 @@ use Rattle.udfs_salvage.specs.NodeTexts.{path_name}
 use Rattle.udfs_walk.specs.Unsettled.{is_whole}
 use Rattle.udfs_salvage.specs.UnnamedExtraction.{is_file, is_lost_file}
 use Rattle.udfs_salvage.specs.declared.extraction.Fill.{Fill}
-use Rattle.udfs_extraction.specs.Choosing.{chosen, is_chosen, is_node}
+use Rattle.udfs_salvage.specs.Choosing.{chosen, is_chosen, is_node}
 use Rattle.udfs_extraction.specs.Extracting.{deed}
 use Rattle.udfs_extraction.specs.LostFiles.{lost_line}
 use Rattle.udfs_extraction.specs.declared.extract.Deed.TheVariants.{File, Skip}

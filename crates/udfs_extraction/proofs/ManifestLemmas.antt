@@ -17,14 +17,14 @@ use Rattle.udfs_salvage.specs.NodeTexts.{names_text}
 use Rattle.udfs_salvage.specs.Reports.{IsReportBy, Report}
 use Rattle.udfs_walk.specs.Unsettled.{is_whole}
 use Rattle.udfs_salvage.specs.declared.extraction.Fill.{Fill}
-use Rattle.udfs_extraction.specs.Choosing.{chosen, goes_on, is_node}
+use Rattle.udfs_salvage.specs.Choosing.{chosen, goes_on, is_node}
 use Rattle.udfs_extraction.specs.Extracting.{IsDone, IsElsewhere, Puts, PutsBy, Stay, all_good, path_below}
 use Rattle.udfs_extraction.specs.Manifests.{AreLines, IsBeside, IsLine, IsNoted, ListsChosen, ListsOf, MayPutLast, PutsListed, PutsWith, SparesListed, digest_line, note_text, notes_of, notes_text}
 use Rattle.udfs_extraction.specs.ShortNames.{placed}
 use Rattle.udfs_extraction.specs.declared.extract.Fate.{Fate}
 use Rattle.udfs_extraction.specs.declared.manifest.Noted.{Noted}
 use Rattle.udfs_extraction.specs.declared.extract.Fate.TheVariants.{Made, Written, Failed, Left, Skipped, Passed}
-use Rattle.udfs_extraction.proofs.ChoosingLemmas.{on_behind}
+use Rattle.udfs_salvage.proofs.ChoosingLemmas.{on_behind}
 use Rattle.udfs_extraction.proofs.PutNodes.{spares_nothing}
 use Rattle.udfs_reading.specs.Device.{Stream}
 

@@ -17,7 +17,7 @@ use Rattle.udfs_walk.specs.NodeFields.{NodeFields}
 use Rattle.udfs_salvage.specs.NodeTexts.{names_text}
 use Rattle.udfs_salvage.specs.Reports.{Report, IsReportBy}
 use Rattle.udfs_salvage.specs.declared.extraction.Fill.{Fill}
-use Rattle.udfs_extraction.specs.Choosing.{goes_on}
+use Rattle.udfs_salvage.specs.Choosing.{goes_on}
 use Rattle.udfs_extraction.specs.Extracting.{IsElsewhere, IsIn, PutsBy, PutsChosen, PutsNone, Spares, Stay, path_below}
 use Rattle.udfs_common.specs.Guarding.{NoneLeads, SomeLeads}
 use Rattle.udfs_common.specs.Keeping.{IsKept}

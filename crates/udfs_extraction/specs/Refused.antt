@@ -37,7 +37,7 @@ use Rattle.udfs_common.specs.declared.sources.AnySource.{AnySource}
 use Rattle.udfs_remarks.specs.NoReports.{IsUntold}
 use Rattle.udfs_remarks.specs.PathsRefused.{AskedRefused}
 use Rattle.udfs_extraction.specs.ByWords.{held_at}
-use Rattle.udfs_extraction.specs.Choosing.{is_node}
+use Rattle.udfs_salvage.specs.Choosing.{is_node}
 use Rattle.udfs_extraction.specs.Extracting.{IsDone, IsPut, Puts, PutsBy, PutsOf, TellsLines}
 use Rattle.udfs_extraction.specs.LostFiles.{EachLost, IsLostPut, lost_lines}
 use Rattle.udfs_extraction.specs.Manifests.{IsManifest, IsPutLast, IsSparedManifest, ListsOf}

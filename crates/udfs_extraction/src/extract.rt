@@ -12,7 +12,7 @@ ghost use Rattle.udfs_extraction.specs.Refused.{IsRefusedMaking, NodesStop};
 ghost use Rattle.udfs_remarks.specs.PathsRefused.{OfPathsRefused};
 ghost use Rattle.udfs_common.specs.declared.sources.AnySource.{AnySource};
 
-use crate::choosing::{all_are_nodes, chosen_are_whole};
+use crate::choosing::all_are_nodes;
 use crate::fate_remarks::remark_on_fate;
 use crate::manifest::{Noted, note};
 use crate::node_files::{node_at, put_chosen, put_folder};
@@ -30,6 +30,7 @@ use udfs_reading::{Sink, Source};
 use udfs_remarks::looking::listed;
 use udfs_remarks::no_reports::refused_run;
 use udfs_remarks::remarks::{remark_on_left_out, remark_on_listing};
+use udfs_salvage::choosing::chosen_are_whole;
 use udfs_salvage::{Fill, Listing, Volume, write_volume_line};
 use udfs_volume::Profile;
 use udfs_words::input_path::InputPath;

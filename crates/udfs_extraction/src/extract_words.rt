@@ -12,7 +12,6 @@ ghost use Rattle.udfs_extraction.specs.ByWords.{HasFreeManifest, ListsAsked, Ext
 ghost use Rattle.udfs_common.specs.declared.sources.AnySource.{AnySource};
 ghost use Rattle.udfs_extraction.specs.Refused.{ListRefused, NodesRefused};
 
-use crate::choosing::ALL;
 use crate::extract::extract;
 use crate::extract_manifest::extract_listed;
 use crate::manifest_place::find_manifest;
@@ -25,6 +24,7 @@ use udfs_common::refusal::Refusal;
 use udfs_common::sources::AnySource;
 use udfs_reading::{Sink, Source};
 use udfs_salvage::Fill;
+use udfs_salvage::choosing::ALL;
 use udfs_words::asking::{asked_folder, asked_inputs, asked_manifest};
 use udfs_words::profile::asked_profile;
 use udfs_words::words::{FILL, INPUTS, MANIFEST, ONLY, PAIRS, SHORT_NAMES};

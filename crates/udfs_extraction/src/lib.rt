@@ -23,4 +23,4 @@ mod unnamed;
 mod unnamed_place;
 mod unnamed_words;
 
-pub use choosing::asks_by_names;
+pub use udfs_salvage::choosing::asks_by_names;

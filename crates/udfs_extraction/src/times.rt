@@ -5,7 +5,6 @@ ghost use Rattle.clap.specs.Matches.{found_of};
 ghost use Rattle.udfs_words.specs.Asking.{IsPicked};
 ghost use Rattle.udfs_extraction.specs.Timing.{IsGoodWithTimes};
 
-use crate::choosing::is_above;
 use crate::extract::Fate;
 use crate::node_files::{node_at, path_in};
 use crate::places::place_from;
@@ -19,6 +18,7 @@ use udfs_file::Kind;
 use udfs_osta::Stamp;
 use udfs_overview::push_shown_path;
 use udfs_salvage::Listing;
+use udfs_salvage::choosing::is_above;
 use udfs_walk::{Node, Unnamed};
 use udfs_words::words::TIMES;
 

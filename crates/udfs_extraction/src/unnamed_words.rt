@@ -12,7 +12,6 @@ ghost use Rattle.udfs_extraction.specs.ByWords.{HasFreeManifest, HasNewFolder, L
 ghost use Rattle.udfs_common.specs.declared.sources.AnySource.{AnySource};
 ghost use Rattle.udfs_extraction.specs.Refused.{AddRefused, ExtractRefused, ListAddRefused};
 
-use crate::choosing::ALL;
 use crate::extract_unnamed::{extract_listed_with_lost, extract_with_lost};
 use crate::extract_words::{asked_fill, asked_place, asked_short, extract_as};
 use crate::unnamed_place::find_new_folder;
@@ -24,6 +23,7 @@ use udfs_common::inputs::unwritten;
 use udfs_common::refusal::Refusal;
 use udfs_common::sources::AnySource;
 use udfs_reading::{Sink, Source};
+use udfs_salvage::choosing::ALL;
 use udfs_words::asking::{asked_folder, asked_inputs, asked_lost_folder, asked_manifest};
 use udfs_words::profile::asked_profile;
 use udfs_words::words::{MANIFEST, ONLY, UNNAMED};

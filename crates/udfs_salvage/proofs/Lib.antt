@@ -35,3 +35,8 @@ pub mod PublicLaws
 pub mod UnnamedEntries
 pub mod ListedNodes
 pub mod KeptLists
+pub mod ChoosingLemmas
+pub mod AskedNames
+pub mod InLineNames
+pub mod InLineLists
+pub mod RereadingFor

@@ -1,5 +1,0 @@
-use Rattle.udfs_extraction.proofs.AskedNames as names
-use Rattle.udfs_extraction.proofs.choosing.asks_by_names.Goals as goal
-
-pub returns : goal.returns
-returns c = names.asks_by_names
