@@ -8,6 +8,7 @@
 #   make hostile    makes each allocation of many runs fail in turn, makes each system call of the program's runs fail or ends it there,
 #                   and changes each byte of the sample discs' descriptors
 #   make try        tries the built program on this machine's own files and devices and on a terminal, and with GNU ddrescue where it is installed
+#   make docs       prints the definitions, the contracts with their edits, and the modules from the sources into out/docs
 #   make install    puts the program, the script udfsalvage-rescue, their man pages and the completions below PREFIX; make uninstall takes them away
 #   make clean      removes all that was made
 #   make dist       a tar of the sources, and one of the built program, in out/
@@ -130,9 +131,12 @@ bench: all
 	    $$one || bad="$$bad $${one%% *}"; \
 	done; [ -z "$$bad" ] || { echo "over a limit, or failed:$$bad" >&2; exit 1; }
 
+docs:
+	@tools/docs
+
 examples:
 	tools/make-examples examples
 	tools/make-disc examples
 	cp examples/a.rd examples/b.rd crates/udfsalvage/data
 
-.PHONY: all have-rt demo demo-built first-look test hostile try install uninstall clean dist deb bench examples
+.PHONY: all have-rt demo demo-built first-look test hostile try install uninstall clean dist deb bench docs examples

@@ -137,22 +137,13 @@ settle() {
     put "pass $1" "$kind done"
 }
 
-# Whether the merge that was said in work/error joined a pass of another disc: at least 4 blocks that were read before have other bytes in it, and more
-# than one in four of those that both have.
-is_other_disc() {
-    sed -n 's/.*input [0-9]* disagrees in \([0-9,]*\) of \([0-9,]*\) blocks.*/\1 \2/p' work/error | tr -d , | {
-        read -r differing shared && [ "$differing" -ge 4 ] && [ $((4 * differing)) -gt "$shared" ]
-    }
-}
-
 # merge PASS: into the table; a pass of another disc goes aside. The new table has a name of its own: a merge that outlived a killed run must not put its
 # file in the place of this one's.
 merge() {
     table=''
     new=work/disc.$$.tab
     [ ! -f disc.tab ] || table=disc.tab
-    if attend "$program" merge -v --out "$new" --ddrescue "passes/$1.img" "passes/$1.map" ${table:+"$table"} > /dev/null 2> work/error; then
-        ! is_other_disc || { rm -f "$new"; set_aside "$1"; }
+    if attend "$program" merge --out "$new" --ddrescue "passes/$1.img" "passes/$1.map" ${table:+"$table"} > /dev/null 2> work/error; then
         mv "$new" disc.tab && return 0
         no_room "$1"
     fi

@@ -1,8 +1,9 @@
-"""Volumes of `tools/random_volumes.py` of which a field is changed: to a bound of what is taken, or to anything.
+"""Volumes of `tools/random_volumes.py` of which a field is changed: to a bound of what is taken, or to anything; or more, in one way.
 
 Each descriptor of a volume is known by its kind and by where its copies are, each in one piece or in two. A change goes to all
 copies or to one, and mostly its tag is made sound again. Sections are those of ECMA-167, third edition, and of UDF 2.01.
 """
+import binascii
 import struct
 
 from random_volumes import BLOCK, put, seal
@@ -64,6 +65,49 @@ def each_bound(disc):
                 disc.blocks = dict(sound)
 
 
+def depart(disc):
+    """Changes a volume as its writer, a drive or a crash may have left it."""
+    disc.rng.choice(DEPARTURES)(disc)
+
+
+def tell_elsewhere(disc):
+    """The tags of all file identifiers have location 0, that of the identifier's own ICB, or the number of the block on the disc."""
+    way = disc.rng.randrange(3)
+    for kind, copies in disc.descriptors:
+        if kind == "identifier":
+            write_into(disc, copies, 12, (bytes(4), gather(disc, copies[0])[24:28], struct.pack("<I", copies[0][0][0]))[way])
+
+
+def give_age(disc):
+    """A copy of the sparing table has another sequence number than the others (UDF 2.2.11), and an entry that is not used."""
+    for kind, copies in disc.descriptors:
+        if kind == "sparing table":
+            copy, rng = disc.rng.choice(copies), disc.rng
+            before = gather(disc, copy)
+            data = put(before, 52, struct.pack("<I", rng.choice((0, 1, 9, number_of(before, 52, 4) + 1, 0xFFFFFFFF))))
+            if number_of(data, 48, 2) and rng.random() < 0.8:
+                data = put(data, 48, struct.pack("<H", number_of(data, 48, 2) - 1))
+            scatter(disc, copy, mended(data, 52))
+
+
+def blank_sequence(disc):
+    """Some blocks of the main or of the reserve sequence, or all, are blank."""
+    begin, rng = disc.rng.choice((disc.main, disc.main, disc.reserve)), disc.rng
+    first = rng.choice((0, 0, 1, 2, rng.randrange(disc.count)))
+    for i in range(first, rng.choice((disc.count, first + 1))):
+        disc.blocks[begin + i] = bytes(BLOCK)
+
+
+def exchange_extents(disc):
+    """One of the anchors names the two extents of the sequence in the other order (3/10.2)."""
+    anchor = disc.rng.choice(next(copies for kind, copies in disc.descriptors if kind == "anchor"))
+    data = gather(disc, anchor)
+    scatter(disc, anchor, mended(put(data, 16, data[24:32] + data[16:24]), 16))
+
+
+DEPARTURES = [tell_elsewhere, give_age, blank_sequence, exchange_extents]
+
+
 def write_into(disc, copies, at, new):
     """Changes all copies of a descriptor, and makes their tags sound."""
     for copy in copies:
@@ -78,8 +122,10 @@ def anything(rng, old, size):
 
 
 def mended(data, at):
-    """The descriptor with the checksum, and unless this was what was changed with the CRC, of its bytes."""
-    if at in (4, 8, 10):
+    """The descriptor with the checksum and the CRC of its bytes, but that what was changed stays."""
+    if at == 4:
+        return data
+    if at in (8, 10):
         return data[:4] + bytes([(sum(data[:4]) + sum(data[5:16])) % 256]) + data[5:]
     version, serial, covered = (struct.unpack_from("<H", data, place)[0] for place in (2, 6, 10))
     return seal(data, version, serial, min(covered, max(0, len(data) - 16)))
@@ -107,6 +153,10 @@ def halves(at, *values):
 
 def octets(at, *values):
     return [(at, bytes([value % 256])) for value in values]
+
+
+def number_of(data, at, size):
+    return int.from_bytes(data[at : at + size], "little")
 
 
 def bounds_of(disc, kind, data):
@@ -210,8 +260,16 @@ def of_descriptors(disc, data, begin, length, form):
     return bounds
 
 
+def of_tag(data):
+    """What a sound tag has beside its location (3/7.2): checksum, version, CRC, and the bytes that it is of."""
+    room = len(data) - 16
+    crcs = [(8, struct.pack("<HH", binascii.crc_hqx(data[16 : 16 + size], 0), size)) for size in (0, 1, room, room + 1)]
+    return octets(4, data[4] ^ 1) + halves(2, 1, 2, 3, 4) + halves(8, number_of(data, 8, 2) ^ 1) + crcs
+
+
 def of_identifier(disc, data):
-    name, use = data[19], struct.unpack_from("<H", data, 36)[0]
-    bounds = octets(18, 0, 1, 4, 8, 12, 2) + octets(19, 0, 1, name + 1, name - 1, name + 4, 255)
+    name, use, icb = data[19], struct.unpack_from("<H", data, 36)[0], data[24:28]
+    bounds = [(12, icb)] + words(12, 0, -1, *(number_of(data, 12, 4) + near for near in (1, disc.maps[0]["start"]))) + of_tag(data)
+    bounds += octets(18, 0, 1, 4, 8, 12, 2) + octets(19, 0, 1, name + 1, name - 1, name + 4, 255)
     bounds += halves(36, use + 1, use + 4, use - 4, 2010 - name, 2011 - name)
     return bounds + of_address(disc, data, 20) + octets(38 + use, 8, 16, 9, 0) + halves(0, 256, 258)

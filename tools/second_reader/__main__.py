@@ -1,7 +1,8 @@
 #!/usr/bin/env python3
 """A second reader of the same files: what `udfsalvage` has to print, found by another program.
 
-    second_reader report | json | reread  --last N [--profile wide] [--ddrescue IMAGE MAPFILE].. [IN]..
+    second_reader report | json | reread | remarks  --last N [--profile wide] [--ddrescue IMAGE MAPFILE].. [IN]..
+    second_reader list [--torn] [--paths] [--null] --last N [--profile wide] [--ddrescue IMAGE MAPFILE].. [IN]..
     second_reader extract --to DIR [--fill] --last N [--profile wide] [--ddrescue IMAGE MAPFILE].. [IN]..
     second_reader merge --out FILE [--v1] [--ddrescue IMAGE MAPFILE].. [IN]..
 

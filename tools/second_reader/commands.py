@@ -9,13 +9,13 @@ from volume import STRICT, WIDE
 def run(words):
     """What a command with these words prints, what it prints on standard error, and its status."""
     parser = argparse.ArgumentParser()
-    parser.add_argument("command", choices=("report", "json", "reread", "extract", "merge"))
+    parser.add_argument("command", choices=("report", "json", "reread", "list", "remarks", "extract", "merge"))
     parser.add_argument("--last", type=int, default=0)
     parser.add_argument("--profile", choices=("strict", "wide"), default="strict")
     parser.add_argument("--ddrescue", nargs=2, action="append", default=[])
     for option in ("--to", "--out"):
         parser.add_argument(option)
-    for option in ("--fill", "--v1"):
+    for option in ("--fill", "--v1", "--torn", "--paths", "--null"):
         parser.add_argument(option, action="store_true")
     parser.add_argument("inputs", nargs="*")
     asked = parser.parse_intermixed_args(words)
@@ -30,8 +30,10 @@ def run(words):
         if asked.command == "extract":
             text, kept = report.extract(asked.to, asked.fill)
             good = good and kept
-        elif asked.command == "reread":
-            text = "".join("%d\n" % block for block in report.reread)
+        elif asked.command == "list":
+            text = report.list(asked.torn, asked.paths, "\0" if asked.null else "\n")
+        elif asked.command in ("reread", "remarks"):
+            text = "".join("%s\n" % line for line in (report.reread if asked.command == "reread" else report.remarks))
         else:
             text = report.json() if asked.command == "json" else report.text()
         return text, "", 0 if good else 1

@@ -5,12 +5,12 @@ import datetime
 import struct
 
 
-def tag_of(data, place):
-    """The identifier of the descriptor that begins these bytes, if its tag is sound at this place (3/7.2)."""
+def tag_of(data, place, anywhere=False):
+    """The identifier of the descriptor that begins these bytes, if its tag is sound at this place (3/7.2), or anywhere."""
     identifier, version, checksum, _, _, crc, length, location = struct.unpack_from("<HHBBHHHI", data)
     if (sum(data[:4]) + sum(data[5:16])) % 256 != checksum or version not in (2, 3) or 16 + length > len(data):
         return None
-    return identifier if binascii.crc_hqx(data[16 : 16 + length], 0) == crc and location == place else None
+    return identifier if binascii.crc_hqx(data[16 : 16 + length], 0) == crc and (anywhere or location == place) else None
 
 
 def units_of(data):

@@ -132,31 +132,33 @@ def look(body, at, size):
     return data, first
 
 
-def names_of(body, size):
-    """What a directory lists (4/14.4), and the fault that ends it, if one does."""
-    listed, at = [], 0
+def names_of(body, size, anywhere):
+    """What a directory lists (4/14.4), the fault that ends it, if one does, and whether the tag of an identifier is of another place.
+    `anywhere`: the location of the tags is not compared."""
+    listed, at, moved = [], 0, False
     while at < size:
         if size - at < 38:
-            return listed, CUT
+            return listed, CUT, moved
         head, where = look(body, at, 38)
         if head is None:
-            return listed, None
+            return listed, None, moved
         name, use = head[19], number(head, 36, 2)
         length = (name + use + 41) // 4 * 4
         if length > BLOCK or at + length > size:
-            return listed, CUT
+            return listed, CUT, moved
         data, where = look(body, at, length)
         if data is None:
-            return listed, None
-        if where is None or tag_of(data, where) != 257:
-            return listed, IDENTIFIER_TAG
+            return listed, None, moved
+        if tag_of(data, where, anywhere) != 257:
+            return listed, IDENTIFIER_TAG, moved
         if not data[18] & 12:
             units = units_of(data[38 + use : 38 + use + name])
             if units is None:
-                return listed, NAME
+                return listed, NAME, moved
             listed.append(Identifier(units, long_address(data, 20), bool(data[18] & 1)))
+        moved = moved or tag_of(data, where) != 257
         at += length
-    return listed, None
+    return listed, None, moved
 
 
 class Found:
@@ -164,7 +166,7 @@ class Found:
 
     def __init__(self, volume, reference, block):
         self.kind, self.size, self.time, self.standing = "unread", None, None, "whole"
-        self.missing, self.holes, self.body, self.names = [], [], [], []
+        self.missing, self.holes, self.body, self.names, self.moved = [], [], [], [], False
         place = volume.place(reference, block)
         if not volume.known(place):
             self.standing, self.missing = "torn", [place]
@@ -174,7 +176,7 @@ class Found:
             self.kind, self.size, self.time = entry.kind(), entry.size, entry.time
             self.body = entry.body()
             if self.kind == "directory":
-                self.names, fault = names_of(self.body, self.size)
+                self.names, fault, self.moved = names_of(self.body, self.size, volume.rules["anywhere"])
                 if fault:
                     raise NodeFault(fault)
         except NodeFault as fault:

@@ -1,10 +1,15 @@
 """What is printed and written."""
 import json
 import os
+import re
 
 from files import Walk
 from inputs import LAST_NUMBER, Refused
+from remarks import of_folders, remarks
 from volume import Holes, VOLUME_FAULTS, Volume, VolumeFault, WIDE
+
+# Characters that end a line or turn the direction of text.
+FORGING = "[\x7f-\x9f\u061c\u200e\u200f\u2028-\u202e\u2066-\u2069]"
 
 
 class Report:
@@ -16,8 +21,10 @@ class Report:
             raise Refused("fault 2 PastEnd %d" % min(past))
         self.table, self.last, self.rules = table, last, rules
         self.nodes, self.unnamed, self.reread, self.label, self.maps = [], [], [], None, []
+        volume = Volume(table, last, rules)
+        self.remarks = remarks(volume)
         try:
-            volume = Volume(table, last, rules)
+            volume.open()
         except Holes as holes:
             self.reread = holes.args[0]
             self.volume = {"state": "holes", "blocks": self.reread}
@@ -26,6 +33,8 @@ class Report:
             self.volume = {"state": "fault", "fault": fault.args[0], "name": VOLUME_FAULTS[fault.args[0] - 1]}
             return
         walk = Walk(volume)
+        folders = [node for node in walk.nodes if node.kind == "directory" and node.standing != "loop"]
+        self.remarks += of_folders(sum(walk.find(*node.icb).moved for node in folders))
         self.nodes, self.unnamed, self.label, self.maps = walk.nodes, walk.unnamed, volume.label, volume.maps
         self.reread = sorted({block for node in self.nodes if node.standing == "torn" for block in node.missing})
         kinds = ["sparable" if map["packet"] else "type1" for map in self.maps]
@@ -74,6 +83,15 @@ class Report:
             top["profile"] = "wide"
         return json.dumps(top, sort_keys=True, ensure_ascii=False, separators=(",", ":")) + "\n"
 
+    def list(self, torn, paths, end):
+        """A line for each node after the root."""
+        lines = []
+        for node in self.nodes[1:]:
+            if not torn or node.standing != "whole":
+                path = re.sub(FORGING, lambda found: "\\u%04X" % ord(found[0]), path_of(node))
+                lines.append(path if paths else "\t".join(columns(node) + [path]))
+        return "".join(line + end for line in lines)
+
     def extract(self, folder, fill):
         """Makes the folder and the files, and returns what is printed, and whether nothing failed."""
         if self.volume["state"] != "ok":
@@ -105,6 +123,11 @@ class Report:
         except OSError:
             return "failed"
         return "written"
+
+
+def columns(node):
+    lost = {"whole": 0, "torn": sum(length for _, length in node.holes)}.get(node.standing) if node.kind != "unread" else None
+    return [node.standing.replace("-", " "), node.kind] + ["-" if number is None else str(number) for number in (lost, node.size)] + [node.time or "-"]
 
 
 def path_of(node):

@@ -6,10 +6,13 @@ from inputs import BLOCK, number
 
 # The two sets of rules: which revisions of UDF and packet lengths are taken, how many blocks each extent of the descriptor sequence
 # has at least and whether both have one length, whether a partition may pass the last block, which file types (4/14.6.6, UDF 2.01
-# 2.3.5.2) are files, and whether the last extent of a file goes on to the end of its block where the file does.
-STRICT = {"revisions": (0x150, 0x201), "packets": (16, 32), "least": 16, "apart": False, "passes": False, "files": (5,), "tail": False}
+# 2.3.5.2) are files, whether the last extent of a file goes on to the end of its block where the file does, whether the tag of a
+# file identifier may have any location, whether of the sparing tables the newest one counts, and whether the reserve sequence is tried
+# where the main one gives no layout.
+STRICT = {"revisions": (0x150, 0x201), "packets": (16, 32), "least": 16, "apart": False, "passes": False, "files": (5,), "tail": False,
+          "anywhere": False, "newest": False, "exchange": False}
 WIDE = {"revisions": (0x100, 0x101, 0x102, 0x150, 0x200, 0x201), "packets": (1, 2, 4, 8, 16, 32, 64, 128), "least": 1, "apart": True, "passes": True,
-        "files": (0, 5, 249), "tail": True}
+        "files": (0, 5, 249), "tail": True, "anywhere": True, "newest": True, "exchange": True}
 VOLUME_FAULTS = """NoAnchor Extents Pointer NoLogicalVolume Domain BlockSize MapCount MapKind NoPartition Contents PartitionRange
     SparingTag SparingShape SparingOrder MappedRange FileSet""".split()
 
@@ -27,12 +30,15 @@ class NodeFault(Exception):
 
 
 class Volume:
-    """What the table tells of the volume's structures. `maps` has the partitions; making one may raise Holes or VolumeFault."""
+    """What the table tells of the volume's structures. `maps` has the partitions, once it is open."""
 
     def __init__(self, table, last, rules):
         self.table, self.last, self.rules = table, last, rules
-        described = self.sequence(*self.anchor())
-        self.layout(described)
+        self.anchors = (256, last - 256, last)
+
+    def open(self):
+        """Reads what comes before the files. This may raise Holes or VolumeFault."""
+        self.read_layout(*self.anchor())
         for partition in self.maps:
             if partition["packet"]:
                 self.read_sparing(partition)
@@ -42,8 +48,7 @@ class Volume:
         return self.table.get(place)
 
     def anchor(self):
-        places = (256, self.last - 256, self.last)
-        for place in places:
+        for place in self.anchors:
             block = self.known(place)
             if block and tag_of(block, place) == 2:
                 size, main, reserve_size, reserve = struct.unpack_from("<4I", block, 16)
@@ -53,8 +58,20 @@ class Volume:
                 if size != reserve_size and not self.rules["apart"]:
                     raise VolumeFault(2)
                 return main, reserve, min(size, reserve_size) // BLOCK
-        raise_holes(place for place in places if not self.known(place))
+        raise_holes(place for place in self.anchors if not self.known(place))
         raise VolumeFault(1)
+
+    def read_layout(self, main, reserve, count):
+        """The layout, that of the main sequence or, where this has a fault and the rules are wide, the one of the reserve sequence."""
+        try:
+            self.layout(self.sequence(main, reserve, count))
+        except VolumeFault as fault:
+            if not self.rules["exchange"]:
+                raise
+            try:
+                self.layout(self.sequence(reserve, main, count))
+            except (VolumeFault, Holes):
+                raise fault
 
     def sequence(self, main, reserve, count):
         """The descriptors of the sequence (3/8.4), each with its identifier."""
@@ -118,13 +135,28 @@ class Volume:
             raise VolumeFault(8)
         return {"number": number(data, 38, 2), "packet": packet, "size": size, "tables": tables, "spared": {}}
 
-    def read_sparing(self, partition):
-        """The sparing table (UDF 2.2.11), put together from its copies."""
-        size, packet = partition["size"], partition["packet"]
-        taken = [[place + k for place in partition["tables"] if self.known(place + k)][:1] for k in range(-(-size // BLOCK))]
+    def newest_table(self, partition):
+        """The place and the bytes of the sparing table with the greatest sequence number (UDF 2.2.11), of those that are known whole and
+        have a valid tag; the first of these where several have it, or None."""
+        count, found = -(-partition["size"] // BLOCK), []
+        for place in partition["tables"]:
+            blocks = [self.known(place + k) for k in range(count)]
+            data = None if None in blocks else b"".join(blocks)[: partition["size"]]
+            if data and tag_of(data, place) == 0:
+                found.append((place, data))
+        return max(found, key=lambda table: number(table[1], 52, 4), default=None)
+
+    def joined_table(self, partition):
+        """The place of the first block and the bytes of the sparing table that is put together from its copies."""
+        taken = [[place + k for place in partition["tables"] if self.known(place + k)][:1] for k in range(-(-partition["size"] // BLOCK))]
         raise_holes(place + k for k, places in enumerate(taken) if not places for place in partition["tables"])
-        data = b"".join(self.known(places[0]) for places in taken)[:size]
-        if tag_of(data, taken[0][0]) != 0 or data[17:40] != padded(b"*UDF Sparing Table"):
+        return taken[0][0], b"".join(self.known(places[0]) for places in taken)[: partition["size"]]
+
+    def read_sparing(self, partition):
+        """The sparing table (UDF 2.2.11), from its newest copy or from all."""
+        size, packet = partition["size"], partition["packet"]
+        place, data = self.rules["newest"] and self.newest_table(partition) or self.joined_table(partition)
+        if tag_of(data, place) != 0 or data[17:40] != padded(b"*UDF Sparing Table"):
             raise VolumeFault(12)
         if 56 + 8 * number(data, 48, 2) > size:
             raise VolumeFault(13)

@@ -2,6 +2,7 @@
 
 mod closing;
 mod devices;
+mod disagreeing;
 mod ends;
 mod explaining;
 mod extracting;
@@ -14,6 +15,7 @@ mod listing;
 mod manifests;
 mod merging;
 mod only;
+mod other_discs;
 mod paging;
 mod pair_faults;
 mod pairs;

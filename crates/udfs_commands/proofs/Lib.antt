@@ -1,1 +1,2 @@
 pub mod ObeyingLemmas
+pub mod PerformingLemmas

@@ -5,7 +5,9 @@ use Rattle.clap.specs.Matches.{subcommand_name_of}
 use Rattle.clap.specs.declared.parser.matches.ArgMatches.{ArgMatches}
 use Rattle.clap.specs.declared.parser.matches.Found.{Found}
 use Rattle.udfs_words.specs.Grammar.{program_app}
-use Rattle.udfs_words.specs.Obeying.{Asks, IsAsked, given_in}
+use Rattle.udfs_words.specs.Obeying.{IsAsked, given_in}
+use Rattle.udfs_words.specs.Requests.{Asked, Reads}
+use Rattle.udfs_words.specs.declared.request.Request.{Request}
 use Rattle.udfs_words.specs.declared.words.Given.{Given}
 
 some_is : {X : Type 0} (x y : X) → Some x ≡ Some y → x ≡ y
@@ -56,25 +58,20 @@ pub asked : (m : ArgMatches) (words : List Text) (name : Text) (found : Found) �
     → Some name ≡ subcommand_name_of m → Some (rows_of found) ≡ option_map (λ (p : Text × List Row). p.1) (subcommand_rows_of m) → IsAsked words name found
 asked m words name found h named rows = sym ((h (simple (given_in words))).1) ∙ both _ _ _ name (rows_of found) named rows
 
-pub only_name : (words : List Text) (name asked : Text) (found : Found) → Asks words asked → IsAsked words name found → name ≡ asked
-only_name words name asked found h k = some_is name asked (sym (ap (option_map (λ (p : Text × List Row). p.0)) k) ∙ h)
-
-pub asks_by : (words : List Text) (name asked : Text) (found : Found) → IsAsked words name found → name ≡ asked → Asks words asked
-asks_by words name asked found k e = subst (λ (n : Text). Asks words n) e (ap (option_map (λ (p : Text × List Row). p.0)) k)
+-- what was read of the matches is what the line asks for
+pub asks : (app : App) (m : ArgMatches) (line : List Text) (name : Text) (found : Found) (request : Request) → app ≡ program_app (given_in line) → HasMatchesOf app line m → Some name ≡ subcommand_name_of m
+    → Some (rows_of found) ≡ option_map (λ (p : Text × List Row). p.1) (subcommand_rows_of m) → Reads name found request → Asked line request
+asks app m line name found request is h named rows reads = record {
+  name = name;
+  words = found;
+  is_asked = asked m line name found (subst (λ (a : App). HasMatchesOf a line m) is h) named rows;
+  reads = reads;
+}
 
 -- the status of what was done
 pub done : {E : Type 0} (o : Result Bool E) (r : ℕ) (P : Bool → Type 0) → IfOk o (λ w. r ≡ cond w 0 1) → OnErr o (r ≡ 2) → (r ≢ 2) → IfOk o P → (w : Bool) × (r ≡ cond w 0 1) × P w
 done (Ok w) r P ok err some p = (w, ok, p)
 done (Err e) r P ok err some p = absurd (some err)
-
--- and of what is done without anything lacking
-pub done_whole : {E : Type 0} (o : Result Bool E) (r : ℕ) (P Q : Type 0) → IfOk o (λ w. r ≡ cond w 0 1) → OnErr o (r ≡ 2) → (r ≢ 2) → IfOk o (λ w. w ≡ true) → OnOk o P → OnOk o Q → (r ≡ 0) × P × Q
-done_whole (Ok true) r P Q ok err some is p q = (ok, p, q)
-done_whole (Ok false) r P Q ok err some is p q = absurd (no is)
-  where
-    no : false ≡ true → ⊥
-    no e = cc
-done_whole (Err e) r P Q ok err some is p q = absurd (some err)
 
 -- what holds of a refusal, with its status
 pub refused : {E : Type 0} (o : Result Bool E) (r : ℕ) (P : Type 0) → IfOk o (λ w. r ≡ cond w 0 1) → r ≡ 2 → OnErr o P → P

@@ -1,7 +1,6 @@
 //! The second line of an error message, for a person: which file it is, what the system said of it, and what to do next.
 
 use crate::spared::why_spared;
-use clap::ArgMatches;
 use std::alloc::{AllocError, Global};
 use std::fmt;
 use std::io::{Error, ErrorKind};
@@ -12,10 +11,8 @@ use udfs_files::Kind;
 use udfs_overview::push_grouped;
 use udfs_reading::{ReadingError, ReadingFault, Source};
 use udfs_rescue::MapFault;
-use udfs_words::asking::asked_inputs;
 use udfs_words::input_path::InputPath;
-use udfs_words::last::asked_last;
-use udfs_words::words::{BLOCKS, MANIFEST, MAPFILE, ONLY, OUT, TO, UNNAMED};
+use udfs_words::request::{ExtractRequest, Inputs, LastSource, Request};
 
 /// The system's error code where a program has as many files open as it may.
 const TOO_MANY_OPEN: i32 = 24;
@@ -239,6 +236,18 @@ fn of_reread(alloc: Global, input: InputPath<'_>) -> Result<String, AllocError> 
     }
 }
 
+/// What is said of an image that is of another disc by its blocks.
+fn of_other_disc(alloc: Global, input: InputPath<'_>) -> Result<String, AllocError> {
+    match input {
+        InputPath::File(path) | InputPath::Pair(path, _) => {
+            format!(in alloc;
+                "{} is of another disc than the inputs before it; if it is not, --force joins it, and the blocks that differ are in conflict then",
+                Shown(path)
+            )
+        }
+    }
+}
+
 /// What is said of an error that names an input; `None` of any other.
 fn of_named_input<F: Files>(
     alloc: Global,
@@ -252,27 +261,61 @@ fn of_named_input<F: Files>(
         Refusal::ImageEnds(_, block) => of_short_image(alloc, input, *block)?,
         Refusal::Open(_) => of_unopened(alloc, input, files)?,
         Refusal::Reread(_, _) => of_reread(alloc, input)?,
+        Refusal::OtherDisc(_, _, _) => of_other_disc(alloc, input)?,
         _ => return Ok(None),
     };
     Ok(Some(line))
 }
 
-/// The path of the file that the arguments ask to write, where they ask for one.
-fn asked_output<'a>(words: &ArgMatches<'a>) -> Option<&'a str> {
-    match (words.get_str(OUT), words.get_str(MAPFILE)) {
-        (Some(out), _) => Some(out),
-        (None, Some(mapfile)) => Some(mapfile),
-        (None, None) => words.get_str(MANIFEST),
+/// The path of the file that is to be written, where one is.
+fn asked_output<'r>(request: &'r Request<'_>) -> Option<&'r str> {
+    match request {
+        Request::Merge(merge) => Some(merge.out),
+        Request::Forget(forget) => Some(forget.out),
+        Request::Image(image) => Some(image.image),
+        Request::Page(page) => Some(page.out),
+        Request::Reread(reread) => reread.mapfile,
+        Request::Extract(extract) => extract.manifest,
+        Request::Report(_) | Request::List(_) | Request::Summary(_) => None,
+    }
+}
+
+/// The inputs of a command.
+fn inputs_of<'r, 'a>(request: &'r Request<'a>) -> &'r Inputs<'a> {
+    match request {
+        Request::Merge(merge) => &merge.inputs,
+        Request::Forget(forget) => &forget.inputs,
+        Request::Image(image) => &image.inputs,
+        Request::Report(report) => &report.volume.inputs,
+        Request::Reread(reread) => &reread.volume.inputs,
+        Request::List(list) => &list.volume.inputs,
+        Request::Summary(summary) => &summary.volume.inputs,
+        Request::Page(page) => &page.volume.inputs,
+        Request::Extract(extract) => &extract.volume.inputs,
+    }
+}
+
+/// Where the disc ends, for a command that asks for it.
+fn last_of(request: &Request<'_>) -> Option<LastSource> {
+    match request {
+        Request::Merge(_) | Request::Forget(_) => None,
+        Request::Image(image) => Some(image.last),
+        Request::Report(report) => Some(report.volume.last),
+        Request::Reread(reread) => Some(reread.volume.last),
+        Request::List(list) => Some(list.volume.last),
+        Request::Summary(summary) => Some(summary.volume.last),
+        Request::Page(page) => Some(page.volume.last),
+        Request::Extract(extract) => Some(extract.volume.last),
     }
 }
 
 /// What is said of an output that could not be written, where it is no stream.
 fn of_output(
     alloc: Global,
-    words: &ArgMatches<'_>,
+    request: &Request<'_>,
     reason: Option<Error>,
 ) -> Result<Option<String>, AllocError> {
-    let Some(out) = asked_output(words) else {
+    let Some(out) = asked_output(request) else {
         return Ok(None);
     };
     let mut line = format!(in alloc; "{}: {}", Shown(out), Said(reason))?;
@@ -297,10 +340,10 @@ fn is_there(reason: Option<Error>) -> bool {
 /// What is said of a folder that could not be made.
 fn of_folder(
     alloc: Global,
-    words: &ArgMatches<'_>,
+    request: &ExtractRequest<'_>,
     reason: Option<Error>,
 ) -> Result<Option<String>, AllocError> {
-    let folder = Shown(words.get_str(TO).unwrap_or(""));
+    let folder = Shown(request.folder);
     let line = if is_there(reason) {
         format!(in alloc; "{folder} exists already; extract wants a new folder")?
     } else {
@@ -310,8 +353,11 @@ fn of_folder(
 }
 
 /// What is said of a folder for lost files that is not to be made.
-fn of_lost_place(alloc: Global, words: &ArgMatches<'_>) -> Result<Option<String>, AllocError> {
-    let folder = Shown(words.get_str(UNNAMED).unwrap_or(""));
+fn of_lost_place(
+    alloc: Global,
+    request: &ExtractRequest<'_>,
+) -> Result<Option<String>, AllocError> {
+    let folder = Shown(request.lost.unwrap_or(""));
     Ok(Some(format!(in alloc;
         "{folder} exists already, or is where another output goes, or the folder that it is in does not exist; --unnamed wants a new folder"
     )?))
@@ -320,10 +366,10 @@ fn of_lost_place(alloc: Global, words: &ArgMatches<'_>) -> Result<Option<String>
 /// What is said of a folder for lost files that could not be made.
 fn of_lost_folder(
     alloc: Global,
-    words: &ArgMatches<'_>,
+    request: &ExtractRequest<'_>,
     reason: Option<Error>,
 ) -> Result<Option<String>, AllocError> {
-    let folder = Shown(words.get_str(UNNAMED).unwrap_or(""));
+    let folder = Shown(request.lost.unwrap_or(""));
     Ok(Some(format!(in alloc;
         "{folder}: {}; the files that have a name are written",
         Said(reason)
@@ -333,11 +379,10 @@ fn of_lost_folder(
 /// What is said of a path of `--only` that is that of no node.
 fn of_no_node(
     alloc: Global,
-    words: &ArgMatches<'_>,
+    request: &ExtractRequest<'_>,
     number: usize,
 ) -> Result<Option<String>, AllocError> {
-    let only = words.get_strs(ONLY).unwrap_or(&[]);
-    match only.get(number.saturating_sub(1)) {
+    match request.only.get(number.saturating_sub(1)) {
         Some(path) if !path.starts_with('/') => Ok(Some(format!(in alloc;
             "{} does not begin with /: the paths are those that list --paths prints",
             Shown(path)
@@ -353,11 +398,10 @@ fn of_no_node(
 /// What is said of a list that could not be read: its path, where there is but one, or where it can not be opened.
 fn of_list<F: Files>(
     alloc: Global,
-    words: &ArgMatches<'_>,
+    lists: &[&str],
     reason: Option<Error>,
     files: &F,
 ) -> Result<String, AllocError> {
-    let lists = words.get_strs(BLOCKS).unwrap_or(&[]);
     match lists {
         [only] => return format!(in alloc; "{}: {}", Shown(only), Said(reason)),
         _ => {}
@@ -370,44 +414,72 @@ fn of_list<F: Files>(
     format!(in alloc; "a list of --blocks: {}", Said(reason))
 }
 
+/// What is said of an error of `extract` alone; `None` of any other.
+fn of_extract(
+    alloc: Global,
+    refusal: &Refusal,
+    request: &ExtractRequest<'_>,
+    reason: Option<Error>,
+) -> Result<Option<String>, AllocError> {
+    match refusal {
+        Refusal::Folder => of_folder(alloc, request, reason),
+        Refusal::LostSpared => of_lost_place(alloc, request),
+        Refusal::LostFolder => of_lost_folder(alloc, request, reason),
+        Refusal::NoNode(number) => of_no_node(alloc, request, *number),
+        _ => Ok(None),
+    }
+}
+
+/// What is said of a known block after the last one.
+fn of_past_end(
+    alloc: Global,
+    request: &Request<'_>,
+    block: u32,
+) -> Result<Option<String>, AllocError> {
+    match last_of(request) {
+        Some(LastSource::Block(last)) => {
+            Ok(Some(format!(in alloc; "block {block} is known, so the last block is not {last}")?))
+        }
+        Some(LastSource::OfMaps) => {
+            Ok(Some(format!(in alloc;
+                "block {block} is known, so the disc does not end where the mapfiles do"
+            )?))
+        }
+        None => Ok(None),
+    }
+}
+
 /// What is said of an error that names no input, if anything.
 fn of_other<F: Files>(
     alloc: Global,
     refusal: &Refusal,
-    command: &str,
-    words: &ArgMatches<'_>,
+    request: &Request<'_>,
     files: &F,
 ) -> Result<Option<String>, AllocError> {
     let reason = files.reason();
-    let line = match refusal {
-        Refusal::Output => return of_output(alloc, words, reason),
-        Refusal::Spared => return why_spared(alloc, command, words, files),
-        Refusal::Folder => return of_folder(alloc, words, reason),
-        Refusal::LostSpared => return of_lost_place(alloc, words),
-        Refusal::LostFolder => return of_lost_folder(alloc, words, reason),
-        Refusal::NoNode(number) => return of_no_node(alloc, words, *number),
-        Refusal::ListOpen | Refusal::ListRead => of_list(alloc, words, reason, files)?,
-        Refusal::ListLine(_) => {
+    let line = match (refusal, request) {
+        (Refusal::Output, _) => return of_output(alloc, request, reason),
+        (Refusal::Spared, _) => return why_spared(alloc, request, files),
+        (Refusal::PastEnd(block), _) => return of_past_end(alloc, request, *block),
+        (Refusal::ListOpen | Refusal::ListRead, Request::Forget(forget)) => {
+            of_list(alloc, forget.lists.as_slice(), reason, files)?
+        }
+        (Refusal::ListLine(_), _) => {
             format!(in alloc;
                 "a list of --blocks has one decimal number a line, from 0 to 4194303"
             )?
         }
-        Refusal::LastRange => {
+        (Refusal::LastRange, _) => {
             format!(in alloc;
                 "the last block is from 513 to 4194303: the disc's size in bytes / 2048 - 1, or give --size"
             )?
         }
-        Refusal::PastEnd(block) => {
-            format!(in alloc;
-                "block {block} is known, so the last block is not {}",
-                asked_last(words)
-            )?
-        }
-        Refusal::Memory(_) => {
+        (Refusal::Memory(_), _) => {
             format!(in alloc;
                 "each known block is held in memory, 2048 bytes of it: free some, or take a larger machine"
             )?
         }
+        (_, Request::Extract(extract)) => return of_extract(alloc, refusal, extract, reason),
         _ => return Ok(None),
     };
     Ok(Some(line))
@@ -420,24 +492,25 @@ fn named_input(refusal: &Refusal) -> Option<usize> {
         | Refusal::Mapfile(number, _)
         | Refusal::ImageEnds(number, _)
         | Refusal::Reread(number, _)
+        | Refusal::OtherDisc(number, _, _)
         | Refusal::Open(number) => Some(*number),
         _ => None,
     }
 }
 
-/// The line for a person beneath that of an error of `command`, if there is more to say: which file it is, what the system said of it, and what to do next.
+/// The line for a person beneath that of an error of what was asked for, if there is more to say: which file it is, what the system said of it, and what to do
+/// next.
 pub fn second_line<F: Files>(
     alloc: Global,
     refusal: &Refusal,
-    command: &str,
-    words: &ArgMatches<'_>,
+    request: &Request<'_>,
     files: &F,
 ) -> Result<Option<String>, AllocError> {
     let Some(number) = named_input(refusal) else {
-        return of_other(alloc, refusal, command, words, files);
+        return of_other(alloc, refusal, request, files);
     };
-    let inputs = asked_inputs(alloc, words)?;
-    match inputs.get(number.saturating_sub(1)) {
+    let inputs = inputs_of(request);
+    match inputs.paths.get(number.saturating_sub(1)) {
         Some(input) => of_named_input(alloc, refusal, *input, files),
         None => Ok(None),
     }

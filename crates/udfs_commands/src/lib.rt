@@ -4,6 +4,7 @@
 
 mod command;
 mod hints;
+mod performing;
 mod printing;
 mod refusing;
 mod spared;

@@ -13,6 +13,7 @@ use udfs_common::files::Files;
 use udfs_common::refusal::Refusal;
 use udfs_reading::{DeviceFault, Sink};
 use udfs_words::last::EndFault;
+use udfs_words::request::Request;
 use udfs_words::words::{QUIET, VERBOSE, given_in, grammar};
 
 /// The line that says that memory ran out. Itself it takes no memory.
@@ -28,20 +29,12 @@ const NOTHING_TO_FORGET: &str = "\n  <--conflicts|--blocks <LIST>>\n";
 const NOT_TEXT: &[u8] =
     b"error: invalid UTF-8 was detected in one or more arguments\n\nFor more information, try '--help'.\n";
 
-/// The first argument after the program's name: that of the command, where the arguments are valid; `""` where there is none.
-pub fn command_of(line: &[String]) -> &str {
-    match line {
-        [_, command, ..] => command.as_str(),
-        _ => "",
-    }
-}
-
-/// Prints a second line beneath that of an error of `command`, where standard error is watched by a person or `--verbose` is given, and `--quiet` is not.
+/// Prints a second line beneath that of an error of what was asked for, where standard error is watched by a person or `--verbose` is given, and `--quiet` is not.
 /// It prints nothing where there is no more to say, or memory runs out.
 pub fn explain<F: Files, E: Sink>(
     alloc: Global,
     refusal: &Refusal,
-    command: &str,
+    request: &Request<'_>,
     words: &ArgMatches<'_>,
     files: &F,
     err: &mut E,
@@ -51,7 +44,7 @@ pub fn explain<F: Files, E: Sink>(
     if words.get_flag(QUIET) || !(files.is_watched() || words.get_flag(VERBOSE)) {
         return;
     }
-    if let Ok(Some(more)) = second_line(alloc, refusal, command, words, files)
+    if let Ok(Some(more)) = second_line(alloc, refusal, request, files)
         && let Ok(line) = format!(in alloc; "  {more}\n")
     {
         let _ = send(line.as_bytes(), err);

@@ -1,12 +1,11 @@
 //! Why what is there is not written over, for a person.
 
-use clap::ArgMatches;
 use std::alloc::{AllocError, Global};
 use udfs_common::files::Files;
 use udfs_common::guard::is_among;
 use udfs_common::shown::Shown;
 use udfs_files::Kind;
-use udfs_words::words::{FORCE, INPUTS, MANIFEST, MAPFILE, OUT, PAIRS};
+use udfs_words::request::{ImageRequest, Inputs, Request};
 
 /// Whether one of these paths leads where this one does.
 fn leads_there<F: Files>(
@@ -27,16 +26,14 @@ fn leads_there<F: Files>(
 /// Whether a path is that of an input, or of an image or a mapfile of one.
 fn is_input<F: Files>(
     alloc: Global,
-    words: &ArgMatches<'_>,
+    inputs: &Inputs<'_>,
     out: &str,
     files: &F,
 ) -> Result<bool, AllocError> {
-    let inputs = words.get_strs(INPUTS).unwrap_or(&[]);
-    if leads_there(alloc, inputs, out, files)? {
+    if leads_there(alloc, inputs.files.as_slice(), out, files)? {
         return Ok(true);
     }
-    let parts = words.get_strs(PAIRS).unwrap_or(&[]);
-    leads_there(alloc, parts, out, files)
+    leads_there(alloc, inputs.parts.as_slice(), out, files)
 }
 
 /// Whether nothing is at a path.
@@ -47,32 +44,52 @@ fn is_absent<F: Files>(alloc: Global, path: &str, files: &F) -> Result<bool, All
     }
 }
 
-/// What is said of an output of `command` that is not one of the inputs.
-fn of_kind(alloc: Global, command: &str, out: &str) -> Result<String, AllocError> {
-    let out = Shown(out);
-    match command {
-        "page" => format!(in alloc; "{out} is no page of udfsalvage: take another name"),
-        "reread" => format!(in alloc;
-            "{out} is no map of blocks to read again that this udfsalvage wrote: take another name"
-        ),
-        _ => format!(in alloc;
-            "{out} is a reading, and none of the inputs: take another name, or give --force"
-        ),
-    }
-}
-
-/// What is said of one output.
-fn of_output<F: Files>(
+/// What is said of a table file that is to go in the place of what is there.
+fn of_table<F: Files>(
     alloc: Global,
-    command: &str,
-    words: &ArgMatches<'_>,
+    inputs: &Inputs<'_>,
     out: &str,
     files: &F,
 ) -> Result<String, AllocError> {
-    if is_input(alloc, words, out, files)? {
+    if is_input(alloc, inputs, out, files)? {
         return of_input(alloc, out);
     }
-    of_kind(alloc, command, out)
+    format!(in alloc;
+        "{} is a reading, and none of the inputs: take another name, or give --force",
+        Shown(out)
+    )
+}
+
+/// What is said of a page that is to go in the place of what is there.
+fn of_page<F: Files>(
+    alloc: Global,
+    inputs: &Inputs<'_>,
+    out: &str,
+    files: &F,
+) -> Result<String, AllocError> {
+    if is_input(alloc, inputs, out, files)? {
+        return of_input(alloc, out);
+    }
+    format!(in alloc;
+        "{} is no page of udfsalvage: take another name",
+        Shown(out)
+    )
+}
+
+/// What is said of a map of blocks to read again that is to go in the place of what is there.
+fn of_map<F: Files>(
+    alloc: Global,
+    inputs: &Inputs<'_>,
+    out: &str,
+    files: &F,
+) -> Result<String, AllocError> {
+    if is_input(alloc, inputs, out, files)? {
+        return of_input(alloc, out);
+    }
+    format!(in alloc;
+        "{} is no map of blocks to read again that this udfsalvage wrote: take another name",
+        Shown(out)
+    )
 }
 
 /// What is said of an input that is to be written over.
@@ -86,14 +103,14 @@ fn of_input(alloc: Global, out: &str) -> Result<String, AllocError> {
 /// What is said of one output of `image`, where it is the reason why nothing is written; `None` where it is not.
 fn of_part<F: Files>(
     alloc: Global,
-    words: &ArgMatches<'_>,
+    request: &ImageRequest<'_>,
     out: &str,
     files: &F,
 ) -> Result<Option<String>, AllocError> {
-    if is_input(alloc, words, out, files)? {
+    if is_input(alloc, &request.inputs, out, files)? {
         return Ok(Some(of_input(alloc, out)?));
     }
-    if is_absent(alloc, out, files)? || words.get_flag(FORCE) {
+    if is_absent(alloc, out, files)? || request.force {
         return Ok(None);
     }
     Ok(Some(format!(in alloc;
@@ -105,32 +122,30 @@ fn of_part<F: Files>(
 /// What is said of the outputs of `image`.
 fn of_pair<F: Files>(
     alloc: Global,
-    words: &ArgMatches<'_>,
+    request: &ImageRequest<'_>,
     files: &F,
 ) -> Result<String, AllocError> {
-    let image = words.get_str(OUT).unwrap_or("");
-    let map = words.get_str(MAPFILE).unwrap_or("");
-    if let Some(line) = of_part(alloc, words, image, files)? {
+    if let Some(line) = of_part(alloc, request, request.image, files)? {
         return Ok(line);
     }
-    if let Some(line) = of_part(alloc, words, map, files)? {
+    if let Some(line) = of_part(alloc, request, request.mapfile, files)? {
         return Ok(line);
     }
     format!(in alloc;
         "{} and {} have to be two files, neither in the other's way, and no folders or devices",
-        Shown(image),
-        Shown(map)
+        Shown(request.image),
+        Shown(request.mapfile)
     )
 }
 
 /// What is said of a manifest.
 fn of_manifest<F: Files>(
     alloc: Global,
-    words: &ArgMatches<'_>,
+    inputs: &Inputs<'_>,
     out: &str,
     files: &F,
 ) -> Result<String, AllocError> {
-    if is_input(alloc, words, out, files)? {
+    if is_input(alloc, inputs, out, files)? {
         return of_input(alloc, out);
     }
     if is_absent(alloc, out, files)? {
@@ -142,24 +157,26 @@ fn of_manifest<F: Files>(
     format!(in alloc; "{} is no manifest: take another name", Shown(out))
 }
 
-/// Why `command` does not write over what is there, for a person; `None` where its arguments name no output.
+/// Why what is there is not written over, for a person; `None` where no output was asked for.
 pub fn why_spared<F: Files>(
     alloc: Global,
-    command: &str,
-    words: &ArgMatches<'_>,
+    request: &Request<'_>,
     files: &F,
 ) -> Result<Option<String>, AllocError> {
-    let line = match (
-        command,
-        words.get_str(OUT),
-        words.get_str(MAPFILE),
-        words.get_str(MANIFEST),
-    ) {
-        ("image", _, _, _) => of_pair(alloc, words, files)?,
-        (_, Some(out), _, _) => of_output(alloc, command, words, out, files)?,
-        (_, None, Some(mapfile), _) => of_output(alloc, command, words, mapfile, files)?,
-        (_, None, None, Some(manifest)) => of_manifest(alloc, words, manifest, files)?,
-        (_, None, None, None) => return Ok(None),
+    let line = match request {
+        Request::Merge(merge) => of_table(alloc, &merge.inputs, merge.out, files)?,
+        Request::Forget(forget) => of_table(alloc, &forget.inputs, forget.out, files)?,
+        Request::Image(image) => of_pair(alloc, image, files)?,
+        Request::Page(page) => of_page(alloc, &page.volume.inputs, page.out, files)?,
+        Request::Reread(reread) => match reread.mapfile {
+            Some(mapfile) => of_map(alloc, &reread.volume.inputs, mapfile, files)?,
+            None => return Ok(None),
+        },
+        Request::Extract(extract) => match extract.manifest {
+            Some(manifest) => of_manifest(alloc, &extract.volume.inputs, manifest, files)?,
+            None => return Ok(None),
+        },
+        Request::Report(_) | Request::List(_) | Request::Summary(_) => return Ok(None),
     };
     Ok(Some(line))
 }

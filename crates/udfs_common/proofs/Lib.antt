@@ -4,3 +4,5 @@ pub mod PlacingLemmas
 pub mod JobLemmas
 pub mod PutsLemmas
 pub mod OldClauses
+pub mod TakingLemmas
+pub mod VolumeLemmas

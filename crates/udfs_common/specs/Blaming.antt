@@ -4,9 +4,8 @@
 --     AreJudgedFor found reason paths sources     the same of sources of any kind, where `reason` says why one has no reading
 --     BlamesSource                      one of these sources could not be read, and what is said of it
 --     BlamesInput                       the same of the sources of some paths
---     InputsRefused                     the inputs of some paths were not joined: memory ran out, or one of them is shut, or could not be read
+--     InputsRefused                     the inputs of some paths were not joined: memory ran out, or one of them is shut, or could not be read, or is of another disc
 --     EndRefused                        no last block is known: the arguments give none, and it has to be given, or the inputs are to blame
---     first_refused, refusal_by         how it is found which reason a pair has
 use Rattle.std.specs.Prelude.{◌≡◌, ◌⊎◌, ⊤, ℕ, ◌+◌, ◌-◌, List, [], ◌∷◌, Option, Some, None, IfSome, length, slice_get, alloc_error, nat_eq, if◌then◌else◌, false, is_some, codes}
 use Rattle.clap.specs.Matches.{matched_of}
 use Rattle.clap.specs.declared.parser.matches.Found.{Found}
@@ -17,7 +16,8 @@ use Rattle.udfs_rescue.specs.declared.opening.PairFault.{PairFault}
 use Rattle.udfs_pairs.specs.declared.any_stored.AnyStored.{AnyStored}
 use Rattle.udfs_pairs.specs.declared.any_stored.AnyStored.TheVariants as any
 use Rattle.udfs_common.specs.Keeping.{Opens}
-use Rattle.udfs_common.specs.Refusing.{refusal_for, refusal_of, refused_pair}
+use Rattle.udfs_common.specs.OtherDiscs.{IsOtherDisc}
+use Rattle.udfs_common.specs.Refusing.{refusal_for, refusal_of}
 use Rattle.udfs_common.specs.declared.refusal.Refusal.{Refusal}
 use Rattle.udfs_common.specs.declared.refusal.Refusal.TheVariants.{Memory, NoLast, Open}
 use Rattle.udfs_common.specs.declared.sources.AnySource.{AnySource}
@@ -102,7 +102,7 @@ pub record BlamesInput {R I : Type 0} (found : List ℕ → Option (Option (List
 
 -- why the inputs of these paths were not joined
 pub record InputsRefused {R I : Type 0} (found : List ℕ → Option (Option (List ℕ))) (shut : List ℕ → Type 0) (remaining : AnySource R I → Option (List ℕ)) (faults : AnySource R I → ℕ) (paths : List InputPath) (refusal : Refusal) : Type 0 where
-  pub why : (refusal ≡ Memory alloc_error) ⊎ IsShut shut paths refusal ⊎ BlamesInput found remaining faults paths refusal
+  pub why : (refusal ≡ Memory alloc_error) ⊎ IsShut shut paths refusal ⊎ BlamesInput found remaining faults paths refusal ⊎ IsOtherDisc found remaining paths refusal
 
 -- neither a last block nor the size of a disc was given
 abbrev pub HasNoEnd : Found → Type 0
@@ -111,15 +111,3 @@ HasNoEnd words = (is_some (matched_of words (codes "last")) ≡ false) × (is_so
 -- why no last block is known
 abbrev pub EndRefused : {R I : Type 0} → (List ℕ → Option (Option (List ℕ))) → (List ℕ → Type 0) → (AnySource R I → Option (List ℕ)) → (AnySource R I → ℕ) → List InputPath → Found → Refusal → Type 0
 EndRefused found shut remaining faults paths words refusal = HasNoEnd words × ((refusal ≡ NoLast) ⊎ InputsRefused found shut remaining faults paths refusal)
-
--- the number of the first of these sources that is `Refused`, counted from `n`, and its reason
-abbrev pub first_refused : {R I : Type 0} → ℕ → List (AnySource R I) → Option (ℕ × PairFault)
-first_refused n [] = None
-first_refused n (Refused fault count ∷ sources) = Some (n, fault)
-first_refused n (File source ∷ sources) = first_refused (n + 1) sources
-first_refused n (Paired source ∷ sources) = first_refused (n + 1) sources
-
--- what is reported of an input's error: its own reason, where the input is the first one that is `Refused`
-abbrev pub refusal_by : Option (ℕ × PairFault) → InputError → Refusal
-refusal_by None error = refusal_of error
-refusal_by (Some refused) error = if nat_eq refused.0 error.input then refused_pair error.input refused.1 else refusal_of error

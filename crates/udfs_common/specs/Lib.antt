@@ -3,8 +3,11 @@ pub mod Spelling
 pub mod Keeping
 pub mod Guarding
 pub mod Sources
+pub mod OtherDiscs
+pub mod Taking
 pub mod Blaming
 pub mod Jobs
 pub mod Reach
 pub mod Puts
 pub mod Ends
+pub mod Volumes

@@ -9,7 +9,8 @@
 --     MayPut          what a crash in the middle shows: what was there, or such bytes in its place
 --     Puts            all of these: what a call with this result does with the path
 --     Spares          the same, whatever the call returned
-use Rattle.std.specs.Prelude.{◌≡◌, ◌≢◌, ◌⊎◌, ℕ, List, Some, Result, IfErr, OnOk}
+--     PutsAs          what a call does with the path whose result says more of the bytes
+use Rattle.std.specs.Prelude.{◌≡◌, ◌≢◌, ◌⊎◌, ℕ, List, Some, Result, IfErr, IfOk, OnErr, OnOk}
 use Rattle.udfs_files.specs.Disk.{Disk, After, Fails, IsOwn, Replaced, Same, SinkFails}
 use Rattle.udfs_common.specs.Keeping.{IsKept, IsTaken}
 use Rattle.udfs_common.specs.Reach.{Reach}
@@ -64,3 +65,9 @@ pub record Spares {F I M S W : Type 0} (reach : Reach F I M S W) (Is : List ℕ 
   pub any_moment : reach.files.tells → (reach.files.in_place old out → ⊥) → (c : Disk) → reach.files.left_since new (reach.files.moment old) c → After (reach.files.may_leave old) (MayPut reach Is out old) c
   pub stands : reach.files.tells → (reach.files.in_place old out → ⊥) → (reach.files.holds new (reach.files.real old out) ≡ reach.files.holds old (reach.files.real old out)) ⊎ HasPut reach Is out old new
   pub elsewhere : KeepsOthers reach out old new
+
+-- what a call with this result does with the path, where `Says` is what a result says of the bytes; after an error nothing has changed, or a call failed
+pub record PutsAs {A : Type 0} {F I M S W : Type 0} (reach : Reach F I M S W) (Says : A → List ℕ → Type 0) (out : List ℕ) (old new : F) (result : Result A Refusal) : Type 0 where
+  pub put : IfOk result (λ said. IsPut reach (Says said) out old new)
+  pub spares : Spares reach (λ bytes. (said : A) × Says said bytes) out old new
+  pub failed : OnErr result ((new ≡ old) ⊎ PutFails reach out old)

@@ -1,12 +1,12 @@
 -- What a command says of an input that could not be read, and of an output that was not put.
-use Rattle.std.specs.Prelude.{◌≡◌, ◌⊎◌, ℕ, Option, Some, None, alloc_error}
+use Rattle.std.specs.Prelude.{◌≡◌, ◌≢◌, ◌⊎◌, ℕ, Option, Some, None, alloc_error}
 use Rattle.udfs_reading.specs.declared.inputs.InputError.{InputError}
 use Rattle.udfs_reading.specs.declared.error.ReadingFault.{ReadingFault}
 use Rattle.udfs_reading.specs.declared.error.ReadingFault.TheVariants.{OutOfMemory}
 use Rattle.udfs_rescue.specs.declared.opening.PairFault.{PairFault}
 use Rattle.udfs_rescue.specs.declared.opening.PairFault.TheVariants as pair
 use Rattle.udfs_common.specs.declared.refusal.Refusal.{Refusal}
-use Rattle.udfs_common.specs.declared.refusal.Refusal.TheVariants.{Input, Mapfile, ImageEnds, Output, Unkept, Memory}
+use Rattle.udfs_common.specs.declared.refusal.Refusal.TheVariants.{Input, Mapfile, ImageEnds, OtherDisc, Output, Unkept, Memory}
 use Rattle.udfs_common.specs.declared.sources.AnySource.{AnySource}
 use Rattle.udfs_common.specs.declared.sources.AnySource.TheVariants.{File, Paired, Refused}
 
@@ -32,6 +32,15 @@ refusal_for (Some (Refused fault count)) error = refused_pair error.input fault
 refusal_for (Some (File source)) error = refusal_of error
 refusal_for (Some (Paired source)) error = refusal_of error
 refusal_for None error = refusal_of error
+
+-- no image is named as one of another disc
+abbrev pub NamesNoOther : Refusal → Type 0
+NamesNoOther refusal = (input blocks of : ℕ) → refusal ≢ OtherDisc input blocks of
+
+-- by the reason why the source has no reading, if there is one
+abbrev pub refusal_with : Option PairFault → InputError → Refusal
+refusal_with None error = refusal_of error
+refusal_with (Some fault) error = refused_pair error.input fault
 
 -- an output was not put: memory ran out, or a call failed
 abbrev pub IsUnput : Type 0 → Refusal → Type 0

@@ -5,6 +5,7 @@ ghost use Rattle.clap.specs.Matches.{found_of};
 ghost use Rattle.udfs_common.specs.Blaming.{EndRefused, InputsRefused};
 ghost use Rattle.udfs_common.specs.Ends.{HasNoLast, IsEnd};
 ghost use Rattle.udfs_common.specs.Reach.{found_at};
+ghost use Rattle.udfs_common.specs.Refusing.{NamesNoOther};
 ghost use Rattle.udfs_common.specs.declared.sources.AnySource.{AnySource};
 ghost use Rattle.udfs_words.specs.Asking.{EndsAt, EndsMap, IsLast, MapsEndAt};
 
@@ -18,6 +19,7 @@ use std::alloc::{AllocError, Global};
 use udfs_files::Kind;
 use udfs_reading::Source;
 use udfs_rescue::{MapError, Mapfile};
+use udfs_words::asking::asked_force;
 use udfs_words::input_path::InputPath;
 use udfs_words::last::{asked_last, is_whole, last_of_size};
 use udfs_words::request::LastSource;
@@ -100,14 +102,16 @@ fn size_by_maps<F: Files>(
 }
 
 /// Why no last block is known: where there are images alone, what is wrong with them, and else that it has to be given.
-fn no_end<F: Files>(alloc: Global, inputs: &[InputPath<'_>], files: &F) -> Refusal
+fn no_end<F: Files>(alloc: Global, inputs: &[InputPath<'_>], force: bool, files: &F) -> Refusal
     ensures told { (result ≢ Refusal.Output) × (result ≢ Refusal.Unkept) × (result ≢ Refusal.Spared) }
+    // By force none is named as one of another disc.
+    ensures forced { force ≡ true → NamesNoOther result }
     ensures blamed { (result ≡ Refusal.NoLast) ⊎ InputsRefused (λ path. F.holds files.now (F.real files.now path)) (F.shut files.now) (⟦<AnySource<F::Input, F::Image> as Source>⟧.remaining) (⟦<AnySource<F::Input, F::Image> as Source>⟧.faults) inputs.now result }
 {
     if let [InputPath::File(_), ..] = inputs {
         return Refusal::NoLast;
     }
-    if let Err(refusal) = joined(alloc, inputs, files) {
+    if let Err(refusal) = joined(alloc, inputs, force, files) {
         return refusal;
     }
     Refusal::NoLast
@@ -123,16 +127,19 @@ pub fn last_block<F: Files>(
     alloc: Global,
     source: LastSource,
     inputs: &[InputPath<'_>],
+    force: bool,
     files: &F,
 ) -> Result<u32, Refusal>
     ensures ends { IfOk result (IsEnd (found_at ⟦<F as Known>⟧.reach files.now) source inputs.now) }
     ensures blamed { IfErr result (HasNoLast ⟦<F as Known>⟧.reach files.now source inputs.now) }
+    // By force none is named as one of another disc.
+    ensures forced { IfErr result (λ refusal. force ≡ true → NamesNoOther refusal) }
 {
     match source {
         LastSource::Block(last) => Ok(last),
         LastSource::OfMaps => match size_by_maps(alloc, inputs, files) {
             Ok(Some(end)) => Ok(last_of_size(end)),
-            Ok(None) => Err(no_end(alloc, inputs, files)),
+            Ok(None) => Err(no_end(alloc, inputs, force, files)),
             Err(AllocError) => Err(Refusal::Memory(AllocError)),
         },
     }
@@ -160,7 +167,7 @@ pub fn asked_end<F: Files>(
     }
     match size_by_maps(alloc, inputs, files) {
         Ok(Some(size)) => Ok(last_of_size(size)),
-        Ok(None) => Err(no_end(alloc, inputs, files)),
+        Ok(None) => Err(no_end(alloc, inputs, asked_force(words), files)),
         Err(AllocError) => Err(Refusal::Memory(AllocError)),
     }
 }

@@ -14,3 +14,5 @@ pub mod refusal;
 pub mod shown;
 pub mod sources;
 pub mod stored_inputs;
+pub mod taking;
+pub mod volumes;

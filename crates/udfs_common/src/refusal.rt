@@ -28,6 +28,10 @@ pub enum Refusal {
     #[error("input {0}: image ends before block {1}")]
     ImageEnds(usize, u64),
 
+    /// An image, counted from 1 among the inputs, is of another disc: it disagrees with the inputs before it in this many blocks, of this many that both know.
+    #[error("input {0}: disagrees in {1} of {2} blocks")]
+    OtherDisc(usize, u32, u32),
+
     /// An input, counted from 1, cannot be opened.
     #[error("cannot open input {0}")]
     Open(usize),

@@ -1,19 +1,16 @@
 //! Inputs of both kinds, files and images with their mapfiles, as one kind of source.
 
-ghost use Rattle.std.specs.Prelude.{◌≡◌, ◌≢◌, ◌⊎◌, ◌≤◌, ◌<◌, ℕ, List, IfOk, IfErr, OnOk, OnErr, alloc_error, length, vec_len};
-ghost use Rattle.udfs_lattice.specs.Records.{join_all};
-ghost use Rattle.udfs_lattice.specs.Tables.{Table, join_tables};
-ghost use Rattle.udfs_reading.specs.Several.{TablesAre};
-ghost use Rattle.udfs_common.specs.Blaming.{AreJudged, BlamesSource, InputsRefused, IsJudged, MayBeShut, first_refused, refusal_by};
+ghost use Rattle.std.specs.Prelude.{◌≡◌, ◌≢◌, ◌⊎◌, ◌≤◌, ◌<◌, ℕ, IfOk, IfErr, OnErr, alloc_error, length, vec_len};
+ghost use Rattle.udfs_common.specs.Blaming.{AreJudged, InputsRefused, IsJudged, MayBeShut};
 ghost use Rattle.udfs_common.specs.Keeping.{Opens};
-ghost use Rattle.udfs_common.specs.Refusing.{refused_pair};
+ghost use Rattle.udfs_common.specs.Refusing.{NamesNoOther, refused_pair};
 ghost use Rattle.udfs_common.specs.Sources.{left_in, faults_in, IsPathOpened};
 
 use crate::files::Files;
 use crate::refusal::Refusal;
 use std::alloc::{AllocError, Global};
 use udfs_files::Stage;
-use udfs_reading::{DeviceFault, InputError, Source, Taker, take_inputs};
+use udfs_reading::{DeviceFault, InputError, Source};
 use udfs_rescue::{Image, Pair, PairFault, open_pair};
 use udfs_words::input_path::InputPath;
 
@@ -121,6 +118,7 @@ pub fn open_all<F: Files>(
     ensures each { IfOk result (λ sources. vec_len sources ≡ length paths.now) }
     ensures opened { IfOk result (λ sources. Opens (λ path. F.holds files.now (F.real files.now path)) (⟦<AnySource<F::Input, F::Image> as Source>⟧.remaining) paths.now sources.items) }
     ensures told { IfErr result (λ refusal. (refusal ≢ Refusal.Output) × (refusal ≢ Refusal.Unkept) × (refusal ≢ Refusal.Spared)) }
+    ensures no_other { IfErr result NamesNoOther }
     ensures named { IfErr result (λ refusal. (input : ℕ) → refusal ≡ Refusal.Open input → (0 < input) × (input ≤ length paths.now)) }
     ensures judged { IfOk result (λ sources. AreJudged (λ path. F.holds files.now (F.real files.now path)) paths.now sources.items) }
     ensures blamed { IfErr result (InputsRefused (λ path. F.holds files.now (F.real files.now path)) (F.shut files.now) (⟦<AnySource<F::Input, F::Image> as Source>⟧.remaining) (⟦<AnySource<F::Input, F::Image> as Source>⟧.faults) paths.now) }
@@ -143,51 +141,12 @@ pub fn open_all<F: Files>(
 pub fn refused_pair(input: usize, fault: PairFault) -> Refusal
     ensures value { result ≡ refused_pair input fault }
     ensures told { (result ≢ Refusal.Output) × (result ≢ Refusal.Unkept) × (result ≢ Refusal.Spared) }
+    ensures no_other { NamesNoOther result }
 {
     match fault {
         PairFault::Line(fault) => Refusal::Mapfile(input, fault),
         PairFault::Reading(error) => Refusal::from(InputError { input, error }),
         PairFault::EndsBefore(block) => Refusal::ImageEnds(input, block),
         PairFault::OutOfMemory => Refusal::Memory(AllocError),
-    }
-}
-
-/// The number of the first pair that has no reading, counted from 1, and the reason. No source after it is read, since each read of this one fails.
-fn first_refused<R: Source, I: Image>(sources: &[AnySource<R, I>]) -> Option<(usize, PairFault)>
-    ensures { result ≡ first_refused 1 sources.now }
-{
-    for (index, source) in sources.iter().enumerate() {
-        if let AnySource::Refused(fault, _) = source {
-            return Some((index + 1, *fault));
-        }
-    }
-    None
-}
-
-/// Why the inputs were not joined. A pair that has no reading is reported with its own reason.
-fn refusal_by(refused: Option<(usize, PairFault)>, error: InputError) -> Refusal
-    ensures value { result ≡ refusal_by refused error }
-    ensures told { (result ≢ Refusal.Output) × (result ≢ Refusal.Unkept) × (result ≢ Refusal.Spared) }
-{
-    match refused {
-        Some((input, fault)) if input == error.input => refused_pair(error.input, fault),
-        _ => Refusal::from(error),
-    }
-}
-
-/// Reads the inputs in order, and hands their blocks to the taker.
-pub fn take_sources<R: Source, I: Image, T: Taker<AnySource<R, I>>>(
-    sources: &mut [AnySource<R, I>],
-    taker: &mut T,
-) -> Result<(), Refusal>
-    ensures table { OnOk result ((ts : List Table) × TablesAre (⟦<AnySource<R, I> as Source>⟧.remaining) sources.old ts × ((t : Table) → T.took taker.old t → T.took taker.new (join_tables t (join_all ts)))) }
-    ensures told { IfErr result (λ refusal. (refusal ≢ Refusal.Output) × (refusal ≢ Refusal.Unkept) × (refusal ≢ Refusal.Spared)) }
-    // The first source that could not be read is named, and why.
-    ensures blamed { IfErr result (λ refusal. BlamesSource (⟦<AnySource<R, I> as Source>⟧.remaining) (⟦<AnySource<R, I> as Source>⟧.faults) sources.old sources.new refusal) }
-{
-    let refused = first_refused(sources);
-    match take_inputs(&mut *sources, taker) {
-        Ok(()) => Ok(()),
-        Err(error) => Err(refusal_by(refused, error)),
     }
 }

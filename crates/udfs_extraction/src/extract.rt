@@ -230,6 +230,7 @@ pub fn put_report<F: Files, O: Sink>(
 pub fn extract<F: Files, O: Sink>(
     alloc: Global,
     inputs: &[InputPath<'_>],
+    force: bool,
     last: u32,
     profile: Profile,
     only: &[&str],
@@ -255,7 +256,7 @@ pub fn extract<F: Files, O: Sink>(
     ensures outside { (q : List ℕ) → (¬ IsIn folder.now q) → F.holds files.new q ≡ F.holds files.old q }
     ensures crash { F.tells → Goes F.moment F.may_leave F.left_since files.old files.new (Spares folder.now (F.holds files.old)) }
 {
-    let table = match joined(alloc, inputs, files) {
+    let table = match joined(alloc, inputs, force, files) {
         Ok(table) => table,
         Err(refusal) => return Err(refusal),
     };

@@ -109,6 +109,7 @@ pub fn list_report<F: Files, O: Sink>(
 pub fn extract_listed<F: Files, O: Sink>(
     alloc: Global,
     inputs: &[InputPath<'_>],
+    force: bool,
     last: u32,
     profile: Profile,
     only: &[&str],
@@ -136,7 +137,7 @@ pub fn extract_listed<F: Files, O: Sink>(
     // Whatever the result, no file that was there is changed, and nothing outside of the folder, but at the manifest's place; nor by a crash at any moment.
     ensures spares { SparesListed F.tells F.holds F.may_leave F.moment F.left_since short folder.now place.now files.old files.new }
 {
-    let table = match joined(alloc, inputs, files) {
+    let table = match joined(alloc, inputs, force, files) {
         Ok(table) => table,
         Err(refusal) => return Err(refusal),
     };

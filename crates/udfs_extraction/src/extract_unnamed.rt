@@ -31,6 +31,7 @@ use udfs_words::input_path::InputPath;
 pub fn extract_with_lost<F: Files, O: Sink>(
     alloc: Global,
     inputs: &[InputPath<'_>],
+    force: bool,
     last: u32,
     profile: Profile,
     only: &[&str],
@@ -62,7 +63,7 @@ pub fn extract_with_lost<F: Files, O: Sink>(
     ensures spares { (mid : F) × (F.tells → Stay (F.holds files.old) (F.holds mid)) × ((q : List ℕ) → (¬ IsIn folder.now q) → F.holds mid q ≡ F.holds files.old q) ×
         (F.tells → Goes F.moment F.may_leave F.left_since files.old mid (Spares folder.now (F.holds files.old))) × SparesLost F.tells F.holds F.may_leave F.moment F.left_since lost.now mid files.new }
 {
-    let table = match joined(alloc, inputs, files) {
+    let table = match joined(alloc, inputs, force, files) {
         Ok(table) => table,
         Err(refusal) => return Err(refusal),
     };
@@ -93,6 +94,7 @@ pub fn extract_with_lost<F: Files, O: Sink>(
 pub fn extract_listed_with_lost<F: Files, O: Sink>(
     alloc: Global,
     inputs: &[InputPath<'_>],
+    force: bool,
     last: u32,
     profile: Profile,
     only: &[&str],
@@ -126,7 +128,7 @@ pub fn extract_listed_with_lost<F: Files, O: Sink>(
     // Whatever the result, no file that was there changes, and nothing outside of the two folders, but at the manifest's place; nor by a crash at any moment.
     ensures spares { (mid : F) × SparesListed F.tells F.holds F.may_leave F.moment F.left_since short folder.now place.now files.old mid × SparesLost F.tells F.holds F.may_leave F.moment F.left_since lost.now mid files.new }
 {
-    let table = match joined(alloc, inputs, files) {
+    let table = match joined(alloc, inputs, force, files) {
         Ok(table) => table,
         Err(refusal) => return Err(refusal),
     };

@@ -25,7 +25,7 @@ use udfs_common::refusal::Refusal;
 use udfs_common::sources::AnySource;
 use udfs_reading::{Sink, Source};
 use udfs_salvage::Fill;
-use udfs_words::asking::{asked_folder, asked_inputs, asked_manifest};
+use udfs_words::asking::{asked_folder, asked_force, asked_inputs, asked_manifest};
 use udfs_words::profile::asked_profile;
 use udfs_words::words::{FILL, INPUTS, MANIFEST, ONLY, PAIRS, SHORT_NAMES};
 
@@ -81,8 +81,9 @@ fn extract_words<F: Files, O: Sink>(
     let fill = asked_fill(words);
     let short = asked_short(words);
     let folder = asked_folder(words);
+    let force = asked_force(words);
     match extract(
-        alloc, paths, last, profile, only, fill, short, folder, files, out,
+        alloc, paths, force, last, profile, only, fill, short, folder, files, out,
     ) {
         Ok(good) => Ok(good),
         Err(refusal) => Err(refusal),
@@ -134,7 +135,7 @@ fn manifest_words<F: Files, O: Sink>(
     let paths = inputs.as_slice();
     let place = match asked_place(alloc, words, files) {
         Ok(place) => place,
-        Err(Refusal::Output) => return Err(unwritten(alloc, paths, files)),
+        Err(Refusal::Output) => return Err(unwritten(alloc, paths, asked_force(words), files)),
         Err(refusal) => return Err(refusal),
     };
     let last = match asked_end(alloc, words, paths, files) {
@@ -148,6 +149,7 @@ fn manifest_words<F: Files, O: Sink>(
     match extract_listed(
         alloc,
         paths,
+        asked_force(words),
         last,
         profile,
         only,

@@ -24,7 +24,9 @@ use udfs_common::inputs::unwritten;
 use udfs_common::refusal::Refusal;
 use udfs_common::sources::AnySource;
 use udfs_reading::{Sink, Source};
-use udfs_words::asking::{asked_folder, asked_inputs, asked_lost_folder, asked_manifest};
+use udfs_words::asking::{
+    asked_folder, asked_force, asked_inputs, asked_lost_folder, asked_manifest,
+};
 use udfs_words::profile::asked_profile;
 use udfs_words::words::{MANIFEST, ONLY, UNNAMED};
 
@@ -64,8 +66,9 @@ fn with_lost_words<F: Files, O: Sink>(
     let only = words.get_strs(ONLY).unwrap_or(&[ALL]);
     let fill = asked_fill(words);
     let short = asked_short(words);
+    let force = asked_force(words);
     match extract_with_lost(
-        alloc, paths, last, profile, only, fill, short, folder, lost, files, out,
+        alloc, paths, force, last, profile, only, fill, short, folder, lost, files, out,
     ) {
         Ok(good) => Ok(good),
         Err(refusal) => Err(refusal),
@@ -99,7 +102,7 @@ fn listed_with_lost_words<F: Files, O: Sink>(
     let paths = inputs.as_slice();
     let place = match asked_place(alloc, words, files) {
         Ok(place) => place,
-        Err(Refusal::Output) => return Err(unwritten(alloc, paths, files)),
+        Err(Refusal::Output) => return Err(unwritten(alloc, paths, asked_force(words), files)),
         Err(refusal) => return Err(refusal),
     };
     let folder = asked_folder(words);
@@ -118,6 +121,7 @@ fn listed_with_lost_words<F: Files, O: Sink>(
     match extract_listed_with_lost(
         alloc,
         paths,
+        asked_force(words),
         last,
         profile,
         only,

@@ -4,6 +4,7 @@ use Rattle.std.specs.Prelude.{is_some, nat_lt}
 use Rattle.std.proofs.lemmas.Bool.{lt-ltb}
 use Rattle.udfs_tag.specs.Fields.{part, uint8_at, uint16_at}
 use Rattle.udfs_osta.specs.Names.{units_of}
+use Rattle.udfs_volume.specs.declared.profiles.Profile.{Profile}
 use Rattle.udfs_file.specs.declared.cells.Cell.{Cell}
 use Rattle.udfs_file.specs.declared.directories.DirEnd.{DirEnd}
 use Rattle.udfs_file.specs.declared.directories.DirEntry.{DirEntry}
@@ -11,7 +12,7 @@ use Rattle.udfs_file.specs.declared.cursors.Step as cursor
 use Rattle.udfs_file.specs.declared.cursors.Step.TheVariants.{Id}
 use Rattle.udfs_file.specs.declared.pieces.Pieces.{Pieces}
 use Rattle.udfs_file.specs.Identifiers.{Identifier, Rest, Step, AtRest, One}
-use Rattle.udfs_file.specs.Fronts.{directory, directory_entries, entry_with, identifier_in, is_listed, listed_entries, missing_in, fault_in, IsEndOf}
+use Rattle.udfs_file.specs.Fronts.{directory_by, entries_by, entry_with, identifier_in, is_listed, listed_entries, missing_in, fault_in, IsEndBy}
 use Rattle.udfs_file.specs.Steps.{StepsTo, IsDescriptor, bytes_of}
 use Rattle.udfs_file.proofs.FrontLemmas.{listed_in}
 
@@ -19,13 +20,14 @@ use Rattle.udfs_file.proofs.FrontLemmas.{listed_in}
 abbrev some_listed : List Identifier → Bool
 some_listed ids = nat_lt 0 (length (listed_entries ids))
 
--- the cells that are left end as all do, and there is an entry so far or among them exactly if there is one at all
-pub record IsEnding (cells left : List Cell) (so_far : Bool) : Type 0 where
-  pub lists : (so_far || nat_lt 0 (length (directory_entries left))) ≡ nat_lt 0 (length (directory_entries cells))
-  pub rest : (directory left).rest ≡ (directory cells).rest
+module _ (rules : Profile) where
+  -- the cells that are left end as all do, and there is an entry so far or among them exactly if there is one at all
+  pub record IsEnding (cells left : List Cell) (so_far : Bool) : Type 0 where
+    pub lists : (so_far || nat_lt 0 (length (entries_by rules left))) ≡ nat_lt 0 (length (entries_by rules cells))
+    pub rest : (directory_by rules left).rest ≡ (directory_by rules cells).rest
 
-pub ending_start : (cells left : List Cell) → left ≡ cells → IsEnding cells left false
-ending_start cells left e = record { lists = ap (λ cs. nat_lt 0 (length (directory_entries cs))) e; rest = ap (λ cs. (directory cs).rest) e }
+  pub ending_start : (cells left : List Cell) → left ≡ cells → IsEnding cells left false
+  ending_start cells left e = record { lists = ap (λ cs. nat_lt 0 (length (entries_by rules cs))) e; rest = ap (λ cs. (directory_by rules cs).rest) e }
 
 -- the entry of what was read
 abbrev listed_of : Step → Option DirEntry
@@ -58,37 +60,38 @@ or_true : (a : Bool) → (a || true) ≡ true
 or_true true = refl
 or_true false = refl
 
-next : (cells left behind : List Cell) (so_far : Bool) (view : Pieces) → IsEnding cells left so_far → StepsTo (directory left) (Id view) (directory behind)
-    → IsEnding cells behind (so_far || is_listed (bytes_of view))
-next cells left behind so_far view f g = record {
-  lists = or_assoc so_far (is_listed (bytes_of view)) (nat_lt 0 (length (directory_entries behind)))
-      ∙ ap (λ b. so_far || (b || nat_lt 0 (length (directory_entries behind)))) (sym (entry_listed (bytes_of view) id d.is))
-      ∙ ap (λ b. so_far || b) (sym (first_or_later id.listed id.size (directory behind).identifiers))
-      ∙ ap (λ ids. so_far || some_listed ids) (sym g.2) ∙ f.lists;
-  rest = sym g.3 ∙ f.rest;
-}
-  where
-    id : Identifier
-    id = g.0
+module _ (rules : Profile) where
+  next : (cells left behind : List Cell) (so_far : Bool) (view : Pieces) → IsEnding rules cells left so_far → StepsTo (directory_by rules left) (Id view) (directory_by rules behind)
+      → IsEnding rules cells behind (so_far || is_listed (bytes_of view))
+  next cells left behind so_far view f g = record {
+    lists = or_assoc so_far (is_listed (bytes_of view)) (nat_lt 0 (length (entries_by rules behind)))
+        ∙ ap (λ b. so_far || (b || nat_lt 0 (length (entries_by rules behind)))) (sym (entry_listed (bytes_of view) id d.is))
+        ∙ ap (λ b. so_far || b) (sym (first_or_later id.listed id.size (directory_by rules behind).identifiers))
+        ∙ ap (λ ids. so_far || some_listed ids) (sym g.2) ∙ f.lists;
+    rest = sym g.3 ∙ f.rest;
+  }
+    where
+      id : Identifier
+      id = g.0
 
-    d : IsDescriptor (bytes_of view) id
-    d = g.1
+      d : IsDescriptor (bytes_of view) id
+      d = g.1
 
-pub ending_listed : (cells left behind : List Cell) (so_far : Bool) (told : cursor.Step) (view : Pieces) → IsEnding cells left so_far → StepsTo (directory left) told (directory behind)
-    → told ≡ Id view → is_listed (bytes_of view) ≡ true → IsEnding cells behind true
-ending_listed cells left behind so_far told view f g t e = subst (IsEnding cells behind) (ap (λ b. so_far || b) e ∙ or_true so_far)
-    (next cells left behind so_far view f (subst (λ (s : cursor.Step). StepsTo (directory left) s (directory behind)) t g))
+  pub ending_listed : (cells left behind : List Cell) (so_far : Bool) (told : cursor.Step) (view : Pieces) → IsEnding rules cells left so_far → StepsTo (directory_by rules left) told (directory_by rules behind)
+      → told ≡ Id view → is_listed (bytes_of view) ≡ true → IsEnding rules cells behind true
+  ending_listed cells left behind so_far told view f g t e = subst (IsEnding rules cells behind) (ap (λ b. so_far || b) e ∙ or_true so_far)
+      (next cells left behind so_far view f (subst (λ (s : cursor.Step). StepsTo (directory_by rules left) s (directory_by rules behind)) t g))
 
-pub ending_unlisted : (cells left behind : List Cell) (so_far : Bool) (told : cursor.Step) (view : Pieces) → IsEnding cells left so_far → StepsTo (directory left) told (directory behind)
-    → told ≡ Id view → is_listed (bytes_of view) ≡ false → IsEnding cells behind so_far
-ending_unlisted cells left behind so_far told view f g t e = subst (IsEnding cells behind) (ap (λ b. so_far || b) e ∙ or_false so_far)
-    (next cells left behind so_far view f (subst (λ (s : cursor.Step). StepsTo (directory left) s (directory behind)) t g))
+  pub ending_unlisted : (cells left behind : List Cell) (so_far : Bool) (told : cursor.Step) (view : Pieces) → IsEnding rules cells left so_far → StepsTo (directory_by rules left) told (directory_by rules behind)
+      → told ≡ Id view → is_listed (bytes_of view) ≡ false → IsEnding rules cells behind so_far
+  ending_unlisted cells left behind so_far told view f g t e = subst (IsEnding rules cells behind) (ap (λ b. so_far || b) e ∙ or_false so_far)
+      (next cells left behind so_far view f (subst (λ (s : cursor.Step). StepsTo (directory_by rules left) s (directory_by rules behind)) t g))
 
--- where no descriptor is left, it has ended
-pub ended : (cells left : List Cell) (so_far : Bool) (end : DirEnd) (rest : Rest) → IsEnding cells left so_far → (directory left).identifiers ≡ [] → (directory left).rest ≡ rest
-    → end.lists ≡ so_far → end.missing ≡ missing_in rest → end.fault ≡ fault_in rest → IsEndOf end cells
-ended cells left so_far end rest f none r l m q = record {
-  lists = l ∙ sym (or_false so_far) ∙ ap (λ ids. so_far || some_listed ids) (sym none) ∙ f.lists;
-  missing = m ∙ ap missing_in (sym r ∙ f.rest);
-  fault = q ∙ ap fault_in (sym r ∙ f.rest);
-}
+  -- where no descriptor is left, it has ended
+  pub ended : (cells left : List Cell) (so_far : Bool) (end : DirEnd) (rest : Rest) → IsEnding rules cells left so_far → (directory_by rules left).identifiers ≡ [] → (directory_by rules left).rest ≡ rest
+      → end.lists ≡ so_far → end.missing ≡ missing_in rest → end.fault ≡ fault_in rest → IsEndBy rules end cells
+  ended cells left so_far end rest f none r l m q = record {
+    lists = l ∙ sym (or_false so_far) ∙ ap (λ ids. so_far || some_listed ids) (sym none) ∙ f.lists;
+    missing = m ∙ ap missing_in (sym r ∙ f.rest);
+    fault = q ∙ ap fault_in (sym r ∙ f.rest);
+  }

@@ -9,7 +9,8 @@ use Rattle.udfs_osta.specs.Parts.{IsPathPart}
 use Rattle.udfs_osta.specs.declared.names.NameFault.{NameFault}
 use Rattle.udfs_osta.proofs.PublicLaws.{escaped_name_is_path_part}
 use Rattle.udfs_tag.specs.Fields.{uint8_at, uint16_at, long_ad_at, part}
-use Rattle.udfs_file.specs.Fronts.{directory, directory_entries, entry_with, identifier_in, is_listed, listed_entries, marks_of, step, ReadsAs, value}
+use Rattle.udfs_volume.specs.declared.profiles.Profile.{Profile}
+use Rattle.udfs_file.specs.Fronts.{directory_by, entries_by, entry_with, identifier_in, is_listed, listed_entries, marks_of, step_by, ReadsBy, value}
 use Rattle.udfs_file.specs.Identifiers.{Identifier, Rest, Step, One}
 use Rattle.udfs_file.specs.Laws.{NamesAreParts}
 use Rattle.udfs_file.specs.declared.cells.Cell.{Cell}
@@ -49,17 +50,18 @@ named_in bytes = go (is_listed bytes)
     go true id e d listed = named_with (length bytes) bytes name (units_of name) refl id e d listed
     go false id e d listed = absurd (let x : One (record { size = length bytes; listed = None }) ≡ One id = e in let y : id.listed ≡ None = cc in let z : None ≡ Some d = sym y ∙ listed in let w : ⊥ = cc in w)
 
-named_step : (cs : List Cell) → StepsWell (step cs)
-named_step cs id e = let s : StepOne cs id = step_one cs id e in named_in (map value (take id.size cs)) id s.is
+module _ (rules : Profile) where
+  named_step : (cs : List Cell) → StepsWell (step_by rules cs)
+  named_step cs id e = let s : StepOne rules cs id = step_one rules cs id e in named_in (map value (take id.size cs)) id s.is
 
-all_named : (ids : List Identifier) (rest : Rest) (cs : List Cell) → ReadsAs cs ids rest → (d : DirEntry) → Includes (listed_entries ids) d → IsPathPart (escaped d.name)
-all_named [] rest cs r d i = absurd i
-all_named (id ∷ ids) rest cs (e, r) d i = go (all_named ids rest (drop id.size cs) r d) id.listed refl i
-  where
-    go : (Includes (listed_entries ids) d → IsPathPart (escaped d.name)) → (o : Option DirEntry) → id.listed ≡ o → Includes (cons_option o (listed_entries ids)) d → IsPathPart (escaped d.name)
-    go ih None q j = ih j
-    go ih (Some x) q (inl same) = named_step cs id e d (q ∙ ap Some same)
-    go ih (Some x) q (inr j) = ih j
+  all_named : (ids : List Identifier) (rest : Rest) (cs : List Cell) → ReadsBy rules cs ids rest → (d : DirEntry) → Includes (listed_entries ids) d → IsPathPart (escaped d.name)
+  all_named [] rest cs r d i = absurd i
+  all_named (id ∷ ids) rest cs (e, r) d i = go (all_named ids rest (drop id.size cs) r d) id.listed refl i
+    where
+      go : (Includes (listed_entries ids) d → IsPathPart (escaped d.name)) → (o : Option DirEntry) → id.listed ≡ o → Includes (cons_option o (listed_entries ids)) d → IsPathPart (escaped d.name)
+      go ih None q j = ih j
+      go ih (Some x) q (inl same) = named_step cs id e d (q ∙ ap Some same)
+      go ih (Some x) q (inr j) = ih j
 
 pub names_are_parts : NamesAreParts
-names_are_parts cs d i = all_named (directory cs).identifiers (directory cs).rest cs (directory_reads cs) d (included (directory_entries cs) d i)
+names_are_parts rules cs d i = all_named rules (directory_by rules cs).identifiers (directory_by rules cs).rest cs (directory_reads rules cs) d (included (entries_by rules cs) d i)

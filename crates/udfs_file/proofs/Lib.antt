@@ -31,6 +31,7 @@ pub mod SampleLaw
 pub mod EntryNames
 pub mod StandardBodies
 pub mod StandardDirectories
+pub mod MovedTags
 pub mod PublicLaws
 pub mod PortionCells
 mod StorePieces

@@ -2,9 +2,10 @@
 use Rattle.std.proofs.Common.{◌≡◌, refl, sym, ◌∙◌, ap, subst, ℕ, ◌+◌, Bool, true, false, List, [], ◌∷◌, ◌++◌, length, take, drop, map, cond, ◌||◌, Option, Some, None, nat_lt}
 use Rattle.std.specs.Prelude.{zero, suc}
 use Rattle.std.specs.List.{AllZip, cons_option}
+use Rattle.udfs_volume.specs.declared.profiles.Profile.{Profile}
 use Rattle.udfs_file.specs.declared.cells.Cell.{Cell}
 use Rattle.udfs_file.specs.declared.cells.Cell.TheVariants.{Byte, Gap}
-use Rattle.udfs_file.specs.Fronts.{first_missing, value, holder_of, identifier_size, or_stop, checked_identifier, sized_identifier, step, DirectoryText, read_on, read_from, directory, listed_entries, directory_entries}
+use Rattle.udfs_file.specs.Fronts.{first_missing, value, holder_of, identifier_size, or_stop, checked_by, sized_by, step_by, DirectoryText, read_on, read_from, directory_by, listed_entries, entries_by}
 use Rattle.udfs_file.specs.declared.directories.DirEntry.{DirEntry}
 use Rattle.udfs_file.specs.Identifiers.{Identifier}
 use Rattle.udfs_file.specs.Identifiers.{Stopped, Wrong}
@@ -68,88 +69,89 @@ holder-head : (x : Cell) (xs ys : List Cell) → holder_of (x ∷ xs) ≡ holder
 holder-head (Byte x o) xs ys = refl
 holder-head (Gap n) xs ys = refl
 
-pub step_is : (xs ys : List Cell) → AllZip IsCellOf xs ys → StepIs (step xs) (step ys)
-unfolding step
-step_is [] [] h = step_same refl
-step_is [] (y ∷ ys) h = absurd h
-step_is (x ∷ xs) [] h = absurd h
-step_is (x ∷ xs) (y ∷ ys) h = short (nat_lt (length (y ∷ ys)) 38) refl
-  where
-    some : List Cell
-    some = x ∷ xs
+module _ (rules : Profile) where
+  pub step_is : (xs ys : List Cell) → AllZip IsCellOf xs ys → StepIs (step_by rules xs) (step_by rules ys)
+  unfolding step_by
+  step_is [] [] h = step_same refl
+  step_is [] (y ∷ ys) h = absurd h
+  step_is (x ∷ xs) [] h = absurd h
+  step_is (x ∷ xs) (y ∷ ys) h = short (nat_lt (length (y ∷ ys)) 38) refl
+    where
+      some : List Cell
+      some = x ∷ xs
 
-    whole : List Cell
-    whole = y ∷ ys
+      whole : List Cell
+      whole = y ∷ ys
 
-    long : List Cell → List Cell → Step
-    long all head = sized_identifier all (identifier_size (map value head))
+      long : List Cell → List Cell → Step
+      long all head = sized_by rules all (identifier_size (map value head))
 
-    same_length : length some ≡ length whole
-    same_length = AllZip-length some whole h
+      same_length : length some ≡ length whole
+      same_length = AllZip-length some whole h
 
-    same_holder : x ≡ y → holder_of some ≡ holder_of whole
-    same_holder q = ap (λ c. holder_of (c ∷ xs)) q ∙ holder-head y xs ys
+      same_holder : x ≡ y → holder_of some ≡ holder_of whole
+      same_holder q = ap (λ c. holder_of (c ∷ xs)) q ∙ holder-head y xs ys
 
-    sized : x ≡ y → (size : ℕ) → StepIs (sized_identifier some size) (sized_identifier whole size)
-    sized q size = fits (nat_lt 2048 size || nat_lt (length whole) size) refl
-      where
-        tail : List Cell → Step
-        tail all = or_stop (first_missing (take size all)) (checked_identifier (holder_of all) (map value (take size all)))
+      sized : x ≡ y → (size : ℕ) → StepIs (sized_by rules some size) (sized_by rules whole size)
+      sized q size = fits (nat_lt 2048 size || nat_lt (length whole) size) refl
+        where
+          tail : List Cell → Step
+          tail all = or_stop (first_missing (take size all)) (checked_by rules (holder_of all) (map value (take size all)))
 
-        fits : (b : Bool) → (nat_lt 2048 size || nat_lt (length whole) size) ≡ b → StepIs (sized_identifier some size) (sized_identifier whole size)
-        fits true e = step_same (ap (λ b. cond b (AtRest (Wrong Cut)) (tail some)) (ap (λ n. nat_lt 2048 size || nat_lt n size) same_length ∙ e)
-            ∙ sym (ap (λ b. cond b (AtRest (Wrong Cut)) (tail whole)) e))
-        fits false e = from (stopped_or (take size some) (take size whole) (AllZip-take size some whole h)
-            (λ cs. checked_identifier (holder_of some) (map value cs)) (λ cs. checked_identifier (holder_of whole) (map value cs))
-            (λ p. step_same (λ i. checked_identifier (same_holder q i) (map value (p i)))))
-          where
-            first : sized_identifier some size ≡ tail some
-            first = ap (λ b. cond b (AtRest (Wrong Cut)) (tail some)) (ap (λ n. nat_lt 2048 size || nat_lt n size) same_length ∙ e)
+          fits : (b : Bool) → (nat_lt 2048 size || nat_lt (length whole) size) ≡ b → StepIs (sized_by rules some size) (sized_by rules whole size)
+          fits true e = step_same (ap (λ b. cond b (AtRest (Wrong Cut)) (tail some)) (ap (λ n. nat_lt 2048 size || nat_lt n size) same_length ∙ e)
+              ∙ sym (ap (λ b. cond b (AtRest (Wrong Cut)) (tail whole)) e))
+          fits false e = from (stopped_or (take size some) (take size whole) (AllZip-take size some whole h)
+              (λ cs. checked_by rules (holder_of some) (map value cs)) (λ cs. checked_by rules (holder_of whole) (map value cs))
+              (λ p. step_same (λ i. checked_by rules (same_holder q i) (map value (p i)))))
+            where
+              first : sized_by rules some size ≡ tail some
+              first = ap (λ b. cond b (AtRest (Wrong Cut)) (tail some)) (ap (λ n. nat_lt 2048 size || nat_lt n size) same_length ∙ e)
 
-            second : sized_identifier whole size ≡ tail whole
-            second = ap (λ b. cond b (AtRest (Wrong Cut)) (tail whole)) e
+              second : sized_by rules whole size ≡ tail whole
+              second = ap (λ b. cond b (AtRest (Wrong Cut)) (tail whole)) e
 
-            from : StepIs (tail some) (tail whole) → StepIs (sized_identifier some size) (sized_identifier whole size)
-            from (step_same p) = step_same (first ∙ p ∙ sym second)
-            from (step_stop n p) = step_stop n (first ∙ p)
+              from : StepIs (tail some) (tail whole) → StepIs (sized_by rules some size) (sized_by rules whole size)
+              from (step_same p) = step_same (first ∙ p ∙ sym second)
+              from (step_stop n p) = step_stop n (first ∙ p)
 
-    head_same : (take 38 some ≡ take 38 whole) → x ≡ y
-    head_same p = cc
+      head_same : (take 38 some ≡ take 38 whole) → x ≡ y
+      head_same p = cc
 
-    short : (b : Bool) → nat_lt (length whole) 38 ≡ b → StepIs (step some) (step whole)
-    short true e = step_same (ap (λ b. cond b (AtRest (Wrong Cut)) (or_stop (first_missing (take 38 some)) (long some (take 38 some)))) (ap (λ n. nat_lt n 38) same_length ∙ e)
-        ∙ sym (ap (λ b. cond b (AtRest (Wrong Cut)) (or_stop (first_missing (take 38 whole)) (long whole (take 38 whole)))) e))
-    short false e = from (stopped_or (take 38 some) (take 38 whole) (AllZip-take 38 some whole h) (long some) (long whole) both)
-      where
-        both : take 38 some ≡ take 38 whole → StepIs (long some (take 38 some)) (long whole (take 38 whole))
-        both p = subst (λ z. StepIs (long some z) (long whole (take 38 whole))) (sym p) (sized (head_same p) (identifier_size (map value (take 38 whole))))
+      short : (b : Bool) → nat_lt (length whole) 38 ≡ b → StepIs (step_by rules some) (step_by rules whole)
+      short true e = step_same (ap (λ b. cond b (AtRest (Wrong Cut)) (or_stop (first_missing (take 38 some)) (long some (take 38 some)))) (ap (λ n. nat_lt n 38) same_length ∙ e)
+          ∙ sym (ap (λ b. cond b (AtRest (Wrong Cut)) (or_stop (first_missing (take 38 whole)) (long whole (take 38 whole)))) e))
+      short false e = from (stopped_or (take 38 some) (take 38 whole) (AllZip-take 38 some whole h) (long some) (long whole) both)
+        where
+          both : take 38 some ≡ take 38 whole → StepIs (long some (take 38 some)) (long whole (take 38 whole))
+          both p = subst (λ z. StepIs (long some z) (long whole (take 38 whole))) (sym p) (sized (head_same p) (identifier_size (map value (take 38 whole))))
 
-        first : step some ≡ or_stop (first_missing (take 38 some)) (long some (take 38 some))
-        first = ap (λ b. cond b (AtRest (Wrong Cut)) (or_stop (first_missing (take 38 some)) (long some (take 38 some)))) (ap (λ n. nat_lt n 38) same_length ∙ e)
+          first : step_by rules some ≡ or_stop (first_missing (take 38 some)) (long some (take 38 some))
+          first = ap (λ b. cond b (AtRest (Wrong Cut)) (or_stop (first_missing (take 38 some)) (long some (take 38 some)))) (ap (λ n. nat_lt n 38) same_length ∙ e)
 
-        second : step whole ≡ or_stop (first_missing (take 38 whole)) (long whole (take 38 whole))
-        second = ap (λ b. cond b (AtRest (Wrong Cut)) (or_stop (first_missing (take 38 whole)) (long whole (take 38 whole)))) e
+          second : step_by rules whole ≡ or_stop (first_missing (take 38 whole)) (long whole (take 38 whole))
+          second = ap (λ b. cond b (AtRest (Wrong Cut)) (or_stop (first_missing (take 38 whole)) (long whole (take 38 whole)))) e
 
-        from : StepIs (or_stop (first_missing (take 38 some)) (long some (take 38 some))) (or_stop (first_missing (take 38 whole)) (long whole (take 38 whole))) → StepIs (step some) (step whole)
-        from (step_same p) = step_same (first ∙ p ∙ sym second)
-        from (step_stop n p) = step_stop n (first ∙ p)
+          from : StepIs (or_stop (first_missing (take 38 some)) (long some (take 38 some))) (or_stop (first_missing (take 38 whole)) (long whole (take 38 whole))) → StepIs (step_by rules some) (step_by rules whole)
+          from (step_same p) = step_same (first ∙ p ∙ sym second)
+          from (step_stop n p) = step_stop n (first ∙ p)
 
--- the descriptors are a beginning of the whole's
-part_read : (n : ℕ) (xs ys : List Cell) → AllZip IsCellOf xs ys → IsBeginningOf (read_from n xs).identifiers (read_from n ys).identifiers
-part_read zero xs ys h = ([], refl)
-part_read (suc n) xs ys h = go (λ k. part_read n (drop k xs) (drop k ys) (AllZip-drop k xs ys h)) (step_is xs ys h)
-  where
-    next : List Cell → ℕ → DirectoryText
-    next cs size = read_from n (drop size cs)
+  -- the descriptors are a beginning of the whole's
+  part_read : (n : ℕ) (xs ys : List Cell) → AllZip IsCellOf xs ys → IsBeginningOf (read_from rules n xs).identifiers (read_from rules n ys).identifiers
+  part_read zero xs ys h = ([], refl)
+  part_read (suc n) xs ys h = go (λ k. part_read n (drop k xs) (drop k ys) (AllZip-drop k xs ys h)) (step_is xs ys h)
+    where
+      next : List Cell → ℕ → DirectoryText
+      next cs size = read_from rules n (drop size cs)
 
-    same : ((k : ℕ) → IsBeginningOf (next xs k).identifiers (next ys k).identifiers) → (t : Step) → IsBeginningOf (read_on t (next xs)).identifiers (read_on t (next ys)).identifiers
-    same ih (AtRest r) = ([], refl)
-    same ih (One id) = ((ih id.size).0, ap (λ x. id ∷ x) (ih id.size).1)
+      same : ((k : ℕ) → IsBeginningOf (next xs k).identifiers (next ys k).identifiers) → (t : Step) → IsBeginningOf (read_on t (next xs)).identifiers (read_on t (next ys)).identifiers
+      same ih (AtRest r) = ([], refl)
+      same ih (One id) = ((ih id.size).0, ap (λ x. id ∷ x) (ih id.size).1)
 
-    go : ((k : ℕ) → IsBeginningOf (next xs k).identifiers (next ys k).identifiers) → StepIs (step xs) (step ys)
-        → IsBeginningOf (read_on (step xs) (next xs)).identifiers (read_on (step ys) (next ys)).identifiers
-    go ih (step_same p) = subst (λ t. IsBeginningOf (read_on t (next xs)).identifiers (read_on (step ys) (next ys)).identifiers) (sym p) (same ih (step ys))
-    go ih (step_stop b p) = subst (λ t. IsBeginningOf (read_on t (next xs)).identifiers (read_on (step ys) (next ys)).identifiers) (sym p) ((read_on (step ys) (next ys)).identifiers, refl)
+      go : ((k : ℕ) → IsBeginningOf (next xs k).identifiers (next ys k).identifiers) → StepIs (step_by rules xs) (step_by rules ys)
+          → IsBeginningOf (read_on (step_by rules xs) (next xs)).identifiers (read_on (step_by rules ys) (next ys)).identifiers
+      go ih (step_same p) = subst (λ t. IsBeginningOf (read_on t (next xs)).identifiers (read_on (step_by rules ys) (next ys)).identifiers) (sym p) (same ih (step_by rules ys))
+      go ih (step_stop b p) = subst (λ t. IsBeginningOf (read_on t (next xs)).identifiers (read_on (step_by rules ys) (next ys)).identifiers) (sym p) ((read_on (step_by rules ys) (next ys)).identifiers, refl)
 
 pub listed-append : (xs ys : List Identifier) → listed_entries (xs ++ ys) ≡ listed_entries xs ++ listed_entries ys
 listed-append [] ys = refl
@@ -160,22 +162,23 @@ listed-append (x ∷ xs) ys = go (listed-append xs ys) x.listed
     go ih None = ih
     go ih (Some e) = ap (λ z. e ∷ z) ih
 
--- over a part of a body the entries are a beginning of the whole's
-pub part_front : (xs ys : List Cell) → AllZip IsCellOf xs ys → IsBeginningOf (directory_entries xs) (directory_entries ys)
-unfolding directory
-part_front xs ys h = go (part_read (length ys + 1) xs ys h)
-  where
-    ids : ℕ → List Cell → List Identifier
-    ids n cs = (read_from n cs).identifiers
+module _ (rules : Profile) where
+  -- over a part of a body the entries are a beginning of the whole's
+  pub part_front : (xs ys : List Cell) → AllZip IsCellOf xs ys → IsBeginningOf (entries_by rules xs) (entries_by rules ys)
+  unfolding directory_by
+  part_front xs ys h = go (part_read rules (length ys + 1) xs ys h)
+    where
+      ids : ℕ → List Cell → List Identifier
+      ids n cs = (read_from rules n cs).identifiers
 
-    go : IsBeginningOf (ids (length ys + 1) xs) (ids (length ys + 1) ys) → IsBeginningOf (listed_entries (ids (length xs + 1) xs)) (listed_entries (ids (length ys + 1) ys))
-    go (rest, e) = (
-      listed_entries rest,
-      ap listed_entries e ∙ listed-append (ids (length ys + 1) xs) rest
-          ∙ ap (λ n. listed_entries (ids (n + 1) xs) ++ listed_entries rest) (sym (AllZip-length xs ys h)),
-    )
+      go : IsBeginningOf (ids (length ys + 1) xs) (ids (length ys + 1) ys) → IsBeginningOf (listed_entries (ids (length xs + 1) xs)) (listed_entries (ids (length ys + 1) ys))
+      go (rest, e) = (
+        listed_entries rest,
+        ap listed_entries e ∙ listed-append (ids (length ys + 1) xs) rest
+            ∙ ap (λ n. listed_entries (ids (n + 1) xs) ++ listed_entries rest) (sym (AllZip-length xs ys h)),
+      )
 
--- and so are the descriptors
-pub part_ids : (xs ys : List Cell) → AllZip IsCellOf xs ys → IsBeginningOf (directory xs).identifiers (directory ys).identifiers
-unfolding directory
-part_ids xs ys h = subst (λ n. IsBeginningOf (read_from (n + 1) xs).identifiers (read_from (length ys + 1) ys).identifiers) (sym (AllZip-length xs ys h)) (part_read (length ys + 1) xs ys h)
+  -- and so are the descriptors
+  pub part_ids : (xs ys : List Cell) → AllZip IsCellOf xs ys → IsBeginningOf (directory_by rules xs).identifiers (directory_by rules ys).identifiers
+  unfolding directory_by
+  part_ids xs ys h = subst (λ n. IsBeginningOf (read_from rules (n + 1) xs).identifiers (read_from rules (length ys + 1) ys).identifiers) (sym (AllZip-length xs ys h)) (part_read rules (length ys + 1) xs ys h)

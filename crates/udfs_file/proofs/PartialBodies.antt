@@ -156,5 +156,5 @@ partial_bodies s w p r b e whole q = let part : PartIs (body s r b e) whole = pa
     names = λ k. (gaps_of s w p r b e whole part.part q part.is (AllZip-length part.part whole part.each) k).names;
     gaps = λ k. (gaps_of s w p r b e whole part.part q part.is (AllZip-length part.part whole part.each) k).gaps;
   };
-  inside = partial_directory part.part whole part.each;
+  inside = partial_directory w.profile part.part whole part.each;
 }

@@ -1,6 +1,6 @@
 -- The laws of this crate that proofs above it use. Each has the statement that the function of its name in src/laws.rt ensures.
 use Rattle.udfs_file.specs.Complete.{BodyLaw, DescriptorsAreShort, DirectoryLaw, FileSetLaw, NeverStops, StandardBodies, StandardDirectories}
-use Rattle.udfs_file.specs.Laws.{BodyLength, NamesAreParts, PartialBodies, PartialDescriptors, PartialFileSet, TailKeepsBodies}
+use Rattle.udfs_file.specs.Laws.{BodyLength, NamesAreParts, PartialBodies, PartialDescriptors, PartialFileSet, TailKeepsBodies, WideTakesTags}
 use Rattle.udfs_file.specs.Sample.{HaveSampleFiles, SampleFileSet}
 use Rattle.udfs_file.proofs.BodyLengths as lengths
 use Rattle.udfs_file.proofs.EntryNames as names
@@ -11,6 +11,7 @@ use Rattle.udfs_file.proofs.Readings as readings
 use Rattle.udfs_file.proofs.WholeBodies as bodies
 use Rattle.udfs_file.proofs.SampleLaw as sample
 use Rattle.udfs_file.proofs.KeptBodies as tails
+use Rattle.udfs_file.proofs.MovedTags as tags
 use Rattle.udfs_file.proofs.StandardBodies as standard
 use Rattle.udfs_file.proofs.StandardDirectories as listed
 
@@ -31,6 +32,9 @@ body_is_read = bodies.body_law
 
 pub the_tail_keeps_bodies : TailKeepsBodies
 the_tail_keeps_bodies = tails.tail_keeps
+
+pub wide_takes_tags : WideTakesTags
+wide_takes_tags = tags.wide_takes_tags
 
 pub body_has_its_length : BodyLength
 body_has_its_length = lengths.body_length

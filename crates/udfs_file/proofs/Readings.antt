@@ -8,29 +8,32 @@ use Rattle.udfs_tag.specs.Tags.{is_valid}
 use Rattle.udfs_osta.specs.Names.{units_of}
 use Rattle.udfs_osta.specs.declared.names.NameFault.{NameFault}
 use Rattle.udfs_volume.specs.Sequence.{Bytes}
+use Rattle.udfs_volume.specs.declared.profiles.Profile.{Profile}
+use Rattle.udfs_volume.specs.declared.profiles.Profile.TheVariants.{Strict, Wide}
 use Rattle.udfs_file.specs.declared.cells.Cell.{Cell}
 use Rattle.udfs_file.specs.declared.cells.Cell.TheVariants.{Gap}
-use Rattle.udfs_file.specs.Fronts.{first_missing, value, holder_of, identifier_size, or_stop, is_listed, entry_with, identifier_in, checked_identifier, sized_identifier, step, ReadsAs, DirectoryText, read_on, read_from, directory}
+use Rattle.udfs_file.specs.Fronts.{first_missing, value, holder_of, identifier_size, or_stop, is_listed, entry_with, identifier_in, checked_identifier, checked_by, place_asked, sized_by, step_by, ReadsBy, DirectoryText, read_on, read_from, directory_by}
 use Rattle.udfs_file.specs.Identifiers.{Identifier}
 use Rattle.udfs_file.specs.Identifiers.{Rest}
 use Rattle.udfs_file.specs.Identifiers.{Nothing, Stopped, Wrong}
 use Rattle.udfs_file.specs.Identifiers.{Step}
 use Rattle.udfs_file.specs.Identifiers.{AtRest, One}
-use Rattle.udfs_file.specs.Standard.{Located, IsIdentifierIn, IsDirectoryBody}
+use Rattle.udfs_file.specs.Standard.{Located, IsIdentifierIn, IsDirectoryBody, MayName}
 use Rattle.udfs_file.specs.Complete.{as_cell, as_cells, ReadsLaw, DirectoryLaw}
 use Rattle.udfs_file.specs.declared.faults.NodeFault.{NodeFault}
 use Rattle.udfs_file.specs.declared.faults.NodeFault.TheVariants.{Cut, IdentifierTag}
 use Rattle.udfs_file.proofs.Reached.{inv_cond, inv_stop, neither, checked_size, not_long, forty, StopsAt, stop_missing}
 
--- What a descriptor at the front of the cells is.
-pub record StepOne (cs : List Cell) (id : Identifier) : Type 0 where
-  pub size_is : identifier_size (map value (take 38 cs)) ≡ id.size
-  pub big : 38 ≤ id.size
-  pub fits : id.size ≤ length cs
-  pub block : ℕ
-  pub holder : holder_of cs ≡ Some block
-  pub valid : is_valid (map value (take id.size cs)) block 257 ≡ true
-  pub is : identifier_in (length (map value (take id.size cs))) (map value (take id.size cs)) ≡ One id
+module _ (rules : Profile) where
+  -- What a descriptor at the front of the cells is.
+  pub record StepOne (cs : List Cell) (id : Identifier) : Type 0 where
+    pub size_is : identifier_size (map value (take 38 cs)) ≡ id.size
+    pub big : 38 ≤ id.size
+    pub fits : id.size ≤ length cs
+    pub block : ℕ
+    pub place : place_asked rules (holder_of cs) (map value (take id.size cs)) ≡ Some block
+    pub valid : is_valid (map value (take id.size cs)) block 257 ≡ true
+    pub is : identifier_in (length (map value (take id.size cs))) (map value (take id.size cs)) ≡ One id
 
 record Checked (o : Option ℕ) (bytes : Bytes) (id : Identifier) : Type 0 where
   block : ℕ
@@ -46,51 +49,52 @@ checked_is (Some b) bytes id e = go (is_valid bytes b 257) refl e
     go true v q = record { block = b; holder = refl; valid = v; is = q }
     go false v q = absurd (let x : ⊥ = cc in x)
 
-pub step_one : (cs : List Cell) (id : Identifier) → step cs ≡ One id → StepOne cs id
-unfolding step
-step_one [] id e = absurd (let x : ⊥ = cc in x)
-step_one (c ∷ cs) id e = record {
-  size_is = size_is;
-  big = subst (λ n. 38 ≤ n) size_is (forty (uint8_at head 19 + uint16_at head 36));
-  fits = subst (λ n. n ≤ length all) size_is fits;
-  block = last.block;
-  holder = last.holder;
-  valid = last.valid;
-  is = last.is;
-}
-  where
-    all : List Cell
-    all = c ∷ cs
+module _ (rules : Profile) where
+  pub step_one : (cs : List Cell) (id : Identifier) → step_by rules cs ≡ One id → StepOne rules cs id
+  unfolding step_by
+  step_one [] id e = absurd (let x : ⊥ = cc in x)
+  step_one (c ∷ cs) id e = record {
+    size_is = size_is;
+    big = subst (λ n. 38 ≤ n) size_is (forty (uint8_at head 19 + uint16_at head 36));
+    fits = subst (λ n. n ≤ length all) size_is fits;
+    block = last.block;
+    place = last.holder;
+    valid = last.valid;
+    is = last.is;
+  }
+    where
+      all : List Cell
+      all = c ∷ cs
 
-    head : Bytes
-    head = map value (take 38 all)
+      head : Bytes
+      head = map value (take 38 all)
 
-    size : ℕ
-    size = identifier_size head
+      size : ℕ
+      size = identifier_size head
 
-    checked : Step
-    checked = checked_identifier (holder_of all) (map value (take size all))
+      checked : Step
+      checked = checked_by rules (holder_of all) (map value (take size all))
 
-    first : (nat_lt (length all) 38 ≡ false) × (or_stop (first_missing (take 38 all)) (sized_identifier all size) ≡ One id)
-    first = inv_cond (nat_lt (length all) 38) (Wrong Cut) (or_stop (first_missing (take 38 all)) (sized_identifier all size)) id e
+      first : (nat_lt (length all) 38 ≡ false) × (or_stop (first_missing (take 38 all)) (sized_by rules all size) ≡ One id)
+      first = inv_cond (nat_lt (length all) 38) (Wrong Cut) (or_stop (first_missing (take 38 all)) (sized_by rules all size)) id e
 
-    second : (first_missing (take 38 all) ≡ None) × (sized_identifier all size ≡ One id)
-    second = inv_stop (first_missing (take 38 all)) (sized_identifier all size) id first.1
+      second : (first_missing (take 38 all) ≡ None) × (sized_by rules all size ≡ One id)
+      second = inv_stop (first_missing (take 38 all)) (sized_by rules all size) id first.1
 
-    third : ((nat_lt 2048 size || nat_lt (length all) size) ≡ false) × (or_stop (first_missing (take size all)) checked ≡ One id)
-    third = inv_cond (nat_lt 2048 size || nat_lt (length all) size) (Wrong Cut) (or_stop (first_missing (take size all)) checked) id second.1
+      third : ((nat_lt 2048 size || nat_lt (length all) size) ≡ false) × (or_stop (first_missing (take size all)) checked ≡ One id)
+      third = inv_cond (nat_lt 2048 size || nat_lt (length all) size) (Wrong Cut) (or_stop (first_missing (take size all)) checked) id second.1
 
-    fourth : (first_missing (take size all) ≡ None) × (checked ≡ One id)
-    fourth = inv_stop (first_missing (take size all)) checked id third.1
+      fourth : (first_missing (take size all) ≡ None) × (checked ≡ One id)
+      fourth = inv_stop (first_missing (take size all)) checked id third.1
 
-    fits : size ≤ length all
-    fits = not_long (length all) size (neither (nat_lt 2048 size) (nat_lt (length all) size) third.0).1
+      fits : size ≤ length all
+      fits = not_long (length all) size (neither (nat_lt 2048 size) (nat_lt (length all) size) third.0).1
 
-    size_is : size ≡ id.size
-    size_is = sym (length-map (take size all) value ∙ length-take-le size all fits) ∙ checked_size (holder_of all) (map value (take size all)) id fourth.1
+      size_is : size ≡ id.size
+      size_is = sym (length-map (take size all) value ∙ length-take-le size all fits) ∙ checked_size rules (holder_of all) (map value (take size all)) id fourth.1
 
-    last : Checked (holder_of all) (map value (take id.size all)) id
-    last = subst (λ n. Checked (holder_of all) (map value (take n all)) id) size_is (checked_is (holder_of all) (map value (take size all)) id fourth.1)
+      last : Checked (place_asked rules (holder_of all) (map value (take id.size all))) (map value (take id.size all)) id
+      last = subst (λ n. Checked (place_asked rules (holder_of all) (map value (take n all))) (map value (take n all)) id) size_is (checked_is (place_asked rules (holder_of all) (map value (take size all))) (map value (take size all)) id fourth.1)
 
 -- only the end of the cells is the end of the descriptors
 abbrev IsNoEnd : Step → Type 0
@@ -120,60 +124,62 @@ no_end-checked (Some b) bytes e = go (is_valid bytes b 257) e
     go true q = no_end-in bytes (is_listed bytes) q
     go false q = let x : ⊥ = cc in x
 
-pub no_end : (c : Cell) (cs : List Cell) → step (c ∷ cs) ≢ AtRest Nothing
-unfolding step
-no_end c cs = no_end-cond (nat_lt (length all) 38) Cut (or_stop (first_missing (take 38 all)) (sized_identifier all size))
-    (no_end-stop (first_missing (take 38 all)) (sized_identifier all size)
-    (no_end-cond (nat_lt 2048 size || nat_lt (length all) size) Cut (or_stop (first_missing (take size all)) checked)
-    (no_end-stop (first_missing (take size all)) checked (no_end-checked (holder_of all) (map value (take size all))))))
-  where
-    all : List Cell
-    all = c ∷ cs
+module _ (rules : Profile) where
+  pub no_end : (c : Cell) (cs : List Cell) → step_by rules (c ∷ cs) ≢ AtRest Nothing
+  unfolding step_by
+  no_end c cs = no_end-cond (nat_lt (length all) 38) Cut (or_stop (first_missing (take 38 all)) (sized_by rules all size))
+      (no_end-stop (first_missing (take 38 all)) (sized_by rules all size)
+      (no_end-cond (nat_lt 2048 size || nat_lt (length all) size) Cut (or_stop (first_missing (take size all)) checked)
+      (no_end-stop (first_missing (take size all)) checked (no_end-checked (place_asked rules (holder_of all) (map value (take size all))) (map value (take size all))))))
+    where
+      all : List Cell
+      all = c ∷ cs
 
-    size : ℕ
-    size = identifier_size (map value (take 38 all))
+      size : ℕ
+      size = identifier_size (map value (take 38 all))
 
-    checked : Step
-    checked = checked_identifier (holder_of all) (map value (take size all))
+      checked : Step
+      checked = checked_by rules (holder_of all) (map value (take size all))
 
--- the cells behind a descriptor are fewer
-fewer : (n : ℕ) (cs : List Cell) (id : Identifier) → step cs ≡ One id → length cs < suc n → length (drop id.size cs) < n
-fewer n cs id e h = let s : StepOne cs id = step_one cs id e in
-    let big : 38 ≤ id.size = s.big in let fits : id.size ≤ length cs = s.fits in
-    subst (λ k. k < n) (sym (length-drop id.size cs)) (omega (arith, big, fits, h))
+  -- the cells behind a descriptor are fewer
+  fewer : (n : ℕ) (cs : List Cell) (id : Identifier) → step_by rules cs ≡ One id → length cs < suc n → length (drop id.size cs) < n
+  fewer n cs id e h = let s : StepOne rules cs id = step_one rules cs id e in
+      let big : 38 ≤ id.size = s.big in let fits : id.size ≤ length cs = s.fits in
+      subst (λ k. k < n) (sym (length-drop id.size cs)) (omega (arith, big, fits, h))
 
-reads : (n : ℕ) (cs : List Cell) → length cs < n → ReadsAs cs (read_from n cs).identifiers (read_from n cs).rest
-reads zero cs h = absurd (let x : ⊥ = omega arith in x)
-reads (suc n) cs h = go (λ k. reads n (drop k cs)) (step cs) refl
-  where
-    next : ℕ → DirectoryText
-    next size = read_from n (drop size cs)
+  reads : (n : ℕ) (cs : List Cell) → length cs < n → ReadsBy rules cs (read_from rules n cs).identifiers (read_from rules n cs).rest
+  reads zero cs h = absurd (let x : ⊥ = omega arith in x)
+  reads (suc n) cs h = go (λ k. reads n (drop k cs)) (step_by rules cs) refl
+    where
+      next : ℕ → DirectoryText
+      next size = read_from rules n (drop size cs)
 
-    go : ((k : ℕ) → length (drop k cs) < n → ReadsAs (drop k cs) (next k).identifiers (next k).rest) → (t : Step) → step cs ≡ t
-        → ReadsAs cs (read_on (step cs) next).identifiers (read_on (step cs) next).rest
-    go ih (AtRest r) s = subst (λ t. ReadsAs cs (read_on t next).identifiers (read_on t next).rest) (sym s) s
-    go ih (One id) s = subst (λ t. ReadsAs cs (read_on t next).identifiers (read_on t next).rest) (sym s) (s, ih id.size (fewer n cs id s h))
+      go : ((k : ℕ) → length (drop k cs) < n → ReadsBy rules (drop k cs) (next k).identifiers (next k).rest) → (t : Step) → step_by rules cs ≡ t
+          → ReadsBy rules cs (read_on (step_by rules cs) next).identifiers (read_on (step_by rules cs) next).rest
+      go ih (AtRest r) s = subst (λ t. ReadsBy rules cs (read_on t next).identifiers (read_on t next).rest) (sym s) s
+      go ih (One id) s = subst (λ t. ReadsBy rules cs (read_on t next).identifiers (read_on t next).rest) (sym s) (s, ih id.size (fewer n cs id s h))
 
-only_reads : (n : ℕ) (cs : List Cell) (ids : List Identifier) (rest : Rest) → length cs < n → ReadsAs cs ids rest
-    → ((read_from n cs).identifiers ≡ ids) × ((read_from n cs).rest ≡ rest)
-only_reads zero cs ids rest h r = absurd (let x : ⊥ = omega arith in x)
-only_reads (suc n) cs [] rest h r = (ap (λ t. (read_on t (λ size. read_from n (drop size cs))).identifiers) r, ap (λ t. (read_on t (λ size. read_from n (drop size cs))).rest) r)
-only_reads (suc n) cs (id ∷ ids) rest h (e, r) =
-    let q : ((read_from n (drop id.size cs)).identifiers ≡ ids) × ((read_from n (drop id.size cs)).rest ≡ rest) = only_reads n (drop id.size cs) ids rest (fewer n cs id e h) r in
-    (ap (λ t. (read_on t (λ size. read_from n (drop size cs))).identifiers) e ∙ ap (λ z. id ∷ z) q.0, ap (λ t. (read_on t (λ size. read_from n (drop size cs))).rest) e ∙ q.1)
+  only_reads : (n : ℕ) (cs : List Cell) (ids : List Identifier) (rest : Rest) → length cs < n → ReadsBy rules cs ids rest
+      → ((read_from rules n cs).identifiers ≡ ids) × ((read_from rules n cs).rest ≡ rest)
+  only_reads zero cs ids rest h r = absurd (let x : ⊥ = omega arith in x)
+  only_reads (suc n) cs [] rest h r = (ap (λ t. (read_on t (λ size. read_from rules n (drop size cs))).identifiers) r, ap (λ t. (read_on t (λ size. read_from rules n (drop size cs))).rest) r)
+  only_reads (suc n) cs (id ∷ ids) rest h (e, r) =
+      let q : ((read_from rules n (drop id.size cs)).identifiers ≡ ids) × ((read_from rules n (drop id.size cs)).rest ≡ rest) = only_reads n (drop id.size cs) ids rest (fewer n cs id e h) r in
+      (ap (λ t. (read_on t (λ size. read_from rules n (drop size cs))).identifiers) e ∙ ap (λ z. id ∷ z) q.0, ap (λ t. (read_on t (λ size. read_from rules n (drop size cs))).rest) e ∙ q.1)
 
 more_than : (n : ℕ) → n < n + 1
 more_than n = omega arith
 
-pub directory_reads : (cs : List Cell) → ReadsAs cs (directory cs).identifiers (directory cs).rest
-unfolding directory
-directory_reads cs = reads (length cs + 1) cs (more_than (length cs))
+module _ (rules : Profile) where
+  pub directory_reads : (cs : List Cell) → ReadsBy rules cs (directory_by rules cs).identifiers (directory_by rules cs).rest
+  unfolding directory_by
+  directory_reads cs = reads rules (length cs + 1) cs (more_than (length cs))
 
 pub reads_law : ReadsLaw
-unfolding directory
-reads_law cs ids rest = (
-  only_reads (length cs + 1) cs ids rest (more_than (length cs)),
-  λ e. subst (λ z. ReadsAs cs z rest) e.0 (subst (λ z. ReadsAs cs (directory cs).identifiers z) e.1 (directory_reads cs)),
+unfolding directory_by
+reads_law rules cs ids rest = (
+  only_reads rules (length cs + 1) cs ids rest (more_than (length cs)),
+  λ e. subst (λ z. ReadsBy rules cs z rest) e.0 (subst (λ z. ReadsBy rules cs (directory_by rules cs).identifiers z) e.1 (directory_reads rules cs)),
 )
 
 -- the size of a descriptor is told by its first 38 bytes
@@ -211,75 +217,81 @@ first_of zero whole b h e = absurd (let x : ⊥ = omega arith in x)
 first_of (suc n) [] b h e = absurd (let x : ⊥ = cc in x)
 first_of (suc n) (x ∷ xs) b h e = (take n xs, x.0, λ i. (x.0, e i) ∷ take n xs)
 
-is_piece : (whole : List Located) (id : Identifier) → StepOne (as_cells whole) id → IsIdentifierIn (take id.size whole) id
-is_piece whole id s = record {
-  bytes = bytes_of (take id.size whole);
-  bytes_are = refl;
-  block = s.block;
-  first = first_of id.size whole s.block (let big : 38 ≤ id.size = s.big in omega (arith, big)) s.holder;
-  long_enough = subst (λ n. 38 ≤ n) (sym long) s.big;
-  size = long ∙ sym (piece_size id.size whole s.big ∙ s.size_is);
-  valid = ap (λ z. is_valid z s.block 257) (sym (values id.size whole)) ∙ s.valid;
-  is = ap (λ z. identifier_in z (bytes_of (take id.size whole))) (sym (length-map (take id.size whole) (λ x. x.0)))
-      ∙ ap (λ z. identifier_in (length z) z) (sym (values id.size whole)) ∙ s.is;
-}
-  where
-    long : length (take id.size whole) ≡ id.size
-    long = length-take-le id.size whole (subst (λ n. id.size ≤ n) (length-map whole as_cell) s.fits)
+-- the place that the tag is to name is one that it may name
+may_name : (rules : Profile) (n : ℕ) (whole : List Located) (b : ℕ) (bytes : Bytes) → 0 < n → place_asked rules (holder_of (as_cells whole)) bytes ≡ Some b → MayName rules (take n whole) b
+may_name Strict n whole b bytes h e = first_of n whole b h e
+may_name Wide n whole b bytes h e = tt
 
-is_directory : (ids : List Identifier) (whole : List Located) → ReadsAs (as_cells whole) ids Nothing → IsDirectoryBody whole ids
-is_directory [] [] e = refl
-is_directory [] (x ∷ xs) e = absurd (no_end (as_cell x) (as_cells xs) e)
-is_directory (id ∷ ids) whole (e, r) = (
-  take id.size whole,
-  drop id.size whole,
-  sym (take-append-drop id.size whole),
-  is_piece whole id (step_one (as_cells whole) id e),
-  is_directory ids (drop id.size whole) (subst (λ z. ReadsAs z ids Nothing) (sym (drop-cells id.size whole)) r),
-)
+module _ (rules : Profile) where
+  is_piece : (whole : List Located) (id : Identifier) → StepOne rules (as_cells whole) id → IsIdentifierIn rules (take id.size whole) id
+  is_piece whole id s = record {
+    bytes = bytes_of (take id.size whole);
+    bytes_are = refl;
+    block = s.block;
+    place = may_name rules id.size whole s.block (map value (take id.size (as_cells whole))) (let big : 38 ≤ id.size = s.big in omega (arith, big)) s.place;
+    long_enough = subst (λ n. 38 ≤ n) (sym long) s.big;
+    size = long ∙ sym (piece_size id.size whole s.big ∙ s.size_is);
+    valid = ap (λ z. is_valid z s.block 257) (sym (values id.size whole)) ∙ s.valid;
+    is = ap (λ z. identifier_in z (bytes_of (take id.size whole))) (sym (length-map (take id.size whole) (λ x. x.0)))
+        ∙ ap (λ z. identifier_in (length z) z) (sym (values id.size whole)) ∙ s.is;
+  }
+    where
+      long : length (take id.size whole) ≡ id.size
+      long = length-take-le id.size whole (subst (λ n. id.size ≤ n) (length-map whole as_cell) s.fits)
 
-only_directory : (ids : List Identifier) (whole : List Located) → ReadsAs (as_cells whole) ids Nothing → (others : List Identifier) → IsDirectoryBody whole others → others ≡ ids
-only_directory [] whole e [] d = refl
-only_directory [] whole e (o ∷ os) (piece, rest, w, i, d) = absurd (let big : 38 ≤ length piece = i.long_enough in
-    let none : 0 ≡ length piece + length rest = ap length (sym (is_directory [] whole e) ∙ w) ∙ length-append piece rest in let x : ⊥ = omega (arith, big, none) in x)
-only_directory (id ∷ ids) whole (e, r) [] d = absurd (let s : StepOne (as_cells whole) id = step_one (as_cells whole) id e in
-    let big : 38 ≤ id.size = s.big in let fits : id.size ≤ 0 = subst (λ z. id.size ≤ length (as_cells z)) d s.fits in let x : ⊥ = omega (arith, big, fits) in x)
-only_directory (id ∷ ids) whole (e, r) (o ∷ os) (piece, rest, w, i, d) = λ t. same t ∷ only_directory ids (drop id.size whole)
-    (subst (λ z. ReadsAs z ids Nothing) (sym (drop-cells id.size whole)) r) os (subst (λ z. IsDirectoryBody z os) tail d) t
-  where
-    s : StepOne (as_cells whole) id
-    s = step_one (as_cells whole) id e
+  is_directory : (ids : List Identifier) (whole : List Located) → ReadsBy rules (as_cells whole) ids Nothing → IsDirectoryBody rules whole ids
+  is_directory [] [] e = refl
+  is_directory [] (x ∷ xs) e = absurd (no_end rules (as_cell x) (as_cells xs) e)
+  is_directory (id ∷ ids) whole (e, r) = (
+    take id.size whole,
+    drop id.size whole,
+    sym (take-append-drop id.size whole),
+    is_piece whole id (step_one rules (as_cells whole) id e),
+    is_directory ids (drop id.size whole) (subst (λ z. ReadsBy rules z ids Nothing) (sym (drop-cells id.size whole)) r),
+  )
 
-    at_length : piece ≡ take (length piece) whole
-    at_length = sym (ap (take (length piece)) w ∙ take-append_seam piece rest)
+  only_directory : (ids : List Identifier) (whole : List Located) → ReadsBy rules (as_cells whole) ids Nothing → (others : List Identifier) → IsDirectoryBody rules whole others → others ≡ ids
+  only_directory [] whole e [] d = refl
+  only_directory [] whole e (o ∷ os) (piece, rest, w, i, d) = absurd (let big : 38 ≤ length piece = i.long_enough in
+      let none : 0 ≡ length piece + length rest = ap length (sym (is_directory [] whole e) ∙ w) ∙ length-append piece rest in let x : ⊥ = omega (arith, big, none) in x)
+  only_directory (id ∷ ids) whole (e, r) [] d = absurd (let s : StepOne rules (as_cells whole) id = step_one rules (as_cells whole) id e in
+      let big : 38 ≤ id.size = s.big in let fits : id.size ≤ 0 = subst (λ z. id.size ≤ length (as_cells z)) d s.fits in let x : ⊥ = omega (arith, big, fits) in x)
+  only_directory (id ∷ ids) whole (e, r) (o ∷ os) (piece, rest, w, i, d) = λ t. same t ∷ only_directory ids (drop id.size whole)
+      (subst (λ z. ReadsBy rules z ids Nothing) (sym (drop-cells id.size whole)) r) os (subst (λ z. IsDirectoryBody rules z os) tail d) t
+    where
+      s : StepOne rules (as_cells whole) id
+      s = step_one rules (as_cells whole) id e
 
-    long : length piece ≡ id.size
-    long = i.size ∙ ap identifier_size (i.bytes_are ∙ ap bytes_of at_length) ∙ piece_size (length piece) whole i.long_enough ∙ s.size_is
+      at_length : piece ≡ take (length piece) whole
+      at_length = sym (ap (take (length piece)) w ∙ take-append_seam piece rest)
 
-    is : piece ≡ take id.size whole
-    is = at_length ∙ ap (λ n. take n whole) long
+      long : length piece ≡ id.size
+      long = i.size ∙ ap identifier_size (i.bytes_are ∙ ap bytes_of at_length) ∙ piece_size (length piece) whole i.long_enough ∙ s.size_is
 
-    tail : rest ≡ drop id.size whole
-    tail = sym (ap (drop (length piece)) w ∙ drop-append_seam piece rest) ∙ ap (λ n. drop n whole) long
+      is : piece ≡ take id.size whole
+      is = at_length ∙ ap (λ n. take n whole) long
 
-    bytes : i.bytes ≡ map value (take id.size (as_cells whole))
-    bytes = i.bytes_are ∙ ap bytes_of is ∙ sym (values id.size whole)
+      tail : rest ≡ drop id.size whole
+      tail = sym (ap (drop (length piece)) w ∙ drop-append_seam piece rest) ∙ ap (λ n. drop n whole) long
 
-    ones : One o ≡ One id
-    ones = sym i.is ∙ ap (λ n. identifier_in n i.bytes) (sym (length-map piece (λ x. x.0)) ∙ ap length (sym i.bytes_are))
-        ∙ ap (λ z. identifier_in (length z) z) bytes ∙ s.is
+      bytes : i.bytes ≡ map value (take id.size (as_cells whole))
+      bytes = i.bytes_are ∙ ap bytes_of is ∙ sym (values id.size whole)
 
-    same : o ≡ id
-    same = let q : One o ≡ One id = ones in cc
+      ones : One o ≡ One id
+      ones = sym i.is ∙ ap (λ n. identifier_in n i.bytes) (sym (length-map piece (λ x. x.0)) ∙ ap length (sym i.bytes_are))
+          ∙ ap (λ z. identifier_in (length z) z) bytes ∙ s.is
+
+      same : o ≡ id
+      same = let q : One o ≡ One id = ones in cc
 
 pub directory_law : DirectoryLaw
-directory_law whole e = record { reads = is_directory ids whole r; only = only_directory ids whole r }
+directory_law rules whole e = record { reads = is_directory rules ids whole r; only = only_directory rules ids whole r }
   where
     ids : List Identifier
-    ids = (directory (as_cells whole)).identifiers
+    ids = (directory_by rules (as_cells whole)).identifiers
 
-    r : ReadsAs (as_cells whole) ids Nothing
-    r = subst (ReadsAs (as_cells whole) ids) e (directory_reads (as_cells whole))
+    r : ReadsBy rules (as_cells whole) ids Nothing
+    r = subst (ReadsBy rules (as_cells whole) ids) e (directory_reads rules (as_cells whole))
 
 -- complete cells stop no reading
 no_missing : (xs : List Located) (k n : ℕ) → slice_get (as_cells xs) k ≢ Some (Gap n)
@@ -287,9 +299,10 @@ no_missing [] k n e = let x : ⊥ = cc in x
 no_missing (x ∷ xs) zero n e = let x : ⊥ = cc in x
 no_missing (x ∷ xs) (suc k) n e = no_missing xs k n e
 
-no_stop : (ids : List Identifier) (xs : List Located) (n : ℕ) → ReadsAs (as_cells xs) ids (Stopped n) → ⊥
-no_stop [] xs n e = let s : StopsAt (as_cells xs) = stop_missing (as_cells xs) n e in no_missing xs s.0 s.1.0 s.1.1
-no_stop (id ∷ ids) xs n (e, r) = no_stop ids (drop id.size xs) n (subst (λ z. ReadsAs z ids (Stopped n)) (sym (drop-cells id.size xs)) r)
+module _ (rules : Profile) where
+  no_stop : (ids : List Identifier) (xs : List Located) (n : ℕ) → ReadsBy rules (as_cells xs) ids (Stopped n) → ⊥
+  no_stop [] xs n e = let s : StopsAt (as_cells xs) = stop_missing rules (as_cells xs) n e in no_missing xs s.0 s.1.0 s.1.1
+  no_stop (id ∷ ids) xs n (e, r) = no_stop ids (drop id.size xs) n (subst (λ z. ReadsBy rules z ids (Stopped n)) (sym (drop-cells id.size xs)) r)
 
-pub never_stops : (xs : List Located) (n : ℕ) → (directory (as_cells xs)).rest ≢ Stopped n
-never_stops xs n e = no_stop (directory (as_cells xs)).identifiers xs n (subst (ReadsAs (as_cells xs) (directory (as_cells xs)).identifiers) e (directory_reads (as_cells xs)))
+  pub never_stops : (xs : List Located) (n : ℕ) → (directory_by rules (as_cells xs)).rest ≢ Stopped n
+  never_stops xs n e = no_stop (directory_by rules (as_cells xs)).identifiers xs n (subst (ReadsBy rules (as_cells xs) (directory_by rules (as_cells xs)).identifiers) e (directory_reads rules (as_cells xs)))

@@ -15,7 +15,7 @@ use Rattle.udfs_space.specs.Places.{place}
 use Rattle.udfs_file.specs.Addresses.{file_set}
 use Rattle.udfs_file.specs.Bodies.{body, allocation_descriptors, used, listed_body, extents_body_by}
 use Rattle.udfs_file.specs.Entries.{entry_fault, entry_of}
-use Rattle.udfs_file.specs.Fronts.{directory, step}
+use Rattle.udfs_file.specs.Fronts.{directory_by, step_by}
 use Rattle.udfs_file.specs.declared.faults.Kind.TheVariants.{Directory, File}
 use Rattle.udfs_file.specs.Sample.{HaveSampleFiles, IsSampleFile, SampleFileSet, a_cells, b_cells, icb_of_a, icb_of_b, root_cells, sample_root, a_block, b_block, directory_block, file_set_block, root_block, logical_block, sample_contents, sample_view}
 
@@ -79,7 +79,7 @@ b_file one_sparable = record { is_good = refl; block = 100; bytes = b_block; the
 b_file type1_and_sparable = record { is_good = refl; block = 100; bytes = b_block; there = refl; is_sound = refl; kind_is = refl; has_body = refl }
 
 pub sample_files : HaveSampleFiles
-unfolding polynomial reduced crc_of tag_of step directory
+unfolding polynomial reduced crc_of tag_of step_by directory_by
 sample_files one_type1 = record { root = root_file one_type1; a = a_file one_type1; b = b_file one_type1; no_rest = refl; entries = refl }
 sample_files one_sparable = record { root = root_file one_sparable; a = a_file one_sparable; b = b_file one_sparable; no_rest = refl; entries = refl }
 sample_files type1_and_sparable = record { root = root_file type1_and_sparable; a = a_file type1_and_sparable; b = b_file type1_and_sparable; no_rest = refl; entries = refl }

@@ -9,14 +9,15 @@ use Rattle.udfs_volume.specs.Seen.{Sees}
 use Rattle.udfs_volume.specs.declared.seen.Seen.{Seen}
 use Rattle.udfs_volume.specs.declared.seen.Seen.TheVariants.{Got, Holes, Fault, OutOfMemory}
 use Rattle.udfs_space.specs.Places.{View}
+use Rattle.udfs_volume.specs.declared.profiles.Profile.{Profile}
 use Rattle.udfs_file.specs.Addresses.{file_set}
 use Rattle.udfs_file.specs.Bodies.{cells, faulty_body, body}
 use Rattle.udfs_file.specs.Entries.{EntryFields}
 use Rattle.udfs_file.specs.Complete.{as_cells}
-use Rattle.udfs_file.specs.Fronts.{first_missing, value, holder_of, identifier_size, or_stop, checked_identifier, sized_identifier, step, DirectoryText, read_on, read_from, directory, listed_entries, directory_entries, missing_in, fault_in, IsFrontOf}
+use Rattle.udfs_file.specs.Fronts.{first_missing, value, holder_of, identifier_size, or_stop, checked_by, sized_by, step_by, DirectoryText, read_on, read_from, directory_by, listed_entries, entries_by, missing_in, fault_in, IsFrontBy}
 use Rattle.udfs_file.specs.Laws.{IsCellOf, IsBeginningOf, IsClearTo, descriptor_end, IsPartialBody, IsPartialDirectory, IsPartialFileSet, known, unread}
 use Rattle.udfs_file.specs.Stretches.{cells_of, GivesStretches}
-use Rattle.udfs_file.specs.Told.{IsRootOf, TellsFileSet, IsToldBody, TellsBody, TellsFront}
+use Rattle.udfs_file.specs.Told.{IsRootOf, TellsFileSet, IsToldBody, TellsBody, TellsBy}
 use Rattle.udfs_file.specs.declared.cells.Cell.{Cell}
 use Rattle.udfs_file.specs.declared.cells.Cell.TheVariants.{Byte, Gap}
 use Rattle.udfs_file.specs.declared.directories.DirEntry.{DirEntry}
@@ -100,74 +101,75 @@ found_at (suc n) [] m e = absurd (let x : ⊥ = cc in x)
 found_at (suc n) (Byte x o ∷ xs) m e = let r : (k : ℕ) × (slice_get xs k ≡ Some (Gap m)) = found_at n xs m e in (suc r.0, r.1)
 found_at (suc n) (Gap b ∷ xs) m e = (zero, ap (λ z. Some (Gap z)) (let same : b ≡ m = cc in same))
 
-step_stops : (xs : List Cell) (n : ℕ) → step xs ≡ AtRest (Stopped n) → (k : ℕ) × (slice_get xs k ≡ Some (Gap n))
-unfolding step
-step_stops [] n e = absurd (let x : ⊥ = cc in x)
-step_stops (c ∷ cs) n e = short (nat_lt (length all) 38) e
-  where
-    all : List Cell
-    all = c ∷ cs
+module _ (rules : Profile) where
+  step_stops : (xs : List Cell) (n : ℕ) → step_by rules xs ≡ AtRest (Stopped n) → (k : ℕ) × (slice_get xs k ≡ Some (Gap n))
+  unfolding step_by
+  step_stops [] n e = absurd (let x : ⊥ = cc in x)
+  step_stops (c ∷ cs) n e = short (nat_lt (length all) 38) e
+    where
+      all : List Cell
+      all = c ∷ cs
 
-    size : ℕ
-    size = identifier_size (map value (take 38 all))
+      size : ℕ
+      size = identifier_size (map value (take 38 all))
 
-    checked : Step
-    checked = checked_identifier (holder_of all) (map value (take size all))
+      checked : Step
+      checked = checked_by rules (holder_of all) (map value (take size all))
 
-    names : (m : ℕ) (t : Step) → or_stop (Some m) t ≡ AtRest (Stopped n) → Some m ≡ Some n
-    names m t s = let same : m ≡ n = cc in ap Some same
+      names : (m : ℕ) (t : Step) → or_stop (Some m) t ≡ AtRest (Stopped n) → Some m ≡ Some n
+      names m t s = let same : m ≡ n = cc in ap Some same
 
-    ends : (o : Option ℕ) → first_missing (take size all) ≡ o → or_stop o checked ≡ AtRest (Stopped n) → (k : ℕ) × (slice_get all k ≡ Some (Gap n))
-    ends None q s = no_stop n (holder_of all) (map value (take size all)) s
-    ends (Some m) q s = found_at size all n (q ∙ names m checked s)
+      ends : (o : Option ℕ) → first_missing (take size all) ≡ o → or_stop o checked ≡ AtRest (Stopped n) → (k : ℕ) × (slice_get all k ≡ Some (Gap n))
+      ends None q s = no_stop rules n (holder_of all) (map value (take size all)) s
+      ends (Some m) q s = found_at size all n (q ∙ names m checked s)
 
-    fits : (b : Bool) → cond b (AtRest (Wrong Cut)) (or_stop (first_missing (take size all)) checked) ≡ AtRest (Stopped n) → (k : ℕ) × (slice_get all k ≡ Some (Gap n))
-    fits true s = absurd (let x : ⊥ = cc in x)
-    fits false s = ends (first_missing (take size all)) refl s
+      fits : (b : Bool) → cond b (AtRest (Wrong Cut)) (or_stop (first_missing (take size all)) checked) ≡ AtRest (Stopped n) → (k : ℕ) × (slice_get all k ≡ Some (Gap n))
+      fits true s = absurd (let x : ⊥ = cc in x)
+      fits false s = ends (first_missing (take size all)) refl s
 
-    begins : (o : Option ℕ) → first_missing (take 38 all) ≡ o → or_stop o (sized_identifier all size) ≡ AtRest (Stopped n) → (k : ℕ) × (slice_get all k ≡ Some (Gap n))
-    begins None q s = fits (nat_lt 2048 size || nat_lt (length all) size) s
-    begins (Some m) q s = found_at 38 all n (q ∙ names m (sized_identifier all size) s)
+      begins : (o : Option ℕ) → first_missing (take 38 all) ≡ o → or_stop o (sized_by rules all size) ≡ AtRest (Stopped n) → (k : ℕ) × (slice_get all k ≡ Some (Gap n))
+      begins None q s = fits (nat_lt 2048 size || nat_lt (length all) size) s
+      begins (Some m) q s = found_at 38 all n (q ∙ names m (sized_by rules all size) s)
 
-    short : (b : Bool) → cond b (AtRest (Wrong Cut)) (or_stop (first_missing (take 38 all)) (sized_identifier all size)) ≡ AtRest (Stopped n) → (k : ℕ) × (slice_get all k ≡ Some (Gap n))
-    short true s = absurd (let x : ⊥ = cc in x)
-    short false s = begins (first_missing (take 38 all)) refl s
+      short : (b : Bool) → cond b (AtRest (Wrong Cut)) (or_stop (first_missing (take 38 all)) (sized_by rules all size)) ≡ AtRest (Stopped n) → (k : ℕ) × (slice_get all k ≡ Some (Gap n))
+      short true s = absurd (let x : ⊥ = cc in x)
+      short false s = begins (first_missing (take 38 all)) refl s
 
-abbrev next : ℕ → List Cell → ℕ → DirectoryText
-next n cs size = read_from n (drop size cs)
+  abbrev next : ℕ → List Cell → ℕ → DirectoryText
+  next n cs size = read_from rules n (drop size cs)
 
-stopped_from : (fuel : ℕ) (xs : List Cell) (n : ℕ) → (read_from fuel xs).rest ≡ Stopped n → (k : ℕ) × (slice_get xs k ≡ Some (Gap n))
-stopped_from zero xs n e = absurd (let x : ⊥ = cc in x)
-stopped_from (suc fuel) xs n e = go (λ size. stopped_from fuel (drop size xs) n) (step xs) refl e
-  where
-    go : ((size : ℕ) → (next fuel xs size).rest ≡ Stopped n → (k : ℕ) × (slice_get (drop size xs) k ≡ Some (Gap n)))
-        → (t : Step) → step xs ≡ t → (read_on (step xs) (next fuel xs)).rest ≡ Stopped n → (k : ℕ) × (slice_get xs k ≡ Some (Gap n))
-    go ih (AtRest r) s q = step_stops xs n (s ∙ ap AtRest (sym (ap (λ t. (read_on t (next fuel xs)).rest) s) ∙ q))
-    go ih (One id) s q = let r : (k : ℕ) × (slice_get (drop id.size xs) k ≡ Some (Gap n)) = ih id.size (sym (ap (λ t. (read_on t (next fuel xs)).rest) s) ∙ q) in
-        (id.size + r.0, sym (slice_get-drop id.size xs r.0) ∙ r.1)
+  stopped_from : (fuel : ℕ) (xs : List Cell) (n : ℕ) → (read_from rules fuel xs).rest ≡ Stopped n → (k : ℕ) × (slice_get xs k ≡ Some (Gap n))
+  stopped_from zero xs n e = absurd (let x : ⊥ = cc in x)
+  stopped_from (suc fuel) xs n e = go (λ size. stopped_from fuel (drop size xs) n) (step_by rules xs) refl e
+    where
+      go : ((size : ℕ) → (next fuel xs size).rest ≡ Stopped n → (k : ℕ) × (slice_get (drop size xs) k ≡ Some (Gap n)))
+          → (t : Step) → step_by rules xs ≡ t → (read_on (step_by rules xs) (next fuel xs)).rest ≡ Stopped n → (k : ℕ) × (slice_get xs k ≡ Some (Gap n))
+      go ih (AtRest r) s q = step_stops xs n (s ∙ ap AtRest (sym (ap (λ t. (read_on t (next fuel xs)).rest) s) ∙ q))
+      go ih (One id) s q = let r : (k : ℕ) × (slice_get (drop id.size xs) k ≡ Some (Gap n)) = ih id.size (sym (ap (λ t. (read_on t (next fuel xs)).rest) s) ∙ q) in
+          (id.size + r.0, sym (slice_get-drop id.size xs r.0) ∙ r.1)
 
-stopped_at : (xs : List Cell) (n : ℕ) → (directory xs).rest ≡ Stopped n → (k : ℕ) × (slice_get xs k ≡ Some (Gap n))
-unfolding directory
-stopped_at xs n e = stopped_from (length xs + 1) xs n e
+  stopped_at : (xs : List Cell) (n : ℕ) → (directory_by rules xs).rest ≡ Stopped n → (k : ℕ) × (slice_get xs k ≡ Some (Gap n))
+  unfolding directory_by
+  stopped_at xs n e = stopped_from (length xs + 1) xs n e
 
--- ---- a directory: that which is not stopped is the whole's
-same_from : (fuel : ℕ) (xs ys : List Cell) → AllZip IsCellOf xs ys → (read_from fuel xs).rest ≡ Nothing → (read_from fuel xs).identifiers ≡ (read_from fuel ys).identifiers
-same_from zero xs ys h e = refl
-same_from (suc fuel) xs ys h e = go (λ k. same_from fuel (drop k xs) (drop k ys) (AllZip-drop k xs ys h)) (step_is xs ys h)
-  where
-    same : ((k : ℕ) → (next fuel xs k).rest ≡ Nothing → (next fuel xs k).identifiers ≡ (next fuel ys k).identifiers) → (t : Step)
-        → (read_on t (next fuel xs)).rest ≡ Nothing → (read_on t (next fuel xs)).identifiers ≡ (read_on t (next fuel ys)).identifiers
-    same ih (AtRest r) q = refl
-    same ih (One id) q = ap (λ z. id ∷ z) (ih id.size q)
+  -- ---- a directory: that which is not stopped is the whole's
+  same_from : (fuel : ℕ) (xs ys : List Cell) → AllZip IsCellOf xs ys → (read_from rules fuel xs).rest ≡ Nothing → (read_from rules fuel xs).identifiers ≡ (read_from rules fuel ys).identifiers
+  same_from zero xs ys h e = refl
+  same_from (suc fuel) xs ys h e = go (λ k. same_from fuel (drop k xs) (drop k ys) (AllZip-drop k xs ys h)) (step_is rules xs ys h)
+    where
+      same : ((k : ℕ) → (next fuel xs k).rest ≡ Nothing → (next fuel xs k).identifiers ≡ (next fuel ys k).identifiers) → (t : Step)
+          → (read_on t (next fuel xs)).rest ≡ Nothing → (read_on t (next fuel xs)).identifiers ≡ (read_on t (next fuel ys)).identifiers
+      same ih (AtRest r) q = refl
+      same ih (One id) q = ap (λ z. id ∷ z) (ih id.size q)
 
-    go : ((k : ℕ) → (next fuel xs k).rest ≡ Nothing → (next fuel xs k).identifiers ≡ (next fuel ys k).identifiers) → StepIs (step xs) (step ys)
-        → (read_on (step xs) (next fuel xs)).identifiers ≡ (read_on (step ys) (next fuel ys)).identifiers
-    go ih (step_same p) = ap (λ t. (read_on t (next fuel xs)).identifiers) p ∙ same ih (step ys) (sym (ap (λ t. (read_on t (next fuel xs)).rest) p) ∙ e)
-    go ih (step_stop b p) = let z : Stopped b ≡ Nothing = sym (ap (λ t. (read_on t (next fuel xs)).rest) p) ∙ e in absurd (let x : ⊥ = cc in x)
+      go : ((k : ℕ) → (next fuel xs k).rest ≡ Nothing → (next fuel xs k).identifiers ≡ (next fuel ys k).identifiers) → StepIs (step_by rules xs) (step_by rules ys)
+          → (read_on (step_by rules xs) (next fuel xs)).identifiers ≡ (read_on (step_by rules ys) (next fuel ys)).identifiers
+      go ih (step_same p) = ap (λ t. (read_on t (next fuel xs)).identifiers) p ∙ same ih (step_by rules ys) (sym (ap (λ t. (read_on t (next fuel xs)).rest) p) ∙ e)
+      go ih (step_stop b p) = let z : Stopped b ≡ Nothing = sym (ap (λ t. (read_on t (next fuel xs)).rest) p) ∙ e in absurd (let x : ⊥ = cc in x)
 
-same_ids : (xs ys : List Cell) → AllZip IsCellOf xs ys → (directory xs).rest ≡ Nothing → (directory xs).identifiers ≡ (directory ys).identifiers
-unfolding directory
-same_ids xs ys h e = same_from (length xs + 1) xs ys h e ∙ ap (λ n. (read_from (n + 1) ys).identifiers) (AllZip-length xs ys h)
+  same_ids : (xs ys : List Cell) → AllZip IsCellOf xs ys → (directory_by rules xs).rest ≡ Nothing → (directory_by rules xs).identifiers ≡ (directory_by rules ys).identifiers
+  unfolding directory_by
+  same_ids xs ys h e = same_from (length xs + 1) xs ys h e ∙ ap (λ n. (read_from rules (n + 1) ys).identifiers) (AllZip-length xs ys h)
 
 -- ---- a directory: which entries are read
 more_listed : (before more : List Identifier) (id : Identifier) (entry : DirEntry) → id.listed ≡ Some entry
@@ -192,46 +194,47 @@ reads_on (i ∷ is) rest (j ∷ js) behind id e h =
     (fewer j.listed (listed_entries js) (listed_entries is) (subst (λ z. length (listed_entries (j ∷ js)) < length (listed_entries (z ∷ is))) same h)) in
     (later.0, λ t. same t ∷ later.1 t)
 
-pub tells_front : (part : List Cell) (front : DirFront) → IsFrontOf front part → TellsFront part front
-tells_front part front f whole h = record {
-  entries = subst (λ es. IsBeginningOf es (directory_entries whole)) (sym f.entries) law.entries;
-  reached = λ before behind id entry e l. (clear before behind id e, listed before behind id entry e l);
-  stopped = λ n e. stopped_at part n (stops n (directory part).rest (sym f.missing ∙ e));
-  no_fault = λ e. f.fault ∙ sound e (directory part).rest refl;
-  all = λ e none. f.entries ∙ ap listed_entries (same_ids part whole h (ends e (directory part).rest refl (sym f.missing ∙ none)));
-  standard = λ bytes same e. ((directory (as_cells bytes)).identifiers, directory_law bytes (ap (λ cs. (directory cs).rest) (sym same) ∙ e), ap directory_entries same);
-}
-  where
-    law : IsPartialDirectory part whole
-    law = partial_directory part whole h
+module _ (rules : Profile) where
+  pub tells_front : (part : List Cell) (front : DirFront) → IsFrontBy rules front part → TellsBy rules part front
+  tells_front part front f whole h = record {
+    entries = subst (λ es. IsBeginningOf es (entries_by rules whole)) (sym f.entries) law.entries;
+    reached = λ before behind id entry e l. (clear before behind id e, listed before behind id entry e l);
+    stopped = λ n e. stopped_at rules part n (stops n (directory_by rules part).rest (sym f.missing ∙ e));
+    no_fault = λ e. f.fault ∙ sound e (directory_by rules part).rest refl;
+    all = λ e none. f.entries ∙ ap listed_entries (same_ids rules part whole h (ends e (directory_by rules part).rest refl (sym f.missing ∙ none)));
+    standard = λ bytes same e. ((directory_by rules (as_cells bytes)).identifiers, directory_law rules bytes (ap (λ cs. (directory_by rules cs).rest) (sym same) ∙ e), ap (entries_by rules) same);
+  }
+    where
+      law : IsPartialDirectory rules part whole
+      law = partial_directory rules part whole h
 
-    ids : IsBeginningOf (directory part).identifiers (directory whole).identifiers
-    ids = part_ids part whole h
+      ids : IsBeginningOf (directory_by rules part).identifiers (directory_by rules whole).identifiers
+      ids = part_ids rules part whole h
 
-    clear : (before behind : List Identifier) (id : Identifier) → (directory whole).identifiers ≡ before ++ id ∷ behind
-        → length (listed_entries before) < length front.entries.items → IsClearTo part (descriptor_end before id)
-    clear before behind id e l =
-        let on : (more : List Identifier) × ((directory part).identifiers ≡ before ++ id ∷ more) = reads_on (directory part).identifiers ids.0 before behind id (sym ids.1 ∙ e)
-        (subst (λ es. length (listed_entries before) < length es) f.entries l) in
-        law.clear before on.0 id on.1
+      clear : (before behind : List Identifier) (id : Identifier) → (directory_by rules whole).identifiers ≡ before ++ id ∷ behind
+          → length (listed_entries before) < length front.entries.items → IsClearTo part (descriptor_end before id)
+      clear before behind id e l =
+          let on : (more : List Identifier) × ((directory_by rules part).identifiers ≡ before ++ id ∷ more) = reads_on (directory_by rules part).identifiers ids.0 before behind id (sym ids.1 ∙ e)
+          (subst (λ es. length (listed_entries before) < length es) f.entries l) in
+          law.clear before on.0 id on.1
 
-    listed : (before behind : List Identifier) (id : Identifier) (entry : DirEntry) → (directory whole).identifiers ≡ before ++ id ∷ behind → id.listed ≡ Some entry
-        → IsClearTo part (descriptor_end before id) → length (listed_entries before) < length front.entries.items
-    listed before behind id entry e l c =
-        let on : (more : List Identifier) × ((directory part).identifiers ≡ before ++ id ∷ more) = law.reached before behind id e c in
-        subst (λ es. length (listed_entries before) < length es) (sym (f.entries ∙ ap listed_entries on.1)) (more_listed before on.0 id entry l)
+      listed : (before behind : List Identifier) (id : Identifier) (entry : DirEntry) → (directory_by rules whole).identifiers ≡ before ++ id ∷ behind → id.listed ≡ Some entry
+          → IsClearTo part (descriptor_end before id) → length (listed_entries before) < length front.entries.items
+      listed before behind id entry e l c =
+          let on : (more : List Identifier) × ((directory_by rules part).identifiers ≡ before ++ id ∷ more) = law.reached before behind id e c in
+          subst (λ es. length (listed_entries before) < length es) (sym (f.entries ∙ ap listed_entries on.1)) (more_listed before on.0 id entry l)
 
-    stops : (n : ℕ) (r : Rest) → missing_in r ≡ Some n → r ≡ Stopped n
-    stops n Nothing e = absurd (let x : ⊥ = cc in x)
-    stops n (Stopped m) e = ap Stopped (let same : m ≡ n = cc in same)
-    stops n (Wrong fault) e = absurd (let x : ⊥ = cc in x)
+      stops : (n : ℕ) (r : Rest) → missing_in r ≡ Some n → r ≡ Stopped n
+      stops n Nothing e = absurd (let x : ⊥ = cc in x)
+      stops n (Stopped m) e = ap Stopped (let same : m ≡ n = cc in same)
+      stops n (Wrong fault) e = absurd (let x : ⊥ = cc in x)
 
-    sound : (directory whole).rest ≡ Nothing → (r : Rest) → (directory part).rest ≡ r → fault_in r ≡ None
-    sound e Nothing q = refl
-    sound e (Stopped n) q = refl
-    sound e (Wrong fault) q = absurd (law.no_fault e fault q)
+      sound : (directory_by rules whole).rest ≡ Nothing → (r : Rest) → (directory_by rules part).rest ≡ r → fault_in r ≡ None
+      sound e Nothing q = refl
+      sound e (Stopped n) q = refl
+      sound e (Wrong fault) q = absurd (law.no_fault e fault q)
 
-    ends : (directory whole).rest ≡ Nothing → (r : Rest) → (directory part).rest ≡ r → missing_in r ≡ None → r ≡ Nothing
-    ends e Nothing q m = refl
-    ends e (Stopped n) q m = absurd (let x : ⊥ = cc in x)
-    ends e (Wrong fault) q m = absurd (law.no_fault e fault q)
+      ends : (directory_by rules whole).rest ≡ Nothing → (r : Rest) → (directory_by rules part).rest ≡ r → missing_in r ≡ None → r ≡ Nothing
+      ends e Nothing q m = refl
+      ends e (Stopped n) q m = absurd (let x : ⊥ = cc in x)
+      ends e (Wrong fault) q m = absurd (law.no_fault e fault q)

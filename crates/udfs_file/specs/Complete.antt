@@ -4,7 +4,7 @@
 --     BodyLaw                     a body without a fault is the one that the standard reads
 --     DirectoryLaw                a directory without a fault is the one list that the standard reads
 --     NeverStops                  a directory that is all there is not ended by a missing block
---     ReadsLaw                    `directory` gives the only reading that there is
+--     ReadsLaw                    `directory_by` gives the only reading that there is
 --     StandardBodies, StandardDirectories     back: what the standard reads has no fault
 use Rattle.std.specs.Prelude.{◌≡◌, ◌≢◌, ◌<◌, ◌≤◌, ℕ, List, length, map, Some, None, ◌↔◌, Contains}
 use Rattle.udfs_volume.specs.Sequence.{Bytes}
@@ -14,7 +14,8 @@ use Rattle.udfs_file.specs.Entries.{EntryFields}
 use Rattle.udfs_file.specs.Bodies.{cells, body}
 use Rattle.udfs_file.specs.declared.cells.Cell.{Cell}
 use Rattle.udfs_file.specs.declared.cells.Cell.TheVariants.{Byte}
-use Rattle.udfs_file.specs.Fronts.{ReadsAs, directory}
+use Rattle.udfs_volume.specs.declared.profiles.Profile.{Profile}
+use Rattle.udfs_file.specs.Fronts.{ReadsBy, directory_by}
 use Rattle.udfs_file.specs.Identifiers.{Identifier}
 use Rattle.udfs_file.specs.Identifiers.{Rest}
 use Rattle.udfs_file.specs.Identifiers.{Nothing, Stopped}
@@ -62,22 +63,22 @@ BodyLaw = (all : View) (blocks : PartitionBlocks) → IsComplete all blocks → 
 
 -- the descriptors and the rest are those that the cells read as, and no others
 abbrev pub ReadsLaw : Type 0
-ReadsLaw = (cs : List Cell) (ids : List Identifier) (rest : Rest)
-    → ReadsAs cs ids rest ↔ (((directory cs).identifiers ≡ ids) × ((directory cs).rest ≡ rest))
+ReadsLaw = (profile : Profile) (cs : List Cell) (ids : List Identifier) (rest : Rest)
+    → ReadsBy profile cs ids rest ↔ (((directory_by profile cs).identifiers ≡ ids) × ((directory_by profile cs).rest ≡ rest))
 
 -- where all cells are there, no missing block ends a directory
 abbrev pub NeverStops : Type 0
-NeverStops = (whole : List Located) (n : ℕ) → (directory (as_cells whole)).rest ≢ Stopped n
+NeverStops = (profile : Profile) (whole : List Located) (n : ℕ) → (directory_by profile (as_cells whole)).rest ≢ Stopped n
 
 -- these descriptors are those of a directory's body, and no others are
-pub record IsReadDirectory (whole : List Located) (ids : List Identifier) : Type 0 where
-  pub reads : IsDirectoryBody whole ids
-  pub only : (other : List Identifier) → IsDirectoryBody whole other → other ≡ ids
+pub record IsReadDirectory (profile : Profile) (whole : List Located) (ids : List Identifier) : Type 0 where
+  pub reads : IsDirectoryBody profile whole ids
+  pub only : (other : List Identifier) → IsDirectoryBody profile whole other → other ≡ ids
 
 -- a directory without a fault, all of whose bytes are there, is the one that the standard reads
 abbrev pub DirectoryLaw : Type 0
-DirectoryLaw = (whole : List Located) → (directory (as_cells whole)).rest ≡ Nothing
-    → IsReadDirectory whole (directory (as_cells whole)).identifiers
+DirectoryLaw = (profile : Profile) (whole : List Located) → (directory_by profile (as_cells whole)).rest ≡ Nothing
+    → IsReadDirectory profile whole (directory_by profile (as_cells whole)).identifiers
 
 -- what has a place is in a partition that there is
 abbrev pub HasPartitions : View → Type 0
@@ -94,9 +95,9 @@ AreShort ids = (id : Identifier) → Contains ids id → id.size ≤ 2048
 
 -- every descriptor that is read is that short
 abbrev pub DescriptorsAreShort : Type 0
-DescriptorsAreShort = (cs : List Cell) → AreShort (directory cs).identifiers
+DescriptorsAreShort = (profile : Profile) (cs : List Cell) → AreShort (directory_by profile cs).identifiers
 
 -- and a directory whose body is a list of descriptors has no fault, and lists these
 abbrev pub StandardDirectories : Type 0
-StandardDirectories = (whole : List Located) (ids : List Identifier) → IsDirectoryBody whole ids → AreShort ids
-    → ((directory (as_cells whole)).identifiers ≡ ids) × ((directory (as_cells whole)).rest ≡ Nothing)
+StandardDirectories = (profile : Profile) (whole : List Located) (ids : List Identifier) → IsDirectoryBody profile whole ids → AreShort ids
+    → ((directory_by profile (as_cells whole)).identifiers ≡ ids) × ((directory_by profile (as_cells whole)).rest ≡ Nothing)

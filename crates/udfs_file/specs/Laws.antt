@@ -1,10 +1,10 @@
 -- What holds of a partition of which a part is known.
-use Rattle.std.specs.Prelude.{◌≡◌, ℕ, ◌<◌, List, [], ◌∷◌, ◌++◌, length, slice_get, Some, ◌↔◌, ◌≢◌, ◌+◌, ⊤, Contains}
+use Rattle.std.specs.Prelude.{◌≡◌, ℕ, ◌<◌, List, [], ◌∷◌, ◌++◌, length, slice_get, Some, None, ◌↔◌, ◌≢◌, ◌+◌, ⊤, Contains}
 use Rattle.std.specs.List.{AllZip}
 use Rattle.udfs_lattice.specs.States.{is_known}
 use Rattle.udfs_osta.specs.Escapes.{escaped}
 use Rattle.udfs_osta.specs.Parts.{IsPathPart}
-use Rattle.std.specs.Prelude.{Bool, true, false}
+use Rattle.std.specs.Prelude.{true, false}
 use Rattle.udfs_space.specs.Places.{View, IsPartOf}
 use Rattle.udfs_tag.specs.declared.layouts.LongAd.{LongAd}
 use Rattle.udfs_volume.specs.declared.profiles.Profile.{Profile}
@@ -15,7 +15,7 @@ use Rattle.udfs_file.specs.Entries.{EntryFields}
 use Rattle.udfs_file.specs.Bodies.{cells, body, IsNeededFor}
 use Rattle.udfs_file.specs.declared.cells.Cell.{Cell}
 use Rattle.udfs_file.specs.declared.cells.Cell.TheVariants.{Byte, Gap}
-use Rattle.udfs_file.specs.Fronts.{directory, directory_entries}
+use Rattle.udfs_file.specs.Fronts.{directory_by, entries_by, fault_in}
 use Rattle.udfs_file.specs.Identifiers.{Nothing, Wrong}
 use Rattle.udfs_file.specs.Identifiers.{Identifier}
 use Rattle.udfs_file.specs.declared.directories.DirEntry.{DirEntry}
@@ -44,15 +44,15 @@ abbrev pub IsClearTo : List Cell → ℕ → Type 0
 IsClearTo cs end = (k : ℕ) → k < end → ¬ IsMissingAt cs k
 
 -- What the directory in a part of a body says beside that in the whole.
-pub record IsPartialDirectory (part whole : List Cell) : Type 0 where
+pub record IsPartialDirectory (profile : Profile) (part whole : List Cell) : Type 0 where
   -- its entries are a beginning of the whole's
-  pub entries : IsBeginningOf (directory_entries part) (directory_entries whole)
+  pub entries : IsBeginningOf (entries_by profile part) (entries_by profile whole)
   -- where the whole has no fault, it has none
-  pub no_fault : (directory whole).rest ≡ Nothing → (f : NodeFault) → (directory part).rest ≢ Wrong f
+  pub no_fault : (directory_by profile whole).rest ≡ Nothing → (f : NodeFault) → (directory_by profile part).rest ≢ Wrong f
   -- a descriptor of the whole is read exactly if no cell before its end is missing
-  pub reached : (front back : List Identifier) (id : Identifier) → (directory whole).identifiers ≡ front ++ id ∷ back
-      → IsClearTo part (descriptor_end front id) → (more : List Identifier) × ((directory part).identifiers ≡ front ++ id ∷ more)
-  pub clear : (front back : List Identifier) (id : Identifier) → (directory part).identifiers ≡ front ++ id ∷ back
+  pub reached : (front back : List Identifier) (id : Identifier) → (directory_by profile whole).identifiers ≡ front ++ id ∷ back
+      → IsClearTo part (descriptor_end front id) → (more : List Identifier) × ((directory_by profile part).identifiers ≡ front ++ id ∷ more)
+  pub clear : (front back : List Identifier) (id : Identifier) → (directory_by profile part).identifiers ≡ front ++ id ∷ back
       → IsClearTo part (descriptor_end front id)
 
 -- the file set's block is known, and it names the same root; or it is the one hole, and it is not known
@@ -79,7 +79,7 @@ pub record IsPartialBody (some all : View) (r b : ℕ) (entry : EntryFields) (wh
   pub part : List Cell
   pub is : body some r b entry ≡ cells part
   pub cells_are : ArePartOf some all r entry part whole
-  pub inside : IsPartialDirectory part whole
+  pub inside : IsPartialDirectory all.profile part whole
 
 -- Over any view that is part of a complete one: where the complete body has no fault, this body has none, each
 -- of its cells is the complete one's or missing, a missing cell names a block that it needs and that is not known,
@@ -90,8 +90,8 @@ PartialBodies = (some all : View) → IsPartOf some all → (r b : ℕ) (entry :
 
 -- the descriptors that the directory in a part of a body lists are a beginning of the whole's
 abbrev pub PartialDescriptors : Type 0
-PartialDescriptors = (part whole : List Cell) → AllZip IsCellOf part whole
-    → IsBeginningOf (directory part).identifiers (directory whole).identifiers
+PartialDescriptors = (profile : Profile) (part whole : List Cell) → AllZip IsCellOf part whole
+    → IsBeginningOf (directory_by profile part).identifiers (directory_by profile whole).identifiers
 
 -- a body without a fault has the information length
 abbrev pub BodyLength : Type 0
@@ -108,4 +108,14 @@ TailKeepsBodies = (v : View) (r b : ℕ) (entry : EntryFields) (cs : List Cell)
 
 -- the escaped name of each entry of a directory is a valid path component
 abbrev pub NamesAreParts : Type 0
-NamesAreParts = (cs : List Cell) (e : DirEntry) → Contains (directory_entries cs) e → IsPathPart (escaped e.name)
+NamesAreParts = (profile : Profile) (cs : List Cell) (e : DirEntry) → Contains (entries_by profile cs) e → IsPathPart (escaped e.name)
+
+-- A directory without a fault by the strict rules, whether or not a missing block ends it, is the same by the wide ones, which do not
+-- compare the places that tags name. Of any directory the strict rules read a beginning of what the wide ones read.
+pub record AreTagsTaken (cs : List Cell) : Type 0 where
+  pub same : fault_in (directory_by Strict cs).rest ≡ None → directory_by Wide cs ≡ directory_by Strict cs
+  pub beginning : IsBeginningOf (directory_by Strict cs).identifiers (directory_by Wide cs).identifiers
+
+-- of each directory
+abbrev pub WideTakesTags : Type 0
+WideTakesTags = (cs : List Cell) → AreTagsTaken cs

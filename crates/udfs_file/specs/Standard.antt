@@ -2,7 +2,7 @@
 -- Blocks are given by a partition reference and a logical block.
 --     IsFileSetAt blocks a root        the file set descriptor at an address, and the root's ICB that it names
 --     IsBodyOf blocks r b e body       the body of the entry at block b of partition r
---     IsDirectoryBody body ids         the descriptors in a directory's body
+--     IsDirectoryBody profile body ids   the descriptors in a directory's body, by these rules
 use Rattle.std.specs.Prelude.{◌≡◌, ◌≢◌, ⊤, ℕ, ◌+◌, ◌*◌, ◌%◌, ◌<◌, ◌≤◌, Bool, true, not, List, [], ◌∷◌, ◌++◌, length, take, map, flat_map, replicate, take_while, cond, nat_eq, nat_lt, Option, Some, None}
 use Rattle.std.specs.List.{range_with_len}
 use Rattle.udfs_volume.specs.Sequence.{Bytes}
@@ -11,6 +11,7 @@ use Rattle.udfs_tag.specs.Fields.{uint32_at, long_ad_at, part}
 use Rattle.udfs_tag.specs.Tags.{is_valid}
 use Rattle.udfs_volume.specs.Layout.{blocks_in}
 use Rattle.udfs_volume.specs.declared.profiles.Profile.{Profile}
+use Rattle.udfs_volume.specs.declared.profiles.Profile.TheVariants.{Strict, Wide}
 use Rattle.udfs_volume.specs.Profiles.{takes_tail}
 use Rattle.udfs_file.specs.Entries.{EntryFields, descriptor_size}
 use Rattle.udfs_file.specs.Bodies.{descriptors_in, next_descriptor}
@@ -18,8 +19,8 @@ use Rattle.udfs_file.specs.Fronts.{identifier_size, identifier_in}
 use Rattle.udfs_file.specs.Identifiers.{Identifier}
 use Rattle.udfs_file.specs.Identifiers.{One}
 
--- The blocks of the partitions, by partition reference and logical block, and whether the last extent of a body may
--- end inside a block that goes on.
+-- The blocks of the partitions, by partition reference and logical block, and the rules by which they are read: whether the last
+-- extent of a body may end inside a block that goes on, and whether the tags in a directory name their places.
 pub record PartitionBlocks : Type 0 where
   pub at : ℕ → ℕ → Option Bytes
   pub profile : Profile
@@ -109,19 +110,24 @@ pub record IsEmbeddedBody (b : ℕ) (e : EntryFields) (body : List Located) : Ty
 abbrev pub IsBodyOf : PartitionBlocks → ℕ → ℕ → EntryFields → List Located → Type 0
 IsBodyOf blocks r b e body = cond (nat_eq e.form 3) (IsEmbeddedBody b e body) (IsExtentsBody blocks r e body)
 
--- these bytes are one valid file identifier descriptor (4/14.4), whose tag has the location of the block that holds its first byte
-pub record IsIdentifierIn (piece : List Located) (id : Identifier) : Type 0 where
+-- a tag may name this place where a descriptor has these bytes: the block that holds its first byte, and by the wide rules any
+abbrev pub MayName : Profile → List Located → ℕ → Type 0
+MayName Strict piece block = (rest : List Located) × (x : ℕ) × (piece ≡ (x, Some block) ∷ rest)
+MayName Wide piece block = ⊤
+
+-- these bytes are one valid file identifier descriptor (4/14.4), whose tag names a place that it may name
+pub record IsIdentifierIn (profile : Profile) (piece : List Located) (id : Identifier) : Type 0 where
   pub bytes : Bytes
   pub bytes_are : bytes ≡ map (λ x. x.0) piece
   pub block : ℕ
-  pub first : (rest : List Located) × (x : ℕ) × (piece ≡ (x, Some block) ∷ rest)
+  pub place : MayName profile piece block
   pub long_enough : 38 ≤ length piece
   pub size : length piece ≡ identifier_size bytes
   pub valid : is_valid bytes block 257 ≡ true
   pub is : identifier_in (length piece) bytes ≡ One id
 
 -- a directory's body is a list of file identifier descriptors and nothing else (4/14.4)
-abbrev pub IsDirectoryBody : List Located → List Identifier → Type 0
-IsDirectoryBody body [] = body ≡ []
-IsDirectoryBody body (id ∷ ids) = (piece : List Located) × (rest : List Located) × (body ≡ piece ++ rest)
-    × IsIdentifierIn piece id × IsDirectoryBody rest ids
+abbrev pub IsDirectoryBody : Profile → List Located → List Identifier → Type 0
+IsDirectoryBody profile body [] = body ≡ []
+IsDirectoryBody profile body (id ∷ ids) = (piece : List Located) × (rest : List Located) × (body ≡ piece ++ rest)
+    × IsIdentifierIn profile piece id × IsDirectoryBody profile rest ids

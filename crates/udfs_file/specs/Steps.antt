@@ -1,10 +1,13 @@
 -- Steps of a cursor through a directory.
 --     bytes_of view            the bytes of both pieces
 --     StepIs told step         the step of the code is this step of the definition
---     IsStep before told after what was next, and what is left after it
+--     IsNext profile before told after     what was next by these rules, and what is left after it
+--     IsStep before told after             the same by the strict ones
 --     StepsTo before told after   the same of the list of all descriptors and what ends it
-use Rattle.std.specs.Prelude.{◌≡◌, ◌≤◌, ℕ, List, [], ◌∷◌, ◌++◌, length, drop, Option, ⊤}
-use Rattle.udfs_file.specs.Fronts.{DirectoryText, identifier_in, step}
+use Rattle.std.specs.Prelude.{◌≡◌, ◌≤◌, ℕ, Bool, true, false, List, [], ◌∷◌, ◌++◌, length, drop, Option, ⊤}
+use Rattle.udfs_volume.specs.declared.profiles.Profile.{Profile}
+use Rattle.udfs_volume.specs.declared.profiles.Profile.TheVariants.{Strict}
+use Rattle.udfs_file.specs.Fronts.{DirectoryText, identifier_in, step_by}
 use Rattle.udfs_file.specs.Identifiers.{Identifier, Rest, Nothing, Stopped, Wrong, AtRest, One}
 use Rattle.udfs_file.specs.Identifiers as identifiers
 use Rattle.udfs_file.specs.declared.cells.Cell.{Cell}
@@ -23,6 +26,13 @@ pub record IsDescriptor (bytes : List ℕ) (id : Identifier) : Type 0 where
   pub most : length bytes ≤ 2048
   pub size : id.size ≡ length bytes
   pub is : identifier_in (length bytes) bytes ≡ One id
+
+-- the step is a descriptor
+abbrev pub is_id : Step → Bool
+is_id (Id view) = true
+is_id (Stop n) = false
+is_id (Fault fault) = false
+is_id End = false
 
 -- the step of the code is the one of the definitions
 abbrev pub StepIs : Step → identifiers.Step → Type 0
@@ -46,9 +56,13 @@ left_behind (Fault fault) before = before
 left_behind End before = before
 
 -- a cursor returned the step of the cells before, and what is after it is left
-pub record IsStep (before : List Cell) (told : Step) (after : List Cell) : Type 0 where
-  pub is : StepIs told (step before)
+pub record IsNext (profile : Profile) (before : List Cell) (told : Step) (after : List Cell) : Type 0 where
+  pub is : StepIs told (step_by profile before)
   pub behind : after ≡ left_behind told before
+
+-- the step by the strict rules
+abbrev pub IsStep : List Cell → Step → List Cell → Type 0
+IsStep before told after = IsNext Strict before told after
 
 -- the first descriptor, and then those that are left; or the rest alone, and it stays so
 abbrev pub StepsTo : DirectoryText → Step → DirectoryText → Type 0

@@ -1,7 +1,8 @@
 -- What the calls report of partitions of which a part is known: of every complete view of which this one is a part.
 --     TellsFileSet some a seen           the root of the complete file set, or its block as the one hole
 --     TellsBody some r b entry told      each cell of the complete body, or a block that is not known and that it needs
---     TellsFront part front              the first entries of the whole directory, up to a missing cell
+--     TellsBy profile part front         the first entries of the whole directory, up to a missing cell
+--     TellsFront part front              the same by the strict rules, the first entries of the whole directory, up to a missing cell
 -- What they report of a complete view itself is what the standard reads from its blocks, and nothing else.
 use Rattle.std.specs.Prelude.{◌≡◌, ◌↔◌, ◌<◌, ⊤, ℕ, true, false, List, [], ◌∷◌, ◌++◌, length, slice_get, Some, None, Result, Ok, Err}
 use Rattle.std.specs.List.{AllZip}
@@ -15,7 +16,9 @@ use Rattle.udfs_file.specs.Addresses.{file_set}
 use Rattle.udfs_file.specs.Bodies.{cells, body}
 use Rattle.udfs_file.specs.Complete.{IsComplete, IsReadBody, IsReadDirectory, IsReadFileSet, as_cells}
 use Rattle.udfs_file.specs.Entries.{EntryFields}
-use Rattle.udfs_file.specs.Fronts.{directory, directory_entries, listed_entries}
+use Rattle.udfs_volume.specs.declared.profiles.Profile.{Profile}
+use Rattle.udfs_volume.specs.declared.profiles.Profile.TheVariants.{Strict}
+use Rattle.udfs_file.specs.Fronts.{directory_by, entries_by, listed_entries}
 use Rattle.udfs_file.specs.Laws.{ArePartOf, IsBeginningOf, IsCellOf, IsClearTo, descriptor_end}
 use Rattle.udfs_file.specs.Standard.{PartitionBlocks, Located}
 use Rattle.udfs_file.specs.Stretches.{cells_of}
@@ -69,21 +72,25 @@ TellsBody some r b entry told = (all : View) → IsPartOf some all → (whole : 
 
 -- ---- a directory
 -- the front of the directory in some cells, each of which is the whole's or missing
-pub record IsFrontPart (part whole : List Cell) (front : DirFront) : Type 0 where
-  pub entries : IsBeginningOf front.entries.items (directory_entries whole)
+pub record IsFrontPart (profile : Profile) (part whole : List Cell) (front : DirFront) : Type 0 where
+  pub entries : IsBeginningOf front.entries.items (entries_by profile whole)
   -- an entry is among them exactly if no cell before the end of its descriptor is missing
   pub reached : (before behind : List Identifier) (id : Identifier) (entry : DirEntry)
-      → (directory whole).identifiers ≡ before ++ id ∷ behind → id.listed ≡ Some entry
+      → (directory_by profile whole).identifiers ≡ before ++ id ∷ behind → id.listed ≡ Some entry
       → (length (listed_entries before) < length front.entries.items) ↔ IsClearTo part (descriptor_end before id)
   -- the block that ended it is one that a missing cell names
   pub stopped : (n : ℕ) → front.missing ≡ Some n → (k : ℕ) × (slice_get part k ≡ Some (Gap n))
   -- where the whole has no fault, it has none, and its entries are all of them unless a missing block ended it
-  pub no_fault : (directory whole).rest ≡ Nothing → front.fault ≡ None
-  pub all : (directory whole).rest ≡ Nothing → front.missing ≡ None → front.entries.items ≡ directory_entries whole
+  pub no_fault : (directory_by profile whole).rest ≡ Nothing → front.fault ≡ None
+  pub all : (directory_by profile whole).rest ≡ Nothing → front.missing ≡ None → front.entries.items ≡ entries_by profile whole
   -- the whole's entries are those of the one list of descriptors that the standard reads from its bytes
-  pub standard : (bytes : List Located) → whole ≡ as_cells bytes → (directory whole).rest ≡ Nothing
-      → (ids : List Identifier) × IsReadDirectory bytes ids × (directory_entries whole ≡ listed_entries ids)
+  pub standard : (bytes : List Located) → whole ≡ as_cells bytes → (directory_by profile whole).rest ≡ Nothing
+      → (ids : List Identifier) × IsReadDirectory profile bytes ids × (entries_by profile whole ≡ listed_entries ids)
 
 -- of each whole of which these cells are a part, the front is a part of its directory
+abbrev pub TellsBy : Profile → List Cell → DirFront → Type 0
+TellsBy profile part front = (whole : List Cell) → AllZip IsCellOf part whole → IsFrontPart profile part whole front
+
+-- the same by the strict rules
 abbrev pub TellsFront : List Cell → DirFront → Type 0
-TellsFront part front = (whole : List Cell) → AllZip IsCellOf part whole → IsFrontPart part whole front
+TellsFront part front = TellsBy Strict part front

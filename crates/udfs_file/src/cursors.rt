@@ -2,13 +2,13 @@
 
 ghost use Rattle.std.specs.Prelude.{◌≡◌, ◌≤◌, ◌<◌, ◌+◌, drop, is_some, length, take};
 ghost use Rattle.udfs_space.specs.Views.{view_now};
-ghost use Rattle.udfs_tag.specs.Fields.{part, uint8_at, uint16_at};
+ghost use Rattle.udfs_tag.specs.Fields.{part, uint8_at, uint16_at, uint32_at};
 ghost use Rattle.udfs_tag.specs.Tags.{is_valid};
 ghost use Rattle.udfs_osta.specs.Names.{fault_of, units_of};
 ghost use Rattle.udfs_file.specs.CellsLeft.{cells_left};
-ghost use Rattle.udfs_file.specs.Fronts.{checked_identifier, directory, identifier_in, identifier_size, is_listed, sized_identifier, step};
+ghost use Rattle.udfs_file.specs.Fronts.{checked_by, directory, identifier_in, identifier_size, is_listed, place_asked, sized_identifier, step};
 ghost use Rattle.udfs_file.specs.Stretches.{LieInBlocks, cells_of};
-ghost use Rattle.udfs_file.specs.Steps.{HasBytes, StepsTo, IsStep, StepIs, bytes_of};
+ghost use Rattle.udfs_file.specs.Steps.{HasBytes, StepsTo, IsStep, StepIs, bytes_of, is_id};
 
 use crate::bodies::Body;
 use crate::cells::Cells;
@@ -19,6 +19,7 @@ use std::marker::Model;
 use udfs_osta::Name;
 use udfs_space::View;
 use udfs_tag::{Tag, identifiers};
+use udfs_volume::Profile;
 
 /// The next item in a directory.
 #[derive(Clone, Copy, Debug)]
@@ -34,7 +35,8 @@ pub enum Step<'a> {
     End,
 }
 
-/// Goes through the file identifier descriptors of a directory. It borrows the table's blocks, and takes no memory.
+/// Goes through the file identifier descriptors of a directory, by the strict rules. It borrows the table's blocks, and takes no
+/// memory. [`StoreCursor`](crate::StoreCursor) does so by the rules of a profile.
 /// In contracts a cursor is the cells that are left.
 #[derive(Drop)]
 pub struct Cursor<'a> {
@@ -52,6 +54,15 @@ impl<'a> Model for Cursor<'a> {
     ghost view = { λ c. cells_left c.cells };
 
     ghost invariant = { λ c. LieInBlocks c.cells.stretches.now };
+}
+
+impl<'a> Step<'a> {
+    /// Whether it is a descriptor.
+    pub fn is_id(&self) -> bool
+        ensures { result ≡ is_id self.now }
+    {
+        matches!(self, Step::Id(_))
+    }
 }
 
 impl<'a> Pieces<'a> {
@@ -80,6 +91,31 @@ impl<'a> Pieces<'a> {
         ensures { result ≡ uint16_at (bytes_of self.now) at }
     {
         LittleEndian::read_u16(&[self.uint8(at), self.uint8(at + 1)])
+    }
+
+    /// The number of 32 bits at a place.
+    fn uint32(&self, at: usize) -> u32
+        requires { at + 4 ≤ length (bytes_of self.now) }
+        ensures { result ≡ uint32_at (bytes_of self.now) at }
+    {
+        LittleEndian::read_u32(&[
+            self.uint8(at),
+            self.uint8(at + 1),
+            self.uint8(at + 2),
+            self.uint8(at + 3),
+        ])
+    }
+
+    /// The place that the descriptor's tag is to name: the logical block that holds its first byte, and by the wide rules the
+    /// place that it names, so that nothing is compared.
+    fn place_asked(&self, profile: Profile) -> Option<u32>
+        requires { 38 ≤ length (bytes_of self.now) }
+        ensures { result ≡ place_asked profile self.now.holder (bytes_of self.now) }
+    {
+        match profile {
+            Profile::Strict => self.holder,
+            Profile::Wide => Some(self.uint32(12)),
+        }
     }
 
     /// The size of a descriptor of which these are the first bytes (ECMA-167 4/14.4.9).
@@ -159,13 +195,13 @@ fn named<'a>(view: Pieces<'a>) -> Step<'a>
 }
 
 /// The descriptor in these bytes.
-pub(crate) fn checked<'a>(view: Pieces<'a>) -> Step<'a>
+pub(crate) fn checked<'a>(profile: Profile, view: Pieces<'a>) -> Step<'a>
     requires least { 38 ≤ length (bytes_of view) }
     requires most { length (bytes_of view) ≤ 2048 }
-    ensures value { StepIs result (checked_identifier view.entry.holder (bytes_of view.entry)) }
+    ensures value { StepIs result (checked_by profile view.entry.holder (bytes_of view.entry)) }
     ensures bytes { HasBytes (bytes_of view.entry) result }
 {
-    match view.holder {
+    match view.place_asked(profile) {
         Some(b) if is_identifier(&view, b) => named(view),
         _ => Step::Fault(NodeFault::IdentifierTag),
     }
@@ -182,7 +218,7 @@ fn sized<'a>(cells: &Cells<'a>, size: usize) -> Step<'a>
     }
     match cells.front(size) {
         Front::Gap(n) => Step::Stop(n),
-        Front::Bytes(view) => checked(view),
+        Front::Bytes(view) => checked(Profile::Strict, view),
     }
 }
 

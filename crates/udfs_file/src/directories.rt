@@ -6,10 +6,10 @@ ghost use Rattle.udfs_space.specs.Places.{view};
 ghost use Rattle.udfs_space.specs.Views.{view_by, view_now};
 ghost use Rattle.udfs_tag.specs.Fields.{uint8_at, uint16_at, part};
 ghost use Rattle.udfs_file.specs.Stretches.{cells_of};
-ghost use Rattle.udfs_file.specs.Fronts.{directory_entries, entry_with, is_listed, IsEndOf, IsFrontOf, IsFrontRefused};
+ghost use Rattle.udfs_file.specs.Fronts.{directory_entries, entry_with, has_moved_tags, is_listed, IsEndBy, IsFrontBy, IsFrontOf, IsRefusedBy};
 ghost use Rattle.udfs_file.specs.Identifiers.{One};
 ghost use Rattle.udfs_file.specs.Steps.{IsListedIn, bytes_of};
-ghost use Rattle.udfs_file.specs.Told.{TellsFront};
+ghost use Rattle.udfs_file.specs.Told.{TellsBy, TellsFront};
 
 use crate::bodies::Body;
 use crate::cursors::Step;
@@ -23,6 +23,7 @@ use udfs_lattice::{BlockStore, BlockTable, ReadFault};
 use udfs_osta::{Name, NameFault, OutOfMemory};
 use udfs_space::{Space, StoreView, View};
 use udfs_tag::LongAd;
+use udfs_volume::Profile;
 
 /// An entry of a directory.
 #[derive(Debug, Drop)]
@@ -155,7 +156,7 @@ fn put(entries: &mut Vec<DirEntry>, entry: DirEntry) -> Result<(), AllocError>
 pub enum Dir {}
 
 impl Dir {
-    /// The entries of the directory that has this body, from its beginning as far as they can be read: up to
+    /// The entries of the directory that has this body, from its beginning as far as they can be read by the strict rules: up to
     /// its end, to a descriptor of which some cell is missing, or to a fault.
     ///
     /// The body is one of this table and space. Faults are, of one descriptor in this order:
@@ -181,13 +182,22 @@ impl Dir {
         ensures complete { IfOk result (TellsFront (cells_of (view (state_of table.now) space.now) body.now)) }
         ensures memory { IfErr result (λ e. 0 < length (directory_entries (cells_of (view (state_of table.now) space.now) body.now))) }
     {
-        match Dir::front_within(alloc, View { table, space }, body, usize::MAX) {
-            Ok(front) => Ok(front),
-            Err(_) => Err(AllocError),
+        let blocks = table;
+        match Dir::front_by(
+            alloc,
+            StoreView { blocks, space },
+            body,
+            Profile::Strict,
+            usize::MAX,
+        ) {
+            Ok(Ok(front)) => Ok(front),
+            Ok(Err(_)) => Err(AllocError),
+            Err(_) => unreachable!(),
         }
     }
 
-    /// The same as [`Dir::front`], for a directory that lists at most `most` entries: no more than these are kept.
+    /// The same as [`Dir::front`] by the rules of the view, for a directory that lists at most `most` entries: no more than these are
+    /// kept. By the wide rules a descriptor's tag may name any place.
     ///
     /// # Errors
     ///
@@ -199,22 +209,23 @@ impl Dir {
         body: &Body,
         most: usize,
     ) -> Result<DirFront, FrontError>
-        ensures value { IfOk result (λ front. IsFrontOf front (cells_of (view_now view.entry) body.now)) }
-        ensures complete { IfOk result (TellsFront (cells_of (view_now view.entry) body.now)) }
+        ensures value { IfOk result (λ front. IsFrontBy (view_now view.entry).profile front (cells_of (view_now view.entry) body.now)) }
+        ensures complete { IfOk result (TellsBy (view_now view.entry).profile (cells_of (view_now view.entry) body.now)) }
         ensures few { IfOk result (λ front. length front.entries.items ≤ most) }
-        ensures refused { IfErr result (IsFrontRefused most (cells_of (view_now view.entry) body.now)) }
+        ensures refused { IfErr result (IsRefusedBy (view_now view.entry).profile most (cells_of (view_now view.entry) body.now)) }
     {
+        let profile = view.space.profile();
         let view = StoreView {
             blocks: view.table,
             space: view.space,
         };
-        match Dir::front_by(alloc, view, body, most) {
+        match Dir::front_by(alloc, view, body, profile, most) {
             Ok(told) => told,
             Err(_) => unreachable!(),
         }
     }
 
-    /// The same as [`Dir::front_within`], by any store of blocks.
+    /// The same as [`Dir::front_within`], by any store of blocks and the rules of this profile.
     ///
     /// # Errors
     ///
@@ -223,12 +234,13 @@ impl Dir {
         alloc: Global,
         view: StoreView<'_, B>,
         body: &Body,
+        profile: Profile,
         most: usize,
     ) -> Result<Result<DirFront, FrontError>, ReadFault>
-        ensures value { IfOk result (λ told. B.tells → IfOk told (λ front. IsFrontOf front (cells_of (view_by B.states view.entry) body.now))) }
-        ensures complete { IfOk result (λ told. B.tells → IfOk told (TellsFront (cells_of (view_by B.states view.entry) body.now))) }
+        ensures value { IfOk result (λ told. B.tells → IfOk told (λ front. IsFrontBy profile front (cells_of (view_by B.states view.entry) body.now))) }
+        ensures complete { IfOk result (λ told. B.tells → IfOk told (TellsBy profile (cells_of (view_by B.states view.entry) body.now))) }
         ensures few { IfOk result (λ told. IfOk told (λ front. length front.entries.items ≤ most)) }
-        ensures refused { IfOk result (λ told. B.tells → IfErr told (IsFrontRefused most (cells_of (view_by B.states view.entry) body.now))) }
+        ensures refused { IfOk result (λ told. B.tells → IfErr told (IsRefusedBy profile most (cells_of (view_by B.states view.entry) body.now))) }
         ensures fails { OnErr result B.fails }
     {
         let mut spare = [0; 2048];
@@ -236,7 +248,7 @@ impl Dir {
         let mut cursor = StoreCursor::new(view, body);
         let mut entries = Vec::new(alloc);
         'steps: loop {
-            match cursor.next(&mut spare, &mut other)? {
+            match cursor.next(profile, &mut spare, &mut other)? {
                 Step::Id(pieces) => match listed(alloc, &pieces) {
                     Ok(Some(entry)) => {
                         if entries.len() >= most {
@@ -257,28 +269,33 @@ impl Dir {
         }
     }
 
-    /// What ends the directory that has this body, as [`Dir::front`] reports it, and whether it lists anything before that. It takes
-    /// no memory.
+    /// What ends the directory that has this body, as [`Dir::front_within`] reports it, and whether it lists anything before that. It
+    /// takes no memory.
     pub fn end(view: View<'_>, body: &Body) -> DirEnd
-        ensures { IsEndOf result (cells_of (view_now view.entry) body.now) }
+        ensures { IsEndBy (view_now view.entry).profile result (cells_of (view_now view.entry) body.now) }
     {
+        let profile = view.space.profile();
         let view = StoreView {
             blocks: view.table,
             space: view.space,
         };
-        match Dir::end_by(view, body) {
+        match Dir::end_by(view, body, profile) {
             Ok(end) => end,
             Err(_) => unreachable!(),
         }
     }
 
-    /// The same as [`Dir::end`], by any store of blocks.
+    /// The same as [`Dir::end`], by any store of blocks and the rules of this profile.
     ///
     /// # Errors
     ///
     /// `ReadFault` where the bytes of a known block could not be read.
-    pub fn end_by<B: BlockStore>(view: StoreView<'_, B>, body: &Body) -> Result<DirEnd, ReadFault>
-        ensures value { IfOk result (λ end. B.tells → IsEndOf end (cells_of (view_by B.states view.entry) body.now)) }
+    pub fn end_by<B: BlockStore>(
+        view: StoreView<'_, B>,
+        body: &Body,
+        profile: Profile,
+    ) -> Result<DirEnd, ReadFault>
+        ensures value { IfOk result (λ end. B.tells → IsEndBy profile end (cells_of (view_by B.states view.entry) body.now)) }
         ensures fails { OnErr result B.fails }
     {
         let mut spare = [0; 2048];
@@ -286,7 +303,7 @@ impl Dir {
         let mut cursor = StoreCursor::new(view, body);
         let mut lists = false;
         'steps: loop {
-            match cursor.next(&mut spare, &mut other)? {
+            match cursor.next(profile, &mut spare, &mut other)? {
                 Step::Id(pieces) => {
                     if pieces.is_listed() {
                         lists = true;
@@ -295,6 +312,49 @@ impl Dir {
                 Step::Stop(n) => return Ok(end_at(lists, Some(n), None)),
                 Step::Fault(fault) => return Ok(end_at(lists, None, Some(fault))),
                 Step::End => return Ok(end_at(lists, None, None)),
+            }
+        }
+    }
+
+    /// Whether some descriptor of the directory that has this body, as far as the wide rules read it, has a tag of another place than the
+    /// logical block that holds its first byte. It takes no memory.
+    pub fn has_moved_tags(view: View<'_>, body: &Body) -> bool
+        ensures { result ≡ has_moved_tags (cells_of (view_now view.entry) body.now) }
+    {
+        let view = StoreView {
+            blocks: view.table,
+            space: view.space,
+        };
+        match Dir::has_moved_tags_by(view, body) {
+            Ok(moved) => moved,
+            Err(_) => unreachable!(),
+        }
+    }
+
+    /// The same as [`Dir::has_moved_tags`], by any store of blocks.
+    ///
+    /// # Errors
+    ///
+    /// `ReadFault` where the bytes of a known block could not be read.
+    pub fn has_moved_tags_by<B: BlockStore>(
+        view: StoreView<'_, B>,
+        body: &Body,
+    ) -> Result<bool, ReadFault>
+        ensures value { IfOk result (λ moved. B.tells → moved ≡ has_moved_tags (cells_of (view_by B.states view.entry) body.now)) }
+        ensures fails { OnErr result B.fails }
+    {
+        let mut spare = [0; 2048];
+        let mut other = [0; 2048];
+        let mut wide = StoreCursor::new(view, body);
+        let mut strict = StoreCursor::new(view, body);
+        'steps: loop {
+            let read = wide.next(Profile::Wide, &mut spare, &mut other)?;
+            if !read.is_id() {
+                return Ok(false);
+            }
+            let kept = strict.next(Profile::Strict, &mut spare, &mut other)?;
+            if !kept.is_id() {
+                return Ok(true);
             }
         }
     }

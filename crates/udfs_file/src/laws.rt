@@ -1,5 +1,5 @@
 //! Laws of bodies and directories, each the contract of a function that does nothing.
-ghost use Rattle.udfs_file.specs.Laws.{BodyLength, NamesAreParts, PartialBodies, PartialDescriptors, PartialFileSet, TailKeepsBodies};
+ghost use Rattle.udfs_file.specs.Laws.{BodyLength, NamesAreParts, PartialBodies, PartialDescriptors, PartialFileSet, TailKeepsBodies, WideTakesTags};
 ghost use Rattle.udfs_file.specs.Complete.{BodyLaw, DescriptorsAreShort, DirectoryLaw, FileSetLaw, NeverStops, ReadsLaw, StandardBodies, StandardDirectories};
 ghost use Rattle.udfs_file.specs.Sample.{HaveSampleFiles, SampleFileSet};
 
@@ -69,6 +69,11 @@ pub fn names_are_parts()
 /// A body without a fault stays as it is where the tail of a last extent is taken too.
 pub fn the_tail_keeps_bodies()
     ensures { TailKeepsBodies }
+{}
+
+/// A directory without a fault by the strict rules is the same by the wide ones, and of any these read at least what those read.
+pub fn wide_takes_tags()
+    ensures { WideTakesTags }
 {}
 
 /// A body without a fault has as many cells as the information length says.

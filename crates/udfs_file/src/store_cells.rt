@@ -2,9 +2,9 @@
 
 ghost use Rattle.std.specs.Prelude.{◌≡◌, ℕ, ◌≤◌, ◌<◌, ◌+◌, drop, length, min, nat_le, take, IfOk, OnErr};
 ghost use Rattle.udfs_space.specs.Views.{view_by};
-ghost use Rattle.udfs_file.specs.Fronts.{directory, sized_identifier, step};
+ghost use Rattle.udfs_file.specs.Fronts.{directory_by, sized_by, step_by};
 ghost use Rattle.udfs_file.specs.Pieces.{FitsPiece, IsPieceOf, IsFrontTaken, Starts};
-ghost use Rattle.udfs_file.specs.Steps.{StepsTo, IsStep, StepIs, left_behind};
+ghost use Rattle.udfs_file.specs.Steps.{StepsTo, IsNext, StepIs, left_behind};
 ghost use Rattle.udfs_file.specs.StoreCells.{FitsFront, IsHeadOf, IsSizedHead, IsSizedStep, IsStoreSettled, store_left, store_room};
 ghost use Rattle.udfs_file.specs.Stretches.{LieInBlocks, cells_of};
 
@@ -17,6 +17,7 @@ use crate::stretches::Stretch;
 use std::marker::Model;
 use udfs_lattice::{BlockStore, ReadFault};
 use udfs_space::StoreView;
+use udfs_volume::Profile;
 
 /// The cells of some stretches, without the first `passed`.
 #[derive_where(Clone, Copy)]
@@ -157,6 +158,7 @@ impl<'a, B: BlockStore> StoreCells<'a, B> {
 
 /// The descriptor of this size at the beginning of some cells.
 fn sized<'r, 'a, B: BlockStore>(
+    profile: Profile,
     cells: &StoreCells<'a, B>,
     size: usize,
     spare: &'r mut [u8; 2048],
@@ -166,7 +168,7 @@ where
     'a: 'r,
     requires lies { LieInBlocks cells.now.stretches.now }
     requires least { 38 ≤ size }
-    ensures value { IfOk result (λ step. B.tells → StepIs step (sized_identifier (store_left B.states cells.now) size)) }
+    ensures value { IfOk result (λ step. B.tells → StepIs step (sized_by profile (store_left B.states cells.now) size)) }
     ensures size { IfOk result (IsSizedStep (length (store_left B.states cells.now))) }
     ensures fails { OnErr result B.fails }
 {
@@ -175,7 +177,7 @@ where
     }
     match cells.front(size, spare, other)? {
         Front::Gap(n) => Ok(Step::Stop(n)),
-        Front::Bytes(view) => Ok(checked(view)),
+        Front::Bytes(view) => Ok(checked(profile, view)),
     }
 }
 
@@ -207,6 +209,7 @@ fn read_head<'a, B: BlockStore>(
 
 /// The descriptor at the beginning of some cells, or what ends the directory there.
 fn ahead<'r, 'a, B: BlockStore>(
+    profile: Profile,
     cells: &StoreCells<'a, B>,
     spare: &'r mut [u8; 2048],
     other: &'r mut [u8; 2048],
@@ -214,7 +217,7 @@ fn ahead<'r, 'a, B: BlockStore>(
 where
     'a: 'r,
     requires { LieInBlocks cells.now.stretches.now }
-    ensures value { IfOk result (λ told. B.tells → StepIs told (step (store_left B.states cells.now))) }
+    ensures value { IfOk result (λ told. B.tells → StepIs told (step_by profile (store_left B.states cells.now))) }
     ensures size { IfOk result (IsSizedStep (length (store_left B.states cells.now))) }
     ensures fails { OnErr result B.fails }
 {
@@ -226,11 +229,11 @@ where
     }
     match read_head(cells, spare, other)? {
         Head::Gap(n) => Ok(Step::Stop(n)),
-        Head::Size(size) => sized(cells, size, spare, other),
+        Head::Size(size) => sized(profile, cells, size, spare, other),
     }
 }
 
-/// Goes through the file identifier descriptors of a directory, as [`Cursor`](crate::Cursor), by any store of blocks.
+/// Goes through the file identifier descriptors of a directory, as [`Cursor`](crate::Cursor), by any store of blocks and any rules.
 #[derive(Drop)]
 pub struct StoreCursor<'a, B: BlockStore> {
     cells: StoreCells<'a, B>,
@@ -263,24 +266,26 @@ impl<'a, B: BlockStore> StoreCursor<'a, B> {
         }
     }
 
-    /// Returns the next descriptor and moves past it; or returns what ends the directory there, as does each later call. Its bytes are
-    /// lent from the store's memory, or from the two rooms. An error leaves the cursor where it was.
+    /// Returns the next descriptor by these rules and moves past it; or returns what ends the directory there, as does each later call.
+    /// By the wide rules a tag may name any place. The bytes are lent from the store's memory, or from the two rooms. An error leaves
+    /// the cursor where it was.
     #[tactic(auto, using(crate::proofs::CursorSteps::goes))]
     pub fn next<'r>(
         &mut self,
+        profile: Profile,
         spare: &'r mut [u8; 2048],
         other: &'r mut [u8; 2048],
     ) -> Result<Step<'r>, ReadFault>
     where
         'a: 'r,
-        ensures step { IfOk result (λ told. B.tells → IsStep self.old told self.new) }
-        ensures directory { IfOk result (λ told. B.tells → StepsTo (directory self.old) told (directory self.new)) }
+        ensures step { IfOk result (λ told. B.tells → IsNext profile self.old told self.new) }
+        ensures directory { IfOk result (λ told. B.tells → StepsTo (directory_by profile self.old) told (directory_by profile self.new)) }
         ensures behind { IfOk result (λ told. self.new ≡ left_behind told self.old) }
         ensures size { IfOk result (IsSizedStep (length self.old)) }
         ensures stays { OnErr result (self.new ≡ self.old) }
         ensures fails { OnErr result B.fails }
     {
-        let step = ahead(&self.cells, spare, other)?;
+        let step = ahead(profile, &self.cells, spare, other)?;
         if let Step::Id(view) = step {
             self.cells = self.cells.behind(view.len());
         }

@@ -5,6 +5,7 @@ mod CopyLoops
 mod Counting
 mod DiscCounting
 mod FullFolders
+mod Moving
 mod PathNames
 mod Places
 mod Rounding

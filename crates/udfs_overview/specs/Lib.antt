@@ -7,8 +7,10 @@ pub mod Tallies
 pub mod DiscTallies
 pub mod SummaryTexts
 pub mod Streams
+pub mod MovedTags
 pub mod Spares
 pub mod VolumeLines
 pub mod TornRows
 pub mod TornLists
+pub mod Disagreements
 pub mod Summaries

@@ -10,9 +10,11 @@ use Rattle.udfs_volume.specs.declared.profiles.Profile.TheVariants as profile
 use Rattle.udfs_walk.specs.NodeFields.{NodeFields}
 use Rattle.udfs_salvage.specs.Found.{Found}
 use Rattle.udfs_salvage.specs.Reports.{Report}
+use Rattle.udfs_overview.specs.Disagreements.{apart_lines}
 use Rattle.udfs_overview.specs.DiscTallies.{disc_of, unnamed_of}
 use Rattle.udfs_overview.specs.Figures.{grouped}
 use Rattle.udfs_overview.specs.LeftOut.{left_out_line, left_out_types}
+use Rattle.udfs_overview.specs.MovedTags.{moved_count, moved_line}
 use Rattle.udfs_overview.specs.Spares.{spares_disagree, spares_line}
 use Rattle.udfs_overview.specs.Streams.{stream_count, streams_line}
 use Rattle.udfs_overview.specs.SummaryTexts.{counted, disc_line, files_line, others_line, unnamed_line}
@@ -53,7 +55,7 @@ nodes_lines r =
 
 -- there is nothing found of a volume that does not open
 abbrev pub found_lines : Table → Answer Found → Report → List ℕ
-found_lines table (found f) r = nodes_lines r ++ streams_line (stream_count (state_of table) r) ++ spares_line (spares_disagree (state_of table) r.volume)
+found_lines table (found f) r = nodes_lines r ++ streams_line (stream_count (state_of table) r) ++ moved_line (moved_count (state_of table) r) ++ spares_line (spares_disagree (state_of table) r.volume)
 found_lines table (holes blocks) r = []
 found_lines table (faulty f) r = []
 
@@ -95,5 +97,5 @@ next_line volume rules last disputed (n ∷ ns) = needed_lines rules last disput
 -- all lines of a report by the rules of a profile
 unfoldable pub summary_text : Profile → Table → ℕ → Report → List ℕ
 summary_text rules table last r =
-    volume_line r.volume last ++ found_lines table r.volume r ++ disc_line (disc_of table last r.reread) ++ torn_lines r.volume r
+    volume_line r.volume last ++ apart_lines rules (state_of table) last ++ found_lines table r.volume r ++ disc_line (disc_of table last r.reread) ++ torn_lines r.volume r
     ++ next_line r.volume rules last (disc_of table last r.reread).needed_in_conflict r.reread

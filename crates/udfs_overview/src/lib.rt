@@ -2,9 +2,11 @@
 //! What a person is shown of a volume: figures, names that cannot forge a line, a line for each node, and what a summary counts.
 #![tactic(auto)]
 
+mod disagreements;
 mod disc_tallies;
 mod figures;
 mod left_out;
+mod moved_tags;
 mod node_columns;
 mod node_list;
 mod safe_names;
@@ -17,9 +19,11 @@ mod torn_lines;
 mod torn_rows;
 mod volume_lines;
 
+pub use disagreements::{push_anchors_text, push_apart};
 pub use disc_tallies::{DiscTally, UnnamedTally, count_disc, count_unnamed};
 pub use figures::{push_grouped, push_percent, push_size};
 pub use left_out::{left_out_remark, left_out_types, push_left_out};
+pub use moved_tags::{count_moved, push_moved};
 pub use node_columns::lost_of;
 pub use node_list::{ListForm, write_list};
 pub use safe_names::{push_safe_name, safe_names_are_safe, safe_names_tell_units};

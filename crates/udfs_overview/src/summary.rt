@@ -11,14 +11,17 @@ ghost use Rattle.udfs_salvage.specs.Surveys.{survey_now};
 ghost use Rattle.udfs_overview.specs.Summaries.{folders_line, forget_lines, found_lines, missing_in, names_missing, needed_lines, next_line, no_need_line, nodes_lines, other_folders, reread_line, rules_words, summary_text, torn_folder, torn_lines};
 ghost use Rattle.udfs_overview.specs.LeftOut.{left_out_line};
 ghost use Rattle.udfs_overview.specs.Spares.{spares_disagree, spares_line};
+ghost use Rattle.udfs_overview.specs.MovedTags.{moved_count, moved_line};
 ghost use Rattle.udfs_overview.specs.Streams.{stream_count, streams_line};
 ghost use Rattle.udfs_overview.specs.SummaryTexts.{files_line, others_line, unnamed_line};
 ghost use Rattle.udfs_overview.specs.Tallies.{tally_of};
 ghost use Rattle.udfs_overview.specs.TornLists.{by_loss, torn_rows, torn_text};
 
+use crate::disagreements::push_apart;
 use crate::disc_tallies::{UnnamedTally, count_disc, count_unnamed};
 use crate::figures::push_grouped;
 use crate::left_out::{left_out_types, push_left_out};
+use crate::moved_tags::{count_moved, push_moved};
 use crate::spares::{push_spares, spares_disagree};
 use crate::streams::{count_streams, push_streams};
 use crate::summary_lines::{push_counted, push_disc, push_files, push_others, push_unnamed};
@@ -143,14 +146,17 @@ fn push_found(alloc: Global, text: &mut String, survey: &Survey<'_>) -> Result<(
     )
 }
 
-/// These lines, that of the files with named streams, and that of sparing copies which disagree.
+/// These lines, that of the files with named streams, that of the folders with tags of another place, and that of sparing copies which
+/// disagree.
 fn push_all_found(alloc: Global, text: &mut String, survey: &Survey<'_>) -> Result<(), OutOfMemory>
     ensures { OnOk result (string_bytes text.new ≡ string_bytes text.old
         ++ (nodes_lines (survey_now survey.now) ++ streams_line (stream_count (state_of survey.now.table.now) (survey_now survey.now))
+        ++ moved_line (moved_count (state_of survey.now.table.now) (survey_now survey.now))
         ++ spares_line (spares_disagree (state_of survey.now.table.now) (volume_now survey.now.volume)))) }
 {
     push_found(alloc, text, survey)?;
     push_streams(text, count_streams(survey))?;
+    push_moved(text, count_moved(alloc, survey)?)?;
     push_spares(text, spares_disagree(survey))
 }
 
@@ -277,6 +283,7 @@ fn push_summary(alloc: Global, text: &mut String, survey: &Survey<'_>) -> Result
     ensures { OnOk result (string_bytes text.new ≡ string_bytes text.old ++ summary_text survey.now.profile survey.now.table.now survey.now.last (survey_now survey.now)) }
 {
     push_volume(text, &survey.volume, survey.last)?;
+    push_apart(alloc, text, survey)?;
     push_found_if_open(alloc, text, survey)?;
     let disc = count_disc(survey);
     push_disc(text, &disc)?;
@@ -284,7 +291,7 @@ fn push_summary(alloc: Global, text: &mut String, survey: &Survey<'_>) -> Result
     push_next(text, survey, disc.needed_in_conflict)
 }
 
-/// Writes the summary of the report that a survey represents: what the volume is, how many files and folders are whole, torn, links, of a type
+/// Writes the summary of the report that a survey represents: what the volume is, whether known anchors or known copies of its descriptors differ, how many files and folders are whole, torn, links, of a type
 /// that is not written or without a name, how many files have named streams, whether sparing copies disagree, the blocks of the disc, the torn files of which most is lost, and what
 /// to read again. A volume that does not open has a line that says why, that of the blocks, and what to read again. The blocks and holes of one
 /// node are held at a time.

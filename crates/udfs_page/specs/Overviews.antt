@@ -1,14 +1,17 @@
 -- The summary at the head of the page.
 --     title_html volume                what the page is of: the volume's name, where it opens
---     overview_html table last r       what is found of a volume, and the blocks of its disc, a division a line
+--     overview_html rules table last r   what is found of a volume, and the blocks of its disc, a division a line
 use Rattle.std.specs.Prelude.{ℕ, ◌-◌, ◌==◌, ◌&&◌, nat_le, List, [], ◌++◌, Option, Some, None, codes, if◌then◌else◌}
-use Rattle.udfs_lattice.specs.Tables.{Table}
+use Rattle.udfs_lattice.specs.Tables.{Table, state_of}
+use Rattle.udfs_volume.specs.declared.profiles.Profile.{Profile}
 use Rattle.udfs_volume.specs.Answers.{Answer, found, holes, faulty}
 use Rattle.udfs_salvage.specs.Found.{Found}
 use Rattle.udfs_salvage.specs.Reports.{Report}
+use Rattle.udfs_overview.specs.Disagreements.{apart_lines}
 use Rattle.udfs_overview.specs.DiscTallies.{disc_of, unnamed_of}
 use Rattle.udfs_overview.specs.Figures.{grouped}
 use Rattle.udfs_overview.specs.LeftOut.{left_out_line, left_out_types}
+use Rattle.udfs_overview.specs.MovedTags.{moved_count, moved_line}
 use Rattle.udfs_overview.specs.Summaries.{torn_folder}
 use Rattle.udfs_overview.specs.SummaryTexts.{disc_line, files_line, others_line, unnamed_line}
 use Rattle.udfs_overview.specs.Tallies.{tally_of}
@@ -77,6 +80,6 @@ volume_html (holes blocks) last r = html_lines (volume_line (holes blocks) last)
 volume_html (faulty f) last r = html_lines (volume_line (faulty f) last)
 
 -- all lines
-unfoldable pub overview_html : Table → ℕ → Report → List ℕ
-overview_html table last r =
-    markup (codes "<div class=s>\n<div>") ++ volume_html r.volume last r ++ html_lines (disc_line (disc_of table last r.reread)) ++ markup (codes "</div>\n</div>\n")
+unfoldable pub overview_html : Profile → Table → ℕ → Report → List ℕ
+overview_html rules table last r =
+    markup (codes "<div class=s>\n<div>") ++ volume_html r.volume last r ++ html_lines (apart_lines rules (state_of table) last) ++ html_lines (moved_line (moved_count (state_of table) r)) ++ html_lines (disc_line (disc_of table last r.reread)) ++ markup (codes "</div>\n</div>\n")

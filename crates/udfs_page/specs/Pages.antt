@@ -36,7 +36,7 @@ files_html (faulty f) r = []
 -- what the page says of the disc: what it is, what is known of it, and what to do next
 abbrev pub disc_html : Profile → Table → ℕ → Report → List ℕ
 disc_html rules table last r =
-    overview_html table last r ++ picture_html (arcs_of table r.reread last) (last + 1) ++ next_html r.volume rules last (disc_of table last r.reread).needed_in_conflict r.reread
+    overview_html rules table last r ++ picture_html (arcs_of table r.reread last) (last + 1) ++ next_html r.volume rules last (disc_of table last r.reread).needed_in_conflict r.reread
 
 -- all of it, of a report by the rules of a profile
 unfoldable pub page_html : Profile → Table → ℕ → Report → List ℕ

@@ -5,8 +5,11 @@ ghost use Rattle.std.specs.String.{string_bytes};
 ghost use Rattle.udfs_volume.specs.LayoutParts.{parts_now};
 ghost use Rattle.udfs_salvage.specs.Found.{found_now, volume_now};
 ghost use Rattle.udfs_salvage.specs.Surveys.{survey_now};
+ghost use Rattle.udfs_lattice.specs.Tables.{state_of};
+ghost use Rattle.udfs_overview.specs.Disagreements.{apart_lines};
 ghost use Rattle.udfs_overview.specs.DiscTallies.{disc_of};
 ghost use Rattle.udfs_overview.specs.LeftOut.{left_out_line};
+ghost use Rattle.udfs_overview.specs.MovedTags.{moved_count, moved_line};
 ghost use Rattle.udfs_overview.specs.SummaryTexts.{disc_line, files_line, others_line, unnamed_line};
 ghost use Rattle.udfs_overview.specs.TornLists.{shown_path};
 ghost use Rattle.udfs_overview.specs.VolumeLines.{label_text, volume_line};
@@ -19,9 +22,10 @@ use crate::markups::{push_markup, push_shown};
 use std::alloc::Global;
 use udfs_osta::{Label, OutOfMemory};
 use udfs_overview::{
-    Tally, UnnamedTally, count_disc, count_nodes, count_unnamed, first_torn_folder, left_out_types,
-    push_disc, push_disc_size, push_files, push_grouped, push_label, push_left_out, push_others,
-    push_revision, push_shown_path, push_unnamed, push_volume,
+    Tally, UnnamedTally, count_disc, count_moved, count_nodes, count_unnamed, first_torn_folder,
+    left_out_types, push_apart, push_disc, push_disc_size, push_files, push_grouped, push_label,
+    push_left_out, push_moved, push_others, push_revision, push_shown_path, push_unnamed,
+    push_volume,
 };
 use udfs_salvage::{OpenVolume, Survey, Volume};
 use udfs_walk::Path;
@@ -216,6 +220,32 @@ fn push_disc_lines(alloc: Global, text: &mut String, survey: &Survey<'_>) -> Res
     push_lines(text, &lines)
 }
 
+/// The lines of known anchors that differ, and of known copies of the volume's descriptors that do.
+fn push_apart_lines(
+    alloc: Global,
+    text: &mut String,
+    survey: &Survey<'_>,
+) -> Result<(), OutOfMemory>
+    ensures { OnOk result (string_bytes text.new ≡ string_bytes text.old ++ html_lines (apart_lines survey.now.profile (state_of survey.now.table.now) survey.now.last)) }
+{
+    let mut lines = String::new(alloc);
+    push_apart(alloc, &mut lines, survey)?;
+    push_lines(text, &lines)
+}
+
+/// The line of the folders with tags of another place.
+fn push_moved_lines(
+    alloc: Global,
+    text: &mut String,
+    survey: &Survey<'_>,
+) -> Result<(), OutOfMemory>
+    ensures { OnOk result (string_bytes text.new ≡ string_bytes text.old ++ html_lines (moved_line (moved_count (state_of survey.now.table.now) (survey_now survey.now)))) }
+{
+    let mut lines = String::new(alloc);
+    push_moved(&mut lines, count_moved(alloc, survey)?)?;
+    push_lines(text, &lines)
+}
+
 /// Why a volume does not open.
 fn push_volume_lines(
     alloc: Global,
@@ -283,10 +313,12 @@ pub(crate) fn push_overview(
     text: &mut String,
     survey: &Survey<'_>,
 ) -> Result<(), OutOfMemory>
-    ensures { OnOk result (string_bytes text.new ≡ string_bytes text.old ++ overview_html survey.now.table.now survey.now.last (survey_now survey.now)) }
+    ensures { OnOk result (string_bytes text.new ≡ string_bytes text.old ++ overview_html survey.now.profile survey.now.table.now survey.now.last (survey_now survey.now)) }
 {
     push_markup(text, "<div class=s>\n<div>")?;
     push_volume_of(alloc, text, survey)?;
+    push_apart_lines(alloc, text, survey)?;
+    push_moved_lines(alloc, text, survey)?;
     push_disc_lines(alloc, text, survey)?;
     push_markup(text, "</div>\n</div>\n")
 }

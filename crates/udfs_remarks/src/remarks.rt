@@ -3,8 +3,9 @@
 use std::alloc::{AllocError, Global};
 use udfs_common::files::Files;
 use udfs_lattice::BlockTable;
-use udfs_overview::{left_out_remark, push_volume, spares_disagree};
+use udfs_overview::{left_out_remark, push_anchors_text, push_volume, spares_disagree};
 use udfs_salvage::{Listing, Survey, Volume};
+use udfs_volume::differences::{anchors_apart, copies_differ};
 use udfs_volume::sequences::sequence;
 use udfs_volume::{Profile, Seen, VolumeFault};
 use udfs_walk::Node;
@@ -108,6 +109,31 @@ fn remark_closed<F: Files>(alloc: Global, told: Told<'_>, files: &F) {
     }
 }
 
+/// What is said of a disc of which known copies of the volume's descriptors differ.
+const COPIES: &str =
+    "copies of the volume's descriptors differ: the volume is not lawful, and the guarantee does not hold for it";
+
+/// Says in a remark that anchors in these two blocks name different extents.
+fn remark_anchors<F: Files>(alloc: Global, one: u32, other: u32, files: &F) {
+    let mut text = String::new(alloc);
+    if push_anchors_text(&mut text, one, other).is_ok() {
+        files.remark(text.as_str());
+    }
+}
+
+/// Says in remarks that known anchors differ, and that known copies of the volume's descriptors do, where it is so.
+fn remark_apart<F: Files>(alloc: Global, told: Told<'_>, files: &F) {
+    if told.last < 513 || told.last > 4_194_303 {
+        return;
+    }
+    if let Some((one, other)) = anchors_apart(told.table, told.last) {
+        remark_anchors(alloc, one, other, files);
+    }
+    if copies_differ(alloc, told.table, told.last, told.profile) {
+        files.remark(COPIES);
+    }
+}
+
 /// What is said of a volume of which two known copies of a sparing table do not say the same.
 const SPARES: &str =
     "sparing copies disagree: the volume is not lawful, and files in spared packets may be old";
@@ -119,42 +145,47 @@ fn remark_left_out<F: Files>(alloc: Global, nodes: &[Node], files: &F) {
     }
 }
 
-/// Says in a remark why a volume does not open, where it does not; and of one that opens, that sparing copies disagree, where they do, and
-/// how many of its files are of a type that is not written, where some are.
+/// Says in remarks that known anchors differ, and that known copies of the volume's descriptors do, where it is so; why a volume does not
+/// open, where it does not; and of one that opens, that sparing copies disagree, where they do, and how many of its files are of a type
+/// that is not written, where some are.
 pub fn remark_on<F: Files>(alloc: Global, survey: &Survey<'_>, files: &F) {
-    if let Volume::Open(_) = &survey.volume {
-        if spares_disagree(survey) {
-            files.remark(SPARES);
-        }
-        remark_left_out(alloc, &survey.nodes, files);
-        return;
-    }
-    remark_unopened(alloc, survey, files);
-}
-
-/// Says in a remark why the volume of a survey does not open, where it does not.
-fn remark_unopened<F: Files>(alloc: Global, survey: &Survey<'_>, files: &F) {
     let told = Told {
         table: survey.table,
         last: survey.last,
         profile: survey.profile,
         volume: &survey.volume,
     };
+    remark_apart(alloc, told, files);
     remark_closed(alloc, told, files);
+    if let Volume::Open(_) = &survey.volume {
+        if spares_disagree(survey) {
+            files.remark(SPARES);
+        }
+        remark_left_out(alloc, &survey.nodes, files);
+    }
 }
 
-/// Says in a remark how many files of the volume of a listing are of a type that is not written, where some are.
-pub fn remark_on_left_out<F: Files>(alloc: Global, listing: &Listing<'_>, files: &F) {
-    remark_left_out(alloc, &listing.nodes, files);
-}
-
-/// Says in a remark why the volume of a listing does not open, where it does not.
-pub fn remark_on_listing<F: Files>(alloc: Global, listing: &Listing<'_>, files: &F) {
-    let told = Told {
+/// What a listing is of.
+fn told_by<'a>(listing: &'a Listing<'_>) -> Told<'a> {
+    Told {
         table: listing.table,
         last: listing.last,
         profile: listing.profile,
         volume: &listing.volume,
-    };
+    }
+}
+
+/// Says in remarks that known anchors differ, and that known copies of the volume's descriptors do, where it is so, and how many files of
+/// the volume of a listing are of a type that is not written, where some are.
+pub fn remark_on_left_out<F: Files>(alloc: Global, listing: &Listing<'_>, files: &F) {
+    remark_apart(alloc, told_by(listing), files);
+    remark_left_out(alloc, &listing.nodes, files);
+}
+
+/// Says in remarks that known anchors differ, and that known copies of the volume's descriptors do, where it is so, and why the volume of a
+/// listing does not open, where it does not.
+pub fn remark_on_listing<F: Files>(alloc: Global, listing: &Listing<'_>, files: &F) {
+    let told = told_by(listing);
+    remark_apart(alloc, told, files);
     remark_closed(alloc, told, files);
 }

@@ -1,5 +1,5 @@
--- Numbers that rise do not fall, the last block of a volume, and what `reread --mapfile` may leave.
-use Rattle.std.proofs.Common.{◌<◌, ◌≤◌, ℕ, zero, suc, List, [], ◌∷◌, length, slice_index_or, inl, inr, arith, ◌≡◌, Option, map, Bool}
+-- Numbers that rise do not fall, and the last block of a volume.
+use Rattle.std.proofs.Common.{◌<◌, ◌≤◌, ℕ, zero, suc, List, [], ◌∷◌, length, slice_index_or, inl, inr, arith}
 use Rattle.std.specs.Prelude.{Contains}
 use Rattle.std.specs.List.Sorted.{IsNonDecreasing}
 use Rattle.udfs_lattice.proofs.Inclusion.{here, there}
@@ -7,12 +7,6 @@ use Rattle.udfs_salvage.specs.Reports.{IsOutOfRange}
 use Rattle.udfs_lattice.specs.Volumes.{ascending}
 use Rattle.udfs_volume.specs.Seen.{IsRising}
 use Rattle.udfs_volume.proofs.PublicLaws.{ascending_rises}
-use Rattle.clap.specs.declared.parser.matches.Found.{Found}
-use Rattle.udfs_files.specs.Disk.{Disk}
-use Rattle.udfs_volume.specs.declared.profiles.Profile.{Profile}
-use Rattle.udfs_words.specs.Asking.{IsLast, IsProfile, asked_for, asked_inputs, mapfile_text}
-use Rattle.udfs_reports.specs.Rereading.{IsCompared, MayDomainAsked, MayDomainOf}
-use Rattle.udfs_words.specs.declared.input_path.InputPath.{InputPath}
 
 stands_in : (xs : List ℕ) (j : ℕ) (d : ℕ) → j < length xs → Contains xs (slice_index_or xs j d)
 stands_in [] j d lt = absurd (omega (arith, lt))
@@ -35,9 +29,3 @@ in_range last h = let below : (4194303 < last) → ⊥ = λ l. h (inr l) in omeg
 
 pub from_range : (last : ℕ) → (IsOutOfRange last → ⊥) → 513 ≤ last
 from_range last h = let below : (last < 513) → ⊥ = λ l. h (inl l) in omega (arith, below)
-
--- what `reread --mapfile` may leave by its arguments is what it may leave by its words
-pub may_domain : {R : Type 0} (found : List ℕ → Option (Option (List ℕ))) (remaining : R → Option (List ℕ)) (real : List ℕ → List ℕ) (words : Found) (compares : Bool) (profile : Profile) (last : ℕ) (inputs : List InputPath) (d c : Disk) →
-    IsCompared words compares → IsProfile words profile → IsLast found inputs words last → map asked_for inputs ≡ asked_inputs words → MayDomainOf found remaining inputs compares profile last (real (mapfile_text words)) d c → MayDomainAsked found remaining real words d c
-may_domain found remaining real words compares profile last inputs d c is_compared is_profile is_last asked (inl same) = inl same
-may_domain found remaining real words compares profile last inputs d c is_compared is_profile is_last asked (inr put) = inr (compares, profile, last, inputs, is_compared, is_profile, is_last, asked, put)

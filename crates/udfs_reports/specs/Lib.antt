@@ -2,6 +2,5 @@ pub mod Comparing
 pub mod Telling
 pub mod Rereading
 pub mod Listing
-pub mod Summarizing
 pub mod Reporting
 pub mod Paging

@@ -1,7 +1,6 @@
 -- What a command prints of a report in the form that is asked for.
 --     form_text form profile table last report     its text, or its JSON and a line feed
---     PrintsAs                                     that of the table's report, by the rules of a profile
-use Rattle.std.specs.Prelude.{ℕ, Bool, List}
+use Rattle.std.specs.Prelude.{ℕ, List}
 use Rattle.udfs_lattice.specs.Tables.{Table}
 use Rattle.udfs_volume.specs.declared.profiles.Profile.{Profile}
 use Rattle.udfs_salvage.specs.JsonReports.{json_text_by}
@@ -10,14 +9,8 @@ use Rattle.udfs_salvage.specs.Reports.{Report}
 use Rattle.udfs_salvage.specs.Texts.{line}
 use Rattle.udfs_words.specs.declared.forms.Form.{Form}
 use Rattle.udfs_words.specs.declared.forms.Form.TheVariants.{Text, Json}
-use Rattle.udfs_reading.specs.Device.{Stream}
-use Rattle.udfs_reports.specs.Telling.{Tells}
 
 -- a report's text, or its JSON and a line feed
 abbrev pub form_text : Form → Profile → Table → ℕ → Report → List ℕ
 form_text Text profile table last report = report_text_by profile table last report
 form_text Json profile table last report = line (json_text_by profile table last report)
-
--- that text of the table's report was printed, of which all holds that is promised of reports, and the result is whether there are nodes and all are whole
-abbrev pub PrintsAs : Profile → Form → ℕ → Stream → Stream → Bool → Table → Type 0
-PrintsAs profile form last old new whole table = Tells (form_text form) profile last old new whole table

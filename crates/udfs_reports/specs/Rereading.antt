@@ -1,20 +1,19 @@
 -- What a command prints of the blocks to read again, and the mapfile that it writes of them.
 --     numbers_of          the lines of their numbers
---     PrintsNumbers       these were printed
 --     domain_line         their count and that of their runs, and how many known blocks are asked for beside them
 --     line_of, map_of     the line that is printed, and the mapfile
+--     IsMapOf             these bytes are the mapfile of a table's report, its line was printed, and whether there are nodes and all are whole
 --     IsRefusedDomain     the mapfile was not put, and why
---     IsCompared          whether known blocks are to be asked for, as the arguments have it
---     PrintsDomain        the mapfile was put, and its line was printed
---     WritesDomain        the same, as the arguments of the command ask for
---     MayDomain           what a crash in the middle shows: what was there, or the mapfile in its place
---     DomainAsked         something holds of the mapfile that the arguments ask for
---     MayDomainAsked      what a crash in the middle shows, as the arguments of the command ask for
---     RereadSpares        what `reread` leaves as it was, whatever it returns
-use Rattle.std.specs.Prelude.{◌≡◌, ◌⊎◌, ℕ, ◌+◌, ◌++◌, ◌==◌, Bool, List, [], ◌∷◌, Option, codes, decimal, length, map, if◌then◌else◌, ◌≢◌, false, true}
-use Rattle.clap.specs.declared.parser.matches.Found.{Found}
-use Rattle.udfs_files.specs.Disk.{Disk, Same, Replaced, After, IsOwn}
+--     IsMap               these bytes are the mapfile that is asked for, its line was printed, and whether there are nodes and all are whole
+--     IsSomeMap           these bytes are the mapfile that is asked for
+--     IsMapFree           it takes the place of nothing but such a map
+--     IsMapSpared         it would take the place of something else
+--     IsMapUnseen         what is there could not be looked at
+--     MapRefused          why it was not put
+use Rattle.std.specs.Prelude.{◌≡◌, ◌⊎◌, ℕ, ◌+◌, ◌++◌, ◌==◌, Bool, List, [], ◌∷◌, alloc_error, codes, decimal, length, if◌then◌else◌}
+use Rattle.udfs_files.specs.Disk.{Fails}
 use Rattle.udfs_lattice.specs.Tables.{Table, state_of}
+use Rattle.udfs_reading.specs.Device.{Stream}
 use Rattle.udfs_reading.specs.Writing.{Failed, Wrote}
 use Rattle.udfs_lattice.specs.Volumes.{ascending}
 use Rattle.udfs_volume.specs.declared.profiles.Profile.{Profile}
@@ -22,24 +21,21 @@ use Rattle.udfs_rescue.specs.Writing.{domain_text}
 use Rattle.udfs_salvage.specs.Reports.{Report, IsReportBy, all_whole}
 use Rattle.udfs_salvage.specs.RereadTexts.{number_lines}
 use Rattle.udfs_salvage.specs.Texts.{line}
-use Rattle.udfs_words.specs.Asking.{IsLast, IsPicked, IsProfile, asked_for, asked_inputs, is_mapped, mapfile_text}
-use Rattle.udfs_common.specs.Keeping.{OfPaths}
+use Rattle.udfs_words.specs.Requests.{texts}
+use Rattle.udfs_words.specs.declared.request.RereadRequest.{RereadRequest}
+use Rattle.udfs_common.specs.Guarding.{IsFreeMap, IsSparedMap, MayNotBeSeen}
+use Rattle.udfs_common.specs.Puts.{PutFails}
+use Rattle.udfs_common.specs.Reach.{Reach}
+use Rattle.udfs_common.specs.Refusing.{IsUnput}
+use Rattle.udfs_common.specs.Volumes.{IsNoVolume, OfVolume}
 use Rattle.udfs_common.specs.declared.refusal.Refusal.{Refusal}
-use Rattle.udfs_common.specs.declared.refusal.Refusal.TheVariants.{Output}
-use Rattle.udfs_words.specs.declared.input_path.InputPath.{InputPath}
-use Rattle.udfs_reading.specs.Device.{Stream}
+use Rattle.udfs_common.specs.declared.refusal.Refusal.TheVariants.{Memory, Output, Spared}
 use Rattle.udfs_remarks.specs.NoReports.{IsUntold}
 use Rattle.udfs_reports.specs.Comparing.{compared}
-use Rattle.udfs_reports.specs.Telling.{Tells}
-use Rattle.udfs_common.specs.Refusing.{IsUnput}
 
 -- the lines of the numbers of a report's blocks to read again
 abbrev pub numbers_of : Profile → Table → ℕ → Report → List ℕ
 numbers_of profile table last report = number_lines report.reread
-
--- those of the table's report by the rules of a profile were printed, and the result is whether there are nodes and all are whole
-abbrev pub PrintsNumbers : Profile → ℕ → Stream → Stream → Bool → Table → Type 0
-PrintsNumbers profile last old new whole table = Tells numbers_of profile last old new whole table
 
 -- how many of these blocks do not follow on the one before them, the first of which is block n
 abbrev pub breaks : ℕ → List ℕ → ℕ
@@ -71,12 +67,12 @@ line_of compares table last report = domain_line report.reread (compared compare
 abbrev pub map_of : Bool → Table → ℕ → Report → List ℕ
 map_of compares table last report = domain_text (ascending (compared compares table last report ++ report.reread)) last
 
--- the mapfile of the blocks to read again was put and their count printed, by the rules of a profile; the result is whether there are nodes and all are whole
-pub record PrintsDomain (compares : Bool) (profile : Profile) (last : ℕ) (Put : List ℕ → Type 0) (old new : Stream) (whole : Bool) (table : Table) : Type 0 where
+-- these bytes are the mapfile of the table's report by the rules of a profile, its line was printed, and whether there are nodes and all are whole
+pub record IsMapOf (compares : Bool) (profile : Profile) (last : ℕ) (before after : Stream) (whole : Bool) (bytes : List ℕ) (table : Table) : Type 0 where
   pub report : Report
   pub is_report : IsReportBy profile (state_of table) last report
-  pub put : Put (map_of compares table last report)
-  pub prints : Wrote old new (line_of compares table last report)
+  pub is : bytes ≡ map_of compares table last report
+  pub prints : Wrote before after (line_of compares table last report)
   pub says : whole ≡ all_whole report.nodes
 
 -- there was no report, and nothing was printed; or their count was not printed whole, or it was and the mapfile was not put
@@ -84,46 +80,28 @@ abbrev pub IsRefusedDomain : Type 0 → Bool → Profile → ℕ → Stream → 
 IsRefusedDomain Unmade compares profile last old new refusal table = ((new ≡ old) × IsUntold profile last refusal table) ⊎ ((report : Report) × IsReportBy profile (state_of table) last report ×
     (((refusal ≡ Output) × Failed old new (line_of compares table last report)) ⊎ (Wrote old new (line_of compares table last report) × IsUnput Unmade refusal)))
 
--- whether witnesses are to be compared, as the arguments ask for: unless `--no-witnesses` is given
-abbrev pub IsCompared : Found → Bool → Type 0
-IsCompared words compares = IsPicked words (codes "no-witnesses") false true compares
+module _ {F I M S W : Type 0} (reach : Reach F I M S W) (old : F) where
+  -- the mapfile of what was read of the disc, and its line
+  abbrev pub IsMap : RereadRequest → Stream → Stream → Bool → List ℕ → Type 0
+  IsMap r before after whole bytes = OfVolume reach old r.volume (λ last. IsMapOf r.witnesses r.volume.profile last before after whole bytes)
 
--- of the inputs, the last block and the rules that the arguments ask for
-pub record WritesDomain {R : Type 0} (found : List ℕ → Option (Option (List ℕ))) (remaining : R → Option (List ℕ)) (words : Found) (Put : List ℕ → Type 0) (old new : Stream) (whole : Bool) : Type 0 where
-  pub last : ℕ
-  pub profile : Profile
-  pub compares : Bool
-  pub is_compared : IsCompared words compares
-  pub inputs : List InputPath
-  pub is_last : IsLast found inputs words last
-  pub is_profile : IsProfile words profile
-  pub asked : map asked_for inputs ≡ asked_inputs words
-  pub prints : OfPaths found remaining inputs (PrintsDomain compares profile last Put old new whole)
+  -- the mapfile alone
+  abbrev pub IsSomeMap : RereadRequest → List ℕ → Type 0
+  IsSomeMap r bytes = OfVolume reach old r.volume (λ last table. (report : Report) × IsReportBy r.volume.profile (state_of table) last report × (bytes ≡ map_of r.witnesses table last report))
 
--- this holds of the mapfile in which the blocks of the table's report that are to be read again are wanted
-abbrev pub IsDomain : Bool → Profile → ℕ → (List ℕ → Type 0) → Table → Type 0
-IsDomain compares profile last Holds table = (report : Report) × IsReportBy profile (state_of table) last report × Holds (map_of compares table last report)
+  -- where it is known what files hold: at this path
+  abbrev pub IsMapFree : RereadRequest → List ℕ → Type 0
+  IsMapFree r path = reach.files.tells → IsFreeMap (reach.files.holds old) (reach.files.real old) (reach.files.in_place old) (texts r.volume.inputs.parts.items) path
 
--- the disk is as it was, or the mapfile of a table is in the place of what was at a path
-abbrev pub MayDomain : Bool → Profile → ℕ → List ℕ → Table → Disk → Disk → Type 0
-MayDomain compares profile last path table d c = Same d c ⊎ IsDomain compares profile last (λ bytes. Replaced path bytes d c) table
+  -- an image or a mapfile of the inputs is there, or no such map is
+  abbrev pub IsMapSpared : RereadRequest → List ℕ → Type 0
+  IsMapSpared r path = reach.files.tells → IsSparedMap (reach.files.holds old) (reach.files.real old) (texts r.volume.inputs.parts.items) path
 
--- the same of the join of inputs
-abbrev pub MayDomainOf : {R : Type 0} → (List ℕ → Option (Option (List ℕ))) → (R → Option (List ℕ)) → List InputPath → Bool → Profile → ℕ → List ℕ → Disk → Disk → Type 0
-MayDomainOf found remaining inputs compares profile last path d c = Same d c ⊎ OfPaths found remaining inputs (IsDomain compares profile last (λ bytes. Replaced path bytes d c))
+  -- nor could the paths of the inputs be followed
+  abbrev pub IsMapUnseen : RereadRequest → List ℕ → Type 0
+  IsMapUnseen r path = MayNotBeSeen (reach.files.shut old) (Fails reach.read_faults) [] (texts r.volume.inputs.parts.items) path
 
--- this holds of the mapfile that the arguments ask for
-abbrev pub DomainAsked : {R : Type 0} → (List ℕ → Option (Option (List ℕ))) → (R → Option (List ℕ)) → Found → (List ℕ → Type 0) → Type 0
-DomainAsked found remaining words Holds = (compares : Bool) × (profile : Profile) × (last : ℕ) × (inputs : List InputPath) × IsCompared words compares × IsProfile words profile × IsLast found inputs words last × (map asked_for inputs ≡ asked_inputs words) × OfPaths found remaining inputs (IsDomain compares profile last Holds)
-
--- that mapfile is in the place of what was at its path, or not yet
-abbrev pub MayDomainAsked : {R : Type 0} → (List ℕ → Option (Option (List ℕ))) → (R → Option (List ℕ)) → (List ℕ → List ℕ) → Found → Disk → Disk → Type 0
-MayDomainAsked found remaining real words d c = Same d c ⊎ DomainAsked found remaining words (λ bytes. Replaced (real (mapfile_text words)) bytes d c)
-
--- the numbers change no file; a mapfile that is written changes no other path, but those of new files that are to go in its place, and a crash at any moment leaves what this step
--- makes of what it might have left before, unless it is a device or a pipe
-pub record RereadSpares {F : Type 0} (tells : Type 0) (holds : F → List ℕ → Option (Option (List ℕ))) (real : F → List ℕ → List ℕ) (in_place : F → List ℕ → Type 0) (may_leave : F → Disk → Type 0) (moment : F → ℕ) (left_since : F → ℕ → Disk → Type 0)
-    (words : Found) (old new : F) (step : Disk → Disk → Type 0) : Type 0 where
-  pub numbers : is_mapped words ≡ false → new ≡ old
-  pub any_moment : tells → (in_place old (mapfile_text words) → ⊥) → (c : Disk) → left_since new (moment old) c → After (may_leave old) step c
-  pub elsewhere : tells → (in_place old (mapfile_text words) → ⊥) → (q : List ℕ) → q ≢ real old (mapfile_text words) → (¬ IsOwn (real old (mapfile_text words)) q) → holds new q ≡ holds old q
+  -- nothing has changed or was printed, and memory ran out, or what is there is spared or could not be looked at, or the disc's end is not known or the inputs were not joined; or there is no report, or the line was not printed, or the mapfile was not put
+  abbrev pub MapRefused : F → RereadRequest → List ℕ → Stream → Stream → Refusal → Type 0
+  MapRefused new r path before after refusal = ((new ≡ old) × (after ≡ before) × ((refusal ≡ Memory alloc_error) ⊎ ((refusal ≡ Spared) × IsMapSpared r path) ⊎ ((refusal ≡ Output) × IsMapUnseen r path) ⊎ IsNoVolume reach old r.volume refusal)) ⊎
+      OfVolume reach old r.volume (λ last. IsRefusedDomain (PutFails reach path old) r.witnesses r.volume.profile last before after refusal)

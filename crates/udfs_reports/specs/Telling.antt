@@ -1,6 +1,8 @@
 -- What the commands that report on a volume print of it, and why they fail.
 --     Tells                a text of the table's report was printed
 --     IsRefusedTelling     a text of the table's report was not printed, or a beginning of it, and why
+--     PrintsText           a text of the report of a volume was printed
+--     PrintsNoText         it was not, or a beginning of it, and why
 --     IsRefusedPut         the file of the table's report was not put, and why
 use Rattle.std.specs.Prelude.{◌≡◌, ◌⊎◌, ℕ, Bool, List}
 use Rattle.udfs_lattice.specs.Tables.{Table, state_of}
@@ -11,8 +13,11 @@ use Rattle.udfs_salvage.specs.Headline.{HeadlineBy}
 use Rattle.udfs_salvage.specs.Printing.{Stopped}
 use Rattle.udfs_salvage.specs.Reports.{Report, IsReportBy, all_whole}
 use Rattle.udfs_salvage.specs.declared.errors.RunError.{RunError}
+use Rattle.udfs_common.specs.Reach.{Reach}
 use Rattle.udfs_common.specs.Refusing.{IsUnput}
+use Rattle.udfs_common.specs.Volumes.{IsNoVolume, OfVolume}
 use Rattle.udfs_common.specs.declared.refusal.Refusal.{Refusal}
+use Rattle.udfs_words.specs.declared.request.VolumeSource.{VolumeSource}
 use Rattle.udfs_remarks.specs.NoReports.{IsUntold, run_refusal_of}
 
 -- a text of the table's report was printed, of which all holds that is promised of reports, and the result is whether there are nodes and all are whole
@@ -33,6 +38,14 @@ pub record StopsTelling (text : Profile → Table → ℕ → Report → List �
 -- nothing was printed, or a beginning
 abbrev pub IsRefusedTelling : (Profile → Table → ℕ → Report → List ℕ) → Profile → ℕ → Stream → Stream → Refusal → Table → Type 0
 IsRefusedTelling text profile last old new refusal table = ((new ≡ old) × IsUntold profile last refusal table) ⊎ StopsTelling text profile last old new refusal table
+
+-- the text of the report of a volume was printed, by its rules and up to its last block
+abbrev pub PrintsText : {F I M S W : Type 0} → Reach F I M S W → F → (Profile → Table → ℕ → Report → List ℕ) → VolumeSource → Stream → Stream → Bool → Type 0
+PrintsText reach at text volume old new whole = OfVolume reach at volume (λ last. Tells text volume.profile last old new whole)
+
+-- it is not known where the disc ends, or the inputs were not joined, and nothing was printed; or nothing was, or a beginning
+abbrev pub PrintsNoText : {F I M S W : Type 0} → Reach F I M S W → F → (Profile → Table → ℕ → Report → List ℕ) → VolumeSource → Stream → Stream → Refusal → Type 0
+PrintsNoText reach at text volume old new refusal = ((new ≡ old) × IsNoVolume reach at volume refusal) ⊎ OfVolume reach at volume (λ last. IsRefusedTelling text volume.profile last old new refusal)
 
 -- there was no report whose file could be put, or it was not put
 abbrev pub IsRefusedPut : Type 0 → Profile → ℕ → Refusal → Table → Type 0

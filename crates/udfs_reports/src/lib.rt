@@ -3,13 +3,10 @@
 #![tactic(auto)]
 
 mod comparing;
-mod list;
-mod page;
-pub mod page_words;
-mod report;
-pub mod report_words;
-mod reread;
-mod reread_map;
-pub mod reread_words;
-mod summary;
-mod telling;
+pub mod list;
+pub mod page;
+pub mod report;
+pub mod reread;
+pub mod reread_map;
+pub mod summary;
+pub mod telling;

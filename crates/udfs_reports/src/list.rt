@@ -1,11 +1,8 @@
 //! What `list` prints: a line for each file and folder of a volume.
 
-ghost use Rattle.std.specs.Prelude.{true, false};
-ghost use Rattle.clap.specs.Matches.{found_of};
-ghost use Rattle.udfs_reports.specs.Listing.{IsListForm, list_of};
+ghost use Rattle.udfs_reports.specs.Listing.{list_of};
 
 use crate::telling::Telling;
-use clap::ArgMatches;
 use std::alloc::Global;
 use udfs_common::files::Files;
 use udfs_common::refusal::Refusal;
@@ -17,19 +14,6 @@ use udfs_remarks::looking::surveyed;
 use udfs_remarks::no_reports::refused_run;
 use udfs_remarks::remarks::remark_on;
 use udfs_volume::Profile;
-use udfs_words::asking::is_set;
-use udfs_words::words::{NULL, PATHS, TORN};
-
-/// What the arguments of `list` ask to be shown, and how.
-pub fn asked_list_form(words: &ArgMatches<'_>) -> ListForm
-    ensures { IsListForm (found_of words.now) result }
-{
-    ListForm {
-        torn: is_set(words, TORN),
-        null: is_set(words, NULL),
-        paths: is_set(words, PATHS),
-    }
-}
 
 /// A line in this form for each node of a volume but its root.
 #[derive(Drop)]

@@ -1,33 +1,31 @@
 //! The command `page`: readings in, the page of their volume out.
 
-ghost use Rattle.std.specs.Prelude.{◌≡◌, ◌≢◌, ◌⊎◌, ℕ, List, true, IfOk, IfErr, OnErr, OnOk, map};
+ghost use Rattle.std.specs.Prelude.{◌≡◌, IfOk, IfErr, OnOk, map};
 ghost use Rattle.std.specs.Io.KnownBytes.{Appends};
-ghost use Rattle.udfs_files.specs.Disk.{After, Disk, Fails, Replaced, SinkFails, IsOwn};
+ghost use Rattle.udfs_files.specs.Disk.{Fails};
 ghost use Rattle.udfs_page.specs.Pages.{page_html};
 ghost use Rattle.udfs_salvage.specs.Surveys.{survey_now};
-ghost use Rattle.udfs_common.specs.Keeping.{IsKept, IsTaken, OfPaths, RefusedOut};
 ghost use Rattle.udfs_common.specs.Guarding.{MayNotBeSeen};
-ghost use Rattle.udfs_reports.specs.Paging.{IsFreePage, IsPage, IsSparedPage, MayPage, MayPageOf, PutsPage};
-ghost use Rattle.udfs_reports.specs.Telling.{IsRefusedPut};
-ghost use Rattle.udfs_remarks.specs.PathsRefused.{OfPathsRefused};
+ghost use Rattle.udfs_common.specs.Puts.{PutFails, PutsAs};
 ghost use Rattle.udfs_common.specs.Refusing.{IsUnput};
-ghost use Rattle.udfs_common.specs.declared.sources.AnySource.{AnySource};
+ghost use Rattle.udfs_reports.specs.Paging.{IsFreePage, IsPage, IsPageFree, IsPageOf, IsSparedPage, PageRefused};
+ghost use Rattle.udfs_reports.specs.Telling.{IsRefusedPut};
 
 use std::alloc::{AllocError, Global};
 use udfs_common::files::Files;
 use udfs_common::guard::{Outlook, look_at_own};
-use udfs_common::inputs::joined;
 use udfs_common::job_putting::put_job;
+use udfs_common::known::Known;
 use udfs_common::refusal::Refusal;
-use udfs_common::sources::AnySource;
+use udfs_common::volumes::{joined_volume, unwritten_volume};
 use udfs_files::{Job, Stage};
 use udfs_lattice::BlockTable;
 use udfs_page::write_page;
-use udfs_reading::{Sink, Source};
+use udfs_reading::Sink;
 use udfs_remarks::looking::surveyed;
 use udfs_salvage::{RunError, Survey};
 use udfs_volume::Profile;
-use udfs_words::input_path::InputPath;
+use udfs_words::request::PageRequest;
 
 /// The beginning of a page that this program wrote.
 const PAGE: &[u8] = b"<!DOCTYPE html>\n<!-- a page of udfsalvage -->\n";
@@ -70,7 +68,7 @@ impl<'a, 'r> Job for PageText<'a, 'r> {
 }
 
 /// What is known of a page that is to be written: it is spared where it is one of the inputs, or where what is there is a file and begins as no page does.
-pub fn look_at_page<F: Files>(
+fn look_at_page<F: Files>(
     alloc: Global,
     inputs: &[&str],
     parts: &[&str],
@@ -93,14 +91,8 @@ fn put_page<F: Files>(
     path: &str,
     files: &mut F,
 ) -> Result<(), Refusal>
-    ensures written { OnOk result ((F.tells → IsKept (F.holds files.new) (F.may_leave files.new) (F.real files.old path.now) (page_html survey.now.profile survey.now.table.now survey.now.last (survey_now survey.now)))
-        ⊎ (F.in_place files.old path.now × IsTaken F.Output.stream (page_html survey.now.profile survey.now.table.now survey.now.last (survey_now survey.now)))) }
-    ensures any_moment { F.tells → (F.in_place files.old path.now → ⊥) → (c : Disk) → F.left_since files.new (F.moment files.old) c →
-        After (F.may_leave files.old) (Replaced (F.real files.old path.now) (page_html survey.now.profile survey.now.table.now survey.now.last (survey_now survey.now))) c }
-    ensures elsewhere { F.tells → (F.in_place files.old path.now → ⊥) → (q : List ℕ) → q ≢ F.real files.old path.now → (¬ IsOwn (F.real files.old path.now) q) → F.holds files.new q ≡ F.holds files.old q }
-    ensures left { OnErr result (RefusedOut F.tells F.holds F.real F.in_place (F.shut files.old path.now ⊎ Fails F.faults ⊎ SinkFails F.Output.stream) path.now files.old files.new
-        (λ Put. Put (page_html survey.now.profile survey.now.table.now survey.now.last (survey_now survey.now)))) }
-    ensures why { IfErr result (IsUnput (F.shut files.old path.now ⊎ Fails F.faults ⊎ SinkFails F.Output.stream)) }
+    ensures puts { PutsAs ⟦<F as Known>⟧.reach (λ said bytes. bytes ≡ page_html survey.now.profile survey.now.table.now survey.now.last (survey_now survey.now)) path.now files.old files.new result }
+    ensures why { IfErr result (IsUnput (PutFails ⟦<F as Known>⟧.reach path.now files.old)) }
 {
     let page = PageText { alloc, survey };
     match put_job(alloc, &page, path, files) {
@@ -111,7 +103,7 @@ fn put_page<F: Files>(
     }
 }
 
-/// Puts the page of a table's volume by the rules of a profile at a path.
+/// Puts the page of a table's volume by the rules of a profile at a path, and returns whether there are files and all of them are whole.
 fn page_of<F: Files>(
     alloc: Global,
     table: &BlockTable,
@@ -120,15 +112,8 @@ fn page_of<F: Files>(
     path: &str,
     files: &mut F,
 ) -> Result<bool, Refusal>
-    ensures written { IfOk result (λ whole. PutsPage profile last (λ bytes. (F.tells → IsKept (F.holds files.new) (F.may_leave files.new) (F.real files.old path.now) bytes) ⊎ (F.in_place files.old path.now × IsTaken F.Output.stream bytes)) whole table.now) }
-    // A crash at any moment of the call leaves all as it was, or with the page in its place, whole.
-    ensures any_moment { F.tells → (F.in_place files.old path.now → ⊥) → (c : Disk) → F.left_since files.new (F.moment files.old) c → After (F.may_leave files.old) (MayPage profile last (F.real files.old path.now) table.now) c }
-    // No other path changes, but for those of new files that are to go in its place.
-    ensures elsewhere { F.tells → (F.in_place files.old path.now → ⊥) → (q : List ℕ) → q ≢ F.real files.old path.now → (¬ IsOwn (F.real files.old path.now) q) → F.holds files.new q ≡ F.holds files.old q }
-    // After an error no file has changed; or a file call failed, and the path, unless it is a device or a pipe, holds what it held or the new file, whole.
-    ensures left { OnErr result (RefusedOut F.tells F.holds F.real F.in_place (F.shut files.old path.now ⊎ Fails F.faults ⊎ SinkFails F.Output.stream) path.now files.old files.new
-        (λ Put. IsPage profile last Put table.now)) }
-    ensures refused { IfErr result (λ refusal. IsRefusedPut (F.shut files.old path.now ⊎ Fails F.faults ⊎ SinkFails F.Output.stream) profile last refusal table.now) }
+    ensures puts { PutsAs ⟦<F as Known>⟧.reach (λ whole bytes. IsPageOf profile last whole bytes table.now) path.now files.old files.new result }
+    ensures why { IfErr result (λ refusal. IsRefusedPut (PutFails ⟦<F as Known>⟧.reach path.now files.old) profile last refusal table.now) }
 {
     files.begin(Stage::Walking);
     let survey = match surveyed(alloc, table, last, profile) {
@@ -141,34 +126,44 @@ fn page_of<F: Files>(
     }
 }
 
-/// Joins the inputs, and puts the page of the volume by the rules of a profile, where `last` is its last block, at a path, whole or not at all. It returns
-/// whether there are files and all of them are whole. All inputs are opened in order before one is read, and the page is begun only after that.
+/// Puts the page that is asked for, and returns whether there are files and all of them are whole. All inputs are opened in order before one is read, and the
+/// page is begun only after all are joined.
+///
+/// # Errors
+///
+/// `Spared` where the page would take the place of an input, or of a file that is no page, and `Output` where that could not be found out; then where it is not
+/// known where the disc ends, or the inputs were not joined, or there is no report; and then those of [`put_job`].
 pub fn page<F: Files>(
     alloc: Global,
-    inputs: &[InputPath<'_>],
-    last: u32,
-    profile: Profile,
-    path: &str,
+    request: &PageRequest<'_>,
     files: &mut F,
 ) -> Result<bool, Refusal>
-    ensures written { IfOk result (λ whole. OfPaths (λ path. F.holds files.old (F.real files.old path)) (⟦<AnySource<F::Input, F::Image> as Source>⟧.remaining) inputs.now
-        (PutsPage profile last (λ bytes. (F.tells → IsKept (F.holds files.new) (F.may_leave files.new) (F.real files.old path.now) bytes) ⊎ (F.in_place files.old path.now × IsTaken F.Output.stream bytes)) whole)) }
-    // A crash at any moment of the call leaves all as it was, or with the page in its place, whole.
-    ensures any_moment { F.tells → (F.in_place files.old path.now → ⊥) → (c : Disk) → F.left_since files.new (F.moment files.old) c → After (F.may_leave files.old) (MayPageOf (λ path. F.holds files.old (F.real files.old path)) (⟦<AnySource<F::Input, F::Image> as Source>⟧.remaining) inputs.now profile last (F.real files.old path.now)) c }
-    // No other path changes, but for those of new files that are to go in its place.
-    ensures elsewhere { F.tells → (F.in_place files.old path.now → ⊥) → (q : List ℕ) → q ≢ F.real files.old path.now → (¬ IsOwn (F.real files.old path.now) q) → F.holds files.new q ≡ F.holds files.old q }
-    // After an error no file has changed; or a file call failed, and the path, unless it is a device or a pipe, holds what it held or the new file, whole.
-    ensures left { OnErr result (RefusedOut F.tells F.holds F.real F.in_place (F.shut files.old path.now ⊎ Fails F.faults ⊎ SinkFails F.Output.stream) path.now files.old files.new
-        (λ Put. OfPaths (λ path. F.holds files.old (F.real files.old path)) (⟦<AnySource<F::Input, F::Image> as Source>⟧.remaining) inputs.now (IsPage profile last Put))) }
-    // The inputs were not joined, or their table has no report, or its page was not put.
-    ensures refused { IfErr result (OfPathsRefused (λ path. F.holds files.old (F.real files.old path)) (F.shut files.old) (⟦<AnySource<F::Input, F::Image> as Source>⟧.remaining) (⟦<AnySource<F::Input, F::Image> as Source>⟧.faults) inputs.now
-        (files.new ≡ files.old) (IsRefusedPut (F.shut files.old path.now ⊎ Fails F.faults ⊎ SinkFails F.Output.stream) profile last)) }
+    ensures puts { PutsAs ⟦<F as Known>⟧.reach (IsPage ⟦<F as Known>⟧.reach files.old request.now) request.now.out.now files.old files.new result }
+    // It takes the place of no file but a page, and never that of an input.
+    ensures free { OnOk result (IsPageFree ⟦<F as Known>⟧.reach files.old request.now) }
+    ensures why { IfErr result (PageRefused ⟦<F as Known>⟧.reach files.old files.new request.now) }
 {
-    let table = match joined(alloc, inputs, files) {
-        Ok(table) => table,
+    let volume = &request.volume;
+    let given = volume.inputs.files.as_slice();
+    let parts = volume.inputs.parts.as_slice();
+    match look_at_page(alloc, given, parts, request.out, files) {
+        Ok(Outlook::Free) => {}
+        Ok(Outlook::Spared) => return Err(Refusal::Spared),
+        Ok(Outlook::Unknown) => return Err(unwritten_volume(alloc, volume, files)),
+        Err(AllocError) => return Err(Refusal::Memory(AllocError)),
+    }
+    let disc = match joined_volume(alloc, volume, files) {
+        Ok(disc) => disc,
         Err(refusal) => return Err(refusal),
     };
-    match page_of(alloc, &table, last, profile, path, files) {
+    match page_of(
+        alloc,
+        &disc.table,
+        disc.last,
+        volume.profile,
+        request.out,
+        files,
+    ) {
         Ok(whole) => Ok(whole),
         Err(refusal) => Err(refusal),
     }

@@ -1,32 +1,30 @@
 //! The command `reread --mapfile`: readings in, the blocks to read again as a mapfile for GNU ddrescue.
 
-ghost use Rattle.std.specs.Prelude.{◌≡◌, ◌≢◌, ◌⊎◌, ◌≤◌, ◌++◌, ℕ, List, IfOk, IfErr, OnErr, OnOk, alloc_error, length, string_bytes};
-ghost use Rattle.udfs_files.specs.Disk.{After, Disk, Fails, SinkFails, IsOwn, Replaced};
+ghost use Rattle.std.specs.Prelude.{◌≡◌, ◌⊎◌, ◌≤◌, ◌++◌, IfOk, IfErr, OnOk, alloc_error, length, string_bytes};
 ghost use Rattle.std.specs.List.Sorted.{IsNonDecreasing};
 ghost use Rattle.udfs_reading.specs.Writing.{Failed, Wrote};
 ghost use Rattle.udfs_rescue.specs.Writing.{domain_text};
 ghost use Rattle.udfs_salvage.specs.Texts.{line};
-ghost use Rattle.udfs_common.specs.Keeping.{IsKept, IsTaken, OfPaths, RefusedOut};
-ghost use Rattle.udfs_reports.specs.Rereading.{IsDomain, IsRefusedDomain, MayDomain, MayDomainOf, PrintsDomain, breaks, domain_line, known_words, runs_in, wanted_words};
-ghost use Rattle.udfs_remarks.specs.PathsRefused.{OfPathsRefused};
+ghost use Rattle.udfs_common.specs.Puts.{PutFails, PutsAs};
 ghost use Rattle.udfs_common.specs.Refusing.{IsUnput};
-ghost use Rattle.udfs_common.specs.declared.sources.AnySource.{AnySource};
+ghost use Rattle.udfs_reports.specs.Rereading.{IsMap, IsMapFree, IsMapOf, IsMapSpared, IsMapUnseen, IsRefusedDomain, MapRefused, breaks, domain_line, known_words, runs_in, wanted_words};
 
 use crate::comparing::{Asked, asked_in};
 use std::alloc::{AllocError, Global};
 use udfs_common::files::Files;
-use udfs_common::inputs::joined;
+use udfs_common::guard::{Outlook, look_at_map};
+use udfs_common::known::Known;
 use udfs_common::putting::put_file;
 use udfs_common::refusal::Refusal;
-use udfs_common::sources::AnySource;
+use udfs_common::volumes::{joined_volume, unwritten_volume};
 use udfs_files::{Content, Stage};
 use udfs_lattice::BlockTable;
-use udfs_reading::{Sink, Source, WriteFault, write_all};
+use udfs_reading::{Sink, WriteFault, write_all};
 use udfs_remarks::looking::listed;
 use udfs_remarks::remarks::remark_on_listing;
 use udfs_rescue::write_domain;
 use udfs_volume::Profile;
-use udfs_words::input_path::InputPath;
+use udfs_words::request::RereadRequest;
 
 /// The mapfile in which these blocks are wanted, up to the last block of a volume.
 #[derive(Drop)]
@@ -139,18 +137,9 @@ fn put_domain<F: Files, O: Sink>(
 ) -> Result<(), Refusal>
     requires rises { IsNonDecreasing asked.now.blocks.items }
     requires in_range { last ≤ 4194303 }
-    ensures written { OnOk result ((F.tells → IsKept (F.holds files.new) (F.may_leave files.new) (F.real files.old path.now) (domain_text asked.now.blocks.items last))
-        ⊎ (F.in_place files.old path.now × IsTaken F.Output.stream (domain_text asked.now.blocks.items last))) }
-    ensures printed { OnOk result (Wrote (O.stream out.old) (O.stream out.new) (domain_line asked.now.wanted.items asked.now.known.items)) }
-    // A crash at any moment of the call leaves all as it was, or with the mapfile in its place, whole.
-    ensures any_moment { F.tells → (F.in_place files.old path.now → ⊥) → (c : Disk) → F.left_since files.new (F.moment files.old) c → After (F.may_leave files.old) (Replaced (F.real files.old path.now) (domain_text asked.now.blocks.items last)) c }
-    // No other path changes, but for those of new files that are to go in its place.
-    ensures elsewhere { F.tells → (F.in_place files.old path.now → ⊥) → (q : List ℕ) → q ≢ F.real files.old path.now → (¬ IsOwn (F.real files.old path.now) q) → F.holds files.new q ≡ F.holds files.old q }
-    // After an error no file has changed; or a file call failed, and the path, unless it is a device or a pipe, holds what it held or the new file, whole.
-    ensures left { OnErr result (RefusedOut F.tells F.holds F.real F.in_place (F.shut files.old path.now ⊎ Fails F.faults ⊎ SinkFails F.Output.stream) path.now files.old files.new
-        (λ Put. Put (domain_text asked.now.blocks.items last))) }
-    ensures refused { IfErr result (λ refusal. ((O.stream out.new ≡ O.stream out.old) × (refusal ≡ Refusal.Memory alloc_error)) ⊎ ((refusal ≡ Refusal.Output) × Failed (O.stream out.old) (O.stream out.new) (domain_line asked.now.wanted.items asked.now.known.items)) ⊎
-        (Wrote (O.stream out.old) (O.stream out.new) (domain_line asked.now.wanted.items asked.now.known.items) × IsUnput (F.shut files.old path.now ⊎ Fails F.faults ⊎ SinkFails F.Output.stream) refusal)) }
+    ensures puts { PutsAs ⟦<F as Known>⟧.reach (λ said bytes. (bytes ≡ domain_text asked.now.blocks.items last) × Wrote (O.stream out.old) (O.stream out.new) (domain_line asked.now.wanted.items asked.now.known.items)) path.now files.old files.new result }
+    ensures why { IfErr result (λ refusal. ((O.stream out.new ≡ O.stream out.old) × (refusal ≡ Refusal.Memory alloc_error)) ⊎ ((refusal ≡ Refusal.Output) × Failed (O.stream out.old) (O.stream out.new) (domain_line asked.now.wanted.items asked.now.known.items)) ⊎
+        (Wrote (O.stream out.old) (O.stream out.new) (domain_line asked.now.wanted.items asked.now.known.items) × IsUnput (PutFails ⟦<F as Known>⟧.reach path.now files.old) refusal)) }
 {
     match print_counts(alloc, &asked.wanted, &asked.known, out) {
         Ok(()) => {}
@@ -166,8 +155,9 @@ fn put_domain<F: Files, O: Sink>(
     }
 }
 
-/// Puts the mapfile of the blocks of a table's volume that are worth reading again by the rules of a profile at a path, and prints how many they are. Where `compares` is set
-/// and some are, known blocks are asked for beside them, by which a pass of another disc shows.
+/// Puts the mapfile of the blocks of a table's volume that are worth reading again by the rules of a profile at a path, and prints how many they are. Where
+/// `compares` is set and some are, known blocks are asked for beside them, by which a pass of another disc shows. It returns whether there are files and all of
+/// them are whole.
 #[tactic(auto, using(crate::proofs::RereadingLemmas::in_range, crate::proofs::RereadingLemmas::from_range))]
 fn map_of<F: Files, O: Sink>(
     alloc: Global,
@@ -179,16 +169,8 @@ fn map_of<F: Files, O: Sink>(
     files: &mut F,
     out: &mut O,
 ) -> Result<bool, Refusal>
-    ensures printed { IfOk result (λ whole. PrintsDomain compares profile last (λ bytes. (F.tells → IsKept (F.holds files.new) (F.may_leave files.new) (F.real files.old path.now) bytes) ⊎ (F.in_place files.old path.now × IsTaken F.Output.stream bytes))
-        (O.stream out.old) (O.stream out.new) whole table.now) }
-    // A crash at any moment of the call leaves all as it was, or with the mapfile in its place, whole.
-    ensures any_moment { F.tells → (F.in_place files.old path.now → ⊥) → (c : Disk) → F.left_since files.new (F.moment files.old) c → After (F.may_leave files.old) (MayDomain compares profile last (F.real files.old path.now) table.now) c }
-    // No other path changes, but for those of new files that are to go in its place.
-    ensures elsewhere { F.tells → (F.in_place files.old path.now → ⊥) → (q : List ℕ) → q ≢ F.real files.old path.now → (¬ IsOwn (F.real files.old path.now) q) → F.holds files.new q ≡ F.holds files.old q }
-    // After an error no file has changed; or a file call failed, and the path, unless it is a device or a pipe, holds what it held or the new file, whole.
-    ensures left { OnErr result (RefusedOut F.tells F.holds F.real F.in_place (F.shut files.old path.now ⊎ Fails F.faults ⊎ SinkFails F.Output.stream) path.now files.old files.new
-        (λ Put. IsDomain compares profile last Put table.now)) }
-    ensures refused { IfErr result (λ refusal. IsRefusedDomain (F.shut files.old path.now ⊎ Fails F.faults ⊎ SinkFails F.Output.stream) compares profile last (O.stream out.old) (O.stream out.new) refusal table.now) }
+    ensures puts { PutsAs ⟦<F as Known>⟧.reach (λ whole bytes. IsMapOf compares profile last (O.stream out.old) (O.stream out.new) whole bytes table.now) path.now files.old files.new result }
+    ensures why { IfErr result (λ refusal. IsRefusedDomain (PutFails ⟦<F as Known>⟧.reach path.now files.old) compares profile last (O.stream out.old) (O.stream out.new) refusal table.now) }
 {
     files.begin(Stage::Walking);
     let listing = match listed(alloc, table, last, profile) {
@@ -207,38 +189,63 @@ fn map_of<F: Files, O: Sink>(
     Ok(listing.all_whole())
 }
 
-/// Joins the inputs, prints how many blocks of the volume, whose last block is `last`, are worth reading again by the rules of a profile, and then puts their
-/// mapfile at a path, whole or not at all. Where `compares` is set and some are, known blocks are asked for beside them, by which a pass of another disc shows. It returns whether there are files and all of them are whole. All inputs are opened in order before one is read, and
-/// the mapfile is begun only after that.
+/// What is known of a mapfile that is to be written at a path.
+fn look_at_asked<F: Files>(
+    alloc: Global,
+    request: &RereadRequest<'_>,
+    path: &str,
+    files: &F,
+) -> Result<Outlook, AllocError>
+    ensures free { IfOk result (λ found. found ≡ Outlook.Free → IsMapFree ⟦<F as Known>⟧.reach files.now request.now path.now) }
+    ensures spared { IfOk result (λ found. found ≡ Outlook.Spared → IsMapSpared ⟦<F as Known>⟧.reach files.now request.now path.now) }
+    ensures unknown { IfOk result (λ found. found ≡ Outlook.Unknown → IsMapUnseen ⟦<F as Known>⟧.reach files.now request.now path.now) }
+{
+    let parts = request.volume.inputs.parts.as_slice();
+    let found = look_at_map(alloc, parts, path, files)?;
+    Ok(found)
+}
+
+/// Prints how many blocks are worth reading again of the volume that is asked for, and then puts their mapfile at a path, whole or not at all. It returns
+/// whether there are files and all of them are whole. All inputs are opened in order before one is read, and the mapfile is begun only after all are joined.
+///
+/// # Errors
+///
+/// `Spared` where the mapfile would take the place of an image or a mapfile of the inputs, or of a file that is no map of blocks to read again, and `Output` where
+/// that could not be found out; then where it is not known where the disc ends, or the inputs were not joined, or there is no report, or the line was not printed;
+/// and then those of [`put_file`].
 pub fn reread_map<F: Files, O: Sink>(
     alloc: Global,
-    inputs: &[InputPath<'_>],
-    last: u32,
-    profile: Profile,
-    compares: bool,
+    request: &RereadRequest<'_>,
     path: &str,
     files: &mut F,
     out: &mut O,
 ) -> Result<bool, Refusal>
-    ensures printed { IfOk result (λ whole. OfPaths (λ path. F.holds files.old (F.real files.old path)) (⟦<AnySource<F::Input, F::Image> as Source>⟧.remaining) inputs.now
-        (PrintsDomain compares profile last (λ bytes. (F.tells → IsKept (F.holds files.new) (F.may_leave files.new) (F.real files.old path.now) bytes) ⊎ (F.in_place files.old path.now × IsTaken F.Output.stream bytes))
-        (O.stream out.old) (O.stream out.new) whole)) }
-    // A crash at any moment of the call leaves all as it was, or with the mapfile in its place, whole.
-    ensures any_moment { F.tells → (F.in_place files.old path.now → ⊥) → (c : Disk) → F.left_since files.new (F.moment files.old) c → After (F.may_leave files.old) (MayDomainOf (λ path. F.holds files.old (F.real files.old path)) (⟦<AnySource<F::Input, F::Image> as Source>⟧.remaining) inputs.now compares profile last (F.real files.old path.now)) c }
-    // No other path changes, but for those of new files that are to go in its place.
-    ensures elsewhere { F.tells → (F.in_place files.old path.now → ⊥) → (q : List ℕ) → q ≢ F.real files.old path.now → (¬ IsOwn (F.real files.old path.now) q) → F.holds files.new q ≡ F.holds files.old q }
-    // After an error no file has changed; or a file call failed, and the path, unless it is a device or a pipe, holds what it held or the new file, whole.
-    ensures left { OnErr result (RefusedOut F.tells F.holds F.real F.in_place (F.shut files.old path.now ⊎ Fails F.faults ⊎ SinkFails F.Output.stream) path.now files.old files.new
-        (λ Put. OfPaths (λ path. F.holds files.old (F.real files.old path)) (⟦<AnySource<F::Input, F::Image> as Source>⟧.remaining) inputs.now (IsDomain compares profile last Put))) }
-    // The inputs were not joined, or memory ran out, or their table has no report, or the count was not printed, or the mapfile was not put.
-    ensures refused { IfErr result (OfPathsRefused (λ path. F.holds files.old (F.real files.old path)) (F.shut files.old) (⟦<AnySource<F::Input, F::Image> as Source>⟧.remaining) (⟦<AnySource<F::Input, F::Image> as Source>⟧.faults) inputs.now
-        ((files.new ≡ files.old) × (O.stream out.new ≡ O.stream out.old)) (IsRefusedDomain (F.shut files.old path.now ⊎ Fails F.faults ⊎ SinkFails F.Output.stream) compares profile last (O.stream out.old) (O.stream out.new))) }
+    ensures puts { PutsAs ⟦<F as Known>⟧.reach (IsMap ⟦<F as Known>⟧.reach files.old request.now (O.stream out.old) (O.stream out.new)) path.now files.old files.new result }
+    // It takes the place of no file but such a map, and never that of an image or a mapfile of the inputs.
+    ensures free { OnOk result (IsMapFree ⟦<F as Known>⟧.reach files.old request.now path.now) }
+    ensures why { IfErr result (MapRefused ⟦<F as Known>⟧.reach files.old files.new request.now path.now (O.stream out.old) (O.stream out.new)) }
 {
-    let table = match joined(alloc, inputs, files) {
-        Ok(table) => table,
+    let volume = &request.volume;
+    match look_at_asked(alloc, request, path, files) {
+        Ok(Outlook::Free) => {}
+        Ok(Outlook::Spared) => return Err(Refusal::Spared),
+        Ok(Outlook::Unknown) => return Err(unwritten_volume(alloc, volume, files)),
+        Err(AllocError) => return Err(Refusal::Memory(AllocError)),
+    }
+    let disc = match joined_volume(alloc, volume, files) {
+        Ok(disc) => disc,
         Err(refusal) => return Err(refusal),
     };
-    match map_of(alloc, &table, last, profile, compares, path, files, out) {
+    match map_of(
+        alloc,
+        &disc.table,
+        disc.last,
+        volume.profile,
+        request.witnesses,
+        path,
+        files,
+        out,
+    ) {
         Ok(whole) => Ok(whole),
         Err(refusal) => Err(refusal),
     }

@@ -1,12 +1,13 @@
 -- What is found of a volume is read by the rules by which it was looked for.
-use Rattle.std.proofs.Common.{◌≡◌, sym, ◌∙◌, ap, ℕ, List, Option, Some, None}
+use Rattle.std.proofs.Common.{◌≡◌, sym, ◌∙◌, ap, inl, inr, ◌⊎◌, ℕ, Bool, true, false, cond, List, map, Option, Some, None}
 use Rattle.udfs_lattice.specs.Volumes.{Blocks}
 use Rattle.udfs_volume.specs.declared.profiles.Profile.{Profile}
+use Rattle.udfs_volume.specs.declared.profiles.Profile.TheVariants.{Strict, Wide}
 use Rattle.udfs_volume.specs.declared.faults.VolumeFault.{VolumeFault}
-use Rattle.udfs_volume.specs.Answers.{found, unless_fault}
-use Rattle.udfs_volume.specs.Sequence.{Descriptor, sequence_by}
-use Rattle.udfs_volume.specs.Layout.{Layout, Described, NumberedMap, described, laid_out, layout_by, layout_of, logical_volume, partitions_fault, the_maps, volume_fault, with_maps, with_volume}
-use Rattle.udfs_space.specs.Sparing.{Space, Spans, space, spans}
+use Rattle.udfs_volume.specs.Answers.{Answer, found, holes, faulty, and_then, unless_fault}
+use Rattle.udfs_volume.specs.Sequence.{Descriptor, reserve_sequence_by, sequence_by}
+use Rattle.udfs_volume.specs.Layout.{Layout, Described, NumberedMap, described, found_or, is_of_sequence, laid_out, layout_by, layout_of, logical_volume, main_layout_by, or_reserve, partitions_fault, reserve_layout_by, the_maps, volume_fault, with_maps, with_volume}
+use Rattle.udfs_space.specs.Sparing.{Space, Spans, counted, space, spans}
 use Rattle.udfs_salvage.specs.Found.{Found, volume_by}
 use Rattle.udfs_salvage.proofs.Founds.{and_then-found, found_same}
 use Rattle.udfs_salvage.proofs.Opens.{FoundBy, found_by}
@@ -29,15 +30,36 @@ volume_rules P last ds None l e = absurd (let z : ⊥ = cc in z)
 volume_rules P last ds (Some lv) l e = let q : (v : Descriptor) × (unless_fault (volume_fault P last lv) lv ≡ found v) × (with_maps P last ds v (the_maps P last v) ≡ found l) =
     and_then-found (unless_fault (volume_fault P last lv) lv) (λ v. with_maps P last ds v (the_maps P last v)) l e in maps_rules P last ds q.0 (the_maps P last q.0) l q.2
 
+descriptors_rules : (P : Profile) (last : ℕ) (a : Answer (List Descriptor)) (l : Layout) → and_then a (layout_of P last) ≡ found l → l.profile ≡ P
+unfolding layout_of
+descriptors_rules P last a l e = let q : (ds : List Descriptor) × (a ≡ found ds) × (with_volume P last ds (logical_volume ds) ≡ found l) =
+    and_then-found a (λ ds. with_volume P last ds (logical_volume ds)) l e in volume_rules P last q.0 (logical_volume q.0) l q.2
+
+-- a layout that is found is that of the main sequence or of the reserve one
+of_either : (P : Profile) (main reserve : Answer Layout) (l : Layout) → or_reserve P main reserve ≡ found l → (main ≡ found l) ⊎ (reserve ≡ found l)
+of_either Strict main reserve l e = inl e
+of_either Wide (found k) reserve l e = inl e
+of_either Wide (holes unread) reserve l e = absurd (let z : ⊥ = cc in z)
+of_either Wide (faulty f) reserve l e = go (is_of_sequence f) reserve e
+  where
+    go : (b : Bool) (r : Answer Layout) → cond b (found_or f r) (faulty f) ≡ found l → (◌≡◌ {A = Answer Layout} (faulty f) (found l)) ⊎ (r ≡ found l)
+    go true (found k) e = inr e
+    go true (holes unread) e = absurd (let z : ⊥ = cc in z)
+    go true (faulty other) e = absurd (let z : ⊥ = cc in z)
+    go false r e = absurd (let z : ⊥ = cc in z)
+
 layout_rules : (P : Profile) (T : Blocks) (last : ℕ) (l : Layout) → layout_by P T last ≡ found l → l.profile ≡ P
-unfolding layout_by layout_of
-layout_rules P T last l e = let q : (ds : List Descriptor) × (sequence_by P T last ≡ found ds) × (with_volume P last ds (logical_volume ds) ≡ found l) =
-    and_then-found (sequence_by P T last) (λ ds. with_volume P last ds (logical_volume ds)) l e in volume_rules P last q.0 (logical_volume q.0) l q.2
+unfolding layout_by main_layout_by reserve_layout_by
+layout_rules P T last l e = go (of_either P (main_layout_by P T last) (reserve_layout_by P T last) l e)
+  where
+    go : (main_layout_by P T last ≡ found l) ⊎ (reserve_layout_by P T last ≡ found l) → l.profile ≡ P
+    go (inl e) = descriptors_rules P last (sequence_by P T last) l e
+    go (inr e) = descriptors_rules P last (reserve_sequence_by P T last) l e
 
 space_rules : (T : Blocks) (l : Layout) (s : Space) → space T l ≡ found s → s.profile ≡ l.profile
 unfolding space
-space_rules T l s e = let q : (ss : Spans) × (spans T l.last l.partitions ≡ found ss) × (found (record { spans = ss; profile = l.profile }) ≡ found s) =
-    and_then-found (spans T l.last l.partitions) (λ ss. found (record { spans = ss; profile = l.profile })) s e in
+space_rules T l s e = let q : (ss : Spans) × (spans T l.last (map (counted l.profile T) l.partitions) ≡ found ss) × (found (record { spans = ss; profile = l.profile }) ≡ found s) =
+    and_then-found (spans T l.last (map (counted l.profile T) l.partitions)) (λ ss. found (record { spans = ss; profile = l.profile })) s e in
     sym (ap (λ x. x.profile) (found_same (record { spans = q.0; profile = l.profile }) s q.2))
 
 -- the places of what is found by a profile are read by its rules

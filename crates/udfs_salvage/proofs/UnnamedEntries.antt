@@ -67,7 +67,7 @@ unfolding cells_standing
 none_missing cs e = none_ascending (missing_blocks cs) (none_torn (ascending (missing_blocks cs)) (runs_from 0 cs) e)
 
 -- what is a file by the rules and is whole has a body of which nothing is missing
-whole_body : (P : Profile) (k : Kind) (b : Body) → is_file (kind_by P k) ≡ true → body_standing k false b ≡ Whole → (cs : List Cell) × (b ≡ cells cs) × (missing_blocks cs ≡ [])
+whole_body : (P : Profile) (k : Kind) (b : Body) → is_file (kind_by P k) ≡ true → body_standing P k false b ≡ Whole → (cs : List Cell) × (b ≡ cells cs) × (missing_blocks cs ≡ [])
 whole_body P kind.Directory b file whole = absurd (let z : ⊥ = cc in z)
 whole_body P kind.File (faulty_body f) file whole = absurd (let z : ⊥ = cc in z)
 whole_body P kind.File (cells cs) file whole = (cs, refl, none_missing cs whole)
@@ -105,7 +105,7 @@ of_target v icb (entry e) u is at lost =
   where
     here : is_lost_file (unnamed_with v icb e) ≡ true → (cs : List Cell) × HasCells v (address_of icb) cs × (missing_blocks cs ≡ [])
     here file =
-        let s = body_standing e.kind false (body v icb.reference icb.block e) in
+        let s = body_standing v.profile e.kind false (body v icb.reference icb.block e) in
         let rest = and_right (is_file (kind_by v.profile e.kind)) (nat_lt 0 e.size && is_whole s) file in
         let w = whole_body v.profile e.kind (body v icb.reference icb.block e) (and_left (is_file (kind_by v.profile e.kind)) _ file) (is_whole_is s (and_right (nat_lt 0 e.size) (is_whole s) rest)) in
         (w.0, record { fields = e; is_entry = is; has_body = w.1 }, w.2)

@@ -15,7 +15,7 @@ use Rattle.udfs_volume.specs.declared.faults.VolumeFault.{VolumeFault}
 use Rattle.udfs_volume.specs.declared.faults.VolumeFault.TheVariants.{Extents, Domain, BlockSize, MapCount, MapKind, Contents, PartitionRange}
 use Rattle.udfs_volume.specs.Profiles.{accepts_packet, accepts_revision}
 use Rattle.udfs_volume.specs.Sequence.{Bytes, Descriptor, anchor, are_extents, are_extents_by, fits_to, positions, read_positions, sequence_at, sequence_by, shared}
-use Rattle.udfs_volume.specs.Layout.{Layout, Partition, type1, sparable, NumberedMap, Described, bp, is_type1, is_sparable, table_places, has_numbers, are_within, are_tables, map_size, read_map, before_maps, read_maps, unless_repeated, map_count, the_maps, has_domain, has_revision, volume_fault, described, has_contents, partition_of, placed_of, is_in_range, partitions_fault, laid_out, with_maps, with_volume, logical_volume, layout_of, layout_by}
+use Rattle.udfs_volume.specs.Layout.{Layout, Partition, type1, sparable, NumberedMap, Described, bp, is_type1, is_sparable, table_places, has_numbers, are_within, are_tables, map_size, read_map, before_maps, read_maps, unless_repeated, map_count, the_maps, has_domain, has_revision, volume_fault, described, has_contents, partition_of, placed_of, is_in_range, partitions_fault, laid_out, with_maps, with_volume, logical_volume, layout_of, layout_by, main_layout_by, or_reserve, reserve_layout_by}
 use Rattle.udfs_salvage.proofs.Founds.{and_then-found, found_same}
 
 -- ---- tests of which one takes more than the other
@@ -286,7 +286,7 @@ descriptors_kept T last ds e = go (are_extents last q.0) refl q.2
     go false b p = absurd (let z : ⊥ = cc in z)
 
 pub layout_kept : (T : Blocks) (last : ℕ) (l : Layout) → layout_by Strict T last ≡ found l → (layout_by Wide T last ≡ found (read_wide l)) × (l.profile ≡ Strict)
-unfolding layout_by
+unfolding layout_by main_layout_by
 layout_kept T last l e = let q : (ds : List Descriptor) × (sequence_by Strict T last ≡ found ds) × (layout_of Strict last ds ≡ found l) = and_then-found (sequence_by Strict T last) (layout_of Strict last) l e in
     let k : IsKept l (layout_of Wide last q.0) = sequence_kept last q.0 l q.2 in
-    (ap (λ x. and_then x (layout_of Wide last)) (descriptors_kept T last q.0 q.1) ∙ k.0, k.1)
+    (ap (λ x. or_reserve Wide x (reserve_layout_by Wide T last)) (ap (λ x. and_then x (layout_of Wide last)) (descriptors_kept T last q.0 q.1) ∙ k.0), k.1)

@@ -17,7 +17,7 @@ use Rattle.udfs_volume.specs.declared.faults.VolumeFault.TheVariants.{Domain}
 use Rattle.udfs_volume.specs.declared.profiles.Profile.TheVariants.{Strict, Wide}
 use Rattle.udfs_volume.specs.Sequence.{Bytes, anchor, position, goes_on, sequence_by}
 use Rattle.udfs_volume.specs.Standard.{standard_anchor, standard_layout_by}
-use Rattle.udfs_volume.specs.Layout.{Layout, layout_of, layout_by}
+use Rattle.udfs_volume.specs.Layout.{Layout, layout_of, layout_by, main_layout_by}
 use Rattle.udfs_volume.specs.Laws.{valid_anchors, IsThroughEnd, SaysTheSame, IsLawfulLayoutBy}
 use Rattle.udfs_volume.specs.Sample.{one_type1, logical_volume_at, patch, sample, sample_layout}
 use Rattle.udfs_volume.proofs.PublicLaws.{sample_layout_is_lawful}
@@ -89,12 +89,12 @@ copies_by contents (suc (suc (suc (suc i)))) h = absurd (let t : true ≡ false 
 
 -- ---- the layout
 pub revised_layout_is : (contents : ℕ → Bytes) → layout_by Wide (complete (revised contents) 600) 600 ≡ found revised_layout
-unfolding polynomial reduced crc_of tag_of anchor position sequence_by layout_of layout_by
+unfolding polynomial reduced crc_of tag_of anchor position sequence_by layout_of main_layout_by layout_by
 revised_layout_is contents = refl
 
 -- the strict rules take no such revision
 pub revised_is_refused : (contents : ℕ → Bytes) → layout_by Strict (complete (revised contents) 600) 600 ≡ faulty Domain
-unfolding polynomial reduced crc_of tag_of anchor position sequence_by layout_of layout_by
+unfolding polynomial reduced crc_of tag_of anchor position sequence_by layout_of main_layout_by layout_by
 revised_is_refused contents = refl
 
 pub revised_is_lawful : (contents : ℕ → Bytes) → IsLawfulLayoutBy Wide (revised contents) 600

@@ -7,22 +7,71 @@ use Rattle.udfs_volume.specs.declared.profiles.Profile.TheVariants.{Strict, Wide
 use Rattle.udfs_volume.specs.Sequence.{Bytes}
 use Rattle.udfs_space.specs.Places.{View}
 use Rattle.udfs_file.specs.Bodies.{Body, cells, faulty_body, body}
-use Rattle.udfs_file.specs.Complete.{HasPartitions, IsComplete, IsReadBody, as_cell, as_cells}
+use Rattle.udfs_file.specs.Complete.{AreShort, HasPartitions, IsComplete, IsReadBody, as_cell, as_cells}
 use Rattle.udfs_file.specs.Entries.{EntryFields, entry_of}
-use Rattle.udfs_file.specs.Fronts.{listed_entries}
-use Rattle.udfs_file.specs.Identifiers.{Identifier}
+use Rattle.udfs_file.specs.Fronts.{DirectoryText, directory_by, entries_by, fault_in, listed_entries}
+use Rattle.udfs_file.specs.Identifiers.{Identifier, Nothing}
 use Rattle.udfs_file.specs.Laws.{by_profile}
-use Rattle.udfs_file.specs.Standard.{Located, IsBodyOf}
+use Rattle.udfs_file.specs.Standard.{Located, IsBodyOf, IsDirectoryBody}
+use Rattle.udfs_file.specs.declared.cells.Cell.{Cell}
+use Rattle.udfs_file.specs.declared.faults.Kind.{Kind}
+use Rattle.udfs_file.specs.declared.faults.Kind.TheVariants.{Directory, File, Link, Other, Unread}
+use Rattle.udfs_file.specs.declared.faults.NodeFault.{NodeFault}
 use Rattle.udfs_file.specs.declared.directories.DirEntry.{DirEntry}
-use Rattle.udfs_file.proofs.PublicLaws.{body_is_read, standard_bodies_are_read, the_tail_keeps_bodies}
+use Rattle.udfs_file.proofs.PublicLaws.{body_is_read, directory_is_read, standard_bodies_are_read, standard_directories_are_read, the_tail_keeps_bodies, wide_takes_tags}
 use Rattle.udfs_walk.specs.Nodes.{node, node_at}
 use Rattle.udfs_walk.specs.Routes.{Route, Walked, at_root, below, is_loop, is_deep, kind_entries, target_entries, entries_below, walk_from, walked}
-use Rattle.udfs_walk.specs.Standings.{body_standing}
+use Rattle.udfs_walk.specs.Standings.{body_standing, cells_standing, depth_or, kind_standing, standing_or_fault}
 use Rattle.udfs_walk.specs.Targets.{Target, bad, unread, entry, target}
+use Rattle.udfs_walk.specs.declared.standings.Standing.{Standing}
 use Rattle.udfs_walk.specs.declared.standings.Standing.TheVariants.{Whole, Loop}
 use Rattle.udfs_tree.specs.Lawful.{IsLawfulTree}
 use Rattle.udfs_tree.specs.Sound.{IsSoundTree}
 use Rattle.udfs_tree.specs.Trees.{PartitionBlocks, TreeFile, IsFileAt, IsDirectoryAt, Leads, InTree}
+
+-- ---- directories
+no_fault : (o : Option NodeFault) (inner : Standing) → standing_or_fault o inner ≡ Whole → o ≡ None
+no_fault None inner h = refl
+no_fault (Some f) inner h = absurd (let z : ⊥ = cc in z)
+
+-- what is whole by the strict rules is so by the wide ones, and lists the same
+record IsKindKept (k : Kind) (deep : Bool) (cs : List Cell) : Type 0 where
+  pub whole : kind_standing Wide k deep cs ≡ Whole
+  pub entries : kind_entries Wide k (cells cs) ≡ kind_entries Strict k (cells cs)
+
+kind_kept : (k : Kind) (deep : Bool) (cs : List Cell) → kind_standing Strict k deep cs ≡ Whole → IsKindKept k deep cs
+kind_kept Directory deep cs h = record {
+  whole = ap (λ (d : DirectoryText). standing_or_fault (fault_in d.rest) (depth_or deep (listed_entries d.identifiers) (cells_standing cs))) same ∙ h;
+  entries = ap (λ (d : DirectoryText). listed_entries d.identifiers) same;
+}
+  where
+    same : directory_by Wide cs ≡ directory_by Strict cs
+    same = (wide_takes_tags cs).same (no_fault (fault_in (directory_by Strict cs).rest) (depth_or deep (entries_by Strict cs) (cells_standing cs)) h)
+kind_kept File deep cs h = record { whole = h; entries = refl }
+kind_kept Link deep cs h = record { whole = h; entries = refl }
+kind_kept (Other t) deep cs h = record { whole = h; entries = refl }
+kind_kept Unread deep cs h = record { whole = h; entries = refl }
+
+-- a list of descriptors by the strict rules is one by the wide ones
+directory_kept : (xs : List Located) (ids : List Identifier) → IsDirectoryBody Strict xs ids → IsDirectoryBody Wide xs ids
+directory_kept xs [] h = h
+directory_kept xs (id ∷ ids) (piece, rest, w, i, d) = (
+  piece,
+  rest,
+  w,
+  record { bytes = i.bytes; bytes_are = i.bytes_are; block = i.block; place = tt; long_enough = i.long_enough; size = i.size; valid = i.valid; is = i.is },
+  directory_kept rest ids d,
+)
+
+-- and the only one, so that any is one by the strict rules
+directory_back : (xs : List Located) (ids others : List Identifier) → IsDirectoryBody Strict xs others → AreShort others → IsDirectoryBody Wide xs ids → IsDirectoryBody Strict xs ids
+directory_back xs ids others s short w = subst (IsDirectoryBody Strict xs) (only others (directory_kept xs others s) ∙ sym (only ids w)) s
+  where
+    read : ((directory_by Wide (as_cells xs)).identifiers ≡ others) × ((directory_by Wide (as_cells xs)).rest ≡ Nothing)
+    read = standard_directories_are_read Wide xs others (directory_kept xs others s) short
+
+    only : (other : List Identifier) → IsDirectoryBody Wide xs other → other ≡ (directory_by Wide (as_cells xs)).identifiers
+    only = (directory_is_read Wide xs read.1).only
 
 -- ---- the nodes
 -- a node that is whole by the strict rules is so by the wide ones, and routes go on from it to the same
@@ -41,16 +90,20 @@ node_kept v w whole = let k : Kept (target (by_profile Strict v) w.address) = of
     read : Profile → EntryFields → Body
     read profile e = body (by_profile profile v) w.address.reference w.address.block e
 
-    same : (e : EntryFields) (loop : Bool) (b : Body) → read Strict e ≡ b → cond loop Loop (body_standing e.kind (is_deep w) b) ≡ Whole → read Wide e ≡ read Strict e
+    Same : EntryFields → Bool → Type 0
+    Same e loop = (cond loop Loop (body_standing Wide e.kind (is_deep w) (read Wide e)) ≡ Whole) × (kind_entries Wide e.kind (read Wide e) ≡ kind_entries Strict e.kind (read Strict e))
+
+    same : (e : EntryFields) (loop : Bool) (b : Body) → read Strict e ≡ b → cond loop Loop (body_standing Strict e.kind (is_deep w) b) ≡ Whole → Same e loop
     same e true b q h = absurd (let z : ⊥ = cc in z)
     same e false (faulty_body f) q h = absurd (let z : ⊥ = cc in z)
-    same e false (cells cs) q h = the_tail_keeps_bodies v w.address.reference w.address.block e cs q ∙ sym q
+    same e false (cells cs) q h = let t : read Wide e ≡ cells cs = the_tail_keeps_bodies v w.address.reference w.address.block e cs q in
+        let k : IsKindKept e.kind (is_deep w) cs = kind_kept e.kind (is_deep w) cs h in
+        (ap (body_standing Wide e.kind (is_deep w)) t ∙ k.whole, ap (kind_entries Wide e.kind) t ∙ k.entries ∙ ap (kind_entries Strict e.kind) (sym q))
 
     of : (t : Target) → (node_at (by_profile Strict v) w t).standing ≡ Whole → Kept t
     of (bad f) h = absurd (let z : ⊥ = cc in z)
     of (unread n) h = absurd (let z : ⊥ = cc in z)
-    of (entry e) h = let s : read Wide e ≡ read Strict e = same e (is_loop w) (read Strict e) refl h in
-        (ap (λ b. cond (is_loop w) Loop (body_standing e.kind (is_deep w) b)) s ∙ h, ap (kind_entries e.kind) s)
+    of (entry e) h = same e (is_loop w) (read Strict e) refl h
 
 -- ---- the routes
 walk_kept : (v : View) (w : Walked) (js : Route) → ((route : Route) (x : Walked) → walk_from (by_profile Strict v) w route ≡ Some x → (node (by_profile Strict v) x).standing ≡ Whole)
@@ -132,7 +185,7 @@ leads_kept : (v : View) (at : ℕ → ℕ → Option Bytes) → IsComplete (by_p
     → Leads (read_with Strict at) a path b → Leads (read_with Wide at) a path b
 leads_kept v at c has [] a b h = h
 leads_kept v at c has (name ∷ names) a b (ids, d, there, among, named, more) =
-    (ids, d, record { file = there.file; is_file = file_kept v at c has a there.file there.is_file; kind = there.kind; body = there.body }, among, named, leads_kept v at c has names d.icb b more)
+    (ids, d, record { file = there.file; is_file = file_kept v at c has a there.file there.is_file; kind = there.kind; body = directory_kept there.file.body ids there.body }, among, named, leads_kept v at c has names d.icb b more)
 
 pub in_tree_kept : (v : View) (at : ℕ → ℕ → Option Bytes) → IsComplete (by_profile Strict v) (read_with Strict at) → HasPartitions v → (root : LongAd) (path : List (List ℕ)) (file : TreeFile)
     → InTree (read_with Strict at) root path file → InTree (read_with Wide at) root path file
@@ -179,8 +232,14 @@ leads_back v at c has root sound [] path a b leads h = h
 leads_back v at c has root sound (name ∷ names) path a b leads (ids, d, there, among, named, more) =
     (ids, d, here, among, named, leads_back v at c has root sound names (path ++ d.name ∷ []) d.icb b (leads_further (read_with Strict at) path root a ids d leads here among) more)
   where
+    stands : IsFileAt (read_with Strict at) a there.file
+    stands = file_back v at c has root sound path a there.file leads there.is_file
+
+    list : (others : List Identifier) × IsDirectoryBody Strict there.file.body others × AreShort others
+    list = sound.directories path a there.file leads stands there.kind
+
     here : IsDirectoryAt (read_with Strict at) a ids
-    here = record { file = there.file; is_file = file_back v at c has root sound path a there.file leads there.is_file; kind = there.kind; body = there.body }
+    here = record { file = there.file; is_file = stands; kind = there.kind; body = directory_back there.file.body ids list.0 list.1 list.2 there.body }
 
 pub in_tree_back : (v : View) (at : ℕ → ℕ → Option Bytes) → IsComplete (by_profile Strict v) (read_with Strict at) → HasPartitions v → (root : LongAd) → IsSoundTree (read_with Strict at) root
     → (path : List (List ℕ)) (file : TreeFile) → InTree (read_with Wide at) root path file → InTree (read_with Strict at) root path file

@@ -1,14 +1,19 @@
 -- A volume that is lawful by the strict rules is lawful by the wide ones, and has the same files.
-use Rattle.std.proofs.Common.{◌≡◌, refl, sym, ◌∙◌, ap, subst, ℕ, true, false, List}
+use Rattle.std.proofs.Common.{◌≡◌, refl, sym, ◌∙◌, ap, subst, ℕ, true, false, List, map}
+use Rattle.std.specs.Prelude.{Contains}
+use Rattle.udfs_volume.specs.declared.profiles.Profile.{Profile}
 use Rattle.udfs_volume.specs.declared.profiles.Profile.TheVariants.{Strict, Wide}
-use Rattle.udfs_lattice.specs.Volumes.{Blocks, Volume, complete}
+use Rattle.udfs_lattice.specs.Volumes.{Blocks, IsVolume, Volume, complete}
+use Rattle.udfs_lattice.proofs.PublicLaws.{complete_agrees}
 use Rattle.udfs_tag.specs.declared.layouts.LongAd.{LongAd}
 use Rattle.udfs_volume.specs.Answers.{found, and_then}
-use Rattle.udfs_volume.specs.Layout.{Layout, layout_by}
+use Rattle.udfs_volume.specs.Layout.{Layout, Partition, layout_by}
 use Rattle.udfs_volume.specs.Sequence.{extents_of}
 use Rattle.udfs_volume.specs.Standard.{main_sequence, standard_layout_by}
 use Rattle.udfs_space.specs.Places.{place, view}
-use Rattle.udfs_space.specs.Sparing.{Space, Spans, space, spans}
+use Rattle.udfs_space.specs.Laws.{SparingAgrees}
+use Rattle.udfs_space.specs.Sparing.{Space, Spans, counted, space, spans}
+use Rattle.udfs_space.proofs.PublicLaws.{any_copies}
 use Rattle.udfs_file.specs.Addresses.{file_set}
 use Rattle.udfs_file.specs.Complete.{IsComplete}
 use Rattle.udfs_file.specs.Laws.{by_profile}
@@ -29,12 +34,16 @@ use Rattle.udfs_salvage.proofs.WideTrees.{in_tree_back, in_tree_kept, lawful_tre
 abbrev wide_space : Space → Space
 wide_space s = record { spans = s.spans; profile = Wide }
 
-space_kept : (T : Blocks) (l : Layout) (s : Space) → space T l ≡ found s → (space T (read_wide l) ≡ found (wide_space s)) × (s.profile ≡ l.profile)
+-- the copies of a sparing table that count by the wide rules say what all of them say together
+space_kept : (V : Volume) (N : ℕ) (l : Layout) (s : Space) → IsVolume V N → layout_by Strict (complete V N) N ≡ found l → ((p : Partition) → Contains l.partitions p → SparingAgrees V p.kind)
+    → space (complete V N) l ≡ found s → (space (complete V N) (read_wide l) ≡ found (wide_space s)) × (s.profile ≡ l.profile)
 unfolding space
-space_kept T l s e = let q : (ss : Spans) × (spans T l.last l.partitions ≡ found ss) × (found (record { spans = ss; profile = l.profile }) ≡ found s) =
-    and_then-found (spans T l.last l.partitions) (λ ss. found (record { spans = ss; profile = l.profile })) s e in
+space_kept V N l s hv h tables e = let T : Blocks = complete V N in
+    let q : (ss : Spans) × (spans T l.last (map (counted l.profile T) l.partitions) ≡ found ss) × (found (record { spans = ss; profile = l.profile }) ≡ found s) =
+    and_then-found (spans T l.last (map (counted l.profile T) l.partitions)) (λ ss. found (record { spans = ss; profile = l.profile })) s e in
     let is : record { spans = q.0; profile = l.profile } ≡ s = found_same (record { spans = q.0; profile = l.profile }) s q.2 in
-    (ap (λ x. and_then x (λ ss. found (record { spans = ss; profile = Wide }))) q.1 ∙ ap (λ x. found (wide_space x)) is, sym (ap (λ x. x.profile) is))
+    let all : (rules : Profile) → spans T l.last (map (counted rules T) l.partitions) ≡ spans T l.last l.partitions = any_copies Strict T V N l hv h tables (complete_agrees V N) in
+    (ap (λ x. and_then x (λ ss. found (record { spans = ss; profile = Wide }))) (all Wide ∙ sym (all l.profile) ∙ q.1) ∙ ap (λ x. found (wide_space x)) is, sym (ap (λ x. x.profile) is))
 
 -- the view differs in nothing but the rules
 view_widened : (T : Blocks) (s : Space) → view T (wide_space s) ≡ by_profile Wide (view T s)
@@ -59,9 +68,10 @@ record IsFoundKept (V : Volume) (N : ℕ) (f : Found) : Type 0 where
   pub finds : volume_by Wide (complete V N) N ≡ found (wide_found f)
   pub strict : f.space.profile ≡ Strict
 
-found_kept : (V : Volume) (N : ℕ) (f : Found) → volume_by Strict (complete V N) N ≡ found f → IsFoundKept V N f
+found_kept : (V : Volume) (N : ℕ) (f : Found) → IsVolume V N → ((p : Partition) → Contains f.layout.partitions p → SparingAgrees V p.kind)
+    → volume_by Strict (complete V N) N ≡ found f → IsFoundKept V N f
 unfolding volume_by
-found_kept V N f e = record {
+found_kept V N f hv tables e = record {
   layout_is = l.0;
   space_is = s.0;
   finds = ap (λ x. and_then x (placed C)) l.0 ∙ ap (λ x. and_then x (rooted C (read_wide f.layout))) s.0
@@ -79,7 +89,7 @@ found_kept V N f e = record {
     l = layout_kept C N f.layout by.layout_is
 
     s : (space C (read_wide f.layout) ≡ found (wide_space f.space)) × (f.space.profile ≡ f.layout.profile)
-    s = space_kept C f.layout f.space by.space_is
+    s = space_kept V N f.layout f.space hv by.layout_is tables by.space_is
 
 volume_kept : (V : Volume) (N : ℕ) (lawful : IsLawfulVolumeBy Strict V N) → IsFoundKept V N lawful.found_is → IsLawfulVolumeBy Wide V N
 volume_kept V N lawful k = record {
@@ -127,7 +137,7 @@ wide_takes_strict V N l = record { lawful = wide; files = λ path file. (into pa
     f = l.is_volume.found_is
 
     k : IsFoundKept V N f
-    k = found_kept V N f l.is_volume.finds
+    k = found_kept V N f l.is_volume.volume_is l.is_volume.sparing.tables l.is_volume.finds
 
     tree : IsLawfulTree (view C (wide_space f.space)) f.root
     tree = subst (λ v. IsLawfulTree v f.root) (sym (view_widened C f.space))

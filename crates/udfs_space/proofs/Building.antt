@@ -8,7 +8,7 @@ use Rattle.udfs_volume.specs.declared.faults.VolumeFault.{VolumeFault}
 use Rattle.udfs_volume.specs.Answers.{Answer, found, holes, faulty, and_then}
 use Rattle.udfs_volume.specs.Layout.{Layout, Partition}
 use Rattle.udfs_space.proofs.Facts.{and_then-found, found_same}
-use Rattle.udfs_space.specs.Sparing.{Space, Spans, Span, space, span, spans}
+use Rattle.udfs_space.specs.Sparing.{Space, Spans, Span, counted, space, span, spans}
 
 -- with spans that stand before
 abbrev pub after : Spans → Answer Spans → Answer Spans
@@ -56,6 +56,7 @@ as_many b last (p ∷ ps) ss e =
 abbrev pub in_space : Layout → Answer Spans → Answer Space
 in_space l a = and_then a (λ ss. found (record { spans = ss; profile = l.profile }))
 
-pub space_by : {A : Type 0} (b : Blocks) (l : Layout) (f : A → Partition) (ds xs : List A) (a : Answer Spans) → ds ≡ xs → l.partitions ≡ map f xs → spans b l.last (map f ds) ≡ a → space b l ≡ in_space l a
+pub space_by : {A : Type 0} (b : Blocks) (l : Layout) (f : A → Partition) (ds xs : List A) (a : Answer Spans) → ds ≡ xs → l.partitions ≡ map f xs
+    → spans b l.last (map (counted l.profile b) (map f ds)) ≡ a → space b l ≡ in_space l a
 unfolding space
-space_by b l f ds xs a d p e = ap (in_space l) (ap (spans b l.last) (p ∙ ap (map f) (sym d)) ∙ e)
+space_by b l f ds xs a d p e = ap (in_space l) (ap (λ ps. spans b l.last (map (counted l.profile b) ps)) (p ∙ ap (map f) (sym d)) ∙ e)

@@ -7,11 +7,14 @@ pub mod Loops
 pub mod Orders
 pub mod Partitions
 pub mod Pasts
+pub mod Counted
+pub mod Ranks
 pub mod PlaceLaw
 pub mod Searching
 pub mod SoundEntries
 pub mod Soundness
 pub mod SpaceLaw
+pub mod Counting
 pub mod Standing
 pub mod Tables
 pub mod Telling

@@ -1,5 +1,5 @@
 -- Every place of a volume that has a layout is one of its blocks.
-use Rattle.std.proofs.Common.{◌≡◌, refl, sym, ◌∙◌, ap, subst, inl, inr, ◌⊎◌, ℕ, ◌+◌, ◌-◌, ◌%◌, ◌<◌, ◌≤◌, Bool, true, false, not, List, [], ◌∷◌, drop, filter, cond, ◌&&◌, ◌||◌, arith, Option, Some, None, slice_get, nat_eq, nat_lt}
+use Rattle.std.proofs.Common.{◌≡◌, refl, sym, ◌∙◌, ap, subst, inl, inr, ◌⊎◌, ℕ, ◌+◌, ◌-◌, ◌%◌, ◌<◌, ◌≤◌, Bool, true, false, not, List, [], ◌∷◌, drop, filter, map, cond, ◌&&◌, ◌||◌, arith, Option, Some, None, slice_get, nat_eq, nat_lt}
 use Rattle.std.specs.Prelude.{zero, suc, find, Contains}
 use Rattle.std.specs.List.{list_any}
 use Rattle.std.proofs.lemmas.Bool.{leb-true}
@@ -16,10 +16,11 @@ use Rattle.udfs_volume.specs.declared.faults.VolumeFault.TheVariants.{SparingTag
 use Rattle.udfs_volume.specs.Layout.{Layout, Partition, PartitionMap, type1, sparable, blocks_in, layout_by}
 use Rattle.udfs_volume.specs.Laws.{IsBounded, IsBoundedMap, IsBoundedPartition}
 use Rattle.udfs_volume.proofs.PublicLaws.{layout_is_bounded_by}
+use Rattle.udfs_space.proofs.Counted.{all_counted}
 use Rattle.udfs_space.proofs.Facts.{and_then-found, complete-known, found_same, known_is, unless_fault-found}
 use Rattle.udfs_space.specs.Laws.{PlaceLawBy}
 use Rattle.udfs_space.specs.declared.entries.SparingEntry.{SparingEntry}
-use Rattle.udfs_space.specs.Sparing.{Span, Space, Spans, Spared, spared, spared_unless, spared_by, spared_in, unread, is_used, is_sparing_table, is_misshapen, passes_end, is_out_of_order, entries, copies, place_of, sparing_fault, packet_of, span_of, span, spans, space, sparing_table_bytes}
+use Rattle.udfs_space.specs.Sparing.{Span, Space, Spans, Spared, counted, spared, spared_unless, spared_by, spared_in, unread, is_used, is_sparing_table, is_misshapen, passes_end, is_out_of_order, entries, copies, place_of, sparing_fault, packet_of, span_of, span, spans, space, sparing_table_bytes}
 use Rattle.udfs_space.specs.Places.{place, place_in, place_by, placed_at}
 
 fits_if : (o : Bool) (a b : ℕ) → (o || nat_lt a b) ≡ false → b ≤ a
@@ -146,25 +147,25 @@ any_within last ss all r b n e = go (slice_get ss.spans r) refl e
 
 -- the spans of a space that is found
 pub space_found : (T : Blocks) (l : Layout) (ss : Space) → space T l ≡ found ss
-    → (xs : Spans) × (spans T l.last l.partitions ≡ found xs) × (found (record { spans = xs; profile = l.profile }) ≡ found ss)
+    → (xs : Spans) × (spans T l.last (map (counted l.profile T) l.partitions) ≡ found xs) × (found (record { spans = xs; profile = l.profile }) ≡ found ss)
 unfolding space
-space_found T l ss e = and_then-found (spans T l.last l.partitions) (λ xs. found (record { spans = xs; profile = l.profile })) ss e
+space_found T l ss e = and_then-found (spans T l.last (map (counted l.profile T) l.partitions)) (λ xs. found (record { spans = xs; profile = l.profile })) ss e
 
 pub space_spans : (T : Blocks) (l : Layout) (ss : Space)
-    → (q : (xs : Spans) × (spans T l.last l.partitions ≡ found xs) × (found (record { spans = xs; profile = l.profile }) ≡ found ss)) → q.0 ≡ ss.spans
+    → (q : (xs : Spans) × (spans T l.last (map (counted l.profile T) l.partitions) ≡ found xs) × (found (record { spans = xs; profile = l.profile }) ≡ found ss)) → q.0 ≡ ss.spans
 space_spans T l ss q = ap (λ z. z.spans) (found_same (record { spans = q.0; profile = l.profile }) ss q.2)
 
 space_within : (profile : Profile) (T : Blocks) (last : ℕ) (l : Layout) (ss : Space) → layout_by profile T last ≡ found l → space T l ≡ found ss → (r b n : ℕ) → place ss r b ≡ Some n → n ≤ last
 unfolding space
 space_within profile T last l ss h e = let bounds : IsBounded last l = layout_is_bounded_by profile T last l h in
-    let q : (xs : Spans) × (spans T l.last l.partitions ≡ found xs) × (found (record { spans = xs; profile = l.profile }) ≡ found ss) = space_found T l ss e in
+    let q : (xs : Spans) × (spans T l.last (map (counted l.profile T) l.partitions) ≡ found xs) × (found (record { spans = xs; profile = l.profile }) ≡ found ss) = space_found T l ss e in
     any_within last ss (subst (λ xs. (s : Span) → Contains xs s → IsWithin last s) (space_spans T l ss q)
-    (spans_within T last l.partitions q.0 bounds.of_each (ap (λ x. spans T x l.partitions) (sym bounds.is_last) ∙ q.1)))
+    (spans_within T last (map (counted l.profile T) l.partitions) q.0 (all_counted l.profile T last l.partitions bounds.of_each) (ap (λ x. spans T x (map (counted l.profile T) l.partitions)) (sym bounds.is_last) ∙ q.1)))
 
 pub places_up_to : (T : Blocks) (l : Layout) (ss : Space) → IsBounded l.last l → space T l ≡ found ss → (r b n : ℕ) → place ss r b ≡ Some n → n ≤ l.last
 unfolding space
-places_up_to T l ss bounds e = let q : (xs : Spans) × (spans T l.last l.partitions ≡ found xs) × (found (record { spans = xs; profile = l.profile }) ≡ found ss) = space_found T l ss e in
-    any_within l.last ss (subst (λ xs. (s : Span) → Contains xs s → IsWithin l.last s) (space_spans T l ss q) (spans_within T l.last l.partitions q.0 bounds.of_each q.1))
+places_up_to T l ss bounds e = let q : (xs : Spans) × (spans T l.last (map (counted l.profile T) l.partitions) ≡ found xs) × (found (record { spans = xs; profile = l.profile }) ≡ found ss) = space_found T l ss e in
+    any_within l.last ss (subst (λ xs. (s : Span) → Contains xs s → IsWithin l.last s) (space_spans T l ss q) (spans_within T l.last (map (counted l.profile T) l.partitions) q.0 (all_counted l.profile T l.last l.partitions bounds.of_each) q.1))
 
 pub place_law : (profile : Profile) → PlaceLawBy profile
 place_law profile M V N l s hv hl hs a = record {

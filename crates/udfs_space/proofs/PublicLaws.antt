@@ -2,9 +2,9 @@
 -- those that end in `_by` for every profile, the others by the strict rules.
 use Rattle.udfs_volume.specs.declared.profiles.Profile.{Profile}
 use Rattle.udfs_volume.specs.declared.profiles.Profile.TheVariants.{Strict}
-use Rattle.udfs_space.specs.Laws.{PlaceLaw, PlaceLawBy, SpaceLaw, SpaceLawBy, StandardBlocks, StandardBlocksBy}
+use Rattle.udfs_space.specs.Laws.{AnyCopies, PlaceLaw, PlaceLawBy, SpaceLaw, SpaceLawBy, StandardBlocks, StandardBlocksBy}
 use Rattle.udfs_space.specs.Sample.{SampleSpace}
-use Rattle.udfs_space.proofs.SpaceLaw as lawful
+use Rattle.udfs_space.proofs.Counting as lawful
 use Rattle.udfs_space.proofs.PlaceLaw as placed
 use Rattle.udfs_space.proofs.StandardBlocks as standard
 use Rattle.udfs_space.proofs.SampleLaw as sample
@@ -14,6 +14,9 @@ space_of_lawful_by = lawful.space_law
 
 pub space_of_lawful : SpaceLaw
 space_of_lawful = space_of_lawful_by Strict
+
+pub any_copies : AnyCopies
+any_copies = lawful.any_copies
 
 pub places_are_blocks_by : (profile : Profile) → PlaceLawBy profile
 places_are_blocks_by = placed.place_law

@@ -1,5 +1,5 @@
 -- The partitions of a layout are sound.
-use Rattle.std.proofs.Common.{◌≡◌, refl, sym, ◌∙◌, ap, subst, ℕ, ◌+◌, ◌*◌, ◌≤◌, Bool, true, false, not, List, [], ◌∷◌, drop, cond, ◌||◌, arith, Option, Some, None, nat_lt}
+use Rattle.std.proofs.Common.{◌≡◌, refl, sym, ◌∙◌, ap, subst, ℕ, ◌+◌, ◌*◌, ◌≤◌, Bool, true, false, not, List, [], ◌∷◌, drop, map, cond, ◌||◌, arith, Option, Some, None, nat_lt}
 use Rattle.std.specs.Prelude.{Contains}
 use Rattle.std.specs.List.{list_any}
 use Rattle.std.proofs.lemmas.List.Elements.{All-nil}
@@ -12,10 +12,11 @@ use Rattle.udfs_volume.specs.Laws.{IsBounded, IsBoundedPartition}
 use Rattle.udfs_volume.specs.declared.faults.VolumeFault.{VolumeFault}
 use Rattle.udfs_volume.specs.declared.faults.VolumeFault.TheVariants.{SparingTag, SparingShape}
 use Rattle.udfs_volume.proofs.PublicLaws.{layout_is_bounded_by}
+use Rattle.udfs_space.proofs.Counted.{all_counted}
 use Rattle.udfs_space.proofs.Facts.{and_then-found, found_same, unless_fault-found}
 use Rattle.udfs_space.specs.Laws.{SoundSpace}
 use Rattle.udfs_space.specs.Parts.{AreSound, IsSoundEntry, IsSound}
-use Rattle.udfs_space.specs.Sparing.{Span, Spans, Spared, spared, spared_unless, spared_by, spared_in, unread, is_bad_original, is_sparing_table, entries, entry_count, copies, place_of, sparing_fault, packet_of, span_of, span, spans, space, sparing_table_bytes}
+use Rattle.udfs_space.specs.Sparing.{Span, Spans, Spared, spared, spared_unless, spared_by, spared_in, unread, is_bad_original, is_sparing_table, entries, entry_count, copies, counted, place_of, sparing_fault, packet_of, span_of, span, spans, space, sparing_table_bytes}
 use Rattle.udfs_space.proofs.Judging.{sparing_fault-entries}
 use Rattle.udfs_space.proofs.PlaceLaw.{spans_each, has_packet, span_in, space_found, space_spans}
 use Rattle.udfs_space.proofs.SoundEntries.{sound_entries}
@@ -61,6 +62,6 @@ span_sound T last p s l b e = let q : (sp : Spared) × (spared T last p.kind ≡
 pub sound_space : SoundSpace
 unfolding space
 sound_space profile T last l ss h k e r s g = let bounds : IsBounded last l = layout_is_bounded_by profile T last l k in
-    let q : (xs : Spans) × (spans T l.last l.partitions ≡ found xs) × (found (record { spans = xs; profile = l.profile }) ≡ found ss) = space_found T l ss e in
-    spans_each IsSound T last l.partitions q.0 (λ p x i f. span_sound T last p x h (bounds.of_each p i) f)
-    (ap (λ x. spans T x l.partitions) (sym bounds.is_last) ∙ q.1) s (subst (λ xs. Contains xs s) (sym (space_spans T l ss q)) (span_in ss.spans r s g))
+    let q : (xs : Spans) × (spans T l.last (map (counted l.profile T) l.partitions) ≡ found xs) × (found (record { spans = xs; profile = l.profile }) ≡ found ss) = space_found T l ss e in
+    spans_each IsSound T last (map (counted l.profile T) l.partitions) q.0 (λ p x i f. span_sound T last p x h (all_counted l.profile T last l.partitions bounds.of_each p i) f)
+    (ap (λ x. spans T x (map (counted l.profile T) l.partitions)) (sym bounds.is_last) ∙ q.1) s (subst (λ xs. Contains xs s) (sym (space_spans T l ss q)) (span_in ss.spans r s g))

@@ -1,4 +1,4 @@
--- Over a lawful volume that agrees with the table, the places are the volume's, or a block of a sparing table is
+-- Over a lawful volume that agrees with the table, what all copies of a sparing table give together is the volume's, or a block of it is
 -- unread in all its copies.
 use Rattle.std.proofs.Common.{◌≡◌, refl, sym, ◌∙◌, ap, subst, inl, inr, ◌⊎◌, ℕ, ◌+◌, ◌-◌, ◌/◌, ◌<◌, ◌≤◌, Bool, true, false, List, [], ◌∷◌, length, take, drop, map, filter, ◌++◌, cond, arith, Some, None}
 use Rattle.std.specs.Prelude.{zero, suc, flat_map, is_none, Contains}
@@ -14,20 +14,17 @@ use Rattle.udfs_lattice.specs.declared.facts.Fact.TheVariants.{Unknown, Known, C
 use Rattle.udfs_tag.specs.Tags.{is_valid}
 use Rattle.udfs_volume.specs.Answers.{Answer, found, holes, and_then}
 use Rattle.udfs_volume.specs.Layout.{Partition, PartitionMap, type1, sparable, blocks_in}
-use Rattle.udfs_volume.specs.Laws.{AreBounded, IsBoundedMap, IsBounded, ListsGroup, IsAnswerOf, the_same}
+use Rattle.udfs_volume.specs.Laws.{AreBounded, IsBoundedMap, ListsGroup, IsAnswerOf, the_same}
 use Rattle.udfs_volume.specs.Laws.IsAnswerOf.{unread as unread_answer}
 use Rattle.udfs_lattice.proofs.PublicLaws.{ascending_contains, ascending_includes, complete_agrees}
-use Rattle.udfs_volume.specs.declared.profiles.Profile.{Profile}
-use Rattle.udfs_volume.proofs.PublicLaws.{layout_is_bounded_by}
 use Rattle.udfs_space.proofs.Facts.{and_then-found, complete-known, found_same, known_is, true_false, unless_fault-found, Includes-from_filter, Includes-map}
-use Rattle.udfs_space.specs.Sparing.{Span, Spans, Spared, copies, unread, piece, place_of, sparing_table_bytes, spared_by, spared_from, spared_in, sparing_fault, spared_unless, spared, span_of, span, spans, space}
+use Rattle.udfs_space.specs.Sparing.{Span, Spans, Spared, copies, unread, piece, place_of, sparing_table_bytes, spared_by, spared_from, spared_in, sparing_fault, spared_unless, spared, span_of, span, spans}
 use Rattle.udfs_space.specs.Standard.{table_at, first_table}
-use Rattle.udfs_space.proofs.PlaceLaw.{space_found}
-use Rattle.udfs_space.specs.Laws.{StandardSpace, AreTheSameTables, SparingAgrees, IsTableGroup, IsSparingGroup, SpaceLawBy}
+use Rattle.udfs_space.specs.Laws.{AreTheSameTables, SparingAgrees, IsTableGroup, IsSparingGroup}
 use Rattle.udfs_space.proofs.JoinedBlocks.{joined, joined_is, from_place, AreFull, Same, same_joined, same_behind, same_mixed}
 
 -- the first copy of a block that is known is the volume's, or none is known
-data FirstCopy (T : Blocks) (V : Volume) (tables : List ℕ) (k : ℕ) : Type 0 where
+pub data FirstCopy (T : Blocks) (V : Volume) (tables : List ℕ) (k : ℕ) : Type 0 where
   one_known : (q : ℕ) → Includes tables q → T (q + k) ≡ Known (V (q + k)) → first_known T (copies tables k) ≡ Some (q + k, V (q + k)) → FirstCopy T V tables k
   none_known : first_known T (copies tables k) ≡ None → ((n : ℕ) → Includes (copies tables k) n → is_known (T n) ≡ false) → FirstCopy T V tables k
 
@@ -40,7 +37,7 @@ skip T V q tables k s u (none_known f all) = none_known (s ∙ f) each
     each n (inl p) = sym (ap (λ x. is_known (T x)) p) ∙ u
     each n (inr i) = all n i
 
-first_copy : (T : Blocks) (V : Volume) (N : ℕ) → Agrees T V N → (tables : List ℕ) (k : ℕ) → FirstCopy T V tables k
+pub first_copy : (T : Blocks) (V : Volume) (N : ℕ) → Agrees T V N → (tables : List ℕ) (k : ℕ) → FirstCopy T V tables k
 first_copy T V N a [] k = none_known refl (λ n i. absurd i)
 first_copy T V N a (q ∷ tables) k = go (first_copy T V N a tables k) (T (q + k)) refl
   where
@@ -163,7 +160,7 @@ none_in test c (suc n) e k l m = go (test c) refl e (none_in test (c + 1) n) (he
     go false t e later (inl s) = sym (ap test s) ∙ t
     go false t e later (inr s) = later e k (omega (arith, s)) (omega (arith, m))
 
-all_out : (test : ℕ → Bool) (c n : ℕ) → ((k : ℕ) → c ≤ k → k < c + n → test k ≡ false) → filter test (range_with_len c n) ≡ []
+pub all_out : (test : ℕ → Bool) (c n : ℕ) → ((k : ℕ) → c ≤ k → k < c + n → test k ≡ false) → filter test (range_with_len c n) ≡ []
 all_out test c zero h = refl
 all_out test c (suc n) h = ap (λ b. cond b (c ∷ filter test (range_with_len (c + 1) n)) (filter test (range_with_len (c + 1) n))) (h c (omega arith) (omega arith))
     ∙ all_out test (c + 1) n (λ k l m. h k (omega (arith, l)) (omega (arith, m)))
@@ -225,7 +222,7 @@ copy_at T V N size tables agrees e k l = has_copy T V tables k (first_copy T V N
     (none_in (λ k. is_none (first_known T (copies tables k))) 0 (blocks_in size) e k (omega arith) (omega (arith, l)))
 
 -- where each block has a known copy, the table is any one copy
-whole_table : (T : Blocks) (V : Volume) (N last packet size : ℕ) (tables : List ℕ) → IsVolume V N → AreBounded N packet size tables → AreTheSameTables V size tables → Agrees T V N
+pub whole_table : (T : Blocks) (V : Volume) (N last packet size : ℕ) (tables : List ℕ) → IsVolume V N → AreBounded N packet size tables → AreTheSameTables V size tables → Agrees T V N
     → unread T tables (blocks_in size) ≡ [] → (p : ℕ) → Includes tables p
     → spared T last (sparable packet size tables) ≡ spared_from last packet size true (drop 16 (table_at V size p))
 unfolding spared
@@ -295,7 +292,7 @@ lists_more M G H listed f x = record { group = x.group; is_group = f x.group x.i
     go n (inl w) = inl (w.0, f w.0 w.1, w.2, w.3)
     go n (inr w) = in_nothing n w.0
 
-spans_law : (M : Blocks) (V : Volume) (N last : ℕ) (ps : List Partition) (ss : Spans) → IsVolume V N
+pub spans_law : (M : Blocks) (V : Volume) (N last : ℕ) (ps : List Partition) (ss : Spans) → IsVolume V N
     → ((p : Partition) → Contains ps p → IsBoundedMap N p.kind) → ((p : Partition) → Contains ps p → SparingAgrees V p.kind) → Agrees M V N
     → spans (complete V N) last ps ≡ found ss → IsAnswerOf M [] [] (IsSparingGroup ps) (spans M last ps) (spans (complete V N) last ps)
 spans_law M V N last [] ss hv b same a e = the_same refl (λ g h. in_nothing h.0 h.1)
@@ -343,17 +340,10 @@ spans_law M V N last (p ∷ ps) ss hv b same a e = go (map_law M V N last p.kind
         (lists_more M (IsTableGroup p.kind) G listed (λ g h. (p, here p ps, h)) x)
 
 -- what is made of both answers
-answer_then : {A B : Type 0} (M : Blocks) (G : List ℕ → Type 0) (some all : Answer A) (f : A → Answer B) → IsAnswerOf M [] [] G some all
+pub answer_then : {A B : Type 0} (M : Blocks) (G : List ℕ → Type 0) (some all : Answer A) (f : A → Answer B) → IsAnswerOf M [] [] G some all
     → IsAnswerOf M [] [] G (and_then some f) (and_then all f)
 answer_then M G some all f (the_same e h) = the_same (ap (λ x. and_then x f) e) h
 answer_then M G some all f (unread_answer listed e x) = unread_answer listed (ap (λ x. and_then x f) e) x
-
-pub space_law : (profile : Profile) → SpaceLawBy profile
-unfolding space
-space_law profile M V N l hv h lawful a = let bounds : IsBounded N l = layout_is_bounded_by profile (complete V N) N l h in
-    let q : (xs : Spans) × (spans (complete V N) l.last l.partitions ≡ found xs) × (found (record { spans = xs; profile = l.profile }) ≡ found lawful.placed.0) = space_found (complete V N) l lawful.placed.0 lawful.placed.1 in
-    answer_then M (IsSparingGroup l.partitions) (spans M l.last l.partitions) (spans (complete V N) l.last l.partitions) (λ ss. found (record { spans = ss; profile = l.profile }))
-    (spans_law M V N l.last l.partitions q.0 hv (λ p i. (bounds.of_each p i).bounded_map) lawful.tables a q.1)
 
 -- with all known, the packets are those of the first table
 first_is : (V : Volume) (N last : ℕ) (m : PartitionMap) (sp : Spared) → IsVolume V N → IsBoundedMap N m → SparingAgrees V m → spared (complete V N) last m ≡ found sp → first_table V m ≡ sp
@@ -366,7 +356,7 @@ first_is V N last (sparable packet size (place ∷ places)) sp hv b same e = (un
     content : Bytes
     content = drop 16 (table_at V size place)
 
-spans_are : (V : Volume) (N last : ℕ) (ps : List Partition) (ss : Spans) → IsVolume V N
+pub spans_are : (V : Volume) (N last : ℕ) (ps : List Partition) (ss : Spans) → IsVolume V N
     → ((p : Partition) → Contains ps p → IsBoundedMap N p.kind) → ((p : Partition) → Contains ps p → SparingAgrees V p.kind)
     → spans (complete V N) last ps ≡ found ss → map (λ p. span_of p (first_table V p.kind)) ps ≡ ss
 spans_are V N last [] ss hv b same e = found_same [] ss e
@@ -380,10 +370,3 @@ spans_are V N last (p ∷ ps) ss hv b same e =
   where
     C : Blocks
     C = complete V N
-
-pub standard_space_law : StandardSpace
-unfolding space
-standard_space_law profile V N l hv h lawful = let bounds : IsBounded N l = layout_is_bounded_by profile (complete V N) N l h in
-    let q : (xs : Spans) × (spans (complete V N) l.last l.partitions ≡ found xs) × (found (record { spans = xs; profile = l.profile }) ≡ found lawful.placed.0) = space_found (complete V N) l lawful.placed.0 lawful.placed.1 in
-    let is : map (λ p. span_of p (first_table V p.kind)) l.partitions ≡ q.0 = spans_are V N l.last l.partitions q.0 hv (λ p i. (bounds.of_each p i).bounded_map) lawful.tables q.1 in
-    lawful.placed.1 ∙ sym q.2 ∙ (λ i. found (record { spans = sym is i; profile = l.profile }))

@@ -13,7 +13,7 @@ use Rattle.udfs_space.specs.Sparing.{Space}
 use Rattle.udfs_space.specs.Standard.{standard_space}
 use Rattle.udfs_space.proofs.PlaceLaw.{place_law}
 use Rattle.udfs_space.proofs.Soundness.{sound_space}
-use Rattle.udfs_space.proofs.SpaceLaw.{standard_space_law}
+use Rattle.udfs_space.proofs.Counting.{standard_space_law}
 use Rattle.udfs_space.proofs.Standing.{SoundAt, stands_in}
 
 -- a block's place is told by the relation

@@ -1,5 +1,5 @@
 -- What the call `build` tells, by what the space is.
-use Rattle.std.proofs.Common.{◌≡◌, sym, ◌∙◌, subst, ℕ, Bool, Option, Some, None, drop, List, [], ◌∷◌}
+use Rattle.std.proofs.Common.{◌≡◌, sym, ◌∙◌, subst, ℕ, Bool, Option, Some, None, drop, map, List, [], ◌∷◌}
 use Rattle.udfs_lattice.specs.Volumes.{Blocks, first_known, Volume, IsVolume, Agrees, complete}
 use Rattle.udfs_tag.specs.Tags.{is_valid}
 use Rattle.udfs_volume.specs.declared.profiles.Profile.{Profile}
@@ -15,12 +15,12 @@ use Rattle.udfs_space.proofs.Facts.{found_same}
 use Rattle.udfs_space.specs.declared.spaces.Space as code_space
 use Rattle.udfs_space.specs.Laws.{IsLawfulSparing, IsSparingGroup}
 use Rattle.std.specs.Prelude.{flat_map, ⊤}
-use Rattle.udfs_space.specs.Sparing.{Space, Spared, copies, place_of, sparing_table_bytes, space, span, spans, spared, spared_by, spared_from, spared_unless, sparing_fault, span_of, spared_in}
+use Rattle.udfs_space.specs.Sparing.{Space, Spared, copies, counted, place_of, sparing_table_bytes, space, span, spans, spared, spared_by, spared_from, spared_unless, sparing_fault, span_of, spared_in}
 use Rattle.udfs_space.specs.Sparing.{unread as unread_in}
 use Rattle.udfs_space.specs.Standard.{standard_space}
 use Rattle.udfs_space.specs.Told.{ArePlacesUpTo, IsSpaceOf, TellsLawfulSpace}
 use Rattle.udfs_space.proofs.PlaceLaw.{place_law, places_up_to}
-use Rattle.udfs_space.proofs.SpaceLaw.{space_law, standard_space_law}
+use Rattle.udfs_space.proofs.Counting.{space_law, standard_space_law}
 
 -- ---- a lawful volume
 got_of : (profile : Profile) (T : Blocks) (V : Volume) (N : ℕ) (l : Layout) (got : Space) → IsVolume V N → layout_by profile (complete V N) N ≡ found l → IsLawfulSparing V N l → Agrees T V N → space T l ≡ found got
@@ -89,7 +89,7 @@ spans_rise T last (p ∷ ps) = then_rises (span T last p) (λ s. and_then (spans
 
 space_rises : (T : Blocks) (l : Layout) → Rises (space T l)
 unfolding space
-space_rises T l = then_rises (spans T l.last l.partitions) (λ ss. found (record { spans = ss; profile = l.profile })) (spans_rise T l.last l.partitions) (λ ss. tt)
+space_rises T l = then_rises (spans T l.last (map (counted l.profile T) l.partitions)) (λ ss. found (record { spans = ss; profile = l.profile })) (spans_rise T l.last (map (counted l.profile T) l.partitions)) (λ ss. tt)
 
 got_up_to : (T : Blocks) (l : Layout) (seen : Seen code_space.Space) → IsBounded l.last l → Sees (λ s. s) seen (space T l) → IfGot seen (ArePlacesUpTo l.last)
 got_up_to T l (Got got) bounds s = places_up_to T l got bounds s

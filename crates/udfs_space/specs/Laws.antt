@@ -2,12 +2,13 @@
 --     IsLawfulSparing volume last layout      copies of the sparing table that say the same, and no fault
 --     IsSparingGroup                          the copies of one block of the table
 --     SpaceLawBy, PlaceLawBy profile          the places are the volume's, or a group is unread
+--     AnyCopies                               they are the same whichever copies of a table count
 --     StandardSpace                           with all known they are those of the first sparing table
 --     PlacingLaw, OldPlaceLaw                 where a block is, and that nothing is read where it was
 --     SoundSpace                              the partitions of a layout are sound, so placing is that relation
 --     StandardBlocksBy profile                with all known, the standard reads the blocks by their places, and in one way
 -- SpaceLaw, PlaceLaw and StandardBlocks are these by the strict rules; the others are by those of any profile.
-use Rattle.std.specs.Prelude.{◌≡◌, ◌↔◌, ℕ, ◌+◌, ◌-◌, ◌<◌, ◌≤◌, List, [], drop, slice_get, true, Option, Some, None, option_map, ⊤, Contains}
+use Rattle.std.specs.Prelude.{◌≡◌, ◌↔◌, ℕ, ◌+◌, ◌-◌, ◌<◌, ◌≤◌, List, [], drop, map, slice_get, true, Option, Some, None, option_map, ⊤, Contains}
 use Rattle.udfs_lattice.specs.Volumes.{Blocks, Volume, IsVolume, Agrees, complete}
 use Rattle.udfs_tag.specs.Tags.{is_valid}
 use Rattle.udfs_volume.specs.declared.profiles.Profile.{Profile}
@@ -18,7 +19,7 @@ use Rattle.udfs_volume.specs.Laws.{IsAnswerOf}
 use Rattle.udfs_volume.specs.Sequence.{Bytes}
 use Rattle.udfs_space.specs.declared.entries.SparingEntry.{SparingEntry}
 use Rattle.udfs_space.specs.Parts.{IsSound}
-use Rattle.udfs_space.specs.Sparing.{Space, Span, copies, space}
+use Rattle.udfs_space.specs.Sparing.{Space, Span, copies, counted, space, spans}
 use Rattle.udfs_space.specs.Standard.{table_at, standard_space}
 use Rattle.udfs_space.specs.Places.{IsPartOf, IsSparedBy, StandsAt, StandsIn, block_at, place, place_in, view}
 
@@ -56,6 +57,13 @@ SpaceLawBy profile = (blocks : Blocks) (volume : Volume) (last : ℕ) (l : Layou
 -- the same by the strict rules
 abbrev pub SpaceLaw : Type 0
 SpaceLaw = SpaceLawBy Strict
+
+-- Over a table that agrees with a volume whose sparing tables agree, the places are the same whichever copies of a table count: by the wide
+-- rules the newest that is known whole gives what all of them give together.
+abbrev pub AnyCopies : Type 0
+AnyCopies = (profile : Profile) (blocks : Blocks) (volume : Volume) (last : ℕ) (l : Layout) → IsVolume volume last
+    → layout_by profile (complete volume last) last ≡ found l → ((p : Partition) → Contains l.partitions p → SparingAgrees volume p.kind) → Agrees blocks volume last
+    → (rules : Profile) → spans blocks l.last (map (counted rules blocks) l.partitions) ≡ spans blocks l.last l.partitions
 
 -- every place is a block of the volume, so what is known of the partitions is part of the complete ones
 abbrev pub PlaceLawBy : Profile → Type 0

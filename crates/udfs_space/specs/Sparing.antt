@@ -1,9 +1,11 @@
 -- The sparing table of a partition (UDF 2.2.11), put together from its copies.
+--     newest blocks size tables   the copy that counts by the wide rules, if one is known whole
 --     Space                       where the logical blocks of each partition are
 --     space blocks layout         the partitions with their spared packets
-use Rattle.std.specs.Prelude.{ℕ, ◌+◌, ◌*◌, ◌%◌, Bool, false, not, List, [], ◌∷◌, take, drop, map, filter, flat_map, nat_eq, nat_lt, ◌&&◌, ◌||◌, Option, Some, None, codes, is_none}
-use Rattle.std.specs.List.{range_with_len, list_any}
+use Rattle.std.specs.Prelude.{ℕ, ◌+◌, ◌*◌, ◌%◌, Bool, false, not, List, [], ◌∷◌, take, drop, map, filter, flat_map, find, nat_eq, nat_le, nat_lt, ◌&&◌, ◌||◌, Option, Some, None, codes, is_none}
+use Rattle.std.specs.List.{range_with_len, list_all, list_any}
 use Rattle.std.specs.Str.{bytes_eq}
+use Rattle.udfs_lattice.specs.States.{is_known}
 use Rattle.udfs_lattice.specs.Volumes.{Blocks, first_known, ascending}
 use Rattle.udfs_volume.specs.Sequence.{Bytes}
 use Rattle.udfs_tag.specs.Fields.{uint16_at, uint32_at, regid_at, zero_filled}
@@ -11,6 +13,7 @@ use Rattle.udfs_tag.specs.Faults.{is_within, first_fault}
 use Rattle.udfs_tag.specs.Tags.{is_valid}
 use Rattle.udfs_volume.specs.Answers.{Answer, found, holes, and_then, unless_fault}
 use Rattle.udfs_volume.specs.declared.profiles.Profile.{Profile}
+use Rattle.udfs_volume.specs.declared.profiles.Profile.TheVariants.{Strict, Wide}
 use Rattle.udfs_volume.specs.Layout.{Layout, Partition, PartitionMap, type1, sparable, bp, blocks_in}
 use Rattle.udfs_space.specs.declared.entries.SparingEntry.{SparingEntry}
 use Rattle.udfs_volume.specs.declared.faults.VolumeFault.{VolumeFault}
@@ -58,6 +61,38 @@ place_of (Some known) = known.0
 abbrev pub sparing_table_bytes : Blocks → ℕ → List ℕ → Bytes
 sparing_table_bytes blocks size tables =
     take size (flat_map (λ k. piece (first_known blocks (copies tables k))) (range_with_len 0 (blocks_in size)))
+
+-- whether each block of the copy of a table that begins at this block is known, and the copy has a valid tag there, of identifier 0
+abbrev pub is_whole_copy : Blocks → ℕ → ℕ → Bool
+is_whole_copy blocks size place = list_all (λ k. is_known (blocks (place + k))) (range_with_len 0 (blocks_in size))
+    && is_valid (sparing_table_bytes blocks size (place ∷ [])) place 0
+
+-- the sequence number of the copy that begins at this block, if it is known (UDF 2.2.11)
+abbrev pub table_number : Blocks → ℕ → ℕ → ℕ
+table_number blocks size place = uint32_at (drop 16 (sparing_table_bytes blocks size (place ∷ []))) (bp 52)
+
+-- the first of these numbers whose rank no other passes
+abbrev pub first_highest : (ℕ → ℕ) → List ℕ → Option ℕ
+first_highest rank ns = find (λ n. list_all (λ other. nat_le (rank other) (rank n)) ns) ns
+
+-- the newest copy of a table: of those that are known whole the first whose sequence number no other passes
+abbrev pub newest : Blocks → ℕ → List ℕ → Option ℕ
+newest blocks size tables = first_highest (table_number blocks size) (filter (is_whole_copy blocks size) tables)
+
+-- that copy alone, if there is one, else all of them
+abbrev pub alone_or : Option ℕ → List ℕ → List ℕ
+alone_or None tables = tables
+alone_or (Some place) tables = place ∷ []
+
+-- a map with the copies of its table that count: by the strict rules all of them, by the wide ones the newest alone, if one is known whole
+abbrev pub counted_map : Profile → Blocks → PartitionMap → PartitionMap
+counted_map Strict blocks m = m
+counted_map Wide blocks type1 = type1
+counted_map Wide blocks (sparable packet size tables) = sparable packet size (alone_or (newest blocks size tables) tables)
+
+-- a partition with the copies of its sparing table that count
+abbrev pub counted : Profile → Blocks → Partition → Partition
+counted profile blocks p = record { kind = counted_map profile blocks p.kind; start = p.start; size = p.size }
 
 -- the number of entries (2.2.11: reallocation table length)
 abbrev pub entry_count : Bytes → ℕ
@@ -154,6 +189,8 @@ abbrev pub spans : Blocks → ℕ → List Partition → Answer Spans
 spans blocks last [] = found []
 spans blocks last (p ∷ ps) = and_then (span blocks last p) (λ s. and_then (spans blocks last ps) (λ ss. found (s ∷ ss)))
 
--- the places of all partitions' blocks; one map at most is sparable, so there is no order among faults or holes of several tables
+-- the places of all partitions' blocks, by the copies of a sparing table that count; one map at most is sparable, so there is no order among
+-- faults or holes of several tables
 unfoldable pub space : Blocks → Layout → Answer Space
-space blocks layout = and_then (spans blocks layout.last layout.partitions) (λ ss. found (record { spans = ss; profile = layout.profile }))
+space blocks layout = and_then (spans blocks layout.last (map (counted layout.profile blocks) layout.partitions))
+    (λ ss. found (record { spans = ss; profile = layout.profile }))

@@ -67,7 +67,7 @@ impl SparingEntry {
 }
 
 /// The bytes from a position on.
-fn behind(bytes: &[u8], position: usize) -> &[u8]
+pub(crate) fn behind(bytes: &[u8], position: usize) -> &[u8]
     requires { position ≤ length bytes.now }
     ensures value { result.now ≡ drop position bytes.now }
     ensures size { length result.now + position ≡ length bytes.now }

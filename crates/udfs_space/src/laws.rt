@@ -1,5 +1,5 @@
 //! Laws of sparing tables and places, each the contract of a function that does nothing.
-ghost use Rattle.udfs_space.specs.Laws.{OldPlaceLaw, PlaceLaw, PlaceLawBy, PlacingLaw, SoundSpace, SpaceLaw, SpaceLawBy, StandardBlocks, StandardBlocksBy, StandardSpace};
+ghost use Rattle.udfs_space.specs.Laws.{AnyCopies, OldPlaceLaw, PlaceLaw, PlaceLawBy, PlacingLaw, SoundSpace, SpaceLaw, SpaceLawBy, StandardBlocks, StandardBlocksBy, StandardSpace};
 ghost use Rattle.udfs_volume.specs.declared.profiles.Profile.{Profile};
 ghost use Rattle.udfs_space.specs.Sample.{SampleSpace};
 
@@ -9,6 +9,12 @@ ghost use Rattle.udfs_space.specs.Sample.{SampleSpace};
 pub fn space_of_lawful()
     ensures strict { SpaceLaw }
     ensures by_profile { (profile : Profile) → SpaceLawBy profile }
+{}
+
+/// Over such a table the places are the same whichever copies of a sparing table count: the newest copy that is known whole, as by
+/// the wide rules, or of each block the first known copy, as by the strict ones.
+pub fn any_copies_count_alike()
+    ensures { AnyCopies }
 {}
 
 /// Every place of a volume that has a layout is one of its blocks, so what is known of the partitions is

@@ -6,6 +6,7 @@ mod ascending;
 mod copies;
 pub mod entries;
 pub mod laws;
+mod newest;
 pub mod spaces;
 mod spans;
 pub mod views;

@@ -9,7 +9,7 @@ ghost use Rattle.udfs_volume.specs.Laws.{IsBounded, IsBoundedPartition};
 ghost use Rattle.udfs_volume.specs.Seen.{HolesRise, IfGot, Sees};
 ghost use Rattle.udfs_space.specs.Parts.{IsSound};
 ghost use Rattle.udfs_space.specs.Places.{StandBeside, StandsIn, block_at, block_now, is_past, length_of, place, view};
-ghost use Rattle.udfs_space.specs.Sparing.{Span, space, spans};
+ghost use Rattle.udfs_space.specs.Sparing.{Span, counted, space, spans};
 ghost use Rattle.udfs_space.specs.Told.{ArePlacesUpTo, TellsLawfulSpace};
 
 use crate::spans::Span;
@@ -44,18 +44,19 @@ impl Model for Space {
 fn spans<B: BlockStore>(
     alloc: Global,
     blocks: &B,
+    profile: Profile,
     last: u32,
     partitions: &[Partition],
 ) -> Result<Seen<Vec<Span>>, GaveUp>
     requires last { last ≤ 4194303 }
     requires bounded { All (λ p. IsBoundedPartition last (partition_now p)) partitions.now }
-    ensures value { IfOk result (λ seen. B.tells → Sees (λ found. found.items) seen (spans (B.states blocks.now) last (map partition_now partitions.now))) }
+    ensures value { IfOk result (λ seen. B.tells → Sees (λ found. found.items) seen (spans (B.states blocks.now) last (map (counted profile (B.states blocks.now)) (map partition_now partitions.now)))) }
     ensures many { IfOk result (λ seen. IfGot seen (λ found. length found.items ≡ length partitions.now)) }
     ensures fails { IsErrOf result GaveUp.Unread → B.fails }
 {
     let mut spans = Vec::new(alloc);
     for partition in partitions {
-        match Span::build(alloc, blocks, last, partition)? {
+        match Span::build(alloc, blocks, profile, last, partition)? {
             Seen::Got(span) => spans.push(span)?,
             Seen::Holes(holes) => return Ok(Seen::Holes(holes)),
             Seen::Fault(fault) => return Ok(Seen::Fault(fault)),
@@ -84,7 +85,7 @@ impl Space {
         ensures within { IfOk result (λ seen. B.tells → IfGot seen (ArePlacesUpTo parts.now.last)) }
         ensures fails { OnErr result B.fails }
     {
-        match spans(alloc, blocks, parts.last, &parts.partitions) {
+        match spans(alloc, blocks, parts.profile, parts.last, &parts.partitions) {
             Ok(Seen::Got(spans)) => Ok(Seen::Got(Space {
                 spans,
                 profile: parts.profile,
@@ -100,7 +101,9 @@ impl Space {
     /// (ECMA-167 3/10.7.2), and so those of a sparable map, except for the packets that its sparing table
     /// maps elsewhere (UDF 2.2.9, 2.2.11).
     ///
-    /// Of each block of a sparing table the first known copy is read. Where some blocks have no known copy,
+    /// By the wide rules, of the copies of a sparing table of which each block is known, and whose tag is valid at the copy's place
+    /// with identifier 0, the one with the greatest sequence number is read, on a tie the first (UDF 2.01 2.2.11). Without one, and by
+    /// the strict rules, of each block of the table the first known copy is read. Where some blocks have no known copy,
     /// all copies of all these blocks are holes. Faults are, in this order: `SparingTag`, the tag is not
     /// sound at the place of the copy from which the first block came, its identifier is not 0, or the name
     /// is not that of a sparing table; `SparingShape`, the entries pass the table's size, or an original is

@@ -8,14 +8,15 @@ ghost use Rattle.udfs_volume.specs.Parts.{sparable_now};
 ghost use Rattle.udfs_volume.specs.Seen.{IfGot, Sees};
 ghost use Rattle.udfs_space.specs.Parts.{AreSound, FitAll, IsSound, IsSoundEntry, OriginalsRise};
 ghost use Rattle.udfs_space.specs.Places.{StandBeside, place_in};
-ghost use Rattle.udfs_space.specs.Sparing.{span, spared};
+ghost use Rattle.udfs_space.specs.Sparing.{counted, span, spared};
 
 use crate::copies::{first_place, holes, table_bytes};
 use crate::entries::{SparingEntry, spared_by};
+use crate::newest::spared_by_counted;
 use std::alloc::Global;
 use std::marker::Model;
 use udfs_lattice::{BlockStore, GaveUp};
-use udfs_volume::{Partition, PartitionMap, Seen, SparableMap};
+use udfs_volume::{Partition, PartitionMap, Profile, Seen, SparableMap};
 
 /// Where the logical blocks of one partition are.
 #[derive(Debug, Drop)]
@@ -40,16 +41,17 @@ impl Model for Span {
 }
 
 impl Span {
-    /// The span of a partition, by its map and, if it is sparable, by its sparing table.
+    /// The span of a partition, by its map and, if it is sparable, by the copies of its sparing table that count by the rules.
     pub(crate) fn build<B: BlockStore>(
         alloc: Global,
         blocks: &B,
+        profile: Profile,
         last: u32,
         partition: &Partition,
     ) -> Result<Seen<Self>, GaveUp>
         requires last { last ≤ 4194303 }
         requires bounded { IsBoundedPartition last (partition_now partition.now) }
-        ensures value { IfOk result (λ seen. B.tells → Sees (λ s. s) seen (span (B.states blocks.now) last (partition_now partition.now))) }
+        ensures value { IfOk result (λ seen. B.tells → Sees (λ s. s) seen (span (B.states blocks.now) last (counted profile (B.states blocks.now) (partition_now partition.now)))) }
         ensures fails { IsErrOf result GaveUp.Unread → B.fails }
     {
         match &partition.kind {
@@ -59,7 +61,9 @@ impl Span {
                 packet: 1,
                 spared: Vec::new(alloc),
             })),
-            PartitionMap::Sparable(map) => match spared(alloc, blocks, last, map)? {
+            PartitionMap::Sparable(map) => match spared_by_counted(
+                alloc, blocks, profile, last, map,
+            )? {
                 Seen::Got(spared) => Ok(Seen::Got(Span {
                     start: partition.start,
                     length: partition.length,
@@ -126,7 +130,7 @@ fn entry_at(spared: &[SparingEntry], first: u32) -> Option<SparingEntry>
 }
 
 /// The packets that the sparing table of a map spares, or the holes or the first fault of the table.
-fn spared<B: BlockStore>(
+pub(crate) fn spared<B: BlockStore>(
     alloc: Global,
     blocks: &B,
     last: u32,

@@ -5,3 +5,6 @@ mod PastEnds
 pub mod ImageWordsLemmas
 mod StoredLemmas
 mod EntryTables
+pub mod CountingLemmas
+mod IndexingLemmas
+mod NamingLemmas

@@ -12,6 +12,7 @@ use Rattle.udfs_reading.specs.Inputs.{inputs}
 use Rattle.udfs_reading.specs.Several.{HasTable, InputFails, TablesAre}
 use Rattle.udfs_reading.specs.declared.inputs.InputError.{InputError}
 use Rattle.udfs_common.specs.Blaming.{AreJudgedFor, BlamesInput, InputsRefused, IsJudged, IsJudgedFor, IsShut, source_reason, stored_reason}
+use Rattle.udfs_common.specs.OtherDiscs.{IsOtherDisc}
 use Rattle.udfs_common.specs.Keeping.{FailedOut, Joined, Opens, RefusedOut}
 use Rattle.udfs_common.specs.Refusing.{refusal_for}
 use Rattle.udfs_common.specs.Sources.{IsPathOpened, left_in}
@@ -27,6 +28,8 @@ use Rattle.udfs_reading.specs.Reading.{magic}
 use Rattle.udfs_rescue.specs.Blocks.{left_bytes, reading_known, reading_of, records_of}
 use Rattle.udfs_rescue.specs.declared.known.BlockRange.{BlockRange}
 use Rattle.udfs_rescue.specs.declared.opening.PairFault.{PairFault}
+use Rattle.udfs_common.proofs.TakingLemmas.{other_disc}
+use Rattle.udfs_tables.specs.Indexing.{IsOtherOf}
 use Rattle.udfs_tables.specs.Refused.{BlamesOne, BlamesPath, IsUncompared, IsRereadOf, MergeRefused, OneFails, StoredRefused, refusal_with, refused_in}
 use Rattle.udfs_words.specs.declared.input_path.InputPath.{InputPath}
 
@@ -260,19 +263,19 @@ blamed_of have reason why same found paths ss r many opened judged blames =
     }
 
 -- inputs of paths that were not taken were not merged
-pub of_stored : {R I S : Type 0} {g : _} {remaining : AnySource R I → Option (List ℕ)} {content : AnyStored S g → Option (List ℕ)} (have : HaveSources remaining content) → ((s : AnyStored S g) → source_reason (have s).0 ≡ stored_reason s) →
+pub of_stored : {R I S : Type 0} {g : _} {tells : Type 0} {remaining : AnySource R I → Option (List ℕ)} {content : AnyStored S g → Option (List ℕ)} (have : HaveSources remaining content) → ((s : AnyStored S g) → source_reason (have s).0 ≡ stored_reason s) →
     (found : List ℕ → Option (Option (List ℕ))) (shut : List ℕ → Type 0) (paths : List InputPath) (ss : List (AnyStored S g)) (r : Refusal) → length ss ≡ length paths → Opens found content paths ss → AreJudgedFor found stored_reason paths ss →
-    StoredRefused content stored_reason ss r → MergeRefused found shut remaining paths r
+    StoredRefused content stored_reason ss r → MergeRefused tells found shut remaining paths r
 of_stored have same found shut paths ss r many opened judged (inl memory) = record { why = inl memory }
 of_stored have same found shut paths ss r many opened judged (inr (inl blames)) = record { why = inr (inr (inl (blamed_of have source_reason stored_reason same found paths ss r many opened judged blames))) }
 of_stored have same found shut paths ss r many opened judged (inr (inr unread)) = record { why = inr (inr (inr (inl (subst (λ (n : ℕ). IsUncompared n r) many unread)))) }
 
 -- nor were those that could not be read a second time
-pub of_unread : {R I : Type 0} (found : List ℕ → Option (Option (List ℕ))) (shut : List ℕ → Type 0) (remaining : AnySource R I → Option (List ℕ)) (paths : List InputPath) (count : ℕ) (r : Refusal) → count ≡ length paths → IsRereadOf count r → MergeRefused found shut remaining paths r
-of_unread found shut remaining paths count r many unread = record { why = inr (inr (inr (inr (subst (λ (n : ℕ). IsRereadOf n r) many unread)))) }
+pub of_unread : {R I : Type 0} {tells : Type 0} (found : List ℕ → Option (Option (List ℕ))) (shut : List ℕ → Type 0) (remaining : AnySource R I → Option (List ℕ)) (paths : List InputPath) (count : ℕ) (r : Refusal) → count ≡ length paths → IsRereadOf count r → MergeRefused tells found shut remaining paths r
+of_unread found shut remaining paths count r many unread = record { why = inr (inr (inr (inr (inl (subst (λ (n : ℕ). IsRereadOf n r) many unread))))) }
 
 -- nor those that are shut
-pub of_shut : {R I : Type 0} (found : List ℕ → Option (Option (List ℕ))) (shut : List ℕ → Type 0) (remaining : AnySource R I → Option (List ℕ)) (paths : List InputPath) (r : Refusal) → (r ≡ Memory alloc_error) ⊎ IsShut shut paths r → MergeRefused found shut remaining paths r
+pub of_shut : {R I : Type 0} {tells : Type 0} (found : List ℕ → Option (Option (List ℕ))) (shut : List ℕ → Type 0) (remaining : AnySource R I → Option (List ℕ)) (paths : List InputPath) (r : Refusal) → (r ≡ Memory alloc_error) ⊎ IsShut shut paths r → MergeRefused tells found shut remaining paths r
 of_shut found shut remaining paths r (inl memory) = record { why = inl memory }
 of_shut found shut remaining paths r (inr named) = record { why = inr (inl named) }
 
@@ -305,11 +308,30 @@ held_blamed {R} {I} found remaining faults paths r blames =
       };
     }
 
-held_why : {R I : Type 0} (found : List ℕ → Option (Option (List ℕ))) (shut : List ℕ → Type 0) (remaining : AnySource R I → Option (List ℕ)) (faults : AnySource R I → ℕ) (paths : List InputPath) (r : Refusal) →
-    (r ≡ Memory alloc_error) ⊎ IsShut shut paths r ⊎ BlamesInput found remaining faults paths r → MergeRefused found shut remaining paths r
+held_why : {R I : Type 0} {tells : Type 0} (found : List ℕ → Option (Option (List ℕ))) (shut : List ℕ → Type 0) (remaining : AnySource R I → Option (List ℕ)) (faults : AnySource R I → ℕ) (paths : List InputPath) (r : Refusal) →
+    (r ≡ Memory alloc_error) ⊎ IsShut shut paths r ⊎ BlamesInput found remaining faults paths r ⊎ IsOtherDisc found remaining paths r → MergeRefused tells found shut remaining paths r
 held_why found shut remaining faults paths r (inl memory) = record { why = inl memory }
 held_why found shut remaining faults paths r (inr (inl named)) = record { why = inr (inl named) }
-held_why found shut remaining faults paths r (inr (inr blames)) = record { why = inr (inr (inl (held_blamed found remaining faults paths r blames))) }
+held_why found shut remaining faults paths r (inr (inr (inl blames))) = record { why = inr (inr (inl (held_blamed found remaining faults paths r blames))) }
+held_why found shut remaining faults paths r (inr (inr (inr other))) = record { why = inr (inr (inr (inr (inr ((_, _, _, other.other.named), λ told. other))))) }
 
-pub of_held : {R I : Type 0} (found : List ℕ → Option (Option (List ℕ))) (shut : List ℕ → Type 0) (remaining : AnySource R I → Option (List ℕ)) (faults : AnySource R I → ℕ) (paths : List InputPath) (r : Refusal) → InputsRefused found shut remaining faults paths r → MergeRefused found shut remaining paths r
+pub of_held : {R I : Type 0} {tells : Type 0} (found : List ℕ → Option (Option (List ℕ))) (shut : List ℕ → Type 0) (remaining : AnySource R I → Option (List ℕ)) (faults : AnySource R I → ℕ) (paths : List InputPath) (r : Refusal) → InputsRefused found shut remaining faults paths r → MergeRefused tells found shut remaining paths r
 of_held found shut remaining faults paths r refused = held_why found shut remaining faults paths r refused.why
+
+-- nor those among which an image is of another disc
+pub of_other : {R I S : Type 0} {g : _} {tells : Type 0} {remaining : AnySource R I → Option (List ℕ)} {content : AnyStored S g → Option (List ℕ)} (have : HaveSources remaining content) →
+    (found : List ℕ → Option (Option (List ℕ))) (shut : List ℕ → Type 0) (paths : List InputPath) (ss : List (AnyStored S g)) (r : Refusal) → length ss ≡ length paths → Opens found content paths ss → (Told : Type 0) → (tells → Told) → IsOtherOf content Told paths ss r → MergeRefused tells found shut remaining paths r
+of_other have found shut paths ss r many opened Told told other =
+    record {
+      why = inr (inr (inr (inr (inr (
+        other.named,
+        λ tells. let disc = other_disc found _ paths ss r many opened (other.other (told tells)) in record {
+          place = disc.place;
+          pair = disc.pair;
+          tables = disc.tables;
+          own = disc.own;
+          joined = joined_by have found (take (disc.place + 1) paths) disc.joined.sources _ disc.joined.opened disc.joined.each disc.joined.are;
+          other = disc.other;
+        },
+      )))));
+    }

@@ -60,4 +60,4 @@ module _ {F I M S W : Type 0} (files : Ghosts F I M S W) (output : W → Stream)
 
   -- of the inputs' paths, by what they held
   abbrev pub IsUnmerged : Refusal → Type 0
-  IsUnmerged refusal = MergeRefused (λ path. files.holds old (files.real old path)) (files.shut old) remaining inputs refusal ⊎ IsUnput (PutFails files output out old) refusal
+  IsUnmerged refusal = MergeRefused files.tells (λ path. files.holds old (files.real old path)) (files.shut old) remaining inputs refusal ⊎ IsUnput (PutFails files output out old) refusal

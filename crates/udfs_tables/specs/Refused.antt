@@ -22,10 +22,12 @@ use Rattle.udfs_words.specs.Asking.{Asked, asked_for}
 use Rattle.udfs_words.specs.declared.input_path.InputPath.{InputPath}
 use Rattle.udfs_common.specs.Blaming.{AreJudgedFor, IsShut, source_reason}
 use Rattle.udfs_common.specs.Keeping.{Opens}
+use Rattle.udfs_common.specs.OtherDiscs.{IsOtherDisc}
 use Rattle.udfs_common.specs.Refusing.{refusal_of, refused_pair}
 use Rattle.udfs_common.specs.declared.refusal.Refusal.{Refusal}
 use Rattle.udfs_common.specs.declared.refusal.Refusal.TheVariants as refusal
 use Rattle.udfs_common.specs.declared.sources.AnySource.{AnySource}
+use Rattle.udfs_tables.specs.Indexing.{IsNamed}
 
 -- why an input has none, where it is an image with its mapfile and has none
 abbrev pub refused_in : {S : Type 0} {g : _} → Option (AnyStored S g) → Option PairFault
@@ -77,9 +79,9 @@ IsRereadOf count r = (place : ℕ) × (number : ℕ) × (place < count) × (r �
 abbrev pub StoredRefused : {S : Type 0} → (S → Option (List ℕ)) → (S → Option PairFault) → List S → Refusal → Type 0
 StoredRefused content reason stored r = (r ≡ refusal.Memory alloc_error) ⊎ BlamesOne content reason stored r ⊎ IsUncompared (length stored) r
 
--- memory ran out; or one of the paths is shut, and it is named; or what it leads to has no table, and why; or bytes of an input could not be read again
-pub record MergeRefused {R I : Type 0} (found : List ℕ → Option (Option (List ℕ))) (shut : List ℕ → Type 0) (remaining : AnySource R I → Option (List ℕ)) (paths : List InputPath) (refused : Refusal) : Type 0 where
-  pub why : (refused ≡ refusal.Memory alloc_error) ⊎ IsShut shut paths refused ⊎ BlamesPath found remaining source_reason paths refused ⊎ IsUncompared (length paths) refused ⊎ IsRereadOf (length paths) refused
+-- memory ran out; or one of the paths is shut, and it is named; or what it leads to has no table, and why; or bytes of an input could not be read again; or, where it is known what the files hold (`tells`), an image among the inputs is of another disc
+pub record MergeRefused {R I : Type 0} (tells : Type 0) (found : List ℕ → Option (Option (List ℕ))) (shut : List ℕ → Type 0) (remaining : AnySource R I → Option (List ℕ)) (paths : List InputPath) (refused : Refusal) : Type 0 where
+  pub why : (refused ≡ refusal.Memory alloc_error) ⊎ IsShut shut paths refused ⊎ BlamesPath found remaining source_reason paths refused ⊎ IsUncompared (length paths) refused ⊎ IsRereadOf (length paths) refused ⊎ (IsNamed refused × (tells → IsOtherDisc found remaining paths refused))
 
 -- memory ran out; or the output would take the place of what is to stay; or it could not be looked at; or `Why` holds of the inputs that are asked for
 abbrev pub WordsRefused : Type 0 → List Asked → (List InputPath → Refusal → Type 0) → Refusal → Type 0

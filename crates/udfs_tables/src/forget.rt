@@ -100,6 +100,7 @@ fn forget_blocks(table: &mut BlockTable, conflicts: bool, blocks: &[u32])
 fn forgotten<F: Files>(
     alloc: Global,
     inputs: &[InputPath<'_>],
+    force: bool,
     conflicts: bool,
     lists: &[&str],
     files: &F,
@@ -112,7 +113,7 @@ fn forgotten<F: Files>(
         Ok(blocks) => blocks,
         Err(refusal) => return Err(refusal),
     };
-    let mut table = match joined(alloc, inputs, files) {
+    let mut table = match joined(alloc, inputs, force, files) {
         Ok(table) => table,
         Err(refusal) => return Err(refusal),
     };
@@ -125,6 +126,7 @@ fn forgotten<F: Files>(
 pub fn forget<F: Files>(
     alloc: Global,
     inputs: &[InputPath<'_>],
+    force: bool,
     conflicts: bool,
     lists: &[&str],
     out: &str,
@@ -155,7 +157,7 @@ pub fn forget<F: Files>(
     // The first list that was not read is to blame, and why, or else the inputs were not joined, or the table file was not put.
     ensures why { IfErr result (ForgetRefused (λ path. F.holds files.old (F.real files.old path)) (F.shut files.old) (⟦<AnySource<F::Input, F::Image> as Source>⟧.remaining) (⟦<AnySource<F::Input, F::Image> as Source>⟧.faults) (SomeFault F.Input.faults) (F.shut files.old out.now ⊎ Fails F.faults ⊎ SinkFails F.Output.stream) (map (λ path. path.now) lists.now) inputs.now) }
 {
-    let table = match forgotten(alloc, inputs, conflicts, lists, files) {
+    let table = match forgotten(alloc, inputs, force, conflicts, lists, files) {
         Ok(table) => table,
         Err(refusal) => return Err(refusal),
     };

@@ -62,12 +62,13 @@ pub fn forget_words<F: Files>(
     match asked_outlook(alloc, words, force, files) {
         Ok(Outlook::Free) => {}
         Ok(Outlook::Spared) => return Err(Refusal::Spared),
-        Ok(Outlook::Unknown) => return Err(unwritten(alloc, inputs.as_slice(), files)),
+        Ok(Outlook::Unknown) => return Err(unwritten(alloc, inputs.as_slice(), force, files)),
         Err(AllocError) => return Err(Refusal::Memory(AllocError)),
     }
     match forget(
         alloc,
         inputs.as_slice(),
+        force,
         asked_conflicts(words),
         words.get_strs(BLOCKS).unwrap_or(&[]),
         asked_out(words),

@@ -196,7 +196,7 @@ pub fn image<F: Files>(
         (F.tells → HaveNoPlace (F.real files.old) (F.in_place files.old) outputs.entry.force outputs.entry.image.now outputs.entry.mapfile.now)
         (F.shut files.old outputs.entry.image.now ⊎ F.shut files.old outputs.entry.mapfile.now ⊎ Fails F.faults ⊎ SinkFails F.Output.stream) last inputs.now) }
 {
-    let table = match joined(alloc, inputs, files) {
+    let table = match joined(alloc, inputs, outputs.force, files) {
         Ok(table) => table,
         Err(refusal) => return Err(refusal),
     };

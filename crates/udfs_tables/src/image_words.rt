@@ -20,7 +20,7 @@ use udfs_common::placing::look_at_both;
 use udfs_common::refusal::Refusal;
 use udfs_common::sources::AnySource;
 use udfs_reading::Source;
-use udfs_words::asking::asked_streams;
+use udfs_words::asking::{asked_force, asked_streams};
 use udfs_words::words::{FORCE, INPUTS, MAPFILE, OUT, PAIRS};
 
 /// The outputs that the arguments of `image` give. The grammar requires both paths.
@@ -92,7 +92,7 @@ pub fn image_words<F: Files>(
     let outputs = asked_outputs(words);
     match look_at_asked(alloc, words, outputs, files) {
         Ok(()) => {}
-        Err(Refusal::Output) => return Err(unwritten(alloc, paths, files)),
+        Err(Refusal::Output) => return Err(unwritten(alloc, paths, asked_force(words), files)),
         Err(refusal) => return Err(refusal),
     }
     let last = match asked_end(alloc, words, paths, files) {

@@ -70,6 +70,13 @@ impl<'a, S: Stored> IndexTally<'a, S> {
         count
     }
 
+    /// How many blocks are in conflict in the join so far.
+    pub fn conflicts(&self) -> u32
+        ensures { (t : Table) → AreAllTold S.content → ⟦<IndexTally<'a, S> as Taker<Cursor<'a, S>>>⟧.took self.now t → result ≡ conflict_count t }
+    {
+        self.index.conflicts()
+    }
+
     /// The last input is over: what is known and in conflict in the join.
     pub fn close(&mut self) -> Totals
         ensures known { (t : Table) → AreAllTold S.content → ⟦<IndexTally<'a, S> as Taker<Cursor<'a, S>>>⟧.took self.old t → result.known ≡ known_count t }

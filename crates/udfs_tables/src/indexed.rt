@@ -8,18 +8,17 @@ ghost use Rattle.udfs_lattice.specs.Tables.{Table, IsTable};
 ghost use Rattle.udfs_reading.specs.Several.{TablesAre};
 ghost use Rattle.udfs_common.specs.Spelling.{table_file};
 ghost use Rattle.udfs_common.specs.Blaming.{stored_reason};
-ghost use Rattle.udfs_common.specs.Refusing.{refused_pair};
+ghost use Rattle.udfs_common.specs.Refusing.{NamesNoOther, refused_pair};
 ghost use Rattle.udfs_tables.specs.Indexing.{IsReread, IsSinkFault};
 ghost use Rattle.udfs_tables.specs.Refused.{IsUncompared, IsRereadOf, StoredRefused, refusal_with, refused_in};
 
-use crate::index_tally::IndexTally;
 use std::alloc::{AllocError, Global};
 use udfs_common::refusal::Refusal;
 use udfs_common::sources::refused_pair;
 use udfs_files::Job;
 use udfs_index::{CopyFault, Cursor, END, Index, Stored, Unread, record_at};
 use udfs_pairs::AnyStored;
-use udfs_reading::{InputError, ReadingError, ReadingFault, Sink, Source, Taker, take_inputs};
+use udfs_reading::{InputError, ReadingError, ReadingFault, Sink, Source, Taker};
 use udfs_rescue::PairFault;
 use udfs_words::forms::Version;
 
@@ -95,12 +94,13 @@ fn refused_of<S: Stored>(stored: &[AnyStored<S>], error: InputError) -> Option<P
 
 /// Why the inputs were not taken. A pair that has no reading is reported with its own reason. Bytes that were to be compared and could not be read are a fault
 /// `Io` of the input that has them.
-fn refusal_of<S: Stored>(
+pub fn refusal_of<S: Stored>(
     stored: &[AnyStored<S>],
     failed: Option<Unread>,
     error: InputError,
 ) -> Refusal
     ensures told { (result ≢ Refusal.Output) × (result ≢ Refusal.Unkept) × (result ≢ Refusal.Spared) }
+    ensures no_other { NamesNoOther result }
     ensures pair { IfSome (refused_in (slice_get stored.now (error.input - 1))) (λ fault. result ≡ refused_pair error.input fault) }
     ensures why { (result ≡ refusal_with (refused_in (slice_get stored.now (error.input - 1))) error) ⊎ IsUncompared (length stored.now) result }
 {
@@ -118,7 +118,10 @@ fn refusal_of<S: Stored>(
 }
 
 /// Each stored input as a source that is read from its beginning.
-fn cursors<'a, S: Stored>(alloc: Global, stored: &'a [S]) -> Result<Vec<Cursor<'a, S>>, AllocError>
+pub fn cursors<'a, S: Stored>(
+    alloc: Global,
+    stored: &'a [S],
+) -> Result<Vec<Cursor<'a, S>>, AllocError>
     ensures { IfOk result (λ all. map ⟦<Cursor<'a, S> as Source>⟧.remaining all.items ≡ map S.content stored.now) }
 {
     let mut all = Vec::new(alloc);
@@ -126,27 +129,4 @@ fn cursors<'a, S: Stored>(alloc: Global, stored: &'a [S]) -> Result<Vec<Cursor<'
         all.push(Cursor::new(one))?;
     }
     Ok(all)
-}
-
-/// The join of the inputs' tables, as an index of where its bytes are, and what was counted of them.
-pub fn indexed<'a, S: Stored>(
-    alloc: Global,
-    stored: &'a [AnyStored<S>],
-) -> Result<IndexTally<'a, AnyStored<S>>, Refusal>
-    ensures table { IfOk result (λ tally. (ts : List Table) × TablesAre ⟦<AnyStored<S> as Stored>⟧.content stored.now ts × ⟦<IndexTally<'a, AnyStored<S>> as Taker<Cursor<'a, AnyStored<S>>>>⟧.took tally (join_all ts)) }
-    ensures told { IfErr result (λ refusal. (refusal ≢ Refusal.Output) × (refusal ≢ Refusal.Unkept) × (refusal ≢ Refusal.Spared)) }
-    // Memory ran out, or an input was not taken, and why, or its bytes could not be compared with those of another.
-    ensures why { IfErr result (StoredRefused ⟦<AnyStored<S> as Stored>⟧.content stored_reason stored.now) }
-{
-    let mut tally = match IndexTally::new(alloc, stored.len()) {
-        Ok(tally) => tally,
-        Err(AllocError) => return Err(Refusal::Memory(AllocError)),
-    };
-    let Ok(mut sources) = cursors(alloc, stored) else {
-        return Err(Refusal::Memory(AllocError));
-    };
-    match take_inputs(sources.as_mut_slice(), &mut tally) {
-        Ok(()) => Ok(tally),
-        Err(error) => Err(refusal_of(stored, tally.failed(), error)),
-    }
 }

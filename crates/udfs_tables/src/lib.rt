@@ -10,6 +10,8 @@ mod image;
 pub mod image_words;
 mod index_tally;
 mod indexed;
+mod indexing;
+mod judging;
 mod merge;
 mod merge_stored;
 mod merge_tally;

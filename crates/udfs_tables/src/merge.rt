@@ -1,10 +1,11 @@
 //! The command `merge`: readings and table files in, one table file out.
 
-ghost use Rattle.std.specs.Prelude.{◌≡◌, ◌≢◌, ◌⊎◌, IfOk, IfErr, OnErr, OnOk, IsErrOf};
+ghost use Rattle.std.specs.Prelude.{◌≡◌, ◌≢◌, ◌⊎◌, true, false, IfOk, IfErr, OnErr, OnOk, IsErrOf};
 ghost use Rattle.udfs_reading.specs.Writing.{Writes};
 ghost use Rattle.udfs_common.specs.Blaming.{InputsRefused};
 ghost use Rattle.udfs_common.specs.Keeping.{OfPaths};
-ghost use Rattle.udfs_common.specs.Refusing.{IsUnput};
+ghost use Rattle.udfs_common.specs.OtherDiscs.{AreOneDisc};
+ghost use Rattle.udfs_common.specs.Refusing.{IsUnput, NamesNoOther};
 ghost use Rattle.udfs_common.specs.Spelling.{table_file};
 ghost use Rattle.udfs_tables.specs.Indexing.{IsReread};
 ghost use Rattle.udfs_tables.specs.Merging.{CrashesMerged, IsMerged, IsUnmerged, KeepsOthers, KeepsOut, LeavesMerge, PutFails, StandsMerged};
@@ -44,18 +45,21 @@ impl<'a> Content for TableFile<'a> {
 pub fn tallied<F: Files>(
     alloc: Global,
     inputs: &[InputPath<'_>],
+    force: bool,
     files: &F,
 ) -> Result<MergeTally, Refusal>
     ensures by_path { IfOk result (λ tally. OfPaths (λ path. F.holds files.now (F.real files.now path)) (⟦<AnySource<F::Input, F::Image> as Source>⟧.remaining) inputs.now (λ t. tally ≡ t)) }
     ensures told { IfErr result (λ refusal. (refusal ≢ Refusal.Output) × (refusal ≢ Refusal.Unkept) × (refusal ≢ Refusal.Spared)) }
-    // The first input that cannot be opened is named, or else the first that cannot be read, and why.
+    ensures one_disc { OnOk result (force ≡ false → AreOneDisc (λ path. F.holds files.now (F.real files.now path)) (⟦<AnySource<F::Input, F::Image> as Source>⟧.remaining) inputs.now) }
+    ensures forced { IfErr result (λ refusal. force ≡ true → NamesNoOther refusal) }
+    // The first input that cannot be opened is named, or else the first that cannot be read, and why, or that is of another disc.
     ensures blamed { IfErr result (InputsRefused (λ path. F.holds files.now (F.real files.now path)) (F.shut files.now) (⟦<AnySource<F::Input, F::Image> as Source>⟧.remaining) (⟦<AnySource<F::Input, F::Image> as Source>⟧.faults) inputs.now) }
 {
     let mut tally = match MergeTally::new(alloc, inputs.len()) {
         Ok(tally) => tally,
         Err(AllocError) => return Err(Refusal::Memory(AllocError)),
     };
-    match take_all(alloc, inputs, &mut tally, files) {
+    match take_all(alloc, inputs, force, &mut tally, files) {
         Ok(()) => Ok(tally),
         Err(refusal) => Err(refusal),
     }
@@ -65,11 +69,14 @@ pub fn tallied<F: Files>(
 fn merge_held<F: Files>(
     alloc: Global,
     inputs: &[InputPath<'_>],
+    force: bool,
     out: &str,
     version: Version,
     files: &mut F,
 ) -> Result<(), Refusal>
     ensures written { OnOk result (IsMerged F.Files F.Output.stream (⟦<AnySource<F::Input, F::Image> as Source>⟧.remaining) inputs.now out.now version files.old files.new) }
+    ensures one_disc { OnOk result (force ≡ false → F.tells → AreOneDisc (λ path. F.holds files.old (F.real files.old path)) (⟦<AnySource<F::Input, F::Image> as Source>⟧.remaining) inputs.now) }
+    ensures forced { IfErr result (λ refusal. force ≡ true → NamesNoOther refusal) }
     ensures any_moment { CrashesMerged F.Files F.Output.stream (⟦<AnySource<F::Input, F::Image> as Source>⟧.remaining) inputs.now out.now version files.old files.new }
     ensures untouched { IfErr result (λ refusal. refusal ≢ Refusal.Output → refusal ≢ Refusal.Unkept → files.new ≡ files.old) }
     ensures refused { IsErrOf result Refusal.Output → KeepsOut F.Files out.now files.old files.new }
@@ -82,7 +89,7 @@ fn merge_held<F: Files>(
         IsUnput (PutFails F.Files F.Output.stream out.now files.old) refusal) }
     ensures why { IfErr result (IsUnmerged F.Files F.Output.stream (⟦<AnySource<F::Input, F::Image> as Source>⟧.remaining) inputs.now out.now version files.old files.new) }
 {
-    let mut tally = match tallied(alloc, inputs, files) {
+    let mut tally = match tallied(alloc, inputs, force, files) {
         Ok(tally) => tally,
         Err(refusal) => return Err(refusal),
     };
@@ -100,7 +107,8 @@ fn merge_held<F: Files>(
     }
 }
 
-/// Joins the inputs, and puts the table file of this version at the path `out`, over an old one. All inputs are opened in order before one is read, and
+/// Joins the inputs, and puts the table file of this version at the path `out`, over an old one. An image that disagrees with the inputs before it so that it is
+/// of another disc is refused, unless `force` is set. All inputs are opened in order before one is read, and
 /// the output is begun only after all are joined. A file is put in its place whole or not at all, and the output may be one of the inputs; a device or a pipe is
 /// written in place. Where each input is a regular file by its own path, or an image and a mapfile that are, no block is held: of each known block is kept in
 /// which input its bytes are, and where, and they are read again when they are written. An input must not change meanwhile: where its length or its time of
@@ -108,12 +116,16 @@ fn merge_held<F: Files>(
 pub fn merge<F: Files>(
     alloc: Global,
     inputs: &[InputPath<'_>],
+    force: bool,
     out: &str,
     version: Version,
     files: &mut F,
 ) -> Result<(), Refusal>
     // At `Ok` a file at the output's path holds the table file of the join of what the input paths held, and from now on each crash leaves it.
     ensures written { OnOk result (IsMerged F.Files F.Output.stream (⟦<AnySource<F::Input, F::Image> as Source>⟧.remaining) inputs.now out.now version files.old files.new) }
+    // No image among the inputs is of another disc, but by force; and by force none is named as one.
+    ensures one_disc { OnOk result (force ≡ false → F.tells → AreOneDisc (λ path. F.holds files.old (F.real files.old path)) (⟦<AnySource<F::Input, F::Image> as Source>⟧.remaining) inputs.now) }
+    ensures forced { IfErr result (λ refusal. force ≡ true → NamesNoOther refusal) }
     // A crash at any moment of the call leaves all as it was, or with the output in its place, whole.
     ensures any_moment { CrashesMerged F.Files F.Output.stream (⟦<AnySource<F::Input, F::Image> as Source>⟧.remaining) inputs.now out.now version files.old files.new }
     // Any error but `Output`, `Unkept` and `Reread` leaves all files as they were. `Reread`, of an input that could not be read a second time or has changed,
@@ -137,11 +149,13 @@ pub fn merge<F: Files>(
 {
     // Where there is no input, nothing is read again.
     if inputs.is_empty() {
-        return merge_held(alloc, inputs, out, version, files);
+        return merge_held(alloc, inputs, force, out, version, files);
     }
     match open_all_stored(alloc, inputs, files) {
-        Ok(Some(stored)) => merge_stored(alloc, stored.as_slice(), inputs, out, version, files),
-        Ok(None) => merge_held(alloc, inputs, out, version, files),
+        Ok(Some(stored)) => {
+            merge_stored(alloc, stored.as_slice(), inputs, force, out, version, files)
+        },
+        Ok(None) => merge_held(alloc, inputs, force, out, version, files),
         Err(refusal) => Err(refusal),
     }
 }

@@ -1,13 +1,16 @@
 //! `merge` of inputs that are read at positions: its output is written from an index, and no block is held.
 
-ghost use Rattle.std.specs.Prelude.{◌≡◌, ◌≢◌, ◌⊎◌, ◌<◌, IfErr, OnErr, OnOk, IsErrOf, length};
+ghost use Rattle.std.specs.Prelude.{◌≡◌, ◌≢◌, ◌⊎◌, ◌<◌, true, false, IfErr, OnErr, OnOk, IsErrOf, length};
 ghost use Rattle.udfs_common.specs.Blaming.{AreJudgedFor, stored_reason};
 ghost use Rattle.udfs_common.specs.Keeping.{Opens};
+ghost use Rattle.udfs_common.specs.OtherDiscs.{AreOneDisc};
+ghost use Rattle.udfs_common.specs.Refusing.{NamesNoOther};
 ghost use Rattle.udfs_tables.specs.Indexing.{IsReread};
 ghost use Rattle.udfs_tables.specs.Merging.{CrashesMerged, IsMerged, IsUnmerged, KeepsOthers, KeepsOut, LeavesMerge, PutFails, StandsMerged};
 
 use crate::closing::remark_on_merge;
-use crate::indexed::{IndexedFile, indexed};
+use crate::indexed::IndexedFile;
+use crate::indexing::indexed;
 use std::alloc::Global;
 use udfs_common::files::Files;
 use udfs_common::job_putting::put_job;
@@ -25,6 +28,7 @@ pub fn merge_stored<F: Files>(
     alloc: Global,
     stored: &[AnyStored<F::Stored>],
     inputs: &[InputPath<'_>],
+    force: bool,
     out: &str,
     version: Version,
     files: &mut F,
@@ -34,6 +38,8 @@ pub fn merge_stored<F: Files>(
     requires judged { AreJudgedFor (λ path. F.holds files.now (F.real files.now path)) stored_reason inputs.now stored.now }
     requires some { 0 < length inputs.now }
     ensures written { OnOk result (IsMerged F.Files F.Output.stream (⟦<AnySource<F::Input, F::Image> as Source>⟧.remaining) inputs.now out.now version files.old files.new) }
+    ensures one_disc { OnOk result (force ≡ false → F.tells → AreOneDisc (λ path. F.holds files.old (F.real files.old path)) (⟦<AnySource<F::Input, F::Image> as Source>⟧.remaining) inputs.now) }
+    ensures forced { IfErr result (λ refusal. force ≡ true → NamesNoOther refusal) }
     ensures any_moment { CrashesMerged F.Files F.Output.stream (⟦<AnySource<F::Input, F::Image> as Source>⟧.remaining) inputs.now out.now version files.old files.new }
     ensures untouched { IfErr result (λ refusal. refusal ≢ Refusal.Output → refusal ≢ Refusal.Unkept → (¬ IsReread refusal) → files.new ≡ files.old) }
     ensures reread { IfErr result (λ refusal. IsReread refusal → KeepsOut F.Files out.now files.old files.new) }
@@ -45,7 +51,7 @@ pub fn merge_stored<F: Files>(
     ensures told { IfErr result (λ refusal. refusal ≢ Refusal.Spared) }
     ensures why { IfErr result (IsUnmerged F.Files F.Output.stream (⟦<AnySource<F::Input, F::Image> as Source>⟧.remaining) inputs.now out.now version files.old files.new) }
 {
-    let mut tally = match indexed(alloc, stored) {
+    let mut tally = match indexed(alloc, stored, inputs, force) {
         Ok(tally) => tally,
         Err(refusal) => return Err(refusal),
     };

@@ -7,7 +7,8 @@ use crate::beside::{Beside, Totals};
 use crate::said::Disagreement;
 use std::alloc::{AllocError, Global};
 use std::marker::Model;
-use udfs_lattice::{BlockTable, Fact};
+use udfs_common::taking::TableTaker;
+use udfs_lattice::{BlockTable, Fact, Join};
 use udfs_reading::{NotTaken, Source, Taker};
 
 /// The table of the inputs, which counts while it takes them.
@@ -126,6 +127,33 @@ impl MergeTally {
     }
 }
 
+impl MergeTally {
+    /// The input that is read has this state of a block.
+    fn hear_fact(&mut self, block: u32, fact: Fact<&[u8; 2048]>) -> Result<(), AllocError>
+        ensures { self.new ≡ self.old }
+    {
+        match fact {
+            Fact::Unknown => Ok(()),
+            Fact::Known(bytes) => self.hear(block, bytes),
+            Fact::Conflict => {
+                self.beside.input.reach(block)?;
+                self.beside.input.hear_conflict(block);
+                Ok(())
+            }
+        }
+    }
+
+    /// The input that is read has this table.
+    fn hear_all(&mut self, own: &BlockTable) -> Result<(), AllocError>
+        ensures { self.new ≡ self.old }
+    {
+        for (block, fact) in own.entries() {
+            self.hear_fact(block, fact)?;
+        }
+        Ok(())
+    }
+}
+
 /// The state of a block in the join, where inputs came before the one that is read.
 fn state_before<'a>(joined: &'a BlockTable, beside: &Beside, block: u32) -> Fact<&'a [u8; 2048]> {
     if beside.is_further() {
@@ -140,6 +168,22 @@ fn is_known_as(fact: Fact<&[u8; 2048]>, bytes: &[u8; 2048]) -> bool {
     match fact {
         Fact::Known(known) => *known == *bytes,
         _ => false,
+    }
+}
+
+impl<R: Source> TableTaker<R> for MergeTally {
+    fn table(&self) -> &BlockTable {
+        MergeTally::table(self)
+    }
+
+    fn take_table(&mut self, own: &BlockTable) -> Result<(), AllocError> {
+        self.end_input();
+        self.beside.begin_input();
+        self.hear_all(own)?;
+        match self.joined.join(own) {
+            Ok(()) => Ok(()),
+            Err(_) => Err(AllocError),
+        }
     }
 }
 

@@ -71,7 +71,7 @@ pub fn merge_words<F: Files>(
         (F.tells → IsSpared (F.holds files.old) (F.real files.old) (input_texts (found_of words.now)) (pair_texts (found_of words.now)) force (out_text (found_of words.now))) }
     // Why it fails: memory ran out, or what is there is spared or could not be looked at, or the inputs were not joined, or their table file was not put.
     ensures why { IfErr result (WordsRefused (MayNotBeSeen (F.shut files.old) (Fails F.Input.faults) (input_texts (found_of words.now)) (pair_texts (found_of words.now)) (out_text (found_of words.now))) (asked_inputs (found_of words.now))
-        (λ inputs refusal. MergeRefused (λ path. F.holds files.old (F.real files.old path)) (F.shut files.old) (⟦<AnySource<F::Input, F::Image> as Source>⟧.remaining) inputs refusal ⊎ IsUnput (F.shut files.old (out_text (found_of words.now)) ⊎ Fails F.faults ⊎ SinkFails F.Output.stream) refusal)) }
+        (λ inputs refusal. MergeRefused F.tells (λ path. F.holds files.old (F.real files.old path)) (F.shut files.old) (⟦<AnySource<F::Input, F::Image> as Source>⟧.remaining) inputs refusal ⊎ IsUnput (F.shut files.old (out_text (found_of words.now)) ⊎ Fails F.faults ⊎ SinkFails F.Output.stream) refusal)) }
 {
     let Ok(inputs) = asked_inputs(alloc, words) else {
         return Err(Refusal::Memory(AllocError));
@@ -80,12 +80,13 @@ pub fn merge_words<F: Files>(
     match asked_outlook(alloc, words, force, files) {
         Ok(Outlook::Free) => {}
         Ok(Outlook::Spared) => return Err(Refusal::Spared),
-        Ok(Outlook::Unknown) => return Err(unwritten(alloc, inputs.as_slice(), files)),
+        Ok(Outlook::Unknown) => return Err(unwritten(alloc, inputs.as_slice(), force, files)),
         Err(AllocError) => return Err(Refusal::Memory(AllocError)),
     }
     match merge(
         alloc,
         inputs.as_slice(),
+        force,
         asked_out(words),
         asked_version(words),
         files,

@@ -8,7 +8,7 @@ use Rattle.udfs_lattice.proofs.Inclusion.{Includes, included, contained}
 use Rattle.udfs_tag.specs.declared.layouts.LongAd.{LongAd}
 use Rattle.udfs_space.specs.Places.{View}
 use Rattle.udfs_file.specs.Complete.{AreShort, IsComplete}
-use Rattle.udfs_file.specs.Fronts.{directory, directory_entries, listed_entries}
+use Rattle.udfs_file.specs.Fronts.{directory_by, entries_by, listed_entries}
 use Rattle.udfs_file.specs.Identifiers.{Identifier}
 use Rattle.udfs_file.specs.Standard.{IsDirectoryBody}
 use Rattle.udfs_file.specs.declared.directories.DirEntry.{DirEntry}
@@ -55,8 +55,8 @@ directory_of : (all : View) (blocks : PartitionBlocks) → IsComplete all blocks
 directory_of all blocks c w x f file is k = sym (ap (λ z. z.kind) f.fields) ∙ sym (ap (λ z. z.fields.kind) (f.only file is)) ∙ k
 
 directories : (all : View) (blocks : PartitionBlocks) → IsComplete all blocks → (root : LongAd) → IsLawfulTree all root → (path : Path) (a : LongAd) (file : TreeFile) → Leads blocks root path a → IsFileAt blocks a file
-    → file.fields.kind ≡ Directory → (ids : List Identifier) × IsDirectoryBody file.body ids × AreShort ids
-directories all blocks c root l path a file leads is kind = ((directory e.whole.cs).identifiers, subst (λ z. IsDirectoryBody z.body (directory e.whole.cs).identifiers) same r.is_directory.body, descriptors_are_short e.whole.cs)
+    → file.fields.kind ≡ Directory → (ids : List Identifier) × IsDirectoryBody blocks.profile file.body ids × AreShort ids
+directories all blocks c root l path a file leads is kind = ((directory_by all.profile e.whole.cs).identifiers, subst (λ z. IsDirectoryBody blocks.profile z.body (directory_by all.profile e.whole.cs).identifiers) same r.is_directory.body, descriptors_are_short all.profile e.whole.cs)
   where
     e : End all blocks root path a
     e = end_at all blocks c root l path a leads
@@ -67,7 +67,7 @@ directories all blocks c root l path a file leads is kind = ((directory e.whole.
     k : e.whole.fields.kind ≡ Directory
     k = directory_of all blocks c e.w e.whole e.file file here kind
 
-    r : IsReadDirectoryAt blocks e.w.address (directory e.whole.cs).identifiers
+    r : IsReadDirectoryAt blocks e.w.address (directory_by all.profile e.whole.cs).identifiers
     r = directory_at_law all blocks c e.w.address e.whole.fields e.whole.cs e.whole.is_entry e.whole.has_body k (open_at all blocks c e.w e.whole k).ends
 
     same : r.is_directory.file ≡ file
@@ -76,7 +76,7 @@ directories all blocks c root l path a file leads is kind = ((directory e.whole.
 -- ---- names differ
 names : (all : View) (blocks : PartitionBlocks) → IsComplete all blocks → (root : LongAd) → IsLawfulTree all root → (path : Path) (a : LongAd) (ids : List Identifier) → Leads blocks root path a → IsDirectoryAt blocks a ids
     → AllPairs (λ d e. d.name ≢ e.name) (listed_entries ids)
-names all blocks c root l path a ids leads is = subst (λ z. AllPairs (λ d e. d.name ≢ e.name) (listed_entries z)) (sym (r.only ids here)) (go (is_deep e.w) refl (directory_entries e.whole.cs) refl)
+names all blocks c root l path a ids leads is = subst (λ z. AllPairs (λ d e. d.name ≢ e.name) (listed_entries z)) (sym (r.only ids here)) (go (is_deep e.w) refl (entries_by all.profile e.whole.cs) refl)
   where
     e : End all blocks root path a
     e = end_at all blocks c root l path a leads
@@ -90,10 +90,10 @@ names all blocks c root l path a ids leads is = subst (λ z. AllPairs (λ d e. d
     o : Open all e.w e.whole
     o = open_at all blocks c e.w e.whole k
 
-    r : IsReadDirectoryAt blocks e.w.address (directory e.whole.cs).identifiers
+    r : IsReadDirectoryAt blocks e.w.address (directory_by all.profile e.whole.cs).identifiers
     r = directory_at_law all blocks c e.w.address e.whole.fields e.whole.cs e.whole.is_entry e.whole.has_body k o.ends
 
-    go : (b : Bool) → is_deep e.w ≡ b → (es : List DirEntry) → directory_entries e.whole.cs ≡ es → AllPairs (λ d e. d.name ≢ e.name) (directory_entries e.whole.cs)
+    go : (b : Bool) → is_deep e.w ≡ b → (es : List DirEntry) → entries_by all.profile e.whole.cs ≡ es → AllPairs (λ d e. d.name ≢ e.name) (entries_by all.profile e.whole.cs)
     go false q es p = subst (AllPairs (λ d e. d.name ≢ e.name)) (entries_are all e.w e.whole false Directory q k) (l.distinct e.route e.w e.walks)
     go true q [] p = subst (AllPairs (λ d e. d.name ≢ e.name)) (sym p) (λ i j d m n. absurd (let z : ⊥ = omega (arith, n) in z))
     go true q (x ∷ es) p = absurd (let z : true ≡ false = sym q ∙ o.room x (subst (λ y. Includes y x) (sym p) (inl refl)) in let y : ⊥ = cc in y)

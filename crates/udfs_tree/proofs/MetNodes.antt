@@ -9,7 +9,7 @@ use Rattle.udfs_tag.specs.declared.layouts.LongAd.{LongAd}
 use Rattle.udfs_space.specs.Places.{View, IsPartOf}
 use Rattle.udfs_file.specs.Entries.{EntryFields}
 use Rattle.udfs_file.specs.Bodies.{body, IsNeededFor}
-use Rattle.udfs_file.specs.Fronts.{directory, listed_entries, directory_entries}
+use Rattle.udfs_file.specs.Fronts.{directory_by, listed_entries, entries_by}
 use Rattle.udfs_file.specs.Laws.{IsBeginningOf, IsMissingAt, IsClearTo, IsPartialBody, descriptor_end}
 use Rattle.udfs_file.specs.declared.cells.Cell.{Cell}
 use Rattle.udfs_file.specs.declared.directories.DirEntry.{DirEntry}
@@ -87,7 +87,7 @@ icb_known some all blocks root s route w walks e t group x = (x.is.0, contained 
 -- An entry to which a route goes on over the table.
 pub record GoesPart (some all : View) (p : IsPartOf some all) (w : Walked) (x : WholeAt all w) (d : DirEntry) : Type 0 where
   pub kind : x.fields.kind ≡ Directory
-  pub inside : Includes (directory_entries (part_at some all p w x).part) d
+  pub inside : Includes (entries_by all.profile (part_at some all p w x).part) d
 
 pub goes_part : (some all : View) (p : IsPartOf some all) (w : Walked) (x : WholeAt all w) (j : ℕ) (d : DirEntry) → slice_get (entries_below some w) j ≡ Some d → GoesPart some all p w x d
 unfolding entries_below
@@ -96,8 +96,8 @@ goes_part some all p w x j d k = by (is_loop w || is_deep w) k
     part : IsPartialBody some all w.address.reference w.address.block x.fields x.cs
     part = part_at some all p w x
 
-    by_kind : (k : Kind) → x.fields.kind ≡ k → slice_get (kind_entries k (body some w.address.reference w.address.block x.fields)) j ≡ Some d → GoesPart some all p w x d
-    by_kind Directory e q = record { kind = e; inside = get_includes (directory_entries part.part) j d (ap (λ z. slice_get (entries_in z) j) (sym part.is) ∙ q) }
+    by_kind : (k : Kind) → x.fields.kind ≡ k → slice_get (kind_entries some.profile k (body some w.address.reference w.address.block x.fields)) j ≡ Some d → GoesPart some all p w x d
+    by_kind Directory e q = record { kind = e; inside = get_includes (entries_by all.profile part.part) j d (ap (λ z. slice_get (entries_by z part.part) j) (sym p.profile) ∙ ap (λ z. slice_get (entries_in some.profile z) j) (sym part.is) ∙ q) }
     by_kind File e q = absurd (let z : ⊥ = cc in z)
     by_kind Link e q = absurd (let z : ⊥ = cc in z)
     by_kind (Other t) e q = absurd (let z : ⊥ = cc in z)
@@ -122,25 +122,25 @@ clear_before some all blocks root s w h name on ids is_dir end ends = subst (IsC
     goes : GoesPart some all s.part w h.at on.entry
     goes = goes_part some all s.part w h.at on.j on.entry on.at
 
-    x : Splits (directory part.part).identifiers on.entry
-    x = split_at (directory part.part).identifiers on.entry goes.inside
+    x : Splits (directory_by all.profile part.part).identifiers on.entry
+    x = split_at (directory_by all.profile part.part).identifiers on.entry goes.inside
 
-    more : IsBeginningOf (directory part.part).identifiers (directory h.at.cs).identifiers
-    more = partial_descriptors part.part h.at.cs part.cells_are.each
+    more : IsBeginningOf (directory_by all.profile part.part).identifiers (directory_by all.profile h.at.cs).identifiers
+    more = partial_descriptors all.profile part.part h.at.cs part.cells_are.each
 
-    whole_is : (directory h.at.cs).identifiers ≡ x.front ++ x.id ∷ (x.back ++ more.0)
+    whole_is : (directory_by all.profile h.at.cs).identifiers ≡ x.front ++ x.id ∷ (x.back ++ more.0)
     whole_is = more.1 ∙ ap (λ z. z ++ more.0) x.splits ∙ append_assoc x.front (x.id ∷ x.back) more.0
 
     o : Open all w h.at
     o = open_at all blocks s.is_whole w h.at goes.kind
 
-    r : IsReadDirectoryAt blocks w.address (directory h.at.cs).identifiers
+    r : IsReadDirectoryAt blocks w.address (directory_by all.profile h.at.cs).identifiers
     r = directory_at_law all blocks s.is_whole w.address h.at.fields h.at.cs h.at.is_entry h.at.has_body goes.kind o.ends
 
-    inside : Includes (directory_entries h.at.cs) on.entry
+    inside : Includes (entries_by all.profile h.at.cs) on.entry
     inside = subst (λ z. Includes (listed_entries z) on.entry) (sym whole_is) (listed_in x.front (x.back ++ more.0) x.id on.entry x.is_listed)
 
-    below_are : entries_below all w ≡ directory_entries h.at.cs
+    below_are : entries_below all w ≡ entries_by all.profile h.at.cs
     below_are = entries_are all w h.at false Directory (o.room on.entry inside) goes.kind
 
     differ : Differ (listed_entries (x.front ++ x.id ∷ (x.back ++ more.0)))

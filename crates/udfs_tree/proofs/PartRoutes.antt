@@ -9,7 +9,7 @@ use Rattle.udfs_tag.specs.declared.layouts.LongAd.{LongAd}
 use Rattle.udfs_space.specs.Places.{View, IsPartOf}
 use Rattle.udfs_file.specs.Addresses.{address_fault}
 use Rattle.udfs_file.specs.Bodies.{body}
-use Rattle.udfs_file.specs.Fronts.{directory, directory_entries, fault_in}
+use Rattle.udfs_file.specs.Fronts.{directory_by, entries_by, fault_in}
 use Rattle.udfs_file.specs.Laws.{IsBeginningOf, IsPartialBody}
 use Rattle.udfs_file.specs.Complete.{IsComplete}
 use Rattle.udfs_file.specs.declared.cells.Cell.{Cell}
@@ -76,11 +76,12 @@ entries_begin some all p w x = by_loop (is_loop w || is_deep w)
     part = part_at some all p w x
 
     entries : View → Kind → List DirEntry
-    entries v k = kind_entries k (body v w.address.reference w.address.block x.fields)
+    entries v k = kind_entries v.profile k (body v w.address.reference w.address.block x.fields)
 
     by_kind : (k : Kind) → IsBeginningOf (entries some k) (entries all k)
-    by_kind Directory = subst (λ z. IsBeginningOf (entries_in z) (entries_in (body all w.address.reference w.address.block x.fields))) (sym part.is)
-        (subst (λ z. IsBeginningOf (directory_entries part.part) (entries_in z)) (sym x.has_body) part.inside.entries)
+    by_kind Directory = subst (λ z. IsBeginningOf (entries_in some.profile z) (entries_in all.profile (body all w.address.reference w.address.block x.fields))) (sym part.is)
+        (subst (λ z. IsBeginningOf (entries_by z part.part) (entries_in all.profile (body all w.address.reference w.address.block x.fields))) (sym p.profile)
+        (subst (λ z. IsBeginningOf (entries_by all.profile part.part) (entries_in all.profile z)) (sym x.has_body) part.inside.entries))
     by_kind File = ([], refl)
     by_kind Link = ([], refl)
     by_kind (Other t) = ([], refl)
@@ -164,12 +165,12 @@ node_part some all blocks p c w x = by_target (target_part some all p w.address)
     part : IsPartialBody some all w.address.reference w.address.block x.fields x.cs
     part = part_at some all p w x
 
-    of_directory : Open all w x → kind_standing Directory deep part.part ≡ cells_standing part.part
-    of_directory o = not_wrong (directory part.part).rest (depth_or deep (directory_entries part.part) (cells_standing part.part)) (part.inside.no_fault o.ends)
-        ∙ not_deep deep (directory_entries part.part) (cells_standing part.part)
-        (λ d i. o.room d (subst (λ z. Includes z d) (sym part.inside.entries.1) (includes_begin (directory_entries part.part) part.inside.entries.0 d i)))
+    of_directory : Open all w x → kind_standing all.profile Directory deep part.part ≡ cells_standing part.part
+    of_directory o = not_wrong (directory_by all.profile part.part).rest (depth_or deep (entries_by all.profile part.part) (cells_standing part.part)) (part.inside.no_fault o.ends)
+        ∙ not_deep deep (entries_by all.profile part.part) (cells_standing part.part)
+        (λ d i. o.room d (subst (λ z. Includes z d) (sym part.inside.entries.1) (includes_begin (entries_by all.profile part.part) part.inside.entries.0 d i)))
 
-    by_kind : (k : Kind) → x.fields.kind ≡ k → kind_standing k deep part.part ≡ cells_standing part.part
+    by_kind : (k : Kind) → x.fields.kind ≡ k → kind_standing all.profile k deep part.part ≡ cells_standing part.part
     by_kind Directory e = of_directory (open_at all blocks c w x e)
     by_kind File e = refl
     by_kind Link e = refl
@@ -177,8 +178,8 @@ node_part some all blocks p c w x = by_target (target_part some all p w.address)
     by_kind Unread e = refl
 
     stands : entry_standing some w x.fields ≡ cells_standing part.part
-    stands = ap (λ b. cond b Loop (body_standing x.fields.kind deep (body some w.address.reference w.address.block x.fields))) x.no_loop
-        ∙ ap (body_standing x.fields.kind deep) part.is ∙ by_kind x.fields.kind refl
+    stands = ap (λ b. cond b Loop (body_standing some.profile x.fields.kind deep (body some w.address.reference w.address.block x.fields))) x.no_loop
+        ∙ ap (body_standing some.profile x.fields.kind deep) part.is ∙ ap (λ z. kind_standing z x.fields.kind deep part.part) p.profile ∙ by_kind x.fields.kind refl
 
     by_target : TargetPart some all w.address → NodePart some all p w x
     by_target (target_same e) = node_read (e ∙ x.is_entry) (ap (λ t. (node_at some w t).standing) (e ∙ x.is_entry) ∙ stands)

@@ -8,7 +8,7 @@ use Rattle.udfs_tag.specs.declared.layouts.LongAd.{LongAd}
 use Rattle.udfs_space.specs.Places.{View, IsPartOf}
 use Rattle.udfs_file.specs.Entries.{EntryFields}
 use Rattle.udfs_file.specs.Bodies.{cells, body, IsNeededFor}
-use Rattle.udfs_file.specs.Fronts.{directory, directory_entries, listed_entries}
+use Rattle.udfs_file.specs.Fronts.{directory_by, entries_by, listed_entries}
 use Rattle.udfs_file.specs.Laws.{IsBeginningOf, IsClearTo, IsPartialBody, descriptor_end}
 use Rattle.udfs_file.specs.Complete.{IsComplete}
 use Rattle.udfs_file.specs.declared.cells.Cell.{Cell}
@@ -30,10 +30,10 @@ use Rattle.udfs_tree.proofs.WholeRoutes.{WholeAt, whole_at, file_at, Open, open_
 
 -- the entries of a directory that is read
 entries_here : (v : View) (w : Walked) (e : EntryFields) (cs : List Cell) → target v w.address ≡ entry e → is_loop w ≡ false → is_deep w ≡ false
-    → e.kind ≡ Directory → body v w.address.reference w.address.block e ≡ cells cs → entries_below v w ≡ directory_entries cs
+    → e.kind ≡ Directory → body v w.address.reference w.address.block e ≡ cells cs → entries_below v w ≡ entries_by v.profile cs
 unfolding entries_below
 entries_here v w e cs t l deep k b = (λ i. cond (l i || deep i) [] (target_entries v w.address (t i)))
-    ∙ ap (λ z. kind_entries z (body v w.address.reference w.address.block e)) k ∙ ap entries_in b
+    ∙ ap (λ z. kind_entries v.profile z (body v w.address.reference w.address.block e)) k ∙ ap (entries_in v.profile) b
 
 -- ---- groups
 -- what is needed from a directory's entry on is needed from the directory on
@@ -101,22 +101,22 @@ rise some all blocks p c (name ∷ names) w address h (ids, d, is_dir, i, named,
         o : Open all w x
         o = open_at all blocks c w x kind
 
-        dir : IsReadDirectoryAt blocks w.address (directory x.cs).identifiers
+        dir : IsReadDirectoryAt blocks w.address (directory_by all.profile x.cs).identifiers
         dir = directory_at_law all blocks c w.address x.fields x.cs x.is_entry x.has_body kind o.ends
 
         fields : dir.is_directory.file.fields ≡ x.fields
         fields = ap (λ z. z.fields) (f.only dir.is_directory.file dir.is_directory.is_file) ∙ f.fields
 
-        inside : Includes (directory_entries x.cs) d
+        inside : Includes (entries_by all.profile x.cs) d
         inside = subst (λ z. Includes (listed_entries z) d) (dir.only ids is_dir) (included (listed_entries ids) d i)
 
-        l : Splits (directory x.cs).identifiers d
-        l = split_at (directory x.cs).identifiers d inside
+        l : Splits (directory_by all.profile x.cs).identifiers d
+        l = split_at (directory_by all.profile x.cs).identifiers d inside
 
         end : ℕ
         end = descriptor_end l.front l.id
 
-        ends : EndsAt (directory x.cs).identifiers name end
+        ends : EndsAt (directory_by all.profile x.cs).identifiers name end
         ends = record { front = l.front; id = l.id; back = l.back; splits = l.splits; entry = d; is_listed = l.is_listed; named = named; is = refl }
 
         part : IsPartialBody some all w.address.reference w.address.block x.fields x.cs
@@ -130,7 +130,7 @@ rise some all blocks p c (name ∷ names) w address h (ids, d, is_dir, i, named,
           is_way = refl;
           address = w.address;
           leads = refl;
-          ids = (directory x.cs).identifiers;
+          ids = (directory_by all.profile x.cs).identifiers;
           is_directory = dir.is_directory;
           end = end;
           ends = ends;
@@ -144,17 +144,17 @@ rise some all blocks p c (name ∷ names) w address h (ids, d, is_dir, i, named,
         on : target some w.address ≡ entry x.fields → IsClearTo part.part end → Risen some all blocks w (name ∷ names) address
         on is_entry clear = by_rise (ih (whole_below all w at.0 d whole_get h))
           where
-            reached : (more : List Identifier) × ((directory part.part).identifiers ≡ l.front ++ l.id ∷ more)
+            reached : (more : List Identifier) × ((directory_by all.profile part.part).identifiers ≡ l.front ++ l.id ∷ more)
             reached = part.inside.reached l.front l.back l.id l.splits clear
 
-            there : Includes (directory_entries part.part) d
+            there : Includes (entries_by all.profile part.part) d
             there = subst (λ z. Includes (listed_entries z) d) (sym reached.1) (listed_in l.front reached.0 l.id d l.is_listed)
 
-            at : (j : ℕ) × (slice_get (directory_entries part.part) j ≡ Some d)
-            at = includes_get (directory_entries part.part) d there
+            at : (j : ℕ) × (slice_get (entries_by all.profile part.part) j ≡ Some d)
+            at = includes_get (entries_by all.profile part.part) d there
 
             get : slice_get (entries_below some w) at.0 ≡ Some d
-            get = ap (λ z. slice_get z at.0) (entries_here some w x.fields part.part is_entry x.no_loop (o.room d inside) kind part.is) ∙ at.1
+            get = ap (λ z. slice_get z at.0) (entries_here some w x.fields part.part is_entry x.no_loop (o.room d inside) kind part.is) ∙ ap (λ z. slice_get (entries_by z part.part) at.0) p.profile ∙ at.1
 
             begin : IsBeginningOf (entries_below some w) (entries_below all w)
             begin = entries_begin some all p w x

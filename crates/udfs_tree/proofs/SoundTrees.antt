@@ -15,7 +15,7 @@ use Rattle.udfs_file.specs.Addresses.{address_fault}
 use Rattle.udfs_file.specs.Bodies.{cells, body}
 use Rattle.udfs_file.specs.Complete.{AreShort, HasPartitions, IsComplete, as_cells}
 use Rattle.udfs_file.specs.Entries.{entry_of}
-use Rattle.udfs_file.specs.Fronts.{directory, directory_entries, fault_in, listed_entries}
+use Rattle.udfs_file.specs.Fronts.{directory_by, entries_by, fault_in, listed_entries}
 use Rattle.udfs_file.specs.Identifiers.{Identifier, Nothing}
 use Rattle.udfs_file.specs.Standard.{Located, IsDirectoryBody}
 use Rattle.udfs_file.specs.declared.cells.Cell.{Cell}
@@ -35,7 +35,7 @@ use Rattle.udfs_tree.specs.Sound.{IsSoundTree, LeadsOn, Path, StandOnce}
 use Rattle.udfs_tree.specs.Trees.{PartitionBlocks, TreeFile, IsFileAt, Leads}
 use Rattle.udfs_tree.proofs.Listed.{map_get}
 use Rattle.udfs_tree.proofs.WholeFiles.{IsReadDirectoryAt, directory_at_law}
-use Rattle.udfs_tree.proofs.WholeRoutes.{Goes, Open, RoutesArePaths, Step, WholeAt, entries_are, entries_by, get_includes, goes, open_at, route_law, step_inv, whole_at}
+use Rattle.udfs_tree.proofs.WholeRoutes.{Goes, Open, RoutesArePaths, Step, WholeAt, entries_are, listed_by, get_includes, goes, open_at, route_law, step_inv, whole_at}
 
 -- ---- paths
 pub leads_append : (blocks : PartitionBlocks) (a b c : LongAd) (p q : Path) → Leads blocks a p b → Leads blocks b q c → Leads blocks a (p ++ q) c
@@ -113,18 +113,18 @@ no_loop_at blocks root s w way = none_any (is_icb (icb_of w.address)) w.above (�
     by icb x false e = refl
 
 kind_whole : (blocks : PartitionBlocks) (root : LongAd) → IsSoundTree blocks root → (w : Walked) → Way blocks root w → (file : TreeFile) → IsFileAt blocks w.address file
-    → (k : Kind) → file.fields.kind ≡ k → kind_standing k (is_deep w) (as_cells file.body) ≡ Whole
-kind_whole blocks root s w way file is Directory e = ap (λ r. standing_or_fault (fault_in r) (depth_or (is_deep w) (directory_entries cs) (cells_standing cs))) read.1
+    → (k : Kind) → file.fields.kind ≡ k → kind_standing blocks.profile k (is_deep w) (as_cells file.body) ≡ Whole
+kind_whole blocks root s w way file is Directory e = ap (λ r. standing_or_fault (fault_in r) (depth_or (is_deep w) (entries_by blocks.profile cs) (cells_standing cs))) read.1
     ∙ (λ i. depth_or (is_deep w) (listed_entries (read.0 i)) (cells_whole file.body i)) ∙ shallow (is_deep w) refl (listed_entries d.0) (λ x j. j)
   where
     cs : List Cell
     cs = as_cells file.body
 
-    d : (ids : List Identifier) × IsDirectoryBody file.body ids × AreShort ids
+    d : (ids : List Identifier) × IsDirectoryBody blocks.profile file.body ids × AreShort ids
     d = s.directories w.path w.address file way.leads is e
 
-    read : ((directory cs).identifiers ≡ d.0) × ((directory cs).rest ≡ Nothing)
-    read = standard_directories_are_read file.body d.0 d.1 d.2
+    read : ((directory_by blocks.profile cs).identifiers ≡ d.0) × ((directory_by blocks.profile cs).rest ≡ Nothing)
+    read = standard_directories_are_read blocks.profile file.body d.0 d.1 d.2
 
     too_deep : (x : DirEntry) → Includes (listed_entries d.0) x → is_deep w ≡ true → ⊥
     too_deep x i deep = let l : Leads blocks root (w.path ++ x.name ∷ []) x.icb = leads_append blocks root w.address x.icb w.path (x.name ∷ []) way.leads
@@ -145,8 +145,8 @@ kind_whole blocks root s w way file is Unread e = cells_whole file.body
 whole_here : (all : View) (blocks : PartitionBlocks) → IsComplete all blocks → HasPartitions all → (root : LongAd) → IsSoundTree blocks root → (w : Walked) → Way blocks root w → (node all w).standing ≡ Whole
 unfolding node
 whole_here all blocks c has root s w way = (λ i. (node_at all w (target_back all blocks c has w.address file is i)).standing)
-    ∙ (λ i. cond (no_loop_at blocks root s w way i) Loop (body_standing file.fields.kind (is_deep w) (body_is i)))
-    ∙ kind_whole blocks root s w way file is file.fields.kind refl
+    ∙ (λ i. cond (no_loop_at blocks root s w way i) Loop (body_standing all.profile file.fields.kind (is_deep w) (body_is i)))
+    ∙ ap (λ z. kind_standing z file.fields.kind (is_deep w) (as_cells file.body)) (sym c.profile) ∙ kind_whole blocks root s w way file is file.fields.kind refl
   where
     f : (file : TreeFile) × IsFileAt blocks w.address file
     f = s.files w.path w.address way.leads
@@ -174,7 +174,7 @@ in_either (z ∷ xs) y x (inr i) = go (in_either xs y x i)
 -- the entry leads on
 steps : (all : View) (blocks : PartitionBlocks) → IsComplete all blocks → (w : Walked) → WholeAt all w → (j : ℕ) (d : DirEntry) → slice_get (entries_below all w) j ≡ Some d
     → Leads blocks w.address (d.name ∷ []) d.icb
-steps all blocks c w x j d at = ((directory x.cs).identifiers, d, r.is_directory, contained (directory_entries x.cs) d (get_includes (directory_entries x.cs) j d g.is), refl, refl)
+steps all blocks c w x j d at = ((directory_by all.profile x.cs).identifiers, d, r.is_directory, contained (entries_by all.profile x.cs) d (get_includes (entries_by all.profile x.cs) j d g.is), refl, refl)
   where
     g : Goes all w x j d
     g = goes all w x j d at
@@ -182,7 +182,7 @@ steps all blocks c w x j d at = ((directory x.cs).identifiers, d, r.is_directory
     o : Open all w x
     o = open_at all blocks c w x g.kind
 
-    r : IsReadDirectoryAt blocks w.address (directory x.cs).identifiers
+    r : IsReadDirectoryAt blocks w.address (directory_by all.profile x.cs).identifiers
     r = directory_at_law all blocks c w.address x.fields x.cs x.is_entry x.has_body g.kind o.ends
 
 way_on : (blocks : PartitionBlocks) (root : LongAd) (w : Walked) (d : DirEntry) → Way blocks root w → Leads blocks w.address (d.name ∷ []) d.icb → Way blocks root (below w d)
@@ -231,11 +231,11 @@ are_distinct all blocks c has root s route w e = go (is_deep w) refl x.fields.ki
     x : WholeAt all w
     x = whole_at all w (whole_here all blocks c has root s w way)
 
-    by : (b : Bool) (k : Kind) → is_deep w ≡ b → x.fields.kind ≡ k → AllPairs (λ d e. d.name ≢ e.name) (cond b [] (entries_by k x.cs)) → AllPairs (λ d e. d.name ≢ e.name) (entries_below all w)
+    by : (b : Bool) (k : Kind) → is_deep w ≡ b → x.fields.kind ≡ k → AllPairs (λ d e. d.name ≢ e.name) (cond b [] (listed_by all.profile k x.cs)) → AllPairs (λ d e. d.name ≢ e.name) (entries_below all w)
     by b k p q = subst (AllPairs (λ d e. d.name ≢ e.name)) (sym (entries_are all w x b k p q))
 
-    listed : x.fields.kind ≡ Directory → AllPairs (λ d e. d.name ≢ e.name) (directory_entries x.cs)
-    listed k = s.names w.path w.address (directory x.cs).identifiers way.leads
+    listed : x.fields.kind ≡ Directory → AllPairs (λ d e. d.name ≢ e.name) (entries_by all.profile x.cs)
+    listed k = s.names w.path w.address (directory_by all.profile x.cs).identifiers way.leads
         (directory_at_law all blocks c w.address x.fields x.cs x.is_entry x.has_body k (open_at all blocks c w x k).ends).is_directory
 
     go : (b : Bool) → is_deep w ≡ b → (k : Kind) → x.fields.kind ≡ k → AllPairs (λ d e. d.name ≢ e.name) (entries_below all w)

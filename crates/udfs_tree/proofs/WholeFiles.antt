@@ -4,7 +4,7 @@ use Rattle.udfs_tag.specs.declared.layouts.LongAd.{LongAd}
 use Rattle.udfs_space.specs.Places.{View}
 use Rattle.udfs_file.specs.Entries.{EntryFields, entry_of}
 use Rattle.udfs_file.specs.Bodies.{cells, body}
-use Rattle.udfs_file.specs.Fronts.{directory}
+use Rattle.udfs_file.specs.Fronts.{directory_by}
 use Rattle.udfs_file.specs.Standard.{IsBodyOf, IsDirectoryBody}
 use Rattle.udfs_file.specs.Complete.{IsComplete, as_cells, IsReadBody, IsReadDirectory}
 use Rattle.udfs_file.specs.declared.cells.Cell.{Cell}
@@ -58,18 +58,18 @@ pub record IsReadDirectoryAt (blocks : PartitionBlocks) (a : LongAd) (ids : List
   pub only : (others : List Identifier) → IsDirectoryAt blocks a others → others ≡ ids
 
 pub directory_at_law : (all : View) (blocks : PartitionBlocks) → IsComplete all blocks → (a : LongAd) (e : EntryFields) (cs : List Cell)
-    → target all a ≡ entry e → body all a.reference a.block e ≡ cells cs → e.kind ≡ Directory → (directory cs).rest ≡ Nothing
-    → IsReadDirectoryAt blocks a (directory cs).identifiers
+    → target all a ≡ entry e → body all a.reference a.block e ≡ cells cs → e.kind ≡ Directory → (directory_by all.profile cs).rest ≡ Nothing
+    → IsReadDirectoryAt blocks a (directory_by all.profile cs).identifiers
 directory_at_law all blocks w a e cs t k is_dir ends = record {
-  is_directory = record { file = f.file; is_file = f.is_file; kind = ap (λ z. z.kind) f.fields ∙ is_dir; body = subst (IsDirectoryBody f.file.body) (sym ids) d.reads };
-  only = λ others o. d.only others (subst (λ z. IsDirectoryBody z.body others) (f.only o.file o.is_file) o.body) ∙ sym ids;
+  is_directory = record { file = f.file; is_file = f.is_file; kind = ap (λ z. z.kind) f.fields ∙ is_dir; body = subst (λ z. IsDirectoryBody z f.file.body (directory_by all.profile cs).identifiers) (sym w.profile) (subst (IsDirectoryBody all.profile f.file.body) (sym ids) d.reads) };
+  only = λ others o. d.only others (subst (λ z. IsDirectoryBody all.profile z.body others) (f.only o.file o.is_file) (subst (λ z. IsDirectoryBody z o.file.body others) w.profile o.body)) ∙ sym ids;
 }
   where
     f : IsReadFile blocks a e cs
     f = entry_law all blocks w a e cs t k
 
-    d : IsReadDirectory f.file.body (directory (as_cells f.file.body)).identifiers
-    d = directory_is_read f.file.body (ap (λ z. (directory z).rest) (sym f.body) ∙ ends)
+    d : IsReadDirectory all.profile f.file.body (directory_by all.profile (as_cells f.file.body)).identifiers
+    d = directory_is_read all.profile f.file.body (ap (λ z. (directory_by all.profile z).rest) (sym f.body) ∙ ends)
 
-    ids : (directory cs).identifiers ≡ (directory (as_cells f.file.body)).identifiers
-    ids = ap (λ z. (directory z).identifiers) f.body
+    ids : (directory_by all.profile cs).identifiers ≡ (directory_by all.profile (as_cells f.file.body)).identifiers
+    ids = ap (λ z. (directory_by all.profile z).identifiers) f.body

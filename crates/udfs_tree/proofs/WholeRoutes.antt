@@ -5,9 +5,10 @@ use Rattle.std.proofs.lemmas.List.{append_assoc, append-nil, length-append}
 use Rattle.udfs_lattice.proofs.Inclusion.{Includes, included, contained}
 use Rattle.udfs_tag.specs.declared.layouts.LongAd.{LongAd}
 use Rattle.udfs_space.specs.Places.{View}
+use Rattle.udfs_volume.specs.declared.profiles.Profile.{Profile}
 use Rattle.udfs_file.specs.Entries.{EntryFields}
 use Rattle.udfs_file.specs.Bodies.{Body, cells, faulty_body, body}
-use Rattle.udfs_file.specs.Fronts.{directory, directory_entries, listed_entries, fault_in}
+use Rattle.udfs_file.specs.Fronts.{directory_by, entries_by, listed_entries, fault_in}
 use Rattle.udfs_file.specs.Complete.{IsComplete}
 use Rattle.udfs_file.specs.declared.cells.Cell.{Cell}
 use Rattle.udfs_file.specs.declared.directories.DirEntry.{DirEntry}
@@ -33,7 +34,7 @@ pub record WholeAt (all : View) (w : Walked) : Type 0 where
   pub no_loop : is_loop w ≡ false
   pub cs : List Cell
   pub has_body : body all w.address.reference w.address.block fields ≡ cells cs
-  pub standing : kind_standing fields.kind (is_deep w) cs ≡ Whole
+  pub standing : kind_standing all.profile fields.kind (is_deep w) cs ≡ Whole
 
 pub whole_at : (all : View) (w : Walked) → (node all w).standing ≡ Whole → WholeAt all w
 unfolding node
@@ -42,11 +43,11 @@ whole_at all w e = by_target (target all w.address) refl e
     deep : Bool
     deep = is_deep w
 
-    by_body : (f : EntryFields) → target all w.address ≡ entry f → is_loop w ≡ false → (b : Body) → body all w.address.reference w.address.block f ≡ b → body_standing f.kind deep b ≡ Whole → WholeAt all w
+    by_body : (f : EntryFields) → target all w.address ≡ entry f → is_loop w ≡ false → (b : Body) → body all w.address.reference w.address.block f ≡ b → body_standing all.profile f.kind deep b ≡ Whole → WholeAt all w
     by_body f t l (cells cs) q s = record { fields = f; is_entry = t; no_loop = l; cs = cs; has_body = q; standing = s }
     by_body f t l (faulty_body x) q s = absurd (let z : ⊥ = cc in z)
 
-    by_loop : (f : EntryFields) → target all w.address ≡ entry f → (l : Bool) → is_loop w ≡ l → cond l Loop (body_standing f.kind deep (body all w.address.reference w.address.block f)) ≡ Whole → WholeAt all w
+    by_loop : (f : EntryFields) → target all w.address ≡ entry f → (l : Bool) → is_loop w ≡ l → cond l Loop (body_standing all.profile f.kind deep (body all w.address.reference w.address.block f)) ≡ Whole → WholeAt all w
     by_loop f t true l s = absurd (let z : ⊥ = cc in z)
     by_loop f t false l s = by_body f t l (body all w.address.reference w.address.block f) refl s
 
@@ -61,48 +62,48 @@ file_at all blocks h w x = entry_law all blocks h w.address x.fields x.cs x.is_e
 
 -- a whole directory has no fault, and its path is not too long for its entries
 pub record Open (all : View) (w : Walked) (x : WholeAt all w) : Type 0 where
-  pub ends : (directory x.cs).rest ≡ Nothing
-  pub room : (d : DirEntry) → Includes (directory_entries x.cs) d → is_deep w ≡ false
+  pub ends : (directory_by all.profile x.cs).rest ≡ Nothing
+  pub room : (d : DirEntry) → Includes (entries_by all.profile x.cs) d → is_deep w ≡ false
 
 pub open_at : (all : View) (blocks : PartitionBlocks) → IsComplete all blocks → (w : Walked) (x : WholeAt all w) → x.fields.kind ≡ Directory → Open all w x
-open_at all blocks h w x k = record { ends = ends (directory x.cs).rest refl; room = λ d i. room (is_deep w) (directory_entries x.cs) d i depth }
+open_at all blocks h w x k = record { ends = ends (directory_by all.profile x.cs).rest refl; room = λ d i. room (is_deep w) (entries_by all.profile x.cs) d i depth }
   where
     inner : Standing
-    inner = depth_or (is_deep w) (directory_entries x.cs) (cells_standing x.cs)
+    inner = depth_or (is_deep w) (entries_by all.profile x.cs) (cells_standing x.cs)
 
-    stands : standing_or_fault (fault_in (directory x.cs).rest) inner ≡ Whole
-    stands = ap (λ z. kind_standing z (is_deep w) x.cs) (sym k) ∙ x.standing
+    stands : standing_or_fault (fault_in (directory_by all.profile x.cs).rest) inner ≡ Whole
+    stands = ap (λ z. kind_standing all.profile z (is_deep w) x.cs) (sym k) ∙ x.standing
 
     f : IsReadFile blocks w.address x.fields x.cs
     f = file_at all blocks h w x
 
-    ends : (r : Rest) → (directory x.cs).rest ≡ r → (directory x.cs).rest ≡ Nothing
+    ends : (r : Rest) → (directory_by all.profile x.cs).rest ≡ r → (directory_by all.profile x.cs).rest ≡ Nothing
     ends Nothing e = e
-    ends (Stopped n) e = absurd (complete_directory_never_stops f.file.body n (ap (λ z. (directory z).rest) (sym f.body) ∙ e))
+    ends (Stopped n) e = absurd (complete_directory_never_stops all.profile f.file.body n (ap (λ z. (directory_by all.profile z).rest) (sym f.body) ∙ e))
     ends (Wrong y) e = absurd (let t : Fault y ≡ Whole = sym (ap (λ r. standing_or_fault (fault_in r) inner) e) ∙ stands in let z : ⊥ = cc in z)
 
     depth : inner ≡ Whole
-    depth = sym (ap (λ r. standing_or_fault (fault_in r) inner) (ends (directory x.cs).rest refl)) ∙ stands
+    depth = sym (ap (λ r. standing_or_fault (fault_in r) inner) (ends (directory_by all.profile x.cs).rest refl)) ∙ stands
 
     room : (b : Bool) (es : List DirEntry) (d : DirEntry) → Includes es d → depth_or b es (cells_standing x.cs) ≡ Whole → b ≡ false
     room true [] d i q = absurd i
     room true (e ∷ es) d i q = absurd (let z : ⊥ = cc in z)
     room false es d i q = refl
 
-abbrev pub entries_by : Kind → List Cell → List DirEntry
-entries_by Directory cs = directory_entries cs
-entries_by File cs = []
-entries_by Link cs = []
-entries_by (Other t) cs = []
-entries_by Unread cs = []
+abbrev pub listed_by : Profile → Kind → List Cell → List DirEntry
+listed_by profile Directory cs = entries_by profile cs
+listed_by profile File cs = []
+listed_by profile Link cs = []
+listed_by profile (Other t) cs = []
+listed_by profile Unread cs = []
 
-pub entries_are : (all : View) (w : Walked) (x : WholeAt all w) (b : Bool) (k : Kind) → is_deep w ≡ b → x.fields.kind ≡ k → entries_below all w ≡ cond b [] (entries_by k x.cs)
+pub entries_are : (all : View) (w : Walked) (x : WholeAt all w) (b : Bool) (k : Kind) → is_deep w ≡ b → x.fields.kind ≡ k → entries_below all w ≡ cond b [] (listed_by all.profile k x.cs)
 unfolding entries_below
 entries_are all w x b k eb ek = (λ i. cond (x.no_loop i || eb i) [] (target_entries all w.address (x.is_entry i)))
-    ∙ ap (λ z. cond b [] (kind_entries z (body all w.address.reference w.address.block x.fields))) ek ∙ ap (cond b []) (by k)
+    ∙ ap (λ z. cond b [] (kind_entries all.profile z (body all w.address.reference w.address.block x.fields))) ek ∙ ap (cond b []) (by k)
   where
-    by : (k : Kind) → kind_entries k (body all w.address.reference w.address.block x.fields) ≡ entries_by k x.cs
-    by Directory = ap entries_in x.has_body
+    by : (k : Kind) → kind_entries all.profile k (body all w.address.reference w.address.block x.fields) ≡ listed_by all.profile k x.cs
+    by Directory = ap (entries_in all.profile) x.has_body
     by File = refl
     by Link = refl
     by (Other t) = refl
@@ -111,12 +112,12 @@ entries_are all w x b k eb ek = (λ i. cond (x.no_loop i || eb i) [] (target_ent
 -- An entry to which a route goes on.
 pub record Goes (all : View) (w : Walked) (x : WholeAt all w) (j : ℕ) (d : DirEntry) : Type 0 where
   pub kind : x.fields.kind ≡ Directory
-  pub is : slice_get (directory_entries x.cs) j ≡ Some d
+  pub is : slice_get (entries_by all.profile x.cs) j ≡ Some d
 
 pub goes : (all : View) (w : Walked) (x : WholeAt all w) (j : ℕ) (d : DirEntry) → slice_get (entries_below all w) j ≡ Some d → Goes all w x j d
 goes all w x j d e = go (is_deep w) refl x.fields.kind refl
   where
-    at : (b : Bool) (k : Kind) → is_deep w ≡ b → x.fields.kind ≡ k → slice_get (cond b [] (entries_by k x.cs)) j ≡ Some d
+    at : (b : Bool) (k : Kind) → is_deep w ≡ b → x.fields.kind ≡ k → slice_get (cond b [] (listed_by all.profile k x.cs)) j ≡ Some d
     at b k eb ek = ap (λ z. slice_get z j) (sym (entries_are all w x b k eb ek)) ∙ e
 
     go : (b : Bool) → is_deep w ≡ b → (k : Kind) → x.fields.kind ≡ k → Goes all w x j d
@@ -173,12 +174,12 @@ down all blocks c (j ∷ js) w end h e = go (step_inv all w j js end e) (whole_a
     go s x ih = let d : DirEntry = s.entry in
         let g : Goes all w x j d = goes all w x j d s.at in
         let o : Open all w x = open_at all blocks c w x g.kind in
-        let r : IsReadDirectoryAt blocks w.address (directory x.cs).identifiers = directory_at_law all blocks c w.address x.fields x.cs x.is_entry x.has_body g.kind o.ends in
+        let r : IsReadDirectoryAt blocks w.address (directory_by all.profile x.cs).identifiers = directory_at_law all blocks c w.address x.fields x.cs x.is_entry x.has_body g.kind o.ends in
         let t : Down blocks (below w d) end = ih d (whole_below all w j d s.at h) s.then in
         record {
           names = d.name ∷ t.names;
           path = t.path ∙ append_assoc w.path (d.name ∷ []) t.names;
-          leads = ((directory x.cs).identifiers, d, r.is_directory, contained (directory_entries x.cs) d (get_includes (directory_entries x.cs) j d g.is), refl, t.leads);
+          leads = ((directory_by all.profile x.cs).identifiers, d, r.is_directory, contained (entries_by all.profile x.cs) d (get_includes (entries_by all.profile x.cs) j d g.is), refl, t.leads);
         }
 
 -- a route for names
@@ -211,14 +212,14 @@ up all blocks c (name ∷ names) w address h (ids, d, is_dir, i, named, leads) =
         o : Open all w x
         o = open_at all blocks c w x kind
 
-        r : IsReadDirectoryAt blocks w.address (directory x.cs).identifiers
+        r : IsReadDirectoryAt blocks w.address (directory_by all.profile x.cs).identifiers
         r = directory_at_law all blocks c w.address x.fields x.cs x.is_entry x.has_body kind o.ends
 
-        inside : Includes (directory_entries x.cs) d
+        inside : Includes (entries_by all.profile x.cs) d
         inside = subst (λ z. Includes (listed_entries z) d) (r.only ids is_dir) (included (listed_entries ids) d i)
 
-        at : (j : ℕ) × (slice_get (directory_entries x.cs) j ≡ Some d)
-        at = includes_get (directory_entries x.cs) d inside
+        at : (j : ℕ) × (slice_get (entries_by all.profile x.cs) j ≡ Some d)
+        at = includes_get (entries_by all.profile x.cs) d inside
 
         get : slice_get (entries_below all w) at.0 ≡ Some d
         get = ap (λ z. slice_get z at.0) (entries_are all w x false Directory (o.room d inside) kind) ∙ at.1

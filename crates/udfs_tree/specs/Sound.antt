@@ -31,7 +31,7 @@ pub record IsSoundTree (blocks : PartitionBlocks) (root : LongAd) : Type 0 where
   pub files : (path : Path) (a : LongAd) → Leads blocks root path a → (file : TreeFile) × IsFileAt blocks a file
   -- the body of each directory is a list of descriptors of at most 2048 bytes
   pub directories : (path : Path) (a : LongAd) (file : TreeFile) → Leads blocks root path a → IsFileAt blocks a file → file.fields.kind ≡ Directory
-      → (ids : List Identifier) × IsDirectoryBody file.body ids × AreShort ids
+      → (ids : List Identifier) × IsDirectoryBody blocks.profile file.body ids × AreShort ids
   -- no directory is inside itself
   pub no_loop : (path : Path) (a b : LongAd) (name : List ℕ) (more : Path) → Leads blocks root path a → Leads blocks a (name ∷ more) b → icb_of b ≢ icb_of a
   -- at most 64 names lead anywhere

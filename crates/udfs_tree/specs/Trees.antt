@@ -15,7 +15,7 @@ use Rattle.udfs_file.specs.declared.directories.DirEntry.{DirEntry}
 use Rattle.udfs_file.specs.Identifiers.{Identifier}
 use Rattle.udfs_file.specs.declared.faults.Kind.TheVariants.{Directory}
 
--- the blocks of the partitions, by partition reference and logical block, and how a last extent is read
+-- the blocks of the partitions, by partition reference and logical block, and the rules by which a last extent and tags are read
 abbrev pub PartitionBlocks : Type 0
 PartitionBlocks = standard.PartitionBlocks
 
@@ -39,7 +39,7 @@ pub record IsDirectoryAt (blocks : PartitionBlocks) (a : LongAd) (ids : List Ide
   pub file : TreeFile
   pub is_file : IsFileAt blocks a file
   pub kind : file.fields.kind ≡ Directory
-  pub body : IsDirectoryBody file.body ids
+  pub body : IsDirectoryBody blocks.profile file.body ids
 
 -- a path is a list of names; each is that of an entry of the directory before it
 abbrev pub Leads : PartitionBlocks → LongAd → List (List ℕ) → LongAd → Type 0

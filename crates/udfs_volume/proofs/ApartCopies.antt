@@ -1,5 +1,5 @@
 -- The known copies of the sequence of a lawful layout do not differ in what is read of them.
-use Rattle.std.proofs.Common.{◌≡◌, refl, sym, ◌∙◌, ap, subst, inl, inr, ◌⊎◌, ℕ, ◌+◌, ◌-◌, ◌/◌, ◌<◌, ◌≤◌, Bool, true, false, not, ◌&&◌, ◌||◌, nat_eq, ◌∷◌, drop, arith}
+use Rattle.std.proofs.Common.{◌≡◌, refl, sym, ◌∙◌, ap, subst, inl, inr, ◌⊎◌, ℕ, ◌+◌, ◌-◌, ◌/◌, ◌<◌, ◌≤◌, Bool, true, false, not, ◌&&◌, ◌||◌, cond, nat_eq, ◌∷◌, drop, arith}
 use Rattle.std.specs.Prelude.{zero, suc}
 use Rattle.std.specs.List.{list_all, list_any, range_with_len}
 use Rattle.std.specs.Str.{bytes_eq}
@@ -20,22 +20,20 @@ use Rattle.udfs_volume.proofs.Needed.{goes_needed}
 use Rattle.udfs_volume.proofs.Positions.{PositionIs, same, neither, position_lem}
 
 -- ---- the copies of one position
-no_difference : (s1 s2 l1 l2 i b : Bool) → s2 ≡ s1 → (s1 ≡ true → l2 ≡ l1) → (s1 ≡ true → i ≡ true) → (s1 ≡ true → l1 ≡ true → b ≡ true)
-    → (((s1 && l1) || (s2 && l2)) && not (s1 && s2 && i && b)) ≡ false
-no_difference false false l1 l2 i b s l id c = refl
-no_difference false true l1 l2 i b s l id c = absurd (let z : ⊥ = cc in z)
-no_difference true false l1 l2 i b s l id c = absurd (let z : ⊥ = cc in z)
-no_difference true true false false i b s l id c = refl
-no_difference true true false true i b s l id c = absurd (let q : true ≡ false = l refl in let z : ⊥ = cc in z)
-no_difference true true true l2 true true s l id c = refl
-no_difference true true true l2 true false s l id c = absurd (let q : false ≡ true = c refl refl in let z : ⊥ = cc in z)
-no_difference true true true l2 false b s l id c = absurd (let q : false ≡ true = id refl in let z : ⊥ = cc in z)
+no_difference : (s1 s2 l i b : Bool) → s2 ≡ s1 → (s1 ≡ true → i ≡ true) → (s1 ≡ true → l ≡ true → b ≡ true)
+    → not (cond s1 (s2 && (i && (not l || b))) (not s2)) ≡ false
+no_difference false false l i b s id c = refl
+no_difference false true l i b s id c = absurd (let z : ⊥ = cc in z)
+no_difference true false l i b s id c = absurd (let z : ⊥ = cc in z)
+no_difference true true l false b s id c = absurd (let q : false ≡ true = id refl in let z : ⊥ = cc in z)
+no_difference true true false true b s id c = refl
+no_difference true true true true true s id c = refl
+no_difference true true true true false s id c = absurd (let q : false ≡ true = c refl refl in let z : ⊥ = cc in z)
 
 same_contents : (V : Volume) (m r : ℕ) → SaysTheSame V m r → contents_differ (V m) m (V r) r ≡ false
-same_contents V m r s = no_difference (is_sound (V m) m) (is_sound (V r) r) (is_of_layout (identifier (V m))) (is_of_layout (identifier (V r)))
+same_contents V m r s = no_difference (is_sound (V m) m) (is_sound (V r) r) (is_of_layout (identifier (V m)))
     (nat_eq (identifier (V m)) (identifier (V r))) (bytes_eq (drop 16 (V m)) (drop 16 (V r)))
     (sym s.soundness)
-    (λ p. ap is_of_layout (sym (s.identifiers p)))
     (λ p. eq-eqb (identifier (V m)) (identifier (V r)) (s.identifiers p))
     (λ p q. ap (bytes_eq (drop 16 (V m))) (sym (s.contents p q)) ∙ same_refl (drop 16 (V m)))
 

@@ -6,8 +6,7 @@ use Rattle.std.specs.Str.{bytes_eq}
 use Rattle.std.proofs.lemmas.Bool.{leb-true, eqb-true}
 use Rattle.std.proofs.lemmas.List.{length-map}
 use Rattle.std.proofs.lemmas.List.FromFn.{length-map-range_with_len}
-use Rattle.udfs_volume.specs.Sequence.{Bytes, Descriptor, sequence_by}
-use Rattle.udfs_lattice.specs.Volumes.{Blocks}
+use Rattle.udfs_volume.specs.Sequence.{Bytes, Descriptor}
 use Rattle.udfs_lattice.proofs.Inclusion.{Includes, included}
 use Rattle.udfs_tag.specs.Fields.{uint8_at, uint16_at, uint32_at, long_ad_at, part, regid_at, zero_filled}
 use Rattle.udfs_tag.specs.Faults.{is_within}
@@ -18,7 +17,7 @@ use Rattle.udfs_volume.specs.declared.profiles.Profile.TheVariants.{Strict, Wide
 use Rattle.udfs_volume.specs.Profiles.{accepts_packet, packet_lengths}
 use Rattle.udfs_volume.specs.declared.faults.VolumeFault.{VolumeFault}
 use Rattle.udfs_volume.specs.declared.faults.VolumeFault.TheVariants.{Domain, BlockSize, MapCount, MapKind, Contents, PartitionRange}
-use Rattle.udfs_volume.specs.Layout.{Layout, Partition, PartitionMap, type1, sparable, NumberedMap, Described, bp, blocks_in, is_type1, is_sparable, are_tables, table_places, read_map, map_size, before_maps, read_maps, repeats_kind, unless_repeated, map_count, the_maps, volume_fault, partition, before_described, has_revision, described, has_contents, partition_of, placed_of, is_in_range, partitions_fault, laid_out, with_maps, with_volume, logical_volume, layout_of, layout_by}
+use Rattle.udfs_volume.specs.Layout.{Layout, Partition, PartitionMap, type1, sparable, NumberedMap, Described, bp, blocks_in, is_type1, is_sparable, are_tables, table_places, read_map, map_size, before_maps, read_maps, repeats_kind, unless_repeated, map_count, the_maps, volume_fault, partition, before_described, has_revision, described, has_contents, partition_of, placed_of, is_in_range, partitions_fault, laid_out, with_maps, with_volume, logical_volume, layout_of}
 use Rattle.udfs_volume.specs.Laws.{AreBounded, IsBoundedMap, IsBoundedPartition, IsBounded, LayoutBounds}
 use Rattle.udfs_volume.proofs.Known.{both}
 
@@ -279,8 +278,3 @@ by_volume profile last ds (Some lv) l e = let q : (v : Descriptor) × (unless_fa
 pub layout_bounds : LayoutBounds
 unfolding layout_of
 layout_bounds profile last ds l e = by_volume profile last ds (logical_volume ds) l e
-
-pub layout_is_bounded : (profile : Profile) (T : Blocks) (last : ℕ) (l : Layout) → layout_by profile T last ≡ found l → IsBounded last l
-unfolding layout_by
-layout_is_bounded profile T last l e = let q : (ds : List Descriptor) × (sequence_by profile T last ≡ found ds) × (layout_of profile last ds ≡ found l) = and_then-found (sequence_by profile T last) (layout_of profile last) l e in
-    layout_bounds profile last q.0 l q.2

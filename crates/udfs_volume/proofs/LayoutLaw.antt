@@ -1,4 +1,4 @@
--- Over a lawful volume that agrees with the table, the layout is the volume's, or a group is unread.
+-- Over a lawful volume that agrees with the table, the main sequence gives what it gives of the volume, or a group is unread.
 use Rattle.std.proofs.Common.{◌≡◌, refl, sym, ◌∙◌, ap, subst, inl, inr, ◌⊎◌, ℕ, ◌+◌, ◌/◌, ◌%◌, ◌<◌, ◌≤◌, Bool, true, false, not, List, [], ◌∷◌, map, cond, ◌&&◌, arith, Some, None, nat_eq, nat_le}
 use Rattle.std.specs.Prelude.{zero, suc, Contains}
 use Rattle.std.specs.List.{range_with_len}
@@ -6,7 +6,7 @@ use Rattle.std.proofs.lemmas.Bool.{leb-true, leb-false}
 use Rattle.udfs_lattice.specs.States.{is_known}
 use Rattle.udfs_volume.specs.declared.anchors.AnchorExtents.{AnchorExtents}
 use Rattle.udfs_volume.specs.Sequence.{Bytes, extents_of, anchor, anchor_places, anchor_or, first_anchor, are_extents_by, fits_to, is_extent, shared, shorter, sequence_by, sequence_at, Position, unread, position, positions, goes_on, read_positions, ended_by}
-use Rattle.udfs_lattice.specs.Volumes.{Blocks, ascending, not_known, Volume, Agrees, complete, IsKnownAt, IsUnread}
+use Rattle.udfs_lattice.specs.Volumes.{Blocks, ascending, not_known, Volume, IsVolume, Agrees, complete, IsKnownAt, IsUnread}
 use Rattle.udfs_lattice.proofs.Inclusion.{Includes, included, contained}
 use Rattle.udfs_tag.specs.Fields.{part, extent_ad_at}
 use Rattle.udfs_tag.specs.Tags.{is_valid}
@@ -15,8 +15,8 @@ use Rattle.udfs_volume.specs.declared.profiles.Profile.{Profile}
 use Rattle.udfs_volume.specs.declared.profiles.Profile.TheVariants.{Strict, Wide}
 use Rattle.udfs_volume.specs.Answers.{found, holes, faulty, and_then}
 use Rattle.udfs_volume.specs.declared.faults.VolumeFault.TheVariants.{Extents}
-use Rattle.udfs_volume.specs.Layout.{Layout, layout_by, layout_of}
-use Rattle.udfs_volume.specs.Laws.{LayoutLawBy, IsLawfulLayoutBy, IsThroughEnd, IsPair, IsSequenceGroup, valid_anchors, IsAnswerOf, the_same}
+use Rattle.udfs_volume.specs.Layout.{Layout, layout_of, main_layout_by}
+use Rattle.udfs_volume.specs.Laws.{IsLawfulLayoutBy, IsThroughEnd, IsPair, IsSequenceGroup, valid_anchors, IsAnswerOf, the_same}
 use Rattle.udfs_lattice.proofs.PublicLaws.{ascending_contains, complete_agrees}
 use Rattle.udfs_volume.proofs.Known.{complete-known, true_false, both, some_in, Includes-filter, Includes-from_filter, FirstAnchor, one_known, none_known, first_anchor_lem}
 use Rattle.udfs_volume.proofs.Needed.{needed, goes_needed}
@@ -26,13 +26,13 @@ use Rattle.udfs_volume.specs.Laws.IsAnswerOf.{unread as unread_answer}
 
 -- Two rows of positions, p as known and q complete, from c on: at each place through the stop of q they are the same,
 -- or p is unread there.
-abbrev Through : (ℕ → Position) → ℕ → ℕ → ℕ → Type 0
+abbrev pub Through : (ℕ → Position) → ℕ → ℕ → ℕ → Type 0
 Through q c n i = (c ≤ i) × (i < c + n) × ((j : ℕ) → c ≤ j → j < i → goes_on (q j) ≡ true)
 
-abbrev Alike : (p q : ℕ → Position) (copies : ℕ → List ℕ) (K U : ℕ → Type 0) → ℕ → Type 0
+abbrev pub Alike : (p q : ℕ → Position) (copies : ℕ → List ℕ) (K U : ℕ → Type 0) → ℕ → Type 0
 Alike p q copies K U i = ((p i ≡ q i) × K i) ⊎ ((p i ≡ unread (copies i)) × U i)
 
-data ReadsAlike (p q : ℕ → Position) (copies : ℕ → List ℕ) (K U : ℕ → Type 0) (c n : ℕ) : Type 0 where
+pub data ReadsAlike (p q : ℕ → Position) (copies : ℕ → List ℕ) (K U : ℕ → Type 0) (c n : ℕ) : Type 0 where
   all_same : read_positions (map p (range_with_len c n)) ≡ read_positions (map q (range_with_len c n)) → ((i : ℕ) → Through q c n i → K i) → ReadsAlike p q copies K U c n
   one_unread : (i : ℕ) → Through q c n i → read_positions (map p (range_with_len c n)) ≡ holes (copies i) → U i → ReadsAlike p q copies K U c n
 
@@ -52,7 +52,7 @@ later_through q c n i g (l, h, all) = (omega arith, omega arith, λ j lj hj. go 
 eq_or_later : (c j : ℕ) → c ≤ j → (c ≡ j) ⊎ (c < j)
 eq_or_later c j h = grind arith
 
-reads_alike : (p q : ℕ → Position) (copies : ℕ → List ℕ) (K U : ℕ → Type 0) (c n : ℕ)
+pub reads_alike : (p q : ℕ → Position) (copies : ℕ → List ℕ) (K U : ℕ → Type 0) (c n : ℕ)
     → ((i : ℕ) → Through q c n i → Alike p q copies K U i) → ReadsAlike p q copies K U c n
 reads_alike p q copies K U c zero alike = all_same refl (λ i t. absurd (let l : c ≤ i = t.0 in let h : i < c + 0 = t.1 in let no : ⊥ = omega arith in no))
 reads_alike p q copies K U c (suc n) alike = here (λ g. reads_alike p q copies K U (c + 1) n (λ i t. alike i (later_through q c n i g t))) (alike c (first_through q c n))
@@ -120,7 +120,7 @@ is_valid_one : (V : Volume) (N n : ℕ) → Includes (anchor_places N) n → is_
 is_valid_one V N n h v = Includes-filter (λ x. is_valid (V x) x 2) (anchor_places N) n h v
 
 -- the anchor of the complete table
-complete_anchor : (profile : Profile) (V : Volume) (N : ℕ) → 513 ≤ N → IsLawfulLayoutBy profile V N
+pub complete_anchor : (profile : Profile) (V : Volume) (N : ℕ) → 513 ≤ N → IsLawfulLayoutBy profile V N
     → (n : ℕ) × Includes (valid_anchors V N) n × (anchor (complete V N) N ≡ found (extents_of (V n)))
 unfolding anchor
 complete_anchor profile V N h lw = go (first_anchor_lem (complete V N) V N (complete_agrees V N) (anchor_places N)) (some_in (valid_anchors V N) lw.anchored)
@@ -134,8 +134,8 @@ complete_anchor profile V N h lw = go (first_anchor_lem (complete V N) V N (comp
 -- where no valid anchor is known, the places that are not known are listed
 no_anchor : (profile : Profile) (M : Blocks) (V : Volume) (N : ℕ) → IsLawfulLayoutBy profile V N → first_anchor M (anchor_places N) ≡ None
     → ((n : ℕ) → Includes (anchor_places N) n → is_valid (V n) n 2 ≡ true → is_known (M n) ≡ false)
-    → IsAnswerOf M (valid_anchors V N) (anchor_places N) (IsSequenceGroup V N) (layout_by profile M N) (layout_by profile (complete V N) N)
-unfolding layout_by sequence_by anchor
+    → IsAnswerOf M (valid_anchors V N) (anchor_places N) (IsSequenceGroup V N) (main_layout_by profile M N) (main_layout_by profile (complete V N) N)
+unfolding main_layout_by sequence_by anchor
 no_anchor profile M V N lw f all = unread_answer (not_known M (anchor_places N))
     (ap (λ x. and_then (and_then x (sequence_at profile M N)) (layout_of profile N)) (ap (λ o. anchor_or o (not_known M (anchor_places N))) f ∙ anchor_or-none (not_known M (anchor_places N)) one.0 (in_listed one.0 one.1)))
     (record {
@@ -164,8 +164,8 @@ found_same x y e = cc
 
 -- the extents of a volume that has a layout keep the rules
 pub are_extents_of : (profile : Profile) (V : Volume) (N : ℕ) (e : AnchorExtents) (l : Layout) → anchor (complete V N) N ≡ found e
-    → layout_by profile (complete V N) N ≡ found l → are_extents_by profile N e ≡ true
-unfolding layout_by sequence_by
+    → main_layout_by profile (complete V N) N ≡ found l → are_extents_by profile N e ≡ true
+unfolding main_layout_by sequence_by
 are_extents_of profile V N e l q h = go (are_extents_by profile N e) refl
   where
     go : (b : Bool) → are_extents_by profile N e ≡ b → are_extents_by profile N e ≡ true
@@ -194,8 +194,8 @@ main_fits Wide N e h = let s : shorter e / 2048 ≤ e.main.length / 2048 = short
 
 -- with the anchor's extents, the layout is what the positions give
 pub layout_at : (profile : Profile) (T : Blocks) (N : ℕ) (e : AnchorExtents) → anchor T N ≡ found e → are_extents_by profile N e ≡ true
-    → layout_by profile T N ≡ and_then (read_positions (positions T (shared e))) (layout_of profile N)
-unfolding layout_by sequence_by
+    → main_layout_by profile T N ≡ and_then (read_positions (positions T (shared e))) (layout_of profile N)
+unfolding main_layout_by sequence_by
 layout_at profile T N e q b = ap (λ x. and_then (and_then x (sequence_at profile T N)) (layout_of profile N)) q
     ∙ ap (λ c. and_then (cond c (read_positions (positions T (shared e))) (faulty Extents)) (layout_of profile N)) b
 
@@ -216,25 +216,25 @@ unread_pair M e i u n c = go (included (pair e i) n c)
     go (inr (inl p)) = subst (λ x. is_known (M x) ≡ false) p u.1
     go (inr (inr x)) = absurd x
 
-abbrev row : Blocks → AnchorExtents → ℕ → Position
+abbrev pub row : Blocks → AnchorExtents → ℕ → Position
 row T e i = position T (e.main.block + i) (e.reserve.block + i)
 
-abbrev count : AnchorExtents → ℕ
+abbrev pub count : AnchorExtents → ℕ
 count e = shorter e / 2048
 
 -- what the layout needs of each position
-abbrev needs : Blocks → AnchorExtents → ℕ → Position
+abbrev pub needs : Blocks → AnchorExtents → ℕ → Position
 needs T e i = needed (row T e i)
 
-through_end : (V : Volume) (N : ℕ) (e : AnchorExtents) (i : ℕ) → Through (needs (complete V N) e) 0 (count e) i → IsThroughEnd V N e i
+pub through_end : (V : Volume) (N : ℕ) (e : AnchorExtents) (i : ℕ) → Through (needs (complete V N) e) 0 (count e) i → IsThroughEnd V N e i
 through_end V N e i (l, h, all) = record { inside = omega arith; before = λ j x. sym (goes_needed (row (complete V N) e j)) ∙ all j (omega arith) x }
 
 from_through_end : (V : Volume) (N : ℕ) (e : AnchorExtents) (i : ℕ) → IsThroughEnd V N e i → Through (needs (complete V N) e) 0 (count e) i
 from_through_end V N e i t = (omega arith, (let h : i < shorter e / 2048 = t.inside in omega arith), λ j l x. goes_needed (row (complete V N) e j) ∙ t.before j x)
 
 -- with the anchor's extents, the layout is what the positions give, by what it needs of them
-needed_at : (profile : Profile) (T : Blocks) (N : ℕ) (e : AnchorExtents) → anchor T N ≡ found e → are_extents_by profile N e ≡ true
-    → layout_by profile T N ≡ and_then (read_positions (map (needs T e) (range_with_len 0 (count e)))) (layout_of profile N)
+pub needed_at : (profile : Profile) (T : Blocks) (N : ℕ) (e : AnchorExtents) → anchor T N ≡ found e → are_extents_by profile N e ≡ true
+    → main_layout_by profile T N ≡ and_then (read_positions (map (needs T e) (range_with_len 0 (count e)))) (layout_of profile N)
 needed_at profile T N e q b = layout_at profile T N e q b ∙ sym (layout_by_needed profile N (read_positions (positions T (shared e))))
     ∙ sym (ap (λ x. and_then x (layout_of profile N)) (reads_needed (row T e) (range_with_len 0 (count e))))
 
@@ -260,7 +260,7 @@ answer_with : (profile : Profile) (M : Blocks) (V : Volume) (N : ℕ) → IsLawf
     → anchor (complete V N) N ≡ found e → anchor M N ≡ found e → are_extents_by profile N e ≡ true
     → IsHere M (valid_anchors V N)
     → ReadsAlike (needs M e) (needs (complete V N) e) (λ i. ascending (pair e i)) (λ i. IsHere M (pair e i)) (AreUnread M e) 0 (count e)
-    → IsAnswerOf M (valid_anchors V N) (anchor_places N) (IsSequenceGroup V N) (layout_by profile M N) (layout_by profile (complete V N) N)
+    → IsAnswerOf M (valid_anchors V N) (anchor_places N) (IsSequenceGroup V N) (main_layout_by profile M N) (main_layout_by profile (complete V N) N)
 answer_with profile M V N lw e q r b here (all_same eq all) = the_same
     (needed_at profile M N e r b ∙ ap (λ x. and_then x (layout_of profile N)) eq ∙ sym (needed_at profile (complete V N) N e q b)) groups
   where
@@ -304,12 +304,14 @@ anchor_of_lawful profile M V N h lw a e p = go (complete_anchor profile V N h lw
     go (n, i, q) (one_known m im vm km fm) = q ∙ sym (found_anchor M V N n m fm (lw.anchors m n (contained (valid_anchors V N) m (is_valid_one V N m im vm)) (contained (valid_anchors V N) n i))) ∙ p
     go (n, i, q) (none_known f all) = absurd (none_of e (not_known M (anchor_places N)) (sym (ap (λ o. anchor_or o (not_known M (anchor_places N))) f) ∙ p))
 
-pub layout_law : (profile : Profile) → LayoutLawBy profile
-layout_law profile M V N hv lw a = by_complete (complete_anchor profile V N hv.from lw) (first_anchor_lem M V N a (anchor_places N))
+pub main_law : (profile : Profile) (M : Blocks) (V : Volume) (N : ℕ) → IsVolume V N → IsLawfulLayoutBy profile V N → Agrees M V N
+    → (l : Layout) → main_layout_by profile (complete V N) N ≡ found l
+    → IsAnswerOf M (valid_anchors V N) (anchor_places N) (IsSequenceGroup V N) (main_layout_by profile M N) (main_layout_by profile (complete V N) N)
+main_law profile M V N hv lw a l laid = by_complete (complete_anchor profile V N hv.from lw) (first_anchor_lem M V N a (anchor_places N))
   where
     by_complete : (n : ℕ) × Includes (valid_anchors V N) n × (anchor (complete V N) N ≡ found (extents_of (V n))) → FirstAnchor M V (anchor_places N)
-        → IsAnswerOf M (valid_anchors V N) (anchor_places N) (IsSequenceGroup V N) (layout_by profile M N) (layout_by profile (complete V N) N)
-    by_complete (n, i, q) (one_known m im vm km fm) = let b : are_extents_by profile N (extents_of (V n)) ≡ true = are_extents_of profile V N (extents_of (V n)) lw.laid_out.0 q lw.laid_out.1 in
+        → IsAnswerOf M (valid_anchors V N) (anchor_places N) (IsSequenceGroup V N) (main_layout_by profile M N) (main_layout_by profile (complete V N) N)
+    by_complete (n, i, q) (one_known m im vm km fm) = let b : are_extents_by profile N (extents_of (V n)) ≡ true = are_extents_of profile V N (extents_of (V n)) l q laid in
         let va : Includes (valid_anchors V N) m = is_valid_one V N m im vm in
         answer_with profile M V N lw (extents_of (V n)) q (found_anchor M V N n m fm (lw.anchors m n (contained (valid_anchors V N) m va) (contained (valid_anchors V N) n i))) b (m, contained (valid_anchors V N) m va, (V m, km))
         (rows_alike profile M V N a lw (extents_of (V n)) q b)

@@ -2,16 +2,15 @@
 use Rattle.std.proofs.Common.{◌≡◌, refl, sym, ◌∙◌, ap, ℕ, Bool, true, false, not, List, map, cond, ◌||◌, nat_eq, Option, Some, None}
 use Rattle.std.specs.Prelude.{is_none}
 use Rattle.std.specs.List.{list_all}
-use Rattle.udfs_lattice.specs.Volumes.{Blocks}
 use Rattle.udfs_tag.specs.Faults.{first_fault}
 use Rattle.udfs_tag.specs.Fields.{uint16_at, uint32_at, long_ad_at, part}
 use Rattle.udfs_osta.specs.Labels.{label_of}
 use Rattle.udfs_volume.specs.declared.profiles.Profile.{Profile}
 use Rattle.udfs_volume.specs.declared.faults.VolumeFault.{VolumeFault}
 use Rattle.udfs_volume.specs.declared.faults.VolumeFault.TheVariants.{Domain, BlockSize, MapCount, MapKind, NoLogicalVolume, Contents, PartitionRange}
-use Rattle.udfs_volume.specs.Answers.{found, holes, faulty, and_then, unless_fault}
-use Rattle.udfs_volume.specs.Sequence.{Descriptor, sequence_by}
-use Rattle.udfs_volume.specs.Layout.{Layout, NumberedMap, Described, bp, has_domain, has_revision, map_count, the_maps, volume_fault, described, has_contents, partition_of, placed_of, is_in_range, laid_out, with_maps, with_volume, logical_volume, layout_of, layout_by}
+use Rattle.udfs_volume.specs.Answers.{found, faulty, and_then, unless_fault}
+use Rattle.udfs_volume.specs.Sequence.{Descriptor}
+use Rattle.udfs_volume.specs.Layout.{Layout, NumberedMap, Described, bp, has_domain, has_revision, map_count, the_maps, volume_fault, described, has_contents, partition_of, placed_of, is_in_range, laid_out, with_maps, with_volume, logical_volume, layout_of}
 use Rattle.udfs_volume.specs.LayoutParts.{field_tests}
 
 abbrev pub layout_by_parts : Profile → ℕ → Descriptor → List Described → Layout
@@ -73,15 +72,3 @@ unfolding layout_of
 layout_of-maps profile last ds lv ms e h m = sym (ap (with_volume profile last ds) e)
     ∙ with_lv profile last ds lv None (fault-none profile last lv (sym h) ∙ ap (λ o. cond (is_none o) (Some MapKind) None) (sym m))
     ∙ ap (with_maps profile last ds lv) (sym m)
-
-pub layout-holes : (profile : Profile) (T : Blocks) (last : ℕ) (ns : List ℕ) → sequence_by profile T last ≡ holes ns → layout_by profile T last ≡ holes ns
-unfolding layout_by
-layout-holes profile T last ns h = ap (λ a. and_then a (layout_of profile last)) h
-
-pub layout_faulty : (profile : Profile) (T : Blocks) (last : ℕ) (f : VolumeFault) → sequence_by profile T last ≡ faulty f → layout_by profile T last ≡ faulty f
-unfolding layout_by
-layout_faulty profile T last f h = ap (λ a. and_then a (layout_of profile last)) h
-
-pub layout-read : (profile : Profile) (T : Blocks) (last : ℕ) (ds : List Descriptor) → sequence_by profile T last ≡ found ds → layout_by profile T last ≡ layout_of profile last ds
-unfolding layout_by
-layout-read profile T last ds h = ap (λ a. and_then a (layout_of profile last)) h

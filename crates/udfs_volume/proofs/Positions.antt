@@ -23,7 +23,7 @@ pub data PositionIs (M : Blocks) (V : Volume) (N m r : ℕ) : Type 0 where
 abbrev pub described : Volume → ℕ → Position
 described V n = cond (is_sound (V n) n) (descriptor (record { identifier = identifier (V n); content = drop 16 (V n) })) invalid
 
-same_described : (V : Volume) (m r : ℕ) → SaysTheSame V m r → needed (described V r) ≡ needed (described V m)
+pub same_described : (V : Volume) (m r : ℕ) → SaysTheSame V m r → needed (described V r) ≡ needed (described V m)
 same_described V m r s = go (is_sound (V m) m) refl
   where
     at : ℕ → Position

@@ -14,7 +14,7 @@ use Rattle.udfs_tag.specs.Tags.{tag_of, is_sound, identifier}
 use Rattle.udfs_volume.specs.Answers.{found}
 use Rattle.udfs_volume.specs.declared.anchors.AnchorExtents.{AnchorExtents}
 use Rattle.udfs_volume.specs.Sequence.{Bytes, anchor, position, goes_on, sequence_by}
-use Rattle.udfs_volume.specs.Layout.{layout_of, layout_by, layout}
+use Rattle.udfs_volume.specs.Layout.{layout_of, layout_by, main_layout_by, layout}
 use Rattle.udfs_volume.specs.Laws.{valid_anchors, IsThroughEnd, SaysTheSame, IsLawfulLayout}
 use Rattle.udfs_volume.specs.Sample.{one_type1, sample_layout, terminator_at}
 use Rattle.udfs_volume.specs.Primaries.{primary_at, two_primaries, PrimariesMayDiffer}
@@ -90,7 +90,7 @@ copies_by contents (suc (suc (suc (suc (suc i))))) h = absurd (let t : true ≡ 
 
 -- ---- the layout
 layout_is : (contents : ℕ → Bytes) → layout (complete (two_primaries contents) 600) 600 ≡ found (sample_layout one_type1)
-unfolding polynomial reduced crc_of tag_of anchor position sequence_by layout_of layout_by
+unfolding polynomial reduced crc_of tag_of anchor position sequence_by layout_of main_layout_by layout_by
 layout_is contents = refl
 
 lawful : (contents : ℕ → Bytes) → IsLawfulLayout (two_primaries contents) 600

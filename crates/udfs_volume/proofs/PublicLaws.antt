@@ -2,13 +2,13 @@
 -- those that end in `_by` for every profile, the others by the strict rules.
 use Rattle.udfs_volume.specs.declared.profiles.Profile.{Profile}
 use Rattle.udfs_volume.specs.declared.profiles.Profile.TheVariants.{Strict}
-use Rattle.udfs_volume.specs.Laws.{AscendingRises, EqualCopiesAreLawful, EqualCopiesAreLawfulBy, FoundBounds, FoundBoundsBy, LayoutLaw, LayoutLawBy, StandardLayout, StandardLayoutBy, StrictSequence}
+use Rattle.udfs_volume.specs.Laws.{AscendingRises, EqualCopiesAreLawful, EqualCopiesAreLawfulBy, FoundBounds, FoundBoundsBy, LayoutLaw, LayoutLawBy, MainLayoutBy, StandardLayout, StandardLayoutBy, StrictSequence}
 use Rattle.udfs_volume.specs.Primaries.{PrimariesMayDiffer}
 use Rattle.udfs_volume.specs.Sample.{SampleLayout}
-use Rattle.udfs_volume.proofs.Bounds as bounds
+use Rattle.udfs_volume.proofs.Choosing as choosing
 use Rattle.udfs_volume.proofs.EqualCopies.{equal_copies}
 use Rattle.udfs_volume.proofs.PrimariesLaw as primaries
-use Rattle.udfs_volume.proofs.LayoutLaw as lawful
+use Rattle.udfs_volume.proofs.ReserveLaw as lawful
 use Rattle.udfs_volume.proofs.StandardLaw as standard
 use Rattle.udfs_volume.proofs.Extents as extents
 use Rattle.udfs_volume.proofs.Rising as rising
@@ -16,6 +16,10 @@ use Rattle.udfs_volume.proofs.SampleLaw as sample
 
 pub layout_of_lawful_by : (profile : Profile) → LayoutLawBy profile
 layout_of_lawful_by = lawful.layout_law
+
+-- it is what the main sequence gives
+pub main_sequence_counts : (profile : Profile) → MainLayoutBy profile
+main_sequence_counts = lawful.main_counts
 
 pub layout_of_lawful : LayoutLaw
 layout_of_lawful = layout_of_lawful_by Strict
@@ -27,7 +31,7 @@ pub layout_of_standard : StandardLayout
 layout_of_standard = layout_of_standard_by Strict
 
 pub layout_is_bounded_by : (profile : Profile) → FoundBoundsBy profile
-layout_is_bounded_by = bounds.layout_is_bounded
+layout_is_bounded_by = choosing.layout_is_bounded
 
 pub layout_is_bounded : FoundBounds
 layout_is_bounded = layout_is_bounded_by Strict

@@ -13,7 +13,7 @@ use Rattle.udfs_tag.specs.Tags.{tag_of}
 use Rattle.udfs_volume.specs.Answers.{found}
 use Rattle.udfs_volume.specs.declared.anchors.AnchorExtents.{AnchorExtents}
 use Rattle.udfs_volume.specs.Sequence.{Bytes, anchor, position, goes_on, sequence_by}
-use Rattle.udfs_volume.specs.Layout.{layout_of, layout_by, layout}
+use Rattle.udfs_volume.specs.Layout.{layout_of, layout_by, main_layout_by, layout}
 use Rattle.udfs_volume.specs.Laws.{valid_anchors, IsThroughEnd, SaysTheSame, IsLawfulLayout}
 use Rattle.udfs_volume.specs.Sample.{Maps, one_type1, one_sparable, type1_and_sparable, SampleLayout, anchor_at, logical_volume_at, other_partition_at, partition_at, sample, sample_blocks, sample_layout, sparing_table_at, terminator_at}
 use Rattle.udfs_volume.proofs.Bounds.{found_same}
@@ -106,7 +106,7 @@ copies_by maps contents (suc (suc (suc (suc i)))) h = absurd (let t : true ≡ f
 
 -- ---- the layout
 layout_is : (maps : Maps) (contents : ℕ → Bytes) → layout (sample_blocks maps contents) 600 ≡ found (sample_layout maps)
-unfolding polynomial reduced crc_of tag_of anchor position sequence_by layout_of layout_by
+unfolding polynomial reduced crc_of tag_of anchor position sequence_by layout_of main_layout_by layout_by
 layout_is one_type1 contents = refl
 layout_is one_sparable contents = refl
 layout_is type1_and_sparable contents = refl

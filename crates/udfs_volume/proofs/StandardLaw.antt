@@ -11,13 +11,14 @@ use Rattle.udfs_volume.specs.declared.faults.VolumeFault.TheVariants.{Pointer}
 use Rattle.udfs_volume.specs.declared.profiles.Profile.{Profile}
 use Rattle.udfs_volume.specs.declared.anchors.AnchorExtents.{AnchorExtents}
 use Rattle.udfs_volume.specs.Sequence.{extents_of, anchor, anchor_places, anchor_or, first_anchor, or_else, anchor_here, are_extents_by, shared, shorter, Position, Descriptor, invalid, descriptor, position, positions, goes_on, read_positions, ended_by}
-use Rattle.udfs_volume.specs.Layout.{layout_by, layout_of}
+use Rattle.udfs_volume.specs.Layout.{layout_by, layout_of, main_layout_by}
 use Rattle.udfs_volume.specs.Standard.{standard_anchor, standard_layout_by, main_sequence}
 use Rattle.udfs_volume.specs.Laws.{StandardLayoutBy, IsLawfulLayoutBy}
 use Rattle.udfs_volume.proofs.Known.{complete-known}
 use Rattle.udfs_volume.proofs.Bounds.{and_then-found, found_same}
 use Rattle.udfs_volume.proofs.Positions.{described, main_is, before, read-on, read-stop}
 use Rattle.udfs_volume.proofs.LayoutLaw.{place_fits, are_extents_of, main_fits, layout_at}
+use Rattle.udfs_volume.proofs.ReserveLaw.{main_of_lawful, whole_is_main}
 
 -- over the complete table the first anchor is the first valid one
 first_is : (V : Volume) (N : ℕ) (ns : List ℕ) → ((n : ℕ) → Includes ns n → n ≤ N) → first_anchor (complete V N) ns ≡ option_map V (find (λ n. is_valid (V n) n 2) ns)
@@ -132,19 +133,22 @@ standard_layout_law profile V N hv lw = go (standard_anchor_is profile V N hv.fr
     C = complete V N
 
     go : (n : ℕ) × (standard_anchor V N ≡ Some n) × (anchor C N ≡ found (extents_of (V n))) → (n : ℕ) × (standard_anchor V N ≡ Some n) × (standard_layout_by profile V N n ≡ layout_by profile C N)
-    go (n, f, q) = (n, f, ap (layout_of profile N) main_is_ds ∙ sym (by ∙ ap (λ x. and_then x (layout_of profile N)) r.1))
+    go (n, f, q) = (n, f, ap (layout_of profile N) main_is_ds ∙ sym (by ∙ ap (λ x. and_then x (layout_of profile N)) r.1) ∙ whole_is_main profile V N hv.from lw)
       where
         e : AnchorExtents
         e = extents_of (V n)
 
-        b : are_extents_by profile N e ≡ true
-        b = are_extents_of profile V N e lw.laid_out.0 q lw.laid_out.1
+        laid : main_layout_by profile C N ≡ found lw.laid_out.0
+        laid = main_of_lawful profile V N hv.from lw
 
-        by : layout_by profile C N ≡ and_then (read_positions (positions C (shared e))) (layout_of profile N)
+        b : are_extents_by profile N e ≡ true
+        b = are_extents_of profile V N e lw.laid_out.0 q laid
+
+        by : main_layout_by profile C N ≡ and_then (read_positions (positions C (shared e))) (layout_of profile N)
         by = layout_at profile C N e q b
 
         r : (ds : List Descriptor) × (read_positions (positions C (shared e)) ≡ found ds) × (layout_of profile N ds ≡ found lw.laid_out.0)
-        r = and_then-found (read_positions (positions C (shared e))) (layout_of profile N) lw.laid_out.0 (sym by ∙ lw.laid_out.1)
+        r = and_then-found (read_positions (positions C (shared e))) (layout_of profile N) lw.laid_out.0 (sym by ∙ laid)
 
         rows : map (λ i. described V (e.main.block + i)) (range_with_len 0 (shorter e / 2048)) ≡ positions C (shared e)
         rows = rows_same (λ i. described V (e.main.block + i)) (λ i. position C (e.main.block + i) (e.reserve.block + i)) 0 (shorter e / 2048)

@@ -1,28 +1,31 @@
 -- What the call `layout` tells, by what the layout is.
-use Rattle.std.proofs.Common.{◌≡◌, refl, sym, ◌∙◌, ap, subst, ℕ, ◌≤◌, Bool, true, false, not, List, cond, Option, Some, None}
+use Rattle.std.proofs.Common.{◌≡◌, refl, sym, ◌∙◌, ap, subst, ℕ, ◌≤◌, Bool, true, false, not, List, cond, Option, Some, None, Result, Ok, Err, IfOk}
+use Rattle.std.specs.Prelude.{⊤}
 use Rattle.std.specs.List.{list_all}
+use Rattle.udfs_lattice.specs.declared.blocks.ReadFault.{ReadFault}
 use Rattle.udfs_lattice.specs.Volumes.{Blocks, Agrees, Volume, IsVolume, complete}
 use Rattle.udfs_volume.specs.declared.profiles.Profile.{Profile}
+use Rattle.udfs_volume.specs.declared.profiles.Profile.TheVariants.{Strict, Wide}
 use Rattle.udfs_volume.specs.declared.faults.VolumeFault.{VolumeFault}
 use Rattle.udfs_volume.specs.declared.faults.VolumeFault.TheVariants.{NoAnchor, Extents, Domain, BlockSize, MapCount, MapKind, Contents, PartitionRange}
 use Rattle.udfs_volume.specs.declared.layouts.VolumeParts.{VolumeParts}
 use Rattle.udfs_volume.specs.declared.seen.Seen.{Seen}
 use Rattle.udfs_volume.specs.declared.seen.Seen.TheVariants.{Got, Holes, Fault, OutOfMemory}
 use Rattle.udfs_volume.specs.Answers.{Answer, found, holes, faulty, and_then, unless_fault}
-use Rattle.udfs_volume.specs.Seen.{Sees, HolesRise, IfGot, TellsFault, GoesOn}
-use Rattle.udfs_volume.specs.Sequence.{Descriptor, anchor_places, sequence_by}
-use Rattle.udfs_volume.specs.Layout.{Layout, NumberedMap, Described, has_contents, partition_of, is_in_range, laid_out, with_maps, with_volume, the_maps, volume_fault, described, logical_volume, layout_of, layout_by}
+use Rattle.udfs_volume.specs.Seen.{Sees, HolesRise, IfGot, TellsFault}
+use Rattle.udfs_volume.specs.Sequence.{Descriptor, anchor_places, reserve_sequence_by, sequence_by}
+use Rattle.udfs_volume.specs.Layout.{Layout, NumberedMap, Described, has_contents, partition_of, is_in_range, laid_out, with_maps, with_volume, the_maps, volume_fault, described, logical_volume, layout_of, found_or, is_of_sequence, layout_by, main_layout_by, or_reserve, reserve_layout_by}
 use Rattle.udfs_volume.specs.LayoutParts.{parts_now}
 use Rattle.udfs_volume.specs.Sequences.{sequence_now}
 use Rattle.udfs_volume.specs.declared.descriptors.Sequence as code_sequence
 use Rattle.udfs_volume.specs.Laws.{IsLawfulLayoutBy, IsSequenceGroup, ListsGroup, IsAnswerOf, the_same, unread, IsBounded, valid_anchors}
 use Rattle.udfs_volume.specs.Told.{IsLayoutOf, TellsLawfulLayoutBy}
-use Rattle.udfs_volume.proofs.LayoutSteps.{layout-holes, layout_faulty, layout-read}
-use Rattle.udfs_volume.proofs.LayoutLaw.{layout_law}
+use Rattle.udfs_volume.proofs.Choosing.{or_faulty, or_found, or_holes}
+use Rattle.udfs_volume.proofs.ReserveLaw.{layout_law}
 use Rattle.udfs_volume.proofs.StandardLaw.{standard_layout_law}
 use Rattle.udfs_volume.proofs.Bounds.{layout_bounds}
 use Rattle.udfs_volume.proofs.Rising.{Rises, holes_rise, sequence_rises}
-use Rattle.udfs_volume.proofs.Early.{is_early, IsLateFault, IsLate, told_by}
+use Rattle.udfs_volume.proofs.Early.{is_early, IsLateFault, IsLate}
 
 -- ---- a lawful volume
 
@@ -56,22 +59,7 @@ tells_lawful profile T N OutOfMemory s V hv lw a = tt
 
 -- ---- bounds
 
-by_descriptors : (profile : Profile) (N : ℕ) (a : Answer (List Descriptor)) (l : Layout) → and_then a (layout_of profile N) ≡ found l → IsBounded N l
-by_descriptors profile N (found ds) l e = layout_bounds profile N ds l e
-by_descriptors profile N (holes ns) l e = absurd (let no : ⊥ = cc in no)
-by_descriptors profile N (faulty f) l e = absurd (let no : ⊥ = cc in no)
-
-found_bounded : (profile : Profile) (T : Blocks) (N : ℕ) (l : Layout) → layout_by profile T N ≡ found l → IsBounded N l
-unfolding layout_by
-found_bounded profile T N l e = by_descriptors profile N (sequence_by profile T N) l e
-
-pub got_bounded : (profile : Profile) (T : Blocks) (N : ℕ) (seen : Seen VolumeParts) → Sees parts_now seen (layout_by profile T N) → IfGot seen (λ parts. IsBounded N (parts_now parts))
-got_bounded profile T N (Got parts) s = found_bounded profile T N (parts_now parts) s
-got_bounded profile T N (Holes blocks) s = tt
-got_bounded profile T N (Fault fault) s = tt
-got_bounded profile T N OutOfMemory s = tt
-
--- the same of any descriptors, whatever they were read from
+-- of any descriptors, whatever they were read from
 pub got_bounded_of : (profile : Profile) (N : ℕ) (ds : List Descriptor) (seen : Seen VolumeParts) → Sees parts_now seen (layout_of profile N ds) → IfGot seen (λ parts. IsBounded N (parts_now parts))
 got_bounded_of profile N ds (Got parts) s = layout_bounds profile N ds (parts_now parts) s
 got_bounded_of profile N ds (Holes blocks) s = tt
@@ -119,9 +107,21 @@ rises_late (found x) l = tt
 rises_late (holes blocks) l = absurd l
 rises_late (faulty fault) l = tt
 
-pub layout_rises : (profile : Profile) (T : Blocks) (N : ℕ) → 513 ≤ N → Rises (layout_by profile T N)
-unfolding layout_by
-layout_rises profile T N from = go (sequence_by profile T N) (sequence_rises profile T N from)
+or_rises : (profile : Profile) (a r : Answer Layout) → Rises a → Rises (or_reserve profile a r)
+or_rises Strict a r h = h
+or_rises Wide (found l) r h = tt
+or_rises Wide (holes ns) r h = h
+or_rises Wide (faulty f) r h = go (is_of_sequence f) r
+  where
+    go : (b : Bool) (r : Answer Layout) → Rises (cond b (found_or f r) (faulty f))
+    go true (found l) = tt
+    go true (holes ns) = tt
+    go true (faulty other) = tt
+    go false r = tt
+
+layout_rises : (profile : Profile) (T : Blocks) (N : ℕ) → 513 ≤ N → Rises (layout_by profile T N)
+unfolding layout_by main_layout_by
+layout_rises profile T N from = or_rises profile (main_layout_by profile T N) (reserve_layout_by profile T N) (go (sequence_by profile T N) (sequence_rises profile T N from))
   where
     go : (a : Answer (List Descriptor)) → Rises a → Rises (and_then a (layout_of profile N))
     go (found ds) r = rises_late (layout_of profile N ds) (late_layout_of profile N ds)
@@ -134,44 +134,103 @@ early_from profile N f early (holes ns) e = absurd (let no : ⊥ = cc in no)
 early_from profile N f early (faulty g) e = let same : g ≡ f = cc in ap faulty same
 
 -- a fault of the anchor is the sequence's
-pub early_of_layout : (profile : Profile) (T : Blocks) (N : ℕ) (f : VolumeFault) → is_early f ≡ true → layout_by profile T N ≡ faulty f → sequence_by profile T N ≡ faulty f
-unfolding layout_by
-early_of_layout profile T N f early e = early_from profile N f early (sequence_by profile T N) e
+pub early_of_main : (profile : Profile) (T : Blocks) (N : ℕ) (f : VolumeFault) → is_early f ≡ true → main_layout_by profile T N ≡ faulty f → sequence_by profile T N ≡ faulty f
+unfolding main_layout_by
+early_of_main profile T N f early e = early_from profile N f early (sequence_by profile T N) e
+
+-- ---- what a sequence gives
+
+-- the layout by what was seen of a sequence
+pub see_found : (profile : Profile) (N : ℕ) (s : code_sequence.Sequence) (seen : Seen VolumeParts) → Sees parts_now seen (layout_of profile N (sequence_now s))
+    → (a : Answer (List Descriptor)) → a ≡ found (sequence_now s) → Sees parts_now seen (and_then a (layout_of profile N))
+see_found profile N s seen is a e = subst (Sees parts_now seen) (sym (ap (λ x. and_then x (layout_of profile N)) e)) is
+
+-- both layouts by their sequences
+pub main_is : (profile : Profile) (T : Blocks) (N : ℕ) → main_layout_by profile T N ≡ and_then (sequence_by profile T N) (layout_of profile N)
+unfolding main_layout_by
+main_is profile T N = refl
+
+pub reserve_is : (profile : Profile) (T : Blocks) (N : ℕ) → reserve_layout_by profile T N ≡ and_then (reserve_sequence_by profile T N) (layout_of profile N)
+unfolding reserve_layout_by
+reserve_is profile T N = refl
+
+-- ---- what counts
 
 -- what `layout` promises
 abbrev pub LayoutClauses : Profile → Blocks → ℕ → Seen VolumeParts → Type 0
 LayoutClauses profile T last seen = record {
   value : Sees parts_now seen (layout_by profile T last);
   lawful : TellsLawfulLayoutBy profile T last seen;
-  bounded : IfGot seen (λ parts. IsBounded last (parts_now parts));
   rising : HolesRise seen;
   no_anchor : TellsFault NoAnchor seen (layout_by profile T last);
   extents : TellsFault Extents seen (layout_by profile T last);
 }
 
 -- the same, by what it saw
-pub layout_clauses : (profile : Profile) (T : Blocks) (last : ℕ) (seen : Seen VolumeParts) → 513 ≤ last → Sees parts_now seen (layout_by profile T last)
-    → (seen ≡ OutOfMemory → sequence_by profile T last ≡ faulty NoAnchor → ⊥) → (seen ≡ OutOfMemory → sequence_by profile T last ≡ faulty Extents → ⊥)
-    → LayoutClauses profile T last seen
+layout_clauses : (profile : Profile) (T : Blocks) (last : ℕ) (seen : Seen VolumeParts) → 513 ≤ last → Sees parts_now seen (layout_by profile T last)
+    → TellsFault NoAnchor seen (main_layout_by profile T last) → TellsFault Extents seen (main_layout_by profile T last) → LayoutClauses profile T last seen
+unfolding layout_by
 layout_clauses profile T last seen from value anchored fits = record {
   value = value;
   lawful = tells_lawful profile T last seen value;
-  bounded = got_bounded profile T last seen value;
   rising = holes_rise parts_now seen (layout_by profile T last) value (layout_rises profile T last from);
-  no_anchor = told_by parts_now seen (layout_by profile T last) NoAnchor value (λ none e. anchored none (early_of_layout profile T last NoAnchor refl e));
-  extents = told_by parts_now seen (layout_by profile T last) Extents value (λ none e. fits none (early_of_layout profile T last Extents refl e));
+  no_anchor = λ e. anchored (or_faulty profile (main_layout_by profile T last) (reserve_layout_by profile T last) NoAnchor e);
+  extents = λ e. fits (or_faulty profile (main_layout_by profile T last) (reserve_layout_by profile T last) Extents e);
 }
 
--- the same, by what was seen of the sequence
-pub layout_from : (profile : Profile) (T : Blocks) (last : ℕ) (a : Seen code_sequence.Sequence) (seen : Seen VolumeParts) (Next : code_sequence.Sequence → Seen VolumeParts → Type 0) → 513 ≤ last
-    → Sees sequence_now a (sequence_by profile T last) → TellsFault NoAnchor a (sequence_by profile T last) → TellsFault Extents a (sequence_by profile T last) → GoesOn a Next seen
-    → ((s : code_sequence.Sequence) → Next s seen → Sees parts_now seen (layout_of profile last (sequence_now s))) → LayoutClauses profile T last seen
-layout_from profile T last (Got s) seen Next from is none fits goes next =
-    layout_clauses profile T last seen from (subst (Sees parts_now seen) (sym (layout-read profile T last (sequence_now s) is)) (next s goes))
-    (λ no e. let z : ⊥ = cc in z) (λ no e. let z : ⊥ = cc in z)
-layout_from profile T last (Holes blocks) seen Next from is none fits goes next = subst (LayoutClauses profile T last) (sym goes)
-    (layout_clauses profile T last (Holes blocks) from (layout-holes profile T last blocks.items is) (λ no e. let z : ⊥ = cc in z) (λ no e. let z : ⊥ = cc in z))
-layout_from profile T last (Fault fault) seen Next from is none fits goes next = subst (LayoutClauses profile T last) (sym goes)
-    (layout_clauses profile T last (Fault fault) from (layout_faulty profile T last fault is) (λ no e. let z : ⊥ = cc in z) (λ no e. let z : ⊥ = cc in z))
-layout_from profile T last OutOfMemory seen Next from is none fits goes next = subst (LayoutClauses profile T last) (sym goes)
-    (layout_clauses profile T last OutOfMemory from tt (λ no e. let told = none e in let z : ⊥ = cc in z) (λ no e. let told = fits e in let z : ⊥ = cc in z))
+abbrev pub IsNoFault : Seen VolumeParts → Type 0
+IsNoFault (Got parts) = ⊤
+IsNoFault (Holes blocks) = ⊤
+IsNoFault (Fault fault) = ⊥
+IsNoFault OutOfMemory = ⊤
+
+main_counts : (profile : Profile) (T : Blocks) (last : ℕ) (seen : Seen VolumeParts) → IsNoFault seen → Sees parts_now seen (main_layout_by profile T last) → Sees parts_now seen (layout_by profile T last)
+unfolding layout_by
+main_counts profile T last (Got parts) h is = or_found profile (main_layout_by profile T last) (reserve_layout_by profile T last) (parts_now parts) is
+main_counts profile T last (Holes blocks) h is = or_holes profile (main_layout_by profile T last) (reserve_layout_by profile T last) blocks.items is
+main_counts profile T last (Fault fault) h is = absurd h
+main_counts profile T last OutOfMemory h is = tt
+
+-- the main sequence gives no fault
+pub layout_seen : (profile : Profile) (T : Blocks) (last : ℕ) (was seen : Seen VolumeParts) → 513 ≤ last → was ≡ seen → IsNoFault seen
+    → Sees parts_now was (main_layout_by profile T last) → TellsFault NoAnchor was (main_layout_by profile T last) → TellsFault Extents was (main_layout_by profile T last) → LayoutClauses profile T last seen
+layout_seen profile T last was seen from e h value anchored fits = layout_clauses profile T last seen from
+    (main_counts profile T last seen h (subst (λ s. Sees parts_now s (main_layout_by profile T last)) e value))
+    (subst (λ s. TellsFault NoAnchor s (main_layout_by profile T last)) e anchored) (subst (λ s. TellsFault Extents s (main_layout_by profile T last)) e fits)
+
+fault_same : (f g : VolumeFault) → ◌≡◌ {A = Answer Layout} (faulty f) (faulty g) → f ≡ g
+fault_same f g e = cc
+
+-- the main sequence gives a fault
+layout_else : (profile : Profile) (T : Blocks) (last : ℕ) (fault : VolumeFault) (seen : Seen VolumeParts) → 513 ≤ last → main_layout_by profile T last ≡ faulty fault
+    → Sees parts_now seen (or_reserve profile (faulty fault) (reserve_layout_by profile T last)) → (is_of_sequence fault ≡ false → seen ≡ Fault fault) → LayoutClauses profile T last seen
+unfolding layout_by
+layout_else profile T last fault seen from is value early = layout_clauses profile T last seen from
+    (subst (λ a. Sees parts_now seen (or_reserve profile a (reserve_layout_by profile T last))) (sym is) value)
+    (λ e. tells NoAnchor e refl) (λ e. tells Extents e refl)
+  where
+    tells : (f : VolumeFault) → main_layout_by profile T last ≡ faulty f → is_of_sequence f ≡ false → seen ≡ Fault f
+    tells f e late = let same : fault ≡ f = fault_same fault f (sym is ∙ e) in early (ap is_of_sequence same ∙ late) ∙ ap Fault same
+
+pub layout_or : (Told : Type 0) (profile : Profile) (T : Blocks) (last : ℕ) (fault : VolumeFault) (r : Result (Seen VolumeParts) ReadFault) → 513 ≤ last → (Told → main_layout_by profile T last ≡ faulty fault)
+    → IfOk r (λ seen. Told → Sees parts_now seen (or_reserve profile (faulty fault) (reserve_layout_by profile T last))) → IfOk r (λ seen. is_of_sequence fault ≡ false → seen ≡ Fault fault)
+    → IfOk r (λ seen. Told → LayoutClauses profile T last seen)
+layout_or Told profile T last fault (Ok seen) from is value early = λ told. layout_else profile T last fault seen from (is told) (value told) early
+layout_or Told profile T last fault (Err e) from is value early = tt
+
+-- ---- what counts where the main sequence gives a fault that it says
+pub tried_found : (f : VolumeFault) (a : Answer Layout) (l : Layout) → is_of_sequence f ≡ true → a ≡ found l → or_reserve Wide (faulty f) a ≡ found l
+tried_found f a l s e = ap (λ b. cond b (found_or f a) (faulty f)) s ∙ ap (found_or f) e
+
+both_same : (f : VolumeFault) (b : Bool) → ◌≡◌ {A = Answer Layout} (cond b (faulty f) (faulty f)) (faulty f)
+both_same f true = refl
+both_same f false = refl
+
+pub tried_unread : (f : VolumeFault) (a : Answer Layout) (blocks : List ℕ) → a ≡ holes blocks → or_reserve Wide (faulty f) a ≡ faulty f
+tried_unread f a blocks e = ap (λ x. cond (is_of_sequence f) (found_or f x) (faulty f)) e ∙ both_same f (is_of_sequence f)
+
+pub tried_faulty : (f : VolumeFault) (a : Answer Layout) (g : VolumeFault) → a ≡ faulty g → or_reserve Wide (faulty f) a ≡ faulty f
+tried_faulty f a g e = ap (λ x. cond (is_of_sequence f) (found_or f x) (faulty f)) e ∙ both_same f (is_of_sequence f)
+
+pub not_tried : (f : VolumeFault) (a : Answer Layout) → is_of_sequence f ≡ false → or_reserve Wide (faulty f) a ≡ faulty f
+not_tried f a s = ap (λ b. cond b (found_or f a) (faulty f)) s

@@ -8,7 +8,7 @@ use Rattle.udfs_volume.specs.declared.faults.VolumeFault.{VolumeFault}
 use Rattle.udfs_volume.specs.declared.faults.VolumeFault.TheVariants.{Extents, Pointer}
 use Rattle.udfs_volume.specs.declared.profiles.Profile.{Profile}
 use Rattle.udfs_volume.specs.Answers.{Answer, found, holes, faulty, and_then}
-use Rattle.udfs_volume.specs.Sequence.{Descriptor, Position, unread, invalid, descriptor, position, goes_on, ended_by, read_positions, positions, anchor, are_extents_by, sequence_by, sequence_at, shared}
+use Rattle.udfs_volume.specs.Sequence.{Descriptor, Position, unread, invalid, descriptor, position, goes_on, ended_by, read_positions, positions, anchor, are_extents_by, exchanged, reserve_sequence_by, sequence_by, sequence_at, shared}
 use Rattle.udfs_volume.proofs.Positions.{before, read-on, read-stop}
 
 -- position i of the two extents
@@ -83,6 +83,20 @@ sequence_faulty profile T last f h = ap (λ a. and_then a (sequence_at profile T
 pub sequence-found : (profile : Profile) (T : Blocks) (last : ℕ) (e : AnchorExtents) → anchor T last ≡ found e → sequence_by profile T last ≡ sequence_at profile T last e
 unfolding sequence_by
 sequence-found profile T last e h = ap (λ a. and_then a (sequence_at profile T last)) h
+
+-- the same with the roles of the extents exchanged
+
+pub reserve-holes : (profile : Profile) (T : Blocks) (last : ℕ) (ns : List ℕ) → anchor T last ≡ holes ns → reserve_sequence_by profile T last ≡ holes ns
+unfolding reserve_sequence_by
+reserve-holes profile T last ns h = ap (λ a. and_then a (λ e. sequence_at profile T last (exchanged e))) h
+
+pub reserve_faulty : (profile : Profile) (T : Blocks) (last : ℕ) (f : VolumeFault) → anchor T last ≡ faulty f → reserve_sequence_by profile T last ≡ faulty f
+unfolding reserve_sequence_by
+reserve_faulty profile T last f h = ap (λ a. and_then a (λ e. sequence_at profile T last (exchanged e))) h
+
+pub reserve-found : (profile : Profile) (T : Blocks) (last : ℕ) (e : AnchorExtents) → anchor T last ≡ found e → reserve_sequence_by profile T last ≡ sequence_at profile T last (exchanged e)
+unfolding reserve_sequence_by
+reserve-found profile T last e h = ap (λ a. and_then a (λ e. sequence_at profile T last (exchanged e))) h
 
 pub unfit : (profile : Profile) (T : Blocks) (last : ℕ) (e : AnchorExtents) → are_extents_by profile last e ≡ false → sequence_at profile T last e ≡ faulty Extents
 unfit profile T last e b = ap (λ c. cond c (read_positions (positions T (shared e))) (faulty Extents)) b

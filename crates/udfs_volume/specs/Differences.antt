@@ -1,9 +1,9 @@
 -- Known copies that do not say the same: no lawful volume agrees with the table.
 --     anchors_apart blocks last        two places of known anchors that name different extents
---     copies_differ profile blocks last   a known main block and its known reserve block differ in a descriptor from which the layout is read
+--     copies_differ profile blocks last   a known main block and its known reserve block do not say the same of the sequence or of the layout
 --     AgreesWithNoLayoutBy             no volume with a lawful layout, by the rules of a profile, agrees with the table
 --     AnchorsAgreeBy, CopiesAgreeBy profile   of a lawful layout no known anchors are apart, and no known copies differ
-use Rattle.std.specs.Prelude.{◌≡◌, ℕ, ◌+◌, ◌/◌, ◌&&◌, ◌||◌, Bool, false, not, nat_eq, List, drop, Option, Some, None, find, is_none, option_map}
+use Rattle.std.specs.Prelude.{◌≡◌, ℕ, ◌+◌, ◌/◌, ◌&&◌, ◌||◌, Bool, false, cond, not, nat_eq, List, drop, Option, Some, None, find, is_none, option_map}
 use Rattle.std.specs.List.{list_all, list_any, range_with_len}
 use Rattle.std.specs.Str.{bytes_eq}
 use Rattle.udfs_lattice.specs.States.{State}
@@ -44,17 +44,17 @@ apart_from blocks places (Some n) = option_map (λ m. (n, m)) (find (anchors_dif
 abbrev pub anchors_apart : Blocks → ℕ → Option (ℕ × ℕ)
 anchors_apart blocks last = apart_from blocks (anchor_places last) (find (has_anchor blocks) (anchor_places last))
 
--- whether a block is, at its place, a descriptor from which the layout is read
-abbrev pub gives_layout : Bytes → ℕ → Bool
-gives_layout bytes n = is_sound bytes n && is_of_layout (identifier bytes)
+-- whether two descriptors have one identifier and, where the layout is read from them, the same bytes from 16 on
+abbrev pub read_alike : Bytes → Bytes → Bool
+read_alike one other = nat_eq (identifier one) (identifier other) && (not (is_of_layout (identifier one)) || bytes_eq (drop 16 one) (drop 16 other))
 
--- whether two blocks are descriptors at their places, with one identifier and the same bytes from 16 on
+-- whether two blocks are such descriptors at their places, or neither is a descriptor there
 abbrev pub say_the_same : Bytes → ℕ → Bytes → ℕ → Bool
-say_the_same one n other m = is_sound one n && is_sound other m && nat_eq (identifier one) (identifier other) && bytes_eq (drop 16 one) (drop 16 other)
+say_the_same one n other m = cond (is_sound one n) (is_sound other m && read_alike one other) (not (is_sound other m))
 
--- whether one of two blocks is such a descriptor, and the other does not say the same
+-- whether they do not say the same
 abbrev pub contents_differ : Bytes → ℕ → Bytes → ℕ → Bool
-contents_differ one n other m = (gives_layout one n || gives_layout other m) && not (say_the_same one n other m)
+contents_differ one n other m = not (say_the_same one n other m)
 
 -- the same of a block and what is known of another
 abbrev pub differs_known : Bytes → ℕ → State → ℕ → Bool
@@ -86,7 +86,8 @@ differ_by profile blocks last (found e) = are_extents_by profile last e && diffe
 differ_by profile blocks last (holes unread) = false
 differ_by profile blocks last (faulty fault) = false
 
--- whether known copies of a position of the sequence differ in a partition descriptor or a logical volume descriptor
+-- whether known copies of a position of the sequence do not say the same: one is a descriptor and the other is none, or they have different identifiers,
+-- or they are partition descriptors or logical volume descriptors with different bytes
 abbrev pub copies_differ : Profile → Blocks → ℕ → Bool
 copies_differ profile blocks last = differ_by profile blocks last (anchor blocks last)
 

@@ -3,6 +3,7 @@
 --     IsLayoutOfEqualCopiesBy profile volume last   the same, with copies that are equal in every descriptor
 --     IsSequenceGroup                           blocks of which one has to be known: the valid anchors, and each pair
 --     LayoutLawBy profile                       the layout is the volume's, or a group is unread
+--     MainLayoutBy profile                      it is what the main sequence gives, so that the reserve one is not asked
 --     LayoutBounds, FoundBoundsBy profile       a layout that is found lies within the volume
 --     StandardLayoutBy profile                  with all known it is that of the first anchor and the main sequence
 --     EqualCopiesAreLawfulBy profile            where all copies are equal, the layout is lawful
@@ -20,7 +21,7 @@ use Rattle.udfs_volume.specs.declared.profiles.Profile.TheVariants.{Strict}
 use Rattle.udfs_volume.specs.Seen.{IsRising}
 use Rattle.udfs_volume.specs.Sequence.{Descriptor, anchor, anchor_places, are_extents, position, goes_on, shared}
 use Rattle.udfs_volume.specs.Standard.{standard_anchor, standard_layout_by}
-use Rattle.udfs_volume.specs.Layout.{Layout, Partition, PartitionMap, type1, sparable, repeats_kind, blocks_in, layout_by, layout_of}
+use Rattle.udfs_volume.specs.Layout.{Layout, Partition, PartitionMap, type1, sparable, repeats_kind, blocks_in, layout_by, layout_of, main_layout_by}
 
 -- the anchor places at which the volume has a valid anchor volume descriptor pointer (ECMA-167 3/10.2)
 abbrev pub valid_anchors : Volume → ℕ → List ℕ
@@ -116,6 +117,11 @@ LayoutLawBy profile = (blocks : Blocks) (volume : Volume) (last : ℕ) → IsVol
 -- the same by the strict rules
 abbrev pub LayoutLaw : Type 0
 LayoutLaw = LayoutLawBy Strict
+
+-- over such a table the layout is what the main sequence gives: the reserve one is not asked
+abbrev pub MainLayoutBy : Profile → Type 0
+MainLayoutBy profile = (blocks : Blocks) (volume : Volume) (last : ℕ) → IsVolume volume last → IsLawfulLayoutBy profile volume last → Agrees blocks volume last
+    → layout_by profile blocks last ≡ main_layout_by profile blocks last
 
 -- the numbers of a sparable map: blocks in a packet, the size of a table, and tables that lie within the volume
 pub record AreBounded (last packet size : ℕ) (tables : List ℕ) : Type 0 where

@@ -1,23 +1,25 @@
 -- The layout of a volume: its prevailing descriptors (ECMA-167 3/8.4.3, 3/10.5, 3/10.6; UDF 2.2.4).
 --     prevailing ds                       the first descriptor whose sequence number no other passes
---     layout_by profile blocks last       revision, label, partitions and the file set's address, by the rules of a profile
+--     main_layout_by profile blocks last  revision, label, partitions and the file set's address, by the main sequence and the rules of a profile
+--     reserve_layout_by profile blocks last   the same by the reserve sequence
+--     layout_by profile blocks last       the first of these; by the wide rules the second where the first is a fault of what the main sequence says
 --     layout blocks last                  the same by the strict rules
 use Rattle.std.specs.Prelude.{ℕ, zero, suc, ◌+◌, ◌-◌, ◌*◌, ◌/◌, Bool, true, false, not, List, [], ◌∷◌, length, drop, map, filter, cond, nat_eq, nat_le, nat_lt, ◌&&◌, ◌||◌, Option, Some, None, find, codes, is_none, option_map}
 use Rattle.std.specs.List.{range_with_len, list_all, list_any}
 use Rattle.std.specs.Str.{bytes_eq}
 use Rattle.udfs_lattice.specs.Volumes.{Blocks}
-use Rattle.udfs_volume.specs.Sequence.{Bytes, Descriptor, sequence_by}
+use Rattle.udfs_volume.specs.Sequence.{Bytes, Descriptor, reserve_sequence_by, sequence_by}
 use Rattle.udfs_tag.specs.declared.layouts.LongAd.{LongAd}
 use Rattle.udfs_tag.specs.Fields.{uint8_at, uint16_at, uint32_at, long_ad_at, part, regid_at, zero_filled}
 use Rattle.udfs_tag.specs.Faults.{is_within, first_fault}
 use Rattle.udfs_osta.specs.declared.labels.Label.{Label}
 use Rattle.udfs_osta.specs.Labels.{label_of}
-use Rattle.udfs_volume.specs.Answers.{Answer, faulty, and_then, unless_fault}
+use Rattle.udfs_volume.specs.Answers.{Answer, found, holes, faulty, and_then, unless_fault}
 use Rattle.udfs_volume.specs.declared.profiles.Profile.{Profile}
 use Rattle.udfs_volume.specs.declared.profiles.Profile.TheVariants.{Strict, Wide}
 use Rattle.udfs_volume.specs.Profiles.{accepts_packet, accepts_revision}
 use Rattle.udfs_volume.specs.declared.faults.VolumeFault.{VolumeFault}
-use Rattle.udfs_volume.specs.declared.faults.VolumeFault.TheVariants.{NoLogicalVolume, Domain, BlockSize, MapCount, MapKind, NoPartition, Contents, PartitionRange}
+use Rattle.udfs_volume.specs.declared.faults.VolumeFault.TheVariants.{NoAnchor, Extents, NoLogicalVolume, Domain, BlockSize, MapCount, MapKind, NoPartition, Contents, PartitionRange}
 
 -- where a field is in the content: the standard counts from the beginning of the descriptor, and the content begins at 16
 abbrev pub bp : ℕ → ℕ
@@ -243,9 +245,37 @@ with_volume profile last ds (Some lv) = and_then (unless_fault (volume_fault pro
 unfoldable pub layout_of : Profile → ℕ → List Descriptor → Answer Layout
 layout_of profile last ds = with_volume profile last ds (logical_volume ds)
 
+-- the layout by the main sequence: at each position the main copy is read where it is known, else the reserve copy
+unfoldable pub main_layout_by : Profile → Blocks → ℕ → Answer Layout
+main_layout_by profile blocks last = and_then (sequence_by profile blocks last) (layout_of profile last)
+
+-- the layout by the reserve sequence: at each position the reserve copy is read where it is known, else the main copy
+unfoldable pub reserve_layout_by : Profile → Blocks → ℕ → Answer Layout
+reserve_layout_by profile blocks last = and_then (reserve_sequence_by profile blocks last) (layout_of profile last)
+
+-- whether a fault is one of what the sequence says, and not of the anchor or of its extents
+abbrev pub is_of_sequence : VolumeFault → Bool
+is_of_sequence NoAnchor = false
+is_of_sequence Extents = false
+is_of_sequence fault = true
+
+-- the layout that is found, or else this fault
+abbrev pub found_or : VolumeFault → Answer Layout → Answer Layout
+found_or fault (found l) = found l
+found_or fault (holes unread) = faulty fault
+found_or fault (faulty other) = faulty fault
+
+-- By the strict rules the main sequence alone counts. By the wide ones, where it is read and what it says gives no layout, that of the
+-- reserve sequence counts, if it gives one, else the fault of the main one.
+abbrev pub or_reserve : Profile → Answer Layout → Answer Layout → Answer Layout
+or_reserve Strict main reserve = main
+or_reserve Wide (found l) reserve = found l
+or_reserve Wide (holes unread) reserve = holes unread
+or_reserve Wide (faulty fault) reserve = cond (is_of_sequence fault) (found_or fault reserve) (faulty fault)
+
 -- the layout of a volume, by what is known of its blocks
 unfoldable pub layout_by : Profile → Blocks → ℕ → Answer Layout
-layout_by profile blocks last = and_then (sequence_by profile blocks last) (layout_of profile last)
+layout_by profile blocks last = or_reserve profile (main_layout_by profile blocks last) (reserve_layout_by profile blocks last)
 
 -- the same by the strict rules
 abbrev pub layout : Blocks → ℕ → Answer Layout

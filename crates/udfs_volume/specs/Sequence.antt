@@ -2,6 +2,7 @@
 --     anchor blocks last                the extents of the first anchor that is known and valid
 --     position blocks main reserve      one position of a sequence, in two copies
 --     sequence_by profile blocks last   the descriptors before the end, by the rules of a profile
+--     reserve_sequence_by profile blocks last   the same with the roles of both extents exchanged
 --     sequence blocks last              the same by the strict rules
 use Rattle.std.specs.Prelude.{ℕ, ◌+◌, ◌-◌, ◌/◌, ◌%◌, Bool, false, not, List, [], ◌∷◌, length, drop, map, cond, nat_eq, nat_le, ◌&&◌, ◌||◌, Option, Some, None, take_while, slice_get}
 use Rattle.std.specs.List.{range_with_len}
@@ -146,6 +147,14 @@ sequence_at profile blocks last e = cond (are_extents_by profile last e) (read_p
 unfoldable pub sequence_by : Profile → Blocks → ℕ → Answer (List Descriptor)
 sequence_by profile blocks last = and_then (anchor blocks last) (sequence_at profile blocks last)
 
--- the same by the strict rules
+-- the extents with their roles exchanged
+abbrev pub exchanged : AnchorExtents → AnchorExtents
+exchanged e = record { main = e.reserve; reserve = e.main }
+
+-- the descriptor sequence with the roles of the extents exchanged: at each position the reserve copy is read where it is known, else the main one
+unfoldable pub reserve_sequence_by : Profile → Blocks → ℕ → Answer (List Descriptor)
+reserve_sequence_by profile blocks last = and_then (anchor blocks last) (λ e. sequence_at profile blocks last (exchanged e))
+
+-- the same as `sequence_by` by the strict rules
 abbrev pub sequence : Blocks → ℕ → Answer (List Descriptor)
 sequence = sequence_by Strict

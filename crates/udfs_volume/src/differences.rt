@@ -6,9 +6,10 @@ ghost use Rattle.udfs_lattice.specs.States.{fact_now};
 ghost use Rattle.udfs_lattice.specs.Tables.{state_of};
 ghost use Rattle.udfs_volume.specs.Answers.{IsHoles};
 ghost use Rattle.udfs_volume.specs.Seen.{Sees};
+ghost use Rattle.udfs_volume.specs.Laws.{is_of_layout};
 ghost use Rattle.udfs_volume.specs.Sequence.{anchor, goes_on, position};
 ghost use Rattle.udfs_volume.specs.Sequences.{descriptor_of};
-ghost use Rattle.udfs_volume.specs.Differences.{AgreesWithNoLayoutBy, AnchorsAgreeBy, CopiesAgreeBy, anchors_apart, anchors_differ, apart_from, contents_differ, copies_differ, differ_in, differs_known, gives_layout, has_anchor, known_differ, named_at, say_the_same};
+ghost use Rattle.udfs_volume.specs.Differences.{AgreesWithNoLayoutBy, AnchorsAgreeBy, CopiesAgreeBy, anchors_apart, anchors_differ, apart_from, contents_differ, copies_differ, differ_in, differs_known, has_anchor, known_differ, named_at, say_the_same};
 
 use crate::anchors::{AnchorExtents, anchor, places};
 use crate::descriptors::behind;
@@ -104,40 +105,36 @@ pub fn anchors_apart(table: &BlockTable, last: u32) -> Option<(u32, u32)>
     apart_in(table, &places(last))
 }
 
-/// Whether the block is, at its place, a descriptor from which the layout is read: a partition descriptor or a logical volume
-/// descriptor (ECMA-167 3/10.5, 3/10.6).
-fn gives_layout(block: &[u8; 2048], place: u32) -> bool
-    ensures { result ≡ gives_layout block.now place }
+/// Whether the layout is read from descriptors of this kind: partition descriptors and logical volume descriptors (ECMA-167 3/10.5,
+/// 3/10.6).
+fn is_of_layout(identifier: u16) -> bool
+    ensures { result ≡ is_of_layout identifier }
 {
-    match Tag::check(block, place) {
-        Ok(tag) => {
-            tag.identifier == identifiers::PARTITION
-                || tag.identifier == identifiers::LOGICAL_VOLUME
-        }
-        Err(_) => false,
-    }
+    identifier == identifiers::PARTITION || identifier == identifiers::LOGICAL_VOLUME
 }
 
-/// Whether both blocks are descriptors at their places, with one identifier and the same bytes from 16 on.
+/// Whether both blocks are descriptors at their places, with one identifier and, where the layout is read from them, the same bytes from
+/// 16 on; or neither is a descriptor there.
 fn say_the_same(one: &[u8; 2048], n: u32, other: &[u8; 2048], m: u32) -> bool
     ensures { result ≡ say_the_same one.now n other.now m }
 {
     match Tag::check(one, n) {
         Ok(first) => match Tag::check(other, m) {
             Ok(second) => {
-                first.identifier == second.identifier && behind(one, 16) == behind(other, 16)
+                first.identifier == second.identifier
+                    && (!is_of_layout(first.identifier) || behind(one, 16) == behind(other, 16))
             }
             Err(_) => false,
         },
-        Err(_) => false,
+        Err(_) => Tag::check(other, m).is_err(),
     }
 }
 
-/// Whether one of the blocks is a descriptor from which the layout is read, and the other does not say the same.
+/// Whether the blocks do not say the same.
 fn contents_differ(one: &[u8; 2048], n: u32, other: &[u8; 2048], m: u32) -> bool
     ensures { result ≡ contents_differ one.now n other.now m }
 {
-    (gives_layout(one, n) || gives_layout(other, m)) && !say_the_same(one, n, other, m)
+    !say_the_same(one, n, other, m)
 }
 
 /// The same of a block and what is known of another.
@@ -221,10 +218,10 @@ fn differ_by(profile: Profile, table: &BlockTable, last: u32, seen: Seen<AnchorE
     }
 }
 
-/// Whether a block of the main sequence and its copy in the reserve one are both known, and differ in a partition descriptor or a
-/// logical volume descriptor, up to the position that ends the sequence: one of the two is such a descriptor (ECMA-167 3/10.5, 3/10.6),
-/// and the other is none with the same identifier and the same bytes 16 to 2047. The volume that is opened then depends on which of them was
-/// read: no lawful volume agrees with the table. `false` where no anchor is known.
+/// Whether a block of the main sequence and its copy in the reserve one are both known, and do not say the same, up to the position that
+/// ends the sequence: one of the two is a descriptor at its place and the other is none, or they have different identifiers, or they are
+/// partition descriptors or logical volume descriptors (ECMA-167 3/10.5, 3/10.6) with different bytes 16 to 2047. The volume that is opened
+/// then depends on which of them was read: no lawful volume agrees with the table. `false` where no anchor is known.
 pub fn copies_differ(alloc: Global, table: &BlockTable, last: u32, profile: Profile) -> bool
     requires from { 513 ≤ last }
     requires to { last ≤ 4194303 }

@@ -4,7 +4,7 @@ ghost use Rattle.udfs_lattice.specs.declared.facts.Fact.TheVariants.{Unknown};
 ghost use Rattle.udfs_volume.specs.Answers.{holes};
 ghost use Rattle.udfs_volume.specs.Layout.{layout};
 ghost use Rattle.udfs_volume.specs.Sequence.{anchor_places};
-ghost use Rattle.udfs_volume.specs.Laws.{AscendingRises, EqualCopiesAreLawful, EqualCopiesAreLawfulBy, FoundBounds, FoundBoundsBy, LayoutBounds, LayoutLaw, LayoutLawBy, StandardLayout, StandardLayoutBy, StrictSequence};
+ghost use Rattle.udfs_volume.specs.Laws.{AscendingRises, EqualCopiesAreLawful, EqualCopiesAreLawfulBy, FoundBounds, FoundBoundsBy, LayoutBounds, LayoutLaw, LayoutLawBy, MainLayoutBy, StandardLayout, StandardLayoutBy, StrictSequence};
 ghost use Rattle.udfs_volume.specs.declared.profiles.Profile.{Profile};
 ghost use Rattle.udfs_volume.specs.Primaries.{PrimariesMayDiffer};
 ghost use Rattle.udfs_volume.specs.Sample.{SampleLayout};
@@ -15,6 +15,11 @@ ghost use Rattle.udfs_volume.specs.Sample.{SampleLayout};
 pub fn layout_of_lawful()
     ensures strict { LayoutLaw }
     ensures by_profile { (profile : Profile) → LayoutLawBy profile }
+{}
+
+/// Over such a table the layout is what the main sequence gives, by the wide rules too: the reserve sequence is not asked.
+pub fn main_sequence_counts()
+    ensures { (profile : Profile) → MainLayoutBy profile }
 {}
 
 /// A layout that is found lies within the volume.

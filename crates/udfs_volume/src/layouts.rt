@@ -1,15 +1,17 @@
 //! The layout of a volume (ECMA-167 3/10.5, 3/10.6, UDF 2.2.4).
 
-ghost use Rattle.std.specs.Prelude.{◌≡◌, ◌≤◌, ◌⊎◌, ◌∷◌, [], not, ◌||◌, nat_eq, map, option_map, IfOk, OnErr, MatchOption, ⊤};
+ghost use Rattle.std.specs.Prelude.{◌≡◌, ◌≤◌, ◌⊎◌, ◌∷◌, [], not, ◌||◌, nat_eq, map, option_map, IfOk, OnErr, MatchOption, List, false, ⊤};
 ghost use Rattle.std.specs.List.{list_all};
 ghost use Rattle.udfs_lattice.specs.Tables.{state_of};
 ghost use Rattle.udfs_tag.specs.Faults.{first_fault};
 ghost use Rattle.udfs_tag.specs.Fields.{part, uint32_at};
-ghost use Rattle.udfs_volume.specs.Layout.{bp, described, has_contents, has_domain, has_revision, is_in_range, is_range, laid_out, layout, layout_by, layout_of, map_count, partition_of, placed_of, size_within};
+ghost use Rattle.udfs_volume.specs.Layout.{bp, described, has_contents, has_domain, has_revision, is_in_range, is_of_sequence, is_range, laid_out, layout, layout_by, layout_of, main_layout_by, map_count, or_reserve, partition_of, placed_of, reserve_layout_by, size_within};
 ghost use Rattle.udfs_volume.specs.LayoutParts.{described_now, field_tests, has_contents_of, parts_now, partition_now};
 ghost use Rattle.udfs_osta.specs.Labels.{label_of};
 ghost use Rattle.udfs_volume.specs.Laws.{IsBounded};
+ghost use Rattle.udfs_volume.specs.Answers.{Answer, and_then, faulty};
 ghost use Rattle.udfs_volume.specs.Seen.{Sees, HolesRise, IfGot, TellsFault};
+ghost use Rattle.udfs_volume.specs.Sequence.{Descriptor as SequenceDescriptor};
 ghost use Rattle.udfs_volume.specs.Told.{TellsLawfulLayout, TellsLawfulLayoutBy};
 ghost use Rattle.udfs_volume.specs.Parts.{numbered_now};
 ghost use Rattle.udfs_volume.specs.Sequences.{descriptor_now, sequence_now};
@@ -19,7 +21,7 @@ use crate::faults::VolumeFault;
 use crate::maps::{NumberedMap, PartitionMap, read_maps};
 use crate::profiles::Profile;
 use crate::seen::Seen;
-use crate::sequences::sequence_in;
+use crate::sequences::{reserve_sequence_in, sequence_in};
 use std::alloc::{AllocError, Global};
 use udfs_lattice::{BlockStore, BlockTable, ReadFault};
 use udfs_osta::Label;
@@ -273,6 +275,93 @@ fn see_layout(alloc: Global, profile: Profile, last: u32, sequence: Sequence) ->
     }
 }
 
+/// The layout by what was seen of a sequence.
+fn see_by(alloc: Global, profile: Profile, last: u32, seen: Seen<Sequence>) -> Seen<VolumeParts>
+    ensures value { (answer : Answer (List SequenceDescriptor)) → Sees sequence_now seen answer → Sees parts_now result (and_then answer (layout_of profile last)) }
+    ensures bounded { IfGot result (λ parts. IsBounded last (parts_now parts)) }
+    ensures fault { (fault : VolumeFault) → seen ≡ Seen.Fault fault → result ≡ Seen.Fault fault }
+{
+    match seen {
+        Seen::Got(sequence) => see_layout(alloc, profile, last, sequence),
+        Seen::Holes(holes) => Seen::Holes(holes),
+        Seen::Fault(fault) => Seen::Fault(fault),
+        Seen::OutOfMemory => Seen::OutOfMemory,
+    }
+}
+
+/// The layout by the main sequence.
+fn main_layout_in<B: BlockStore>(
+    alloc: Global,
+    blocks: &B,
+    last: u32,
+    profile: Profile,
+) -> Result<Seen<VolumeParts>, ReadFault>
+    requires from { 513 ≤ last }
+    requires to { last ≤ 4194303 }
+    ensures value { IfOk result (λ seen. B.tells → Sees parts_now seen (main_layout_by profile (B.states blocks.now) last)) }
+    ensures bounded { IfOk result (λ seen. IfGot seen (λ parts. IsBounded last (parts_now parts))) }
+    ensures no_anchor { IfOk result (λ seen. B.tells → TellsFault VolumeFault.NoAnchor seen (main_layout_by profile (B.states blocks.now) last)) }
+    ensures extents { IfOk result (λ seen. B.tells → TellsFault VolumeFault.Extents seen (main_layout_by profile (B.states blocks.now) last)) }
+    ensures fails { OnErr result B.fails }
+{
+    let seen = sequence_in(alloc, blocks, last, profile)?;
+    Ok(see_by(alloc, profile, last, seen))
+}
+
+/// The layout by the reserve sequence.
+fn reserve_layout_in<B: BlockStore>(
+    alloc: Global,
+    blocks: &B,
+    last: u32,
+    profile: Profile,
+) -> Result<Seen<VolumeParts>, ReadFault>
+    requires from { 513 ≤ last }
+    requires to { last ≤ 4194303 }
+    ensures value { IfOk result (λ seen. B.tells → Sees parts_now seen (reserve_layout_by profile (B.states blocks.now) last)) }
+    ensures bounded { IfOk result (λ seen. IfGot seen (λ parts. IsBounded last (parts_now parts))) }
+    ensures fails { OnErr result B.fails }
+{
+    let seen = reserve_sequence_in(alloc, blocks, last, profile)?;
+    Ok(see_by(alloc, profile, last, seen))
+}
+
+/// Whether the fault is one of what a sequence says, and not of the anchor or of its extents.
+fn is_of_sequence(fault: VolumeFault) -> bool
+    ensures { result ≡ is_of_sequence fault }
+{
+    match fault {
+        VolumeFault::NoAnchor | VolumeFault::Extents => false,
+        _ => true,
+    }
+}
+
+/// What counts where the main sequence gives this fault: by the wide rules the layout of the reserve sequence, if it is found.
+fn or_reserve<B: BlockStore>(
+    alloc: Global,
+    blocks: &B,
+    last: u32,
+    profile: Profile,
+    fault: VolumeFault,
+) -> Result<Seen<VolumeParts>, ReadFault>
+    requires from { 513 ≤ last }
+    requires to { last ≤ 4194303 }
+    ensures value { IfOk result (λ seen. B.tells → Sees parts_now seen (or_reserve profile (faulty fault) (reserve_layout_by profile (B.states blocks.now) last))) }
+    ensures bounded { IfOk result (λ seen. IfGot seen (λ parts. IsBounded last (parts_now parts))) }
+    ensures early { IfOk result (λ seen. is_of_sequence fault ≡ false → seen ≡ Seen.Fault fault) }
+    ensures fails { OnErr result B.fails }
+{
+    match profile {
+        Profile::Strict => Ok(Seen::Fault(fault)),
+        Profile::Wide if !is_of_sequence(fault) => Ok(Seen::Fault(fault)),
+        Profile::Wide => match reserve_layout_in(alloc, blocks, last, profile)? {
+            Seen::Got(parts) => Ok(Seen::Got(parts)),
+            Seen::Holes(_) => Ok(Seen::Fault(fault)),
+            Seen::Fault(_) => Ok(Seen::Fault(fault)),
+            Seen::OutOfMemory => Ok(Seen::OutOfMemory),
+        },
+    }
+}
+
 /// The same as [`layout_by`], by any store of blocks.
 ///
 /// # Errors
@@ -294,10 +383,10 @@ pub fn layout_in<B: BlockStore>(
     ensures extents { IfOk result (λ seen. B.tells → TellsFault VolumeFault.Extents seen (layout_by profile (B.states blocks.now) last)) }
     ensures fails { OnErr result B.fails }
 {
-    match sequence_in(alloc, blocks, last, profile)? {
-        Seen::Got(found) => Ok(see_layout(alloc, profile, last, found)),
+    match main_layout_in(alloc, blocks, last, profile)? {
+        Seen::Got(parts) => Ok(Seen::Got(parts)),
         Seen::Holes(holes) => Ok(Seen::Holes(holes)),
-        Seen::Fault(fault) => Ok(Seen::Fault(fault)),
+        Seen::Fault(fault) => or_reserve(alloc, blocks, last, profile, fault),
         Seen::OutOfMemory => Ok(Seen::OutOfMemory),
     }
 }
@@ -305,6 +394,10 @@ pub fn layout_in<B: BlockStore>(
 /// The layout of a volume by the rules of a profile: the revision, the label, the partitions and the file
 /// set's address, by the logical volume descriptor and the partition descriptors that prevail in the volume
 /// descriptor sequence. Of several faults the one with the least number is reported.
+///
+/// At each position of the sequence the main copy is read where it is known, else the reserve copy. By the wide rules, where
+/// what is read so has a fault after `Extents`, the sequence is read once more with the reserve copy first at each position
+/// (ECMA-167 3/8.4.2), and the layout that is found counts; if none is, the first fault does.
 ///
 /// Of a volume that is lawful by these rules and with which the table agrees it returns the volume's own
 /// layout, as the standard reads it (ECMA-167 3/8.4), or holes, or `OutOfMemory`. The holes then include all

@@ -4,7 +4,7 @@ ghost use Rattle.std.specs.Prelude.{◌≡◌, ◌≤◌, ◌<◌, ◌+◌, ◌/
 ghost use Rattle.udfs_lattice.specs.Tables.{state_of};
 ghost use Rattle.udfs_lattice.specs.Volumes.{ascending};
 ghost use Rattle.udfs_volume.specs.Seen.{Sees, HolesRise, TellsFault};
-ghost use Rattle.udfs_volume.specs.Sequence.{are_extents, are_extents_by, fits_to, is_extent, position, positions, read_positions, sequence, sequence_at, sequence_by, shared};
+ghost use Rattle.udfs_volume.specs.Sequence.{are_extents, are_extents_by, exchanged, fits_to, is_extent, position, positions, read_positions, reserve_sequence_by, sequence, sequence_at, sequence_by, shared};
 ghost use Rattle.udfs_volume.specs.Sequences.{descriptor_of, position_now, sequence_now};
 
 use crate::anchors::{AnchorExtents, anchor_by};
@@ -211,6 +211,37 @@ pub fn sequence_in<B: BlockStore>(
 {
     match anchor_by(alloc, blocks, last)? {
         Seen::Got(extents) => sequence_at(alloc, blocks, last, extents, profile),
+        Seen::Holes(holes) => Ok(Seen::Holes(holes)),
+        Seen::Fault(fault) => Ok(Seen::Fault(fault)),
+        Seen::OutOfMemory => Ok(Seen::OutOfMemory),
+    }
+}
+
+/// Both extents with their roles exchanged.
+fn exchanged(extents: AnchorExtents) -> AnchorExtents
+    ensures { result ≡ exchanged extents }
+{
+    AnchorExtents {
+        main: extents.reserve,
+        reserve: extents.main,
+    }
+}
+
+/// The sequence with the roles of both extents exchanged: at each position the reserve copy is read where it is known, else the
+/// main copy.
+pub(crate) fn reserve_sequence_in<B: BlockStore>(
+    alloc: Global,
+    blocks: &B,
+    last: u32,
+    profile: Profile,
+) -> Result<Seen<Sequence>, ReadFault>
+    requires from { 513 ≤ last }
+    requires to { last ≤ 4194303 }
+    ensures value { IfOk result (λ seen. B.tells → Sees sequence_now seen (reserve_sequence_by profile (B.states blocks.now) last)) }
+    ensures fails { OnErr result B.fails }
+{
+    match anchor_by(alloc, blocks, last)? {
+        Seen::Got(extents) => sequence_at(alloc, blocks, last, exchanged(extents), profile),
         Seen::Holes(holes) => Ok(Seen::Holes(holes)),
         Seen::Fault(fault) => Ok(Seen::Fault(fault)),
         Seen::OutOfMemory => Ok(Seen::OutOfMemory),

@@ -6,9 +6,10 @@ use Rattle.std.proofs.lemmas.List.{map-append}
 use Rattle.udfs_tag.specs.declared.layouts.LongAd.{LongAd}
 use Rattle.udfs_space.specs.Sparing.{Space}
 use Rattle.udfs_space.specs.Places.{View}
+use Rattle.udfs_volume.specs.declared.profiles.Profile.{Profile}
 use Rattle.udfs_file.specs.Bodies.{Body, body, cells, faulty_body}
 use Rattle.udfs_file.specs.Entries.{EntryFields}
-use Rattle.udfs_file.specs.Fronts.{directory, directory_entries, fault_in}
+use Rattle.udfs_file.specs.Fronts.{directory_by, entries_by, fault_in}
 use Rattle.udfs_file.specs.declared.cells.Cell.{Cell}
 use Rattle.udfs_file.specs.declared.directories.DirEntry.{DirEntry}
 use Rattle.udfs_file.specs.declared.faults.Kind.{Kind}
@@ -45,16 +46,16 @@ listed_again : (o : Option NodeFault) (deep : Bool) (es : List DirEntry) (s : St
 listed_again None deep es s lists h = deep_again deep es s lists h
 listed_again (Some f) deep es s lists h = refl
 
-kind_again : (k : Kind) (deep : Bool) (cs : List Cell) (lists : TornFields) → lists ≡ lists_of (cells_standing cs) → with_lists lists (bare_standing (kind_standing k deep cs)) ≡ kind_standing k deep cs
-kind_again kind.Directory deep cs lists h = listed_again (fault_in (directory cs).rest) deep (directory_entries cs) (cells_standing cs) lists h
-kind_again kind.File deep cs lists h = again (cells_standing cs) lists h
-kind_again kind.Link deep cs lists h = again (cells_standing cs) lists h
-kind_again (kind.Other t) deep cs lists h = again (cells_standing cs) lists h
-kind_again kind.Unread deep cs lists h = again (cells_standing cs) lists h
+kind_again : (p : Profile) (k : Kind) (deep : Bool) (cs : List Cell) (lists : TornFields) → lists ≡ lists_of (cells_standing cs) → with_lists lists (bare_standing (kind_standing p k deep cs)) ≡ kind_standing p k deep cs
+kind_again p kind.Directory deep cs lists h = listed_again (fault_in (directory_by p cs).rest) deep (entries_by p cs) (cells_standing cs) lists h
+kind_again p kind.File deep cs lists h = again (cells_standing cs) lists h
+kind_again p kind.Link deep cs lists h = again (cells_standing cs) lists h
+kind_again p (kind.Other t) deep cs lists h = again (cells_standing cs) lists h
+kind_again p kind.Unread deep cs lists h = again (cells_standing cs) lists h
 
-body_again : (k : Kind) (deep : Bool) (b : Body) (lists : TornFields) → lists ≡ body_lists b → with_lists lists (bare_standing (body_standing k deep b)) ≡ body_standing k deep b
-body_again k deep (faulty_body f) lists h = refl
-body_again k deep (cells cs) lists h = kind_again k deep cs lists h
+body_again : (p : Profile) (k : Kind) (deep : Bool) (b : Body) (lists : TornFields) → lists ≡ body_lists b → with_lists lists (bare_standing (body_standing p k deep b)) ≡ body_standing p k deep b
+body_again p k deep (faulty_body f) lists h = refl
+body_again p k deep (cells cs) lists h = kind_again p k deep cs lists h
 
 loop_again : (l : Bool) (s : Standing) (lists : TornFields) → with_lists lists (bare_standing s) ≡ s → with_lists lists (bare_standing (cond l Loop s)) ≡ cond l Loop s
 loop_again true s lists h = refl
@@ -67,8 +68,8 @@ node_with_lists n lists = record { path = n.path; icb = n.icb; kind = n.kind; si
 at_target : (v : View) (w : Walked) (t : Target) (lists : TornFields) → lists ≡ target_lists v w.address t → node_with_lists (node_at v w t) lists ≡ node_at v w t
 at_target v w (bad f) lists e = refl
 at_target v w (unread n) lists e = ap (node_with_lists (node_at v w (unread n))) e
-at_target v w (entry e) lists h = ap (told v.profile w e) (loop_again (is_loop w) (body_standing e.kind (is_deep w) (body v w.address.reference w.address.block e)) lists
-    (body_again e.kind (is_deep w) (body v w.address.reference w.address.block e) lists h))
+at_target v w (entry e) lists h = ap (told v.profile w e) (loop_again (is_loop w) (body_standing v.profile e.kind (is_deep w) (body v w.address.reference w.address.block e)) lists
+    (body_again v.profile e.kind (is_deep w) (body v w.address.reference w.address.block e) lists h))
 
 icb_in : (v : View) (w : Walked) (t : Target) → (node_at v w t).icb ≡ w.address
 icb_in v w (bad f) = refl
@@ -96,7 +97,7 @@ entry_again v icb f u t e = ap (full_entry v) e ∙ with_entry
     lists = lists_entry v (address_of icb) f t
 
     with_entry : full_entry v (bare_entry (unnamed_with v icb f)) ≡ unnamed_with v icb f
-    with_entry = λ i. record { reference = icb.reference; block = icb.block; kind = kind_by v.profile f.kind; size = f.size; stamp = f.stamp; standing = body_again f.kind false (body v icb.reference icb.block f) (lists_at v (address_of icb)) lists i }
+    with_entry = λ i. record { reference = icb.reference; block = icb.block; kind = kind_by v.profile f.kind; size = f.size; stamp = f.stamp; standing = body_again v.profile f.kind false (body v icb.reference icb.block f) (lists_at v (address_of icb)) lists i }
 
 -- one entry more
 pub entries_more : (v : View) (old new : List Unnamed) (u : Unnamed) → new ≡ old ++ u ∷ [] → map (full_entry v) new ≡ map (full_entry v) old ++ full_entry v u ∷ []

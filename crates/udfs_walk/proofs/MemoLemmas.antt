@@ -11,8 +11,9 @@ use Rattle.udfs_lattice.specs.Volumes.{ascending}
 use Rattle.udfs_lattice.specs.declared.facts.Fact.TheVariants.{Unknown, Known, Conflict}
 use Rattle.udfs_tag.specs.Fields.{number_of}
 use Rattle.udfs_space.specs.Places.{View}
+use Rattle.udfs_volume.specs.declared.profiles.Profile.{Profile}
 use Rattle.udfs_file.specs.Bodies.{Body, cells, faulty_body}
-use Rattle.udfs_file.specs.Fronts.{directory, directory_entries, fault_in}
+use Rattle.udfs_file.specs.Fronts.{directory_by, entries_by, fault_in}
 use Rattle.udfs_file.specs.Stretches.{IsStanding}
 use Rattle.udfs_file.specs.declared.cells.Cell.{Cell}
 use Rattle.udfs_file.specs.declared.directories.DirEntry.{DirEntry}
@@ -70,17 +71,17 @@ listed_deep None true [] s h = standing_again s
 listed_deep None false es s h = standing_again s
 listed_deep (Some f) deep es s h = fault_deep (deep && nat_lt 0 (length es)) f
 
-kind_is : (k : Kind) (deep : Bool) (cs : List Cell) → known_standing deep (known_of k (cells cs)) ≡ bare_standing (body_standing k deep (cells cs))
-kind_is kind.Directory deep cs = listed_deep (fault_in (directory cs).rest) deep (directory_entries cs) (cells_standing cs) (cells_deep cs)
-kind_is kind.File deep cs = not_listed deep (cells_standing cs)
-kind_is kind.Link deep cs = not_listed deep (cells_standing cs)
-kind_is (kind.Other t) deep cs = not_listed deep (cells_standing cs)
-kind_is kind.Unread deep cs = not_listed deep (cells_standing cs)
+kind_is : (p : Profile) (k : Kind) (deep : Bool) (cs : List Cell) → known_standing deep (known_of p k (cells cs)) ≡ bare_standing (body_standing p k deep (cells cs))
+kind_is p kind.Directory deep cs = listed_deep (fault_in (directory_by p cs).rest) deep (entries_by p cs) (cells_standing cs) (cells_deep cs)
+kind_is p kind.File deep cs = not_listed deep (cells_standing cs)
+kind_is p kind.Link deep cs = not_listed deep (cells_standing cs)
+kind_is p (kind.Other t) deep cs = not_listed deep (cells_standing cs)
+kind_is p kind.Unread deep cs = not_listed deep (cells_standing cs)
 
 -- the standing that is kept is that of the body
-pub known_is : (k : Kind) (deep : Bool) (b : Body) → known_standing deep (known_of k b) ≡ bare_standing (body_standing k deep b)
-known_is k deep (faulty_body f) = fault_deep (deep && (known_of k (faulty_body f)).lists) f
-known_is k deep (cells cs) = kind_is k deep cs
+pub known_is : (p : Profile) (k : Kind) (deep : Bool) (b : Body) → known_standing deep (known_of p k b) ≡ bare_standing (body_standing p k deep b)
+known_is p k deep (faulty_body f) = fault_deep (deep && (known_of p k (faulty_body f)).lists) f
+known_is p k deep (cells cs) = kind_is p k deep cs
 
 pub none_listed : (es : List DirEntry) → nat_lt 0 (length es) ≡ false → es ≡ []
 none_listed [] h = refl

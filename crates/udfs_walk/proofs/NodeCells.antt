@@ -23,7 +23,7 @@ icb_at v w (entry e) = refl
 
 -- a node with a body has its cells
 entry_cells : (v : View) (w : Walked) (e : EntryFields) (b : Body) (l : Bool) → target v w.address ≡ entry e
-    → body v w.address.reference w.address.block e ≡ b → HasBody (cond l Loop (body_standing e.kind (is_deep w) b)) (Some e.size)
+    → body v w.address.reference w.address.block e ≡ b → HasBody (cond l Loop (body_standing v.profile e.kind (is_deep w) b)) (Some e.size)
     → (cs : List Cell) × HasCells v w.address cs
 entry_cells v w e b true t has h = absurd h
 entry_cells v w e (cells cs) false t has h = (cs, record { fields = e; is_entry = t; has_body = has })

@@ -7,6 +7,7 @@ use Rattle.udfs_osta.specs.Escapes.{escaped}
 use Rattle.udfs_osta.specs.Parts.{IsPathPart}
 use Rattle.udfs_tag.specs.declared.layouts.LongAd.{LongAd}
 use Rattle.udfs_space.specs.Places.{View}
+use Rattle.udfs_volume.specs.declared.profiles.Profile.{Profile}
 use Rattle.udfs_file.specs.Bodies.{Body, cells, faulty_body, body}
 use Rattle.udfs_file.specs.declared.directories.DirEntry.{DirEntry}
 use Rattle.udfs_file.specs.declared.faults.Kind.{Kind}
@@ -35,21 +36,21 @@ in_either (y ∷ xs) ys x (inr i) = go (in_either xs ys x i)
     go (inr j) = inr j
 
 -- ---- the entries to which a route goes on
-good_in : (b : Body) (d : DirEntry) → Includes (entries_in b) d → IsGood d.name
-good_in (cells cs) d i = names_are_parts cs d (contained (entries_in (cells cs)) d i)
-good_in (faulty_body f) d i = absurd i
+good_in : (p : Profile) (b : Body) (d : DirEntry) → Includes (entries_in p b) d → IsGood d.name
+good_in p (cells cs) d i = names_are_parts p cs d (contained (entries_in p (cells cs)) d i)
+good_in p (faulty_body f) d i = absurd i
 
-good_kind : (k : Kind) (b : Body) (d : DirEntry) → Includes (kind_entries k b) d → IsGood d.name
-good_kind Directory b d i = good_in b d i
-good_kind File b d i = absurd i
-good_kind Link b d i = absurd i
-good_kind (Other t) b d i = absurd i
-good_kind Unread b d i = absurd i
+good_kind : (p : Profile) (k : Kind) (b : Body) (d : DirEntry) → Includes (kind_entries p k b) d → IsGood d.name
+good_kind p Directory b d i = good_in p b d i
+good_kind p File b d i = absurd i
+good_kind p Link b d i = absurd i
+good_kind p (Other t) b d i = absurd i
+good_kind p Unread b d i = absurd i
 
 good_target : (v : View) (a : LongAd) (t : Target) (d : DirEntry) → Includes (target_entries v a t) d → IsGood d.name
 good_target v a (bad f) d i = absurd i
 good_target v a (unread n) d i = absurd i
-good_target v a (entry e) d i = good_kind e.kind (body v a.reference a.block e) d i
+good_target v a (entry e) d i = good_kind v.profile e.kind (body v a.reference a.block e) d i
 
 good_below : (v : View) (w : Walked) (d : DirEntry) → Includes (entries_below v w) d → IsGood d.name
 unfolding entries_below

@@ -22,16 +22,16 @@ unfolding target
 target_is maps a kind cs f = (λ i. target_at (f.is_good i) a.block (f.there i)) ∙ ap (λ o. entry_unless o (entry_of f.bytes)) f.is_sound
 
 -- what is told of it is what its body says
-standing_is : (maps : Maps) (w : Walked) (kind : Kind) (cs : List Cell) (f : IsSampleFile maps w.address kind cs) → is_loop w ≡ false → (node (sample_view maps) w).standing ≡ body_standing kind (is_deep w) (cells cs)
+standing_is : (maps : Maps) (w : Walked) (kind : Kind) (cs : List Cell) (f : IsSampleFile maps w.address kind cs) → is_loop w ≡ false → (node (sample_view maps) w).standing ≡ body_standing (sample_view maps).profile kind (is_deep w) (cells cs)
 unfolding node
 standing_is maps w kind cs f loop = ap (λ t. (node_at (sample_view maps) w t).standing) (target_is maps w.address kind cs f)
-    ∙ (λ i. cond (loop i) Loop (body_standing (f.kind_is i) (is_deep w) (f.has_body i)))
+    ∙ (λ i. cond (loop i) Loop (body_standing (sample_view maps).profile (f.kind_is i) (is_deep w) (f.has_body i)))
 
 -- and routes go on at what it lists
-entries_are : (maps : Maps) (w : Walked) (kind : Kind) (cs : List Cell) (f : IsSampleFile maps w.address kind cs) → is_loop w ≡ false → is_deep w ≡ false → entries_below (sample_view maps) w ≡ kind_entries kind (cells cs)
+entries_are : (maps : Maps) (w : Walked) (kind : Kind) (cs : List Cell) (f : IsSampleFile maps w.address kind cs) → is_loop w ≡ false → is_deep w ≡ false → entries_below (sample_view maps) w ≡ kind_entries (sample_view maps).profile kind (cells cs)
 unfolding entries_below
 entries_are maps w kind cs f loop deep = (λ i. cond (loop i || deep i) [] (target_entries (sample_view maps) w.address (target_is maps w.address kind cs f i)))
-    ∙ (λ i. kind_entries (f.kind_is i) (f.has_body i))
+    ∙ (λ i. kind_entries (sample_view maps).profile (f.kind_is i) (f.has_body i))
 
 -- no cell is missing
 all_of_root : (maps : Maps) → cells_standing (root_cells maps) ≡ Whole

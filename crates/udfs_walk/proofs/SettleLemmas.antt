@@ -38,7 +38,7 @@ short_stays : (v : View) (n : NodeFields) (t : Target) → nat_le 64 (length n.p
 short_stays v n t e = ap (λ b. cond (b && is_whole n.standing) (settled_at v n t) n) e
 
 entry_settled : (v : View) (w : Walked) (e : EntryFields) (l d : Bool) → is_deep w ≡ d → (s : Bool → Standing)
-    → s ≡ (λ b. body_standing e.kind b (body v w.address.reference w.address.block e))
+    → s ≡ (λ b. body_standing v.profile e.kind b (body v w.address.reference w.address.block e))
     → cond (waits (told v.profile w e (cond l Loop (cond d Whole (bare_standing (s false)))))) (settled_at v (told v.profile w e (cond l Loop (cond d Whole (bare_standing (s false))))) (entry e))
     (told v.profile w e (cond l Loop (cond d Whole (bare_standing (s false))))) ≡ told v.profile w e (bare_standing (cond l Loop (s d)))
 entry_settled v w e true d deep s is = stays v (told v.profile w e Loop) (entry e) refl
@@ -48,7 +48,7 @@ entry_settled v w e false false deep s is = short_stays v (told v.profile w e (b
 at_target : (v : View) (w : Walked) (t : Target) → cond (waits (unsettled_at v w t)) (settled_at v (unsettled_at v w t) t) (unsettled_at v w t) ≡ bare_node (node_at v w t)
 at_target v w (bad f) = stays v (unsettled_at v w (bad f)) (bad f) refl
 at_target v w (unread n) = stays v (unsettled_at v w (unread n)) (unread n) refl
-at_target v w (entry e) = entry_settled v w e (is_loop w) (is_deep w) refl (λ b. body_standing e.kind b (body v w.address.reference w.address.block e)) refl
+at_target v w (entry e) = entry_settled v w e (is_loop w) (is_deep w) refl (λ b. body_standing v.profile e.kind b (body v w.address.reference w.address.block e)) refl
 
 address_in : (v : View) (w : Walked) (t : Target) → (unsettled_at v w t).icb ≡ w.address
 address_in v w (bad f) = refl

@@ -1,6 +1,6 @@
 -- What is kept of entries, each by the number of its information control block.
 --     word_of standing, standing_of word     a standing without its blocks and holes, as a `Word` and back
---     known_of kind body                     what is kept of an entry of this kind with this body
+--     known_of profile kind body             what is kept of an entry of this kind with this body
 --     known_standing is_deep known           the standing that is kept
 --     HasWords view memo                     what is known of each entry is what its body says
 --     IsMemo view memo                       and what is kept of what it lists is all of it
@@ -9,6 +9,7 @@ use Rattle.std.specs.BTreeMap.{BTreeMap, get}
 use Rattle.std.specs.Ordering.{nat_cmp}
 use Rattle.udfs_tag.specs.Fields.{number_of}
 use Rattle.udfs_space.specs.Places.{View}
+use Rattle.udfs_volume.specs.declared.profiles.Profile.{Profile}
 use Rattle.udfs_file.specs.Bodies.{Body, body}
 use Rattle.udfs_file.specs.Entries.{entry_of}
 use Rattle.udfs_file.specs.Stretches.{IsStanding}
@@ -50,8 +51,8 @@ deep_word true (word.Fault f) = word.Fault f
 deep_word false w = w
 
 -- how whole an entry of this kind with this body is, and whether it lists entries
-abbrev pub known_of : Kind → Body → Known
-known_of kind b = record { word = word_of (body_standing kind false b); lists = nat_lt 0 (length (kind_entries kind b)) }
+abbrev pub known_of : Profile → Kind → Body → Known
+known_of profile kind b = record { word = word_of (body_standing profile kind false b); lists = nat_lt 0 (length (kind_entries profile kind b)) }
 
 -- the standing that is kept, where the entry is no loop
 abbrev pub known_standing : Bool → Known → Standing
@@ -64,11 +65,11 @@ AreKept view IsSo kept = (icb : Icb) (bytes : List ℕ) (x : _) → icb.block < 
 
 -- what is known is what the body says of the entry there
 abbrev pub IsWordOf : View → Icb → List ℕ → Kept → Type 0
-IsWordOf view icb bytes kept = kept.known ≡ known_of (entry_of bytes).kind (body view icb.reference icb.block (entry_of bytes))
+IsWordOf view icb bytes kept = kept.known ≡ known_of view.profile (entry_of bytes).kind (body view icb.reference icb.block (entry_of bytes))
 
 -- and what is kept of what the entry there lists is all of it
 abbrev pub IsToldOf : View → Icb → List ℕ → Kept → Type 0
-IsToldOf view icb bytes kept = IsWordOf view icb bytes kept × AreListed kept.entries (kind_entries (entry_of bytes).kind (body view icb.reference icb.block (entry_of bytes)))
+IsToldOf view icb bytes kept = IsWordOf view icb bytes kept × AreListed kept.entries (kind_entries view.profile (entry_of bytes).kind (body view icb.reference icb.block (entry_of bytes)))
 
 -- what is known of each entry is what its body says
 abbrev pub HasWords : View → Memo → Type 0

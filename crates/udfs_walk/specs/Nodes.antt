@@ -41,7 +41,7 @@ untold w standing = record {
 -- a loop, or what the body says
 abbrev pub entry_standing : View → Walked → EntryFields → Standing
 entry_standing view w e = cond (is_loop w) Loop
-    (body_standing e.kind (is_deep w) (body view w.address.reference w.address.block e))
+    (body_standing view.profile e.kind (is_deep w) (body view w.address.reference w.address.block e))
 
 -- the first that holds: a bad address, an ICB that is not known, a fault of the entry, a loop, a fault of the body
 -- or of what a directory lists, missing cells; else it is whole

@@ -7,8 +7,9 @@ use Rattle.std.specs.Prelude.{◌≡◌, ℕ, ◌<◌, bit_and, Bool, false, Lis
 use Rattle.std.specs.List.{list_any, AllZip}
 use Rattle.udfs_tag.specs.declared.layouts.LongAd.{LongAd}
 use Rattle.udfs_space.specs.Places.{View}
+use Rattle.udfs_volume.specs.declared.profiles.Profile.{Profile}
 use Rattle.udfs_file.specs.Bodies.{Body, cells, faulty_body, body}
-use Rattle.udfs_file.specs.Fronts.{directory_entries}
+use Rattle.udfs_file.specs.Fronts.{entries_by}
 use Rattle.udfs_file.specs.declared.directories.DirEntry.{DirEntry}
 use Rattle.udfs_file.specs.declared.faults.Kind.{Kind}
 use Rattle.udfs_file.specs.declared.faults.Kind.TheVariants.{Directory}
@@ -42,19 +43,19 @@ is_loop w = list_any (is_icb (icb_of w.address)) w.above
 abbrev pub is_deep : Walked → Bool
 is_deep w = nat_le 64 (length w.path)
 
--- the entries of a directory's body; a faulty body has none
-abbrev pub entries_in : Body → List DirEntry
-entries_in (cells cs) = directory_entries cs
-entries_in (faulty_body fault) = []
+-- the entries of a directory's body, by these rules; a faulty body has none
+abbrev pub entries_in : Profile → Body → List DirEntry
+entries_in profile (cells cs) = entries_by profile cs
+entries_in profile (faulty_body fault) = []
 
 -- the entries of a directory; a node of another kind has none
-abbrev pub kind_entries : Kind → Body → List DirEntry
-kind_entries Directory b = entries_in b
-kind_entries _ b = []
+abbrev pub kind_entries : Profile → Kind → Body → List DirEntry
+kind_entries profile Directory b = entries_in profile b
+kind_entries profile _ b = []
 
 -- the entries below what an address leads to
 abbrev pub target_entries : View → LongAd → Target → List DirEntry
-target_entries view a (entry e) = kind_entries e.kind (body view a.reference a.block e)
+target_entries view a (entry e) = kind_entries view.profile e.kind (body view a.reference a.block e)
 target_entries view a _ = []
 
 -- the entries to which a route goes on: those of a directory that is no loop and has fewer than 64 names above

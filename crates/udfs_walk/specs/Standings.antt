@@ -1,11 +1,12 @@
 -- Standings: what is missing of a body, and what is reported of a node with a body.
 --     missing_blocks cells                       the blocks that missing cells name
 --     runs_from at cells                         the maximal runs of missing cells
---     body_standing kind is_deep body            the standing of an entry with this body
+--     body_standing profile kind is_deep body    the standing of an entry with this body, by these rules
 use Rattle.std.specs.Prelude.{ℕ, ◌+◌, Bool, true, false, List, [], ◌∷◌, cond, nat_eq, Option, Some, None}
 use Rattle.udfs_lattice.specs.Volumes.{ascending}
+use Rattle.udfs_volume.specs.declared.profiles.Profile.{Profile}
 use Rattle.udfs_file.specs.Bodies.{Body, cells, faulty_body}
-use Rattle.udfs_file.specs.Fronts.{directory, directory_entries, fault_in}
+use Rattle.udfs_file.specs.Fronts.{directory_by, entries_by, fault_in}
 use Rattle.udfs_file.specs.declared.cells.Cell.{Cell}
 use Rattle.udfs_file.specs.declared.cells.Cell.TheVariants.{Byte, Gap}
 use Rattle.udfs_file.specs.declared.directories.DirEntry.{DirEntry}
@@ -54,15 +55,15 @@ standing_or_fault None standing = standing
 standing_or_fault (Some f) standing = Fault f
 
 -- of a directory, a fault of what it lists comes first
-abbrev pub directory_standing : Bool → List Cell → Standing
-directory_standing is_deep cs = standing_or_fault (fault_in (directory cs).rest) (depth_or is_deep (directory_entries cs) (cells_standing cs))
+abbrev pub directory_standing : Profile → Bool → List Cell → Standing
+directory_standing profile is_deep cs = standing_or_fault (fault_in (directory_by profile cs).rest) (depth_or is_deep (entries_by profile cs) (cells_standing cs))
 
 -- the standing of a directory, and that of an entry of another kind
-abbrev pub kind_standing : Kind → Bool → List Cell → Standing
-kind_standing Directory is_deep cs = directory_standing is_deep cs
-kind_standing _ is_deep cs = cells_standing cs
+abbrev pub kind_standing : Profile → Kind → Bool → List Cell → Standing
+kind_standing profile Directory is_deep cs = directory_standing profile is_deep cs
+kind_standing profile _ is_deep cs = cells_standing cs
 
 -- a fault of the body comes first of all
-abbrev pub body_standing : Kind → Bool → Body → Standing
-body_standing kind is_deep (faulty_body f) = Fault f
-body_standing kind is_deep (cells cs) = kind_standing kind is_deep cs
+abbrev pub body_standing : Profile → Kind → Bool → Body → Standing
+body_standing profile kind is_deep (faulty_body f) = Fault f
+body_standing profile kind is_deep (cells cs) = kind_standing profile kind is_deep cs

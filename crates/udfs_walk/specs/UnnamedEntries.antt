@@ -31,7 +31,7 @@ unnamed_with view icb e = record {
   kind = kind_by view.profile e.kind;
   size = e.size;
   stamp = e.stamp;
-  standing = body_standing e.kind false (body view icb.reference icb.block e);
+  standing = body_standing view.profile e.kind false (body view icb.reference icb.block e);
 }
 
 -- the entry at an information control block, if it is a sound one

@@ -20,7 +20,7 @@ use Rattle.udfs_walk.specs.declared.standings.Standing.TheVariants.{Whole, Torn,
 -- a loop, or what the body says; where 64 names lead to it the entry counts as whole until it is settled
 abbrev pub unsettled_standing : View → Walked → EntryFields → Standing
 unsettled_standing view w e = cond (is_loop w) Loop
-    (cond (is_deep w) Whole (bare_standing (body_standing e.kind false (body view w.address.reference w.address.block e))))
+    (cond (is_deep w) Whole (bare_standing (body_standing view.profile e.kind false (body view w.address.reference w.address.block e))))
 
 -- the node of what an address leads to
 abbrev pub unsettled_at : View → Walked → Target → NodeFields
@@ -47,7 +47,7 @@ waits n = nat_le 64 (length n.path) && is_whole n.standing
 abbrev pub settled_at : View → NodeFields → Target → NodeFields
 settled_at view n (bad f) = n
 settled_at view n (unread m) = n
-settled_at view n (entry e) = node_with n (bare_standing (body_standing e.kind true (body view n.icb.reference n.icb.block e)))
+settled_at view n (entry e) = node_with n (bare_standing (body_standing view.profile e.kind true (body view n.icb.reference n.icb.block e)))
 
 -- the node as it is listed, without its blocks and holes
 unfoldable pub settled : View → NodeFields → NodeFields

@@ -65,9 +65,9 @@ pub(crate) fn body_walked<L: Ledger>(
     walks: &mut Walks<L>,
 ) -> Result<Told, AllocError>
     requires { IsStanding (view_now view) address.reference address.block entry.now }
-    ensures standing { IfOk result (λ told. told.standing ≡ bare_standing (body_standing (entry_of entry.now).kind false
+    ensures standing { IfOk result (λ told. told.standing ≡ bare_standing (body_standing (view_now view.entry).profile (entry_of entry.now).kind false
         (body (view_now view.entry) address.reference address.block (entry_of entry.now)))) }
-    ensures lists { IfOk result (λ told. told.lists ≡ nat_lt 0 (length (kind_entries (entry_of entry.now).kind
+    ensures lists { IfOk result (λ told. told.lists ≡ nat_lt 0 (length (kind_entries (view_now view.entry).profile (entry_of entry.now).kind
         (body (view_now view.entry) address.reference address.block (entry_of entry.now))))) }
     ensures walks { walks.new ≡ walks.old + 1 }
 {
@@ -86,14 +86,14 @@ pub(crate) fn entered_walked<L: Ledger>(
     walks: &mut Walks<L>,
 ) -> Result<(Told, Vec<DirEntry>), NodesError>
     requires { IsStanding (view_now view) address.reference address.block entry.now }
-    ensures standing { IfOk result (λ entered. entered.0.standing ≡ bare_standing (body_standing (entry_of entry.now).kind false
+    ensures standing { IfOk result (λ entered. entered.0.standing ≡ bare_standing (body_standing (view_now view.entry).profile (entry_of entry.now).kind false
         (body (view_now view.entry) address.reference address.block (entry_of entry.now)))) }
-    ensures lists { IfOk result (λ entered. entered.0.lists ≡ nat_lt 0 (length (kind_entries (entry_of entry.now).kind
+    ensures lists { IfOk result (λ entered. entered.0.lists ≡ nat_lt 0 (length (kind_entries (view_now view.entry).profile (entry_of entry.now).kind
         (body (view_now view.entry) address.reference address.block (entry_of entry.now))))) }
-    ensures entries { IfOk result (λ entered. entered.1.items ≡ kind_entries (entry_of entry.now).kind
+    ensures entries { IfOk result (λ entered. entered.1.items ≡ kind_entries (view_now view.entry).profile (entry_of entry.now).kind
         (body (view_now view.entry) address.reference address.block (entry_of entry.now))) }
     ensures few { IfOk result (λ entered. length entered.1.items ≤ most) }
-    ensures refused { IfErr result (AreRefused most (kind_entries (entry_of entry.now).kind
+    ensures refused { IfErr result (AreRefused most (kind_entries (view_now view.entry).profile (entry_of entry.now).kind
         (body (view_now view.entry) address.reference address.block (entry_of entry.now)))) }
     ensures walks { walks.new ≡ walks.old + 1 }
 {

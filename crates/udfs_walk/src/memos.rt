@@ -163,12 +163,12 @@ impl Memo {
     ) -> Result<(Standing, Option<Children>), NodesError>
         requires stands { IsStanding (view_now view) address.reference address.block entry.now }
         requires memo { IsMemo (view_now view) self.old }
-        ensures standing { IfOk result (λ told. told.0 ≡ bare_standing (body_standing (entry_of entry.now).kind false
+        ensures standing { IfOk result (λ told. told.0 ≡ bare_standing (body_standing (view_now view.entry).profile (entry_of entry.now).kind false
             (body (view_now view.entry) address.reference address.block (entry_of entry.now)))) }
-        ensures entries { IfOk result (λ told. AreListed told.1 (kind_entries (entry_of entry.now).kind
+        ensures entries { IfOk result (λ told. AreListed told.1 (kind_entries (view_now view.entry).profile (entry_of entry.now).kind
             (body (view_now view.entry) address.reference address.block (entry_of entry.now)))) }
         ensures few { IfOk result (λ told. count_listed told.1 ≤ most) }
-        ensures refused { IfErr result (AreRefused most (kind_entries (entry_of entry.now).kind
+        ensures refused { IfErr result (AreRefused most (kind_entries (view_now view.entry).profile (entry_of entry.now).kind
             (body (view_now view.entry) address.reference address.block (entry_of entry.now)))) }
         ensures memo { IfOk result (λ told. IsMemo (view_now view.entry) self.new) }
         ensures again { IsSome (get nat_cmp self.old.kept (number_of address)) → walks.new ≡ walks.old }
@@ -202,7 +202,7 @@ impl Memo {
     ) -> Result<Known, AllocError>
         requires stands { IsStanding (view_now view) address.reference address.block entry.now }
         requires words { HasWords (view_now view) self.old }
-        ensures known { IfOk result (λ known. known ≡ known_of (entry_of entry.now).kind
+        ensures known { IfOk result (λ known. known ≡ known_of (view_now view.entry).profile (entry_of entry.now).kind
             (body (view_now view.entry) address.reference address.block (entry_of entry.now))) }
         ensures words { IfOk result (λ known. HasWords (view_now view.entry) self.new) }
         ensures again { IsSome (get nat_cmp self.old.kept (number_of address)) → walks.new ≡ walks.old }

@@ -5,7 +5,8 @@ ghost use Rattle.udfs_space.specs.Views.{view_now};
 ghost use Rattle.udfs_file.specs.Stretches.{IsStanding, cells_of};
 ghost use Rattle.udfs_file.specs.Entries.{entry_of};
 ghost use Rattle.udfs_file.specs.Bodies.{body, cells};
-ghost use Rattle.udfs_file.specs.Fronts.{IsEndOf, IsFrontOf, directory, directory_entries, fault_in};
+ghost use Rattle.udfs_file.specs.Fronts.{IsEndBy, IsFrontBy, directory_by, entries_by, fault_in};
+ghost use Rattle.udfs_volume.specs.declared.profiles.Profile.{Profile};
 ghost use Rattle.udfs_file.specs.declared.cells.Cell.{Cell};
 ghost use Rattle.udfs_walk.specs.Bare.{bare_standing};
 ghost use Rattle.udfs_walk.specs.Standings.{body_standing, kind_standing, standing_or_fault};
@@ -32,8 +33,8 @@ pub(crate) struct Told {
 
 /// What is known of a directory that ends like this, and whose cells alone have this standing.
 fn ended(end: DirEnd, standing: Standing) -> Told
-    ensures standing { (cs : List Cell) → IsEndOf end cs → result.standing ≡ standing_or_fault (fault_in (directory cs).rest) standing }
-    ensures lists { (cs : List Cell) → IsEndOf end cs → result.lists ≡ nat_lt 0 (length (directory_entries cs)) }
+    ensures standing { (profile : Profile) (cs : List Cell) → IsEndBy profile end cs → result.standing ≡ standing_or_fault (fault_in (directory_by profile cs).rest) standing }
+    ensures lists { (profile : Profile) (cs : List Cell) → IsEndBy profile end cs → result.lists ≡ nat_lt 0 (length (entries_by profile cs)) }
 {
     let standing = match end.fault {
         Some(fault) => Standing::Fault(fault),
@@ -47,8 +48,8 @@ fn ended(end: DirEnd, standing: Standing) -> Told
 
 /// What a body says of an entry of this kind.
 fn kind_told(alloc: Global, view: View<'_>, kind: Kind, body: &Body) -> Told
-    ensures standing { result.standing ≡ bare_standing (kind_standing kind false (cells_of (view_now view.entry) body.now)) }
-    ensures lists { result.lists ≡ nat_lt 0 (length (kind_entries kind (cells (cells_of (view_now view.entry) body.now)))) }
+    ensures standing { result.standing ≡ bare_standing (kind_standing (view_now view.entry).profile kind false (cells_of (view_now view.entry) body.now)) }
+    ensures lists { result.lists ≡ nat_lt 0 (length (kind_entries (view_now view.entry).profile kind (cells (cells_of (view_now view.entry) body.now)))) }
 {
     let standing = bare_cells_standing(alloc, view, body);
     match kind {
@@ -68,9 +69,9 @@ pub(crate) fn body_told(
     address: LbAddr,
 ) -> Result<Told, AllocError>
     requires { IsStanding (view_now view) address.reference address.block entry.now }
-    ensures standing { IfOk result (λ told. told.standing ≡ bare_standing (body_standing (entry_of entry.now).kind false
+    ensures standing { IfOk result (λ told. told.standing ≡ bare_standing (body_standing (view_now view.entry).profile (entry_of entry.now).kind false
         (body (view_now view.entry) address.reference address.block (entry_of entry.now)))) }
-    ensures lists { IfOk result (λ told. told.lists ≡ nat_lt 0 (length (kind_entries (entry_of entry.now).kind
+    ensures lists { IfOk result (λ told. told.lists ≡ nat_lt 0 (length (kind_entries (view_now view.entry).profile (entry_of entry.now).kind
         (body (view_now view.entry) address.reference address.block (entry_of entry.now))))) }
 {
     match Body::read(
@@ -92,7 +93,7 @@ pub(crate) fn body_told(
 
 /// What ends a directory of which this is the front.
 fn end_of(front: &DirFront) -> DirEnd
-    ensures { (cs : List Cell) → IsFrontOf front.now cs → IsEndOf result cs }
+    ensures { (profile : Profile) (cs : List Cell) → IsFrontBy profile front.now cs → IsEndBy profile result cs }
 {
     DirEnd {
         lists: front.entries.len() > 0,
@@ -109,11 +110,11 @@ fn kind_entered(
     body: &Body,
     most: usize,
 ) -> Result<(Told, Vec<DirEntry>), NodesError>
-    ensures standing { IfOk result (λ entered. entered.0.standing ≡ bare_standing (kind_standing kind false (cells_of (view_now view.entry) body.now))) }
-    ensures lists { IfOk result (λ entered. entered.0.lists ≡ nat_lt 0 (length (kind_entries kind (cells (cells_of (view_now view.entry) body.now))))) }
-    ensures entries { IfOk result (λ entered. entered.1.items ≡ kind_entries kind (cells (cells_of (view_now view.entry) body.now))) }
+    ensures standing { IfOk result (λ entered. entered.0.standing ≡ bare_standing (kind_standing (view_now view.entry).profile kind false (cells_of (view_now view.entry) body.now))) }
+    ensures lists { IfOk result (λ entered. entered.0.lists ≡ nat_lt 0 (length (kind_entries (view_now view.entry).profile kind (cells (cells_of (view_now view.entry) body.now))))) }
+    ensures entries { IfOk result (λ entered. entered.1.items ≡ kind_entries (view_now view.entry).profile kind (cells (cells_of (view_now view.entry) body.now))) }
     ensures few { IfOk result (λ entered. length entered.1.items ≤ most) }
-    ensures refused { IfErr result (AreRefused most (kind_entries kind (cells (cells_of (view_now view.entry) body.now)))) }
+    ensures refused { IfErr result (AreRefused most (kind_entries (view_now view.entry).profile kind (cells (cells_of (view_now view.entry) body.now)))) }
 {
     let cells = bare_cells_standing(alloc, view, body);
     match kind {
@@ -146,14 +147,14 @@ pub(crate) fn body_entered(
     most: usize,
 ) -> Result<(Told, Vec<DirEntry>), NodesError>
     requires { IsStanding (view_now view) address.reference address.block entry.now }
-    ensures standing { IfOk result (λ entered. entered.0.standing ≡ bare_standing (body_standing (entry_of entry.now).kind false
+    ensures standing { IfOk result (λ entered. entered.0.standing ≡ bare_standing (body_standing (view_now view.entry).profile (entry_of entry.now).kind false
         (body (view_now view.entry) address.reference address.block (entry_of entry.now)))) }
-    ensures lists { IfOk result (λ entered. entered.0.lists ≡ nat_lt 0 (length (kind_entries (entry_of entry.now).kind
+    ensures lists { IfOk result (λ entered. entered.0.lists ≡ nat_lt 0 (length (kind_entries (view_now view.entry).profile (entry_of entry.now).kind
         (body (view_now view.entry) address.reference address.block (entry_of entry.now))))) }
-    ensures entries { IfOk result (λ entered. entered.1.items ≡ kind_entries (entry_of entry.now).kind
+    ensures entries { IfOk result (λ entered. entered.1.items ≡ kind_entries (view_now view.entry).profile (entry_of entry.now).kind
         (body (view_now view.entry) address.reference address.block (entry_of entry.now))) }
     ensures few { IfOk result (λ entered. length entered.1.items ≤ most) }
-    ensures refused { IfErr result (AreRefused most (kind_entries (entry_of entry.now).kind
+    ensures refused { IfErr result (AreRefused most (kind_entries (view_now view.entry).profile (entry_of entry.now).kind
         (body (view_now view.entry) address.reference address.block (entry_of entry.now)))) }
 {
     match Body::read(

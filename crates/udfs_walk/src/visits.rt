@@ -64,16 +64,16 @@ fn entry_told<L: Ledger>(
 ) -> Result<(Standing, Option<Children>), NodesError>
     requires stands { IsStanding (view_now view) address.reference address.block entry.now }
     requires memo { IsMemo (view_now view) memo.old }
-    ensures standing { IfOk result (λ told. told.0 ≡ cond is_loop Standing.Loop (cond is_deep Standing.Whole (bare_standing (body_standing (entry_of entry.now).kind false
+    ensures standing { IfOk result (λ told. told.0 ≡ cond is_loop Standing.Loop (cond is_deep Standing.Whole (bare_standing (body_standing (view_now view.entry).profile (entry_of entry.now).kind false
         (body (view_now view.entry) address.reference address.block (entry_of entry.now)))))) }
-    ensures entries { IfOk result (λ told. AreListed told.1 (cond (is_loop || is_deep) [] (kind_entries (entry_of entry.now).kind
+    ensures entries { IfOk result (λ told. AreListed told.1 (cond (is_loop || is_deep) [] (kind_entries (view_now view.entry).profile (entry_of entry.now).kind
         (body (view_now view.entry) address.reference address.block (entry_of entry.now))))) }
     ensures few { IfOk result (λ told. count_listed told.1 ≤ most) }
     ensures memo { IfOk result (λ told. IsMemo (view_now view.entry) memo.new) }
     ensures once { walks.new ≤ walks.old + 1 }
     ensures counted { IfOk result (λ told. (start : ℕ) (icbs : List ℕ) → Contains icbs (number_of address)
         → IsCounted start icbs memo.old walks.old → IsCounted start icbs memo.new walks.new) }
-    ensures refused { IfErr result (AreRefused most (cond (is_loop || is_deep) [] (kind_entries (entry_of entry.now).kind
+    ensures refused { IfErr result (AreRefused most (cond (is_loop || is_deep) [] (kind_entries (view_now view.entry).profile (entry_of entry.now).kind
         (body (view_now view.entry) address.reference address.block (entry_of entry.now))))) }
 {
     if is_loop {

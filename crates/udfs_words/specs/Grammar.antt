@@ -69,13 +69,13 @@ with_last name needed = with_rule (with_rule (new_app name) (last_rule needed)) 
 abbrev pub with_profile : Text → Bool → App
 with_profile name size = with_rule (with_last name size) profile_rule
 
--- `report (--last N | --size BYTES) [--profile PROFILE] [--json] IN...`
+-- `report (--last N | --size BYTES) [--profile PROFILE] [--json] [--force] IN...`
 abbrev pub report_app : Given → App
-report_app given = with_inputs (with_rule (with_profile (codes "report") given.needs_last) (flag_rule (codes "json"))) given.pairs
+report_app given = with_inputs (with_rule (with_rule (with_profile (codes "report") given.needs_last) (flag_rule (codes "json"))) (flag_rule (codes "force"))) given.pairs
 
--- `reread (--last N | --size BYTES) [--profile PROFILE] [--mapfile FILE] [--no-witnesses] IN...`
+-- `reread (--last N | --size BYTES) [--profile PROFILE] [--mapfile FILE] [--no-witnesses] [--force] IN...`
 abbrev pub reread_app : Given → App
-reread_app given = with_inputs (with_rule (with_rule (with_profile (codes "reread") given.needs_last) mapfile_rule) (flag_rule (codes "no-witnesses"))) given.pairs
+reread_app given = with_inputs (with_rule (with_rule (with_rule (with_profile (codes "reread") given.needs_last) mapfile_rule) (flag_rule (codes "no-witnesses"))) (flag_rule (codes "force"))) given.pairs
 
 -- `--only PATH`, any number of times
 abbrev pub only_rule : Rule
@@ -89,29 +89,29 @@ manifest_rule = option_rule (codes "manifest") false
 abbrev pub unnamed_rule : Rule
 unnamed_rule = option_rule (codes "unnamed") false
 
--- `extract (--last N | --size BYTES) [--profile PROFILE] --to DIR [--fill] [--only PATH]... [--manifest FILE] [--unnamed DIR] [--times] [--short-names] IN...`
+-- `extract (--last N | --size BYTES) [--profile PROFILE] --to DIR [--fill] [--only PATH]... [--manifest FILE] [--unnamed DIR] [--times] [--short-names] [--force] IN...`
 abbrev pub extract_app : Given → App
-extract_app given = with_inputs (with_rule (with_rule (with_rule (with_rule (with_rule (with_rule (with_rule (with_profile (codes "extract") given.needs_last) (value_rule (codes "to"))) (flag_rule (codes "fill"))) only_rule) manifest_rule) unnamed_rule) (flag_rule (codes "times"))) (flag_rule (codes "short-names"))) given.pairs
+extract_app given = with_inputs (with_rule (with_rule (with_rule (with_rule (with_rule (with_rule (with_rule (with_rule (with_profile (codes "extract") given.needs_last) (value_rule (codes "to"))) (flag_rule (codes "fill"))) only_rule) manifest_rule) unnamed_rule) (flag_rule (codes "times"))) (flag_rule (codes "short-names"))) (flag_rule (codes "force"))) given.pairs
 
 -- `forget --out FILE (--conflicts | --blocks LIST)... [--force] IN...`
 abbrev pub forget_app : Given → App
 forget_app given = with_inputs (with_rule (with_rule (with_rule (with_rule (new_app (codes "forget")) out_rule) (flag_rule (codes "conflicts"))) (blocks_rule given.conflicts)) (flag_rule (codes "force"))) given.pairs
 
--- `list [--torn] [--null] [--paths] (--last N | --size BYTES) [--profile PROFILE] IN...`
+-- `list [--torn] [--null] [--paths] [--force] (--last N | --size BYTES) [--profile PROFILE] IN...`
 abbrev pub list_app : Given → App
-list_app given = with_inputs (with_rule (with_rule (with_rule (with_profile (codes "list") given.needs_last) (flag_rule (codes "torn"))) (flag_rule (codes "null"))) (flag_rule (codes "paths"))) given.pairs
+list_app given = with_inputs (with_rule (with_rule (with_rule (with_rule (with_profile (codes "list") given.needs_last) (flag_rule (codes "torn"))) (flag_rule (codes "null"))) (flag_rule (codes "paths"))) (flag_rule (codes "force"))) given.pairs
 
--- `summary (--last N | --size BYTES) [--profile PROFILE] IN...`
+-- `summary (--last N | --size BYTES) [--profile PROFILE] [--force] IN...`
 abbrev pub summary_app : Given → App
-summary_app given = with_inputs (with_profile (codes "summary") given.needs_last) given.pairs
+summary_app given = with_inputs (with_rule (with_profile (codes "summary") given.needs_last) (flag_rule (codes "force"))) given.pairs
 
 -- `image --out IMAGE --mapfile MAPFILE [--force] (--last N | --size BYTES) IN...`
 abbrev pub image_app : Given → App
 image_app given = with_inputs (with_rule (with_rule (with_rule (with_last (codes "image") given.needs_last) out_rule) (value_rule (codes "mapfile"))) (flag_rule (codes "force"))) given.pairs
 
--- `page --out FILE (--last N | --size BYTES) [--profile PROFILE] IN...`
+-- `page --out FILE (--last N | --size BYTES) [--profile PROFILE] [--force] IN...`
 abbrev pub page_app : Given → App
-page_app given = with_inputs (with_rule (with_profile (codes "page") given.needs_last) out_rule) given.pairs
+page_app given = with_inputs (with_rule (with_rule (with_profile (codes "page") given.needs_last) out_rule) (flag_rule (codes "force"))) given.pairs
 
 -- the program before its commands: one of them has to be named, and there is `--version`
 abbrev pub program : App

@@ -72,9 +72,9 @@ IsSomeReport _ = ⊥
 abbrev pub reread_line : List Text
 reread_line = codes "udfsalvage" ∷ codes "reread" ∷ codes "--last" ∷ codes "1000" ∷ codes "--mapfile" ∷ codes "again.map" ∷ codes "all.tab" ∷ []
 
--- into a mapfile
+-- into a mapfile, with known blocks
 abbrev pub IsSomeReread : Request → Type 0
-IsSomeReread (request.Reread r) = Reads r.volume (codes "all.tab") (Block 1000) Strict × (option_map (λ path. path.now) r.mapfile ≡ Some (codes "again.map"))
+IsSomeReread (request.Reread r) = Reads r.volume (codes "all.tab") (Block 1000) Strict × (option_map (λ path. path.now) r.mapfile ≡ Some (codes "again.map")) × (r.witnesses ≡ true)
 IsSomeReread _ = ⊥
 
 -- `udfsalvage list --size 2050048 --torn --paths -`

@@ -70,11 +70,12 @@ abbrev pub IsLastSource : Found → LastSource → Type 0
 IsLastSource words (Block last) = ((is_some (matched_of words (codes "last")) || is_some (matched_of words (codes "size"))) ≡ true) × IsToldLast words last
 IsLastSource words OfMaps = (is_some (matched_of words (codes "last")) ≡ false) × (is_some (matched_of words (codes "size")) ≡ false)
 
--- what was read of the disc, where it ends, and the rules
+-- what was read of the disc, where it ends, the rules, and whether what is of another disc is to be joined
 pub record IsVolumeSource (given : List (List ℕ)) (words : Found) (volume : VolumeSource) : Type 0 where
   pub inputs : AreInputs given (pair_texts words) volume.inputs
   pub last : IsLastSource words volume.last
   pub profile : IsProfile words volume.profile
+  pub force : IsPicked words (codes "force") true false volume.force
 
 -- ---- the commands
 
@@ -110,6 +111,7 @@ pub record IsReport (words : Found) (request : ReportRequest) : Type 0 where
 pub record IsReread (words : Found) (request : RereadRequest) : Type 0 where
   pub volume : IsVolumeSource (input_texts words) words request.volume
   pub mapfile : option_map (λ path. path.now) request.mapfile ≡ optional_text words (codes "mapfile")
+  pub witnesses : IsPicked words (codes "no-witnesses") false true request.witnesses
 
 -- the arguments of `list`
 pub record IsList (words : Found) (request : ListRequest) : Type 0 where

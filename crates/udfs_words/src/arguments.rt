@@ -45,14 +45,25 @@ pub fn flag<'a>(alloc: Global, name: &'a str, help: &'a str) -> Arg<'a>
         .action(ArgAction::SetTrue)
 }
 
-/// The flag for writing over a reading that is no input.
+/// The flag for joining what is of another disc, and for writing over a reading that is no input.
 pub fn force<'a>(alloc: Global) -> Arg<'a>
     ensures { (rule_of result ≡ flag_rule (codes "force")) × (result.global ≡ false) }
 {
     flag(
         alloc,
         FORCE,
-        "Write over a reading that is not one of the inputs",
+        "Write over a reading that is not one of the inputs, and join an image of another disc",
+    )
+}
+
+/// The flag for joining what is of another disc.
+pub fn joining<'a>(alloc: Global) -> Arg<'a>
+    ensures { (rule_of result ≡ flag_rule (codes "force")) × (result.global ≡ false) }
+{
+    flag(
+        alloc,
+        FORCE,
+        "Join an image all the same that disagrees with the inputs before it, as one of another disc",
     )
 }
 

@@ -83,7 +83,7 @@ pub fn asked_streams<'a>(
     Ok(inputs)
 }
 
-/// Whether the arguments ask to write over what is otherwise spared: whether `--force` is given.
+/// Whether the arguments ask to join what is of another disc, and to write over what is otherwise spared: whether `--force` is given.
 pub fn asked_force(words: &ArgMatches<'_>) -> bool
     ensures { IsPicked (found_of words.now) (codes "force") true false result }
 {

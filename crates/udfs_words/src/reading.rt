@@ -7,7 +7,7 @@ ghost use Rattle.udfs_words.specs.Requests.{AreInputs, IsCommandName, IsLastSour
 
 use crate::asking::{
     asked_conflicts, asked_folder, asked_force, asked_form, asked_inputs, asked_mapfile, asked_out,
-    asked_streams, asked_version, is_set, stream_path,
+    asked_streams, asked_version, asked_witnesses, is_set, stream_path,
 };
 use crate::last::{EndFault, asked_last, end_fault};
 use crate::profile::{asked_profile, unknown_profile};
@@ -152,6 +152,7 @@ fn read_volume<'a>(alloc: Global, words: &ArgMatches<'a>) -> Result<VolumeSource
         inputs,
         last: read_last(words),
         profile: asked_profile(words),
+        force: asked_force(words),
     })
 }
 
@@ -167,6 +168,7 @@ fn read_streamed_volume<'a>(
         inputs,
         last: read_last(words),
         profile: asked_profile(words),
+        force: asked_force(words),
     })
 }
 
@@ -231,6 +233,7 @@ fn read_reread<'a>(alloc: Global, words: &ArgMatches<'a>) -> Result<Request<'a>,
     Ok(Request::Reread(RereadRequest {
         volume,
         mapfile: read_optional(words, MAPFILE),
+        witnesses: asked_witnesses(words),
     }))
 }
 

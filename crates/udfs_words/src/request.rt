@@ -34,6 +34,8 @@ pub struct VolumeSource<'a> {
     pub last: LastSource,
     /// The rules by which the volume is read.
     pub profile: Profile,
+    /// Images that are of another disc by their blocks are to be joined all the same.
+    pub force: bool,
 }
 
 /// The inputs are to be joined into one table file.
@@ -44,7 +46,7 @@ pub struct MergeRequest<'a> {
     pub version: Version,
     /// The path of the table file.
     pub out: &'a str,
-    /// A reading that is no input may be written over.
+    /// A reading that is no input may be written over, and images of another disc are to be joined all the same.
     pub force: bool,
 }
 
@@ -58,7 +60,7 @@ pub struct ForgetRequest<'a> {
     pub lists: Vec<&'a str>,
     /// The path of the table file.
     pub out: &'a str,
-    /// A reading that is no input may be written over.
+    /// A reading that is no input may be written over, and images of another disc are to be joined all the same.
     pub force: bool,
 }
 
@@ -72,7 +74,7 @@ pub struct ImageRequest<'a> {
     pub image: &'a str,
     /// The path of the mapfile.
     pub mapfile: &'a str,
-    /// An image or a mapfile that is no input may be written over.
+    /// An image or a mapfile that is no input may be written over, and images of another disc are to be joined all the same.
     pub force: bool,
 }
 
@@ -89,6 +91,8 @@ pub struct RereadRequest<'a> {
     pub volume: VolumeSource<'a>,
     /// The path of the mapfile in which they are to be wanted; where there is none, their numbers are to be printed.
     pub mapfile: Option<&'a str>,
+    /// Known blocks are to be wanted in it too, by which a pass of another disc shows.
+    pub witnesses: bool,
 }
 
 /// The files and folders of a volume are to be listed, a line for each.

@@ -7,7 +7,7 @@ ghost use Rattle.clap.specs.Words.{app_of, new_app};
 ghost use Rattle.udfs_words.specs.Grammar.{extract_app, forget_app, image_app, list_app, merge_app, page_app, program, program_app, report_app, reread_app, summary_app, with_inputs};
 
 use crate::arguments::{
-    blocks, disc_size, domain, flag, folder, force, image_file, image_map, inputs, last,
+    blocks, disc_size, domain, flag, folder, force, image_file, image_map, inputs, joining, last,
     lost_folder, manifest, only, page_file, pair_inputs, profile, quiet, table_file, verbose,
 };
 use clap::Command;
@@ -22,7 +22,7 @@ pub const PAIRS: &str = "ddrescue";
 /// The output file's id among the matches.
 pub const OUT: &str = "out";
 
-/// The id of the flag for writing over a reading that is no input.
+/// The id of the flag for joining what is of another disc, and for writing over what is spared otherwise.
 pub const FORCE: &str = "force";
 
 /// The last block's id among the matches.
@@ -172,7 +172,7 @@ fn merge<'a>(alloc: Global, pairs: bool) -> Result<Command<'a>, AllocError>
     with_inputs(alloc, command, pairs)
 }
 
-/// `report (--last N | --size BYTES) [--profile PROFILE] [--json] IN...`
+/// `report (--last N | --size BYTES) [--profile PROFILE] [--json] [--force] IN...`
 fn report<'a>(alloc: Global, given: Given) -> Result<Command<'a>, AllocError>
     ensures { IfOk result (λ command. app_of command ≡ report_app given) }
 {
@@ -182,11 +182,12 @@ fn report<'a>(alloc: Global, given: Given) -> Result<Command<'a>, AllocError>
         .arg(last(alloc, given.needs_last))?
         .arg(disc_size(alloc))?
         .arg(profile(alloc))?
-        .arg(flag(alloc, JSON, "Print it as JSON"))?;
+        .arg(flag(alloc, JSON, "Print it as JSON"))?
+        .arg(joining(alloc))?;
     with_inputs(alloc, command, given.pairs)
 }
 
-/// `reread (--last N | --size BYTES) [--profile PROFILE] [--mapfile FILE] [--no-witnesses] IN...`
+/// `reread (--last N | --size BYTES) [--profile PROFILE] [--mapfile FILE] [--no-witnesses] [--force] IN...`
 fn reread<'a>(alloc: Global, given: Given) -> Result<Command<'a>, AllocError>
     ensures { IfOk result (λ command. app_of command ≡ reread_app given) }
 {
@@ -201,7 +202,8 @@ fn reread<'a>(alloc: Global, given: Given) -> Result<Command<'a>, AllocError>
             alloc,
             NO_WITNESSES,
             "Leave out of the mapfile the known blocks by which a pass of another disc shows",
-        ))?;
+        ))?
+        .arg(joining(alloc))?;
     with_inputs(alloc, command, given.pairs)
 }
 
@@ -216,7 +218,7 @@ fn bare_extract<'a>(alloc: Global) -> Command<'a>
         )
 }
 
-/// `extract (--last N | --size BYTES) [--profile PROFILE] --to DIR [--fill] [--only PATH]... [--manifest FILE] [--unnamed DIR] [--times] [--short-names] IN...`
+/// `extract (--last N | --size BYTES) [--profile PROFILE] --to DIR [--fill] [--only PATH]... [--manifest FILE] [--unnamed DIR] [--times] [--short-names] [--force] IN...`
 fn extract<'a>(alloc: Global, given: Given) -> Result<Command<'a>, AllocError>
     ensures { IfOk result (λ command. app_of command ≡ extract_app given) }
 {
@@ -242,7 +244,8 @@ fn extract<'a>(alloc: Global, given: Given) -> Result<Command<'a>, AllocError>
             alloc,
             SHORT_NAMES,
             "Write what has a name that is too long under a short one: its beginning and a number",
-        ))?;
+        ))?
+        .arg(joining(alloc))?;
     with_inputs(alloc, command, given.pairs)
 }
 
@@ -262,21 +265,29 @@ fn forget<'a>(alloc: Global, given: Given) -> Result<Command<'a>, AllocError>
     with_inputs(alloc, command, given.pairs)
 }
 
-/// `list [--torn] [--null] [--paths] (--last N | --size BYTES) [--profile PROFILE] IN...`
-fn list<'a>(alloc: Global, given: Given) -> Result<Command<'a>, AllocError>
-    ensures { IfOk result (λ command. app_of command ≡ list_app given) }
+/// `list` before its arguments.
+fn bare_list<'a>(alloc: Global) -> Command<'a>
+    ensures { app_of result ≡ new_app (codes "list") }
 {
-    let command = Command::new(alloc, "list")
+    Command::new(alloc, "list")
         .about(
             "Prints a line for each file and folder: standing, kind, bytes lost, size, time and path",
         )
         .override_usage("udfsalvage list [OPTIONS] [--last <N> | --size <BYTES>] <IN>...")
+}
+
+/// `list [--torn] [--null] [--paths] [--force] (--last N | --size BYTES) [--profile PROFILE] IN...`
+fn list<'a>(alloc: Global, given: Given) -> Result<Command<'a>, AllocError>
+    ensures { IfOk result (λ command. app_of command ≡ list_app given) }
+{
+    let command = bare_list(alloc)
         .arg(last(alloc, given.needs_last))?
         .arg(disc_size(alloc))?
         .arg(profile(alloc))?
         .arg(flag(alloc, TORN, "Leave out what is whole"))?
         .arg(flag(alloc, NULL, "End lines with a zero byte"))?
-        .arg(flag(alloc, PATHS, "Print the paths alone"))?;
+        .arg(flag(alloc, PATHS, "Print the paths alone"))?
+        .arg(joining(alloc))?;
     with_inputs(alloc, command, given.pairs)
 }
 
@@ -296,7 +307,7 @@ fn image<'a>(alloc: Global, given: Given) -> Result<Command<'a>, AllocError>
         .arg(flag(
             alloc,
             FORCE,
-            "Write over an image or a mapfile that is there and is not one of the inputs",
+            "Write over an image or a mapfile that is not one of the inputs, and join an image of another disc",
         ))?;
     with_inputs(alloc, command, given.pairs)
 }
@@ -316,7 +327,7 @@ fn with_inputs<'a>(
         .arg(inputs(alloc, pairs))
 }
 
-/// `summary (--last N | --size BYTES) [--profile PROFILE] IN...`
+/// `summary (--last N | --size BYTES) [--profile PROFILE] [--force] IN...`
 fn summary<'a>(alloc: Global, given: Given) -> Result<Command<'a>, AllocError>
     ensures { IfOk result (λ command. app_of command ≡ summary_app given) }
 {
@@ -325,11 +336,12 @@ fn summary<'a>(alloc: Global, given: Given) -> Result<Command<'a>, AllocError>
         .override_usage("udfsalvage summary [OPTIONS] [--last <N> | --size <BYTES>] <IN>...")
         .arg(last(alloc, given.needs_last))?
         .arg(disc_size(alloc))?
-        .arg(profile(alloc))?;
+        .arg(profile(alloc))?
+        .arg(joining(alloc))?;
     with_inputs(alloc, command, given.pairs)
 }
 
-/// `page --out FILE (--last N | --size BYTES) [--profile PROFILE] IN...`
+/// `page --out FILE (--last N | --size BYTES) [--profile PROFILE] [--force] IN...`
 fn page<'a>(alloc: Global, given: Given) -> Result<Command<'a>, AllocError>
     ensures { IfOk result (λ command. app_of command ≡ page_app given) }
 {
@@ -341,6 +353,7 @@ fn page<'a>(alloc: Global, given: Given) -> Result<Command<'a>, AllocError>
         .arg(last(alloc, given.needs_last))?
         .arg(disc_size(alloc))?
         .arg(profile(alloc))?
-        .arg(page_file(alloc))?;
+        .arg(page_file(alloc))?
+        .arg(joining(alloc))?;
     with_inputs(alloc, command, given.pairs)
 }

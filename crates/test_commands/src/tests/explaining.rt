@@ -36,6 +36,9 @@ refused udfsalvage: input 1: fault 6 Order at record 2\n  order.tab is damaged, 
 $ report -v --last 600 absent.rd
 refused udfsalvage: cannot open input 1\n  absent.rd: the system does not say why\n
 
+$ list -v --last 600 -
+refused udfsalvage: cannot open input 1\n  /dev/stdin: the system does not say why\n
+
 $ merge -v --out t.tab a.rd --ddrescue absent.img p.map
 refused udfsalvage: cannot open input 2\n  absent.img: the system does not say why\n
 
@@ -75,6 +78,9 @@ refused udfsalvage: cannot open list\n  none.txt: the system does not say why\n
 
 $ forget -v --out t.tab --blocks list --blocks none.txt disc.tab
 refused udfsalvage: cannot open list\n  none.txt: the system does not say why\n
+
+$ forget -v --out t.tab --blocks - disc.tab
+refused udfsalvage: cannot open list\n  /dev/stdin: the system does not say why\n
 
 $ report -v --last 512 disc.tab
 refused udfsalvage: fault 1 LastRange\n  the last block is from 513 to 4194303: the disc's size in bytes / 2048 - 1, or give --size\n
@@ -204,26 +210,31 @@ remarked
 then status 1
 
 write 32 240 \0\x02
+write 48 240 \0\x02
 but
 $ report -v --last 600 disc.tab
 remarked volume: UDF 2.00, not 1.50 or 2.01: try --profile wide\n
 
 write 32 240 \x02\x01
+write 48 240 \x02\x01
 but
 $ reread -v --last 600 disc.tab
 remarked volume: UDF 1.02, not 1.50 or 2.01: try --profile wide\n
 
 write 32 240 P\x02
+write 48 240 P\x02
 but
 $ report -v --last 600 disc.tab
 remarked volume: UDF 2.50, which is not read\n
 
 write 32 240 `\x02
+write 48 240 `\x02
 but
 $ extract -v --last 600 --profile wide --to new disc.tab
 remarked volume: UDF 2.60, which is not read\n
 
 write 32 217 *OSTA CD-UDF
+write 48 217 *OSTA CD-UDF
 but
 $ list -v --last 600 disc.tab
 remarked volume: its domain is not that of UDF\n

@@ -54,6 +54,7 @@ file-lacks p.html <h2>All files</h2>
 # Of a volume with a fault no block is worth reading again, and there are no files; blocks in conflict are forgotten first, by the rules that were asked for.
 
 write 32 240 \0\x02
+write 48 240 \0\x02
 but
 $ page --last 600 --out p.html disc.tab
 status 1
@@ -61,6 +62,7 @@ file-has p.html <p>The volume does not open, and no block to read again helps: t
 file-lacks p.html udfsalvage extract
 
 write 32 240 \0\x02
+write 48 240 \0\x02
 but
 also 277 07
 $ page --last 600 --profile wide --out p.html disc.tab

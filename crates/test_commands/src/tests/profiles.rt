@@ -9,66 +9,77 @@ static SCRIPT: &str = r#"
 then error
 
 write 32 240 \0\x02
+write 48 240 \0\x02
 but
 $ report --last 600 --profile wide disc.tab
 status 0
 out UDFREPORT1 last 600\nprofile wide\nknown 601 conflict 0\nvolume ok revision 2.00 map type1\nlabel name TEST\nnode 0 whole directory 120 2001-07-04T09:30:00.000000Z /\nnode 1 whole file 5000 2001-07-04T09:30:00.000000Z /A\nnode 2 whole file 2 2001-07-04T09:30:00.000000Z /B\nend\n
 
 write 32 240 \0\x02
+write 48 240 \0\x02
 but
 $ report --last 600 --profile strict disc.tab
 status 1
 out UDFREPORT1 last 600\nknown 601 conflict 0\nvolume fault 5 Domain\nend\n
 
 write 32 240 \0\x02
+write 48 240 \0\x02
 but
 $ report --last 600 disc.tab
 status 1
 out UDFREPORT1 last 600\nknown 601 conflict 0\nvolume fault 5 Domain\nend\n
 
 write 32 240 \0\x02
+write 48 240 \0\x02
 but
 $ report --json --last 600 disc.tab
 status 1
 out {"conflict":0,"known":601,"label":null,"last":600,"nodes":[],"reread":[],"unnamed":[],"volume":{"fault":5,"name":"Domain","state":"fault"}}\n
 
 write 32 240 \0\x02
+write 48 240 \0\x02
 but 32 48
 $ report --json --profile=wide --last 600 disc.tab
 status 1
 out {"conflict":0,"known":599,"label":null,"last":600,"nodes":[],"profile":"wide","reread":[{"block":32,"state":"unknown"},{"block":48,"state":"unknown"}],"unnamed":[],"volume":{"blocks":[32,48],"state":"holes"}}\n
 
 write 32 240 \0\x02
+write 48 240 \0\x02
 but 278
 $ reread --last 600 --profile wide disc.tab
 status 1
 out 278\n
 
 write 32 240 \0\x02
+write 48 240 \0\x02
 but 278
 $ reread --last 600 --profile strict disc.tab
 status 1
 out
 
 write 32 240 \0\x02
+write 48 240 \0\x02
 but 278
 $ reread --last 600 --profile wide --mapfile want.map disc.tab
 status 1
 out 1 blocks in 1 runs, and 6 known ones to compare\n
 
 write 32 240 \0\x02
+write 48 240 \0\x02
 but
 $ list --paths --last 600 --profile wide disc.tab
 status 0
 out /A\n/B\n
 
 write 32 240 \0\x02
+write 48 240 \0\x02
 but
 $ list --paths --last 600 disc.tab
 status 1
 out
 
 write 32 240 \0\x02
+write 48 240 \0\x02
 but
 $ summary --last 600 --profile wide disc.tab
 status 0
@@ -77,6 +88,7 @@ out-begins TEST   UDF 2.00, type 1   601 blocks, 1.2 MB\n
 = files_by_the_rules_that_are_named
 # The files of the volume, and its page, by the rules that are named.
 write 32 240 \0\x02
+write 48 240 \0\x02
 but
 
 $ extract --last 600 --to none disc.tab
@@ -99,6 +111,7 @@ there page.html
 = rules_that_are_refused
 # Rules that there are none, and commands that take none.
 write 32 240 \0\x02
+write 48 240 \0\x02
 but
 then status 2
 then out
@@ -199,6 +212,25 @@ out UDFREPORT1 last 600\nprofile wide\nknown 601 conflict 0\nvolume ok revision 
 $ extract --last 600 --profile wide --to out disc.tab
 out written /A\nwritten /B\n
 has out/A text «2048*a»«2048*b»«904*c»
+
+= a_folder_with_a_tag_of_another_place
+# The tag of the name B names the place 0, and its checksum is right.
+write 274 84 \x04
+write 274 92 \0
+but
+then error
+
+$ report --last 600 disc.tab
+status 1
+out-has \nnode 0 fault-10 directory 120
+
+$ report --last 600 --profile wide disc.tab
+status 0
+out UDFREPORT1 last 600\nprofile wide\nknown 601 conflict 0\nvolume ok revision 1.50 map type1\nlabel name TEST\nnode 0 whole directory 120 2001-07-04T09:30:00.000000Z /\nnode 1 whole file 5000 2001-07-04T09:30:00.000000Z /A\nnode 2 whole file 2 2001-07-04T09:30:00.000000Z /B\nend\n
+
+$ summary --last 600 --profile wide disc.tab
+status 0
+out TEST   UDF 1.50, type 1   601 blocks, 1.2 MB\nFiles      2 whole (5.0 kB)   0 torn (0 B of 0 B lost)   0 not yet known\nFolders    1 whole   0 torn\nTags       1 folder has tags of another place\nDisc       601 known   0 not known, of which 0 are needed (0 runs)   0 in conflict\n
 
 = other_types_are_no_files_by_the_wide_rules
 # Type 250 is that of a metadata file.

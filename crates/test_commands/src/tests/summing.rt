@@ -30,11 +30,13 @@ $ summary --last 600 disc.tab
 out-ends Disc       599 known   1 not known   1 in conflict   2 of these are needed (2 runs)\nTorn       59.0 %  /A   3.0 kB of 5.0 kB lost\nNext       udfsalvage forget --conflicts --out clean.tab ...\n           udfsalvage reread --last 600 --mapfile want.map clean.tab\n
 
 write 32 240 \0\x02
+write 48 240 \0\x02
 but 277
 $ summary --last 600 --profile wide disc.tab
 out-ends Next       udfsalvage reread --last 600 --profile wide --mapfile want.map ...\n
 
 write 32 240 \0\x02
+write 48 240 \0\x02
 but
 $ summary --last 600 disc.tab
 out-ends Disc       601 known   0 not known, of which 0 are needed (0 runs)   0 in conflict\nNext       no block to read again helps: man udfsalvage says what this fault means\n

@@ -1,5 +1,6 @@
 //! What a person is shown of a volume. The values are worked out by hand.
 
+mod disagreements;
 mod figures;
 mod list;
 mod pages;

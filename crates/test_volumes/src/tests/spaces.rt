@@ -2,6 +2,7 @@
 
 mod faults;
 mod memory;
+mod newest;
 mod packets;
 mod past_the_last;
 mod places;

@@ -13,10 +13,10 @@ use udfs_salvage::{
 use udfs_samples::{Disc, LAST};
 use udfs_volume::Profile;
 
-/// All blocks of the sample volume with one map of type 1, whose logical volume descriptor has these bytes for its revision.
+/// All blocks of the sample volume with one map of type 1, whose logical volume descriptors have these bytes for their revision.
 fn of_revision(alloc: Global, bytes: &'static [u8]) -> Result<BlockTable, Fail> {
     let mut disc = Disc::type1(alloc)?;
-    disc.write(&[(32, 240, bytes)])?;
+    disc.write(&[(32, 240, bytes), (48, 240, bytes)])?;
     Ok(disc.known_but(alloc, &[])?)
 }
 
@@ -169,6 +169,49 @@ fn the_bytes_of_a_file_that_grew(rt: HostRuntime) -> Result<(), Fail> {
     let bytes = bytes.into_inner();
     assert_eq!(rt; bytes.len(), 5010);
     assert_same(&rt, bytes.get(5009).copied(), Some(0x63));
+    Ok(())
+}
+
+/// The tag of the name B, in logical block 2, with its checksum, for a place that it names.
+static PLACES: [(&[u8], &[u8]); 3] = [
+    // None.
+    (&[4], &[0, 0]),
+    // The block of the folder's entry.
+    (&[5], &[1, 0]),
+    // The block's number on the disc.
+    (&[0x17], &[0x12, 1]),
+];
+
+/// A tag of another place, whose checksum is right: a fault of its folder by the strict rules, and none by the wide ones.
+#[test]
+fn a_tag_of_another_place(rt: HostRuntime) -> Result<(), Fail> {
+    let alloc = rt.alloc();
+    for &(sum, place) in &PLACES {
+        let mut disc = Disc::type1(alloc)?;
+        disc.write(&[(274, 84, sum), (274, 92, place)])?;
+        let table = disc.known_but(alloc, &[])?;
+        let fault = "\nnode 0 fault-10 directory ";
+        assert_contains(&rt, alloc, &table, Profile::Strict, fault)?;
+        let whole = "\nnode 2 whole file 2 2001-07-04T09:30:00.000000Z /B\nend\n";
+        assert_contains(&rt, alloc, &table, Profile::Wide, whole)?;
+    }
+    Ok(())
+}
+
+/// The same tag with a checksum that is wrong, a version that there is not, and another identifier: faults by both rules.
+#[test]
+fn a_tag_that_is_wrong_elsewhere(rt: HostRuntime) -> Result<(), Fail> {
+    let alloc = rt.alloc();
+    for &(sum, at, byte) in &[(5, 92, 0), (6, 82, 4), (5, 80, 2)] {
+        let mut disc = Disc::type1(alloc)?;
+        disc.write_at(274, 92, &[0])?;
+        disc.write_at(274, at, &[byte])?;
+        disc.write_at(274, 84, &[sum])?;
+        let table = disc.known_but(alloc, &[])?;
+        let fault = "\nnode 0 fault-10 directory ";
+        assert_contains(&rt, alloc, &table, Profile::Strict, fault)?;
+        assert_contains(&rt, alloc, &table, Profile::Wide, fault)?;
+    }
     Ok(())
 }
 

@@ -49,7 +49,20 @@ pub fn said(alloc: Global, table: &BlockTable, last: u32) -> Result<String, Fail
     requires from { 513 ≤ last }
     requires to { last ≤ 4194303 }
 {
-    match space_of(alloc, table, last) {
+    said_by(alloc, table, last, Profile::Strict)
+}
+
+/// The same by the rules of a profile.
+pub fn said_by(
+    alloc: Global,
+    table: &BlockTable,
+    last: u32,
+    profile: Profile,
+) -> Result<String, Fail>
+    requires from { 513 ≤ last }
+    requires to { last ≤ 4194303 }
+{
+    match space_by(alloc, table, last, profile) {
         Seen::Got(space) => match space.place(0, 0) {
             Some(place) => Ok(format!(in alloc; "ok {place}")?),
             None => Ok(format!(in alloc; "no place")?),

@@ -8,7 +8,7 @@ use udfs_samples::{Disc, LAST};
 
 /// Tables of 4096 bytes with 250 entries, of which the last is at the beginning of the second block. In
 /// the second copy it is a number without a meaning.
-fn with_two_blocks(alloc: Global) -> Result<Disc, Fail> {
+pub fn with_two_blocks(alloc: Global) -> Result<Disc, Fail> {
     let mut disc = Disc::sparable(alloc)?;
     for n in [32, 48] {
         disc.write_at(n, 484, &[0, 0x10])?;

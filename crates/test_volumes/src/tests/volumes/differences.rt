@@ -54,7 +54,7 @@ fn two_sessions(rt: HostRuntime) -> Result<(), Fail> {
 }
 
 /// A change of the copies, the blocks that are not known, and whether known copies differ in what is read of them.
-static COPIES: [(Bytes, &[u32], bool); 11] = [
+static COPIES: [(Bytes, &[u32], bool); 13] = [
     ((300, 0, &[1]), &[], false),
     ((48, 85, b"B"), &[], true),
     ((32, 85, b"B"), &[], true),
@@ -65,8 +65,11 @@ static COPIES: [(Bytes, &[u32], bool); 11] = [
     ((49, 192, &[0x2d]), &[32, 48], false),
     // the tag is not right, so one copy is a descriptor and the other is none
     ((48, 0, &[7]), &[], true),
-    // neither is one, so the sequence ends there
-    ((34, 0, &[0]), &[], false),
+    // so in any kind of descriptor, as in the one that ends the sequence
+    ((34, 0, &[0]), &[], true),
+    ((34, 0, &[0]), &[50], false),
+    // its identifier is another: 5 in place of 8
+    ((50, 0, &[5, 0, 2, 0, 0x39]), &[], true),
     // a terminating descriptor has no bytes that are read
     ((50, 600, &[1]), &[], false),
 ];

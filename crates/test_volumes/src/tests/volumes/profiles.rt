@@ -8,8 +8,8 @@ use std::test::Fail;
 use udfs_samples::{Bytes, Disc};
 use udfs_volume::Profile;
 
-/// With all blocks known: a change of the revision or of the packets, what the layout is by the strict rules,
-/// and by the wide ones.
+/// With all blocks known: a change of the revision, of the packets or of the partition, in both copies of the descriptor, or of the
+/// extents; what the layout is by the strict rules, and by the wide ones.
 static CHANGES: [(Bytes, &str, &str); 26] = [
     (
         (32, 240, &[2, 1]),
@@ -121,7 +121,11 @@ fn assert_by_both(
     wide: &str,
 ) -> Result<(), Fail> {
     let mut disc = Disc::sparable(alloc)?;
-    disc.write(&[change])?;
+    let (n, at, bytes) = change;
+    disc.write_at(n, at, bytes)?;
+    if (32..48).contains(&n) {
+        disc.write_at(n.wrapping_add(16), at, bytes)?;
+    }
     let table = disc.known_but(alloc, &[])?;
     assert_text_in(rt, said(alloc, &table)?, strict, change);
     assert_text_in(rt, said_by(alloc, &table, Profile::Strict)?, strict, change);
@@ -133,6 +137,113 @@ fn assert_by_both(
 fn both_rules(rt: HostRuntime) -> Result<(), Fail> {
     for &(change, strict, wide) in &CHANGES {
         assert_by_both(&rt, rt.alloc(), change, strict, wide)?;
+    }
+    Ok(())
+}
+
+/// Changes of one copy alone, blocks that are not known, and what the layout is by the strict rules and by the wide ones.
+static ONE_COPY: [(&[Bytes], &[u32], &str, &str); 14] = [
+    // the main logical volume descriptor is wiped
+    (
+        &[(32, 0, &[0; 16])],
+        &[],
+        "fault 4 NoLogicalVolume",
+        "ok revision 1.50 map sparable 32",
+    ),
+    (
+        &[(32, 0, &[0; 16])],
+        &[32],
+        "ok revision 1.50 map sparable 32",
+        "ok revision 1.50 map sparable 32",
+    ),
+    (
+        &[(32, 0, &[0; 16])],
+        &[33, 34],
+        "fault 4 NoLogicalVolume",
+        "ok revision 1.50 map sparable 32",
+    ),
+    // and of the reserve sequence a block that is needed is not known: the main fault stands, and no block is asked for
+    (
+        &[(32, 0, &[0; 16])],
+        &[48],
+        "fault 4 NoLogicalVolume",
+        "fault 4 NoLogicalVolume",
+    ),
+    (
+        &[(32, 0, &[0; 16])],
+        &[33, 49],
+        "fault 4 NoLogicalVolume",
+        "fault 4 NoLogicalVolume",
+    ),
+    // a pointer to a sequence elsewhere
+    (
+        &[(32, 0, &[3, 0, 2, 0, 0x25])],
+        &[],
+        "fault 3 Pointer",
+        "ok revision 1.50 map sparable 32",
+    ),
+    (
+        &[(32, 240, &[0x50, 2])],
+        &[],
+        "fault 5 Domain",
+        "ok revision 1.50 map sparable 32",
+    ),
+    (
+        &[(32, 480, &[3])],
+        &[],
+        "fault 8 MapKind",
+        "ok revision 1.50 map sparable 32",
+    ),
+    (
+        &[(33, 22, &[9])],
+        &[],
+        "fault 9 NoPartition",
+        "ok revision 1.50 map sparable 32",
+    ),
+    (
+        &[(33, 25, b"-")],
+        &[],
+        "fault 10 Contents",
+        "ok revision 1.50 map sparable 32",
+    ),
+    (
+        &[(33, 192, &[0, 0])],
+        &[],
+        "fault 11 PartitionRange",
+        "ok revision 1.50 map sparable 32",
+    ),
+    // both have a fault: it is the main one's
+    (
+        &[(32, 240, &[0x50, 2]), (48, 212, &[1])],
+        &[],
+        "fault 5 Domain",
+        "fault 5 Domain",
+    ),
+    // the main one gives a layout, so it counts, whatever the other gives
+    (
+        &[(48, 240, &[1, 2])],
+        &[],
+        "ok revision 1.50 map sparable 32",
+        "ok revision 1.50 map sparable 32",
+    ),
+    (
+        &[(48, 0, &[0; 16])],
+        &[32, 48],
+        "holes 32 48",
+        "holes 32 48",
+    ),
+];
+
+/// Where what the main sequence says gives no layout, the wide rules ask the reserve one.
+#[test]
+fn the_reserve_sequence_is_asked(rt: HostRuntime) -> Result<(), Fail> {
+    let alloc = rt.alloc();
+    for &(changes, unread, strict, wide) in &ONE_COPY {
+        let mut disc = Disc::sparable(alloc)?;
+        disc.write(changes)?;
+        let table = disc.known_but(alloc, unread)?;
+        assert_text_in(&rt, said(alloc, &table)?, strict, unread);
+        assert_text_in(&rt, said_by(alloc, &table, Profile::Wide)?, wide, unread);
     }
     Ok(())
 }

@@ -10,7 +10,7 @@ pub returns-in-Bytes-clause-value : goal.returns-in-Bytes-clause-value
 returns-in-Bytes-clause-value g c told =
     let cells = store_left g.B.BlockStore.states c.args.cells.now in
     let shown = subst (λ front. IsFrontTaken front (take c.args.size cells)) c.in-Bytes.is (c.in_ok-n.ensures.value told) in
-    subst (StepIs c.checked.result) (sized_whole cells c.args.size c.in-Bytes.view c.requires.least c.if-size-gt2048.false (sym c.holds.ensures ∙ c.if-not-holds.false) shown) c.checked.ensures.value
+    subst (StepIs c.checked.result) (sized_whole c.args.profile cells c.args.size c.in-Bytes.view c.requires.least c.if-size-gt2048.false (sym c.holds.ensures ∙ c.if-not-holds.false) shown) c.checked.ensures.value
 
 pub returns-in-Bytes-clause-size : goal.returns-in-Bytes-clause-size
 returns-in-Bytes-clause-size g c =

@@ -1,18 +1,22 @@
-use Rattle.std.proofs.Common.{◌⊎◌, inr, subst}
-use Rattle.udfs_files.specs.Disk.{Fails, SinkFails}
-use Rattle.udfs_lattice.specs.Tables.{Table}
-use Rattle.udfs_reports.specs.Paging.{IsPage}
-use Rattle.udfs_reports.specs.Telling.{IsRefusedPut}
-use Rattle.udfs_reports.proofs.PagingLemmas.{left_wider}
+use Rattle.std.proofs.Common.{inl, inr, refl, rules, ⊎_elim}
+use Rattle.udfs_common.proofs.PutsLemmas.{says_wider}
+use Rattle.udfs_common.proofs.VolumeLemmas.{of_disc}
 use Rattle.udfs_reports.proofs.page.page.Goals as goal
 
-pub returns-clause-left : goal.returns-clause-left
-returns-clause-left g c =
-    let t = c.in-Ok.ensures.by_path in
-    left_wider _ _ (λ Put put. (t.0, t.1, subst (λ (x : Table). IsPage c.args.profile c.args.last Put x) t.2 put)) c.in-Err-page_of.ensures.left
+pub returns-in-Ok-page_of-clause-puts : goal.returns-in-Ok-page_of-clause-puts
+returns-in-Ok-page_of-clause-puts g c = says_wider _ _ _ (λ whole bytes is. of_disc _ c.in-Ok.ensures.joined is) c.in-Ok-page_of.ensures.puts
 
-pub returns-clause-refused : goal.returns-clause-refused
-returns-clause-refused g c =
-    let t = c.in-Ok.ensures.by_path in
-    let Unmade = g.F.Files.shut c.args.files.now c.args.path.now ⊎ Fails g.F.Files.faults ⊎ SinkFails g.F.Output.Sink.stream in
-    inr (t.0, t.1, subst (λ (x : Table). IsRefusedPut Unmade c.args.profile c.args.last c.in-Err-page_of.refusal x) t.2 c.in-Err-page_of.ensures.refused)
+pub returns-clause-puts : goal.returns-clause-puts
+returns-clause-puts g c = says_wider _ _ _ (λ whole bytes is. of_disc _ c.in-Ok.ensures.joined is) c.in-Err-page_of.ensures.puts
+
+pub returns-clause-why : goal.returns-clause-why
+returns-clause-why g c = inr (of_disc _ c.in-Ok.ensures.joined c.in-Err-page_of.ensures.why)
+
+pub returns-in-Ok-Spared-clause-why : goal.returns-in-Ok-Spared-clause-why
+returns-in-Ok-Spared-clause-why g c = inl (refl, inr (inl (refl, search rules)))
+
+pub returns-in-Ok-Unknown-clause-why : goal.returns-in-Ok-Unknown-clause-why
+returns-in-Ok-Unknown-clause-why g c = ⊎_elim (λ out. inl (refl, inr (inr (inl (out, search rules))))) (λ none. inl (refl, inr (inr (inr none)))) c.unwritten_volume.ensures
+
+pub returns-in-Err-joined_volume-clause-why : goal.returns-in-Err-joined_volume-clause-why
+returns-in-Err-joined_volume-clause-why g c = inl (refl, inr (inr (inr c.in-Err-joined_volume.ensures.refused)))

@@ -1,27 +1,22 @@
-use Rattle.std.proofs.Common.{◌⊎◌, ⊎_elim, List, ℕ, inl, inr, refl, subst}
-use Rattle.udfs_files.specs.Disk.{Fails, Replaced, SinkFails}
-use Rattle.udfs_lattice.specs.Tables.{Table}
-use Rattle.udfs_reports.specs.Rereading.{IsDomain, IsRefusedDomain}
-use Rattle.udfs_reports.proofs.PagingLemmas.{left_wider}
+use Rattle.std.proofs.Common.{inl, inr, refl, rules, ⊎_elim}
+use Rattle.udfs_common.proofs.PutsLemmas.{says_wider}
+use Rattle.udfs_common.proofs.VolumeLemmas.{of_disc}
 use Rattle.udfs_reports.proofs.reread_map.reread_map.Goals as goal
 
-pub returns-clause-left : goal.returns-clause-left
-returns-clause-left g c =
-    let t = c.in-Ok.ensures.by_path in
-    left_wider _ _ (λ Put put. (t.0, t.1, subst (λ (x : Table). IsDomain c.args.compares c.args.profile c.args.last Put x) t.2 put)) c.in-Err-map_of.ensures.left
+pub returns-in-Ok-map_of-clause-puts : goal.returns-in-Ok-map_of-clause-puts
+returns-in-Ok-map_of-clause-puts g c = says_wider _ _ _ (λ whole bytes is. of_disc _ c.in-Ok.ensures.joined is) c.in-Ok-map_of.ensures.puts
 
-pub returns-clause-refused : goal.returns-clause-refused
-returns-clause-refused g c =
-    let t = c.in-Ok.ensures.by_path in
-    let Unmade = g.F.Files.shut c.args.files.now c.args.path.now ⊎ Fails g.F.Files.faults ⊎ SinkFails g.F.Output.Sink.stream in
-    inr (t.0, t.1, subst (λ (x : Table). IsRefusedDomain Unmade c.args.compares c.args.profile c.args.last (g.O.Sink.stream c.args.out.now) (g.O.Sink.stream c.map_of.new.out) c.in-Err-map_of.refusal x) t.2 c.in-Err-map_of.ensures.refused)
+pub returns-clause-puts : goal.returns-clause-puts
+returns-clause-puts g c = says_wider _ _ _ (λ whole bytes is. of_disc _ c.in-Ok.ensures.joined is) c.in-Err-map_of.ensures.puts
 
-pub returns-in-Err-clause-refused : goal.returns-in-Err-clause-refused
-returns-in-Err-clause-refused g c = inl ((refl, refl), c.in-Err.ensures.blamed)
+pub returns-clause-why : goal.returns-clause-why
+returns-clause-why g c = inr (of_disc _ c.in-Ok.ensures.joined c.in-Err-map_of.ensures.why)
 
-pub returns-in-Ok-map_of-clause-any_moment : goal.returns-in-Ok-map_of-clause-any_moment
-returns-in-Ok-map_of-clause-any_moment g c tells apart d since =
-    let t = c.in-Ok.ensures.by_path in
-    let a = c.in-Ok-map_of.ensures.any_moment tells apart d since in
-    let Holds : List ℕ → Type 0 = λ bytes. Replaced (g.F.Files.real c.args.files.now c.args.path.now) bytes a.0 d in
-    (a.0, a.1, ⊎_elim (λ same. inl same) (λ put. inr (t.0, t.1, subst (λ (x : Table). IsDomain c.args.compares c.args.profile c.args.last Holds x) t.2 put)) a.2)
+pub returns-in-Ok-Spared-clause-why : goal.returns-in-Ok-Spared-clause-why
+returns-in-Ok-Spared-clause-why g c = inl (refl, refl, inr (inl (refl, search rules)))
+
+pub returns-in-Ok-Unknown-clause-why : goal.returns-in-Ok-Unknown-clause-why
+returns-in-Ok-Unknown-clause-why g c = ⊎_elim (λ out. inl (refl, refl, inr (inr (inl (out, search rules))))) (λ none. inl (refl, refl, inr (inr (inr none)))) c.unwritten_volume.ensures
+
+pub returns-in-Err-joined_volume-clause-why : goal.returns-in-Err-joined_volume-clause-why
+returns-in-Err-joined_volume-clause-why g c = inl (refl, refl, inr (inr (inr c.in-Err-joined_volume.ensures.refused)))

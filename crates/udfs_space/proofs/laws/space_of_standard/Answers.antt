@@ -1,4 +1,4 @@
-use Rattle.udfs_space.proofs.SpaceLaw.{standard_space_law}
+use Rattle.udfs_space.proofs.Counting.{standard_space_law}
 use Rattle.udfs_space.proofs.laws.space_of_standard.Goals as goal
 
 pub returns : goal.returns

@@ -15,3 +15,6 @@ pub returns-clause-why : goal.returns-clause-why
 returns-clause-why g c =
     let t = c.in-Ok.ensures.by_path in
     inr (t.0, t.1, rw (← t.2) c.in-Err-put_table.ensures.why)
+
+pub returns-in-Err-clause-why : goal.returns-in-Err-clause-why
+returns-in-Err-clause-why g c = inl c.in-Err.ensures.blamed

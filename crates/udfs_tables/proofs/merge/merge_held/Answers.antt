@@ -4,6 +4,7 @@ use Rattle.udfs_lattice.specs.Tables.{Table}
 use Rattle.udfs_common.specs.Keeping.{IsKept, IsTaken}
 use Rattle.udfs_common.specs.Spelling.{table_file}
 use Rattle.udfs_tables.proofs.LeavingLemmas.{left_wider}
+use Rattle.udfs_tables.proofs.NamingLemmas.{unput_names_none}
 use Rattle.udfs_tables.proofs.StoredLemmas.{of_held}
 use Rattle.udfs_tables.proofs.merge.merge_held.Goals as goal
 
@@ -44,3 +45,9 @@ returns-clause-why g c = inr c.in-Err-put_file.ensures.why
 
 pub returns-in-Err-clause-why : goal.returns-in-Err-clause-why
 returns-in-Err-clause-why g c = inl (of_held _ _ _ _ _ _ c.in-Err.ensures.blamed)
+
+pub returns-clause-forced : goal.returns-clause-forced
+returns-clause-forced g c forced = unput_names_none _ _ c.in-Err-put_file.ensures.why
+
+pub returns-in-Err-clause-blamed : goal.returns-in-Err-clause-blamed
+returns-in-Err-clause-blamed g c = inl c.in-Err.ensures.blamed

@@ -1,22 +1,23 @@
-use Rattle.std.proofs.Common.{refl, sym, subst}
-use Rattle.udfs_volume.specs.Layout.{layout_of}
+use Rattle.std.proofs.Common.{◌≡◌, subst}
+use Rattle.udfs_lattice.proofs.StoreResults.{if_ok}
+use Rattle.udfs_volume.specs.Answers.{faulty}
+use Rattle.udfs_volume.specs.Laws.{IsBounded}
+use Rattle.udfs_volume.specs.Layout.{main_layout_by}
 use Rattle.udfs_volume.specs.LayoutParts.{parts_now}
-use Rattle.udfs_volume.specs.Seen.{Sees, GoesOn}
-use Rattle.udfs_volume.specs.Sequences.{sequence_now}
-use Rattle.udfs_volume.specs.declared.seen.Seen.TheVariants.{Holes, Fault, OutOfMemory}
-use Rattle.udfs_volume.proofs.Told.{LayoutClauses, got_bounded_of, layout_from}
+use Rattle.udfs_volume.specs.Seen.{IfGot, Sees}
+use Rattle.udfs_volume.specs.declared.seen.Seen.TheVariants.{Got, Holes, OutOfMemory}
+use Rattle.udfs_volume.proofs.Told.{LayoutClauses, layout_or, layout_seen}
 use Rattle.udfs_volume.proofs.layouts.layout_in.Goals as goal
 
 pub returns-in-Got : goal.returns-in-Got
 returns-in-Got g c =
-    let all : g.B.BlockStore.tells → LayoutClauses c.args.profile (g.B.BlockStore.states c.args.blocks.now) c.args.last c.see_layout.result = λ told.
-    let was = c.in_ok-found.ensures in
-    layout_from c.args.profile (g.B.BlockStore.states c.args.blocks.now) c.args.last c.in_ok-found.field-0 c.see_layout.result (λ s seen. Sees parts_now seen (layout_of c.args.profile c.args.last (sequence_now s))) c.requires.from (was.value told) (was.no_anchor told) (was.extents told)
-    (subst (λ s. GoesOn s (λ s seen. Sees parts_now seen (layout_of c.args.profile c.args.last (sequence_now s))) c.see_layout.result) (sym c.in-Got.is) c.see_layout.ensures) (λ s goes. goes) in
+    let all : g.B.BlockStore.tells → LayoutClauses c.args.profile (g.B.BlockStore.states c.args.blocks.now) c.args.last (Got c.in-Got.parts) = λ told.
+    let was = c.in_ok-parts.ensures in
+    layout_seen c.args.profile (g.B.BlockStore.states c.args.blocks.now) c.args.last c.in_ok-parts.field-0 (Got c.in-Got.parts) c.requires.from c.in-Got.is tt (was.value told) (was.no_anchor told) (was.extents told) in
     record {
       value = λ told. (all told).value;
       lawful = λ told. (all told).lawful;
-      bounded = got_bounded_of c.args.profile c.args.last (sequence_now c.in-Got.found) c.see_layout.result c.see_layout.ensures;
+      bounded = subst (λ s. IfGot s (λ parts. IsBounded c.args.last (parts_now parts))) c.in-Got.is c.in_ok-parts.ensures.bounded;
       rising = λ told. (all told).rising;
       no_anchor = λ told. (all told).no_anchor;
       extents = λ told. (all told).extents;
@@ -26,9 +27,8 @@ returns-in-Got g c =
 pub returns-in-Holes : goal.returns-in-Holes
 returns-in-Holes g c =
     let all : g.B.BlockStore.tells → LayoutClauses c.args.profile (g.B.BlockStore.states c.args.blocks.now) c.args.last (Holes c.in-Holes.holes) = λ told.
-    let was = c.in_ok-found.ensures in
-    layout_from c.args.profile (g.B.BlockStore.states c.args.blocks.now) c.args.last c.in_ok-found.field-0 (Holes c.in-Holes.holes) (λ s seen. ⊥) c.requires.from (was.value told) (was.no_anchor told) (was.extents told)
-    (subst (λ s. GoesOn s (λ s seen. ⊥) (Holes c.in-Holes.holes)) (sym c.in-Holes.is) refl) (λ s no. absurd no) in
+    let was = c.in_ok-parts.ensures in
+    layout_seen c.args.profile (g.B.BlockStore.states c.args.blocks.now) c.args.last c.in_ok-parts.field-0 (Holes c.in-Holes.holes) c.requires.from c.in-Holes.is tt (was.value told) (was.no_anchor told) (was.extents told) in
     record {
       value = λ told. (all told).value;
       lawful = λ told. (all told).lawful;
@@ -41,26 +41,25 @@ returns-in-Holes g c =
 
 pub returns-in-Fault : goal.returns-in-Fault
 returns-in-Fault g c =
-    let all : g.B.BlockStore.tells → LayoutClauses c.args.profile (g.B.BlockStore.states c.args.blocks.now) c.args.last (Fault c.in-Fault.fault) = λ told.
-    let was = c.in_ok-found.ensures in
-    layout_from c.args.profile (g.B.BlockStore.states c.args.blocks.now) c.args.last c.in_ok-found.field-0 (Fault c.in-Fault.fault) (λ s seen. ⊥) c.requires.from (was.value told) (was.no_anchor told) (was.extents told)
-    (subst (λ s. GoesOn s (λ s seen. ⊥) (Fault c.in-Fault.fault)) (sym c.in-Fault.is) refl) (λ s no. absurd no) in
+    let t = g.B.BlockStore.states c.args.blocks.now in
+    let is : g.B.BlockStore.tells → main_layout_by c.args.profile t c.args.last ≡ faulty c.in-Fault.fault = λ told.
+    subst (λ s. Sees parts_now s (main_layout_by c.args.profile t c.args.last)) c.in-Fault.is (c.in_ok-parts.ensures.value told) in
+    let all = layout_or g.B.BlockStore.tells c.args.profile t c.args.last c.in-Fault.fault c.or_reserve.result c.requires.from is c.or_reserve.ensures.value c.or_reserve.ensures.early in
     record {
-      value = λ told. (all told).value;
-      lawful = λ told. (all told).lawful;
-      bounded = tt;
-      rising = λ told. (all told).rising;
-      no_anchor = λ told. (all told).no_anchor;
-      extents = λ told. (all told).extents;
-      fails = tt;
+      value = if_ok c.or_reserve.result _ _ (λ seen clauses told. (clauses told).value) all;
+      lawful = if_ok c.or_reserve.result _ _ (λ seen clauses told. (clauses told).lawful) all;
+      bounded = c.or_reserve.ensures.bounded;
+      rising = if_ok c.or_reserve.result _ _ (λ seen clauses told. (clauses told).rising) all;
+      no_anchor = if_ok c.or_reserve.result _ _ (λ seen clauses told. (clauses told).no_anchor) all;
+      extents = if_ok c.or_reserve.result _ _ (λ seen clauses told. (clauses told).extents) all;
+      fails = c.or_reserve.ensures.fails;
     }
 
 pub returns-in-OutOfMemory : goal.returns-in-OutOfMemory
 returns-in-OutOfMemory g c =
-    let all : g.B.BlockStore.tells → LayoutClauses c.args.profile (g.B.BlockStore.states c.args.blocks.now) c.args.last OutOfMemory = λ told.
-    let was = c.in_ok-found.ensures in
-    layout_from c.args.profile (g.B.BlockStore.states c.args.blocks.now) c.args.last c.in_ok-found.field-0 OutOfMemory (λ s seen. ⊥) c.requires.from (was.value told) (was.no_anchor told) (was.extents told)
-    (subst (λ s. GoesOn s (λ s seen. ⊥) OutOfMemory) (sym c.in-OutOfMemory.is) refl) (λ s no. absurd no) in
+    let all : g.B.BlockStore.tells → LayoutClauses c.args.profile (g.B.BlockStore.states c.args.blocks.now) c.args.last (OutOfMemory) = λ told.
+    let was = c.in_ok-parts.ensures in
+    layout_seen c.args.profile (g.B.BlockStore.states c.args.blocks.now) c.args.last c.in_ok-parts.field-0 (OutOfMemory) c.requires.from c.in-OutOfMemory.is tt (was.value told) (was.no_anchor told) (was.extents told) in
     record {
       value = λ told. (all told).value;
       lawful = λ told. (all told).lawful;

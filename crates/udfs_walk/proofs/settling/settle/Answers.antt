@@ -33,8 +33,8 @@ returns-in_ok-known-in-Entry-clause-settled g c =
     let e = entry_of c.in-Entry.entry in
     let icb = c.address.ensures ∙ ap (λ (n : NodeFields). icb_of n.icb) c.node.view_is in
     let standing = c.standing.ensures ∙ ap (known_standing true) c.in_ok-known-in-Entry.ensures.known
-    ∙ known_is e.kind true (body v c.address.result.reference c.address.result.block e)
-    ∙ (λ i. bare_standing (body_standing e.kind true (body v (icb i).reference (icb i).block e))) in
+    ∙ known_is v.profile e.kind true (body v c.address.result.reference c.address.result.block e)
+    ∙ (λ i. bare_standing (body_standing v.profile e.kind true (body v (icb i).reference (icb i).block e))) in
     ap (λ n. node_with n c.standing.result) c.node.view_is ∙ ap (node_with n) standing
     ∙ waiting v n (entry e) (sym c.waits.ensures ∙ c.if-not-waits.false) (c.in-Entry.ensures.value ∙ ap (λ (n : NodeFields). target v n.icb) c.node.view_is)
 

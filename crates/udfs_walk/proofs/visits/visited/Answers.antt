@@ -35,7 +35,7 @@ returns-in_ok-standing-in-Entry-clause-node g c =
     let icb = c.address-icb.ensures in
     let loop = c.is_loop-is_loop.ensures ∙ ap (λ a. list_any (is_icb a) c.args.above.now) icb in
     c.read.ensures c.args.above.now ∙ (λ i. told (c.profile-profile.ensures i) w e c.in_ok-standing-in-Entry.standing) ∙ ap (told v.profile w e) c.in_ok-standing-in-Entry.ensures.standing
-    ∙ (λ i. told v.profile w e (cond (loop i) Loop (cond (nat_le 64 (n i)) Whole (bare_standing (body_standing e.kind false (body v (icb i).reference (icb i).block e))))))
+    ∙ (λ i. told v.profile w e (cond (loop i) Loop (cond (nat_le 64 (n i)) Whole (bare_standing (body_standing v.profile e.kind false (body v (icb i).reference (icb i).block e))))))
     ∙ unsettled_is v w (entry e) c.in-Entry.ensures.value
 
 pub returns-in_ok-standing-in-Entry-clause-counted : goal.returns-in_ok-standing-in-Entry-clause-counted

@@ -7,26 +7,26 @@ use Rattle.udfs_file.proofs.StoreSteps.{sized_fewer}
 use Rattle.udfs_file.proofs.directories.Dir.end_by.Goals as goal
 
 pub steps-init : goal.steps-init
-steps-init g c told = ending_start (cells_of (view_by g.B.BlockStore.states c.args.view) c.args.body.now) c.new-cursor.result c.new-cursor.ensures
+steps-init g c told = ending_start c.args.profile (cells_of (view_by g.B.BlockStore.states c.args.view) c.args.body.now) c.new-cursor.result c.new-cursor.ensures
 
 pub steps-smaller : goal.steps-smaller
 steps-smaller g c = sized_fewer c.steps.cursor c.next.new.self c.in_ok-pieces.field-0 c.in-Id.pieces c.in_ok-pieces.ensures.behind c.in_ok-pieces.ensures.size c.in-Id.is
 
 pub steps-preserved : goal.steps-preserved
-steps-preserved g c told = ending_unlisted (cells_of (view_by g.B.BlockStore.states c.args.view) c.args.body.now) c.steps.cursor c.next.new.self c.steps.lists c.in_ok-pieces.field-0 c.in-Id.pieces
+steps-preserved g c told = ending_unlisted c.args.profile (cells_of (view_by g.B.BlockStore.states c.args.view) c.args.body.now) c.steps.cursor c.next.new.self c.steps.lists c.in_ok-pieces.field-0 c.in-Id.pieces
     (c.steps.invariant told) (c.in_ok-pieces.ensures.directory told) c.in-Id.is (sym c.is_listed.ensures ∙ c.if-is_listed.false)
 
 pub returns-in-Stop-clause-value : goal.returns-in-Stop-clause-value
 returns-in-Stop-clause-value g c told = let d = rw c.in-Stop.is at (c.in_ok-pieces.ensures.directory told) in
-    ended (cells_of (view_by g.B.BlockStore.states c.args.view) c.args.body.now) c.steps.cursor c.steps.lists c.end_at.result (Stopped c.in-Stop.n) (c.steps.invariant told) d.0 d.1
+    ended c.args.profile (cells_of (view_by g.B.BlockStore.states c.args.view) c.args.body.now) c.steps.cursor c.steps.lists c.end_at.result (Stopped c.in-Stop.n) (c.steps.invariant told) d.0 d.1
     c.end_at.ensures.0 c.end_at.ensures.1 c.end_at.ensures.2
 
 pub returns-in-Fault-clause-value : goal.returns-in-Fault-clause-value
 returns-in-Fault-clause-value g c told = let d = rw c.in-Fault.is at (c.in_ok-pieces.ensures.directory told) in
-    ended (cells_of (view_by g.B.BlockStore.states c.args.view) c.args.body.now) c.steps.cursor c.steps.lists c.end_at-in-Fault.result (Wrong c.in-Fault.fault) (c.steps.invariant told) d.0 d.1
+    ended c.args.profile (cells_of (view_by g.B.BlockStore.states c.args.view) c.args.body.now) c.steps.cursor c.steps.lists c.end_at-in-Fault.result (Wrong c.in-Fault.fault) (c.steps.invariant told) d.0 d.1
     c.end_at-in-Fault.ensures.0 c.end_at-in-Fault.ensures.1 c.end_at-in-Fault.ensures.2
 
 pub returns-in-End-clause-value : goal.returns-in-End-clause-value
 returns-in-End-clause-value g c told = let d = rw c.in-End.is at (c.in_ok-pieces.ensures.directory told) in
-    ended (cells_of (view_by g.B.BlockStore.states c.args.view) c.args.body.now) c.steps.cursor c.steps.lists c.end_at-in-End.result Nothing (c.steps.invariant told) d.0 d.1
+    ended c.args.profile (cells_of (view_by g.B.BlockStore.states c.args.view) c.args.body.now) c.steps.cursor c.steps.lists c.end_at-in-End.result Nothing (c.steps.invariant told) d.0 d.1
     c.end_at-in-End.ensures.0 c.end_at-in-End.ensures.1 c.end_at-in-End.ensures.2

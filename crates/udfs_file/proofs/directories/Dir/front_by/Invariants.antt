@@ -7,7 +7,7 @@ use Rattle.udfs_file.proofs.directories.Dir.front_by.Given as goal
 
 abbrev pub invariant-steps : goal.invariant-steps
 invariant-steps g l = record {
-  fronting : g.B.BlockStore.tells → IsFronting (cells_of (view_by g.B.BlockStore.states l.view) l.body) l.cursor l.entries.items;
+  fronting : g.B.BlockStore.tells → IsFronting l.profile (cells_of (view_by g.B.BlockStore.states l.view) l.body) l.cursor l.entries.items;
   few : length l.entries.items ≤ l.most;
 }
 

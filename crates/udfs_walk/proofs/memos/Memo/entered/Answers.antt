@@ -18,7 +18,7 @@ returns-in-Some-clause-standing g c =
     let b = body (view_now c.args.view) c.args.address.reference c.args.address.block e in
     let is = c.requires.memo c.args.address c.args.entry.now c.in-Some.before.now c.number-number.ensures.block c.requires.stands
     (sym (c.in-Some.ensures.value ∙ ap (get nat_cmp c.args.self.now.kept) c.number-number.ensures.value)) in
-    subst (λ s. IfOk c.told.result (λ told. told.0 ≡ s)) (ap (known_standing false) is.0 ∙ known_is e.kind false b) c.told.ensures.standing
+    subst (λ s. IfOk c.told.result (λ told. told.0 ≡ s)) (ap (known_standing false) is.0 ∙ known_is (view_now c.args.view).profile e.kind false b) c.told.ensures.standing
 
 pub returns-clause-memo : goal.returns-clause-memo
 returns-clause-memo g c =
@@ -26,7 +26,7 @@ returns-clause-memo g c =
     let e = entry_of c.args.entry.now in
     let b = body v c.args.address.reference c.args.address.block e in
     let kept : Kept = record { known = c.known_by.result; entries = c.in_ok-shared_entries.field-0 } in
-    let word : c.known_by.result ≡ known_of e.kind b
+    let word : c.known_by.result ≡ known_of v.profile e.kind b
     = (λ i. record { word = (c.known_by.ensures.word ∙ ap word_of c.in_ok-told.ensures.standing ∙ word_bare _) i; lists = (c.known_by.ensures.lists ∙ c.in_ok-told.ensures.lists) i }) in
     let listed = subst (AreListed c.in_ok-shared_entries.field-0) c.in_ok-told.ensures.entries c.in_ok-shared_entries.ensures in
     kept_more v (IsToldOf v) c.args.self.now.kept c.keep.new.memo c.args.address c.args.entry.now kept c.number-number.ensures.block c.requires.stands

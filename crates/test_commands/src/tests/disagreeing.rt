@@ -1,0 +1,114 @@
+//! What is said of known anchors, and of known copies of the volume's descriptors, that differ.
+
+use crate::tests::check;
+use std::test::Fail;
+
+static ANCHORS_THAT_DIFFER: &str = r"
+= anchors_that_differ
+# The second anchor, in block 600, names another main extent.
+then status 0
+then error
+
+write 600 20 \x30
+but
+$ report -v --last 600 disc.tab
+remarked anchors differ: block 256 opens another state of the disc than block 600: the volume is not lawful, and the guarantee does not hold for it\n
+
+write 600 20 \x30
+but
+$ list -v --last 600 disc.tab
+remarked anchors differ: block 256 opens another state of the disc than block 600: the volume is not lawful, and the guarantee does not hold for it\n
+
+write 600 20 \x30
+but
+$ reread -v --last 600 disc.tab
+remarked anchors differ: block 256 opens another state of the disc than block 600: the volume is not lawful, and the guarantee does not hold for it\n
+
+write 600 20 \x30
+but
+$ reread -v --last 600 --mapfile want.map disc.tab
+remarked anchors differ: block 256 opens another state of the disc than block 600: the volume is not lawful, and the guarantee does not hold for it\n
+
+write 600 20 \x30
+but
+$ extract -v --last 600 --to new disc.tab
+remarked anchors differ: block 256 opens another state of the disc than block 600: the volume is not lawful, and the guarantee does not hold for it\n
+
+write 600 20 \x30
+but
+$ summary --last 600 disc.tab
+out-has \nAnchors    anchors differ: block 256 opens another state of the disc than block 600: the volume is not lawful, and the guarantee does not hold for it\n
+
+write 600 20 \x30
+but
+$ page --last 600 --out p.html disc.tab
+file-has p.html <div>Anchors    anchors differ: block 256 opens another state of the disc than block 600: the volume is not lawful, and the guarantee does not hold for it</div>\n
+
+write 600 20 \x30
+but 256
+$ report -v --last 600 disc.tab
+remarked
+";
+
+#[test]
+fn anchors_that_differ(rt: HostRuntime) -> Result<(), Fail> {
+    check(&rt, rt.alloc(), ANCHORS_THAT_DIFFER)
+}
+
+static COPIES_THAT_DIFFER: &str = r"
+= copies_of_descriptors_that_differ
+# The reserve logical volume descriptor is of revision 2.01, the main one of 1.50.
+then status 0
+then error
+
+write 48 240 \x01\x02
+but
+$ report -v --last 600 disc.tab
+remarked copies of the volume's descriptors differ: the volume is not lawful, and the guarantee does not hold for it\n
+
+write 48 240 \x01\x02
+but
+$ list -v --last 600 disc.tab
+remarked copies of the volume's descriptors differ: the volume is not lawful, and the guarantee does not hold for it\n
+
+write 48 240 \x01\x02
+but
+$ reread -v --last 600 disc.tab
+remarked copies of the volume's descriptors differ: the volume is not lawful, and the guarantee does not hold for it\n
+
+write 48 240 \x01\x02
+but
+$ extract -v --last 600 --to new disc.tab
+remarked copies of the volume's descriptors differ: the volume is not lawful, and the guarantee does not hold for it\n
+
+write 48 240 \x01\x02
+but
+$ summary --last 600 disc.tab
+out-has \nCopies     copies of the volume's descriptors differ: the volume is not lawful, and the guarantee does not hold for it\n
+
+write 48 240 \x01\x02
+but
+$ page --last 600 --out p.html disc.tab
+file-has p.html <div>Copies     copies of the volume&#39;s descriptors differ: the volume is not lawful, and the guarantee does not hold for it</div>\n
+
+= a_main_sequence_that_is_damaged
+# By the wide rules the reserve sequence is asked, and it is said that the copies differ.
+then error
+
+write 32 240 P\x02
+but
+$ report -v --last 600 disc.tab
+status 1
+remarked copies of the volume's descriptors differ: the volume is not lawful, and the guarantee does not hold for it\nvolume: UDF 2.50, which is not read\n
+
+write 32 240 P\x02
+but
+$ list -v --last 600 --profile wide disc.tab
+status 0
+remarked copies of the volume's descriptors differ: the volume is not lawful, and the guarantee does not hold for it\n
+";
+
+#[test]
+fn copies_that_differ(rt: HostRuntime) -> Result<(), Fail> {
+    check(&rt, rt.alloc(), COPIES_THAT_DIFFER)
+}

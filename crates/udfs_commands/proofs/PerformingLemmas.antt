@@ -1,0 +1,31 @@
+-- What is said of a result in two parts, of one where nothing has changed, and of a mapfile alone.
+use Rattle.std.proofs.Common.{◌≡◌, ◌⊎◌, ℕ, Bool, List, Result, Ok, Err, IfOk, OnErr, OnOk, inl}
+use Rattle.udfs_reading.specs.Device.{Stream}
+use Rattle.udfs_words.specs.declared.request.Request.{Request}
+use Rattle.udfs_words.specs.declared.request.Request.TheVariants.{Reread}
+use Rattle.udfs_words.specs.declared.request.RereadRequest.{RereadRequest}
+use Rattle.udfs_common.proofs.PutsLemmas.{spares_wider}
+use Rattle.udfs_common.specs.Puts.{Spares}
+use Rattle.udfs_common.specs.Reach.{Reach}
+use Rattle.udfs_reports.specs.Rereading.{IsMap, IsSomeMap}
+
+-- both parts
+pub both : {A E : Type 0} (result : Result A E) (P : A → Type 0) (Q : Type 0) → IfOk result P → OnOk result Q → IfOk result (λ a. P a × Q)
+both (Ok a) P Q p q = (p, q)
+both (Err e) P Q p q = tt
+
+-- a mapfile whose line was printed is the mapfile
+pub some_map : {F I M S W : Type 0} (reach : Reach F I M S W) (old : F) (r : RereadRequest) (before after : Stream) (bytes : List ℕ) → ((whole : Bool) × IsMap reach old r before after whole bytes) → IsSomeMap reach old r bytes
+some_map reach old r before after bytes is =
+    let map = is.1.join.2 in
+    record { last = is.1.last; ends = is.1.ends; one_disc = is.1.one_disc; join = (is.1.join.0, is.1.join.1, (map.report, map.is_report, map.is)) }
+
+-- so what is left is told of the mapfile alone
+pub map_left : {F I M S W : Type 0} (reach : Reach F I M S W) (old new : F) (asked : Request) (r : RereadRequest) (path : List ℕ) (before after : Stream) → asked ≡ Reread r → Spares reach (λ bytes. (whole : Bool) × IsMap reach old r before after whole bytes) path old new →
+    Spares reach (IsSomeMap reach old r) path old new
+map_left reach old new asked r path before after is spares = spares_wider _ _ (some_map reach old r before after) spares
+
+-- a result that is a refusal or not, where nothing has changed
+pub unchanged : {A E : Type 0} (result : Result A E) (P Q : Type 0) → P → OnErr result (P ⊎ Q)
+unchanged (Ok a) P Q p = tt
+unchanged (Err e) P Q p = inl p

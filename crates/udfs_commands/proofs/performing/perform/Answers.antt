@@ -1,0 +1,66 @@
+use Rattle.std.proofs.Common.{refl}
+use Rattle.udfs_commands.proofs.PerformingLemmas.{both, map_left, unchanged}
+use Rattle.udfs_commands.proofs.performing.perform.Goals as goal
+
+pub returns-in-Merge-clause-done : goal.returns-in-Merge-clause-done
+returns-in-Merge-clause-done g c = rw c.in-Merge.is c.merge_by_words.ensures.done
+
+pub returns-in-Merge-clause-left : goal.returns-in-Merge-clause-left
+returns-in-Merge-clause-left g c = rw c.in-Merge.is c.merge_by_words.ensures.left
+
+pub returns-in-Merge-clause-failed : goal.returns-in-Merge-clause-failed
+returns-in-Merge-clause-failed g c = rw c.in-Merge.is c.merge_by_words.ensures.failed
+
+pub returns-in-Forget-clause-done : goal.returns-in-Forget-clause-done
+returns-in-Forget-clause-done g c = rw c.in-Forget.is c.forget_by_words.ensures.done
+
+pub returns-in-Forget-clause-left : goal.returns-in-Forget-clause-left
+returns-in-Forget-clause-left g c = rw c.in-Forget.is c.forget_by_words.ensures.left
+
+pub returns-in-Forget-clause-failed : goal.returns-in-Forget-clause-failed
+returns-in-Forget-clause-failed g c = rw c.in-Forget.is c.forget_by_words.ensures.failed
+
+pub returns-in-Image-clause-done : goal.returns-in-Image-clause-done
+returns-in-Image-clause-done g c = rw c.in-Image.is c.image_by_words.ensures.done
+
+pub returns-in-Image-clause-left : goal.returns-in-Image-clause-left
+returns-in-Image-clause-left g c = rw c.in-Image.is c.image_by_words.ensures.left
+
+pub returns-in-Report-clause-done : goal.returns-in-Report-clause-done
+returns-in-Report-clause-done g c = rw c.in-Report.is c.tell.ensures.printed
+
+pub returns-in-Report-clause-left : goal.returns-in-Report-clause-left
+returns-in-Report-clause-left g c = rw c.in-Report.is refl
+
+pub returns-in-Report-clause-failed : goal.returns-in-Report-clause-failed
+returns-in-Report-clause-failed g c = rw c.in-Report.is (unchanged _ _ _ refl)
+
+pub returns-in-List-clause-done : goal.returns-in-List-clause-done
+returns-in-List-clause-done g c = rw c.in-List.is (rw c.node_lines.ensures at c.tell-in-List.ensures.printed)
+
+pub returns-in-List-clause-left : goal.returns-in-List-clause-left
+returns-in-List-clause-left g c = rw c.in-List.is refl
+
+pub returns-in-List-clause-failed : goal.returns-in-List-clause-failed
+returns-in-List-clause-failed g c = rw c.in-List.is (unchanged _ _ _ refl)
+
+pub returns-in-Summary-clause-done : goal.returns-in-Summary-clause-done
+returns-in-Summary-clause-done g c = rw c.in-Summary.is c.tell-in-Summary.ensures.printed
+
+pub returns-in-Summary-clause-left : goal.returns-in-Summary-clause-left
+returns-in-Summary-clause-left g c = rw c.in-Summary.is refl
+
+pub returns-in-Summary-clause-failed : goal.returns-in-Summary-clause-failed
+returns-in-Summary-clause-failed g c = rw c.in-Summary.is (unchanged _ _ _ refl)
+
+pub returns-in-Some-clause-left : goal.returns-in-Some-clause-left
+returns-in-Some-clause-left g c = rw c.in-Reread.is (rw c.in-Some.is (map_left _ _ _ _ _ _ _ _ c.in-Reread.is c.reread_map.ensures.puts.spares))
+
+pub returns-in-Page-clause-done : goal.returns-in-Page-clause-done
+returns-in-Page-clause-done g c = rw c.in-Page.is (both _ _ _ c.page.ensures.puts.put c.page.ensures.free)
+
+pub returns-in-Page-clause-left : goal.returns-in-Page-clause-left
+returns-in-Page-clause-left g c = rw c.in-Page.is c.page.ensures.puts.spares
+
+pub returns-in-Page-clause-failed : goal.returns-in-Page-clause-failed
+returns-in-Page-clause-failed g c = rw c.in-Page.is c.page.ensures.puts.failed
