@@ -12,7 +12,7 @@ returns-then-is_other_disc-clause-why g c =
       (_, _, _, refl),
       λ told ts own tell tell_own.
           let one : c.args.place + 1 - c.args.place ≡ 1 = omega arith in
-        let t = c.index.ensures (join_all ts) (c.in-Ok.ensures ts tell) in
+          let t = c.index.ensures (join_all ts) (c.in-Ok.ensures ts tell) in
           let u = c.index-2.ensures (join_all (own ∷ [])) (c.in-Ok-index_of.ensures (own ∷ []) (subst (λ (n : ℕ). AllTell content (take n (drop c.args.place c.args.stored.now)) (own ∷ [])) (sym one) tell_own)) in
           other_alone (join_all ts) own _ _ _
           (found.blocks told told (join_all ts) (join_all (own ∷ [])) u.0 (states_are content _ _ _ told t.1) (states_are content _ _ _ told u.1))
