@@ -39,7 +39,7 @@ abbrev pub form_of : ListRequest → ListForm
 form_of r = record { torn = r.torn; null = r.null; paths = r.paths }
 
 -- where it is done, nothing is lacking
-abbrev pub said_of : {E : Type 0} → Result Unit E → Result Bool E
+abbrev pub said_of : {A E : Type 0} → Result A E → Result Bool E
 said_of (Ok done) = Ok true
 said_of (Err e) = Err e
 

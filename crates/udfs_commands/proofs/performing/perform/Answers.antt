@@ -10,7 +10,7 @@ pub returns-in-Merge-clause-left : goal.returns-in-Merge-clause-left
 returns-in-Merge-clause-left g c = rw c.in-Merge.is (spares _ c.merge.ensures.puts)
 
 pub returns-in-Merge-clause-failed : goal.returns-in-Merge-clause-failed
-returns-in-Merge-clause-failed g c = rw c.in-Merge.is (rw c.all_or_none.ensures (all_failed _ _ _ c.merge.ensures.puts))
+returns-in-Merge-clause-failed g c = rw c.in-Merge.is (rw c.all_or_none.ensures (all_failed _ _ c.merge.ensures.puts))
 
 pub returns-in-Forget-clause-done : goal.returns-in-Forget-clause-done
 returns-in-Forget-clause-done g c = rw c.in-Forget.is (rw c.all_or_none-in-Forget.ensures (all_done _ _ _ c.forget.ensures.puts.put c.forget.ensures.free))
@@ -19,7 +19,7 @@ pub returns-in-Forget-clause-left : goal.returns-in-Forget-clause-left
 returns-in-Forget-clause-left g c = rw c.in-Forget.is (spares _ c.forget.ensures.puts)
 
 pub returns-in-Forget-clause-failed : goal.returns-in-Forget-clause-failed
-returns-in-Forget-clause-failed g c = rw c.in-Forget.is (rw c.all_or_none-in-Forget.ensures (all_failed _ _ _ c.forget.ensures.puts))
+returns-in-Forget-clause-failed g c = rw c.in-Forget.is (rw c.all_or_none-in-Forget.ensures (all_failed _ _ c.forget.ensures.puts))
 
 pub returns-in-Image-clause-done : goal.returns-in-Image-clause-done
 returns-in-Image-clause-done g c = rw c.in-Image.is (rw c.all_or_none-in-Image.ensures (all_done _ _ _ c.image.ensures.puts.put c.image.ensures.free))
