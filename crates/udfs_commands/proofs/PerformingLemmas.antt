@@ -1,12 +1,15 @@
 -- What is said of a result in two parts, of one where nothing has changed, and of a mapfile alone.
-use Rattle.std.proofs.Common.{◌≡◌, ◌⊎◌, ℕ, Bool, List, Result, Ok, Err, IfOk, OnErr, OnOk, inl}
+use Rattle.std.proofs.Common.{◌≡◌, ◌⊎◌, ℕ, Bool, true, List, Result, Ok, Err, IfOk, OnErr, OnOk, inl, inr, refl}
+use Rattle.std.specs.Bool.{⊤}
 use Rattle.udfs_reading.specs.Device.{Stream}
 use Rattle.udfs_words.specs.declared.request.Request.{Request}
 use Rattle.udfs_words.specs.declared.request.Request.TheVariants.{Reread}
 use Rattle.udfs_words.specs.declared.request.RereadRequest.{RereadRequest}
-use Rattle.udfs_common.proofs.PutsLemmas.{spares_wider}
-use Rattle.udfs_common.specs.Puts.{Spares}
+use Rattle.udfs_common.proofs.PutsLemmas.{may_fail, spares_wider}
+use Rattle.udfs_common.specs.Puts.{PutFails, Puts, Spares}
 use Rattle.udfs_common.specs.Reach.{Reach}
+use Rattle.udfs_common.specs.declared.refusal.Refusal.{Refusal}
+use Rattle.udfs_commands.specs.Doing.{said_of}
 use Rattle.udfs_reports.specs.Rereading.{IsMap, IsSomeMap}
 
 -- both parts
@@ -29,3 +32,18 @@ map_left reach old new asked r path before after is spares = spares_wider _ _ (s
 pub unchanged : {A E : Type 0} (result : Result A E) (P Q : Type 0) → P → OnErr result (P ⊎ Q)
 unchanged (Ok a) P Q p = tt
 unchanged (Err e) P Q p = inl p
+
+-- what was done, by what is said of it
+pub all_done : {A E : Type 0} (outcome : Result A E) (P Q : Type 0) → OnOk outcome P → OnOk outcome Q → IfOk (said_of outcome) (λ whole. (whole ≡ true) × P × Q)
+all_done (Ok done) P Q p q = (refl, p, q)
+all_done (Err e) P Q p q = tt
+
+-- and where it was not, nothing has changed or a call failed
+pub all_failed : {A F I M S W : Type 0} {reach : Reach F I M S W} {out : List ℕ} {old new : F} (outcome : Result A Refusal) (Is : List ℕ → Type 0) → Puts reach Is out old new outcome → OnErr (said_of outcome) ((new ≡ old) ⊎ PutFails reach out old)
+all_failed (Ok done) Is puts = tt
+all_failed (Err refusal) Is puts = may_fail Is puts
+
+-- of which nothing is said
+pub any_failed : {A E : Type 0} (result : Result A E) (P : Type 0) → OnErr result (P ⊎ ⊤)
+any_failed (Ok a) P = tt
+any_failed (Err e) P = inr tt

@@ -1,32 +1,29 @@
 -- What a request does, what it leaves, and when it may fail halfway. `reach` is what is known of the files, and `stream` what an output has taken.
 --     form_of            how `list` shows nodes
---     Merges, Forgets, Images      what `merge`, `forget` and `image` put, by the arguments that ask for it
+--     said_of            what a command says that is done or fails
 --     Extracts           what `extract` makes and reports, by the arguments that ask for it
---     DoesMerge .. LeavesExtract   the cases of these four commands
+--     DoesExtract, LeavesExtract   the cases of `extract`
 --     Does               what a request that was done did, and whether nothing is lacking
 --     Leaves             what no crash and no refusal touches, whatever the status
 --     MayFail            what may be where a file has changed and the request was refused
-use Rattle.std.specs.Prelude.{◌≡◌, ◌⊎◌, ⊤, ℕ, Bool, true, false, List, MatchOption, codes}
+use Rattle.std.specs.Prelude.{◌≡◌, ⊤, ℕ, Bool, true, false, List, MatchOption, Result, Ok, Err}
 use Rattle.clap.specs.declared.parser.matches.Found.{Found}
 use Rattle.udfs_reading.specs.Device.{Stream}
 use Rattle.udfs_overview.specs.Summaries.{summary_text}
 use Rattle.udfs_overview.specs.declared.node_list.ListForm.{ListForm}
-use Rattle.udfs_words.specs.Asking.{IsPicked, has_lost, has_manifest, has_only, input_texts, mapfile_text, out_text, pair_texts}
-use Rattle.udfs_words.specs.Requests.{IsExtract, IsForget, IsImage, IsMerge}
+use Rattle.udfs_words.specs.Asking.{has_lost, has_manifest, has_only}
+use Rattle.udfs_words.specs.Requests.{IsExtract}
 use Rattle.udfs_words.specs.declared.request.ExtractRequest.{ExtractRequest}
-use Rattle.udfs_words.specs.declared.request.ForgetRequest.{ForgetRequest}
-use Rattle.udfs_words.specs.declared.request.ImageRequest.{ImageRequest}
 use Rattle.udfs_words.specs.declared.request.ListRequest.{ListRequest}
-use Rattle.udfs_words.specs.declared.request.MergeRequest.{MergeRequest}
 use Rattle.udfs_words.specs.declared.request.Request.{Request}
 use Rattle.udfs_words.specs.declared.request.Request.TheVariants as request
-use Rattle.udfs_common.specs.Guarding.{IsFree, IsFreePair}
-use Rattle.udfs_common.specs.Keeping.{FailedOut, IsKept, IsTaken}
 use Rattle.udfs_common.specs.Puts.{IsPut, PutFails, Spares}
-use Rattle.udfs_common.specs.Reach.{Reach, found_at}
-use Rattle.udfs_tables.specs.Forgetting.{PutsForgotten}
-use Rattle.udfs_tables.specs.Imaging.{ReplacesPair, WritesImage}
-use Rattle.udfs_tables.specs.Leaving.{MayForgetAsked, MayMerge, PutsJoin, ReplacesOut}
+use Rattle.udfs_common.specs.Reach.{Reach}
+use Rattle.udfs_tables.specs.Forgetting.{IsForgotten}
+use Rattle.udfs_tables.specs.Imaging.{IsImaged, IsPairFree}
+use Rattle.udfs_tables.specs.Merging.{IsMerged}
+use Rattle.udfs_tables.specs.Outputs.{IsOutFree}
+use Rattle.udfs_tables.specs.Pairing.{IsPairPut, SparesPair}
 use Rattle.udfs_reports.specs.Listing.{list_of}
 use Rattle.udfs_reports.specs.Paging.{IsPage, IsPageFree}
 use Rattle.udfs_reports.specs.Reporting.{form_text}
@@ -41,22 +38,12 @@ use Rattle.udfs_extraction.specs.Timing.{IsGoodWithTimes}
 abbrev pub form_of : ListRequest → ListForm
 form_of r = record { torn = r.torn; null = r.null; paths = r.paths }
 
+-- where it is done, nothing is lacking
+abbrev pub said_of : {A E : Type 0} → Result A E → Result Bool E
+said_of (Ok done) = Ok true
+said_of (Err e) = Err e
+
 -- ---- by the arguments that ask for it
-
--- the file is put, in the place of nothing that is to stay
-pub record Merges {F I M S W : Type 0} (reach : Reach F I M S W) (words : Found) (old new : F) : Type 0 where
-  pub put : PutsJoin (found_at reach old) reach.remaining words (λ bytes. (reach.files.tells → IsKept (reach.files.holds new) (reach.files.may_leave new) (reach.files.real old (out_text words)) bytes) ⊎ (reach.files.in_place old (out_text words) × IsTaken reach.output bytes))
-  pub free : (force : Bool) × IsPicked words (codes "force") true false force × (reach.files.tells → IsFree (reach.files.holds old) (reach.files.real old) (reach.files.in_place old) (input_texts words) (pair_texts words) force (out_text words))
-
--- the same of `forget`
-pub record Forgets {F I M S W : Type 0} (reach : Reach F I M S W) (words : Found) (old new : F) : Type 0 where
-  pub put : PutsForgotten (found_at reach old) reach.remaining words (λ bytes. (reach.files.tells → IsKept (reach.files.holds new) (reach.files.may_leave new) (reach.files.real old (out_text words)) bytes) ⊎ (reach.files.in_place old (out_text words) × IsTaken reach.output bytes))
-  pub free : (force : Bool) × IsPicked words (codes "force") true false force × (reach.files.tells → IsFree (reach.files.holds old) (reach.files.real old) (reach.files.in_place old) (input_texts words) (pair_texts words) force (out_text words))
-
--- both files are put, in the place of nothing that is to stay
-pub record Images {F I M S W : Type 0} (reach : Reach F I M S W) (words : Found) (old new : F) : Type 0 where
-  pub put : WritesImage (found_at reach old) reach.remaining words (λ bytes text. reach.files.tells → IsKept (reach.files.holds new) (reach.files.may_leave new) (reach.files.real old (out_text words)) bytes × IsKept (reach.files.holds new) (reach.files.may_leave new) (reach.files.real old (mapfile_text words)) text)
-  pub free : (force : Bool) × IsPicked words (codes "force") true false force × (reach.files.tells → IsFreePair (reach.files.holds old) (reach.files.real old) (input_texts words) (pair_texts words) force (out_text words) (mapfile_text words))
 
 -- the nodes are made and reported, with the lost files and the manifest where they are asked for; with times, one that could not be set is lacking too
 pub record Extracts {F I M S W O : Type 0} (reach : Reach F I M S W) (stream : O → Stream) (words : Found) (old new : F) (before after : O) (all : Bool) : Type 0 where
@@ -68,38 +55,6 @@ pub record Extracts {F I M S W O : Type 0} (reach : Reach F I M S W) (stream : O
   pub free : (has_lost words ≡ true → HasNewFolder reach.files words (lost_others words) old) × (has_lost words ≡ true → has_manifest words ≡ true → HasFreeManifest reach.files words old)
 
 module _ {F I M S W : Type 0} (reach : Reach F I M S W) (old new : F) where
-  -- the file of `merge` is put
-  abbrev pub DoesMerge : MergeRequest → Bool → Type 0
-  DoesMerge r whole = (whole ≡ true) × ((words : Found) × IsMerge words r × Merges reach words old new)
-
-  -- it may be
-  abbrev pub LeavesMerge : MergeRequest → Type 0
-  LeavesMerge r = (words : Found) × IsMerge words r × ReplacesOut reach.files.tells reach.files.holds reach.files.real reach.files.in_place reach.files.may_leave reach.files.moment reach.files.left_since words old new (MayMerge (found_at reach old) reach.remaining (reach.files.real old) words)
-
-  -- a call failed
-  abbrev pub FailsMerge : MergeRequest → Type 0
-  FailsMerge r = (words : Found) × IsMerge words r × FailedOut reach.files.tells reach.files.holds reach.files.real reach.files.in_place (PutFails reach (out_text words) old) (out_text words) old new (PutsJoin (found_at reach old) reach.remaining words)
-
-  -- the file of `forget` is put
-  abbrev pub DoesForget : ForgetRequest → Bool → Type 0
-  DoesForget r whole = (whole ≡ true) × ((words : Found) × IsForget words r × Forgets reach words old new)
-
-  -- it may be
-  abbrev pub LeavesForget : ForgetRequest → Type 0
-  LeavesForget r = (words : Found) × IsForget words r × ReplacesOut reach.files.tells reach.files.holds reach.files.real reach.files.in_place reach.files.may_leave reach.files.moment reach.files.left_since words old new (MayForgetAsked (found_at reach old) reach.remaining (reach.files.real old) words)
-
-  -- a call failed
-  abbrev pub FailsForget : ForgetRequest → Type 0
-  FailsForget r = (words : Found) × IsForget words r × FailedOut reach.files.tells reach.files.holds reach.files.real reach.files.in_place (PutFails reach (out_text words) old) (out_text words) old new (PutsForgotten (found_at reach old) reach.remaining words)
-
-  -- the image and its mapfile are put
-  abbrev pub DoesImage : ImageRequest → Bool → Type 0
-  DoesImage r whole = (whole ≡ true) × ((words : Found) × IsImage words r × Images reach words old new)
-
-  -- they may be
-  abbrev pub LeavesImage : ImageRequest → Type 0
-  LeavesImage r = (words : Found) × IsImage words r × ReplacesPair reach.files.tells reach.files.holds reach.files.real reach.files.may_leave reach.files.moment reach.files.left_since reach.remaining words old new
-
   -- the files of the volume are written
   abbrev pub DoesExtract : {O : Type 0} → (O → Stream) → ExtractRequest → O → O → Bool → Type 0
   DoesExtract stream r before after whole = (words : Found) × IsExtract words r × Extracts reach stream words old new before after whole
@@ -113,9 +68,9 @@ module _ {F I M S W : Type 0} (reach : Reach F I M S W) (old new : F) where
 module _ {F I M S W : Type 0} (reach : Reach F I M S W) (old : F) where
   -- what was done, and whether nothing is lacking
   abbrev pub Does : {O : Type 0} → (O → Stream) → Request → F → O → O → Bool → Type 0
-  Does stream (request.Merge r) new before after whole = DoesMerge reach old new r whole
-  Does stream (request.Forget r) new before after whole = DoesForget reach old new r whole
-  Does stream (request.Image r) new before after whole = DoesImage reach old new r whole
+  Does stream (request.Merge r) new before after whole = (whole ≡ true) × IsPut reach (IsMerged reach old r) r.out.now old new × IsOutFree reach old r.inputs r.force r.out.now
+  Does stream (request.Forget r) new before after whole = (whole ≡ true) × IsPut reach (IsForgotten reach old r) r.out.now old new × IsOutFree reach old r.inputs r.force r.out.now
+  Does stream (request.Image r) new before after whole = (whole ≡ true) × IsPairPut reach (IsImaged reach old r) r.image.now r.mapfile.now old new × IsPairFree reach old r
   Does stream (request.Report r) new before after whole = PrintsText reach old (form_text r.form) r.volume (stream before) (stream after) whole
   Does stream (request.Reread r) new before after whole = MatchOption r.mapfile (PrintsText reach old numbers_of r.volume (stream before) (stream after) whole)
       (λ path. IsPut reach (IsMap reach old r (stream before) (stream after) whole) path.now old new × IsMapFree reach old r path.now)
@@ -126,9 +81,9 @@ module _ {F I M S W : Type 0} (reach : Reach F I M S W) (old : F) where
 
   -- what is left, whatever the status, and by a crash at any moment
   abbrev pub Leaves : Request → F → Type 0
-  Leaves (request.Merge r) new = LeavesMerge reach old new r
-  Leaves (request.Forget r) new = LeavesForget reach old new r
-  Leaves (request.Image r) new = LeavesImage reach old new r
+  Leaves (request.Merge r) new = Spares reach (IsMerged reach old r) r.out.now old new
+  Leaves (request.Forget r) new = Spares reach (IsForgotten reach old r) r.out.now old new
+  Leaves (request.Image r) new = SparesPair reach (IsImaged reach old r) r.image.now r.mapfile.now old new
   Leaves (request.Report r) new = new ≡ old
   Leaves (request.Reread r) new = MatchOption r.mapfile (new ≡ old) (λ path. Spares reach (IsSomeMap reach old r) path.now old new)
   Leaves (request.List r) new = new ≡ old
@@ -138,8 +93,8 @@ module _ {F I M S W : Type 0} (reach : Reach F I M S W) (old : F) where
 
   -- a call failed where a file has changed and the request was refused
   abbrev pub MayFail : Request → F → Type 0
-  MayFail (request.Merge r) new = FailsMerge reach old new r
-  MayFail (request.Forget r) new = FailsForget reach old new r
+  MayFail (request.Merge r) new = PutFails reach r.out.now old
+  MayFail (request.Forget r) new = PutFails reach r.out.now old
   MayFail (request.Reread r) new = MatchOption r.mapfile ⊥ (λ path. PutFails reach path.now old)
   MayFail (request.Page r) new = PutFails reach r.out.now old
   MayFail (request.Image r) new = ⊤

@@ -2,8 +2,8 @@
 
 ghost use Rattle.std.specs.Prelude.{◌≡◌, ◌⊎◌, IfOk, OnErr};
 ghost use Rattle.clap.specs.Matches.{found_of};
-ghost use Rattle.udfs_words.specs.Requests.{IsExtract, IsForget, IsImage, IsMerge, IsRequest};
-ghost use Rattle.udfs_commands.specs.Doing.{Does, DoesExtract, DoesForget, DoesImage, DoesMerge, FailsForget, FailsMerge, Leaves, LeavesExtract, LeavesForget, LeavesImage, LeavesMerge, MayFail, form_of};
+ghost use Rattle.udfs_words.specs.Requests.{IsExtract, IsRequest};
+ghost use Rattle.udfs_commands.specs.Doing.{Does, DoesExtract, Leaves, LeavesExtract, MayFail, form_of, said_of};
 
 use clap::ArgMatches;
 use std::alloc::Global;
@@ -20,12 +20,10 @@ use udfs_reports::reread::Numbers;
 use udfs_reports::reread_map::reread_map;
 use udfs_reports::summary::Summary;
 use udfs_reports::telling::tell;
-use udfs_tables::forget_words::forget_words;
-use udfs_tables::image_words::image_words;
-use udfs_tables::merge_words::merge_words;
-use udfs_words::request::{
-    ExtractRequest, ForgetRequest, ImageRequest, ListRequest, MergeRequest, Request,
-};
+use udfs_tables::forget::forget;
+use udfs_tables::image::image;
+use udfs_tables::merge::merge;
+use udfs_words::request::{ExtractRequest, ListRequest, Request};
 
 /// How `list` is asked to show nodes.
 fn node_lines(request: &ListRequest<'_>) -> NodeLines
@@ -40,54 +38,11 @@ fn node_lines(request: &ListRequest<'_>) -> NodeLines
     }
 }
 
-/// Does what `merge` is asked for.
-fn merge_by_words<F: Files>(
-    alloc: Global,
-    words: &ArgMatches<'_>,
-    request: &MergeRequest<'_>,
-    files: &mut F,
-) -> Result<bool, Refusal>
-    requires { IsMerge (found_of words.now) request.now }
-    ensures done { IfOk result (DoesMerge ⟦<F as Known>⟧.reach files.old files.new request.now) }
-    ensures left { LeavesMerge ⟦<F as Known>⟧.reach files.old files.new request.now }
-    ensures failed { OnErr result ((files.new ≡ files.old) ⊎ FailsMerge ⟦<F as Known>⟧.reach files.old files.new request.now) }
+/// What a command says that is done or fails: where it is done, nothing is lacking.
+fn all_or_none(outcome: Result<(), Refusal>) -> Result<bool, Refusal>
+    ensures { result ≡ said_of outcome }
 {
-    match merge_words(alloc, words, files) {
-        Ok(()) => Ok(true),
-        Err(refusal) => Err(refusal),
-    }
-}
-
-/// Does what `forget` is asked for.
-fn forget_by_words<F: Files>(
-    alloc: Global,
-    words: &ArgMatches<'_>,
-    request: &ForgetRequest<'_>,
-    files: &mut F,
-) -> Result<bool, Refusal>
-    requires { IsForget (found_of words.now) request.now }
-    ensures done { IfOk result (DoesForget ⟦<F as Known>⟧.reach files.old files.new request.now) }
-    ensures left { LeavesForget ⟦<F as Known>⟧.reach files.old files.new request.now }
-    ensures failed { OnErr result ((files.new ≡ files.old) ⊎ FailsForget ⟦<F as Known>⟧.reach files.old files.new request.now) }
-{
-    match forget_words(alloc, words, files) {
-        Ok(()) => Ok(true),
-        Err(refusal) => Err(refusal),
-    }
-}
-
-/// Does what `image` is asked for.
-fn image_by_words<F: Files>(
-    alloc: Global,
-    words: &ArgMatches<'_>,
-    request: &ImageRequest<'_>,
-    files: &mut F,
-) -> Result<bool, Refusal>
-    requires { IsImage (found_of words.now) request.now }
-    ensures done { IfOk result (DoesImage ⟦<F as Known>⟧.reach files.old files.new request.now) }
-    ensures left { LeavesImage ⟦<F as Known>⟧.reach files.old files.new request.now }
-{
-    match image_words(alloc, words, files) {
+    match outcome {
         Ok(()) => Ok(true),
         Err(refusal) => Err(refusal),
     }
@@ -128,9 +83,9 @@ pub fn perform<F: Files, O: Sink>(
     ensures failed { OnErr result ((files.new ≡ files.old) ⊎ MayFail ⟦<F as Known>⟧.reach files.old request.now files.new) }
 {
     match request {
-        Request::Merge(asked) => merge_by_words(alloc, words, asked, files),
-        Request::Forget(asked) => forget_by_words(alloc, words, asked, files),
-        Request::Image(asked) => image_by_words(alloc, words, asked, files),
+        Request::Merge(asked) => all_or_none(merge(alloc, asked, files)),
+        Request::Forget(asked) => all_or_none(forget(alloc, asked, files)),
+        Request::Image(asked) => all_or_none(image(alloc, asked, files)),
         Request::Report(report) => {
             let telling = ReportAs { form: report.form };
             tell(alloc, &report.volume, &telling, files, out)

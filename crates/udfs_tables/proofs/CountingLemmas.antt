@@ -1,18 +1,18 @@
 -- Counts over all blocks, by tests that see the block's number; and how many blocks come into conflict where two tables disagree.
-use Rattle.std.proofs.Common.{◌≡◌, ◌≤◌, ◌+◌, ◌-◌, ◌<◌, ◌==◌, ◌∙◌, arith, ap, sym, refl, subst, cond, count_by, ℕ, zero, suc, Bool, true, false, List, [], ◌∷◌, take}
+use Rattle.std.proofs.Common.{◌≡◌, ◌≤◌, ◌+◌, ◌<◌, ◌==◌, ◌∙◌, arith, ap, sym, refl, subst, cond, count_by, ℕ, zero, suc, Bool, true, false, List, [], ◌∷◌}
 use Rattle.std.specs.Str.{bytes_eq}
 use Rattle.std.proofs.lemmas.Bool.{eqb-true}
 use Rattle.std.proofs.lemmas.List.Sums.{sum_by-append, sum_by-cons}
 use Rattle.udfs_lattice.specs.Records.{Record, table_of}
-use Rattle.udfs_lattice.specs.States.{State, is_conflict, is_known, join_of}
+use Rattle.udfs_lattice.specs.States.{State, is_conflict, join_of}
 use Rattle.udfs_lattice.specs.TableLaws.{state_of-empty, state_of-join_tables, state_of-one_record}
 use Rattle.udfs_lattice.specs.Tables.{IsStateAt, IsStateAt-join_of, IsTable, Table, conflict_count, entries_of, join_tables, one_record, state_of}
 use Rattle.udfs_lattice.specs.declared.facts.Fact.TheVariants.{Unknown, Known, Conflict}
-use Rattle.udfs_compare.specs.Comparing.{are_known, are_other, disagreeing, is_other_disc, shared}
+use Rattle.udfs_compare.specs.Comparing.{are_known, are_other, disagreeing, is_other_disc}
 use Rattle.udfs_index.proofs.EntryLemmas.{all_entries, entries_below, entries-more, entries-none}
-use Rattle.udfs_reading.specs.Inputs.{inputs, kind_by, named}
+use Rattle.udfs_reading.specs.Inputs.{named}
 use Rattle.udfs_reading.specs.PacketReading.{entry_at}
-use Rattle.udfs_reading.specs.Reading.{AreRecords, IsReading}
+use Rattle.udfs_reading.specs.Reading.{AreRecords}
 use Rattle.udfs_reading.specs.Several.{HasTable}
 
 -- how many entries of the blocks below n pass the test

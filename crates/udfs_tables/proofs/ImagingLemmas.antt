@@ -1,7 +1,7 @@
 -- How the calls that put an image and its mapfile follow one another.
 use Rattle.std.proofs.Common.{◌≡◌, inl, inr, ⊎_elim, ℕ, List, Some, None, refl, sym, ◌∙◌, arith}
 use Rattle.udfs_files.specs.Disk.{Disk, Same, Gone, Replaced, After, Goes}
-use Rattle.udfs_tables.specs.Imaging.{BothReplaced}
+use Rattle.udfs_tables.specs.Pairing.{BothReplaced}
 use Rattle.udfs_common.specs.Guarding.{IsApart}
 
 module _ {F : Type 0} (moment : F → ℕ) (may_leave : F → Disk → Type 0) (left_since : F → ℕ → Disk → Type 0) where

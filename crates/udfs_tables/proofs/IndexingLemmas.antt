@@ -1,5 +1,5 @@
 -- Inputs are taken into an index one after the other, and an image may be compared with those before it.
-use Rattle.std.proofs.Common.{◌≡◌, ◌<◌, ◌+◌, ◌-◌, ◌∙◌, arith, ap, sym, refl, subst, inl, inr, ℕ, zero, suc, Bool, true, false, List, [], ◌∷◌, ◌++◌, Option, Some, IfSome, Err, length, map, slice_get, take, drop}
+use Rattle.std.proofs.Common.{◌≡◌, ◌<◌, ◌+◌, ◌-◌, ◌∙◌, arith, ap, sym, refl, subst, ℕ, zero, suc, Bool, true, false, List, [], ◌∷◌, ◌++◌, Option, Some, IfSome, Err, length, map, slice_get, take, drop}
 use Rattle.std.specs.Borrow.{Bor}
 use Rattle.udfs_compare.specs.Comparing.{disagreeing, is_other_disc, shared}
 use Rattle.udfs_index.proofs.IndexLemmas.{told_all}
@@ -15,9 +15,9 @@ use Rattle.udfs_reading.specs.Answers.{GivesFault, RefusesFaulty}
 use Rattle.udfs_reading.specs.Inputs.{inputs}
 use Rattle.udfs_reading.specs.Several.{AllTell, HasTable, TablesAre, Tells}
 use Rattle.udfs_reading.specs.declared.inputs.InputError.{InputError}
-use Rattle.udfs_common.proofs.TakingLemmas.{compared_by, compared_is, each_last, get_within, join_all-last, last_is_one, length_within, one_by, only_one, other_by, split_at, tables_last, tables_length, take_next, take_whole}
+use Rattle.udfs_common.proofs.TakingLemmas.{compared_by, each_last, get_within, join_all-last, last_is_one, length_within, one_by, only_one, other_by, split_at, tables_last, tables_length, take_next, take_whole}
 use Rattle.udfs_common.specs.OtherDiscs.{IsOneDisc, IsOtherBy, is_compared, pair_at}
-use Rattle.udfs_common.specs.Taking.{IsOtherSource, Takes}
+use Rattle.udfs_common.specs.Taking.{Takes}
 use Rattle.udfs_common.specs.declared.refusal.Refusal.{Refusal}
 use Rattle.udfs_common.specs.declared.refusal.Refusal.TheVariants.{OtherDisc}
 use Rattle.udfs_tables.proofs.CountingLemmas.{comes_into_conflict, few_are_one, has_table}
@@ -79,17 +79,17 @@ pub other_alone : (before own : Table) (number blocks of : ℕ) → blocks ≡ d
 other_alone before own number blocks of b o other = subst (λ (u : Table). IsOtherBy before u number (OtherDisc number blocks of)) (join_tables-empty_right own) (other_by before (join_all (own ∷ [])) before number blocks of refl b o other)
 
 -- ---- one input after the other
-pub indexed_none : {R : Type 0} (content : R → Option (List ℕ)) (Told : Type 0) (paths : List InputPath) (sources : List R) (force : Bool) (New : Table → Type 0) → New empty_table → Indexed content Told paths (take 0 sources) force New
-indexed_none content Told paths sources force New none = record {
+pub indexed_none : {R : Type 0} (content : R → Option (List ℕ)) (paths : List InputPath) (sources : List R) (force : Bool) (New : Table → Type 0) → New empty_table → Indexed content paths (take 0 sources) force New
+indexed_none content paths sources force New none = record {
   tables = [];
   are = tt;
   took = none;
   each = λ told unforced place own pair at. absurd (let b : ⊥ = cc in b);
 }
 
-pub indexed_more : {R : Type 0} (content : R → Option (List ℕ)) (Told : Type 0) (paths : List InputPath) (sources : List R) (n : ℕ) (one : R) (force : Bool) (Old New : Table → Type 0) → slice_get sources n ≡ Some one →
-    (i : Indexed content Told paths (take n sources) force Old) (takes : Takes content one Old New ⊥) → (Told → is_compared paths n force ≡ true → IsOneDisc (join_all i.tables) takes.own) → Indexed content Told paths (take (n + 1) sources) force New
-indexed_more {R} content Told paths sources n one force Old New at i takes is_one =
+pub indexed_more : {R : Type 0} (content : R → Option (List ℕ)) (paths : List InputPath) (sources : List R) (n : ℕ) (one : R) (force : Bool) (Old New : Table → Type 0) → slice_get sources n ≡ Some one →
+    (i : Indexed content paths (take n sources) force Old) (takes : Takes content one Old New ⊥) → (AreAllTold content → is_compared paths n force ≡ true → IsOneDisc (join_all i.tables) takes.own) → Indexed content paths (take (n + 1) sources) force New
+indexed_more {R} content paths sources n one force Old New at i takes is_one =
     let long : length i.tables ≡ n = tables_length content (take n sources) i.tables i.are ∙ length_within sources n one at in
     record {
       tables = i.tables ++ takes.own ∷ [];
@@ -99,8 +99,8 @@ indexed_more {R} content Told paths sources n one force Old New at i takes is_on
           (λ pair. last_is_one i.tables n takes.own long (λ some. is_one told (compared_by paths n force unforced (subst (λ (k : ℕ). pair_at paths k ≡ true) long pair) some)));
     }
 
-pub indexed_all : {R : Type 0} (content : R → Option (List ℕ)) (Told : Type 0) (paths : List InputPath) (sources : List R) (n : ℕ) (force : Bool) (New : Table → Type 0) → n ≡ length sources → Indexed content Told paths (take n sources) force New → Indexed content Told paths sources force New
-indexed_all {R} content Told paths sources n force New e i = subst (λ (l : List R). Indexed content Told paths l force New) (take_whole sources n e) i
+pub indexed_all : {R : Type 0} (content : R → Option (List ℕ)) (paths : List InputPath) (sources : List R) (n : ℕ) (force : Bool) (New : Table → Type 0) → n ≡ length sources → Indexed content paths (take n sources) force New → Indexed content paths sources force New
+indexed_all {R} content paths sources n force New e i = subst (λ (l : List R). Indexed content paths l force New) (take_whole sources n e) i
 
 -- fewer than four blocks came into conflict: then it is of one disc
 pub few_one : {R : Type 0} (content : R → Option (List ℕ)) (one : R) (t own : Table) (before after : ℕ) → AreAllTold content → IfSome (content one) (λ bytes. HasTable bytes own) → IsTable t → IsTable (join_tables t own) → before ≡ conflict_count t → after ≡ conflict_count (join_tables t own) → after - before < 4 → IsOneDisc t own
@@ -113,7 +113,7 @@ pub judged_one : {R : Type 0} (content : R → Option (List ℕ)) (sources : Lis
 judged_one content sources n one ts own Holds told at are has judged = judged told ts own (tell_all content (take n sources) ts told are) (tells_at content sources n one own told at has)
 
 pub other_judged : {R : Type 0} (content : R → Option (List ℕ)) (paths : List InputPath) (sources : List R) (n : ℕ) (one : R) (ts : List Table) (own : Table) (r : Refusal) → slice_get sources n ≡ Some one → pair_at paths n ≡ true → TablesAre content (take n sources) ts → IfSome (content one) (λ bytes. HasTable bytes own) →
-    IsNamed r → OfTold content sources n (λ before own. IsOtherBy before own (n + 1) r) → IsOtherOf content (AreAllTold content) paths sources r
+    IsNamed r → OfTold content sources n (λ before own. IsOtherBy before own (n + 1) r) → IsOtherOf content paths sources r
 other_judged {R} content paths sources n one ts own r at pair are has named judged = record {
   named = named;
   other = λ told. record {

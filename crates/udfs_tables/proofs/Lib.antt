@@ -1,10 +1,12 @@
 pub mod ForgettingLemmas
-pub mod LeavingLemmas
 pub mod ImagingLemmas
 mod PastEnds
-pub mod ImageWordsLemmas
+pub mod PairingLemmas
+mod MergingLemmas
+mod OutlookLemmas
 mod StoredLemmas
 mod EntryTables
 pub mod CountingLemmas
 mod IndexingLemmas
 mod NamingLemmas
+pub mod OldClauses

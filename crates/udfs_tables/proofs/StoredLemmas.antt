@@ -1,5 +1,5 @@
 -- Inputs that are read at positions have the tables of their paths.
-use Rattle.std.proofs.Common.{◌≡◌, ◌⊎◌, ◌+◌, ◌-◌, ◌<◌, Err, alloc_error, ℕ, zero, suc, List, [], ◌∷◌, ◌++◌, length, map, take, get_or, Option, None, Some, IfSome, slice_get, refl, sym, ap, subst, ◌∙◌, inl, inr, ⊎_elim, arith}
+use Rattle.std.proofs.Common.{◌≡◌, ◌⊎◌, ◌+◌, ◌-◌, ◌<◌, Err, alloc_error, ℕ, zero, suc, List, [], ◌∷◌, ◌++◌, length, map, take, get_or, Option, None, Some, IfSome, slice_get, refl, sym, ap, subst, ◌∙◌, inl, inr, arith}
 use Rattle.std.proofs.Math.Seq.{take-suc}
 use Rattle.std.proofs.lemmas.List.{map-append}
 use Rattle.std.specs.Io.KnownBytes.{Appends}
@@ -13,8 +13,8 @@ use Rattle.udfs_reading.specs.Several.{HasTable, InputFails, TablesAre}
 use Rattle.udfs_reading.specs.declared.inputs.InputError.{InputError}
 use Rattle.udfs_common.specs.Blaming.{AreJudgedFor, BlamesInput, InputsRefused, IsJudged, IsJudgedFor, IsShut, source_reason, stored_reason}
 use Rattle.udfs_common.specs.OtherDiscs.{IsOtherDisc}
-use Rattle.udfs_common.specs.Keeping.{FailedOut, Joined, Opens, RefusedOut}
-use Rattle.udfs_common.specs.Refusing.{refusal_for}
+use Rattle.udfs_common.specs.Keeping.{Joined, Opens}
+use Rattle.udfs_common.specs.Refusing.{refusal_for, refusal_with}
 use Rattle.udfs_common.specs.Sources.{IsPathOpened, left_in}
 use Rattle.udfs_common.specs.declared.refusal.Refusal.{Refusal}
 use Rattle.udfs_common.specs.declared.refusal.Refusal.TheVariants.{Memory}
@@ -30,7 +30,7 @@ use Rattle.udfs_rescue.specs.declared.known.BlockRange.{BlockRange}
 use Rattle.udfs_rescue.specs.declared.opening.PairFault.{PairFault}
 use Rattle.udfs_common.proofs.TakingLemmas.{other_disc}
 use Rattle.udfs_tables.specs.Indexing.{IsOtherOf}
-use Rattle.udfs_tables.specs.Refused.{BlamesOne, BlamesPath, IsUncompared, IsRereadOf, MergeRefused, OneFails, StoredRefused, refusal_with, refused_in}
+use Rattle.udfs_tables.specs.Refused.{BlamesOne, BlamesPath, IsUncompared, IsRereadOf, MergeRefused, OneFails, StoredRefused, refused_in}
 use Rattle.udfs_words.specs.declared.input_path.InputPath.{InputPath}
 
 -- for each thing that is stored there is a source that has left what it holds
@@ -106,15 +106,6 @@ one_more_source remaining content rs r ss i d lt same is =
 pub taken_by : {S W : Type 0} (content : S → Option (List ℕ)) (stream : W → Stream) (bytes : List ℕ) (before after : W) → ToldOrSilent content stream → (AreAllTold content → Appends (stream before).contents (stream after).contents bytes) → Appends (stream before).contents (stream after).contents bytes
 taken_by content stream bytes before after (inl told) wrote = wrote told
 taken_by content stream bytes before after (inr none) wrote = subst (λ (o : Option (List ℕ)). Appends o (stream after).contents bytes) (sym (none before)) tt
-
--- a job that was refused leaves what the path held
-pub stays : {F : Type 0} {tells Failed : Type 0} {holds : F → List ℕ → Option (Option (List ℕ))} {real : F → List ℕ → List ℕ} {in_place : F → List ℕ → Type 0} {out : List ℕ} {old new : F} →
-    FailedOut tells holds real in_place Failed out old new (λ Put. ⊥) → tells → (in_place old out → ⊥) → holds new (real old out) ≡ holds old (real old out)
-stays failed t p = ⊎_elim (λ same. same) (λ no. absurd no) (failed.stands t p)
-
-pub gave_up : {F : Type 0} {tells Shut Failed : Type 0} {holds : F → List ℕ → Option (Option (List ℕ))} {real : F → List ℕ → List ℕ} {in_place : F → List ℕ → Type 0} {out : List ℕ} {old new : F} (Puts : (List ℕ → Type 0) → Type 0) →
-    FailedOut tells holds real in_place Failed out old new (λ Put. ⊥) → RefusedOut tells holds real in_place (Shut ⊎ Failed) out old new Puts
-gave_up Puts failed = inr (record { failed = inr failed.failed; stands = λ t p. ⊎_elim (λ same. inl same) (λ no. absurd no) (failed.stands t p); elsewhere = failed.elsewhere })
 
 -- ---- inputs of both kinds
 
@@ -320,8 +311,8 @@ of_held found shut remaining faults paths r refused = held_why found shut remain
 
 -- nor those among which an image is of another disc
 pub of_other : {R I S : Type 0} {g : _} {tells : Type 0} {remaining : AnySource R I → Option (List ℕ)} {content : AnyStored S g → Option (List ℕ)} (have : HaveSources remaining content) →
-    (found : List ℕ → Option (Option (List ℕ))) (shut : List ℕ → Type 0) (paths : List InputPath) (ss : List (AnyStored S g)) (r : Refusal) → length ss ≡ length paths → Opens found content paths ss → (Told : Type 0) → (tells → Told) → IsOtherOf content Told paths ss r → MergeRefused tells found shut remaining paths r
-of_other have found shut paths ss r many opened Told told other =
+    (found : List ℕ → Option (Option (List ℕ))) (shut : List ℕ → Type 0) (paths : List InputPath) (ss : List (AnyStored S g)) (r : Refusal) → length ss ≡ length paths → Opens found content paths ss → (tells → AreAllTold content) → IsOtherOf content paths ss r → MergeRefused tells found shut remaining paths r
+of_other have found shut paths ss r many opened told other =
     record {
       why = inr (inr (inr (inr (inr (
         other.named,

@@ -2,28 +2,27 @@
 --     Lists found paths blocks      the blocks of the lists at these paths, in order
 --     Forgets conflicts blocks t u  u is t without these blocks, and where asked without its conflicts
 --     IsForgottenJoin               the join of the inputs without the blocks of the lists, and where asked without its conflicts
---     MayForget                     what a crash in the middle shows: what was there, or that table in its place
---     PutsForgotten                 its table file is put, as the arguments of `forget` ask for
+--     IsForgotten                   the bytes of the file that `forget` puts
 --     SomeFault                     a count of faults changed: some read failed
 --     IsListRefused                 the list at a path was not read, and why
 --     ListsRefused                  the lists at these paths were not read, and why
---     ForgetRefused                 no table file was put, and why
-use Rattle.std.specs.Prelude.{◌≡◌, ◌≢◌, ◌⊎◌, ◌++◌, ℕ, List, [], ◌∷◌, Bool, true, false, cond, Option, IfSome, Ok, Err, alloc_error, codes, map}
-use Rattle.clap.specs.declared.parser.matches.Found.{Found}
-use Rattle.udfs_files.specs.Disk.{Disk, Same, Replaced}
+--     IsUnforgotten                 the lists were not read, or the inputs were not joined, and why
+--     ForgetRefused                 why `forget` fails
+use Rattle.std.specs.Prelude.{◌≡◌, ◌≢◌, ◌⊎◌, ◌++◌, ℕ, List, [], ◌∷◌, Bool, cond, Option, IfSome, Ok, Err, alloc_error}
 use Rattle.udfs_lattice.specs.declared.facts.Fact.TheVariants.{Unknown}
 use Rattle.udfs_lattice.specs.Tables.{Table, is_named, state_of, without_conflict}
 use Rattle.udfs_rescue.specs.BlockLists.{list_outcome}
-use Rattle.udfs_words.specs.Asking.{IsPicked, asked_for, asked_streams, list_texts, stream_path}
-use Rattle.udfs_common.specs.Blaming.{InputsRefused}
-use Rattle.udfs_common.specs.Keeping.{OfPaths}
+use Rattle.udfs_words.specs.Requests.{texts}
+use Rattle.udfs_words.specs.declared.forms.Version.TheVariants.{Two}
+use Rattle.udfs_words.specs.declared.request.ForgetRequest.{ForgetRequest}
+use Rattle.udfs_common.specs.Puts.{PutFails}
+use Rattle.udfs_common.specs.Reach.{Reach, found_at}
+use Rattle.udfs_common.specs.Refusing.{IsUnput}
 use Rattle.udfs_common.specs.Spelling.{table_file}
 use Rattle.udfs_common.specs.declared.refusal.Refusal.{Refusal}
 use Rattle.udfs_common.specs.declared.refusal.Refusal.TheVariants.{ListLine, ListOpen, ListRead, Memory}
-use Rattle.udfs_common.specs.declared.sources.AnySource.{AnySource}
-use Rattle.udfs_common.specs.Refusing.{IsUnput}
-use Rattle.udfs_words.specs.declared.forms.Version.TheVariants.{Two}
-use Rattle.udfs_words.specs.declared.input_path.InputPath.{InputPath}
+use Rattle.udfs_tables.specs.Joining.{IsNotJoined, OfInputs}
+use Rattle.udfs_tables.specs.Outputs.{OutRefused}
 
 -- the numbers are those of the list that is held, where that is known
 abbrev pub HasList : Option (Option (List ℕ)) → List ℕ → Type 0
@@ -32,31 +31,11 @@ HasList held blocks = IfSome held (λ file. IfSome file (λ bytes. list_outcome 
 -- those of the first list, and those of the others
 abbrev pub Lists : (List ℕ → Option (Option (List ℕ))) → List (List ℕ) → List ℕ → Type 0
 Lists found [] blocks = blocks ≡ []
-Lists found (path ∷ paths) blocks = (first : List ℕ) × (others : List ℕ) × HasList (found (stream_path path)) first × Lists found paths others × (blocks ≡ first ++ others)
+Lists found (path ∷ paths) blocks = (first : List ℕ) × (others : List ℕ) × HasList (found path) first × Lists found paths others × (blocks ≡ first ++ others)
 
 -- in the second table these blocks are Unknown, and where `conflicts` is set also those in conflict; all others are as in the first
 abbrev pub Forgets : Bool → List ℕ → Table → Table → Type 0
 Forgets conflicts blocks t u = (n : ℕ) → state_of u n ≡ cond (is_named blocks n) Unknown (cond conflicts (without_conflict (state_of t n)) (state_of t n))
-
--- of the join of what the inputs' paths hold the table has all but the blocks of the lists, and where asked those in conflict
-pub record IsForgottenJoin {R : Type 0} (found : List ℕ → Option (Option (List ℕ))) (remaining : R → Option (List ℕ)) (inputs : List InputPath) (conflicts : Bool) (lists : List (List ℕ)) (table : Table) : Type 0 where
-  pub blocks : List ℕ
-  pub listed : Lists found lists blocks
-  pub left : OfPaths found remaining inputs (λ t. Forgets conflicts blocks t table)
-
--- the disk is as it was, or the table file of such a join is in the place of what was at a path
-abbrev pub MayForget : {R : Type 0} → (List ℕ → Option (Option (List ℕ))) → (R → Option (List ℕ)) → List InputPath → Bool → List (List ℕ) → List ℕ → Disk → Disk → Type 0
-MayForget found remaining inputs conflicts lists out d c = Same d c ⊎ ((table : Table) × IsForgottenJoin found remaining inputs conflicts lists table × Replaced out (table_file Two table) d c)
-
--- of the inputs that the arguments name, without the blocks that they say to forget, the table file was put
-pub record PutsForgotten {R : Type 0} (found : List ℕ → Option (Option (List ℕ))) (remaining : R → Option (List ℕ)) (words : Found) (Put : List ℕ → Type 0) : Type 0 where
-  pub conflicts : Bool
-  pub inputs : List InputPath
-  pub table : Table
-  pub picked : IsPicked words (codes "conflicts") true false conflicts
-  pub asked : map asked_for inputs ≡ asked_streams words
-  pub join : IsForgottenJoin found remaining inputs conflicts (list_texts words) table
-  pub put : Put (table_file Two table)
 
 -- the list that is held, where that is known, has its first fault in this line
 abbrev pub HasListFault : Option (Option (List ℕ)) → ℕ → Type 0
@@ -67,20 +46,35 @@ abbrev pub SomeFault : {R : Type 0} → (R → ℕ) → Type 0
 SomeFault {R} faults = (before : R) × (after : R) × (faults after ≢ faults before)
 
 -- memory ran out, or the path may fail to open, or a read failed, or a line is no block number
-abbrev pub IsListRefused : (List ℕ → Option (Option (List ℕ))) → (List ℕ → Type 0) → Type 0 → List ℕ → Refusal → Type 0
-IsListRefused found shut Failed path refusal = (refusal ≡ Memory alloc_error) ⊎ ((refusal ≡ ListOpen) × shut (stream_path path)) ⊎ ((refusal ≡ ListRead) × Failed) ⊎
-    ((line : ℕ) × (refusal ≡ ListLine line) × HasListFault (found (stream_path path)) line)
+abbrev pub IsListRefused : {F I M S W : Type 0} → Reach F I M S W → F → List ℕ → Refusal → Type 0
+IsListRefused reach at path refusal = (refusal ≡ Memory alloc_error) ⊎ ((refusal ≡ ListOpen) × reach.files.shut at path) ⊎ ((refusal ≡ ListRead) × SomeFault reach.read_faults) ⊎
+    ((line : ℕ) × (refusal ≡ ListLine line) × HasListFault (found_at reach at path) line)
 
 -- one of them was not, and those before it were
-pub record ListsRefused (found : List ℕ → Option (Option (List ℕ))) (shut : List ℕ → Type 0) (Failed : Type 0) (paths : List (List ℕ)) (refusal : Refusal) : Type 0 where
+pub record ListsRefused {F I M S W : Type 0} (reach : Reach F I M S W) (at : F) (paths : List (List ℕ)) (refusal : Refusal) : Type 0 where
   pub earlier : List (List ℕ)
   pub path : List ℕ
   pub later : List (List ℕ)
   pub are : paths ≡ earlier ++ path ∷ later
   pub blocks : List ℕ
-  pub listed : Lists found earlier blocks
-  pub why : IsListRefused found shut Failed path refusal
+  pub listed : Lists (found_at reach at) earlier blocks
+  pub why : IsListRefused reach at path refusal
 
--- a list was not read, or the inputs were not joined, or the output was not put
-abbrev pub ForgetRefused : {R I : Type 0} → (List ℕ → Option (Option (List ℕ))) → (List ℕ → Type 0) → (AnySource R I → Option (List ℕ)) → (AnySource R I → ℕ) → Type 0 → Type 0 → List (List ℕ) → List InputPath → Refusal → Type 0
-ForgetRefused found shut remaining faults Failed Unput lists inputs refusal = ListsRefused found shut Failed lists refusal ⊎ InputsRefused found shut remaining faults inputs refusal ⊎ IsUnput Unput refusal
+-- the table has all of the join of what the inputs hold but the blocks of the lists, and where asked those in conflict
+pub record IsForgottenJoin {F I M S W : Type 0} (reach : Reach F I M S W) (at : F) (request : ForgetRequest) (table : Table) : Type 0 where
+  pub blocks : List ℕ
+  pub listed : Lists (found_at reach at) (texts request.lists.items) blocks
+  pub left : OfInputs reach at request.inputs request.force (λ t. Forgets request.conflicts blocks t table)
+
+module _ {F I M S W : Type 0} (reach : Reach F I M S W) (old : F) (request : ForgetRequest) where
+  -- the table file of such a table
+  abbrev pub IsForgotten : List ℕ → Type 0
+  IsForgotten bytes = (table : Table) × IsForgottenJoin reach old request table × (bytes ≡ table_file Two table)
+
+  -- the lists are read before an input is opened
+  abbrev pub IsUnforgotten : Refusal → Type 0
+  IsUnforgotten refusal = ListsRefused reach old (texts request.lists.items) refusal ⊎ IsNotJoined reach old request.inputs request.force refusal
+
+  -- the output may not be written, or there is no such table, or its file was not put
+  abbrev pub ForgetRefused : Refusal → Type 0
+  ForgetRefused refusal = OutRefused reach old request.inputs request.force request.out.now refusal ⊎ IsUnforgotten refusal ⊎ IsUnput (PutFails reach request.out.now old) refusal

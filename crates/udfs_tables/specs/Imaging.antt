@@ -1,77 +1,69 @@
 -- What `image` writes: the image of a table and its mapfile.
---     Stands          what is at the paths of an image and its mapfile, beside what was there before
---     BothReplaced    what a crash in the middle shows at their paths, and elsewhere
---     HasImage        the table has an image up to this last block, and something holds of it and its mapfile
---     MayImage        what a crash in the middle of the command shows
---     WritesImage     the image and the mapfile of what the arguments ask for
---     ImageUnput      the table's image was not put, and why
---     ImageRefused    the same of the inputs of some paths, or they were not joined
---     ImageAskedRefused    the same with the last block by the arguments or the mapfiles, or none is known
---     ReplacesPair    the command replaces its outputs, and nothing else, whatever it returns
-use Rattle.std.specs.Prelude.{◌≡◌, ◌≢◌, ◌⊎◌, ⊤, ℕ, List, Option, Some, None, map}
-use Rattle.clap.specs.declared.parser.matches.Found.{Found}
-use Rattle.udfs_files.specs.Disk.{After, Disk, IsOwn, Same}
+--     IsImageOf       the bytes of the image of a table up to this last block, and of its mapfile
+--     HasNoImage      a table has no image up to this last block, and why
+--     OfDisc          this holds of the last block and of the join of what the inputs hold
+--     IsImaged        the bytes of the files that `image` puts
+--     IsPairFree      they take the place of no input, and without force of nothing else
+--     IsPairSpared    they would, or are in each other's way
+--     PairRefused     why they may not be written
+--     ImageUnput      a table's image was not put, and why
+--     ImageRefused    why `image` fails
+use Rattle.std.specs.Prelude.{◌≡◌, ◌⊎◌, ℕ, List, true, alloc_error}
 use Rattle.udfs_lattice.specs.Tables.{Table, state_of}
 use Rattle.udfs_rescue.specs.Images.{image_bytes}
 use Rattle.udfs_rescue.specs.Writing.{map_text, table_status}
 use Rattle.udfs_salvage.specs.Reports.{IsNothingPast, IsOutOfRange, IsPastEnd}
-use Rattle.udfs_words.specs.Asking.{IsLast, asked_for, asked_streams, mapfile_text, out_text}
-use Rattle.udfs_common.specs.Blaming.{EndRefused, InputsRefused}
-use Rattle.udfs_common.specs.Keeping.{OfPaths}
+use Rattle.udfs_words.specs.Requests.{texts}
+use Rattle.udfs_words.specs.declared.request.ImageRequest.{ImageRequest}
+use Rattle.udfs_common.specs.Ends.{HasNoLast, IsEnd}
+use Rattle.udfs_common.specs.Guarding.{HaveNoPlace, IsFreePair, IsSparedPair, SomeShut}
+use Rattle.udfs_common.specs.Reach.{Reach, found_at}
+use Rattle.udfs_common.specs.Refusing.{IsUnput, NamesNoOther}
 use Rattle.udfs_common.specs.declared.refusal.Refusal.{Refusal}
-use Rattle.udfs_common.specs.declared.refusal.Refusal.TheVariants.{LastRange, PastEnd, Spared}
-use Rattle.udfs_common.specs.declared.sources.AnySource.{AnySource}
-use Rattle.udfs_common.specs.Refusing.{IsUnput}
-use Rattle.udfs_words.specs.declared.input_path.InputPath.{InputPath}
+use Rattle.udfs_common.specs.declared.refusal.Refusal.TheVariants.{LastRange, Memory, Output, PastEnd, Spared}
+use Rattle.udfs_tables.specs.Joining.{IsNotJoined, OfInputs}
+use Rattle.udfs_tables.specs.Pairing.{PairFails}
 
--- where an image a and a mapfile b were, are x and y: as they were; or no mapfile, beside the old image or the new one; or the new image and the new mapfile
-abbrev pub Stands : {V : Type 0} → V → V → V → V → V → V → V → Type 0
-Stands none bytes text a b x y = ((x ≡ a) × (y ≡ b)) ⊎ ((y ≡ none) × ((x ≡ a) ⊎ (x ≡ bytes))) ⊎ ((x ≡ bytes) × (y ≡ text))
-
--- on a disk; at every other path but those of new files is what was there
-pub record BothReplaced (image mapfile bytes text : List ℕ) (d c : Disk) : Type 0 where
-  pub stand : Stands None (Some bytes) (Some text) (d image) (d mapfile) (c image) (c mapfile)
-  pub others : (q : List ℕ) → (¬ IsOwn image q) → (¬ IsOwn mapfile q) → q ≢ image → q ≢ mapfile → c q ≡ d q
-
--- the last block is in range, and nothing is known of a later one; and `Holds` holds of the image and its mapfile
-pub record HasImage (last : ℕ) (Holds : List ℕ → List ℕ → Type 0) (t : Table) : Type 0 where
+-- the last block is in range, and nothing is known of a later one
+pub record IsImageOf (last : ℕ) (bytes text : List ℕ) (t : Table) : Type 0 where
   pub in_range : ¬ IsOutOfRange last
   pub nothing_past : IsNothingPast (state_of t) last
-  pub is : Holds (image_bytes t last) (map_text (table_status t) last)
+  pub image : bytes ≡ image_bytes t last
+  pub mapfile : text ≡ map_text (table_status t) last
 
--- the disk is as it was, or the image and the mapfile of such inputs take the places of what was there
-abbrev pub MayImage : {R : Type 0} → (List ℕ → Option (Option (List ℕ))) → (R → Option (List ℕ)) → List InputPath → ℕ → List ℕ → List ℕ → Disk → Disk → Type 0
-MayImage found remaining inputs last image mapfile d c = Same d c ⊎ OfPaths found remaining inputs (HasImage last (λ bytes text. BothReplaced image mapfile bytes text d c))
+-- the last block is out of range; or something is known of a later one, and the first such is named
+abbrev pub HasNoImage : ℕ → Refusal → Table → Type 0
+HasNoImage last refusal t = ((refusal ≡ LastRange) × IsOutOfRange last) ⊎ ((n : ℕ) × (refusal ≡ PastEnd n) × (¬ IsOutOfRange last) × IsPastEnd (state_of t) last n)
 
--- of the inputs and the last block that the arguments ask for
-pub record WritesImage {R : Type 0} (found : List ℕ → Option (Option (List ℕ))) (remaining : R → Option (List ℕ)) (words : Found) (Holds : List ℕ → List ℕ → Type 0) : Type 0 where
-  pub last : ℕ
-  pub inputs : List InputPath
-  pub is_last : IsLast found inputs words last
-  pub asked : map asked_for inputs ≡ asked_streams words
-  pub writes : OfPaths found remaining inputs (HasImage last Holds)
+module _ {F I M S W : Type 0} (reach : Reach F I M S W) (old : F) (request : ImageRequest) where
+  -- the last block that was given, or that with which the mapfiles of all inputs end
+  abbrev pub OfDisc : (ℕ → Table → Type 0) → Type 0
+  OfDisc Holds = (last : ℕ) × IsEnd (found_at reach old) request.last request.inputs.paths.items last × OfInputs reach old request.inputs request.force (Holds last)
 
--- the same by the arguments
-abbrev pub MayImageAsked : {R : Type 0} → (List ℕ → Option (Option (List ℕ))) → (R → Option (List ℕ)) → (List ℕ → List ℕ) → Found → Disk → Disk → Type 0
-MayImageAsked found remaining real words d c = Same d c ⊎ WritesImage found remaining words (λ bytes text. BothReplaced (real (out_text words)) (real (mapfile_text words)) bytes text d c)
+  -- an image and its mapfile
+  abbrev pub IsImaged : List ℕ → List ℕ → Type 0
+  IsImaged bytes text = OfDisc (λ last. IsImageOf last bytes text)
 
--- the last block is out of range; or something is known of a later one, and the first such is named; or the outputs are spared; or they were not put
-abbrev pub ImageUnput : Type 0 → Type 0 → ℕ → Refusal → Table → Type 0
-ImageUnput Spares Failed last refusal t = ((refusal ≡ LastRange) × IsOutOfRange last) ⊎ ((n : ℕ) × (refusal ≡ PastEnd n) × (¬ IsOutOfRange last) × IsPastEnd (state_of t) last n) ⊎ ((refusal ≡ Spared) × Spares) ⊎ IsUnput Failed refusal
+  -- where it is known what files hold
+  abbrev pub IsPairFree : Type 0
+  IsPairFree = reach.files.tells → IsFreePair (reach.files.holds old) (reach.files.real old) (texts request.inputs.files.items) (texts request.inputs.parts.items) request.force request.image.now request.mapfile.now
 
--- with this last block: the inputs were not joined, or the image of their join was not written
-abbrev pub ImageRefused : {R I : Type 0} → (List ℕ → Option (Option (List ℕ))) → (List ℕ → Type 0) → (AnySource R I → Option (List ℕ)) → (AnySource R I → ℕ) → Type 0 → Type 0 → ℕ → List InputPath → Refusal → Type 0
-ImageRefused found shut remaining faults Spares Failed last inputs refusal = InputsRefused found shut remaining faults inputs refusal ⊎ OfPaths found remaining inputs (ImageUnput Spares Failed last refusal)
+  -- the same
+  abbrev pub IsPairSpared : Type 0
+  IsPairSpared = reach.files.tells → IsSparedPair (reach.files.real old) (reach.files.in_place old) (texts request.inputs.files.items) (texts request.inputs.parts.items) request.force request.image.now request.mapfile.now
 
--- by the arguments: no last block is known, or the inputs were not joined, or their image up to the last block was not written
-abbrev pub ImageAskedRefused : {R I : Type 0} → (List ℕ → Option (Option (List ℕ))) → (List ℕ → Type 0) → (AnySource R I → Option (List ℕ)) → (AnySource R I → ℕ) → Type 0 → Found → List InputPath → Refusal → Type 0
-ImageAskedRefused found shut remaining faults Failed words inputs refusal = EndRefused found shut remaining faults inputs words refusal ⊎ InputsRefused found shut remaining faults inputs refusal ⊎
-    ((last : ℕ) × IsLast found inputs words last × ImageRefused found shut remaining faults ⊤ Failed last inputs refusal)
+  -- memory ran out; or they would take the place of what is to stay; or what is there could not be looked at, or the inputs were not joined then
+  abbrev pub PairRefused : Refusal → Type 0
+  PairRefused refusal = (refusal ≡ Memory alloc_error) ⊎ ((refusal ≡ Spared) × IsPairSpared) ⊎
+      ((refusal ≡ Output) × (reach.files.shut old request.image.now ⊎ reach.files.shut old request.mapfile.now ⊎ SomeShut (reach.files.shut old) (texts request.inputs.parts.items) ⊎ SomeShut (reach.files.shut old) (texts request.inputs.files.items))) ⊎
+      IsNotJoined reach old request.inputs request.force refusal
 
--- a crash at any moment leaves one of these steps after what it might have left before, and so do the two paths hold it at the end; and no other path changes, but those of new files
-pub record ReplacesPair {F R : Type 0} (tells : Type 0) (holds : F → List ℕ → Option (Option (List ℕ))) (real : F → List ℕ → List ℕ) (may_leave : F → Disk → Type 0) (moment : F → ℕ) (left_since : F → ℕ → Disk → Type 0)
-    (remaining : R → Option (List ℕ)) (words : Found) (old new : F) : Type 0 where
-  pub any_moment : tells → (c : Disk) → left_since new (moment old) c → After (may_leave old) (MayImageAsked (λ path. holds old (real old path)) remaining (real old) words) c
-  pub stand : tells → ((q : List ℕ) → holds new q ≡ holds old q) ⊎ WritesImage (λ path. holds old (real old path)) remaining words
-      (λ bytes text. Stands (Some None) (Some (Some bytes)) (Some (Some text)) (holds old (real old (out_text words))) (holds old (real old (mapfile_text words))) (holds new (real old (out_text words))) (holds new (real old (mapfile_text words))))
-  pub elsewhere : tells → (q : List ℕ) → q ≢ real old (out_text words) → q ≢ real old (mapfile_text words) → (¬ IsOwn (real old (out_text words)) q) → (¬ IsOwn (real old (mapfile_text words)) q) → holds new q ≡ holds old q
+  -- it has no image; or the two have no place any more; or they were not put
+  abbrev pub ImageUnput : ℕ → Refusal → Table → Type 0
+  ImageUnput last refusal t = HasNoImage last refusal t ⊎ ((refusal ≡ Spared) × (reach.files.tells → HaveNoPlace (reach.files.real old) (reach.files.in_place old) request.force request.image.now request.mapfile.now)) ⊎
+      IsUnput (PairFails reach request.image.now request.mapfile.now old) refusal
+
+  -- they may not be written; or no last block is known, or the inputs were not joined; or their image was not put
+  abbrev pub ImageRefused : Refusal → Type 0
+  ImageRefused refusal = PairRefused refusal ⊎ (HasNoLast reach old request.last request.inputs.paths.items refusal × (request.force ≡ true → NamesNoOther refusal)) ⊎ IsNotJoined reach old request.inputs request.force refusal ⊎
+      OfDisc (λ last. ImageUnput last refusal)

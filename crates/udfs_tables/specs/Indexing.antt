@@ -17,10 +17,6 @@ abbrev pub IsSinkFault : CopyFault → Type 0
 IsSinkFault (Sink fault) = Unit {0}
 IsSinkFault (Input unread) = ⊥
 
--- an input could not be read a second time, or has changed
-abbrev pub IsReread : Refusal → Type 0
-IsReread r = (input : ℕ) × (number : ℕ) × (r ≡ refusal.Reread input number)
-
 -- whichever input is at this place, it was taken
 abbrev pub TakesAt : {R : Type 0} → (R → Option (List ℕ)) → List R → ℕ → (Table → Type 0) → (Table → Type 0) → Type 0
 TakesAt {R} content sources place Old New = (one : R) → slice_get sources place ≡ Some one → Takes content one Old New ⊥
@@ -33,14 +29,14 @@ OfTold content sources place Holds = AreAllTold content → (tables : List Table
 abbrev pub IsNamed : Refusal → Type 0
 IsNamed r = (input blocks of : ℕ) × (r ≡ refusal.OtherDisc input blocks of)
 
--- all inputs were taken; where it is known what they hold (`Told`), no image is of another disc, but by force
-pub record Indexed {R : Type 0} (content : R → Option (List ℕ)) (Told : Type 0) (paths : List InputPath) (sources : List R) (force : Bool) (New : Table → Type 0) : Type 0 where
+-- all inputs were taken; where it is known what they hold, no image is of another disc, but by force
+pub record Indexed {R : Type 0} (content : R → Option (List ℕ)) (paths : List InputPath) (sources : List R) (force : Bool) (New : Table → Type 0) : Type 0 where
   pub tables : List Table
   pub are : TablesAre content sources tables
   pub took : New (join_all tables)
-  pub each : Told → force ≡ false → EachIsOne paths tables
+  pub each : AreAllTold content → force ≡ false → EachIsOne paths tables
 
 -- one of these inputs, an image, is of another disc, where it is known what they hold
-pub record IsOtherOf {R : Type 0} (content : R → Option (List ℕ)) (Told : Type 0) (paths : List InputPath) (sources : List R) (r : Refusal) : Type 0 where
+pub record IsOtherOf {R : Type 0} (content : R → Option (List ℕ)) (paths : List InputPath) (sources : List R) (r : Refusal) : Type 0 where
   pub named : IsNamed r
-  pub other : Told → IsOtherSource content paths sources r
+  pub other : AreAllTold content → IsOtherSource content paths sources r

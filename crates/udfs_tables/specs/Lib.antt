@@ -1,6 +1,8 @@
 pub mod Forgetting
-pub mod Leaving
 pub mod Indexing
 pub mod Imaging
-pub mod Refused
+pub mod Joining
 pub mod Merging
+pub mod Outputs
+pub mod Pairing
+pub mod Refused

@@ -1,14 +1,13 @@
 -- Why inputs were not joined, why an output was not put, and what is said of it.
 --     refused_in                     why an input has no reading
---     refusal_with reason error      what is said of an input's error, where it has no reading for this reason, or none is known
 --     OneFails                       one of some inputs has this error
 --     BlamesOne                      one of them was not taken, and what is said of it
 --     BlamesPath                     the same of the inputs of some paths
 --     IsUncompared, IsRereadOf         bytes of one of this many inputs could not be read again, to be compared or to be written
 --     StoredRefused                  inputs that are read at positions were not taken, and why
+--     IsUnindexed                    the same, or one of them is of another disc
 --     MergeRefused                   the inputs of some paths were not merged, and why
---     WordsRefused                   a command with these arguments failed, and why
-use Rattle.std.specs.Prelude.{◌≡◌, ◌⊎◌, ◌<◌, ◌+◌, ℕ, List, ◌∷◌, ◌++◌, Option, None, Some, Err, alloc_error, length, map}
+use Rattle.std.specs.Prelude.{◌≡◌, ◌≢◌, ◌⊎◌, ◌<◌, ◌+◌, ℕ, Bool, true, List, ◌∷◌, ◌++◌, Option, None, Some, Err, alloc_error, length}
 use Rattle.udfs_lattice.specs.Tables.{Table}
 use Rattle.udfs_pairs.specs.declared.any_stored.AnyStored.{AnyStored}
 use Rattle.udfs_pairs.specs.declared.any_stored.AnyStored.TheVariants.{File, Paired, Refused}
@@ -18,16 +17,15 @@ use Rattle.udfs_reading.specs.Several.{TablesAre}
 use Rattle.udfs_reading.specs.declared.error.ReadingFault.TheVariants.{Io}
 use Rattle.udfs_reading.specs.declared.inputs.InputError.{InputError}
 use Rattle.udfs_rescue.specs.declared.opening.PairFault.{PairFault}
-use Rattle.udfs_words.specs.Asking.{Asked, asked_for}
 use Rattle.udfs_words.specs.declared.input_path.InputPath.{InputPath}
-use Rattle.udfs_common.specs.Blaming.{AreJudgedFor, IsShut, source_reason}
+use Rattle.udfs_common.specs.Blaming.{AreJudgedFor, IsShut, source_reason, stored_reason}
 use Rattle.udfs_common.specs.Keeping.{Opens}
 use Rattle.udfs_common.specs.OtherDiscs.{IsOtherDisc}
-use Rattle.udfs_common.specs.Refusing.{refusal_of, refused_pair}
+use Rattle.udfs_common.specs.Refusing.{NamesNoOther, refusal_with}
 use Rattle.udfs_common.specs.declared.refusal.Refusal.{Refusal}
 use Rattle.udfs_common.specs.declared.refusal.Refusal.TheVariants as refusal
 use Rattle.udfs_common.specs.declared.sources.AnySource.{AnySource}
-use Rattle.udfs_tables.specs.Indexing.{IsNamed}
+use Rattle.udfs_tables.specs.Indexing.{IsNamed, IsOtherOf}
 
 -- why an input has none, where it is an image with its mapfile and has none
 abbrev pub refused_in : {S : Type 0} {g : _} → Option (AnyStored S g) → Option PairFault
@@ -35,11 +33,6 @@ refused_in None = None
 refused_in (Some (File stored)) = None
 refused_in (Some (Paired pair)) = None
 refused_in (Some (Refused fault)) = Some fault
-
--- an image with its mapfile that has no reading has its own reason
-abbrev pub refusal_with : Option PairFault → InputError → Refusal
-refusal_with None error = refusal_of error
-refusal_with (Some fault) error = refused_pair error.input fault
 
 -- those before it have tables; a fault of its bytes, where they are known, is their first one, and where they have one no other is reported of them
 pub record OneFails {R : Type 0} (remaining : R → Option (List ℕ)) (all : List R) (error : InputError) : Type 0 where
@@ -79,10 +72,10 @@ IsRereadOf count r = (place : ℕ) × (number : ℕ) × (place < count) × (r �
 abbrev pub StoredRefused : {S : Type 0} → (S → Option (List ℕ)) → (S → Option PairFault) → List S → Refusal → Type 0
 StoredRefused content reason stored r = (r ≡ refusal.Memory alloc_error) ⊎ BlamesOne content reason stored r ⊎ IsUncompared (length stored) r
 
+-- nothing is told as done; and none is named as one of another disc where what is is to be joined (`force`)
+abbrev pub IsUnindexed : {S : Type 0} {g : _} → (AnyStored S g → Option (List ℕ)) → List InputPath → List (AnyStored S g) → Bool → Refusal → Type 0
+IsUnindexed content paths stored force r = (StoredRefused content stored_reason stored r ⊎ IsOtherOf content paths stored r) × (r ≢ refusal.Unkept) × (force ≡ true → NamesNoOther r)
+
 -- memory ran out; or one of the paths is shut, and it is named; or what it leads to has no table, and why; or bytes of an input could not be read again; or, where it is known what the files hold (`tells`), an image among the inputs is of another disc
 pub record MergeRefused {R I : Type 0} (tells : Type 0) (found : List ℕ → Option (Option (List ℕ))) (shut : List ℕ → Type 0) (remaining : AnySource R I → Option (List ℕ)) (paths : List InputPath) (refused : Refusal) : Type 0 where
   pub why : (refused ≡ refusal.Memory alloc_error) ⊎ IsShut shut paths refused ⊎ BlamesPath found remaining source_reason paths refused ⊎ IsUncompared (length paths) refused ⊎ IsRereadOf (length paths) refused ⊎ (IsNamed refused × (tells → IsOtherDisc found remaining paths refused))
-
--- memory ran out; or the output would take the place of what is to stay; or it could not be looked at; or `Why` holds of the inputs that are asked for
-abbrev pub WordsRefused : Type 0 → List Asked → (List InputPath → Refusal → Type 0) → Refusal → Type 0
-WordsRefused Unseen asked Why r = (r ≡ refusal.Memory alloc_error) ⊎ (r ≡ refusal.Spared) ⊎ ((r ≡ refusal.Output) × Unseen) ⊎ ((paths : List InputPath) × (map asked_for paths ≡ asked) × Why paths r)

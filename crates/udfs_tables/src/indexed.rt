@@ -8,9 +8,9 @@ ghost use Rattle.udfs_lattice.specs.Tables.{Table, IsTable};
 ghost use Rattle.udfs_reading.specs.Several.{TablesAre};
 ghost use Rattle.udfs_common.specs.Spelling.{table_file};
 ghost use Rattle.udfs_common.specs.Blaming.{stored_reason};
-ghost use Rattle.udfs_common.specs.Refusing.{NamesNoOther, refused_pair};
-ghost use Rattle.udfs_tables.specs.Indexing.{IsReread, IsSinkFault};
-ghost use Rattle.udfs_tables.specs.Refused.{IsUncompared, IsRereadOf, StoredRefused, refusal_with, refused_in};
+ghost use Rattle.udfs_common.specs.Refusing.{NamesNoOther, refusal_with};
+ghost use Rattle.udfs_tables.specs.Indexing.{IsSinkFault};
+ghost use Rattle.udfs_tables.specs.Refused.{IsUncompared, IsRereadOf, StoredRefused, refused_in};
 
 use std::alloc::{AllocError, Global};
 use udfs_common::refusal::Refusal;
@@ -73,8 +73,7 @@ fn record_of<S: Stored>(stored: &[S], unread: Unread) -> u32 {
 impl<'i, 'a, S: Stored> IndexedFile<'i, 'a, S> {
     /// What is said of bytes of an input that could not be read a second time when they were to be written, or of one that has changed.
     pub fn reread(&self, unread: Unread) -> Refusal
-        ensures reread { IsReread result }
-        ensures named { 0 < length self.now.stored.now → IsRereadOf (length self.now.stored.now) result }
+        ensures { 0 < length self.now.stored.now → IsRereadOf (length self.now.stored.now) result }
     {
         let number = record_of(self.stored, unread);
         let place = unread.input.min(self.stored.len().saturating_sub(1));
@@ -99,9 +98,7 @@ pub fn refusal_of<S: Stored>(
     failed: Option<Unread>,
     error: InputError,
 ) -> Refusal
-    ensures told { (result ≢ Refusal.Output) × (result ≢ Refusal.Unkept) × (result ≢ Refusal.Spared) }
-    ensures no_other { NamesNoOther result }
-    ensures pair { IfSome (refused_in (slice_get stored.now (error.input - 1))) (λ fault. result ≡ refused_pair error.input fault) }
+    ensures told { (result ≢ Refusal.Unkept) × NamesNoOther result }
     ensures why { (result ≡ refusal_with (refused_in (slice_get stored.now (error.input - 1))) error) ⊎ IsUncompared (length stored.now) result }
 {
     if let Some(fault) = refused_of(stored, error) {

@@ -1,13 +1,12 @@
 //! Inputs that are read at positions are taken into an index, one after the other; an image of another disc is found before a file is written.
 
 ghost use Rattle.std.specs.Prelude.{◌≡◌, ◌≢◌, ◌⊎◌, ◌<◌, ◌+◌, List, true, IfErr, IfOk, OnOk, length, take};
-ghost use Rattle.udfs_index.specs.Copying.{AreAllTold};
 ghost use Rattle.udfs_lattice.specs.Tables.{Table};
 ghost use Rattle.udfs_reading.specs.Several.{TablesAre};
 ghost use Rattle.udfs_common.specs.Blaming.{stored_reason};
 ghost use Rattle.udfs_common.specs.Refusing.{NamesNoOther};
-ghost use Rattle.udfs_tables.specs.Indexing.{Indexed, IsOtherOf, TakesAt};
-ghost use Rattle.udfs_tables.specs.Refused.{StoredRefused};
+ghost use Rattle.udfs_tables.specs.Indexing.{Indexed, TakesAt};
+ghost use Rattle.udfs_tables.specs.Refused.{IsUnindexed, StoredRefused};
 
 use crate::index_tally::IndexTally;
 use crate::indexed::{cursors, refusal_of};
@@ -29,8 +28,7 @@ fn index_alone<'a, S: Stored>(
 ) -> Result<(), Refusal>
     requires { place < length stored.now }
     ensures table { OnOk result (TakesAt ⟦<AnyStored<S> as Stored>⟧.content stored.now place (⟦<IndexTally<'a, AnyStored<S>> as Taker<Cursor<'a, AnyStored<S>>>>⟧.took tally.old) (⟦<IndexTally<'a, AnyStored<S>> as Taker<Cursor<'a, AnyStored<S>>>>⟧.took tally.new)) }
-    ensures told { IfErr result (λ refusal. (refusal ≢ Refusal.Output) × (refusal ≢ Refusal.Unkept) × (refusal ≢ Refusal.Spared)) }
-    ensures no_other { IfErr result NamesNoOther }
+    ensures told { IfErr result (λ refusal. (refusal ≢ Refusal.Unkept) × NamesNoOther refusal) }
     ensures why { IfErr result (λ refusal. (ts : List Table) → TablesAre ⟦<AnyStored<S> as Stored>⟧.content (take place stored.now) ts → StoredRefused ⟦<AnyStored<S> as Stored>⟧.content stored_reason stored.now refusal) }
 {
     let mut one = match cursors(alloc, &stored[place..place + 1]) {
@@ -61,11 +59,8 @@ fn index_next<'a, S: Stored>(
 ) -> Result<(), Refusal>
     requires { place < length stored.now }
     // Where those before it were taken, it was taken after them.
-    ensures table { OnOk result (Indexed ⟦<AnyStored<S> as Stored>⟧.content (AreAllTold ⟦<AnyStored<S> as Stored>⟧.content) paths.now (take place stored.now) force (⟦<IndexTally<'a, AnyStored<S>> as Taker<Cursor<'a, AnyStored<S>>>>⟧.took tally.old) → Indexed ⟦<AnyStored<S> as Stored>⟧.content (AreAllTold ⟦<AnyStored<S> as Stored>⟧.content) paths.now (take (place + 1) stored.now) force (⟦<IndexTally<'a, AnyStored<S>> as Taker<Cursor<'a, AnyStored<S>>>>⟧.took tally.new)) }
-    ensures told { IfErr result (λ refusal. (refusal ≢ Refusal.Output) × (refusal ≢ Refusal.Unkept) × (refusal ≢ Refusal.Spared)) }
-    ensures forced { IfErr result (λ refusal. force ≡ true → NamesNoOther refusal) }
-    ensures why { IfErr result (λ refusal. Indexed ⟦<AnyStored<S> as Stored>⟧.content (AreAllTold ⟦<AnyStored<S> as Stored>⟧.content) paths.now (take place stored.now) force (⟦<IndexTally<'a, AnyStored<S>> as Taker<Cursor<'a, AnyStored<S>>>>⟧.took tally.old) →
-        StoredRefused ⟦<AnyStored<S> as Stored>⟧.content stored_reason stored.now refusal ⊎ IsOtherOf ⟦<AnyStored<S> as Stored>⟧.content (AreAllTold ⟦<AnyStored<S> as Stored>⟧.content) paths.now stored.now refusal) }
+    ensures table { OnOk result (Indexed ⟦<AnyStored<S> as Stored>⟧.content paths.now (take place stored.now) force (⟦<IndexTally<'a, AnyStored<S>> as Taker<Cursor<'a, AnyStored<S>>>>⟧.took tally.old) → Indexed ⟦<AnyStored<S> as Stored>⟧.content paths.now (take (place + 1) stored.now) force (⟦<IndexTally<'a, AnyStored<S>> as Taker<Cursor<'a, AnyStored<S>>>>⟧.took tally.new)) }
+    ensures why { IfErr result (λ refusal. Indexed ⟦<AnyStored<S> as Stored>⟧.content paths.now (take place stored.now) force (⟦<IndexTally<'a, AnyStored<S>> as Taker<Cursor<'a, AnyStored<S>>>>⟧.took tally.old) → IsUnindexed ⟦<AnyStored<S> as Stored>⟧.content paths.now stored.now force refusal) }
 {
     let before = tally.conflicts();
     match index_alone(alloc, stored, place, tally) {
@@ -92,12 +87,8 @@ pub fn indexed<'a, S: Stored>(
     paths: &[InputPath<'_>],
     force: bool,
 ) -> Result<IndexTally<'a, AnyStored<S>>, Refusal>
-    ensures table { IfOk result (λ tally. Indexed ⟦<AnyStored<S> as Stored>⟧.content (AreAllTold ⟦<AnyStored<S> as Stored>⟧.content) paths.now stored.now force (⟦<IndexTally<'a, AnyStored<S>> as Taker<Cursor<'a, AnyStored<S>>>>⟧.took tally)) }
-    ensures told { IfErr result (λ refusal. (refusal ≢ Refusal.Output) × (refusal ≢ Refusal.Unkept) × (refusal ≢ Refusal.Spared)) }
-    // By force none is named as one of another disc.
-    ensures forced { IfErr result (λ refusal. force ≡ true → NamesNoOther refusal) }
-    // Memory ran out, or an input was not taken, and why, or its bytes could not be compared with those of another, or it is of another disc.
-    ensures why { IfErr result (λ refusal. StoredRefused ⟦<AnyStored<S> as Stored>⟧.content stored_reason stored.now refusal ⊎ IsOtherOf ⟦<AnyStored<S> as Stored>⟧.content (AreAllTold ⟦<AnyStored<S> as Stored>⟧.content) paths.now stored.now refusal) }
+    ensures table { IfOk result (λ tally. Indexed ⟦<AnyStored<S> as Stored>⟧.content paths.now stored.now force (⟦<IndexTally<'a, AnyStored<S>> as Taker<Cursor<'a, AnyStored<S>>>>⟧.took tally)) }
+    ensures why { IfErr result (IsUnindexed ⟦<AnyStored<S> as Stored>⟧.content paths.now stored.now force) }
 {
     let mut tally = match IndexTally::new(alloc, stored.len()) {
         Ok(tally) => tally,

@@ -7,7 +7,6 @@ ghost use Rattle.udfs_lattice.specs.Records.{join_all};
 ghost use Rattle.udfs_lattice.specs.Tables.{Table, IsTable, state_of};
 ghost use Rattle.udfs_reading.specs.Several.{AllTell};
 ghost use Rattle.udfs_reading.specs.declared.error.ReadingFault.TheVariants.{Io};
-ghost use Rattle.udfs_common.specs.Refusing.{NamesNoOther};
 ghost use Rattle.udfs_common.specs.OtherDiscs.{IsOneDisc, IsOtherBy};
 ghost use Rattle.udfs_tables.specs.Indexing.{IsNamed, OfTold};
 ghost use Rattle.udfs_tables.specs.Refused.{IsUncompared};
@@ -72,8 +71,6 @@ fn compare_stores<A: BlockStore, B: BlockStore>(
 /// What is said where the input at this place could not be read a second time to be compared.
 fn uncompared(place: usize, fault: ReadingFault) -> Refusal
     requires { place + 1 < 2 ^ 64 }
-    ensures told { (result ≢ Refusal.Output) × (result ≢ Refusal.Unkept) × (result ≢ Refusal.Spared) }
-    ensures no_other { NamesNoOther result }
     ensures why { (result ≡ Refusal.Memory alloc_error) ⊎ ((number : ℕ) × (result ≡ Refusal.Input (place + 1) (record { fault = Io; number = number }))) }
 {
     match fault {
@@ -116,7 +113,6 @@ fn index_of<'a, S: Stored>(
 pub fn judge<S: Stored>(alloc: Global, stored: &[S], place: usize) -> Result<(), Refusal>
     requires { place < length stored.now }
     ensures one { OnOk result (OfTold S.content stored.now place IsOneDisc) }
-    ensures told { IfErr result (λ refusal. (refusal ≢ Refusal.Output) × (refusal ≢ Refusal.Unkept) × (refusal ≢ Refusal.Spared)) }
     ensures why { IfErr result (λ refusal. (refusal ≡ Refusal.Memory alloc_error) ⊎ IsUncompared (length stored.now) refusal ⊎
         (IsNamed refusal × OfTold S.content stored.now place (λ before own. IsOtherBy before own (place + 1) refusal))) }
 {

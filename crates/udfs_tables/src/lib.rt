@@ -4,17 +4,16 @@
 
 mod beside;
 mod closing;
-mod forget;
-pub mod forget_words;
-mod image;
-pub mod image_words;
+pub mod forget;
+pub mod image;
 mod index_tally;
 mod indexed;
 mod indexing;
+mod joining;
 mod judging;
-mod merge;
+pub mod merge;
 mod merge_stored;
 mod merge_tally;
-pub mod merge_words;
+mod outlook;
 mod pairing;
 mod said;

@@ -1,10 +1,11 @@
 //! An image and its mapfile are put at two paths, so that at no moment a mapfile is beside an image that lacks what it lists.
 
-ghost use Rattle.std.specs.Prelude.{◌≡◌, ◌≢◌, ◌⊎◌, ℕ, List, Option, Some, None, IfErr, OnOk, OnErr};
+ghost use Rattle.std.specs.Prelude.{◌≡◌, ◌≢◌, ◌⊎◌, ℕ, List, Some, None, IfErr, OnOk, OnErr};
 ghost use Rattle.udfs_files.specs.Disk.{Disk, Fails, SinkFails, Goes, Gone, IsOwn, Replaced};
 ghost use Rattle.udfs_files.specs.declared.files.Kind.{Kind};
-ghost use Rattle.udfs_tables.specs.Imaging.{BothReplaced, Stands};
+ghost use Rattle.udfs_tables.specs.Pairing.{AreKept, GoesPair, IsGone};
 ghost use Rattle.udfs_common.specs.Guarding.{IsApart};
+ghost use Rattle.udfs_common.specs.Keeping.{IsKept};
 ghost use Rattle.udfs_common.specs.Refusing.{IsUnput};
 
 use std::alloc::{AllocError, Global};
@@ -20,8 +21,7 @@ fn remove_old<F: Files>(files: &mut F, mapfile: &str, kind: Kind) -> Result<(), 
     ensures gone { OnOk result (F.tells → F.holds files.new mapfile.now ≡ Some None) }
     ensures failed { OnErr result ((q : List ℕ) → F.holds files.new q ≡ F.holds files.old q) }
     ensures others { (q : List ℕ) → q ≢ mapfile.now → F.holds files.new q ≡ F.holds files.old q }
-    ensures told { IfErr result (λ refusal. refusal ≡ Refusal.Output) }
-    ensures cause { OnErr result (Fails F.faults) }
+    ensures why { IfErr result (λ refusal. (refusal ≡ Refusal.Output) × Fails F.faults) }
     ensures crash { Goes F.moment F.may_leave F.left_since files.old files.new (Gone mapfile.now) }
 {
     if kind == Kind::Absent {
@@ -36,12 +36,10 @@ fn remove_old<F: Files>(files: &mut F, mapfile: &str, kind: Kind) -> Result<(), 
 /// Removes an old mapfile, and syncs its folder: from now on no crash brings one back.
 fn clear<F: Files>(files: &mut F, mapfile: &str, kind: Kind) -> Result<(), Refusal>
     requires absent { kind ≡ Kind.Absent → F.tells → F.holds files.old mapfile.now ≡ Some None }
-    ensures gone { OnOk result (F.tells → F.holds files.new mapfile.now ≡ Some None) }
-    ensures durable { OnOk result (F.tells → (c : Disk) → F.may_leave files.new c → c mapfile.now ≡ None) }
+    ensures gone { OnOk result (IsGone F.Files mapfile.now files.new) }
     ensures either { F.tells → (F.holds files.new mapfile.now ≡ F.holds files.old mapfile.now) ⊎ (F.holds files.new mapfile.now ≡ Some None) }
     ensures others { (q : List ℕ) → q ≢ mapfile.now → F.holds files.new q ≡ F.holds files.old q }
-    ensures told { IfErr result (λ refusal. refusal ≡ Refusal.Output) }
-    ensures cause { OnErr result (Fails F.faults) }
+    ensures why { IfErr result (λ refusal. (refusal ≡ Refusal.Output) × Fails F.faults) }
     ensures crash { Goes F.moment F.may_leave F.left_since files.old files.new (Gone mapfile.now) }
 {
     match remove_old(files, mapfile, kind) {
@@ -61,12 +59,9 @@ fn put<F: Files, C: Content>(
     path: &str,
     content: &C,
 ) -> Result<(), Refusal>
-    ensures holds { OnOk result (F.tells → F.holds files.new path.now ≡ Some (Some (C.bytes content.now))) }
-    ensures durable { OnOk result (F.tells → (c : Disk) → F.may_leave files.new c → c path.now ≡ Some (C.bytes content.now)) }
+    ensures kept { OnOk result (F.tells → IsKept (F.holds files.new) (F.may_leave files.new) path.now (C.bytes content.now)) }
     ensures either { F.tells → (F.holds files.new path.now ≡ F.holds files.old path.now) ⊎ (F.holds files.new path.now ≡ Some (Some (C.bytes content.now))) }
     ensures elsewhere { (q : List ℕ) → q ≢ path.now → (¬ IsOwn path.now q) → F.holds files.new q ≡ F.holds files.old q }
-    ensures told { IfErr result (λ refusal. refusal ≢ Refusal.Spared) }
-    ensures cause { IfErr result (λ refusal. (refusal ≡ Refusal.Output) ⊎ (refusal ≡ Refusal.Unkept) → Fails F.faults ⊎ SinkFails F.Output.stream) }
     ensures why { IfErr result (IsUnput (Fails F.faults ⊎ SinkFails F.Output.stream)) }
     ensures crash { F.tells → Goes F.moment F.may_leave F.left_since files.old files.new (Replaced path.now (C.bytes content.now)) }
 {
@@ -89,16 +84,10 @@ fn put_image<F: Files, C: Content>(
 ) -> Result<(), Refusal>
     requires apart { IsApart image.now mapfile.now }
     requires absent { kind ≡ Kind.Absent → F.tells → F.holds files.old mapfile.now ≡ Some None }
-    ensures holds { OnOk result (F.tells → F.holds files.new image.now ≡ Some (Some (C.bytes blocks.now))) }
-    ensures gone { OnOk result (F.tells → F.holds files.new mapfile.now ≡ Some None) }
-    ensures durable { OnOk result (F.tells → (c : Disk) → F.may_leave files.new c → c image.now ≡ Some (C.bytes blocks.now)) }
-    ensures cleared { OnOk result (F.tells → (c : Disk) → F.may_leave files.new c → c mapfile.now ≡ None) }
-    ensures stand { F.tells → (text : List ℕ) → Stands (Some None) (Some (Some (C.bytes blocks.now))) (Some (Some text)) (F.holds files.old image.now) (F.holds files.old mapfile.now) (F.holds files.new image.now) (F.holds files.new mapfile.now) }
-    ensures elsewhere { (q : List ℕ) → q ≢ image.now → q ≢ mapfile.now → (¬ IsOwn image.now q) → F.holds files.new q ≡ F.holds files.old q }
-    ensures told { IfErr result (λ refusal. refusal ≢ Refusal.Spared) }
-    ensures cause { IfErr result (λ refusal. (refusal ≡ Refusal.Output) ⊎ (refusal ≡ Refusal.Unkept) → Fails F.faults ⊎ SinkFails F.Output.stream) }
+    ensures kept { OnOk result (F.tells → IsKept (F.holds files.new) (F.may_leave files.new) image.now (C.bytes blocks.now)) }
+    ensures gone { OnOk result (IsGone F.Files mapfile.now files.new) }
+    ensures goes { (text : List ℕ) → GoesPair F.Files image.now mapfile.now (C.bytes blocks.now) text files.old files.new }
     ensures why { IfErr result (IsUnput (Fails F.faults ⊎ SinkFails F.Output.stream)) }
-    ensures crash { F.tells → (text : List ℕ) → Goes F.moment F.may_leave F.left_since files.old files.new (BothReplaced image.now mapfile.now (C.bytes blocks.now) text) }
 {
     match clear(files, mapfile, kind) {
         Ok(()) => {}
@@ -122,16 +111,9 @@ pub fn put_both<F: Files, C: Content, D: Content>(
 ) -> Result<(), Refusal>
     requires apart { IsApart image.now mapfile.now }
     requires absent { kind ≡ Kind.Absent → F.tells → F.holds files.old mapfile.now ≡ Some None }
-    ensures image { OnOk result (F.tells → F.holds files.new image.now ≡ Some (Some (C.bytes blocks.now))) }
-    ensures mapfile { OnOk result (F.tells → F.holds files.new mapfile.now ≡ Some (Some (D.bytes runs.now))) }
-    ensures durable_image { OnOk result (F.tells → (c : Disk) → F.may_leave files.new c → c image.now ≡ Some (C.bytes blocks.now)) }
-    ensures durable_mapfile { OnOk result (F.tells → (c : Disk) → F.may_leave files.new c → c mapfile.now ≡ Some (D.bytes runs.now)) }
-    ensures stand { F.tells → Stands (Some None) (Some (Some (C.bytes blocks.now))) (Some (Some (D.bytes runs.now))) (F.holds files.old image.now) (F.holds files.old mapfile.now) (F.holds files.new image.now) (F.holds files.new mapfile.now) }
-    ensures elsewhere { (q : List ℕ) → q ≢ image.now → q ≢ mapfile.now → (¬ IsOwn image.now q) → (¬ IsOwn mapfile.now q) → F.holds files.new q ≡ F.holds files.old q }
-    ensures told { IfErr result (λ refusal. refusal ≢ Refusal.Spared) }
-    ensures cause { IfErr result (λ refusal. (refusal ≡ Refusal.Output) ⊎ (refusal ≡ Refusal.Unkept) → Fails F.faults ⊎ SinkFails F.Output.stream) }
+    ensures kept { OnOk result (AreKept F.Files image.now mapfile.now (C.bytes blocks.now) (D.bytes runs.now) files.new) }
+    ensures goes { GoesPair F.Files image.now mapfile.now (C.bytes blocks.now) (D.bytes runs.now) files.old files.new }
     ensures why { IfErr result (IsUnput (Fails F.faults ⊎ SinkFails F.Output.stream)) }
-    ensures crash { F.tells → Goes F.moment F.may_leave F.left_since files.old files.new (BothReplaced image.now mapfile.now (C.bytes blocks.now) (D.bytes runs.now)) }
 {
     match put_image(alloc, files, image, blocks, mapfile, kind) {
         Ok(()) => {}

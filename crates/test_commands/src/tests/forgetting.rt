@@ -145,6 +145,34 @@ refused udfsalvage: cannot write output\n
 $ forget --conflicts --force --out b.rd a.rd c.rd
 silent
 
+= a_reading_at_the_path_of_a_dash
+# As an input `-` is standard input; as an output it is a path as any other, as `./-` is: what is there is no input.
+passes
+file /dev/stdin text UDFREAD1\0\x08\0\0\0\0\0\0
+file - text UDFREAD1\0\x08\0\0\0\0\0\0
+file ./- text UDFREAD1\0\x08\0\0\0\0\0\0
+
+$ forget --conflicts --out - -
+refused udfsalvage: cannot write output\n
+calls 0
+has - text UDFREAD1\0\x08\0\0\0\0\0\0
+
+$ forget --conflicts --out ./- -
+refused udfsalvage: cannot write output\n
+calls 0
+has ./- text UDFREAD1\0\x08\0\0\0\0\0\0
+
+$ forget --conflicts --out - a.rd
+refused udfsalvage: cannot write output\n
+calls 0
+
+$ forget --conflicts --out a.rd - a.rd
+silent
+
+$ forget --conflicts --force --out - -
+silent
+has - text UDFTABL2\0\x08\0\0\0\0\0\0
+
 = a_list_whose_device_fails
 * files
 

@@ -1,30 +1,34 @@
 use Rattle.std.proofs.Common.{refl}
-use Rattle.udfs_commands.proofs.PerformingLemmas.{both, map_left, unchanged}
+use Rattle.udfs_common.proofs.PutsLemmas.{spares}
+use Rattle.udfs_commands.proofs.PerformingLemmas.{all_done, all_failed, any_failed, both, map_left, unchanged}
 use Rattle.udfs_commands.proofs.performing.perform.Goals as goal
 
 pub returns-in-Merge-clause-done : goal.returns-in-Merge-clause-done
-returns-in-Merge-clause-done g c = rw c.in-Merge.is c.merge_by_words.ensures.done
+returns-in-Merge-clause-done g c = rw c.in-Merge.is (rw c.all_or_none.ensures (all_done _ _ _ c.merge.ensures.puts.put c.merge.ensures.free))
 
 pub returns-in-Merge-clause-left : goal.returns-in-Merge-clause-left
-returns-in-Merge-clause-left g c = rw c.in-Merge.is c.merge_by_words.ensures.left
+returns-in-Merge-clause-left g c = rw c.in-Merge.is (spares _ c.merge.ensures.puts)
 
 pub returns-in-Merge-clause-failed : goal.returns-in-Merge-clause-failed
-returns-in-Merge-clause-failed g c = rw c.in-Merge.is c.merge_by_words.ensures.failed
+returns-in-Merge-clause-failed g c = rw c.in-Merge.is (rw c.all_or_none.ensures (all_failed _ _ c.merge.ensures.puts))
 
 pub returns-in-Forget-clause-done : goal.returns-in-Forget-clause-done
-returns-in-Forget-clause-done g c = rw c.in-Forget.is c.forget_by_words.ensures.done
+returns-in-Forget-clause-done g c = rw c.in-Forget.is (rw c.all_or_none-in-Forget.ensures (all_done _ _ _ c.forget.ensures.puts.put c.forget.ensures.free))
 
 pub returns-in-Forget-clause-left : goal.returns-in-Forget-clause-left
-returns-in-Forget-clause-left g c = rw c.in-Forget.is c.forget_by_words.ensures.left
+returns-in-Forget-clause-left g c = rw c.in-Forget.is (spares _ c.forget.ensures.puts)
 
 pub returns-in-Forget-clause-failed : goal.returns-in-Forget-clause-failed
-returns-in-Forget-clause-failed g c = rw c.in-Forget.is c.forget_by_words.ensures.failed
+returns-in-Forget-clause-failed g c = rw c.in-Forget.is (rw c.all_or_none-in-Forget.ensures (all_failed _ _ c.forget.ensures.puts))
 
 pub returns-in-Image-clause-done : goal.returns-in-Image-clause-done
-returns-in-Image-clause-done g c = rw c.in-Image.is c.image_by_words.ensures.done
+returns-in-Image-clause-done g c = rw c.in-Image.is (rw c.all_or_none-in-Image.ensures (all_done _ _ _ c.image.ensures.puts.put c.image.ensures.free))
 
 pub returns-in-Image-clause-left : goal.returns-in-Image-clause-left
-returns-in-Image-clause-left g c = rw c.in-Image.is c.image_by_words.ensures.left
+returns-in-Image-clause-left g c = rw c.in-Image.is (c.image.ensures.puts.spares)
+
+pub returns-in-Image-clause-failed : goal.returns-in-Image-clause-failed
+returns-in-Image-clause-failed g c = rw c.in-Image.is (any_failed _ _)
 
 pub returns-in-Report-clause-done : goal.returns-in-Report-clause-done
 returns-in-Report-clause-done g c = rw c.in-Report.is c.tell.ensures.printed

@@ -11,10 +11,10 @@ returns-in-Ok-read_lists-clause-listed g t c =
     (search rules) c.in-Ok.ensures.listed rest.1 grown rest.2
 
 pub returns-in-Err-clause-why : goal.returns-in-Err-clause-why
-returns-in-Err-clause-why g t c = first_refused _ _ _ c.args.paths.now _ c.in-Err.refusal (search rules) c.in-Err.ensures.why
+returns-in-Err-clause-why g t c = first_refused _ _ c.args.paths.now _ c.in-Err.refusal (search rules) c.in-Err.ensures.why
 
 pub returns-in-Err-extend_from_slice-clause-why : goal.returns-in-Err-extend_from_slice-clause-why
-returns-in-Err-extend_from_slice-clause-why g t c = memory_refused _ _ _ c.args.paths.now (search rules)
+returns-in-Err-extend_from_slice-clause-why g t c = memory_refused _ _ c.args.paths.now (search rules)
 
 pub returns-clause-why : goal.returns-clause-why
-returns-clause-why g t c = rest_refused _ _ _ c.args.paths.now _ c.in-Ok.list c.in-Err-read_lists.refusal (search rules) c.in-Ok.ensures.listed c.in-Err-read_lists.ensures.why
+returns-clause-why g t c = rest_refused _ _ c.args.paths.now _ c.in-Ok.list c.in-Err-read_lists.refusal (search rules) c.in-Ok.ensures.listed c.in-Err-read_lists.ensures.why

@@ -1,4 +1,4 @@
-use Rattle.std.proofs.Common.{◌≡◌, ◌∙◌, [], ◌∷◌, ap, map, rules}
+use Rattle.std.proofs.Common.{◌∙◌, [], ◌∷◌, ap, map, rules}
 use Rattle.udfs_pairs.specs.AnyStored.{stored_in}
 use Rattle.udfs_common.proofs.TakingLemmas.{one_taken}
 use Rattle.udfs_tables.proofs.IndexingLemmas.{at_place, fails_at, one_of}

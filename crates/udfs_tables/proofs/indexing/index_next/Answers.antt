@@ -6,16 +6,17 @@ use Rattle.udfs_pairs.specs.AnyStored.{stored_in}
 use Rattle.udfs_common.proofs.TakingLemmas.{compared_is}
 use Rattle.udfs_common.specs.OtherDiscs.{IsOneDisc}
 use Rattle.udfs_tables.proofs.IndexingLemmas.{at_place, few_one, indexed_more, judged_one, other_judged}
+use Rattle.udfs_tables.proofs.NamingLemmas.{judged_early}
 use Rattle.udfs_tables.proofs.indexing.index_next.Goals as goal
 
 pub returns-in-Err-clause-why : goal.returns-in-Err-clause-why
-returns-in-Err-clause-why g c i = inl (c.in-Err.ensures.why i.tables i.are)
+returns-in-Err-clause-why g c i = (inl (c.in-Err.ensures.why i.tables i.are), c.in-Err.ensures.told.0, λ forced. c.in-Err.ensures.told.1)
 
 pub returns-then-not-is_compared-clause-table : goal.returns-then-not-is_compared-clause-table
 returns-then-not-is_compared-clause-table g c i =
     let a = at_place c.args.stored.now c.args.place c.requires in
     let no : c.is_compared.result ≡ false = search rules in
-    indexed_more (stored_in g.S.Stored.content) _ c.args.paths.now c.args.stored.now c.args.place a.0 c.args.force _ _ a.1 i (c.in-Ok.ensures.table a.0 a.1)
+    indexed_more (stored_in g.S.Stored.content) c.args.paths.now c.args.stored.now c.args.place a.0 c.args.force _ _ a.1 i (c.in-Ok.ensures.table a.0 a.1)
     (λ told compared. absurd (true≢false (sym compared ∙ sym c.is_compared.ensures ∙ no)))
 
 pub returns-then-saturating_sub-lt4-clause-table : goal.returns-then-saturating_sub-lt4-clause-table
@@ -25,7 +26,7 @@ returns-then-saturating_sub-lt4-clause-table g c i =
     let takes = c.in-Ok.ensures.table a.0 a.1 in
     let t = join_all i.tables in
     let both = takes.took t i.took in
-    indexed_more content _ c.args.paths.now c.args.stored.now c.args.place a.0 c.args.force _ _ a.1 i takes
+    indexed_more content c.args.paths.now c.args.stored.now c.args.place a.0 c.args.force _ _ a.1 i takes
     (λ told compared. few_one content a.0 t takes.own c.conflicts-before.result c.conflicts.result told takes.has i.took.0 both.0 (c.conflicts-before.ensures t told i.took) (c.conflicts.ensures (join_tables t takes.own) told both) (search rules))
 
 pub returns-in-Ok-judge-clause-table : goal.returns-in-Ok-judge-clause-table
@@ -33,7 +34,7 @@ returns-in-Ok-judge-clause-table g c i =
     let content = stored_in g.S.Stored.content in
     let a = at_place c.args.stored.now c.args.place c.requires in
     let takes = c.in-Ok.ensures.table a.0 a.1 in
-    indexed_more content _ c.args.paths.now c.args.stored.now c.args.place a.0 c.args.force _ _ a.1 i takes
+    indexed_more content c.args.paths.now c.args.stored.now c.args.place a.0 c.args.force _ _ a.1 i takes
     (λ told compared. judged_one content c.args.stored.now c.args.place a.0 i.tables takes.own IsOneDisc told a.1 i.are takes.has c.in-Ok-judge.ensures.one)
 
 pub returns-in-Err-judge-clause-why : goal.returns-in-Err-judge-clause-why
@@ -42,12 +43,10 @@ returns-in-Err-judge-clause-why g c i =
     let a = at_place c.args.stored.now c.args.place c.requires in
     let takes = c.in-Ok.ensures.table a.0 a.1 in
     let yes : c.is_compared.result ≡ true = search rules in
-    let pair = (compared_is c.args.paths.now c.args.place c.args.force (sym c.is_compared.ensures ∙ yes)).1 in
-    ⊎_elim (λ memory. inl (inl memory))
-    (λ rest. ⊎_elim (λ unread. inl (inr (inr unread))) (λ judged. inr (other_judged content c.args.paths.now c.args.stored.now c.args.place a.0 i.tables takes.own _ a.1 pair i.are takes.has judged.0 judged.1)) rest)
-    c.in-Err-judge.ensures.why
-
-pub returns-in-Err-judge-clause-forced : goal.returns-in-Err-judge-clause-forced
-returns-in-Err-judge-clause-forced g c forced =
-    let yes : c.is_compared.result ≡ true = search rules in
-    absurd (true≢false (sym forced ∙ (compared_is c.args.paths.now c.args.place c.args.force (sym c.is_compared.ensures ∙ yes)).0))
+    let compared = compared_is c.args.paths.now c.args.place c.args.force (sym c.is_compared.ensures ∙ yes) in (
+      ⊎_elim (λ memory. inl (inl memory))
+          (λ rest. ⊎_elim (λ unread. inl (inr (inr unread))) (λ judged. inr (other_judged content c.args.paths.now c.args.stored.now c.args.place a.0 i.tables takes.own _ a.1 compared.1 i.are takes.has judged.0 judged.1)) rest)
+          c.in-Err-judge.ensures.why,
+      judged_early _ _ _ c.in-Err-judge.ensures.why,
+      λ forced. absurd (true≢false (sym forced ∙ compared.0)),
+    )

@@ -1,16 +1,16 @@
-use Rattle.udfs_tables.proofs.ImagingLemmas.{after_clear, after_image}
+use Rattle.udfs_tables.proofs.PairingLemmas.{goes_cleared, goes_image, gone_still}
 use Rattle.udfs_tables.proofs.pairing.put_image.Goals as goal
 
-pub returns-in-Err-clause-crash : goal.returns-in-Err-clause-crash
-returns-in-Err-clause-crash g c tells text =
-    after_clear _ _ _ c.args.image.now c.args.mapfile.now (g.C.Content.bytes c.args.blocks.now) text c.requires.apart c.args.files.now c.clear.new.files c.clear.ensures.crash
+pub returns-in-Err-clause-goes : goal.returns-in-Err-clause-goes
+returns-in-Err-clause-goes g c text = goes_cleared g.F.Files c.args.image.now c.args.mapfile.now (g.C.Content.bytes c.args.blocks.now) text c.args.files.now c.clear.new.files c.requires.apart c.clear.ensures.crash c.clear.ensures.either c.clear.ensures.others
 
-pub returns-in-Ok-put-clause-crash : goal.returns-in-Ok-put-clause-crash
-returns-in-Ok-put-clause-crash g c tells text =
-    after_image _ _ _ c.args.image.now c.args.mapfile.now (g.C.Content.bytes c.args.blocks.now) text c.requires.apart c.args.files.now c.clear.new.files c.put.new.files
-    c.clear.ensures.crash (c.in-Ok.ensures.durable tells) (c.put.ensures.crash tells)
+pub returns-in-Ok-put-clause-goes : goal.returns-in-Ok-put-clause-goes
+returns-in-Ok-put-clause-goes g c text =
+    goes_image g.F.Files c.args.image.now c.args.mapfile.now (g.C.Content.bytes c.args.blocks.now) text c.args.files.now c.clear.new.files c.put.new.files c.requires.apart c.clear.ensures.crash c.in-Ok.ensures.gone c.clear.ensures.others c.put.ensures.crash c.put.ensures.either c.put.ensures.elsewhere
 
-pub returns-in-Err-put-clause-crash : goal.returns-in-Err-put-clause-crash
-returns-in-Err-put-clause-crash g c tells text =
-    after_image _ _ _ c.args.image.now c.args.mapfile.now (g.C.Content.bytes c.args.blocks.now) text c.requires.apart c.args.files.now c.clear.new.files c.put.new.files
-    c.clear.ensures.crash (c.in-Ok.ensures.durable tells) (c.put.ensures.crash tells)
+pub returns-in-Err-put-clause-goes : goal.returns-in-Err-put-clause-goes
+returns-in-Err-put-clause-goes g c text =
+    goes_image g.F.Files c.args.image.now c.args.mapfile.now (g.C.Content.bytes c.args.blocks.now) text c.args.files.now c.clear.new.files c.put.new.files c.requires.apart c.clear.ensures.crash c.in-Ok.ensures.gone c.clear.ensures.others c.put.ensures.crash c.put.ensures.either c.put.ensures.elsewhere
+
+pub returns-in-Ok-put-clause-gone : goal.returns-in-Ok-put-clause-gone
+returns-in-Ok-put-clause-gone g c = gone_still g.F.Files c.args.image.now c.args.mapfile.now (g.C.Content.bytes c.args.blocks.now) c.clear.new.files c.put.new.files c.requires.apart c.in-Ok.ensures.gone c.put.ensures.crash c.put.ensures.elsewhere

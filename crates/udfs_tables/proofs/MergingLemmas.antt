@@ -1,0 +1,73 @@
+-- What a job that writes a table file leaves of the output's path, and that the file is that of what the inputs hold.
+use Rattle.std.proofs.Common.{◌≡◌, ◌≢◌, ◌⊎◌, ◌∙◌, ℕ, List, Option, Ok, Err, Some, alloc_error, inl, inr, length, refl, subst, sym, ⊎_elim}
+use Rattle.udfs_files.specs.Disk.{After, Disk, Fails, Replaced, SinkFails}
+use Rattle.udfs_index.specs.Copying.{AreAllTold}
+use Rattle.udfs_lattice.specs.Records.{join_all}
+use Rattle.udfs_lattice.specs.Tables.{Table}
+use Rattle.udfs_pairs.specs.declared.any_stored.AnyStored.{AnyStored}
+use Rattle.udfs_words.specs.declared.input_path.InputPath.{InputPath}
+use Rattle.udfs_words.specs.declared.request.MergeRequest.{MergeRequest}
+use Rattle.udfs_common.specs.Keeping.{FailedOut, IsKept, IsTaken, Opens}
+use Rattle.udfs_common.specs.OtherDiscs.{EachIsOne}
+use Rattle.udfs_common.specs.Puts.{HasPut, IsBroken, KeepsOthers, KeepsOut, Left, MayPut, PutFails, Puts}
+use Rattle.udfs_common.specs.Reach.{Reach, found_at}
+use Rattle.udfs_common.specs.Refusing.{IsUnput}
+use Rattle.udfs_common.specs.Spelling.{table_file}
+use Rattle.udfs_common.specs.declared.refusal.Refusal.{Refusal}
+use Rattle.udfs_common.specs.declared.refusal.Refusal.TheVariants.{Memory, Output, Unkept}
+use Rattle.udfs_tables.proofs.StoredLemmas.{HaveSources, joined_by}
+use Rattle.udfs_tables.specs.Indexing.{Indexed}
+use Rattle.udfs_tables.specs.Merging.{IsMerged}
+
+-- what a crash shows of a file of these bytes
+may_put : {F I M S W : Type 0} (reach : Reach F I M S W) (Is : List ℕ → Type 0) (out : List ℕ) (old new : F) (bytes : List ℕ) → Is bytes →
+    (reach.files.tells → (reach.files.in_place old out → ⊥) → (c : Disk) → reach.files.left_since new (reach.files.moment old) c → After (reach.files.may_leave old) (Replaced (reach.files.real old out) bytes) c) →
+    reach.files.tells → (reach.files.in_place old out → ⊥) → (c : Disk) → reach.files.left_since new (reach.files.moment old) c → After (reach.files.may_leave old) (MayPut reach Is out old) c
+may_put reach Is out old new bytes is any_moment tells place c since = let a = any_moment tells place c since in (a.0, a.1, inr (bytes, is, a.2))
+
+-- it was put
+pub job_put : {A F I M S W : Type 0} (reach : Reach F I M S W) (Is : List ℕ → Type 0) (out : List ℕ) (old new : F) (a : A) (bytes : List ℕ) → Is bytes →
+    ((reach.files.tells → IsKept (reach.files.holds new) (reach.files.may_leave new) (reach.files.real old out) bytes) ⊎ (reach.files.in_place old out × IsTaken reach.output bytes)) →
+    (reach.files.tells → (reach.files.in_place old out → ⊥) → (c : Disk) → reach.files.left_since new (reach.files.moment old) c → After (reach.files.may_leave old) (Replaced (reach.files.real old out) bytes) c) → KeepsOthers reach out old new →
+    Puts reach Is out old new (Ok a)
+job_put reach Is out old new a bytes is put any_moment elsewhere = record { put = record { bytes = bytes; is = is; put = put }; left = tt; any_moment = may_put reach Is out old new bytes is any_moment; elsewhere = elsewhere }
+
+-- the job failed on the way
+pub job_broken : {A F I M S W : Type 0} (reach : Reach F I M S W) (Is : List ℕ → Type 0) (out : List ℕ) (old new : F) (refusal : Refusal) (bytes : List ℕ) → Is bytes → IsBroken refusal →
+    FailedOut reach.files.tells reach.files.holds reach.files.real reach.files.in_place (Fails reach.files.faults ⊎ SinkFails reach.output) out old new (λ Put. ⊥) →
+    (reach.files.tells → (reach.files.in_place old out → ⊥) → (c : Disk) → reach.files.left_since new (reach.files.moment old) c → After (reach.files.may_leave old) (Replaced (reach.files.real old out) bytes) c) → KeepsOthers reach out old new →
+    Puts {A = A} reach Is out old new (Err refusal)
+job_broken reach Is out old new refusal bytes is broken failed any_moment elsewhere = record {
+  put = tt;
+  left = inr (inl (broken, inr failed.failed, λ tells place. ⊎_elim (λ same. same) (λ no. absurd no) (failed.stands tells place)));
+  any_moment = may_put reach Is out old new bytes is any_moment;
+  elsewhere = elsewhere;
+}
+
+left_unput : {F I M S W : Type 0} (reach : Reach F I M S W) (Is : List ℕ → Type 0) (out : List ℕ) (old new : F) (refusal : Refusal) → IsUnput (PutFails reach out old) refusal → (refusal ≢ Output → refusal ≢ Unkept → new ≡ old) →
+    (refusal ≡ Output → KeepsOut reach out old new) → (refusal ≡ Unkept → reach.files.tells → HasPut reach Is out old new) → Left reach Is out old new refusal
+left_unput reach Is out old new refusal (inl memory) untouched refused unkept = inl (untouched (λ e. let bad : Memory alloc_error ≡ Output = sym memory ∙ e in cc) (λ e. let bad : Memory alloc_error ≡ Unkept = sym memory ∙ e in cc))
+left_unput reach Is out old new refusal (inr failed) untouched refused unkept = ⊎_elim (λ is. inr (inl (inl is, failed.1, refused is))) (λ is. inr (inr (is, failed.1, unkept is))) failed.0
+
+-- or its file was not put
+pub job_unput : {A F I M S W : Type 0} (reach : Reach F I M S W) (Is : List ℕ → Type 0) (out : List ℕ) (old new : F) (refusal : Refusal) (bytes : List ℕ) → Is bytes → IsUnput (PutFails reach out old) refusal → (refusal ≢ Output → refusal ≢ Unkept → new ≡ old) →
+    (refusal ≡ Output → KeepsOut reach out old new) → (refusal ≡ Unkept → reach.files.tells → reach.files.holds new (reach.files.real old out) ≡ Some (Some bytes)) →
+    (reach.files.tells → (reach.files.in_place old out → ⊥) → (c : Disk) → reach.files.left_since new (reach.files.moment old) c → After (reach.files.may_leave old) (Replaced (reach.files.real old out) bytes) c) → KeepsOthers reach out old new →
+    Puts {A = A} reach Is out old new (Err refusal)
+job_unput reach Is out old new refusal bytes is unput untouched refused unkept any_moment elsewhere = record {
+  put = tt;
+  left = left_unput reach Is out old new refusal unput untouched refused (λ e tells. (bytes, is, unkept e tells));
+  any_moment = may_put reach Is out old new bytes is any_moment;
+  elsewhere = elsewhere;
+}
+
+-- what was taken of inputs that are read at positions is what the inputs hold
+pub merged : {F I M S W T : Type 0} {g : _} (reach : Reach F I M S W) (old : F) (request : MergeRequest) (content : AnyStored T g → Option (List ℕ)) (have : HaveSources reach.remaining content) (paths : List InputPath) (stored : List (AnyStored T g)) (New : Table → Type 0) →
+    paths ≡ request.inputs.paths.items → length stored ≡ length request.inputs.paths.items → Opens (found_at reach old) content request.inputs.paths.items stored → (reach.files.tells → AreAllTold content) → (i : Indexed content paths stored request.force New) →
+    IsMerged reach old request (table_file request.version (join_all i.tables))
+merged reach old request content have paths stored New same each opened told i =
+    let joined = joined_by have (found_at reach old) request.inputs.paths.items stored i.tables opened each i.are in
+    record {
+      one_disc = λ tells unforced. record { tables = i.tables; joined = joined; each = subst (λ (l : List InputPath). EachIsOne l i.tables) same (i.each (told tells) unforced) };
+      join = (i.tables, joined, refl);
+    }

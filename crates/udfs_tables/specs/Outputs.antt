@@ -1,0 +1,27 @@
+-- What the output of `merge` or `forget` may take the place of.
+--     IsOutFree      it takes the place of no pass that is no input, but by force, and never that of an image or a mapfile of the inputs
+--     IsOutSpared    it would
+--     OutRefused     why it may not be written
+use Rattle.std.specs.Prelude.{◌≡◌, ◌⊎◌, Bool, List, ℕ, alloc_error}
+use Rattle.udfs_files.specs.Disk.{Fails}
+use Rattle.udfs_words.specs.Requests.{texts}
+use Rattle.udfs_words.specs.declared.request.Inputs.{Inputs}
+use Rattle.udfs_common.specs.Guarding.{IsFree, IsSpared, MayNotBeSeen}
+use Rattle.udfs_common.specs.Reach.{Reach}
+use Rattle.udfs_common.specs.declared.refusal.Refusal.{Refusal}
+use Rattle.udfs_common.specs.declared.refusal.Refusal.TheVariants.{Memory, Output, Spared}
+use Rattle.udfs_tables.specs.Joining.{IsNotJoined}
+
+module _ {F I M S W : Type 0} (reach : Reach F I M S W) (old : F) (inputs : Inputs) (force : Bool) (out : List ℕ) where
+  -- where it is known what files hold
+  abbrev pub IsOutFree : Type 0
+  IsOutFree = reach.files.tells → IsFree (reach.files.holds old) (reach.files.real old) (reach.files.in_place old) (texts inputs.files.items) (texts inputs.parts.items) force out
+
+  -- the same
+  abbrev pub IsOutSpared : Type 0
+  IsOutSpared = reach.files.tells → IsSpared (reach.files.holds old) (reach.files.real old) (texts inputs.files.items) (texts inputs.parts.items) force out
+
+  -- memory ran out; or it would take the place of what is to stay; or what is there could not be looked at, or the inputs were not joined then
+  abbrev pub OutRefused : Refusal → Type 0
+  OutRefused refusal = (refusal ≡ Memory alloc_error) ⊎ ((refusal ≡ Spared) × IsOutSpared) ⊎
+      ((refusal ≡ Output) × MayNotBeSeen (reach.files.shut old) (Fails reach.read_faults) (texts inputs.files.items) (texts inputs.parts.items) out) ⊎ IsNotJoined reach old inputs force refusal
