@@ -2,15 +2,15 @@
 
 ghost use Rattle.std.specs.Prelude.{◌≡◌, ◌⊎◌, IfOk, OnErr};
 ghost use Rattle.clap.specs.Matches.{found_of};
-ghost use Rattle.udfs_words.specs.Requests.{IsExtract, IsForget, IsImage, IsMerge, IsRequest};
-ghost use Rattle.udfs_commands.specs.Doing.{Does, DoesExtract, DoesForget, DoesImage, DoesMerge, FailsForget, FailsMerge, Leaves, LeavesExtract, LeavesForget, LeavesImage, LeavesMerge, MayFail, form_of};
+ghost use Rattle.udfs_words.specs.Requests.{IsForget, IsImage, IsMerge, IsRequest};
+ghost use Rattle.udfs_commands.specs.Doing.{Does, DoesForget, DoesImage, DoesMerge, FailsForget, FailsMerge, Leaves, LeavesForget, LeavesImage, LeavesMerge, MayFail, form_of};
 
 use clap::ArgMatches;
 use std::alloc::Global;
 use udfs_common::files::Files;
 use udfs_common::known::Known;
 use udfs_common::refusal::Refusal;
-use udfs_extraction::timed_words::extract_timed;
+use udfs_extraction::extract::extract;
 use udfs_overview::ListForm;
 use udfs_reading::Sink;
 use udfs_reports::list::NodeLines;
@@ -23,9 +23,7 @@ use udfs_reports::telling::tell;
 use udfs_tables::forget_words::forget_words;
 use udfs_tables::image_words::image_words;
 use udfs_tables::merge_words::merge_words;
-use udfs_words::request::{
-    ExtractRequest, ForgetRequest, ImageRequest, ListRequest, MergeRequest, Request,
-};
+use udfs_words::request::{ForgetRequest, ImageRequest, ListRequest, MergeRequest, Request};
 
 /// How `list` is asked to show nodes.
 fn node_lines(request: &ListRequest<'_>) -> NodeLines
@@ -93,24 +91,6 @@ fn image_by_words<F: Files>(
     }
 }
 
-/// Does what `extract` is asked for.
-fn extract_by_words<F: Files, O: Sink>(
-    alloc: Global,
-    words: &ArgMatches<'_>,
-    request: &ExtractRequest<'_>,
-    files: &mut F,
-    out: &mut O,
-) -> Result<bool, Refusal>
-    requires { IsExtract (found_of words.now) request.now }
-    ensures done { IfOk result (DoesExtract ⟦<F as Known>⟧.reach files.old files.new O.stream request.now out.old out.new) }
-    ensures left { LeavesExtract ⟦<F as Known>⟧.reach files.old files.new request.now }
-{
-    match extract_timed(alloc, words, files, out) {
-        Ok(all) => Ok(all),
-        Err(refusal) => Err(refusal),
-    }
-}
-
 /// Does what is asked for, and returns whether nothing is lacking. `words` are the arguments that ask for it, of the command `name`.
 pub fn perform<F: Files, O: Sink>(
     alloc: Global,
@@ -142,6 +122,6 @@ pub fn perform<F: Files, O: Sink>(
         Request::List(list) => tell(alloc, &list.volume, &node_lines(list), files, out),
         Request::Summary(summary) => tell(alloc, &summary.volume, &Summary, files, out),
         Request::Page(asked) => page(alloc, asked, files),
-        Request::Extract(asked) => extract_by_words(alloc, words, asked, files, out),
+        Request::Extract(asked) => extract(alloc, asked, files, out),
     }
 }
